@@ -1,0 +1,4 @@
+pub mod Hooks
+pub mod Names
+pub mod Numbers
+pub mod Rules

@@ -1,0 +1,29 @@
+//! Small values that every crate speaks of: numbers of objects, names, event masks, hooks, statuses, notes.
+#![tactic(auto)]
+
+mod event;
+mod held;
+mod hooks;
+pub mod limits;
+mod mask;
+mod memory;
+mod name;
+mod notes;
+mod numbers;
+mod refusal;
+mod seq;
+mod status;
+mod steps;
+
+pub use event::Event;
+pub use held::Held;
+pub use hooks::HookSet;
+pub use mask::Mask;
+pub use memory::Memory;
+pub use name::{Name, is_name};
+pub use notes::{Notes, Value};
+pub use numbers::{AlarmNo, BlockNo, CounterNo, EventNo, IsrNo, ModeNo, ResNo, SourceNo, TaskNo};
+pub use refusal::{CodeRule, LexRule, OilRule, Refusal, Rule, SyntaxRule, TextFile};
+pub use seq::Seq;
+pub use status::{Ask, Letter, Status};
+pub use steps::Steps;
