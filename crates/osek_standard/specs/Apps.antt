@@ -1,0 +1,106 @@
+-- What an application declares, looked up by number. Past the end of a table stands an entry that declares nothing.
+use Rattle.std.specs.Prelude.{ℕ, ◌-◌, ◌+◌, Bool, true, false, ◌==◌, nat_lt, not, length, slice_index_or, if◌then◌else◌}
+use Rattle.std.specs.List.{list_any}
+pub use Rattle.osek_standard.specs.Validity.{no_task, no_isr, no_counter, no_alarm, no_resource, no_block}
+use Rattle.osek_standard.specs.Validity.{is_cycle_of, is_within}
+use Rattle.osek_values.specs.declared.numbers.BlockNo.{BlockNo}
+use Rattle.osek_standard.specs.declared.app.App.{App}
+use Rattle.osek_standard.specs.declared.objects.Task.{Task}
+use Rattle.osek_standard.specs.declared.objects.Isr.{Isr}
+use Rattle.osek_standard.specs.declared.objects.Counter.{Counter}
+use Rattle.osek_standard.specs.declared.objects.Alarm.{Alarm}
+use Rattle.osek_standard.specs.declared.objects.Resource.{Resource}
+use Rattle.osek_standard.specs.declared.block.Block.{Block}
+use Rattle.osek_standard.specs.declared.block.Kind.{Kind}
+use Rattle.osek_standard.specs.declared.block.Kind.TheVariants as kind
+
+-- the events that a task waits for at a block of this kind
+abbrev pub awaited : Kind → ℕ
+awaited (kind.WaitEvent m) = m.0
+awaited _ = 0
+
+-- the calls after which the kernel may dispatch another task
+abbrev pub may_dispatch : Kind → Bool
+may_dispatch (kind.Work n) = false
+may_dispatch (kind.Choice o) = false
+may_dispatch kind.Loop = false
+may_dispatch (kind.ActivateTask t) = true
+may_dispatch kind.TerminateTask = true
+may_dispatch (kind.ChainTask t) = true
+may_dispatch kind.Schedule = true
+may_dispatch (kind.GetResource r) = false
+may_dispatch (kind.ReleaseResource r) = true
+may_dispatch (kind.SetEvent t m) = true
+may_dispatch (kind.ClearEvent m) = false
+may_dispatch (kind.GetEvent t) = false
+may_dispatch (kind.WaitEvent m) = true
+may_dispatch (kind.SetRelAlarm a i c) = false
+may_dispatch (kind.SetAbsAlarm a i c) = false
+may_dispatch (kind.CancelAlarm a) = false
+may_dispatch (kind.GetAlarm a) = false
+may_dispatch kind.GetTaskId = false
+may_dispatch (kind.GetTaskState t) = false
+may_dispatch kind.GetActiveApplicationMode = false
+may_dispatch kind.ShutdownOs = false
+may_dispatch (kind.LockCall l) = false
+may_dispatch kind.TaskEnd = true
+may_dispatch kind.IsrEnd = false
+may_dispatch kind.CountUp = false
+may_dispatch (kind.Expire a) = false
+
+abbrev pub is_routine_end : Kind → Bool
+is_routine_end kind.IsrEnd = true
+is_routine_end _ = false
+
+module _ (app : App) where
+  abbrev pub the_task : ℕ → Task
+  the_task t = slice_index_or app.tasks t no_task
+
+  abbrev pub the_isr : ℕ → Isr
+  the_isr i = slice_index_or app.isrs i no_isr
+
+  abbrev pub the_counter : ℕ → Counter
+  the_counter c = slice_index_or app.counters c no_counter
+
+  abbrev pub the_alarm : ℕ → Alarm
+  the_alarm a = slice_index_or app.alarms a no_alarm
+
+  abbrev pub the_resource : ℕ → Resource
+  the_resource r = slice_index_or app.resources r no_resource
+
+  abbrev pub the_block : ℕ → Block
+  the_block b = slice_index_or app.blocks b no_block
+
+  -- a task that names an event is extended, and its own event bits aren't empty (ISO 17356-3, task model)
+  abbrev pub is_extended : ℕ → Bool
+  is_extended t = not ((the_task t).own.0 == 0)
+
+  -- Sources of interrupts are numbered: the counters first, then the ISRs, each in order of declaration.
+  abbrev pub source_count : ℕ
+  source_count = length app.counters + length app.isrs
+
+  abbrev pub is_counter : ℕ → Bool
+  is_counter k = nat_lt k (length app.counters)
+
+  -- where the routine of a source begins: a counter's tick routine, or an ISR's body
+  abbrev pub routine_start : ℕ → BlockNo
+  routine_start k = if is_counter k then (the_counter k).first else (the_isr (k - length app.counters)).first
+
+  abbrev pub routine_count : ℕ → ℕ
+  routine_count k = if is_counter k then (the_counter k).count else (the_isr (k - length app.counters)).count
+
+  -- the greatest value of an alarm's counter
+  abbrev pub max_of : ℕ → ℕ
+  max_of a = (the_counter (the_alarm a).counter.0).max
+
+  -- a cycle that an alarm's counter allows
+  abbrev pub is_cycle : ℕ → ℕ → Bool
+  is_cycle a cycle = is_cycle_of (the_counter (the_alarm a).counter.0) cycle
+
+  -- a task has the block
+  abbrev pub is_task_block : ℕ → Bool
+  is_task_block b = list_any (λ (x : Task). is_within b (x.first.0, x.count)) app.tasks
+
+  -- A site: a task's call after which the kernel may dispatch, the end of a task, or the end of a routine.
+  abbrev pub is_site : ℕ → Bool
+  is_site b = if is_routine_end (the_block b).kind then true else if may_dispatch (the_block b).kind then is_task_block b else false

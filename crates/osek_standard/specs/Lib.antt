@@ -1,0 +1,13 @@
+pub mod Apps
+pub mod Arrivals
+pub mod Dispatch
+pub mod Effects
+pub mod Kernel
+pub mod Priority
+pub mod Services
+pub mod States
+pub mod TaskStates
+pub mod TraceText
+pub mod Validity
+pub mod Versions
+pub mod Well

@@ -1,0 +1,314 @@
+-- The services of ISO 17356-3, each as one row: its refusals in the order in which they are tested, then what it does.
+-- A refused call changes nothing. The caller's move to its next block stands in Effects, but for WaitEvent's caller,
+-- which waits at its own block.
+use Rattle.std.specs.Prelude.{ℕ, ◌+◌, ◌-◌, ◌%◌, Bool, true, false, ◌==◌, slice_get, nat_lt, ◌&&◌, ◌||◌, not, bit_and, bit_or, bit_xor, List, [], ◌∷◌, ◌++◌, length, slice_set, take, if◌then◌else◌, Some, None}
+use Rattle.std.specs.declared.option.Option.{Option}
+use Rattle.osek_values.specs.declared.status.Status.{Status}
+use Rattle.osek_values.specs.declared.status.Status.TheVariants as status
+use Rattle.osek_values.specs.declared.status.Ask.{Ask}
+use Rattle.osek_values.specs.declared.status.Ask.TheVariants as ask
+use Rattle.osek_values.specs.declared.notes.Value.{Value}
+use Rattle.osek_values.specs.declared.notes.Value.TheVariants as value
+use Rattle.osek_values.specs.declared.numbers.ResNo.{ResNo}
+use Rattle.osek_values.specs.Numbers.{mask}
+use Rattle.osek_standard.specs.declared.app.App.{App}
+use Rattle.osek_standard.specs.declared.objects.Action.{Action}
+use Rattle.osek_standard.specs.declared.objects.Action.TheVariants as action
+use Rattle.osek_standard.specs.declared.task_state.TaskState.{TaskState}
+use Rattle.osek_standard.specs.declared.task_state.Activity.{Activity}
+use Rattle.osek_standard.specs.declared.task_state.Activity.TheVariants.{Suspended, Live, Waiting}
+use Rattle.osek_standard.specs.declared.state.State.{State}
+use Rattle.osek_standard.specs.declared.state.AlarmState.{AlarmState}
+use Rattle.osek_standard.specs.declared.state.AlarmState.TheVariants.{Idle, Armed}
+use Rattle.osek_standard.specs.declared.state.Processor.TheVariants as processor
+use Rattle.osek_standard.specs.declared.state.Caller.{Caller}
+use Rattle.osek_standard.specs.declared.state.Caller.TheVariants.{Nobody, Task, Routine}
+use Rattle.osek_standard.specs.Apps.{the_task, the_counter, the_alarm, the_block, is_extended, is_counter, max_of, is_cycle, awaited}
+use Rattle.osek_standard.specs.TaskStates.{is_suspended, held}
+use Rattle.osek_standard.specs.States.{task_of, letter_of, is_taken, task_state, with_task, alarm_state, with_alarm, counter_value, with_processor, here}
+use Rattle.osek_standard.specs.Priority.{base_priority, ceiling}
+
+-- what a service leaves, answers and asks
+pub record Answer : Type 0 where
+  pub state : State
+  pub status : Option Status
+  pub value : Option Value
+  pub ask : Ask
+
+abbrev pub answer : State → Option Status → Option Value → Ask → Answer
+answer s e v a = record { state = s; status = e; value = v; ask = a }
+
+abbrev pub refused : State → Status → Answer
+refused s e = answer s (Some e) None ask.No
+
+abbrev pub accepted : State → Ask → Answer
+accepted s a = answer s (Some status.Ok) None a
+
+abbrev pub accepted_with : State → Value → Answer
+accepted_with s v = answer s (Some status.Ok) (Some v) ask.No
+
+-- no status is noted
+abbrev pub unnoted : State → Ask → Answer
+unnoted s a = answer s None None a
+
+-- a service that may ask for rescheduling asks where it is accepted
+abbrev pub maybe_if : Status → Ask
+maybe_if status.Ok = ask.Maybe
+maybe_if status.Access = ask.No
+maybe_if status.CallLevel = ask.No
+maybe_if status.Id = ask.No
+maybe_if status.Limit = ask.No
+maybe_if status.NoFunc = ask.No
+maybe_if status.Resource = ask.No
+maybe_if status.State = ask.No
+maybe_if status.Value = ask.No
+
+-- both have an event
+abbrev pub share : ℕ → ℕ → Bool
+share m n = not (bit_and m n == 0)
+
+abbrev pub is_top_resource : Option ResNo → ℕ → Bool
+is_top_resource None r = false
+is_top_resource (Some q) r = q.0 == r
+
+abbrev pub is_on_top : ℕ → List ResNo → Bool
+is_on_top r stack = is_top_resource (slice_get stack (length stack - 1)) r
+
+abbrev pub with_stack : Activity → List ResNo → Activity
+with_stack Suspended h = Suspended
+with_stack (Live x) h = Live (record x { held = h })
+with_stack (Waiting b) h = Waiting b
+
+-- an activated task is Live at its first block, holds nothing, and has no event
+abbrev pub activated_state : App → ℕ → TaskState
+activated_state app t = record {
+  activity = Live (record { at = record { block = (the_task app t).first; offset = 0 }; held = [] });
+  events = mask 0;
+}
+
+-- a task that is released from waiting is Live at the block after
+abbrev pub released_from : App → Activity → Activity
+released_from app Suspended = Suspended
+released_from app (Live x) = Live x
+released_from app (Waiting b) = Live (record { at = record { block = (the_block app b.0).next; offset = 0 }; held = [] })
+
+abbrev pub waits_in : App → Activity → ℕ → Bool
+waits_in app Suspended m = false
+waits_in app (Live x) m = false
+waits_in app (Waiting b) m = share (awaited (the_block app b.0).kind) m
+
+abbrev pub is_idle : AlarmState → Bool
+is_idle Idle = true
+is_idle (Armed at cycle) = false
+
+-- the counter's value at which the alarm expires, if it is armed
+abbrev pub due : AlarmState → Option ℕ
+due Idle = None
+due (Armed at cycle) = Some at
+
+abbrev pub is_due_at : Option ℕ → ℕ → Bool
+is_due_at None v = false
+is_due_at (Some at) v = at == v
+
+module _ (app : App) (s : State) where
+  abbrev pub activated : ℕ → State
+  activated t = with_task s t (activated_state app t)
+
+  -- a task that ends is suspended
+  abbrev pub ended : ℕ → State
+  ended t = with_task s t (record (task_state s t) { activity = Suspended })
+
+-- a caller that ended or waits leaves the processor
+abbrev pub left : State → State
+left s = with_processor s processor.Idle
+
+abbrev pub holds_some : State → ℕ → Bool
+holds_some s t = not (length (held (task_state s t)) == 0)
+
+abbrev pub with_held : State → ℕ → List ResNo → State
+with_held s t h = with_task s t (record (task_state s t) { activity = with_stack (task_state s t).activity h })
+
+abbrev pub with_events : State → ℕ → ℕ → State
+with_events s t m = with_task s t (record (task_state s t) { events = mask m })
+
+-- the task takes no further activation
+abbrev pub is_full : App → State → ℕ → Bool
+is_full app s t = not (is_suspended (task_state s t))
+
+-- ActivateTask(t)
+unfoldable pub activate_task : App → State → ℕ → Answer
+activate_task app s t =
+    if is_full app s t then refused s status.Limit
+    else accepted (activated app s t) ask.Maybe
+
+-- TerminateTask
+unfoldable pub terminate_task : App → State → Caller → Answer
+terminate_task app s Nobody = unnoted s ask.No
+terminate_task app s (Routine k) = refused s status.CallLevel
+terminate_task app s (Task c) =
+    if holds_some s c.0 then refused s status.Resource
+    else unnoted (left (ended app s c.0)) ask.Left
+
+-- ChainTask(t): the caller ends, and then t is activated; a chain to oneself is no second activation
+unfoldable pub chain_task : App → State → Caller → ℕ → Answer
+chain_task app s Nobody t = unnoted s ask.No
+chain_task app s (Routine k) t = refused s status.CallLevel
+chain_task app s (Task c) t =
+    if holds_some s c.0 then refused s status.Resource
+    else if not (t == c.0) && is_full app s t then refused s status.Limit
+    else unnoted (activated app (left (ended app s c.0)) t) ask.Left
+
+-- Schedule
+unfoldable pub schedule : State → Caller → Answer
+schedule s Nobody = unnoted s ask.No
+schedule s (Routine k) = refused s status.CallLevel
+schedule s (Task c) =
+    if holds_some s c.0 then refused s status.Resource
+    else accepted s ask.Maybe
+
+-- GetTaskID
+abbrev pub get_task_id : State → Answer
+get_task_id s = accepted_with s (value.Task (task_of s.processor))
+
+-- GetTaskState(t)
+abbrev pub get_task_state : State → ℕ → Answer
+get_task_state s t = accepted_with s (value.State (letter_of s.processor t (task_state s t)))
+
+module _ (app : App) (s : State) where
+  -- GetResource(r) of a task
+  unfoldable pub get_resource : ℕ → ResNo → Answer
+  get_resource c r =
+      if is_taken s r.0 || nat_lt (ceiling app r.0) (base_priority app c) then refused s status.Access
+      else accepted (with_held s c (held (task_state s c) ++ r ∷ [])) ask.No
+
+  -- ReleaseResource(r) of a task
+  unfoldable pub release_resource : ℕ → ResNo → Answer
+  release_resource c r =
+      if nat_lt (ceiling app r.0) (base_priority app c) then refused s status.Access
+      else if is_on_top r.0 (held (task_state s c))
+      then accepted (with_held s c (take (length (held (task_state s c)) - 1) (held (task_state s c)))) ask.Maybe
+      else refused s status.NoFunc
+
+  -- No application has the two resource services in a routine: they do nothing there.
+  abbrev pub get_resource_by : Caller → ResNo → Answer
+  get_resource_by Nobody r = unnoted s ask.No
+  get_resource_by (Routine k) r = unnoted s ask.No
+  get_resource_by (Task c) r = get_resource c.0 r
+
+  abbrev pub release_resource_by : Caller → ResNo → Answer
+  release_resource_by Nobody r = unnoted s ask.No
+  release_resource_by (Routine k) r = unnoted s ask.No
+  release_resource_by (Task c) r = release_resource c.0 r
+
+  -- the events of t that m names: bits outside of its own are ignored
+  abbrev pub own_events : ℕ → ℕ → ℕ
+  own_events t m = bit_and m (the_task app t).own.0
+
+  abbrev pub events_set : ℕ → ℕ → ℕ
+  events_set t m = bit_or (task_state s t).events.0 (own_events t m)
+
+  abbrev pub waits_for : ℕ → ℕ → Bool
+  waits_for t m = waits_in app (task_state s t).activity (own_events t m)
+
+  abbrev pub woken : ℕ → ℕ → State
+  woken t m = with_task s t (record { activity = released_from app (task_state s t).activity; events = mask (events_set t m) })
+
+  -- SetEvent(t, m): the events are set, and t is released if it waits for one of these
+  unfoldable pub set_event : ℕ → ℕ → Answer
+  set_event t m =
+      if not (is_extended app t) then refused s status.Access
+      else if is_suspended (task_state s t) then refused s status.State
+      else if waits_for t m then accepted (woken t m) ask.Maybe
+      else accepted (with_events s t (events_set t m)) ask.No
+
+  -- ClearEvent(m)
+  unfoldable pub clear_event : Caller → ℕ → Answer
+  clear_event Nobody m = unnoted s ask.No
+  clear_event (Routine k) m = refused s status.CallLevel
+  clear_event (Task c) m =
+      if not (is_extended app c.0) then refused s status.Access
+      else accepted (with_events s c.0 (bit_xor (task_state s c.0).events.0 (bit_and (task_state s c.0).events.0 m))) ask.No
+
+  -- GetEvent(t)
+  unfoldable pub get_event : ℕ → Answer
+  get_event t =
+      if not (is_extended app t) then refused s status.Access
+      else if is_suspended (task_state s t) then refused s status.State
+      else accepted_with s (value.Mask (task_state s t).events)
+
+  -- WaitEvent(m): without one of the events the caller waits at the block where it stands
+  unfoldable pub wait_event : Caller → ℕ → Answer
+  wait_event Nobody m = unnoted s ask.No
+  wait_event (Routine k) m = refused s status.CallLevel
+  wait_event (Task c) m =
+      if not (is_extended app c.0) then refused s status.Access
+      else if holds_some s c.0 then refused s status.Resource
+      else if share (task_state s c.0).events.0 m then accepted s ask.No
+      else accepted (left (with_task s c.0 (record (task_state s c.0) { activity = Waiting (here s).block }))) ask.Left
+
+  -- the value of an alarm's counter
+  abbrev pub value_of : ℕ → ℕ
+  value_of a = counter_value s (the_alarm app a).counter.0
+
+  -- SetRelAlarm(a, increment, cycle)
+  unfoldable pub set_rel_alarm : ℕ → ℕ → ℕ → Answer
+  set_rel_alarm a increment cycle =
+      if not (is_idle (alarm_state s a)) then refused s status.State
+      else if (increment == 0) || nat_lt (max_of app a) increment || not (is_cycle app a cycle) then refused s status.Value
+      else accepted (with_alarm s a (Armed ((value_of a + increment) % (max_of app a + 1)) cycle)) ask.No
+
+  -- SetAbsAlarm(a, start, cycle)
+  unfoldable pub set_abs_alarm : ℕ → ℕ → ℕ → Answer
+  set_abs_alarm a start cycle =
+      if not (is_idle (alarm_state s a)) then refused s status.State
+      else if nat_lt (max_of app a) start || not (is_cycle app a cycle) then refused s status.Value
+      else accepted (with_alarm s a (Armed start cycle)) ask.No
+
+  -- CancelAlarm(a)
+  unfoldable pub cancel_alarm : ℕ → Answer
+  cancel_alarm a =
+      if is_idle (alarm_state s a) then refused s status.NoFunc
+      else accepted (with_alarm s a Idle) ask.No
+
+  -- the ticks until an alarm expires: a whole round where its counter stands at the value
+  abbrev pub ticks_left : ℕ → ℕ → ℕ
+  ticks_left a at =
+      if at == value_of a then max_of app a + 1 else (at + (max_of app a + 1) - value_of a) % (max_of app a + 1)
+
+  abbrev pub time_left : ℕ → Option ℕ → Answer
+  time_left a None = refused s status.NoFunc
+  time_left a (Some at) = accepted_with s (value.Number (ticks_left a at))
+
+  -- GetAlarm(a)
+  unfoldable pub get_alarm : ℕ → Answer
+  get_alarm a = time_left a (due (alarm_state s a))
+
+  -- a tick: the counter goes on by one, and from its greatest value to 0
+  unfoldable pub count_up : ℕ → State
+  count_up c = record s { counters = slice_set s.counters c (if counter_value s c == (the_counter app c).max then 0 else counter_value s c + 1) }
+
+  -- by the routine of a counter
+  abbrev pub counted_by : Caller → State
+  counted_by Nobody = s
+  counted_by (Task t) = s
+  counted_by (Routine k) = if is_counter app k.0 then count_up k.0 else s
+
+-- a single alarm is idle once it expired, and a cyclic one expires again a cycle later
+abbrev pub rearmed : App → ℕ → AlarmState → AlarmState
+rearmed app a Idle = Idle
+rearmed app a (Armed at cycle) = if cycle == 0 then Idle else Armed ((at + cycle) % (max_of app a + 1)) cycle
+
+-- nothing is asked at interrupt level
+abbrev pub asks_no : Answer → Answer
+asks_no a = record a { ask = ask.No }
+
+abbrev pub acted : App → State → Action → Answer
+acted app s (action.ActivateTask t) = activate_task app s t.0
+acted app s (action.SetEvent t m) = set_event app s t.0 m.0
+
+-- An alarm that is due at its counter's value is armed anew or idle, and then does its action; another does nothing.
+unfoldable pub expire : App → State → ℕ → Answer
+expire app s a =
+    if is_due_at (due (alarm_state s a)) (value_of app s a)
+    then asks_no (acted app (with_alarm s a (rearmed app a (alarm_state s a))) (the_alarm app a).action)
+    else unnoted s ask.No

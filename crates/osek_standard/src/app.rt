@@ -1,0 +1,111 @@
+//! An application: what an image holds but for the forms of its sites.
+ghost use Rattle.osek_standard.specs.Validity.{IsValid, IsValid-prop};
+ghost use Rattle.osek_standard.specs.Versions.{FitsVersion1, FitsVersion1-prop};
+
+use crate::block::Block;
+use crate::objects::{Alarm, Counter, Isr, Resource, Task};
+use crate::task_state::{Activity, Place, Standing, TaskState};
+use osek_values::{
+    AlarmNo, BlockNo, CounterNo, Held, HookSet, Mask, Name, ResNo, Seq, SourceNo, TaskNo,
+};
+
+/// An application. Entries stand in order of declaration, RES_SCHEDULER last among the resources, and
+/// OSDEFAULTAPPMODE first among the modes.
+#[derive(Debug, Drop)]
+pub struct App {
+    /// The hooks that the OS object sets TRUE.
+    pub hooks: HookSet,
+    pub tasks: Seq<Task>,
+    pub isrs: Seq<Isr>,
+    pub counters: Seq<Counter>,
+    pub alarms: Seq<Alarm>,
+    pub resources: Seq<Resource>,
+    pub modes: Seq<Name>,
+    pub blocks: Seq<Block>,
+    pub ghost valid: { IsValid tasks alarms resources blocks isrs counters hooks modes } by { IsValid-prop tasks alarms resources blocks isrs counters hooks modes },
+    pub ghost version_1: { FitsVersion1 tasks } by { FitsVersion1-prop tasks },
+}
+
+impl App {
+    ghost use Rattle.std.specs.Prelude.{◌≡◌, ◌<◌, length};
+    ghost use Rattle.osek_standard.specs.Apps.{the_task, the_block, the_alarm, the_counter, the_resource, source_count, routine_start};
+    ghost use Rattle.osek_standard.specs.Services.{activated_state};
+
+    /// A task's declaration.
+    pub fn task(&self, task: TaskNo) -> &Task
+        requires { task.0 < length self.now.tasks }
+        ensures { the_task self.now task.0 ≡ result.now }
+    {
+        self.tasks.at(task.index())
+    }
+
+    /// A task's state as an activation leaves it.
+    pub fn activated(&self, task: TaskNo) -> TaskState
+        requires { task.0 < length self.now.tasks }
+        ensures { result ≡ activated_state self.now task.0 }
+    {
+        TaskState {
+            activity: Activity::Live(Standing {
+                at: Place {
+                    block: self.task(task).first,
+                    offset: 0,
+                },
+                held: Held::new(),
+            }),
+            events: Mask(0),
+        }
+    }
+
+    /// A block.
+    pub fn block(&self, block: BlockNo) -> &Block
+        requires { block.0 < length self.now.blocks }
+        ensures { the_block self.now block.0 ≡ result.now }
+    {
+        self.blocks.at(block.index())
+    }
+
+    /// A resource.
+    pub fn resource(&self, resource: ResNo) -> &Resource
+        requires { resource.0 < length self.now.resources }
+        ensures { the_resource self.now resource.0 ≡ result.now }
+    {
+        self.resources.at(resource.index())
+    }
+
+    /// An alarm.
+    pub fn alarm(&self, alarm: AlarmNo) -> &Alarm
+        requires { alarm.0 < length self.now.alarms }
+        ensures { the_alarm self.now alarm.0 ≡ result.now }
+    {
+        self.alarms.at(alarm.index())
+    }
+
+    /// A counter.
+    pub fn counter(&self, counter: CounterNo) -> &Counter
+        requires { counter.0 < length self.now.counters }
+        ensures { the_counter self.now counter.0 ≡ result.now }
+    {
+        self.counters.at(counter.index())
+    }
+
+    /// The counter of an alarm.
+    pub fn counter_of(&self, alarm: AlarmNo) -> &Counter
+        requires { alarm.0 < length self.now.alarms }
+        ensures { the_counter self.now (the_alarm self.now alarm.0).counter.0 ≡ result.now }
+    {
+        self.counter(self.alarm(alarm).counter)
+    }
+
+    /// Where the routine of a source begins: a counter's tick routine, or an ISR's body.
+    pub fn routine_start(&self, source: SourceNo) -> BlockNo
+        requires { source.0 < source_count self.now }
+        ensures { result ≡ routine_start self.now source.0 }
+    {
+        let counters = self.counters.len();
+        if source.index() < counters {
+            self.counters.at(source.index()).first
+        } else {
+            self.isrs.at(source.index() - counters).first
+        }
+    }
+}
