@@ -1,0 +1,10 @@
+//! The application and its state, and the system that an OIL file declares.
+#![tactic(auto)]
+
+mod system;
+
+pub use osek_standard::{
+    Action, Activity, Alarm, AlarmState, App, Block, Caller, Counter, Isr, Kind, Lock, Place,
+    Processor, Resource, Schedule, Source, Standing, State, Task, TaskState,
+};
+pub use system::{CounterObject, EventObject, System, TaskObject};

@@ -1,0 +1,54 @@
+//! What an OIL file declares: an application without the blocks of its code, and the names that only code refers to.
+
+use osek_standard::{Alarm, Resource, Schedule};
+use osek_values::{HookSet, Mask, Name, Seq};
+
+/// A TASK object.
+#[derive(Debug, Drop)]
+pub struct TaskObject {
+    pub name: Name,
+    /// Larger is higher, 0 the lowest.
+    pub priority: u16,
+    pub schedule: Schedule,
+    /// The bits of the events that it names; none for a basic task.
+    pub own: Mask,
+    /// Bit k is set where it is autostarted in mode k.
+    pub autostart: u8,
+}
+
+/// A COUNTER object.
+#[derive(Debug, Drop)]
+pub struct CounterObject {
+    pub name: Name,
+    /// MAXALLOWEDVALUE, in ticks.
+    pub max: u32,
+    /// TICKSPERBASE, which has no effect (this project's profile).
+    pub ticks_per_base: u64,
+    /// MINCYCLE, in ticks.
+    pub min_cycle: u32,
+}
+
+/// An EVENT object.
+#[derive(Debug, Drop)]
+pub struct EventObject {
+    pub name: Name,
+    pub mask: Mask,
+}
+
+/// All that an OIL file declares. Objects stand in order of declaration, RES_SCHEDULER last among the resources, and
+/// OSDEFAULTAPPMODE first among the modes.
+#[derive(Debug, Drop)]
+pub struct System {
+    /// The hooks that the OS object sets TRUE.
+    pub hooks: HookSet,
+    pub tasks: Seq<TaskObject>,
+    /// The names of the category 2 ISRs.
+    pub isrs: Seq<Name>,
+    /// The names of the category 1 ISRs, which have no code and no arrivals.
+    pub category_1_isrs: Seq<Name>,
+    pub counters: Seq<CounterObject>,
+    pub alarms: Seq<Alarm>,
+    pub resources: Seq<Resource>,
+    pub modes: Seq<Name>,
+    pub events: Seq<EventObject>,
+}
