@@ -1,0 +1,18 @@
+use Rattle.std.proofs.Common.{◌≡◌, ◌≤◌, ◌-◌, ◌+◌, ℕ, List, length, take}
+use Rattle.osek_io.specs.Files.{Holds, IsMissing}
+use Rattle.osek_io.proofs.loading.load.Given as goal
+
+-- What was taken is a front of the file, and within the limit.
+abbrev pub invariant-loop-count : goal.invariant-loop-count
+invariant-loop-count g l =
+    record {
+      within : length l.bytes.items ≤ l.most;
+      front : (all : List ℕ) → Holds (g.F.Shelf.contents l.fn.shelf) l.name all → l.bytes.items ≡ take (length l.bytes.items) all;
+      files : g.F.Shelf.contents l.shelf ≡ g.F.Shelf.contents l.fn.shelf;
+      reads : g.F.Shelf.read_faults l.fn.shelf ≤ g.F.Shelf.read_faults l.shelf;
+      uncounted : IsMissing (g.F.Shelf.contents l.fn.shelf) l.name → g.F.Shelf.read_faults l.shelf ≡ g.F.Shelf.read_faults l.fn.shelf;
+      writes : g.F.Shelf.write_faults l.shelf ≡ g.F.Shelf.write_faults l.fn.shelf;
+    }
+
+abbrev pub decreases-loop-count : goal.decreases-loop-count
+decreases-loop-count g l = l.most + 1 - length l.bytes.items

@@ -1,0 +1,20 @@
+use Rattle.std.proofs.Common.{sym, arith}
+use Rattle.osek_io.proofs.Files.{grows, grown-nil, length-rest}
+use Rattle.osek_io.proofs.storing.put_all.Goals as goal
+
+pub loop-done-init : goal.loop-done-init
+loop-done-init g c = record {
+  within = omega arith;
+  written = sym (grown-nil _);
+  later = omega arith;
+}
+
+pub loop-done-preserved : goal.loop-done-preserved
+loop-done-preserved g c =
+    let bytes = c.args.bytes.now in
+    let done = c.loop-done.done in
+    record {
+      within = omega (arith, c.in-Ok.ensures.bound, length-rest bytes done);
+      written = grows _ _ _ bytes done c.in-Ok.count c.loop-done.invariant.written c.in-Ok.ensures.ok;
+      later = omega (arith, c.put.ensures.never_falls);
+    }
