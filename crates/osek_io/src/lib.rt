@@ -1,23 +1,29 @@
 //! The outside: shelves of files and sinks of bytes, with whole files and whole texts over them.
 //!
 //! `Shelf` and `Sink` are what the project asks of it. `MemShelf` and `MemSink` meet them in memory,
-//! with scripted failures, and tell all that they hold.
+//! with scripted failures, and tell all that they hold. `FileShelf` and `StdSink` meet them over std's
+//! files and streams, and tell nothing.
 #![tactic(auto)]
 
 mod counts;
 mod failed;
+mod file_shelf;
 mod loading;
 mod mem_shelf;
 mod mem_sink;
 mod place;
 mod shelf;
 mod sink;
+mod std_sink;
 mod storing;
+mod stream;
 
 pub use failed::Failed;
+pub use file_shelf::FileShelf;
 pub use loading::{LoadError, load};
 pub use mem_shelf::MemShelf;
 pub use mem_sink::MemSink;
 pub use shelf::Shelf;
 pub use sink::Sink;
+pub use std_sink::StdSink;
 pub use storing::{PutError, put_all, store};

@@ -1,0 +1,41 @@
+//! A sink over a standard stream.
+ghost use Rattle.std.specs.Prelude.{◌≡◌, ◌≤◌, ℕ, List, length, take, Option, None, IfOk, OnErr};
+ghost use Rattle.osek_io.specs.Counts.{Rose};
+ghost use Rattle.osek_io.specs.Pieces.{grown};
+
+use crate::counts::one_more;
+use crate::failed::Failed;
+use crate::sink::Sink;
+use crate::stream::write_some;
+use std::io::Write;
+
+/// Standard output or standard error, as std's `stdout()` and `stderr()`, which hold nothing back.
+/// It tells no contents.
+#[derive(Drop)]
+pub struct StdSink<W> {
+    stream: W,
+    faults: u64,
+}
+
+impl<W: Write> StdSink<W> {
+    /// A sink over the stream, without a fault yet.
+    pub fn new(stream: W) -> StdSink<W>
+        ensures { result.faults ≡ 0 }
+    {
+        StdSink { stream, faults: 0 }
+    }
+}
+
+impl<W: Write> Sink for StdSink<W> {
+    ghost written = { λ _. None };
+
+    ghost faults = { λ s. s.faults };
+
+    fn put(&mut self, piece: &[u8]) -> Result<usize, Failed> {
+        let result = write_some(&mut self.stream, piece);
+        if result.is_err() {
+            self.faults = one_more(self.faults);
+        }
+        result
+    }
+}

@@ -1,0 +1,35 @@
+//! One read and one write of std, tried again where a signal interrupts them.
+ghost use Rattle.std.specs.Prelude.{◌≡◌, ◌≤◌, length, IfOk};
+
+use crate::failed::Failed;
+use std::io::{ErrorKind, Read, Write};
+
+/// Reads a piece into the front of a slice: none only where the slice is empty or the reader at its end.
+pub fn read_some<R: Read>(reader: &mut R, into: &mut [u8]) -> Result<usize, Failed>
+    ensures bound { IfOk result (λ n. n ≤ length into.new) }
+{
+    for _ in 0..u64::MAX {
+        match reader.read(into) {
+            Ok(count) => return Ok(count),
+            Err(e) if e.kind() == ErrorKind::Interrupted => {}
+            Err(_) => return Err(Failed),
+        }
+    }
+    Err(Failed)
+}
+
+/// Writes a front of a piece, which is empty only where the piece is.
+pub fn write_some<W: Write>(writer: &mut W, piece: &[u8]) -> Result<usize, Failed>
+    ensures bound { IfOk result (λ n. n ≤ length piece.now) }
+    ensures some { IfOk result (λ n. n ≡ 0 → length piece.now ≡ 0) }
+{
+    for _ in 0..u64::MAX {
+        match writer.write(piece) {
+            Ok(0) if !piece.is_empty() => return Err(Failed),
+            Ok(count) => return Ok(count),
+            Err(e) if e.kind() == ErrorKind::Interrupted => {}
+            Err(_) => return Err(Failed),
+        }
+    }
+    Err(Failed)
+}
