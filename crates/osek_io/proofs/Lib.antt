@@ -1,3 +1,4 @@
 pub mod Files
-pub mod Places
+pub mod FirstOf
+pub mod PlaceMaps
 pub mod MeetsShelf

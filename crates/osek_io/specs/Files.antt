@@ -2,11 +2,16 @@
 use Rattle.std.specs.Prelude.{◌≡◌, ℕ, List, [], ◌++◌, Option, Some, None, unwrap_or, ⊤}
 use Rattle.std.specs.Ordering.{nat_cmp}
 use Rattle.std.specs.Cmp.Lexicographic.{slice_cmp}
-use Rattle.std.specs.FinMap.{FinMap, get, insert}
+use Rattle.std.specs.FinMap.{FinMap, get, insert, remove}
 
 -- files by their names
 abbrev pub Files : Type 0
 Files = FinMap (slice_cmp nat_cmp) (List ℕ)
+
+-- the files, with these bytes at the name, or without the name
+abbrev pub with_or_without : Files → List ℕ → Option (List ℕ) → Files
+with_or_without files name None = remove files name
+with_or_without files name (Some bytes) = insert files name bytes
 
 -- The shelf tells that the name's file holds these bytes.
 abbrev pub Holds : Option Files → List ℕ → List ℕ → Type 0

@@ -1,62 +1,82 @@
--- A shelf in memory: which calls fail, and what the others leave.
-use Rattle.std.specs.Prelude.{ℕ, ◌+◌, ◌-◌, min, Bool, ◌||◌, List, [], ◌∷◌, ◌++◌, length, take, drop, if◌then◌else◌, Option, Some, None, Result, Ok, Err, unwrap_or, option_map}
-use Rattle.std.specs.List.{find, position}
+-- A shelf in memory: which calls fail, and what each leaves.
+use Rattle.std.specs.Prelude.{ℕ, refl, ◌-◌, min, ◌||◌, List, [], ◌++◌, length, take, if◌then◌else◌, Option, Some, None, Result, Ok, Err}
+use Rattle.std.specs.FinMap.{FinMap, insert, code as map_code}
+use Rattle.std.specs.Coded.{Coded, code_by, coded×, coded_ℕ, coded_list}
+use Rattle.std.specs.Ordering.{nat_cmp}
+use Rattle.std.specs.Cmp.Lexicographic.{slice_cmp}
 use Rattle.osek_io.specs.Counts.{one_more, is_listed}
+use Rattle.osek_io.specs.Files.{Files}
+use Rattle.osek_io.specs.MemSink.{is_full, fitting_count}
 use Rattle.osek_io.specs.declared.failed.Failed.{Failed}
-use Rattle.osek_io.specs.MemSink.{is_full, fitting}
-use Rattle.osek_io.specs.Place.{PlaceState, is_named, with_bytes}
 
--- what a shelf in memory has: the numbers of the calls that are to fail, its places, and its counts of calls and of faults
+-- how many bytes there is room for, by the names that have a place
+abbrev pub Rooms : Type 0
+Rooms = FinMap (slice_cmp nat_cmp) ℕ
+
+-- the numbers of the calls that are to fail, the files that are there, the room of each place, and the counts of calls and of faults
 pub record ShelfState : Type 0 where
   pub fails : List ℕ
-  pub places : List PlaceState
+  pub files : Files
+  pub rooms : Rooms
   pub calls : ℕ
-  pub reads : ℕ
-  pub writes : ℕ
+  pub read_faults : ℕ
+  pub write_faults : ℕ
 
--- a call that changes no count of faults
-abbrev pub called : ShelfState → ShelfState
-called s = record { fails = s.fails; places = s.places; calls = one_more s.calls; reads = s.reads; writes = s.writes }
+-- the code of such a state, by which a proof tells two apart
+abbrev pub shelf_code : Coded ShelfState
+shelf_code =
+    code_by (List ℕ × (Files × (Rooms × (ℕ × (ℕ × ℕ)))))
+        (coded× (coded_list coded_ℕ) (coded× (map_code (coded_list coded_ℕ) (coded_list coded_ℕ)) (coded× (map_code (coded_list coded_ℕ) coded_ℕ) (coded× coded_ℕ (coded× coded_ℕ coded_ℕ)))))
+        (λ s. (s.fails, (s.files, (s.rooms, (s.calls, (s.read_faults, s.write_faults))))))
+        (λ t. record { fails = t.0; files = t.1.0; rooms = t.1.1.0; calls = t.1.1.1.0; read_faults = t.1.1.1.1.0; write_faults = t.1.1.1.1.1 })
+        (λ _. refl)
+
+-- a call that counts as no fault
+abbrev pub after_call : ShelfState → ShelfState
+after_call s = record s { calls = one_more s.calls }
+
+-- a call that failed as a read
+abbrev pub after_failed_read : ShelfState → ShelfState
+after_failed_read s = record s { calls = one_more s.calls; read_faults = one_more s.read_faults }
 
 -- a call that failed as a write
-abbrev pub write_failed : ShelfState → ShelfState
-write_failed s = record { fails = s.fails; places = s.places; calls = one_more s.calls; reads = s.reads; writes = one_more s.writes }
+abbrev pub after_failed_write : ShelfState → ShelfState
+after_failed_write s = record s { calls = one_more s.calls; write_faults = one_more s.write_faults }
 
--- a call that made the name hold these bytes
-abbrev pub wrote : ShelfState → List ℕ → List ℕ → ShelfState
-wrote s name bytes =
-    record { fails = s.fails; places = with_bytes s.places name bytes; calls = one_more s.calls; reads = s.reads; writes = s.writes }
+-- a call that made the name's file hold these bytes
+abbrev pub after_write : ShelfState → List ℕ → List ℕ → ShelfState
+after_write s name bytes = record s { calls = one_more s.calls; files = insert s.files name bytes }
 
--- what `read` answers and leaves, where the name has these bytes
+-- what `read` answers at a place to a slice of a length, where the file holds these bytes or isn't there
 abbrev pub read_answer : ShelfState → Option (List ℕ) → ℕ → ℕ → Result ℕ Failed
-read_answer s None at room = Err (record {})
-read_answer s (Some bytes) at room = if is_listed s.fails s.calls then Err (record {}) else Ok (min room (length bytes - at))
+read_answer s None at len = Err (record {})
+read_answer s (Some bytes) at len = if is_listed s.fails s.calls then Err (record {}) else Ok (min len (length bytes - at))
 
+-- what `read` leaves
 abbrev pub after_read : ShelfState → Option (List ℕ) → ShelfState
-after_read s None = called s
-after_read s (Some bytes) =
-    if is_listed s.fails s.calls
-    then record { fails = s.fails; places = s.places; calls = one_more s.calls; reads = one_more s.reads; writes = s.writes }
-    else called s
+after_read s None = after_call s
+after_read s (Some bytes) = if is_listed s.fails s.calls then after_failed_read s else after_call s
 
--- what `create` answers and leaves, where the name has this room
+-- what `create` answers, where the name has this room or no place
 abbrev pub create_answer : ShelfState → Option ℕ → Result (Unit {0}) Failed
 create_answer s None = Err (record {})
 create_answer s (Some room) = if is_listed s.fails s.calls then Err (record {}) else Ok tt
 
+-- what `create` leaves
 abbrev pub after_create : ShelfState → List ℕ → Option ℕ → ShelfState
-after_create s name None = write_failed s
-after_create s name (Some room) = if is_listed s.fails s.calls then write_failed s else wrote s name []
+after_create s name None = after_failed_write s
+after_create s name (Some room) = if is_listed s.fails s.calls then after_failed_write s else after_write s name []
 
--- what `append` answers and leaves, where the name has these bytes and this room
+-- what `append` answers, where the file holds these bytes or isn't there, and its place has this room
 abbrev pub append_answer : ShelfState → Option (List ℕ) → ℕ → List ℕ → Result ℕ Failed
 append_answer s None room piece = Err (record {})
 append_answer s (Some bytes) room piece =
-    if is_listed s.fails s.calls || is_full room bytes piece then Err (record {}) else Ok (fitting room bytes piece)
+    if is_listed s.fails s.calls || is_full room bytes piece then Err (record {}) else Ok (fitting_count room bytes piece)
 
+-- what `append` leaves
 abbrev pub after_append : ShelfState → List ℕ → Option (List ℕ) → ℕ → List ℕ → ShelfState
-after_append s name None room piece = called s
+after_append s name None room piece = after_call s
 after_append s name (Some bytes) room piece =
     if is_listed s.fails s.calls || is_full room bytes piece
-    then write_failed s
-    else wrote s name (bytes ++ take (fitting room bytes piece) piece)
+    then after_failed_write s
+    else after_write s name (bytes ++ take (fitting_count room bytes piece) piece)

@@ -12,6 +12,7 @@ mod loading;
 mod mem_shelf;
 mod mem_sink;
 mod place;
+mod places;
 mod shelf;
 mod sink;
 mod std_sink;

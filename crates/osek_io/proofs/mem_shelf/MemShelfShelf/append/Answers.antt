@@ -1,20 +1,20 @@
 use Rattle.std.proofs.Common.{refl, unwrap_or}
-use Rattle.osek_io.specs.Place.{bytes_at, room_at}
+use Rattle.std.specs.FinMap.{get}
 use Rattle.osek_io.proofs.MeetsShelf.{append_meets}
 use Rattle.osek_io.proofs.mem_shelf.MemShelfShelf.append.Goals as goal
 
 pub returns-clause-ok : goal.returns-clause-ok
 returns-clause-ok c =
-    (append_meets c.args.self.now c.add.new.self c.args.name.now (bytes_at c.args.self.now.places c.args.name.now) (unwrap_or (room_at c.args.self.now.places c.args.name.now) 0) c.args.piece.now c.add.result c.add.ensures.range refl c.add.ensures.answer c.add.ensures.after).0
+    (append_meets c.args.self.now c.add.new.self c.args.name.now (get c.args.self.now.files c.args.name.now) (unwrap_or (get c.args.self.now.rooms c.args.name.now) 0) c.args.piece.now c.add.result c.add.ensures.range refl c.add.ensures.answer c.add.ensures.after).0
 
 pub returns-clause-cause : goal.returns-clause-cause
 returns-clause-cause c =
-    (append_meets c.args.self.now c.add.new.self c.args.name.now (bytes_at c.args.self.now.places c.args.name.now) (unwrap_or (room_at c.args.self.now.places c.args.name.now) 0) c.args.piece.now c.add.result c.add.ensures.range refl c.add.ensures.answer c.add.ensures.after).1.failed
+    (append_meets c.args.self.now c.add.new.self c.args.name.now (get c.args.self.now.files c.args.name.now) (unwrap_or (get c.args.self.now.rooms c.args.name.now) 0) c.args.piece.now c.add.result c.add.ensures.range refl c.add.ensures.answer c.add.ensures.after).1.cause
 
 pub returns-clause-missing : goal.returns-clause-missing
 returns-clause-missing c =
-    (append_meets c.args.self.now c.add.new.self c.args.name.now (bytes_at c.args.self.now.places c.args.name.now) (unwrap_or (room_at c.args.self.now.places c.args.name.now) 0) c.args.piece.now c.add.result c.add.ensures.range refl c.add.ensures.answer c.add.ensures.after).1.refused
+    (append_meets c.args.self.now c.add.new.self c.args.name.now (get c.args.self.now.files c.args.name.now) (unwrap_or (get c.args.self.now.rooms c.args.name.now) 0) c.args.piece.now c.add.result c.add.ensures.range refl c.add.ensures.answer c.add.ensures.after).1.refused
 
 pub returns-clause-uncounted : goal.returns-clause-uncounted
 returns-clause-uncounted c =
-    (append_meets c.args.self.now c.add.new.self c.args.name.now (bytes_at c.args.self.now.places c.args.name.now) (unwrap_or (room_at c.args.self.now.places c.args.name.now) 0) c.args.piece.now c.add.result c.add.ensures.range refl c.add.ensures.answer c.add.ensures.after).1.missed
+    (append_meets c.args.self.now c.add.new.self c.args.name.now (get c.args.self.now.files c.args.name.now) (unwrap_or (get c.args.self.now.rooms c.args.name.now) 0) c.args.piece.now c.add.result c.add.ensures.range refl c.add.ensures.answer c.add.ensures.after).1.uncounted

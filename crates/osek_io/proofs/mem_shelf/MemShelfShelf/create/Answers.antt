@@ -1,12 +1,11 @@
-use Rattle.std.proofs.Common.{refl}
-use Rattle.osek_io.specs.Place.{room_at}
+use Rattle.std.specs.FinMap.{get}
 use Rattle.osek_io.proofs.MeetsShelf.{create_meets}
 use Rattle.osek_io.proofs.mem_shelf.MemShelfShelf.create.Goals as goal
 
 pub returns-clause-ok : goal.returns-clause-ok
 returns-clause-ok c =
-    (create_meets c.args.self.now c.make.new.self c.args.name.now (room_at c.args.self.now.places c.args.name.now) c.make.result c.make.ensures.range refl c.make.ensures.answer c.make.ensures.after).0
+    (create_meets c.args.self.now c.make.new.self c.args.name.now (get c.args.self.now.rooms c.args.name.now) c.make.result c.make.ensures.range c.make.ensures.answer c.make.ensures.after).0
 
 pub returns-clause-cause : goal.returns-clause-cause
 returns-clause-cause c =
-    (create_meets c.args.self.now c.make.new.self c.args.name.now (room_at c.args.self.now.places c.args.name.now) c.make.result c.make.ensures.range refl c.make.ensures.answer c.make.ensures.after).1.failed
+    (create_meets c.args.self.now c.make.new.self c.args.name.now (get c.args.self.now.rooms c.args.name.now) c.make.result c.make.ensures.range c.make.ensures.answer c.make.ensures.after).1
