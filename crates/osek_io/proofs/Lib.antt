@@ -1,4 +1,5 @@
-pub mod Files
+pub mod FileChanges
+pub mod Turns
 pub mod FirstOf
 pub mod PlaceMaps
 pub mod MeetsShelf

@@ -1,8 +1,8 @@
 -- What a shelf in memory answers and leaves is what is asked of a shelf.
-use Rattle.std.proofs.Common.{◌≡◌, ℕ, ◌+◌, ◌-◌, ◌^◌, ◌≤◌, ◌<◌, ◌⊎◌, ◌||◌, min, true, false, cond, List, [], ◌++◌, length, take, drop, Option, Some, None, Result, Ok, Err, OnErr, OnOk, IfOk, IsErr, refl, sym, ap, subst, ◌∙◌, arith, inl, inr, unwrap_or}
+use Rattle.std.proofs.Common.{◌≡◌, ℕ, ◌-◌, ◌^◌, ◌<◌, ◌⊎◌, ◌||◌, min, true, false, cond, List, [], ◌++◌, length, take, drop, Option, Some, None, Result, Ok, Err, OnErr, OnOk, IfOk, IsErr, refl, sym, ap, subst, ◌∙◌, arith, inl, inr, unwrap_or}
 use Rattle.std.specs.FinMap.{get, insert}
 use Rattle.osek_io.specs.Counts.{Rose, is_listed}
-use Rattle.osek_io.specs.Files.{Files, Holds, IsMissing, with_file, with_more}
+use Rattle.osek_io.specs.Files.{IsMissing, with_file, with_more}
 use Rattle.osek_io.specs.Pieces.{ReadsPiece}
 use Rattle.osek_io.specs.declared.failed.Failed.{Failed}
 use Rattle.osek_io.specs.MemSink.{is_full, fitting_count}
@@ -46,10 +46,10 @@ read_cause s t (Some bytes) at len r range a f =
       | true ↦ λ a' f'.
           let count = ap (λ (x : ShelfState). x.read_faults) f' in
           subst (λ (x : Result ℕ Failed). CanMiss s.read_faults t.read_faults (something bytes ≡ None) x) (sym a')
-              (record { cause = inl (omega arith); refused = λ h. absurd (none_some bytes (sym h)); uncounted = λ h. absurd (none_some bytes (sym h)) })
+          (record { cause = inl (omega arith); refused = λ h. absurd (none_some bytes (sym h)); uncounted = λ h. absurd (none_some bytes (sym h)) })
       | false ↦ λ a' f'.
           subst (λ (x : Result ℕ Failed). CanMiss s.read_faults t.read_faults (something bytes ≡ None) x) (sym a')
-              (record { cause = tt; refused = λ h. absurd (none_some bytes (sym h)); uncounted = λ h. absurd (none_some bytes (sym h)) })
+          (record { cause = tt; refused = λ h. absurd (none_some bytes (sym h)); uncounted = λ h. absurd (none_some bytes (sym h)) })
     ] a f
 
 read_meets : (s : ShelfState) (at : ℕ) (into bytes : List ℕ) (o : Option (List ℕ)) (n : ℕ) → o ≡ Some bytes → good n ≡ read_answer s o at (length into)
@@ -108,9 +108,10 @@ append_meets s t name (Some bytes) room piece r range here a f =
       | true ↦ λ a' f'.
           let count = ap (λ (x : ShelfState). x.write_faults) f' in
           subst (λ (x : Result ℕ Failed). Appends s t name piece x) (sym a')
-              (tt, record { cause = inl (omega arith); refused = λ h. absurd (there h); uncounted = λ h. absurd (there h) })
+          (tt, record { cause = inl (omega arith); refused = λ h. absurd (there h); uncounted = λ h. absurd (there h) })
       | false ↦ λ a' f'.
-          subst (λ (x : Result ℕ Failed). Appends s t name piece x) (sym a')
-              (ap (λ (x : ShelfState). Some x.files) f' ∙ ap (λ (o : Option (List ℕ)). Some (insert s.files name (unwrap_or o [] ++ take (fitting_count room bytes piece) piece))) (sym here),
-               record { cause = tt; refused = λ h. absurd (there h); uncounted = λ h. absurd (there h) })
+          subst (λ (x : Result ℕ Failed). Appends s t name piece x) (sym a') (
+            ap (λ (x : ShelfState). Some x.files) f' ∙ ap (λ (o : Option (List ℕ)). Some (insert s.files name (unwrap_or o [] ++ take (fitting_count room bytes piece) piece))) (sym here),
+            record { cause = tt; refused = λ h. absurd (there h); uncounted = λ h. absurd (there h) },
+          )
     ] a f

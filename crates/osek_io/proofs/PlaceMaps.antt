@@ -1,11 +1,11 @@
 -- The files and the rooms of the places of a shelf.
 use Rattle.std.proofs.Common.{◌≡◌, ℕ, ◌+◌, ◌≤◌, Bool, true, false, cond, List, [], ◌∷◌, ◌++◌, length, Option, Some, None, option_map, option_and_then, unwrap_or, IsSomeAnd, IfSome, IsSome, refl, sym, ap, subst, ◌∙◌, is_some}
-use Rattle.std.specs.List.{find, list_any, position}
+use Rattle.std.specs.List.{find, position}
 use Rattle.std.specs.Prelude.{slice_set, get_or}
 use Rattle.std.specs.Str.{bytes_eq}
 use Rattle.std.specs.Ordering.{nat_cmp}
 use Rattle.std.specs.Cmp.Lexicographic.{slice_cmp, nat_list_cmp_total}
-use Rattle.std.specs.FinMap.{FinMap, get, insert, get-insert, get-remove, get-empty, same_map, slice_cmp-IsAntisymmetric, nat_cmp-IsAntisymmetric}
+use Rattle.std.specs.FinMap.{get, insert, get-insert, get-remove, get-empty, same_map, slice_cmp-IsAntisymmetric, nat_cmp-IsAntisymmetric}
 use Rattle.std.proofs.lemmas.Map.Text.{is_eq-slice_cmp}
 use Rattle.std.proofs.lemmas.Slice.Eq.{bytes_eq-Decides}
 use Rattle.osek_io.specs.Files.{Files, with_or_without}
@@ -16,6 +16,7 @@ use Rattle.osek_io.proofs.FirstOf.{update_first, set_first, find_first, find_non
 -- the bytes of a place, and its room
 abbrev pub bytes_in : Option PlaceState → Option (List ℕ)
 bytes_in o = option_and_then (λ p. p.bytes) o
+
 abbrev pub room_in : Option PlaceState → Option ℕ
 room_in o = option_map (λ p. p.room) o
 
@@ -54,13 +55,13 @@ apart : (q name other : List ℕ) (A : Type 0) (b c d : A) → bytes_eq name oth
 apart q name other A b c d e =
     elim (bytes_eq q other) as (λ t. bytes_eq q other ≡ t → cond t c (cond (bytes_eq q name) b d) ≡ cond (bytes_eq q name) b (cond t c d)) [
       | true ↦ λ h. elim (bytes_eq q name) as (λ u. bytes_eq q name ≡ u → c ≡ cond u b c) [
-          | true ↦ λ g.
-              let one : q ≡ other = (bytes_eq-Decides q other).0 h in
-              let two : q ≡ name = (bytes_eq-Decides q name).0 g in
-              let three : bytes_eq name other ≡ true = (bytes_eq-Decides name other).1 (sym two ∙ one) in
-              absurd cc
-          | false ↦ λ g. refl
-        ] refl
+        | true ↦ λ g.
+            let one : q ≡ other = (bytes_eq-Decides q other).0 h in
+            let two : q ≡ name = (bytes_eq-Decides q name).0 g in
+            let three : bytes_eq name other ≡ true = (bytes_eq-Decides name other).1 (sym two ∙ one) in
+            absurd cc
+        | false ↦ λ g. refl
+      ] refl
       | false ↦ λ h. refl
     ] refl
 
@@ -76,7 +77,7 @@ find-first : (p : PlaceState) (ps : List PlaceState) (q : List ℕ) → is_some 
 find-first p [] q h = absurd cc
 find-first p (x ∷ ps) q h =
     elim (bytes_eq p.name x.name) as (λ t. bytes_eq p.name x.name ≡ t → is_some (cond t (Some x) (find (is_named p.name) ps)) ≡ true
-        → find (is_named q) (cond t (p ∷ ps) (x ∷ update_first (is_named p.name) (λ _. p) ps)) ≡ cond (bytes_eq q p.name) (Some p) (find (is_named q) (x ∷ ps))) [
+    → find (is_named q) (cond t (p ∷ ps) (x ∷ update_first (is_named p.name) (λ _. p) ps)) ≡ cond (bytes_eq q p.name) (Some p) (find (is_named q) (x ∷ ps))) [
       | true ↦ λ e _.
           let same : p.name ≡ x.name = (bytes_eq-Decides p.name x.name).0 e in
           twice (bytes_eq q p.name) (bytes_eq q p.name) (Some p) (Some x) (find (is_named q) ps) refl
@@ -92,7 +93,7 @@ find-last : (p : PlaceState) (ps : List PlaceState) (q : List ℕ) → find (is_
 find-last p [] q h = refl
 find-last p (x ∷ ps) q h =
     elim (bytes_eq p.name x.name) as (λ t. bytes_eq p.name x.name ≡ t → cond t (Some x) (find (is_named p.name) ps) ≡ None
-        → cond (bytes_eq q x.name) (Some x) (find (is_named q) (ps ++ p ∷ [])) ≡ cond (bytes_eq q p.name) (Some p) (cond (bytes_eq q x.name) (Some x) (find (is_named q) ps))) [
+    → cond (bytes_eq q x.name) (Some x) (find (is_named q) (ps ++ p ∷ [])) ≡ cond (bytes_eq q p.name) (Some p) (cond (bytes_eq q x.name) (Some x) (find (is_named q) ps))) [
       | true ↦ λ e k. absurd cc
       | false ↦ λ e k.
           ap (λ o. cond (bytes_eq q x.name) (Some x) o) (find-last p ps q k)
@@ -106,12 +107,12 @@ Puts new p old = (q : List ℕ) → find (is_named q) new ≡ cond (bytes_eq q p
 files_put : (new : List PlaceState) (p : PlaceState) (old : List PlaceState) → Puts new p old → files_of new ≡ with_or_without (files_of old) p.name p.bytes
 files_put new p old h =
     same_files _ _ (λ q. files_at new q ∙ ap bytes_in (h q) ∙ bytes_by (bytes_eq q p.name) p (find (is_named q) old)
-        ∙ ap (λ o. cond (bytes_eq q p.name) p.bytes o) (sym (files_at old q)) ∙ sym (get-with_or_without p.bytes p.name (files_of old) q))
+    ∙ ap (λ o. cond (bytes_eq q p.name) p.bytes o) (sym (files_at old q)) ∙ sym (get-with_or_without p.bytes p.name (files_of old) q))
 
 rooms_put : (new : List PlaceState) (p : PlaceState) (old : List PlaceState) → Puts new p old → rooms_of new ≡ insert (rooms_of old) p.name p.room
 rooms_put new p old h =
     same_rooms _ _ (λ q. rooms_at new q ∙ ap room_in (h q) ∙ room_by (bytes_eq q p.name) p (find (is_named q) old)
-        ∙ ap (λ o. cond (bytes_eq q p.name) (Some p.room) o) (sym (rooms_at old q)) ∙ sym (get-room p.room p.name (rooms_of old) q))
+    ∙ ap (λ o. cond (bytes_eq q p.name) (Some p.room) o) (sym (rooms_at old q)) ∙ sym (get-room p.room p.name (rooms_of old) q))
 
 found : (o : Option PlaceState) (x : PlaceState) → o ≡ Some x → is_some o ≡ true
 found o x e = ap is_some e
@@ -162,9 +163,9 @@ pub rooms_same : (places : List PlaceState) (p : PlaceState) (name : List ℕ) (
 rooms_same places p name i old same room at here =
     let named : name ≡ p.name = name_at places name i old at here ∙ sym same in
     same_rooms _ _ (λ q. rooms_at (slice_set places i p) q ∙ ap room_in (set_puts places p name i old named at here q)
-        ∙ room_same (bytes_eq q p.name) p old (find (is_named q) places) room
-            (λ t. ap (λ n. find (is_named n) places) ((bytes_eq-Decides q p.name).0 t ∙ sym named) ∙ find_first (is_named name) places i old at here)
-        ∙ sym (rooms_at places q))
+    ∙ room_same (bytes_eq q p.name) p old (find (is_named q) places) room
+    (λ t. ap (λ n. find (is_named n) places) ((bytes_eq-Decides q p.name).0 t ∙ sym named) ∙ find_first (is_named name) places i old at here)
+    ∙ sym (rooms_at places q))
 
 -- A name without a place has no room.
 pub no_room : (places : List PlaceState) (name : List ℕ) → position (is_named name) places ≡ None → IsSome (get (rooms_of places) name) → ⊥
@@ -189,7 +190,7 @@ room_here : (places : List PlaceState) (name : List ℕ) (i : ℕ) (old : PlaceS
     → HasRoom (get (files_of places) name) (get (rooms_of places) name) n → HasRoom old.bytes (Some old.room) n
 room_here places name i old n at here h =
     subst (λ (o : Option ℕ). HasRoom old.bytes o n) (rooms_at places name ∙ ap room_in (find_first (is_named name) places i old at here))
-        (subst (λ (o : Option (List ℕ)). HasRoom o (get (rooms_of places) name) n) (bytes_here places name i old at here) h)
+    (subst (λ (o : Option (List ℕ)). HasRoom o (get (rooms_of places) name) n) (bytes_here places name i old at here) h)
 
 if_there : (o : Option (List ℕ)) (room n : ℕ) → HasRoom o (Some room) n → IfSome o (λ b. length b + n ≤ room)
 if_there None room n h = absurd h
@@ -210,4 +211,4 @@ pub files_longer : (places : List PlaceState) (p : PlaceState) (name : List ℕ)
 files_longer places p name i old more is at here h =
     files_refilled places p name i old (ap (λ (x : PlaceState). x.name) is) at here
     ∙ ap (with_or_without (files_of places) name) (ap (λ (x : PlaceState). x.bytes) is ∙ more_bytes old.bytes (Some old.room) more (length more) (room_here places name i old (length more) at here h)
-        ∙ ap (λ (o : Option (List ℕ)). Some (unwrap_or o [] ++ more)) (sym (bytes_here places name i old at here)))
+    ∙ ap (λ (o : Option (List ℕ)). Some (unwrap_or o [] ++ more)) (sym (bytes_here places name i old at here)))

@@ -5,3 +5,4 @@ pub mod Stored
 pub mod MemSink
 pub mod Place
 pub mod MemShelf
+pub mod ShelfCode

@@ -1,7 +1,6 @@
 -- A shelf in memory: which calls fail, and what each leaves.
-use Rattle.std.specs.Prelude.{ℕ, refl, ◌-◌, min, ◌||◌, List, [], ◌++◌, length, take, if◌then◌else◌, Option, Some, None, Result, Ok, Err}
-use Rattle.std.specs.FinMap.{FinMap, insert, code as map_code}
-use Rattle.std.specs.Coded.{Coded, code_by, coded×, coded_ℕ, coded_list}
+use Rattle.std.specs.Prelude.{ℕ, ◌-◌, min, ◌||◌, List, [], ◌++◌, length, take, if◌then◌else◌, Option, Some, None, Result, Ok, Err}
+use Rattle.std.specs.FinMap.{FinMap, insert}
 use Rattle.std.specs.Ordering.{nat_cmp}
 use Rattle.std.specs.Cmp.Lexicographic.{slice_cmp}
 use Rattle.osek_io.specs.Counts.{one_more, is_listed}
@@ -21,15 +20,6 @@ pub record ShelfState : Type 0 where
   pub calls : ℕ
   pub read_faults : ℕ
   pub write_faults : ℕ
-
--- the code of such a state, by which a proof tells two apart
-abbrev pub shelf_code : Coded ShelfState
-shelf_code =
-    code_by (List ℕ × (Files × (Rooms × (ℕ × (ℕ × ℕ)))))
-        (coded× (coded_list coded_ℕ) (coded× (map_code (coded_list coded_ℕ) (coded_list coded_ℕ)) (coded× (map_code (coded_list coded_ℕ) coded_ℕ) (coded× coded_ℕ (coded× coded_ℕ coded_ℕ)))))
-        (λ s. (s.fails, (s.files, (s.rooms, (s.calls, (s.read_faults, s.write_faults))))))
-        (λ t. record { fails = t.0; files = t.1.0; rooms = t.1.1.0; calls = t.1.1.1.0; read_faults = t.1.1.1.1.0; write_faults = t.1.1.1.1.1 })
-        (λ _. refl)
 
 -- a call that counts as no fault
 abbrev pub after_call : ShelfState → ShelfState

@@ -1,8 +1,5 @@
 //! A shelf over the files of the system.
-ghost use Rattle.std.specs.Prelude.{◌≡◌, ◌≤◌, ◌⊎◌, ℕ, List, [], length, take, Option, None, IfOk, OnOk, OnErr, IsErr};
-ghost use Rattle.osek_io.specs.Counts.{Rose};
-ghost use Rattle.osek_io.specs.Files.{Files as FilesByName, Holds, IsMissing, with_file, with_more};
-ghost use Rattle.osek_io.specs.Pieces.{ReadsPiece};
+ghost use Rattle.std.specs.Prelude.{◌≡◌, ◌≤◌, length, None, IfOk};
 
 use crate::counts::one_more;
 use crate::failed::Failed;

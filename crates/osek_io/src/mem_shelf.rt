@@ -28,7 +28,9 @@ fn copy_from(bytes: &[u8], at: u64, into: &mut [u8]) -> usize
     count
 }
 
-/// A shelf in memory. A call fails where its number is listed, or its name isn't there, or the room is full.
+/// A shelf in memory. A call fails exactly where its number is listed, counted from 1 over all calls, or: a
+/// `read` or an `append`, where the name isn't there; a `create`, where the name has no place; an `append` of a
+/// piece that isn't empty, where the room is full. Else an `append` takes what fits. No call but `set` takes memory.
 #[derive(Drop)]
 pub struct MemShelf {
     alloc: Global,
@@ -40,7 +42,8 @@ pub struct MemShelf {
 }
 
 impl Model for MemShelf {
-    ghost use Rattle.osek_io.specs.MemShelf.{ShelfState, shelf_code};
+    ghost use Rattle.osek_io.specs.MemShelf.{ShelfState};
+    ghost use Rattle.osek_io.specs.ShelfCode.{shelf_code};
     ghost use Rattle.osek_io.specs.Place.{files_of, rooms_of};
 
     ghost Value = { ShelfState };
@@ -96,6 +99,7 @@ impl MemShelf {
 impl MemShelf {
     ghost use Rattle.osek_io.specs.MemShelf.{read_answer, after_read, create_answer, after_create, append_answer, after_append};
 
+    /// `read`, exactly.
     fn read_piece(&mut self, name: &str, at: u64, into: &mut [u8]) -> Result<usize, Failed>
         ensures answer { result ≡ read_answer self.old (get self.old.files name.now) at (length into.old) }
         ensures after { self.new ≡ after_read self.old (get self.old.files name.now) }
@@ -115,7 +119,8 @@ impl MemShelf {
         }
     }
 
-    fn make(&mut self, name: &str) -> Result<(), Failed>
+    /// `create`, exactly.
+    fn create_file(&mut self, name: &str) -> Result<(), Failed>
         ensures answer { result ≡ create_answer self.old (get self.old.rooms name.now) }
         ensures after { self.new ≡ after_create self.old name.now (get self.old.rooms name.now) }
         ensures range { self.old.write_faults < 2 ^ 64 }
@@ -131,7 +136,8 @@ impl MemShelf {
         Ok(())
     }
 
-    fn add(&mut self, name: &str, piece: &[u8]) -> Result<usize, Failed>
+    /// `append`, exactly.
+    fn append_piece(&mut self, name: &str, piece: &[u8]) -> Result<usize, Failed>
         ensures answer { result ≡ append_answer self.old (get self.old.files name.now) (unwrap_or (get self.old.rooms name.now) 0) piece.now }
         ensures after { self.new ≡ after_append self.old name.now (get self.old.files name.now) (unwrap_or (get self.old.rooms name.now) 0) piece.now }
         ensures range { self.old.write_faults < 2 ^ 64 }
@@ -187,7 +193,7 @@ impl Shelf for MemShelf {
         ensures answer { result ≡ create_answer self.old (get self.old.rooms name.now) }
         ensures after { self.new ≡ after_create self.old name.now (get self.old.rooms name.now) }
     {
-        self.make(name)
+        self.create_file(name)
     }
 
     fn append(&mut self, name: &str, piece: &[u8]) -> Result<usize, Failed>
@@ -203,6 +209,6 @@ impl Shelf for MemShelf {
         ensures answer { result ≡ append_answer self.old (get self.old.files name.now) (unwrap_or (get self.old.rooms name.now) 0) piece.now }
         ensures after { self.new ≡ after_append self.old name.now (get self.old.files name.now) (unwrap_or (get self.old.rooms name.now) 0) piece.now }
     {
-        self.add(name, piece)
+        self.append_piece(name, piece)
     }
 }

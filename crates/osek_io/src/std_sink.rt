@@ -1,7 +1,5 @@
 //! A sink over a standard stream.
-ghost use Rattle.std.specs.Prelude.{◌≡◌, ◌≤◌, ℕ, List, length, take, Option, None, IfOk, OnErr};
-ghost use Rattle.osek_io.specs.Counts.{Rose};
-ghost use Rattle.osek_io.specs.Pieces.{grown};
+ghost use Rattle.std.specs.Prelude.{◌≡◌, None};
 
 use crate::counts::one_more;
 use crate::failed::Failed;

@@ -59,12 +59,12 @@ pub fn store<F: Shelf>(shelf: &mut F, name: &str, bytes: &[u8]) -> Result<(), Pu
     if shelf.create(name).is_err() {
         return Err(PutError::Write);
     }
-    let mut done = 0;
-    while done < bytes.len() {
-        let Ok(count) = shelf.append(name, &bytes[done..]) else {
+    let mut added = 0;
+    while added < bytes.len() {
+        let Ok(count) = shelf.append(name, &bytes[added..]) else {
             return Err(PutError::Write);
         };
-        done += count;
+        added += count;
     }
     Ok(())
 }

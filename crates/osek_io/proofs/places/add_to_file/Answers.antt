@@ -1,4 +1,4 @@
-use Rattle.std.proofs.Common.{◌≡◌, ◌∙◌, sym, ap, refl, Some, None, length}
+use Rattle.std.proofs.Common.{◌≡◌, ◌∙◌, sym, ap, Some, None, length}
 use Rattle.std.specs.List.{position}
 use Rattle.osek_io.specs.Place.{PlaceState, is_named}
 use Rattle.osek_io.proofs.PlaceMaps.{files_longer, rooms_same, no_file, fits_here}

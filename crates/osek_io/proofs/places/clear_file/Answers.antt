@@ -1,4 +1,4 @@
-use Rattle.std.proofs.Common.{◌≡◌, ◌∙◌, sym, ap, refl, Some, None, length}
+use Rattle.std.proofs.Common.{◌≡◌, ◌∙◌, sym, ap, Some, None}
 use Rattle.std.specs.List.{position}
 use Rattle.osek_io.specs.Place.{PlaceState, is_named, files_of}
 use Rattle.osek_io.specs.Files.{with_or_without}

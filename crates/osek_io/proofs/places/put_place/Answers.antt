@@ -1,4 +1,4 @@
-use Rattle.std.proofs.Common.{◌≡◌, ◌∙◌, sym, ap, refl, Some, None, length}
+use Rattle.std.proofs.Common.{◌≡◌, ◌∙◌, sym, ap, Some, None}
 use Rattle.std.specs.List.{position}
 use Rattle.osek_io.specs.Place.{is_named, files_of, rooms_of}
 use Rattle.osek_io.proofs.PlaceMaps.{files_set, rooms_set, files_last, rooms_last}

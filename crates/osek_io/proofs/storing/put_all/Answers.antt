@@ -1,5 +1,5 @@
 use Rattle.std.proofs.Common.{sym, arith}
-use Rattle.osek_io.proofs.Files.{grows, grown-nil, length-rest}
+use Rattle.osek_io.proofs.Turns.{grows, grown-nil, length-rest}
 use Rattle.osek_io.proofs.storing.put_all.Goals as goal
 
 pub loop-done-init : goal.loop-done-init

@@ -1,27 +1,28 @@
-use Rattle.std.proofs.Common.{◌∙◌, arith, inr, take}
-use Rattle.osek_io.proofs.Files.{grows_file, rises_there, length-rest, stored-others}
+use Rattle.std.proofs.Common.{◌∙◌, arith, inr}
+use Rattle.osek_io.proofs.FileChanges.{stored-others}
+use Rattle.osek_io.proofs.Turns.{grows_file, rises_there, length-rest}
 use Rattle.osek_io.proofs.storing.store.Goals as goal
 
-pub loop-done-preserved : goal.loop-done-preserved
-loop-done-preserved g c =
+pub loop-added-preserved : goal.loop-added-preserved
+loop-added-preserved g c =
     let bytes = c.args.bytes.now in
-    let done = c.loop-done.done in
+    let added = c.loop-added.added in
     record {
-      within = omega (arith, c.in-Ok.ensures.bound, length-rest bytes done);
-      files = grows_file _ _ _ c.args.name.now bytes done c.in-Ok.count c.loop-done.invariant.files c.in-Ok.ensures.ok;
+      within = omega (arith, c.in-Ok.ensures.bound, length-rest bytes added);
+      files = grows_file _ _ _ c.args.name.now bytes added c.in-Ok.count c.loop-added.invariant.files c.in-Ok.ensures.ok;
       later = omega (arith, c.append.ensures.never_falls);
-      reads = c.append.ensures.same_reads ∙ c.loop-done.invariant.reads;
+      reads = c.append.ensures.same_reads ∙ c.loop-added.invariant.reads;
     }
 
 pub returns-in_default-clause-cause : goal.returns-in_default-clause-cause
 returns-in_default-clause-cause g c =
-    rises_there _ _ c.args.name.now _ _ _ _ c.loop-done.invariant.files c.loop-done.invariant.later c.in_default.ensures.cause
+    rises_there _ _ c.args.name.now _ _ _ _ c.loop-added.invariant.files c.loop-added.invariant.later c.in_default.ensures.cause
 
 pub returns-in_default-clause-part : goal.returns-in_default-clause-part
-returns-in_default-clause-part g c = inr (c.loop-done.done, omega arith, c.in_default.ensures.err ∙ c.loop-done.invariant.files)
+returns-in_default-clause-part g c = inr (c.loop-added.added, omega arith, c.in_default.ensures.err ∙ c.loop-added.invariant.files)
 
 pub returns-in_default-clause-same_others : goal.returns-in_default-clause-same_others
-returns-in_default-clause-same_others g c = stored-others _ _ c.args.name.now _ (c.in_default.ensures.err ∙ c.loop-done.invariant.files)
+returns-in_default-clause-same_others g c = stored-others _ _ c.args.name.now _ (c.in_default.ensures.err ∙ c.loop-added.invariant.files)
 
 pub returns-clause-same_others : goal.returns-clause-same_others
-returns-clause-same_others g c = stored-others _ _ c.args.name.now _ c.loop-done.invariant.files
+returns-clause-same_others g c = stored-others _ _ c.args.name.now _ c.loop-added.invariant.files

@@ -4,8 +4,8 @@ use Rattle.osek_io.proofs.mem_shelf.MemShelfShelf.create.Goals as goal
 
 pub returns-clause-ok : goal.returns-clause-ok
 returns-clause-ok c =
-    (create_meets c.args.self.now c.make.new.self c.args.name.now (get c.args.self.now.rooms c.args.name.now) c.make.result c.make.ensures.range c.make.ensures.answer c.make.ensures.after).0
+    (create_meets c.args.self.now c.create_file.new.self c.args.name.now (get c.args.self.now.rooms c.args.name.now) c.create_file.result c.create_file.ensures.range c.create_file.ensures.answer c.create_file.ensures.after).0
 
 pub returns-clause-cause : goal.returns-clause-cause
 returns-clause-cause c =
-    (create_meets c.args.self.now c.make.new.self c.args.name.now (get c.args.self.now.rooms c.args.name.now) c.make.result c.make.ensures.range c.make.ensures.answer c.make.ensures.after).1
+    (create_meets c.args.self.now c.create_file.new.self c.args.name.now (get c.args.self.now.rooms c.args.name.now) c.create_file.result c.create_file.ensures.range c.create_file.ensures.answer c.create_file.ensures.after).1
