@@ -10,7 +10,8 @@ use std::fs::OpenOptions;
 use std::io::{Seek, SeekFrom};
 use std::rt::Files;
 
-/// The files of the system by their paths. It tells no contents.
+/// The files of the system by their paths. It tells no contents. What the system refuses, want of memory
+/// included, is a fault.
 ///
 /// Each call opens its file anew, and a read seeks to its place: nothing is kept between two calls, and a
 /// file that is read piece by piece costs one opening a piece, wherever the piece is.

@@ -166,6 +166,21 @@ impl Write for Failing {
 }
 
 #[test]
+fn names_its_errors(rt: HostRuntime) -> Result<(), Fail> {
+    let alloc = rt.alloc();
+    let text = format!(in alloc;
+        "{}, {}, {}, {}, {}",
+        Failed,
+        LoadError::Read,
+        LoadError::TooLong,
+        LoadError::Memory,
+        PutError::Write
+    )?;
+    assert_eq!(rt; text.as_str(), "failed, read, too long, memory, write");
+    Ok(())
+}
+
+#[test]
 fn writes_to_a_stream(rt: HostRuntime) -> Result<(), Fail> {
     let mut sink = StdSink::new(Failing { calls: 0 });
     assert_eq!(rt;
