@@ -1,6 +1,6 @@
 -- Interrupts: which source's routine begins now (ISO 17356-3, interrupt processing). Routines don't nest (this
 -- project's profile).
-use Rattle.std.specs.Prelude.{ℕ, Bool, true, false, nat_le, List, length, if◌then◌else◌, None, option_map}
+use Rattle.std.specs.Prelude.{◌≡◌, ℕ, ◌≤◌, Bool, true, false, nat_le, List, length, if◌then◌else◌, None, option_map}
 use Rattle.std.specs.List.{filter, range_with_len}
 use Rattle.std.specs.declared.option.Option.{Option}
 use Rattle.osek_values.specs.declared.numbers.SourceNo.{SourceNo}
@@ -35,6 +35,12 @@ takes_none app s = takes_none_by app s s.processor
 -- the source whose routine begins now
 abbrev pub arrival : App → State → Option SourceNo
 arrival app s = if takes_none app s then None else option_map source_no (first_of_all comes_before (latched_sources s))
+
+-- the same as a property: no lower source is latched
+pub record IsArrival (app : App) (s : State) (k : ℕ) : Type 0 where
+  pub allowed : takes_none app s ≡ false
+  pub latched : is_latched s k ≡ true
+  pub lowest : (l : ℕ) → is_latched s l ≡ true → k ≤ l
 
 -- its routine begins at its first block, over the task that runs or over none
 abbrev pub entered : App → State → SourceNo → State

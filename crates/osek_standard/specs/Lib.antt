@@ -1,5 +1,6 @@
 pub mod Apps
 pub mod Arrivals
+pub mod Counts
 pub mod Dispatch
 pub mod Effects
 pub mod Kernel
@@ -11,3 +12,4 @@ pub mod TraceText
 pub mod Validity
 pub mod Versions
 pub mod Well
+pub mod WorkedApps

@@ -4,9 +4,12 @@
 
 mod app;
 mod block;
+mod counts;
+pub mod laws;
 mod objects;
 mod state;
 mod task_state;
+pub mod worked;
 
 pub use app::App;
 pub use block::{Block, Kind, Lock};

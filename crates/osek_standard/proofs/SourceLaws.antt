@@ -1,0 +1,140 @@
+-- The services leave the sources as they are, and an instruction asks for the processor only where no routine runs.
+use Rattle.std.proofs.Common.{◌≡◌, ℕ, refl, Some, None, not, ◌||◌, ◌&&◌, nat_lt, nat_eq}
+use Rattle.std.specs.declared.option.Option.{Option}
+use Rattle.osek_values.specs.declared.numbers.ResNo.{ResNo}
+use Rattle.osek_standard.specs.declared.app.App.{App}
+use Rattle.osek_standard.specs.declared.objects.Action.{Action}
+use Rattle.osek_standard.specs.declared.objects.Action.TheVariants as action
+use Rattle.osek_standard.specs.declared.block.Kind.{Kind}
+use Rattle.osek_standard.specs.declared.block.Kind.TheVariants as kind
+use Rattle.osek_standard.specs.declared.state.State.{State}
+use Rattle.osek_standard.specs.declared.state.Caller.{Caller}
+use Rattle.osek_standard.specs.declared.state.Caller.TheVariants.{Nobody, Task, Routine}
+use Rattle.osek_standard.specs.Apps.{the_alarm, is_extended, is_counter, is_cycle, max_of}
+use Rattle.osek_standard.specs.TaskStates.{held, is_suspended}
+use Rattle.osek_standard.specs.States.{alarm_state, is_taken, task_state, with_alarm}
+use Rattle.osek_standard.specs.Priority.{base_priority, ceiling}
+use Rattle.osek_standard.specs.Services.{Answer, acted, activate_task, cancel_alarm, chain_task, clear_event, count_up, counted_by, due, expire, get_alarm, get_event, get_resource, get_resource_by, holds_some, is_due_at, is_full, is_idle, is_on_top, rearmed, release_resource, release_resource_by, schedule, set_abs_alarm, set_event, set_rel_alarm, share, terminate_task, time_left, value_of, wait_event, waits_for}
+use Rattle.osek_standard.specs.Effects.{called}
+use Rattle.osek_standard.proofs.BoolLaws.{either_way}
+
+abbrev pub HasSourcesOf : State → Answer → Type 0
+HasSourcesOf s a = a.state.sources ≡ s.sources
+
+module _ (app : App) (s : State) where
+  activate_leaves : (t : ℕ) → HasSourcesOf s (activate_task app s t)
+  unfolding activate_task
+  activate_leaves t = either_way (HasSourcesOf s) (is_full app s t) _ _ refl refl
+
+  terminate_leaves : (c : Caller) → HasSourcesOf s (terminate_task app s c)
+  unfolding terminate_task
+  terminate_leaves Nobody = refl
+  terminate_leaves (Routine k) = refl
+  terminate_leaves (Task c) = either_way (HasSourcesOf s) (holds_some s c.0) _ _ refl refl
+
+  chain_leaves : (c : Caller) (t : ℕ) → HasSourcesOf s (chain_task app s c t)
+  unfolding chain_task
+  chain_leaves Nobody t = refl
+  chain_leaves (Routine k) t = refl
+  chain_leaves (Task c) t = either_way (HasSourcesOf s) (holds_some s c.0) _ _ refl (either_way (HasSourcesOf s) (not (nat_eq t c.0) && is_full app s t) _ _ refl refl)
+
+  schedule_leaves : (c : Caller) → HasSourcesOf s (schedule s c)
+  unfolding schedule
+  schedule_leaves Nobody = refl
+  schedule_leaves (Routine k) = refl
+  schedule_leaves (Task c) = either_way (HasSourcesOf s) (holds_some s c.0) _ _ refl refl
+
+  get_resource_leaves : (c : Caller) (r : ResNo) → HasSourcesOf s (get_resource_by app s c r)
+  unfolding get_resource
+  get_resource_leaves Nobody r = refl
+  get_resource_leaves (Routine k) r = refl
+  get_resource_leaves (Task c) r = either_way (HasSourcesOf s) (is_taken s r.0 || nat_lt (ceiling app r.0) (base_priority app c.0)) _ _ refl refl
+
+  release_resource_leaves : (c : Caller) (r : ResNo) → HasSourcesOf s (release_resource_by app s c r)
+  unfolding release_resource
+  release_resource_leaves Nobody r = refl
+  release_resource_leaves (Routine k) r = refl
+  release_resource_leaves (Task c) r = either_way (HasSourcesOf s) (nat_lt (ceiling app r.0) (base_priority app c.0)) _ _ refl (either_way (HasSourcesOf s) (is_on_top r.0 (held (task_state s c.0))) _ _ refl refl)
+
+  set_event_leaves : (t m : ℕ) → HasSourcesOf s (set_event app s t m)
+  unfolding set_event
+  set_event_leaves t m = either_way (HasSourcesOf s) (not (is_extended app t)) _ _ refl (either_way (HasSourcesOf s) (is_suspended (task_state s t)) _ _ refl (either_way (HasSourcesOf s) (waits_for app s t m) _ _ refl refl))
+
+  clear_event_leaves : (c : Caller) (m : ℕ) → HasSourcesOf s (clear_event app s c m)
+  unfolding clear_event
+  clear_event_leaves Nobody m = refl
+  clear_event_leaves (Routine k) m = refl
+  clear_event_leaves (Task c) m = either_way (HasSourcesOf s) (not (is_extended app c.0)) _ _ refl refl
+
+  get_event_leaves : (t : ℕ) → HasSourcesOf s (get_event app s t)
+  unfolding get_event
+  get_event_leaves t = either_way (HasSourcesOf s) (not (is_extended app t)) _ _ refl (either_way (HasSourcesOf s) (is_suspended (task_state s t)) _ _ refl refl)
+
+  wait_event_leaves : (c : Caller) (m : ℕ) → HasSourcesOf s (wait_event app s c m)
+  unfolding wait_event
+  wait_event_leaves Nobody m = refl
+  wait_event_leaves (Routine k) m = refl
+  wait_event_leaves (Task c) m = either_way (HasSourcesOf s) (not (is_extended app c.0)) _ _ refl (either_way (HasSourcesOf s) (holds_some s c.0) _ _ refl (either_way (HasSourcesOf s) (share (task_state s c.0).events.0 m) _ _ refl refl))
+
+  set_rel_alarm_leaves : (a i c : ℕ) → HasSourcesOf s (set_rel_alarm app s a i c)
+  unfolding set_rel_alarm
+  set_rel_alarm_leaves a i c = either_way (HasSourcesOf s) (not (is_idle (alarm_state s a))) _ _ refl (either_way (HasSourcesOf s) (nat_eq i 0 || nat_lt (max_of app a) i || not (is_cycle app a c)) _ _ refl refl)
+
+  set_abs_alarm_leaves : (a i c : ℕ) → HasSourcesOf s (set_abs_alarm app s a i c)
+  unfolding set_abs_alarm
+  set_abs_alarm_leaves a i c = either_way (HasSourcesOf s) (not (is_idle (alarm_state s a))) _ _ refl (either_way (HasSourcesOf s) (nat_lt (max_of app a) i || not (is_cycle app a c)) _ _ refl refl)
+
+  cancel_alarm_leaves : (a : ℕ) → HasSourcesOf s (cancel_alarm app s a)
+  unfolding cancel_alarm
+  cancel_alarm_leaves a = either_way (HasSourcesOf s) (is_idle (alarm_state s a)) _ _ refl refl
+
+  time_left_leaves : (a : ℕ) (o : Option ℕ) → HasSourcesOf s (time_left app s a o)
+  time_left_leaves a None = refl
+  time_left_leaves a (Some at) = refl
+
+  get_alarm_leaves : (a : ℕ) → HasSourcesOf s (get_alarm app s a)
+  unfolding get_alarm
+  get_alarm_leaves a = time_left_leaves a (due (alarm_state s a))
+
+  counted_leaves : (c : Caller) → (counted_by app s c).sources ≡ s.sources
+  unfolding count_up
+  counted_leaves Nobody = refl
+  counted_leaves (Task t) = refl
+  counted_leaves (Routine k) = either_way (λ (r : State). r.sources ≡ s.sources) (is_counter app k.0) _ _ refl refl
+
+acted_leaves : (app : App) (s : State) (x : Action) → HasSourcesOf s (acted app s x)
+acted_leaves app s (action.ActivateTask t) = activate_leaves app s t.0
+acted_leaves app s (action.SetEvent t m) = set_event_leaves app s t.0 m.0
+
+expire_leaves : (app : App) (s : State) (a : ℕ) → HasSourcesOf s (expire app s a)
+unfolding expire
+expire_leaves app s a = either_way (HasSourcesOf s) (is_due_at (due (alarm_state s a)) (value_of app s a)) _ _ (acted_leaves app (with_alarm s a (rearmed app a (alarm_state s a))) (the_alarm app a).action) refl
+
+-- each row leaves the sources as they are
+pub called_leaves : (app : App) (s : State) (c : Caller) (k : Kind) → HasSourcesOf s (called app s c k)
+called_leaves app s c (kind.Work n) = refl
+called_leaves app s c (kind.Choice o) = refl
+called_leaves app s c kind.Loop = refl
+called_leaves app s c (kind.ActivateTask t) = activate_leaves app s t.0
+called_leaves app s c kind.TerminateTask = terminate_leaves app s c
+called_leaves app s c (kind.ChainTask t) = chain_leaves app s c t.0
+called_leaves app s c kind.Schedule = schedule_leaves app s c
+called_leaves app s c (kind.GetResource r) = get_resource_leaves app s c r
+called_leaves app s c (kind.ReleaseResource r) = release_resource_leaves app s c r
+called_leaves app s c (kind.SetEvent t m) = set_event_leaves app s t.0 m.0
+called_leaves app s c (kind.ClearEvent m) = clear_event_leaves app s c m.0
+called_leaves app s c (kind.GetEvent t) = get_event_leaves app s t.0
+called_leaves app s c (kind.WaitEvent m) = wait_event_leaves app s c m.0
+called_leaves app s c (kind.SetRelAlarm a i y) = set_rel_alarm_leaves app s a.0 i y
+called_leaves app s c (kind.SetAbsAlarm a i y) = set_abs_alarm_leaves app s a.0 i y
+called_leaves app s c (kind.CancelAlarm a) = cancel_alarm_leaves app s a.0
+called_leaves app s c (kind.GetAlarm a) = get_alarm_leaves app s a.0
+called_leaves app s c kind.GetTaskId = refl
+called_leaves app s c (kind.GetTaskState t) = refl
+called_leaves app s c kind.GetActiveApplicationMode = refl
+called_leaves app s c kind.ShutdownOs = refl
+called_leaves app s c (kind.LockCall l) = refl
+called_leaves app s c kind.TaskEnd = refl
+called_leaves app s c kind.IsrEnd = refl
+called_leaves app s c kind.CountUp = counted_leaves app s c
+called_leaves app s c (kind.Expire a) = expire_leaves app s a.0

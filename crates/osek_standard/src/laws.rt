@@ -1,0 +1,46 @@
+//! Laws of the definitions, each on a function that does nothing.
+ghost use Rattle.std.specs.Prelude.{◌≡◌, ◌⊎◌, ℕ, ◌<◌, Bool, Some, None, true, false, length};
+ghost use Rattle.std.specs.List.{position};
+ghost use Rattle.osek_values.specs.declared.event.Event.{Event};
+ghost use Rattle.osek_values.specs.declared.numbers.ModeNo.{ModeNo};
+ghost use Rattle.osek_values.specs.declared.numbers.SourceNo.{SourceNo};
+ghost use Rattle.osek_values.specs.declared.numbers.TaskNo.{TaskNo};
+ghost use Rattle.osek_values.specs.Numbers.{task_no, source_no};
+ghost use Rattle.osek_standard.specs.declared.app.App.{App};
+ghost use Rattle.osek_standard.specs.declared.state.State.{State};
+ghost use Rattle.osek_standard.specs.TaskStates.{is_live};
+ghost use Rattle.osek_standard.specs.States.{task_state, is_latched};
+ghost use Rattle.osek_standard.specs.Priority.{best, first_of_all, IsBest};
+ghost use Rattle.osek_standard.specs.Effects.{effect};
+ghost use Rattle.osek_standard.specs.Arrivals.{arrival, comes_before, latched_sources, takes_none, IsArrival};
+ghost use Rattle.osek_standard.specs.Kernel.{start, step};
+ghost use Rattle.osek_standard.specs.Well.{Well};
+
+/// The start in each mode is well-formed, and each effect and each event leads from a well-formed state to a
+/// well-formed one.
+pub fn states_stay_well_formed()
+    ensures start { (app : App) (mode : ModeNo) → mode.0 < length app.modes → Well app (start app mode).state }
+    ensures effect { (app : App) (s : State) (choice : Bool) → Well app s → Well app (effect app s choice).state }
+    ensures step { (app : App) (s : State) (e : Event) → Well app s → Well app (step app s e).state }
+{}
+
+/// The best task is the one that has the property, and there is one exactly where a task is Live.
+pub fn best_task_has_the_property()
+    ensures is { (app : App) (s : State) (t : TaskNo) → best app s ≡ Some t → IsBest app s t.0 }
+    ensures found { (app : App) (s : State) (t : ℕ) → IsBest app s t → best app s ≡ Some (task_no t) }
+    ensures none { (app : App) (s : State) → best app s ≡ None → (t : ℕ) → is_live (task_state s t) ≡ false }
+    ensures only_where_none { (app : App) (s : State) → ((t : ℕ) → is_live (task_state s t) ≡ false) → best app s ≡ None }
+    ensures some { (app : App) (s : State) (u : ℕ) → is_live (task_state s u) ≡ true → (t : TaskNo) × IsBest app s t.0 }
+{}
+
+/// The source that arrives is the one that has the property, and there is none exactly where none is taken or none
+/// is latched.
+pub fn arrival_has_the_property()
+    ensures is { (app : App) (s : State) (k : SourceNo) → arrival app s ≡ Some k → IsArrival app s k.0 }
+    ensures found { (app : App) (s : State) (k : ℕ) → IsArrival app s k → arrival app s ≡ Some (source_no k) }
+    ensures none { (app : App) (s : State) → arrival app s ≡ None → (takes_none app s ≡ true) ⊎ ((k : ℕ) → is_latched s k ≡ false) }
+    ensures none_taken { (app : App) (s : State) → takes_none app s ≡ true → arrival app s ≡ None }
+    ensures none_latched { (app : App) (s : State) → ((k : ℕ) → is_latched s k ≡ false) → arrival app s ≡ None }
+    // the lowest latched source is the first flag that is set
+    ensures first_flag { (s : State) → first_of_all comes_before (latched_sources s) ≡ position (λ b. b) s.latched }
+{}
