@@ -1,0 +1,10 @@
+use Rattle.std.proofs.Common.{◌+◌, ◌≤◌, length}
+use Rattle.osek_values.specs.declared.limits.TheConstants.{MAX_FILE}
+use Rattle.oil_lexer.specs.Text.{Parts}
+use Rattle.oil_lexer.proofs.lexer.lex.Given as goal
+
+abbrev pub invariant-loop-rest : goal.invariant-loop-rest
+invariant-loop-rest l = record { parts : Parts l.line l.rest 1 l.bytes l.tokens.items; lines : l.line + length l.rest ≤ 1 + length l.bytes; within : length l.bytes ≤ MAX_FILE; first : 1 ≤ l.line }
+
+abbrev pub decreases-loop-rest : goal.decreases-loop-rest
+decreases-loop-rest l = length l.rest

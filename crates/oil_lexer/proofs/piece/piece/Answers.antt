@@ -1,0 +1,19 @@
+use Rattle.std.proofs.Common.{take, arith, sym}
+use Rattle.std.proofs.lemmas.List.{length-take-le}
+use Rattle.oil_lexer.proofs.Longest.{is_name-take, name_longest}
+use Rattle.oil_lexer.proofs.piece.piece.Goals as goal
+
+pub returns-then-end-gt-MAX_NAME : goal.returns-then-end-gt-MAX_NAME
+returns-then-end-gt-MAX_NAME c =
+    let run = c.run_end-end.ensures in
+    let n = c.run_end-end.result in
+    (take n c.args.bytes.now, n, name_longest _ _ (sym c.in-Letter.ensures) run, omega (arith, length-take-le n c.args.bytes.now run.in_range))
+
+pub new-requires : goal.new-requires
+new-requires c = rw c.in_ok-word-in-Letter.ensures.items (is_name-take c.args.bytes.now c.run_end-end.result (sym c.in-Letter.ensures) c.run_end-end.ensures (omega arith))
+
+pub returns-in_ok-word-in-Letter : goal.returns-in_ok-word-in-Letter
+returns-in_ok-word-in-Letter c =
+    let run = c.run_end-end.ensures in
+    let short = length-take-le c.run_end-end.result c.args.bytes.now run.in_range in
+    rw (c.new.ensures, c.in_ok-word-in-Letter.ensures.items) (name_longest _ _ (sym c.in-Letter.ensures) run, omega (arith, short))

@@ -1,0 +1,39 @@
+-- What the parts of the reader find at the front of a text.
+use Rattle.std.specs.Prelude.{◌≡◌, ℕ, ◌<◌, ◌≤◌, ◌^◌, ⊤, false, List, length, slice_index, Option, SomeIff, Result, Ok, Err}
+use Rattle.oil_lexer.specs.declared.classes.ByteSet.{ByteSet}
+use Rattle.oil_lexer.specs.declared.token.TokenKind.TheVariants.{Number}
+use Rattle.oil_lexer.specs.declared.token.Piece.{Piece}
+use Rattle.oil_lexer.specs.declared.token.Piece.TheVariants.{Whole}
+use Rattle.oil_lexer.specs.declared.piece.PieceError.{PieceError}
+use Rattle.oil_lexer.specs.declared.piece.PieceError.TheVariants.{Memory, Broken}
+use Rattle.oil_lexer.specs.Classes.{is_in, AllIn}
+use Rattle.oil_lexer.specs.Pieces.{ClosesAt, IsHex, IsLongest, Fits, Breaks}
+
+-- the bytes from one place up to another are in the set, and the next byte, if there is one, isn't
+pub record IsRun (set : ByteSet) (bytes : List ℕ) (from end : ℕ) : Type 0 where
+  pub begins : from ≤ end
+  pub in_range : end ≤ length bytes
+  pub all : AllIn set bytes from end
+  pub stops : end < length bytes → is_in set (slice_index bytes end) ≡ false
+
+-- the first */ behind /* ends there
+pub record IsFirstClose (bytes : List ℕ) (n : ℕ) : Type 0 where
+  pub in_range : n ≤ length bytes
+  pub closes : ClosesAt bytes n
+  pub first : (k : ℕ) → k < n → ClosesAt bytes k → ⊥
+
+-- the hexadecimal number at the front is as long as it can be
+pub record IsLongestHex (bytes : List ℕ) (n : ℕ) : Type 0 where
+  pub in_range : n ≤ length bytes
+  pub is_hex : IsHex bytes n
+  pub longest : (m : ℕ) → n < m → m ≤ length bytes → IsHex bytes m → ⊥
+
+-- the front is a number of this length, and the value where that fits
+abbrev pub IsNumber : List ℕ → ℕ → Option ℕ → Type 0
+IsNumber bytes n value = (v : ℕ) × IsLongest (Whole (Number v)) bytes n × SomeIff value (v < 2 ^ 64) v
+
+-- the piece of the front and its length, or the rule that the front breaks
+abbrev pub IsFront : Result (Piece × ℕ) PieceError → List ℕ → Type 0
+IsFront (Ok (piece, n)) bytes = IsLongest piece bytes n × Fits piece
+IsFront (Err Memory) bytes = ⊤
+IsFront (Err (Broken rule)) bytes = Breaks rule bytes

@@ -1,0 +1,6 @@
+pub mod Answers
+pub mod Classes
+pub mod Fronts
+pub mod Numbers
+pub mod Pieces
+pub mod Text

@@ -1,0 +1,77 @@
+//! The tokens of a text.
+ghost use Rattle.std.specs.Prelude.{◌≡◌, ◌≤◌, ◌++◌, OnOk, List, length, Ok, Err};
+ghost use Rattle.oil_lexer.specs.declared.token.Token.{Token};
+ghost use Rattle.oil_lexer.specs.declared.error.LexFault.{LexFault};
+ghost use Rattle.oil_lexer.specs.Text.{tokens_of, line_ends, AreTokens, IsFirstFault};
+ghost use Rattle.oil_lexer.specs.Answers.{IsRight, Answers};
+
+use crate::error::{LexError, LexFault};
+use crate::piece::{PieceError, piece};
+use crate::token::{Piece, Token};
+use osek_values::LexRule;
+use osek_values::limits::MAX_FILE;
+use std::alloc::{AllocError, Global};
+
+// How many lines end in the bytes.
+fn line_ends(bytes: &[u8]) -> u32
+    requires { length bytes.now ≤ MAX_FILE }
+    ensures value { result ≡ line_ends bytes.now }
+    ensures few { result ≤ length bytes.now }
+{
+    bytes.iter().filter(|byte| **byte == b'\n').count() as u32
+}
+
+// The token of a piece, if it is one, joins those before it.
+fn keep(tokens: &mut Vec<Token>, piece: Piece, line: u32) -> Result<(), AllocError>
+    ensures { OnOk result (tokens.new.items ≡ tokens.old.items ++ tokens_of piece line) }
+{
+    match piece {
+        Piece::Gap => Ok(()),
+        Piece::Whole(kind) => {
+            tokens.push(Token { kind, line })?;
+            Ok(())
+        }
+    }
+}
+
+fn lex(alloc: Global, bytes: &[u8]) -> Result<Vec<Token>, LexError>
+    ensures { IsRight (λ v. v.items) result bytes.now }
+{
+    if bytes.len() > MAX_FILE {
+        return Err(LexError::Fault(LexFault {
+            line: 0,
+            rule: LexRule::L6,
+        }));
+    }
+    let mut tokens = Vec::new(alloc);
+    let mut line = 1u32;
+    let mut rest = bytes;
+    while !rest.is_empty() {
+        match piece(alloc, rest) {
+            Ok((piece, len)) => {
+                keep(&mut tokens, piece, line)?;
+                let (front, after) = rest.split_at(len);
+                line += line_ends(front);
+                rest = after;
+            }
+            Err(PieceError::Broken(rule)) => {
+                return Err(LexError::Fault(LexFault { line, rule }));
+            }
+            Err(PieceError::Memory) => return Err(LexError::Memory),
+        }
+    }
+    Ok(tokens)
+}
+
+/// The tokens of an OIL or task code text (ISO 17356-6, lexical rules; which marks there are, and the limits, are this
+/// project's profile), or the first fault of the text.
+pub fn tokens(alloc: Global, bytes: &[u8]) -> Result<Vec<Token>, LexError>
+    // What is answered is right,
+    ensures right { IsRight (λ v. v.items) result bytes.now }
+
+    // and what is right is answered, unless memory runs out.
+    ensures complete { (tokens : List Token) → AreTokens bytes.now tokens → Answers (λ v. v.items) result (Ok tokens) }
+    ensures first_fault { (fault : LexFault) → IsFirstFault bytes.now fault → Answers (λ v. v.items) result (Err fault) }
+{
+    lex(alloc, bytes)
+}

@@ -1,0 +1,15 @@
+//! The tokens of an OIL or task code text (ISO 17356-6, lexical rules), each with its line, and the first fault of a
+//! text that has none.
+#![tactic(auto)]
+
+mod classes;
+mod error;
+mod lexer;
+mod piece;
+#[cfg(test)]
+mod tests;
+mod token;
+
+pub use error::{LexError, LexFault};
+pub use lexer::tokens;
+pub use token::{Mark, Token, TokenKind};
