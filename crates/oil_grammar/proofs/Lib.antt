@@ -1,0 +1,6 @@
+pub mod Braces
+pub mod FirstFault
+pub mod LastLine
+pub mod OneFault
+pub mod Refusals
+pub mod Splits

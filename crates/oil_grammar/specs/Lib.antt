@@ -1,0 +1,5 @@
+pub mod Depth
+pub mod Faults
+pub mod Refusals
+pub mod Scan
+pub mod Tokens
