@@ -1,0 +1,9 @@
+pub mod AttrsRead
+pub mod BalancedRead
+pub mod Ends
+pub mod FileRead
+pub mod Lists
+pub mod ObjectsRead
+pub mod OneAnswer
+pub mod Prefixes
+pub mod ShortPhrases

@@ -1,0 +1,11 @@
+pub mod Answers
+pub mod AttrCodes
+pub mod AttrFalls
+pub mod AttrLists
+pub mod Attrs
+pub mod Expect
+pub mod Faults
+pub mod Grammar
+pub mod ObjectCodes
+pub mod Phrases
+pub mod Words
