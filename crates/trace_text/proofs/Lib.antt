@@ -1,0 +1,10 @@
+pub mod EventLaws
+pub mod GrammarLaws
+pub mod HexadecimalLaws
+pub mod LineLaws
+pub mod Parts
+pub mod SampleLaws
+pub mod StackLaws
+pub mod TextLaws
+pub mod WordLaws
+pub mod WorkedApps

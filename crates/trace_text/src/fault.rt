@@ -1,0 +1,37 @@
+//! Why a line of an event text, or the text, is refused.
+ghost use Rattle.std.specs.Prelude.{◌≡◌};
+ghost use Rattle.trace_text.specs.EventFaults.{event_fault_name};
+
+/// Rules on event texts (this project's profile).
+#[derive(Clone, Copy, PartialEq, Eq, Debug)]
+pub enum EventFault {
+    /// No such form.
+    E1,
+    /// No category 2 ISR or counter of that name.
+    E2,
+    /// A line over 256 bytes without its LF.
+    E3,
+    /// The text is over 16 MiB; no line has it.
+    E4,
+}
+
+impl EventFault {
+    /// The rule as it is printed.
+    pub fn name(self) -> &'static [u8]
+        ensures { result.now ≡ event_fault_name self }
+    {
+        match self {
+            EventFault::E1 => b"E1",
+            EventFault::E2 => b"E2",
+            EventFault::E3 => b"E3",
+            EventFault::E4 => b"E4",
+        }
+    }
+}
+
+/// The first fault of an event text. Lines count from 1; line 0 is the text as a whole.
+#[derive(Clone, Copy, PartialEq, Eq, Debug)]
+pub struct FaultyLine {
+    pub line: u32,
+    pub rule: EventFault,
+}
