@@ -1,8 +1,10 @@
-//! The application and its state, and the system that an OIL file declares.
+//! The application and its state, the activation of a task, and the system that an OIL file declares.
 #![tactic(auto)]
 
+mod activation;
 mod system;
 
+pub use activation::activate;
 pub use osek_standard::{
     Action, Activity, Alarm, AlarmState, App, Block, Caller, Counter, Isr, Kind, Lock, Place,
     Processor, Resource, Schedule, Source, Standing, State, Task, TaskState,

@@ -1,0 +1,2 @@
+pub mod BestBelow
+pub mod Moves

@@ -1,0 +1,194 @@
+//! The effect of an instruction.
+ghost use Rattle.std.specs.Prelude.{◌≡◌, ◌+◌, ◌<◌, length, Some, None, nat_lt, if◌then◌else◌};
+ghost use Rattle.osek_standard.specs.Validity.{NamesEntries};
+ghost use Rattle.osek_standard.specs.Apps.{the_block};
+ghost use Rattle.osek_standard.specs.States.{caller, here as here_of};
+ghost use Rattle.osek_standard.specs.Services.{answer, wait_event as wait_event_row};
+ghost use Rattle.osek_standard.specs.Effects.{effected, moved_to, asked_by as asked_by_row, called, asks_as, goes_on_unless_left, returned as returned_row, shut_down as shut_down_row, effect_at as effect_at_row, effect as effect_row};
+ghost use Rattle.osek_standard.specs.Well.{Well, IsActive, InOwner, IsWaitEvent};
+ghost use Rattle.event_alarm.specs.Waiting.{StandsAtWaitEvent};
+ghost use Rattle.generic_kernel.specs.Moves.{IsKnownCaller, MayDispatch};
+
+use crate::calls::call;
+use crate::places::{here, move_to};
+use crate::replies::{Effect, Reply, noted};
+use crate::services::end_task;
+use event_alarm::wait_event;
+use osek_standard::{App, Caller, Kind, Place, Processor, Schedule, Source, State};
+use osek_values::{Ask, BlockNo, HookSet, Mask, Notes};
+
+/// The caller goes on to the first instruction of a block.
+fn go_to(app: &App, state: &mut State, block: BlockNo)
+    requires well { Well app.now state.old }
+    requires own { InOwner app.now state.old.processor block.0 }
+    ensures moved { moved_to state.old block ≡ state.new }
+    ensures well { Well app.now state.new }
+    ensures processor { state.new.processor ≡ state.old.processor }
+{
+    move_to(app, state, Place { block, offset: 0 });
+}
+
+/// What a caller's call asks: at interrupt level nothing, and of a non-preemptive task nothing but at Schedule.
+fn asked_by(app: &App, caller: Caller, kind: Kind, ask: Ask) -> Ask
+    requires { IsKnownCaller app.now caller }
+    ensures { result ≡ asked_by_row app.now caller kind ask }
+{
+    match caller {
+        Caller::Nobody | Caller::Routine(_) => Ask::No,
+        Caller::Task(task) => match ask {
+            Ask::No | Ask::Left | Ask::Free => ask,
+            Ask::Maybe => match app.task(task).schedule {
+                Schedule::Full => Ask::Maybe,
+                Schedule::Non => {
+                    if kind == Kind::Schedule {
+                        Ask::Maybe
+                    } else {
+                        Ask::No
+                    }
+                }
+            },
+        },
+    }
+}
+
+/// A call: the caller goes on, and then the row of its service applies.
+fn go_and_call(app: &App, state: &mut State, next: BlockNo, kind: Kind) -> Reply
+    requires operands { NamesEntries app.now.tasks app.now.alarms app.now.resources kind }
+    requires goes_on { IsWaitEvent kind → ⊥ }
+    requires well { Well app.now state.old }
+    requires active { IsActive state.old.processor }
+    requires own { InOwner app.now state.old.processor next.0 }
+    ensures { asks_as app.now (caller state.old.processor) kind (called app.now (moved_to state.old next) (caller state.old.processor) kind) ≡ answer state.new result.status result.value result.ask }
+{
+    let caller = state.caller();
+    go_to(app, state, next);
+    let reply = call(app, state, kind);
+    Reply {
+        ask: asked_by(app, caller, kind, reply.ask),
+        ..reply
+    }
+}
+
+/// WaitEvent: the caller waits where it stands, or goes on.
+fn wait_or_go(app: &App, state: &mut State, next: BlockNo, mask: Mask) -> Reply
+    requires well { Well app.now state.old }
+    requires active { IsActive state.old.processor }
+    requires stands { StandsAtWaitEvent app.now state.old (caller state.old.processor) }
+    requires own { InOwner app.now state.old.processor next.0 }
+    ensures { goes_on_unless_left next (wait_event_row app.now state.old (caller state.old.processor) mask.0) ≡ answer state.new result.status result.value result.ask }
+{
+    let (status, ask) = wait_event(app, state, mask);
+    if ask != Ask::Left {
+        go_to(app, state, next);
+    }
+    Reply::of(Some(status), ask)
+}
+
+/// The end of a routine: the processor goes back to what was interrupted.
+fn return_from_routine(app: &App, state: &mut State) -> Ask
+    requires { Well app.now state.old }
+    ensures { returned_row app.now state.old ≡ answer state.new None None result }
+{
+    let Processor::Interrupted { source, over } = state.processor else {
+        return Ask::No;
+    };
+    state.sources.put(source.index(), Source::Out);
+    match over {
+        None => {
+            state.processor = Processor::Idle;
+            Ask::Free
+        }
+        Some(task) => {
+            state.processor = Processor::Running(task);
+            match app.task(task).schedule {
+                Schedule::Full => Ask::Maybe,
+                Schedule::Non => Ask::No,
+            }
+        }
+    }
+}
+
+/// ShutdownOS, once its caller went on: the kernel halts, and a routine that runs is over.
+fn shut_down(app: &App, state: &mut State) -> Effect
+    requires well { Well app.now state.old }
+    ensures { shut_down_row app.now state.old ≡ effected state.new result.notes result.ask }
+{
+    match state.processor {
+        Processor::Halted => {}
+        Processor::Idle | Processor::Running(_) => state.processor = Processor::Halted,
+        Processor::Interrupted { source, .. } => {
+            state.sources.put(source.index(), Source::Out);
+            state.processor = Processor::Halted;
+        }
+    }
+    Effect {
+        notes: Notes {
+            status: None,
+            value: None,
+            hooks: app.hooks.among(HookSet::SHUTDOWN),
+        },
+        ask: Ask::No,
+    }
+}
+
+/// The effect of the instruction at the place where the processor stands.
+fn effect_at(app: &App, state: &mut State, choice: bool, place: Place) -> Effect
+    requires well { Well app.now state.old }
+    requires active { IsActive state.old.processor }
+    requires here { here_of state.old ≡ place }
+    ensures { effect_at_row app.now state.old choice place (the_block app.now place.block.0) (the_block app.now place.block.0).kind ≡ effected state.new result.notes result.ask }
+{
+    let block = app.block(place.block);
+    match block.kind {
+        Kind::Work(count) => {
+            if place.offset + 1 < count {
+                let next = Place {
+                    block: place.block,
+                    offset: place.offset + 1,
+                };
+                move_to(app, state, next);
+            } else {
+                go_to(app, state, block.next);
+            }
+            noted(app, Reply::unnoted(Ask::No))
+        }
+        Kind::Choice(other) => {
+            go_to(app, state, if choice { block.next } else { other });
+            noted(app, Reply::unnoted(Ask::No))
+        }
+        Kind::WaitEvent(mask) => {
+            let reply = wait_or_go(app, state, block.next, mask);
+            noted(app, reply)
+        }
+        Kind::ShutdownOs => {
+            go_to(app, state, block.next);
+            shut_down(app, state)
+        }
+        Kind::TaskEnd => {
+            let ask = end_task(app, state);
+            noted(app, Reply::unnoted(ask))
+        }
+        Kind::IsrEnd => {
+            let ask = return_from_routine(app, state);
+            noted(app, Reply::unnoted(ask))
+        }
+        kind => {
+            let reply = go_and_call(app, state, block.next, kind);
+            noted(app, reply)
+        }
+    }
+}
+
+/// The effect of the instruction at the processor, with the choice that an opaque condition takes. A non-preemptive
+/// caller asks nothing but at Schedule. A caller that left, and a routine that ended over no task, leave the processor
+/// idle; a routine that ended over a task gives it back to that task.
+pub fn effect(app: &App, state: &mut State, choice: bool) -> Effect
+    requires well { Well app.now state.old }
+    requires active { IsActive state.old.processor }
+    ensures row { effect_row app.now state.old choice ≡ effected state.new result.notes result.ask }
+    ensures well { Well app.now state.new }
+    ensures dispatch { MayDispatch app.now state.new result.ask }
+{
+    let place = here(app, state);
+    effect_at(app, state, choice, place)
+}

@@ -1,0 +1,26 @@
+//! The kernel of ISO 17356-3 for one application: effects of instructions, the choice of the best task, dispatch,
+//! interrupts, the start and one step.
+#![tactic(auto)]
+
+mod arrivals;
+mod best;
+mod calls;
+mod dispatch;
+mod effects;
+mod places;
+mod replies;
+mod services;
+mod startup;
+mod steps;
+
+pub use arrivals::take_arrival;
+pub use best::pick;
+pub use dispatch::{conclude, switch_to};
+pub use effects::effect;
+pub use places::here;
+pub use replies::Effect;
+pub use startup::start;
+pub use steps::{nothing, step, take_event};
+
+#[cfg(test)]
+mod tests;

@@ -1,0 +1,50 @@
+//! Where the processor stands, and how a caller goes on.
+ghost use Rattle.std.specs.Prelude.{◌≡◌};
+ghost use Rattle.osek_standard.specs.Apps.{the_block};
+ghost use Rattle.osek_standard.specs.States.{here as here_of};
+ghost use Rattle.osek_standard.specs.Effects.{moved as moved_of};
+ghost use Rattle.osek_standard.specs.Well.{Well, IsActive, InOwner, IsOffsetAt};
+
+use osek_standard::{Activity, App, Place, Processor, Source, State};
+
+/// Where the task or the routine stands that has the processor.
+pub fn here(app: &App, state: &State) -> Place
+    requires well { Well app.now state.now }
+    requires active { IsActive state.now.processor }
+    ensures place { result ≡ here_of state.now }
+    ensures own { InOwner app.now state.now.processor result.block.0 }
+{
+    match state.processor {
+        Processor::Halted | Processor::Idle => unreachable!(),
+        Processor::Running(task) => match &state.task(task).activity {
+            Activity::Live(standing) => standing.at,
+            Activity::Suspended | Activity::Waiting(_) => unreachable!(),
+        },
+        Processor::Interrupted { source, .. } => match *state.sources.at(source.index()) {
+            Source::Out => unreachable!(),
+            Source::In(place) => place,
+        },
+    }
+}
+
+/// Who has the processor goes to a place in its own blocks.
+pub fn move_to(app: &App, state: &mut State, place: Place)
+    requires well { Well app.now state.old }
+    requires own { InOwner app.now state.old.processor place.block.0 }
+    requires offset { IsOffsetAt (the_block app.now place.block.0).kind place.offset }
+    ensures moved { moved_of state.old place ≡ state.new }
+    ensures well { Well app.now state.new }
+    ensures processor { state.new.processor ≡ state.old.processor }
+{
+    match state.processor {
+        Processor::Halted | Processor::Idle => {}
+        Processor::Running(task) => {
+            if let Activity::Live(standing) = &mut state.task_mut(task).activity {
+                standing.at = place;
+            }
+        }
+        Processor::Interrupted { source, .. } => {
+            state.sources.put(source.index(), Source::In(place));
+        }
+    }
+}
