@@ -1,0 +1,342 @@
+-- The blocks of a valid application pass the tests of reading.
+use Rattle.std.proofs.Common.{◌≡◌, ℕ, suc, ◌+◌, ◌-◌, ◌^◌, ◌<◌, ◌≤◌, Bool, true, false, not, ◌&&◌, eqb, leb, ltb, List, [], ◌∷◌, length, get_or, Option, Some, None, refl, sym, subst, ◌∙◌, arith, inl, inr}
+use Rattle.std.specs.Prelude.{slice_index_or, slice_get, IsTrue, ⊤}
+use Rattle.std.specs.List.{list_any}
+use Rattle.std.proofs.lemmas.Bool.{and_parts, and_from, or_cases, eqb-true, eq-eqb, ne_eqb, le-leb, ltb-true, lt-ltb, not-true, cases_lt}
+use Rattle.std.proofs.lemmas.List.{get_or_past}
+use Rattle.std.proofs.lemmas.List.Sums.{list_all-from_AllPass}
+use Rattle.osek_standard.specs.declared.objects.Task.{Task}
+use Rattle.osek_standard.specs.declared.objects.Isr.{Isr}
+use Rattle.osek_standard.specs.declared.objects.Counter.{Counter}
+use Rattle.osek_standard.specs.declared.block.Block.{Block}
+use Rattle.osek_standard.specs.declared.block.Kind.{Kind}
+use Rattle.osek_standard.specs.declared.block.Kind.TheVariants as kind
+use Rattle.osek_standard.specs.Validity.{no_block, no_counter, no_task, no_isr, IsAmong, is_within, is_own_next, due_of, tick_may, NamesEntries, IsOtherWay, IsBlock, IsOwner, IsTickCode, IsValid}
+use Rattle.image_codec.specs.declared.site.Form.{Form}
+use Rattle.image_codec.specs.declared.site.Form.TheVariants as form
+use Rattle.image_codec.specs.declared.site.Site.{Site}
+use Rattle.image_codec.specs.declared.parts.Tables.{Tables}
+use Rattle.image_codec.specs.declared.parts.Parts.{Parts}
+use Rattle.image_codec.specs.Sites.{IsForm}
+use Rattle.image_codec.specs.Spelling.{kind_number, form_number}
+use Rattle.image_codec.specs.Fits.{FitsKind}
+use Rattle.image_codec.specs.BlockReading.{blank_kinds, tick_order, where_has, task_range, isr_range, counter_range, tasks_allow, isrs_allow, counter_allows, counters_allow, is_owned, is_allowed, is_due_in, is_due, form_of}
+use Rattle.image_codec.proofs.KindLaws.{other_of, GoodOperands, GoodNo, GoodBlank, GoodFilled}
+use Rattle.image_codec.proofs.BlockLaws.{unwayed, blank_of, number_unwayed, number_blank, GoodWay, LeadsWell, GoodSite}
+use Rattle.image_codec.proofs.OwnerTests.{any_of_owners}
+use Rattle.image_codec.proofs.Places.{all_numbered, among_within, within_among, among_where}
+use Rattle.image_codec.proofs.BlocksOfGood.{same_within, task_may_blank, isr_may_blank, tick_order_blank, is_end, tick_place}
+
+-- ---- forms
+
+form_again : (tasks : ℕ) (f : Form) → tasks ≤ 16 → IsForm tasks f → form_of tasks (form_number f) ≡ Some f
+form_again tasks form.Never few fits = refl
+form_again tasks form.Stay few fits = refl
+form_again tasks (form.Direct None) few fits = refl
+form_again tasks form.General few fits = refl
+form_again tasks (form.Direct (Some x)) few fits =
+    let n = 0x0200 + x.0 in
+    let n0 : eqb n 0x0000 ≡ false = ne_eqb n 0x0000 (λ e. omega (arith, e)) in
+    let n1 : eqb n 0x0100 ≡ false = ne_eqb n 0x0100 (λ e. omega (arith, e)) in
+    let n2 : eqb n 0x02ff ≡ false = ne_eqb n 0x02ff (λ e. omega (arith, e, few, fits)) in
+    let n3 : eqb n 0x0300 ≡ false = ne_eqb n 0x0300 (λ e. omega (arith, e, few, fits)) in
+    let within : (leb 0x0200 n && ltb n (0x0200 + tasks)) ≡ true = and_from _ _ (le-leb 0x0200 n (omega arith)) (lt-ltb n (0x0200 + tasks) (omega (arith, fits))) in
+    let back : n - 0x0200 ≡ x.0 = omega arith in
+    rw (n0, n1, n2, n3, within, back) refl
+
+form_small : (tasks : ℕ) (f : Form) → tasks ≤ 16 → IsForm tasks f → form_number f < 2 ^ 16
+form_small tasks form.Never few fits = omega arith
+form_small tasks form.Stay few fits = omega arith
+form_small tasks (form.Direct None) few fits = omega arith
+form_small tasks form.General few fits = omega arith
+form_small tasks (form.Direct (Some x)) few fits = omega (arith, few, fits)
+
+-- ---- kinds
+
+blank_again : (k : Kind) → slice_get blank_kinds (kind_number (blank_of k)) ≡ Some (blank_of k)
+blank_again (kind.Choice o) = refl
+blank_again k = refl
+
+other_unwayed : (k : Kind) → other_of (unwayed k) ≡ other_of (blank_of k)
+other_unwayed (kind.Choice o) = refl
+other_unwayed k = refl
+
+-- the alarm of an Expire is one of a byte's numbers
+abbrev HasByte : Kind → Type 0
+HasByte (kind.Expire a) = a.0 < 256
+HasByte _ = ⊤
+
+order_of_may : (due : List ℕ) (place : ℕ) (k : Kind) → HasByte k → tick_may due place k ≡ true → tick_order (length due) place k ≡ true
+order_of_may due place kind.CountUp small may = may
+order_of_may due place (kind.Expire a) small may =
+    let p = and_parts (ltb 0 place) (eqb (slice_index_or due (place - 1) 256) a.0) may in
+    let some : 0 < place = ltb-true _ _ p.0 in
+    elim (cases_lt (place - 1) (length due)) [
+      | inl lt ↦ and_from (ltb 0 place) (leb place (length due)) p.0 (le-leb place (length due) (omega (arith, lt, some)))
+      | inr le ↦
+          let past : slice_index_or due (place - 1) 256 ≡ 256 = get_or_past due (place - 1) 256 le in
+          let is : slice_index_or due (place - 1) 256 ≡ a.0 = eqb-true _ _ p.1 in
+          absurd (omega (arith, past, is, small))
+    ]
+order_of_may due place kind.IsrEnd small may = may
+order_of_may due place k small may = absurd cc
+
+-- the alarm of an Expire is the one that is due, where a tick routine may have it
+abbrev IsDueAt : List ℕ → ℕ → Kind → Type 0
+IsDueAt due place (kind.Expire a) = eqb (slice_index_or due (place - 1) 256) a.0 ≡ true
+IsDueAt due place _ = ⊤
+
+due_of_may : (due : List ℕ) (place : ℕ) (k : Kind) → tick_may due place k ≡ true → IsDueAt due place k
+due_of_may due place (kind.Expire a) may = (and_parts (ltb 0 place) (eqb (slice_index_or due (place - 1) 256) a.0) may).1
+due_of_may due place k may = tt
+
+good_no : (limit n : ℕ) → limit ≤ 16 → n < limit → GoodNo limit n
+good_no limit n few lt = (omega (arith, few, lt), lt-ltb n limit lt)
+
+abbrev IsDueHere : Tables → ℕ → Kind → Type 0
+IsDueHere t b (kind.Expire a) = is_due t b a.0 ≡ true
+IsDueHere t b _ = ⊤
+
+module _ (t : Tables) (b : ℕ) (few_tasks : length t.tasks ≤ 16) (few_alarms : length t.alarms ≤ 16) (few_resources : length t.resources ≤ 16) where
+  -- the operands of a kind that names entries
+  good_operands : (k : Kind) → NamesEntries t.tasks t.alarms t.resources k → FitsKind k → IsDueHere t b k → GoodOperands t b (unwayed k)
+  good_operands (kind.Work n) names fits due = (fits, lt-ltb 0 n names)
+  good_operands (kind.Choice o) names fits due = tt
+  good_operands kind.Loop names fits due = tt
+  good_operands (kind.ActivateTask x) names fits due = good_no _ x.0 few_tasks names
+  good_operands kind.TerminateTask names fits due = tt
+  good_operands (kind.ChainTask x) names fits due = good_no _ x.0 few_tasks names
+  good_operands kind.Schedule names fits due = tt
+  good_operands (kind.GetResource r) names fits due = good_no _ r.0 few_resources names
+  good_operands (kind.ReleaseResource r) names fits due = good_no _ r.0 few_resources names
+  good_operands (kind.SetEvent x m) names fits due = (good_no _ x.0 few_tasks names.0, (fits, lt-ltb 0 m.0 names.1))
+  good_operands (kind.ClearEvent m) names fits due = (fits, lt-ltb 0 m.0 names)
+  good_operands (kind.GetEvent x) names fits due = good_no _ x.0 few_tasks names
+  good_operands (kind.WaitEvent m) names fits due = (fits, lt-ltb 0 m.0 names)
+  good_operands (kind.SetRelAlarm a i c) names fits due = (good_no _ a.0 few_alarms names, fits)
+  good_operands (kind.SetAbsAlarm a s c) names fits due = (good_no _ a.0 few_alarms names, fits)
+  good_operands (kind.CancelAlarm a) names fits due = good_no _ a.0 few_alarms names
+  good_operands (kind.GetAlarm a) names fits due = good_no _ a.0 few_alarms names
+  good_operands kind.GetTaskId names fits due = tt
+  good_operands (kind.GetTaskState x) names fits due = good_no _ x.0 few_tasks names
+  good_operands kind.GetActiveApplicationMode names fits due = tt
+  good_operands kind.ShutdownOs names fits due = tt
+  good_operands (kind.LockCall l) names fits due = tt
+  good_operands kind.TaskEnd names fits due = tt
+  good_operands kind.IsrEnd names fits due = tt
+  good_operands kind.CountUp names fits due = tt
+  good_operands (kind.Expire a) names fits due = (good_no _ a.0 few_alarms names, due)
+
+  has_byte : (k : Kind) → NamesEntries t.tasks t.alarms t.resources k → HasByte k
+  has_byte (kind.Expire a) names = omega (arith, few_alarms, names)
+  has_byte k names = tt
+
+  -- an Expire is due, if it is due in each counter whose routine has the block
+  due_here : (k : Kind) → ((c : ℕ) (d : Counter) → c < length t.counters → IsAmong b (get_or t.counters c d).first.0 (get_or t.counters c d).count → IsDueAt (due_of t.alarms c) (b - (get_or t.counters c d).first.0) k) → IsDueHere t b k
+  due_here (kind.Expire a) each = all_numbered (is_due_in t.alarms b a.0) t.counters (λ c d lt. among_where b (get_or t.counters c d).first.0 (get_or t.counters c d).count _ (each c d lt))
+  due_here k each = tt
+
+-- where a way of a kind leads, if it isn't an end
+abbrev Ways : (ℕ → Type 0) → Kind → ℕ → Type 0
+Ways P kind.TaskEnd n = ⊤
+Ways P kind.IsrEnd n = ⊤
+Ways P (kind.Choice o) n = P n × P o.0
+Ways P _ n = P n
+
+leads_from : (t : Tables) (b : ℕ) (k : Kind) (n : ℕ) → is_own_next b k n ≡ true → Ways (GoodWay t b) k n → LeadsWell t b k n
+leads_from t b kind.TaskEnd n own ways = eqb-true n b own
+leads_from t b kind.IsrEnd n own ways = eqb-true n b own
+leads_from t b (kind.Choice o) n own ways = ways
+leads_from t b k n own ways = ways
+
+ways_both : (P Q : ℕ → Type 0) (k : Kind) (n : ℕ) → Ways P k n → Ways Q k n → Ways (λ m. P m × Q m) k n
+ways_both P Q kind.TaskEnd n p q = tt
+ways_both P Q kind.IsrEnd n p q = tt
+ways_both P Q (kind.Choice o) n p q = ((p.0, q.0), (p.1, q.1))
+ways_both P Q k n p q = (p, q)
+
+ways_weaker : (P Q : ℕ → Type 0) → ((m : ℕ) → P m → Q m) → (k : Kind) (n : ℕ) → Ways P k n → Ways Q k n
+ways_weaker P Q f kind.TaskEnd n p = tt
+ways_weaker P Q f kind.IsrEnd n p = tt
+ways_weaker P Q f (kind.Choice o) n p = (f n p.0, f o.0 p.1)
+ways_weaker P Q f k n p = f n p
+
+-- a way for each of many
+ways_all : {I : Type 0} (P : I → ℕ → Type 0) (k : Kind) (n : ℕ) → ((i : I) → Ways (P i) k n) → Ways (λ m. (i : I) → P i m) k n
+ways_all P kind.TaskEnd n each = tt
+ways_all P kind.IsrEnd n each = tt
+ways_all P (kind.Choice o) n each = (λ i. (each i).0, λ i. (each i).1)
+ways_all P k n each = each
+
+ways_among : (t : Tables) (blocks : List Block) (first count : ℕ) (k : Kind) (n : ℕ) → IsAmong n first count → IsOtherWay t.tasks t.alarms t.resources blocks first count k → Ways (λ m. IsAmong m first count) k n
+ways_among t blocks first count kind.TaskEnd n next other = tt
+ways_among t blocks first count kind.IsrEnd n next other = tt
+ways_among t blocks first count (kind.Choice o) n next other = (next, other)
+ways_among t blocks first count k n next other = next
+
+-- in a tick routine each way leads to the following block
+ways_follow : (due : List ℕ) (place b : ℕ) (k : Kind) (n : ℕ) → tick_may due place k ≡ true → (is_end k ≡ false → n ≡ b + 1) → Ways (λ m. m ≡ b + 1) k n
+ways_follow due place b kind.CountUp n may follows = follows refl
+ways_follow due place b (kind.Expire a) n may follows = follows refl
+ways_follow due place b kind.IsrEnd n may follows = tt
+ways_follow due place b k n may follows = absurd cc
+
+-- an entry that passes
+found_at : {X : Type 0} (p : X → Bool) (xs : List X) → list_any p xs ≡ true → (k : ℕ) × (k < length xs) × ((d : X) → p (get_or xs k d) ≡ true)
+found_at p [] e = absurd cc
+found_at p (x ∷ xs) e =
+    elim (or_cases (p x) (list_any p xs) e) [
+      | inl h ↦ (0, omega arith, λ d. h)
+      | inr h ↦ let f = found_at p xs h in (suc f.0, omega (arith, f.1), f.2)
+    ]
+
+module _ (p : Parts) (v : IsValid p.tables.tasks p.tables.alarms p.tables.resources p.blocks p.tables.isrs p.tables.counters p.hooks p.tables.modes) where
+  abbrev t : Tables
+  t = p.tables
+
+  abbrev blocks : List Block
+  blocks = p.blocks
+
+  abbrev kind_of : ℕ → Kind
+  kind_of b = (get_or blocks b no_block).kind
+
+  abbrev next_of : ℕ → ℕ
+  next_of b = (get_or blocks b no_block).next.0
+
+  -- an owner of the block
+  record HasOwner (b : ℕ) : Type 0 where
+    pub first : ℕ
+    pub count : ℕ
+    pub among : IsAmong b first count
+    pub owner : IsOwner t.tasks t.alarms t.resources blocks first count
+
+  owner_of : (b : ℕ) → b < length blocks → HasOwner b
+  owner_of b lt =
+      let any = sym (any_of_owners (is_within b) t.tasks t.isrs t.counters) ∙ v.owned b lt in
+      elim (or_cases (list_any (λ (x : Task). is_within b (x.first.0, x.count)) t.tasks) _ any) [
+        | inl e ↦ let f = found_at (λ (x : Task). is_within b (x.first.0, x.count)) t.tasks e in
+            let x = get_or t.tasks f.0 no_task in
+            record { first = x.first.0; count = x.count; among = within_among b x.first.0 x.count (f.2 no_task); owner = v.each_task f.0 no_task f.1 }
+        | inr e ↦ elim (or_cases (list_any (λ (x : Isr). is_within b (x.first.0, x.count)) t.isrs) _ e) [
+          | inl g ↦ let f = found_at (λ (x : Isr). is_within b (x.first.0, x.count)) t.isrs g in
+              let x = get_or t.isrs f.0 no_isr in
+              record { first = x.first.0; count = x.count; among = within_among b x.first.0 x.count (f.2 no_isr); owner = v.each_isr f.0 no_isr f.1 }
+          | inr g ↦ let f = found_at (λ (x : Counter). is_within b (x.first.0, x.count)) t.counters g in
+              let x = get_or t.counters f.0 no_counter in
+              record { first = x.first.0; count = x.count; among = within_among b x.first.0 x.count (f.2 no_counter); owner = (v.each_counter f.0 no_counter f.1).1 }
+        ]
+      ]
+
+  module _ (b : ℕ) (lt : b < length blocks) where
+    abbrev here : HasOwner b
+    here = owner_of b lt
+
+    abbrev its_block : IsBlock t.tasks t.alarms t.resources blocks here.first here.count (get_or blocks b no_block)
+    its_block = here.owner.each b no_block here.among
+
+    names : NamesEntries t.tasks t.alarms t.resources (kind_of b)
+    names = its_block.operands
+
+    by_tasks : tasks_allow t b (blank_of (kind_of b)) ≡ true
+    by_tasks = list_all-from_AllPass _ t.tasks (λ k d below.
+        let x = get_or t.tasks k d in
+        among_where b x.first.0 x.count _ (λ a. task_may_blank (eqb (b + 1) (x.first.0 + x.count)) (kind_of b) ∙ (v.task_code k d below).each b a))
+
+    by_isrs : isrs_allow t b (blank_of (kind_of b)) ≡ true
+    by_isrs = list_all-from_AllPass _ t.isrs (λ k d below.
+        let x = get_or t.isrs k d in
+        among_where b x.first.0 x.count _ (λ a. isr_may_blank (eqb (b + 1) (x.first.0 + x.count)) (kind_of b) ∙ (v.isr_code k d below).each b a))
+
+    module _ (c : ℕ) (d : Counter) (below : c < length t.counters) where
+      abbrev z : Counter
+      z = get_or t.counters c d
+
+      abbrev due : List ℕ
+      due = due_of t.alarms c
+
+      ticks : IsTickCode t.tasks t.alarms t.resources blocks due z.first.0 z.count
+      ticks = subst (λ (x : Counter). IsTickCode t.tasks t.alarms t.resources blocks due x.first.0 x.count) (same_within t.counters c no_counter d below) (v.tick_code c below)
+
+      order : IsAmong b z.first.0 z.count → tick_order (length due) (b - z.first.0) (kind_of b) ≡ true
+      order a = order_of_may due (b - z.first.0) (kind_of b) (has_byte t b (v.few_tasks) (v.few_alarms) (omega (arith, v.few_resources)) (kind_of b) names) (ticks.each b a)
+
+      by_counter : counter_allows t b (blank_of (kind_of b)) (c, z) ≡ true
+      by_counter = among_where b z.first.0 z.count _ (λ a.
+          and_from _ _ (eq-eqb z.count (length due + 2) ticks.size) (tick_order_blank (length due) (b - z.first.0) (kind_of b) ∙ order a))
+
+      follows : IsAmong b z.first.0 z.count → Ways (λ m. m ≡ b + 1) (kind_of b) (next_of b)
+      follows a = ways_follow due (b - z.first.0) b (kind_of b) (next_of b) (ticks.each b a) (λ e.
+          let place = tick_place (length due) (b - z.first.0) (kind_of b) (order a) e in
+          ticks.next b a (omega (arith, a.0, place, ticks.size)))
+
+    allowed : is_allowed t b (blank_of (kind_of b)) ≡ true
+    allowed =
+        let k = blank_of (kind_of b) in
+        let counters : counters_allow t b k ≡ true = all_numbered (counter_allows t b k) t.counters by_counter in
+        and_from ((is_owned t b && tasks_allow t b k) && isrs_allow t b k) (counters_allow t b k)
+        (and_from (is_owned t b && tasks_allow t b k) (isrs_allow t b k) (and_from (is_owned t b) (tasks_allow t b k) (v.owned b lt) by_tasks) by_isrs) counters
+
+    pub good_blank : GoodBlank t b (blank_of (kind_of b))
+    good_blank = record { blank = blank_again (kind_of b); allowed = allowed }
+
+    pub good_filled : FitsKind (kind_of b) → GoodFilled t b (blank_of (kind_of b)) (unwayed (kind_of b))
+    good_filled fits = record {
+      number = number_unwayed (kind_of b) ∙ sym (number_blank (kind_of b));
+      other = other_unwayed (kind_of b);
+      operands = good_operands t b v.few_tasks v.few_alarms (omega (arith, v.few_resources)) (kind_of b) names fits
+          (due_here t b v.few_tasks v.few_alarms (omega (arith, v.few_resources)) (kind_of b) (λ c d below a. due_of_may (due c d below) (b - (z c d below).first.0) (kind_of b) ((ticks c d below).each b a)));
+    }
+
+    stays : (first count : ℕ) → IsOwner t.tasks t.alarms t.resources blocks first count → IsAmong b first count → Ways (λ m. IsAmong m first count) (kind_of b) (next_of b)
+    stays first count owner a = let x = owner.each b no_block a in ways_among t blocks first count (kind_of b) (next_of b) x.next x.other
+
+    abbrev StaysInTask : ℕ → Type 0
+    StaysInTask m = (k : ℕ) (d : Task) (below : k < length t.tasks) (a : IsAmong b (get_or t.tasks k d).first.0 (get_or t.tasks k d).count) → IsAmong m (get_or t.tasks k d).first.0 (get_or t.tasks k d).count
+
+    abbrev StaysInIsr : ℕ → Type 0
+    StaysInIsr m = (k : ℕ) (d : Isr) (below : k < length t.isrs) (a : IsAmong b (get_or t.isrs k d).first.0 (get_or t.isrs k d).count) → IsAmong m (get_or t.isrs k d).first.0 (get_or t.isrs k d).count
+
+    abbrev Follows : ℕ → Type 0
+    Follows m = (k : ℕ) (d : Counter) (below : k < length t.counters) (a : IsAmong b (get_or t.counters k d).first.0 (get_or t.counters k d).count) → m ≡ b + 1
+
+    way_from : (m : ℕ) → (IsAmong m here.first here.count × StaysInTask m) × (StaysInIsr m × Follows m) → GoodWay t b m
+    way_from m f =
+        let in_tasks = list_all-from_AllPass (λ (y : Task). where_has b (task_range y) (is_within m (task_range y))) t.tasks (λ k d below.
+        let x = get_or t.tasks k d in among_where b x.first.0 x.count _ (λ a. among_within m x.first.0 x.count (f.0.1 k d below a))) in
+        let in_isrs = list_all-from_AllPass (λ (y : Isr). where_has b (isr_range y) (is_within m (isr_range y))) t.isrs (λ k d below.
+        let x = get_or t.isrs k d in among_where b x.first.0 x.count _ (λ a. among_within m x.first.0 x.count (f.1.0 k d below a))) in
+        let in_order = list_all-from_AllPass (λ (y : Counter). where_has b (counter_range y) (eqb m (b + 1))) t.counters (λ k d below.
+        let x = get_or t.counters k d in among_where b x.first.0 x.count _ (λ a. eq-eqb m (b + 1) (f.1.1 k d below a))) in
+        (omega (arith, f.0.0.1, here.owner.inside, v.few_blocks), and_from _ _ (and_from _ _ in_tasks in_isrs) in_order)
+
+    pub good_leads : LeadsWell t b (kind_of b) (next_of b)
+    good_leads =
+        let k = kind_of b in
+        let n = next_of b in
+        let in_task : Ways StaysInTask k n =
+        ways_all (λ i m. (d : Task) (below : i < length t.tasks) (a : IsAmong b (get_or t.tasks i d).first.0 (get_or t.tasks i d).count) → IsAmong m (get_or t.tasks i d).first.0 (get_or t.tasks i d).count) k n (λ i.
+        ways_all (λ d m. (below : i < length t.tasks) (a : IsAmong b (get_or t.tasks i d).first.0 (get_or t.tasks i d).count) → IsAmong m (get_or t.tasks i d).first.0 (get_or t.tasks i d).count) k n (λ d.
+        ways_all (λ below m. (a : IsAmong b (get_or t.tasks i d).first.0 (get_or t.tasks i d).count) → IsAmong m (get_or t.tasks i d).first.0 (get_or t.tasks i d).count) k n (λ below.
+        ways_all (λ a m. IsAmong m (get_or t.tasks i d).first.0 (get_or t.tasks i d).count) k n (λ a. stays (get_or t.tasks i d).first.0 (get_or t.tasks i d).count (v.each_task i d below) a)))) in
+        let in_isr : Ways StaysInIsr k n =
+        ways_all (λ i m. (d : Isr) (below : i < length t.isrs) (a : IsAmong b (get_or t.isrs i d).first.0 (get_or t.isrs i d).count) → IsAmong m (get_or t.isrs i d).first.0 (get_or t.isrs i d).count) k n (λ i.
+        ways_all (λ d m. (below : i < length t.isrs) (a : IsAmong b (get_or t.isrs i d).first.0 (get_or t.isrs i d).count) → IsAmong m (get_or t.isrs i d).first.0 (get_or t.isrs i d).count) k n (λ d.
+        ways_all (λ below m. (a : IsAmong b (get_or t.isrs i d).first.0 (get_or t.isrs i d).count) → IsAmong m (get_or t.isrs i d).first.0 (get_or t.isrs i d).count) k n (λ below.
+        ways_all (λ a m. IsAmong m (get_or t.isrs i d).first.0 (get_or t.isrs i d).count) k n (λ a. stays (get_or t.isrs i d).first.0 (get_or t.isrs i d).count (v.each_isr i d below) a)))) in
+        let in_order : Ways Follows k n =
+        ways_all (λ i m. (d : Counter) (below : i < length t.counters) (a : IsAmong b (get_or t.counters i d).first.0 (get_or t.counters i d).count) → m ≡ b + 1) k n (λ i.
+        ways_all (λ d m. (below : i < length t.counters) (a : IsAmong b (get_or t.counters i d).first.0 (get_or t.counters i d).count) → m ≡ b + 1) k n (λ d.
+        ways_all (λ below m. (a : IsAmong b (get_or t.counters i d).first.0 (get_or t.counters i d).count) → m ≡ b + 1) k n (λ below.
+        ways_all (λ a m. m ≡ b + 1) k n (λ a. follows i d below a)))) in
+        let within = stays here.first here.count here.owner here.among in
+        leads_from t b k n (here.owner.ends b here.among)
+        (ways_weaker _ (GoodWay t b) way_from k n (ways_both _ _ k n (ways_both (λ m. IsAmong m here.first here.count) StaysInTask k n within in_task) (ways_both StaysInIsr Follows k n in_isr in_order)))
+
+-- a site that is there exactly where it is one
+abbrev pub FitsSite : ℕ → Bool → Option Site → Type 0
+FitsSite tasks is None = IsTrue (not is)
+FitsSite tasks is (Some x) = IsTrue is × IsForm tasks x.form
+
+pub good_site : (tasks : ℕ) (is : Bool) (x : Option Site) → tasks ≤ 16 → FitsSite tasks is x → GoodSite tasks is x
+good_site tasks is None few fits = not-true is fits
+good_site tasks is (Some x) few fits = (fits.0, (form_again tasks x.form few fits.1, form_small tasks x.form few fits.1))

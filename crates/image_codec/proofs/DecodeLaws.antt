@@ -1,0 +1,90 @@
+-- From what was read of all bytes to the image.
+use Rattle.std.proofs.Common.{◌≡◌, ℕ, ◌-◌, List, length, map, Option, Result, Ok, Err, sym, ap, subst, ◌∙◌}
+use Rattle.std.specs.List.{zip}
+use Rattle.osek_standard.specs.declared.app.App.{App}
+use Rattle.osek_standard.specs.declared.block.Block.{Block}
+use Rattle.osek_standard.specs.Validity.{IsValid, IsValid-prop}
+use Rattle.osek_standard.specs.Versions.{FitsVersion1, FitsVersion1-prop}
+use Rattle.image_codec.specs.declared.fault.Fault.{Fault}
+use Rattle.image_codec.specs.declared.fault.ImageFault.{ImageFault}
+use Rattle.image_codec.specs.declared.site.Site.{Site}
+use Rattle.image_codec.specs.declared.image.Image.{Image}
+use Rattle.image_codec.specs.declared.parts.Header.{Header}
+use Rattle.image_codec.specs.declared.parts.Tables.{Tables}
+use Rattle.image_codec.specs.declared.parts.Parts.{Parts}
+use Rattle.image_codec.specs.Sites.{AreSites, AreSites-prop}
+use Rattle.image_codec.specs.Spelling.{spelling}
+use Rattle.image_codec.specs.Reading.{Read, ◌>>=◌}
+use Rattle.image_codec.specs.TableReading.{header_at, tables_at}
+use Rattle.image_codec.specs.BlockReading.{blocks_at, parts_at, all_at}
+use Rattle.image_codec.specs.ImageReading.{placed, read_image, parts_of}
+use Rattle.image_codec.proofs.Spells.{IsBytes}
+use Rattle.image_codec.proofs.BlockLaws.{Entry}
+use Rattle.image_codec.proofs.BlockLoop.{zip_firsts, zip_seconds}
+use Rattle.image_codec.proofs.PartsLaws.{spelling_is, all_takes}
+
+abbrev some_parts : Header → Tables → List Block → List (Option Site) → List ℕ → Read Parts
+some_parts h t bs ss rest = Ok (record { hooks = h.hooks; tables = t; blocks = bs; sites = ss }, rest)
+
+with_lists : (h : Header) (t : Tables) {bs bs' : List Block} {ss ss' : List (Option Site)} (rest : List ℕ) → bs ≡ bs' → ss ≡ ss' → some_parts h t bs ss rest ≡ some_parts h t bs' ss' rest
+with_lists h t rest e f = cc
+
+-- the parts in order
+pub parts_read : (bytes : List ℕ) (h : Header) (r1 : List ℕ) (t : Tables) (r2 : List ℕ) (bs : List Block) (ss : List (Option Site)) (r3 : List ℕ) → header_at bytes ≡ Ok (h, r1) → tables_at h r1 ≡ Ok (t, r2)
+    → blocks_at t h.blocks r2 ≡ Ok (zip bs ss, r3) → length bs ≡ length ss → parts_at bytes ≡ Ok (record { hooks = h.hooks; tables = t; blocks = bs; sites = ss }, r3)
+unfolding parts_at
+parts_read bytes h r1 t r2 bs ss r3 e1 e2 e3 same =
+    ap (λ (r : Read Header). r >>= λ n. tables_at n.0 n.1 >>= λ u. blocks_at u.0 n.0.blocks u.1 >>= λ b. some_parts n.0 u.0 (map (λ (x : Entry). x.0) b.0) (map (λ (x : Entry). x.1) b.0) b.1) e1
+    ∙ ap (λ (r : Read Tables). r >>= λ u. blocks_at u.0 h.blocks u.1 >>= λ b. some_parts h u.0 (map (λ (x : Entry). x.0) b.0) (map (λ (x : Entry). x.1) b.0) b.1) e2
+    ∙ ap (λ (r : Read (List Entry)). r >>= λ b. some_parts h t (map (λ (x : Entry). x.0) b.0) (map (λ (x : Entry). x.1) b.0) b.1) e3
+    ∙ with_lists h t r3 (zip_firsts bs ss same) (zip_seconds bs ss same)
+
+pub its_spelling : (bytes : List ℕ) (i : Image) (rest : List ℕ) → IsBytes bytes → all_at bytes ≡ Ok (parts_of i, rest) → spelling i ≡ bytes
+its_spelling bytes i rest fits e = spelling_is i ∙ sym (all_takes bytes (parts_of i) rest fits e).spelled
+
+pub its_reading : (bytes : List ℕ) (p : Parts) (rest : List ℕ) → all_at bytes ≡ Ok (p, rest) → read_image bytes ≡ Ok p
+unfolding read_image
+its_reading bytes p rest e = ap (placed (length bytes)) e
+
+abbrev failed_at : Fault → ℕ → Result Parts ImageFault
+failed_at f k = Err (record { rule = f.rule; offset = k })
+
+pub its_fault : (bytes : List ℕ) (f : Fault) (offset : ℕ) → all_at bytes ≡ Err f → offset ≡ length bytes - f.left → read_image bytes ≡ Err (record { rule = f.rule; offset = offset })
+unfolding read_image
+its_fault bytes f offset e same = ap (placed (length bytes)) e ∙ ap (λ (k : ℕ). failed_at f k) (sym same)
+
+-- ---- images with the same parts are the same
+
+abbrev IsValidOf : Parts → Type 0
+IsValidOf p = IsValid p.tables.tasks p.tables.alarms p.tables.resources p.blocks p.tables.isrs p.tables.counters p.hooks p.tables.modes
+
+abbrev app_of : (p : Parts) → IsValidOf p → FitsVersion1 p.tables.tasks → App
+app_of p v w = record {
+  hooks = p.hooks;
+  tasks = p.tables.tasks;
+  isrs = p.tables.isrs;
+  counters = p.tables.counters;
+  alarms = p.tables.alarms;
+  resources = p.tables.resources;
+  modes = p.tables.modes;
+  blocks = p.blocks;
+  valid = v;
+  version_1 = w;
+}
+
+abbrev image_of : (p : Parts) (v : IsValidOf p) (w : FitsVersion1 p.tables.tasks) → AreSites (app_of p v w) p.sites → Image
+image_of p v w s = record { app = app_of p v w; sites = p.sites; valid = s }
+
+module _ (p : Parts) (v : IsValidOf p) (w : FitsVersion1 p.tables.tasks) (s : AreSites (app_of p v w) p.sites) where
+  same_facts : (v' : IsValidOf p) (w' : FitsVersion1 p.tables.tasks) (s' : AreSites (app_of p v' w') p.sites) → image_of p v w s ≡ image_of p v' w' s'
+  same_facts v' =
+      subst (λ (u : IsValidOf p). (w' : FitsVersion1 p.tables.tasks) (s' : AreSites (app_of p u w') p.sites) → image_of p v w s ≡ image_of p u w' s')
+      (IsValid-prop p.tables.tasks p.tables.alarms p.tables.resources p.blocks p.tables.isrs p.tables.counters p.hooks p.tables.modes v v')
+      (λ w'. subst (λ (u : FitsVersion1 p.tables.tasks). (s' : AreSites (app_of p v u) p.sites) → image_of p v w s ≡ image_of p v u s') (FitsVersion1-prop p.tables.tasks w w')
+      (λ s'. ap (image_of p v w) (AreSites-prop (app_of p v w) p.sites s s')))
+
+  same_image : (q : Parts) → p ≡ q → (v' : IsValidOf q) (w' : FitsVersion1 q.tables.tasks) (s' : AreSites (app_of q v' w') q.sites) → image_of p v w s ≡ image_of q v' w' s'
+  same_image q e = subst (λ (r : Parts). (v' : IsValidOf r) (w' : FitsVersion1 r.tables.tasks) (s' : AreSites (app_of r v' w') r.sites) → image_of p v w s ≡ image_of r v' w' s') e same_facts
+
+pub image_ext : (i j : Image) → parts_of i ≡ parts_of j → i ≡ j
+image_ext i j e = same_image (parts_of i) i.app.valid i.app.version_1 i.valid (parts_of j) e j.app.valid j.app.version_1 j.valid

@@ -1,0 +1,90 @@
+-- The alarms of a counter, in order.
+use Rattle.std.proofs.Common.{◌≡◌, ℕ, suc, ◌+◌, ◌-◌, ◌<◌, ◌≤◌, Bool, true, false, cond, eqb, List, [], ◌∷◌, length, map, get_or, drop, ◌&&◌, add-one, drop-cons, length-drop, refl, sym, ap, ◌∙◌, arith}
+use Rattle.std.specs.Prelude.{count_by}
+use Rattle.std.specs.List.{filter, enumerate_from, list_all}
+use Rattle.std.proofs.lemmas.Bool.{eqb-true, eqb-false, and_parts}
+use Rattle.std.proofs.lemmas.List.{nil_from_length}
+use Rattle.std.proofs.lemmas.List.Sums.{sum_by-cons}
+use Rattle.osek_standard.specs.declared.objects.Alarm.{Alarm}
+use Rattle.osek_standard.specs.Validity.{due_of}
+
+-- the alarms from a number on
+abbrev pub due_from : ℕ → List Alarm → ℕ → List ℕ
+due_from n alarms c = map (λ (p : ℕ × Alarm). p.0) (filter (λ (p : ℕ × Alarm). eqb p.1.counter.0 c) (enumerate_from n alarms))
+
+counted : (is : Bool) (n : ℕ) (x : Alarm) (others : List (ℕ × Alarm)) (k : ℕ) → k ≡ length (map (λ (p : ℕ × Alarm). p.0) others)
+    → cond is 1 0 + k ≡ length (map (λ (p : ℕ × Alarm). p.0) (cond is ((n, x) ∷ others) others))
+counted true n x others k e = omega (arith, e)
+counted false n x others k e = omega (arith, e)
+
+count_from : (n : ℕ) (alarms : List Alarm) (c : ℕ) → count_by (λ (x : Alarm). eqb x.counter.0 c) alarms ≡ length (due_from n alarms c)
+count_from n [] c = refl
+count_from n (x ∷ xs) c =
+    sum_by-cons (λ (y : Alarm). cond (eqb y.counter.0 c) 1 0) x xs
+    ∙ counted (eqb x.counter.0 c) n x (filter (λ (p : ℕ × Alarm). eqb p.1.counter.0 c) (enumerate_from (n + 1) xs)) _ (count_from (n + 1) xs c)
+
+pub due_count : (alarms : List Alarm) (c : ℕ) → length (due_of alarms c) ≡ count_by (λ (x : Alarm). eqb x.counter.0 c) alarms
+due_count alarms c = sym (count_from 0 alarms c)
+
+-- the alarms from a number on: that alarm, if it is the counter's, and the later ones
+module _ (alarms : List Alarm) (n c : ℕ) (d : Alarm) (lt : n < length alarms) where
+  front : drop n alarms ≡ get_or alarms n d ∷ drop (n + 1) alarms
+  front = rw add-one (drop-cons alarms n d lt)
+
+  pub due_here : eqb (get_or alarms n d).counter.0 c ≡ true → due_from n (drop n alarms) c ≡ n ∷ due_from (n + 1) (drop (n + 1) alarms) c
+  due_here e = ap (λ xs. due_from n xs c) front ∙ ap (λ is. map (λ (p : ℕ × Alarm). p.0) (cond is ((n, get_or alarms n d) ∷ filter (λ (p : ℕ × Alarm). eqb p.1.counter.0 c) (enumerate_from (n + 1) (drop (n + 1) alarms))) (filter (λ (p : ℕ × Alarm). eqb p.1.counter.0 c) (enumerate_from (n + 1) (drop (n + 1) alarms))))) e
+
+  pub due_later : eqb (get_or alarms n d).counter.0 c ≡ false → due_from n (drop n alarms) c ≡ due_from (n + 1) (drop (n + 1) alarms) c
+  due_later e = ap (λ xs. due_from n xs c) front ∙ ap (λ is. map (λ (p : ℕ × Alarm). p.0) (cond is ((n, get_or alarms n d) ∷ filter (λ (p : ℕ × Alarm). eqb p.1.counter.0 c) (enumerate_from (n + 1) (drop (n + 1) alarms))) (filter (λ (p : ℕ × Alarm). eqb p.1.counter.0 c) (enumerate_from (n + 1) (drop (n + 1) alarms))))) e
+
+-- a test of each numbered entry, from a number on
+module _ {X : Type 0} (test : ℕ × X → Bool) (xs : List X) where
+  pub all_here : (n : ℕ) (d : X) → n < length xs → list_all test (enumerate_from n (drop n xs)) ≡ (test (n, get_or xs n d) && list_all test (enumerate_from (n + 1) (drop (n + 1) xs)))
+  all_here n d lt =
+      let front : drop n xs ≡ get_or xs n d ∷ drop (n + 1) xs = rw add-one (drop-cons xs n d lt) in
+      ap (λ ys. list_all test (enumerate_from n ys)) front
+
+  pub all_past : (n : ℕ) → length xs ≤ n → list_all test (enumerate_from n (drop n xs)) ≡ true
+  all_past n le = ap (λ ys. list_all test (enumerate_from n ys)) (nil_from_length (drop n xs) (omega (arith, length-drop n xs)))
+
+pub none_due : (alarms : List Alarm) (n c : ℕ) → length alarms ≤ n → due_from n (drop n alarms) c ≡ []
+none_due alarms n c le = ap (λ xs. due_from n xs c) (nil_from_length (drop n alarms) (omega (arith, length-drop n alarms)))
+
+-- a loop that tests each numbered entry in turn
+module _ {X : Type 0} (test : ℕ × X → Bool) (xs : List X) (total : Bool) (n : ℕ) where
+  pub all_stops : (x : X) → n < length xs → ((d : X) → get_or xs n d ≡ x) → test (n, x) ≡ false → list_all test (enumerate_from n (drop n xs)) ≡ total → false ≡ total
+  all_stops x lt item fails so_far =
+      let here = all_here test xs n x lt ∙ ap (λ y. test (n, y) && list_all test (enumerate_from (n + 1) (drop (n + 1) xs))) (item x) ∙ ap (λ b. b && list_all test (enumerate_from (n + 1) (drop (n + 1) xs))) fails in
+      sym here ∙ so_far
+
+  pub all_goes_on : (x : X) → n < length xs → ((d : X) → get_or xs n d ≡ x) → test (n, x) ≡ true → list_all test (enumerate_from n (drop n xs)) ≡ total
+      → list_all test (enumerate_from (n + 1) (drop (n + 1) xs)) ≡ total
+  all_goes_on x lt item passes so_far =
+      let here = all_here test xs n x lt ∙ ap (λ y. test (n, y) && list_all test (enumerate_from (n + 1) (drop (n + 1) xs))) (item x) ∙ ap (λ b. b && list_all test (enumerate_from (n + 1) (drop (n + 1) xs))) passes in
+      sym here ∙ so_far
+
+  pub all_ends : length xs ≤ n → list_all test (enumerate_from n (drop n xs)) ≡ total → true ≡ total
+  all_ends le so_far = sym (all_past test xs n le) ∙ so_far
+
+-- a loop that looks for the alarm of a counter at a place
+module _ (alarms : List Alarm) (n c left total : ℕ) where
+  pub due_found : (d : Alarm) → n < length alarms → (eqb (get_or alarms n d).counter.0 c && eqb left 0) ≡ true
+      → get_or (due_from n (drop n alarms) c) left 256 ≡ total → n ≡ total
+  due_found d lt here so_far =
+      let parts = and_parts (eqb (get_or alarms n d).counter.0 c) (eqb left 0) here in
+      let none : left ≡ 0 = eqb-true left 0 parts.1 in
+      sym (ap (λ ds. get_or ds left 256) (due_here alarms n c d lt parts.0) ∙ ap (λ k. get_or (n ∷ due_from (n + 1) (drop (n + 1) alarms) c) k 256) none) ∙ so_far
+
+  by_test : (is : Bool) (x : Alarm) → n < length alarms → eqb (get_or alarms n x).counter.0 c ≡ is → (is && eqb left 0) ≡ false
+      → get_or (due_from n (drop n alarms) c) left 256 ≡ get_or (due_from (n + 1) (drop (n + 1) alarms) c) (cond is (left - 1) left) 256
+  by_test true x lt is more =
+      let k : left ≡ suc (left - 1) = omega (arith, eqb-false left 0 more) in
+      ap (λ ds. get_or ds left 256) (due_here alarms n c x lt is) ∙ ap (λ j. get_or (n ∷ due_from (n + 1) (drop (n + 1) alarms) c) j 256) k
+  by_test false x lt is more = ap (λ ds. get_or ds left 256) (due_later alarms n c x lt is)
+
+  pub due_passed : (d : Alarm) → n < length alarms → (eqb (get_or alarms n d).counter.0 c && eqb left 0) ≡ false
+      → get_or (due_from n (drop n alarms) c) left 256 ≡ total → get_or (due_from (n + 1) (drop (n + 1) alarms) c) (cond (eqb (get_or alarms n d).counter.0 c) (left - 1) left) 256 ≡ total
+  due_passed d lt more so_far = sym (by_test (eqb (get_or alarms n d).counter.0 c) d lt refl more) ∙ so_far
+
+  pub due_missing : length alarms ≤ n → get_or (due_from n (drop n alarms) c) left 256 ≡ total → 256 ≡ total
+  due_missing le so_far = sym (ap (λ ds. get_or ds left 256) (none_due alarms n c le)) ∙ so_far

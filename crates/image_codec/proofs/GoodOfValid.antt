@@ -1,0 +1,272 @@
+-- The parts of each image are good: what is spelled passes every test of reading.
+use Rattle.std.proofs.Common.{◌≡◌, ℕ, zero, suc, ◌+◌, ◌^◌, ◌<◌, ◌≤◌, Bool, true, false, cond, ◌&&◌, eqb, leb, ltb, List, [], ◌∷◌, ◌++◌, length, map, get_or, Option, Some, None, Ok, Err, refl, sym, ap, subst, ◌∙◌, append_assoc, arith, inl, inr}
+use Rattle.std.specs.Prelude.{slice_index_or, nat_eq}
+use Rattle.std.specs.List.{list_any, zip, IsDistinct}
+use Rattle.std.proofs.lemmas.Bool.{and_parts, and_from, or_cases, eqb-true, eq-eqb, leb-true, le-leb, lt-ltb, not_from_false}
+use Rattle.std.proofs.lemmas.List.{append-nil, length-append}
+use Rattle.std.proofs.lemmas.List.Elements.{All-get_or}
+use Rattle.std.proofs.Math.Seq.{get_or-append_seam}
+use Rattle.osek_standard.specs.declared.objects.Task.{Task}
+use Rattle.osek_standard.specs.declared.objects.Isr.{Isr}
+use Rattle.osek_standard.specs.declared.objects.Counter.{Counter}
+use Rattle.osek_standard.specs.declared.objects.Alarm.{Alarm}
+use Rattle.osek_standard.specs.declared.objects.Resource.{Resource}
+use Rattle.osek_standard.specs.declared.objects.Action.{Action}
+use Rattle.osek_standard.specs.declared.objects.Action.TheVariants as action
+use Rattle.osek_standard.specs.declared.app.App.{App}
+use Rattle.osek_standard.specs.Validity.{no_block, no_counter, AreNames, meet, owners, is_cycle_of, IsAction, IsAlarmOf, IsOwner, IsValid}
+use Rattle.image_codec.specs.declared.site.Site.{Site}
+use Rattle.image_codec.specs.declared.image.Image.{Image}
+use Rattle.image_codec.specs.declared.parts.Header.{Header}
+use Rattle.image_codec.specs.declared.parts.Range.{Range}
+use Rattle.image_codec.specs.declared.parts.Tables.{Tables}
+use Rattle.image_codec.specs.declared.parts.Parts.{Parts}
+use Rattle.image_codec.specs.SiteKinds.{is_site_in}
+use Rattle.image_codec.specs.Sites.{IsSiteAt}
+use Rattle.image_codec.specs.Spelling.{spelling}
+use Rattle.image_codec.specs.Fits.{FitsTask, FitsAction, FitsBlock, FitsFormat}
+use Rattle.image_codec.specs.BlockReading.{parts_at, all_at}
+use Rattle.image_codec.specs.ImageReading.{parts_of}
+use Rattle.image_codec.specs.declared.fault.Fault.{Fault}
+use Rattle.image_codec.specs.Laws.{OneSpelling}
+use Rattle.image_codec.proofs.Spells.{done_with, ok_is}
+use Rattle.image_codec.proofs.FieldLaws.{is_fresh, GoodRange}
+use Rattle.image_codec.proofs.TableLaws.{GoodTask, GoodIsr, GoodCounter, GoodAction, GoodAlarm, GoodResource, GoodMode, GoodTables, range_of, isr_range_of, counter_range_of}
+use Rattle.image_codec.proofs.BlockLaws.{Entry, GoodBlock}
+use Rattle.image_codec.proofs.PartsLaws.{header_of, parts_law, GoodHeader, GoodParts, spelling_is, all_again}
+use Rattle.image_codec.proofs.EachLaws.{each_of, here_of_all, here_distinct, here_fresh}
+use Rattle.image_codec.proofs.OwnerTests.{any_of_map, map_same}
+use Rattle.image_codec.proofs.Places.{get_or-zip}
+use Rattle.image_codec.proofs.BlockLoop.{length-zip}
+use Rattle.image_codec.proofs.BlocksOfValid.{good_blank, good_filled, good_leads, FitsSite, good_site}
+use Rattle.image_codec.proofs.DecodeLaws.{image_ext}
+
+modes_fit : (m : ℕ) → m ≤ 8 → 2 ^ m ≤ 256
+modes_fit zero le = omega arith
+modes_fit (suc zero) le = omega arith
+modes_fit (suc (suc zero)) le = omega arith
+modes_fit (suc (suc (suc zero))) le = omega arith
+modes_fit (suc (suc (suc (suc zero)))) le = omega arith
+modes_fit (suc (suc (suc (suc (suc zero))))) le = omega arith
+modes_fit (suc (suc (suc (suc (suc (suc zero)))))) le = omega arith
+modes_fit (suc (suc (suc (suc (suc (suc (suc zero))))))) le = omega arith
+modes_fit (suc (suc (suc (suc (suc (suc (suc (suc zero)))))))) le = omega arith
+modes_fit (suc (suc (suc (suc (suc (suc (suc (suc (suc m))))))))) le = absurd (omega arith)
+
+below_few : (limit n : ℕ) → limit ≤ 255 → n ≤ limit → (n < 256) × (ltb n (suc limit) ≡ true)
+below_few limit n few le = (omega (arith, few, le), lt-ltb n (suc limit) (omega (arith, le)))
+
+start_time_from : (c : Counter) (time : ℕ) (none : Bool) → (none ≡ true → time ≡ 0) → time ≤ c.max → cond none (eqb time 0) (leb time c.max) ≡ true
+start_time_from c time true zeros le = eq-eqb time 0 (zeros refl)
+start_time_from c time false zeros le = le-leb time c.max le
+
+start_cycle_from : (c : Counter) (cycle : ℕ) (none : Bool) → (none ≡ true → cycle ≡ 0) → is_cycle_of c cycle ≡ true → cond none (eqb cycle 0) (is_cycle_of c cycle) ≡ true
+start_cycle_from c cycle true zeros fits = eq-eqb cycle 0 (zeros refl)
+start_cycle_from c cycle false zeros fits = fits
+
+cycle_fits : (c : Counter) (cycle : ℕ) → c.max < 2 ^ 32 → is_cycle_of c cycle ≡ true → cycle < 2 ^ 32
+cycle_fits c cycle small e =
+    elim (or_cases (eqb cycle 0) (leb c.min_cycle cycle && leb cycle c.max) e) [
+      | inl h ↦ let none = eqb-true cycle 0 h in omega (arith, none)
+      | inr h ↦ let le = leb-true cycle c.max (and_parts (leb c.min_cycle cycle) (leb cycle c.max) h).1 in omega (arith, le, small)
+    ]
+
+good_action : (n : Header) (t : Tables) (x : Action) → n.tasks ≡ length t.tasks → length t.tasks ≤ 16 → IsAction t.tasks t.alarms t.resources x → FitsAction x → GoodAction n x
+good_action n t (action.ActivateTask x) e few names fits = record { task_fits = omega (arith, few, names); task = lt-ltb x.0 n.tasks (omega (arith, names, e)); events_fit = omega arith; events = refl }
+good_action n t (action.SetEvent x m) e few names fits = record { task_fits = omega (arith, few, names.0); task = lt-ltb x.0 n.tasks (omega (arith, names.0, e)); events_fit = fits; events = lt-ltb 0 m.0 names.1 }
+
+good_range : (blocks first count : ℕ) (earlier : List (ℕ × ℕ)) (x : Range) → x.first.0 ≡ first → x.count ≡ count → 0 < count → first + count ≤ blocks → blocks ≤ 1056 → list_any (λ o. meet o (x.first.0, x.count)) earlier ≡ false → GoodRange blocks earlier x
+good_range blocks first count earlier x is_first is_count some inside few apart = record {
+  below = lt-ltb _ _ (omega (arith, is_first, some, inside));
+  first_fits = omega (arith, is_first, some, inside, few);
+  inside = and_from _ _ (lt-ltb 0 x.count (omega (arith, is_count, some))) (le-leb (x.first.0 + x.count) blocks (omega (arith, is_first, is_count, inside)));
+  count_fits = omega (arith, is_count, inside, few);
+  apart = not_from_false (list_any (λ o. meet o (x.first.0, x.count)) earlier) apart;
+}
+
+fits_site : (app : App) (is : Bool) (x : Option Site) → IsSiteAt app is x → FitsSite (length app.tasks) is x
+fits_site app is None h = h
+fits_site app is (Some s) h = h
+
+module _ (i : Image) (fits : FitsFormat i) where
+  abbrev p : Parts
+  p = parts_of i
+
+  abbrev t : Tables
+  t = p.tables
+
+  abbrev n : Header
+  n = header_of p
+
+  abbrev v : IsValid t.tasks t.alarms t.resources p.blocks t.isrs t.counters p.hooks t.modes
+  v = i.app.valid
+
+  abbrev ranges_t : List Task → List (ℕ × ℕ)
+  ranges_t xs = map (λ (x : Task). (x.first.0, x.count)) xs
+
+  abbrev ranges_i : List Isr → List (ℕ × ℕ)
+  ranges_i xs = map (λ (x : Isr). (x.first.0, x.count)) xs
+
+  abbrev ranges_c : List Counter → List (ℕ × ℕ)
+  ranges_c xs = map (λ (x : Counter). (x.first.0, x.count)) xs
+
+  good_header : GoodHeader n
+  good_header = record {
+    hooks = (omega (arith, v.known_hooks), lt-ltb _ _ v.known_hooks);
+    tasks = below_few 16 _ (omega arith) v.few_tasks;
+    isrs = below_few 8 _ (omega arith) v.few_isrs;
+    counters = below_few 8 _ (omega arith) v.few_counters;
+    alarms = below_few 16 _ (omega arith) v.few_alarms;
+    resources = below_few 8 _ (omega arith) v.few_resources;
+    modes = (omega (arith, v.few_modes), and_from _ _ (lt-ltb 0 _ v.some_mode) (le-leb _ 8 v.few_modes));
+    blocks = (omega (arith, v.few_blocks), le-leb _ 1056 v.few_blocks);
+  }
+
+  byte_of_modes : (k : ℕ) → k < 2 ^ length t.modes → k < 256
+  byte_of_modes k lt = let few = modes_fit (length t.modes) v.few_modes in omega (arith, lt, few)
+
+  task_here : (e : List Task) (x : Task) (l : List Task) → e ++ x ∷ l ≡ t.tasks → GoodTask n e x
+  task_here e x l same =
+      let f = here_of_all FitsTask t.tasks e x l same fits.each_task in
+      let starts = here_of_all (λ (y : Task). y.autostart < 2 ^ length t.modes) t.tasks e x l same v.task_starts in
+      let o = here_of_all (λ (y : Task). IsOwner t.tasks t.alarms t.resources p.blocks y.first.0 y.count) t.tasks e x l same v.each_task in
+      let all : IsDistinct meet (([] ++ ranges_t t.tasks) ++ (ranges_i t.isrs ++ ranges_c t.counters)) = subst (IsDistinct meet) (append_assoc (ranges_t t.tasks) (ranges_i t.isrs) (ranges_c t.counters)) v.apart in
+      let apart = here_distinct meet (λ (y : Task). (y.first.0, y.count)) [] (ranges_i t.isrs ++ ranges_c t.counters) t.tasks e x l same all in
+      let earlier : owners e [] [] ≡ ranges_t e = append-nil (ranges_t e ++ []) ∙ append-nil (ranges_t e) in
+      let priorities : IsDistinct nat_eq (([] ++ map (λ (y : Task). y.priority) t.tasks) ++ []) = subst (IsDistinct nat_eq) (sym (append-nil (map (λ (y : Task). y.priority) t.tasks))) i.app.version_1.priorities in
+      let own = here_distinct nat_eq (λ (y : Task). y.priority) [] [] t.tasks e x l same priorities in
+      record {
+        fresh = here_fresh (λ (y : Task). y.name) t.tasks e x l same v.task_names;
+        priority_fits = f.priority;
+        priority_own = not_from_false _ (sym (any_of_map (λ k. nat_eq k x.priority) (λ (y : Task). y.priority) e) ∙ own);
+        own_fits = f.own;
+        autostart_fits = byte_of_modes x.autostart starts;
+        autostart = lt-ltb _ _ starts;
+        code = good_range (length p.blocks) x.first.0 x.count (owners e [] []) (range_of x) refl refl o.some o.inside v.few_blocks (ap (list_any (λ k. meet k (x.first.0, x.count))) earlier ∙ apart);
+      }
+
+  isr_here : (e : List Isr) (x : Isr) (l : List Isr) → e ++ x ∷ l ≡ t.isrs → GoodIsr n t.tasks e x
+  isr_here e x l same =
+      let o = here_of_all (λ (y : Isr). IsOwner t.tasks t.alarms t.resources p.blocks y.first.0 y.count) t.isrs e x l same v.each_isr in
+      let apart = here_distinct meet (λ (y : Isr). (y.first.0, y.count)) (ranges_t t.tasks) (ranges_c t.counters) t.isrs e x l same v.apart in
+      let earlier : owners t.tasks e [] ≡ ranges_t t.tasks ++ ranges_i e = append-nil (ranges_t t.tasks ++ ranges_i e) in
+      record {
+        fresh = here_fresh (λ (y : Isr). y.name) t.isrs e x l same v.isr_names;
+        code = good_range (length p.blocks) x.first.0 x.count (owners t.tasks e []) (isr_range_of x) refl refl o.some o.inside v.few_blocks (ap (list_any (λ k. meet k (x.first.0, x.count))) earlier ∙ apart);
+      }
+
+  counter_here : (e : List Counter) (x : Counter) (l : List Counter) → e ++ x ∷ l ≡ t.counters → GoodCounter n t.tasks t.isrs e x
+  counter_here e x l same =
+      let o = here_of_all (λ (y : Counter). (1 ≤ y.max) × IsOwner t.tasks t.alarms t.resources p.blocks y.first.0 y.count) t.counters e x l same v.each_counter in
+      let small = here_of_all (λ (y : Counter). y.max < 2 ^ 32) t.counters e x l same fits.each_counter in
+      let min = here_of_all (λ (y : Counter). y.min_cycle ≤ y.max) t.counters e x l same v.min_cycles in
+      let all : IsDistinct meet (((ranges_t t.tasks ++ ranges_i t.isrs) ++ ranges_c t.counters) ++ []) = subst (IsDistinct meet) (sym (append-nil (owners t.tasks t.isrs t.counters))) v.apart in
+      let apart = here_distinct meet (λ (y : Counter). (y.first.0, y.count)) (ranges_t t.tasks ++ ranges_i t.isrs) [] t.counters e x l same all in
+      record {
+        fresh = here_fresh (λ (y : Counter). y.name) t.counters e x l same v.counter_names;
+        max_fits = small;
+        max_some = lt-ltb 0 x.max o.0;
+        min_fits = omega (arith, min, small);
+        min_within = le-leb x.min_cycle x.max min;
+        code = good_range (length p.blocks) x.first.0 x.count (owners t.tasks t.isrs e) (counter_range_of x) refl refl o.1.some o.1.inside v.few_blocks apart;
+      }
+
+  alarm_here : (e : List Alarm) (x : Alarm) (l : List Alarm) → e ++ x ∷ l ≡ t.alarms → GoodAlarm n t.counters e x
+  alarm_here e x l same =
+      let o = here_of_all (IsAlarmOf t.tasks t.alarms t.resources p.blocks t.counters) t.alarms e x l same v.each_alarm in
+      let starts = here_of_all (λ (y : Alarm). y.autostart < 2 ^ length t.modes) t.alarms e x l same v.alarm_starts in
+      let none = here_of_all (λ (y : Alarm). y.autostart ≡ 0 → (y.time ≡ 0) × (y.cycle ≡ 0)) t.alarms e x l same v.no_starts in
+      let acts = here_of_all (λ (y : Alarm). FitsAction y.action) t.alarms e x l same fits.each_alarm in
+      let of = slice_index_or t.counters x.counter.0 no_counter in
+      let small : of.max < 2 ^ 32 = All-get_or (λ (y : Counter). y.max < 2 ^ 32) t.counters x.counter.0 no_counter o.counter fits.each_counter in
+      record {
+        fresh = here_fresh (λ (y : Alarm). y.name) t.alarms e x l same v.alarm_names;
+        counter_fits = omega (arith, o.counter, v.few_counters);
+        counter = lt-ltb _ _ o.counter;
+        acts = good_action n t x.action refl v.few_tasks o.action acts;
+        autostart_fits = byte_of_modes x.autostart starts;
+        autostart = lt-ltb _ _ starts;
+        time_fits = omega (arith, o.time, small);
+        time = start_time_from of x.time (eqb x.autostart 0) (λ h. (none (eqb-true x.autostart 0 h)).0) o.time;
+        cycle_fits = cycle_fits of x.cycle small o.cycle;
+        cycle = start_cycle_from of x.cycle (eqb x.autostart 0) (λ h. (none (eqb-true x.autostart 0 h)).1) o.cycle;
+      }
+
+  resource_here : (e : List Resource) (x : Resource) (l : List Resource) → e ++ x ∷ l ≡ t.resources → GoodResource e x
+  resource_here e x l same =
+      let c = here_of_all (λ (y : Resource). y.ceiling ≤ 131071) t.resources e x l same v.ceilings in
+      record {
+        fresh = here_fresh (λ (y : Resource). y.name) t.resources e x l same v.resource_names;
+        ceiling_fits = omega (arith, c);
+        ceiling = le-leb x.ceiling 131071 c;
+      }
+
+  mode_here : (e : List (List ℕ)) (x : List ℕ) (l : List (List ℕ)) → e ++ x ∷ l ≡ t.modes → GoodMode e x
+  mode_here e x l same =
+      subst (λ ms. is_fresh ms x ≡ true) (map_same e) (here_fresh (λ (y : List ℕ). y) t.modes e x l same (subst AreNames (sym (map_same t.modes)) v.mode_names))
+
+  good_tables : GoodTables n t
+  good_tables = record {
+    tasks = (refl, each_of (GoodTask n) t.tasks task_here);
+    isrs = (refl, each_of (GoodIsr n t.tasks) t.isrs isr_here);
+    counters = (refl, each_of (GoodCounter n t.tasks t.isrs) t.counters counter_here);
+    alarms = (refl, each_of (GoodAlarm n t.counters) t.alarms alarm_here);
+    resources = (refl, each_of GoodResource t.resources resource_here);
+    modes = (refl, each_of GoodMode t.modes mode_here);
+  }
+
+  good_block : (b : ℕ) → b < length p.blocks → GoodBlock t b (get_or p.blocks b no_block, get_or p.sites b None)
+  good_block b lt =
+      let f = All-get_or FitsBlock p.blocks b no_block lt fits.each_block in
+      record {
+        blank = good_blank p v b lt;
+        line = f.line;
+        filled = good_filled p v b lt f.kind;
+        leads = good_leads p v b lt;
+        site = good_site (length t.tasks) (is_site_in t.tasks b (get_or p.blocks b no_block).kind) (get_or p.sites b None) v.few_tasks (fits_site i.app (is_site_in t.tasks b (get_or p.blocks b no_block).kind) (get_or p.sites b None) (i.valid.each b lt));
+      }
+
+  same_lengths : length p.blocks ≡ length p.sites
+  same_lengths = sym i.valid.count
+
+  block_here : (e : List Entry) (y : Entry) (l : List Entry) → e ++ y ∷ l ≡ zip p.blocks p.sites → GoodBlock t (length e) y
+  block_here e y l same =
+      let within : length e < length p.blocks = omega (arith, length-append e (y ∷ l), ap length same, length-zip p.blocks p.sites same_lengths) in
+      let item : get_or (zip p.blocks p.sites) (length e) (no_block, None) ≡ y = ap (λ ys. get_or ys (length e) (no_block, None)) (sym same) ∙ get_or-append_seam e y l (no_block, None) in
+      subst (GoodBlock t (length e)) (sym (get_or-zip p.blocks p.sites (length e) no_block None same_lengths within) ∙ item) (good_block (length e) within)
+
+  pub good_of_valid : GoodParts p
+  good_of_valid = record {
+    header = good_header;
+    tables = good_tables;
+    blocks = (length-zip p.blocks p.sites same_lengths, each_of (λ (e : List Entry). GoodBlock t (length e)) (zip p.blocks p.sites) block_here);
+    same = same_lengths;
+  }
+
+-- ---- what is spelled is read, and one spelling is of one image
+
+pub read_again : (i : Image) → FitsFormat i → all_at (spelling i) ≡ Ok (parts_of i, [])
+read_again i fits = ap all_at (spelling_is i) ∙ all_again (parts_of i) (good_of_valid i fits)
+
+-- bytes that spell an image at their front
+at_front : (i : Image) (x : List ℕ) → FitsFormat i → parts_at (spelling i ++ x) ≡ Ok (parts_of i, x)
+at_front i x fits = ap (λ (s : List ℕ). parts_at (s ++ x)) (spelling_is i) ∙ parts_law.again (parts_of i) x (good_of_valid i fits)
+
+pub one_spelling_holds : OneSpelling
+one_spelling_holds i j x y fits_i fits_j e =
+    let both : done_with (parts_of i, x) ≡ done_with (parts_of j, y) = sym (at_front i x fits_i) ∙ ap parts_at e ∙ at_front j y fits_j in
+    let same : (parts_of i, x) ≡ (parts_of j, y) = ok_is (parts_of i, x) (parts_of j, y) both in
+    (image_ext i j (ap (λ (q : Parts × List ℕ). q.0) same), ap (λ (q : Parts × List ℕ). q.1) same)
+
+-- the image that was read is the one that is spelled so
+pub only_image : (bytes : List ℕ) (j : Image) (rest : List ℕ) → all_at bytes ≡ Ok (parts_of j, rest) → (i : Image) → FitsFormat i → spelling i ≡ bytes → j ≡ i
+only_image bytes j rest read i fits e =
+    let both : done_with (parts_of j, rest) ≡ done_with (parts_of i, []) = sym read ∙ ap all_at (sym e) ∙ read_again i fits in
+    image_ext j i (ap (λ (q : Parts × List ℕ). q.0) (ok_is (parts_of j, rest) (parts_of i, []) both))
+
+apart_from_fault : {A : Type 0} (x : A) (f : Fault) → done_with x ≡ Err f → ⊥
+apart_from_fault x f e = cc
+
+-- bytes with a fault spell no image
+pub no_image : (bytes : List ℕ) (f : Fault) → all_at bytes ≡ Err f → (i : Image) → FitsFormat i → spelling i ≡ bytes → ⊥
+no_image bytes f read i fits e = apart_from_fault (parts_of i, []) f (sym (read_again i fits) ∙ ap all_at e ∙ read)

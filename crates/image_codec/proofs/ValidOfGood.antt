@@ -1,0 +1,236 @@
+-- What was read is a valid application, with its sites.
+use Rattle.std.proofs.Common.{◌≡◌, ℕ, suc, ◌+◌, ◌^◌, ◌<◌, ◌≤◌, Bool, true, false, cond, not, ◌&&◌, eqb, leb, ltb, List, [], ◌++◌, length, map, get_or, Option, Some, None, All, refl, sym, ap, subst, ◌∙◌, arith, inl, inr}
+use Rattle.std.specs.Prelude.{slice_index_or, nat_eq}
+use Rattle.std.specs.List.{list_any, zip, IsDistinct}
+use Rattle.std.proofs.lemmas.Bool.{and_parts, eqb-true, eq-eqb, leb-true, ltb-true, not-true, or_left}
+use Rattle.std.proofs.lemmas.List.{append-nil}
+use Rattle.osek_standard.specs.declared.objects.Task.{Task}
+use Rattle.osek_standard.specs.declared.objects.Isr.{Isr}
+use Rattle.osek_standard.specs.declared.objects.Counter.{Counter}
+use Rattle.osek_standard.specs.declared.objects.Alarm.{Alarm}
+use Rattle.osek_standard.specs.declared.objects.Resource.{Resource}
+use Rattle.osek_standard.specs.declared.objects.Action.{Action}
+use Rattle.osek_standard.specs.declared.objects.Action.TheVariants as action
+use Rattle.osek_standard.specs.declared.block.Block.{Block}
+use Rattle.osek_standard.specs.declared.block.Kind.{Kind}
+use Rattle.osek_standard.specs.declared.block.Kind.TheVariants as kind
+use Rattle.osek_standard.specs.declared.app.App.{App}
+use Rattle.osek_standard.specs.Validity.{no_block, no_counter, AreNames, meet, owners, is_cycle_of, IsAction, IsAlarmOf, IsValid}
+use Rattle.osek_standard.specs.Versions.{FitsVersion1}
+use Rattle.osek_standard.specs.Apps.{is_site}
+use Rattle.image_codec.specs.declared.site.Form.{Form}
+use Rattle.image_codec.specs.declared.site.Form.TheVariants as form
+use Rattle.image_codec.specs.declared.site.Site.{Site}
+use Rattle.image_codec.specs.declared.parts.Header.{Header}
+use Rattle.image_codec.specs.declared.parts.Tables.{Tables}
+use Rattle.image_codec.specs.declared.parts.Parts.{Parts}
+use Rattle.image_codec.specs.Sites.{IsForm, IsSiteAt, AreSites}
+use Rattle.image_codec.specs.SiteKinds.{is_site_in}
+use Rattle.image_codec.specs.Spelling.{form_number}
+use Rattle.image_codec.specs.Fits.{FitsTask, FitsAction, FitsKind, FitsParts}
+use Rattle.image_codec.specs.BlockReading.{form_of}
+use Rattle.image_codec.proofs.FieldLaws.{is_fresh, is_inside}
+use Rattle.image_codec.proofs.TableLaws.{GoodTask, GoodIsr, GoodCounter, GoodAction, GoodAlarm, GoodResource, GoodMode}
+use Rattle.image_codec.proofs.KindLaws.{GoodOperands}
+use Rattle.image_codec.proofs.BlockLaws.{unwayed, GoodBlock, GoodSite, first_choice}
+use Rattle.image_codec.proofs.PartsLaws.{header_of, GoodParts}
+use Rattle.image_codec.proofs.EachLaws.{each_all, each_distinct, each_named, distinct_nil}
+use Rattle.image_codec.proofs.OwnerTests.{any_of_map, map_same}
+use Rattle.image_codec.proofs.Places.{each_at, get_or-zip}
+use Rattle.image_codec.proofs.BlockLoop.{length-zip}
+use Rattle.image_codec.proofs.BlocksOfGood.{block_owned, task_owner, task_code, isr_owner, isr_code, counter_owner, tick_code}
+
+-- ---- forms
+
+form_within : (tasks : ℕ) (f : Form) → form_of tasks (form_number f) ≡ Some f → IsForm tasks f
+form_within tasks form.Never e = tt
+form_within tasks form.Stay e = tt
+form_within tasks (form.Direct None) e = tt
+form_within tasks form.General e = tt
+form_within tasks (form.Direct (Some x)) e =
+    let n = 0x0200 + x.0 in
+    elim (first_choice (eqb n 0x0000) form.Never _ (form.Direct (Some x)) e) [
+      | inl h ↦ absurd (cc (h.1))
+      | inr e1 ↦ elim (first_choice (eqb n 0x0100) form.Stay _ (form.Direct (Some x)) e1) [
+        | inl h ↦ absurd (cc (h.1))
+        | inr e2 ↦ elim (first_choice (eqb n 0x02ff) (form.Direct None) _ (form.Direct (Some x)) e2) [
+          | inl h ↦ absurd (cc (h.1))
+          | inr e3 ↦ elim (first_choice (eqb n 0x0300) form.General _ (form.Direct (Some x)) e3) [
+            | inl h ↦ absurd (cc (h.1))
+            | inr e4 ↦ elim (first_choice (leb 0x0200 n && ltb n (0x0200 + tasks)) _ None (form.Direct (Some x)) e4) [
+              | inl h ↦ let below : n < 0x0200 + tasks = ltb-true _ _ (and_parts (leb 0x0200 n) (ltb n (0x0200 + tasks)) h.0).1 in omega (arith, below)
+              | inr h ↦ absurd (cc (h))
+            ]
+          ]
+        ]
+      ]
+    ]
+
+site_of_good : (app : App) (is : Bool) (x : Option Site) → GoodSite (length app.tasks) is x → IsSiteAt app is x
+site_of_good app is None good = ap not good
+site_of_good app is (Some s) good = (good.0, form_within (length app.tasks) s.form good.1.0)
+
+-- ---- alarms
+
+start_time_within : (c : Counter) (autostart time : ℕ) (none : Bool) → cond none (eqb time 0) (leb time c.max) ≡ true → time ≤ c.max
+start_time_within c autostart time true e = omega (arith, eqb-true time 0 e)
+start_time_within c autostart time false e = leb-true _ _ e
+
+start_cycle_fits : (c : Counter) (cycle : ℕ) (none : Bool) → cond none (eqb cycle 0) (is_cycle_of c cycle) ≡ true → is_cycle_of c cycle ≡ true
+start_cycle_fits c cycle true e = or_left (eqb cycle 0) _ e
+start_cycle_fits c cycle false e = e
+
+start_none : (none test : Bool) (n : ℕ) → none ≡ true → cond none (eqb n 0) test ≡ true → n ≡ 0
+start_none true test n e h = eqb-true n 0 h
+start_none false test n e h = absurd cc
+
+fits_kind : (t : Tables) (b : ℕ) (k : Kind) → GoodOperands t b (unwayed k) → FitsKind k
+fits_kind t b (kind.Work n) g = g.0
+fits_kind t b (kind.SetEvent x m) g = g.1.0
+fits_kind t b (kind.ClearEvent m) g = g.0
+fits_kind t b (kind.WaitEvent m) g = g.0
+fits_kind t b (kind.SetRelAlarm a i c) g = (g.1.0, g.1.1)
+fits_kind t b (kind.SetAbsAlarm a s c) g = (g.1.0, g.1.1)
+fits_kind t b k g = tt
+
+action_named : (n : Header) (t : Tables) (x : Action) → n.tasks ≡ length t.tasks → GoodAction n x → IsAction t.tasks t.alarms t.resources x
+action_named n t (action.ActivateTask x) e g = let below = ltb-true _ _ g.task in omega (arith, below, e)
+action_named n t (action.SetEvent x m) e g = let below = ltb-true _ _ g.task in (omega (arith, below, e), ltb-true _ _ g.events)
+
+action_fits : (n : Header) (x : Action) → GoodAction n x → FitsAction x
+action_fits n (action.ActivateTask x) g = tt
+action_fits n (action.SetEvent x m) g = g.events_fit
+
+abbrev GoodCode : ℕ → ℕ → ℕ → Type 0
+GoodCode blocks first count = is_inside blocks first count ≡ true
+
+some_of : (blocks first count : ℕ) → GoodCode blocks first count → 0 < count
+some_of blocks first count e = ltb-true _ _ (and_parts (ltb 0 count) (leb (first + count) blocks) e).0
+
+inside_of : (blocks first count : ℕ) → GoodCode blocks first count → first + count ≤ blocks
+inside_of blocks first count e = leb-true _ _ (and_parts (ltb 0 count) (leb (first + count) blocks) e).1
+
+few_below : (limit n : ℕ) → ltb n (suc limit) ≡ true → n ≤ limit
+few_below limit n e = let below = ltb-true n (suc limit) e in omega (arith, below)
+
+module _ (p : Parts) (good : GoodParts p) where
+  abbrev t : Tables
+  t = p.tables
+
+  abbrev n : Header
+  n = header_of p
+
+  abbrev blocks : List Block
+  blocks = p.blocks
+
+  block_fact : (b : ℕ) (d : Block) (e : Option Site) → b < length blocks → GoodBlock t b (get_or blocks b d, get_or p.sites b e)
+  block_fact b d e lt =
+      subst (GoodBlock t b) (get_or-zip blocks p.sites b d e good.same lt)
+      (each_at (GoodBlock t) (zip blocks p.sites) good.blocks.1 b (d, e) (omega (arith, lt, length-zip blocks p.sites good.same)))
+
+  tasks_inside : All (λ (x : Task). GoodCode (length blocks) x.first.0 x.count) t.tasks
+  tasks_inside = each_all (GoodTask n) (λ (x : Task). GoodCode (length blocks) x.first.0 x.count) (λ e x g. g.code.inside) t.tasks good.tables.tasks.1
+
+  isrs_inside : All (λ (x : Isr). GoodCode (length blocks) x.first.0 x.count) t.isrs
+  isrs_inside = each_all (GoodIsr n t.tasks) (λ (x : Isr). GoodCode (length blocks) x.first.0 x.count) (λ e x g. g.code.inside) t.isrs good.tables.isrs.1
+
+  counters_inside : All (λ (x : Counter). GoodCode (length blocks) x.first.0 x.count) t.counters
+  counters_inside = each_all (GoodCounter n t.tasks t.isrs) (λ (x : Counter). GoodCode (length blocks) x.first.0 x.count) (λ e x g. g.code.inside) t.counters good.tables.counters.1
+
+  abbrev ranges_t : List (ℕ × ℕ)
+  ranges_t = map (λ (x : Task). (x.first.0, x.count)) t.tasks
+
+  abbrev ranges_i : List (ℕ × ℕ)
+  ranges_i = map (λ (x : Isr). (x.first.0, x.count)) t.isrs
+
+  apart_t : IsDistinct meet ranges_t
+  apart_t = each_distinct (GoodTask n) meet (λ (x : Task). (x.first.0, x.count)) []
+      (λ e x g.
+      let earlier = map (λ (y : Task). (y.first.0, y.count)) e in
+      let same : owners e [] [] ≡ earlier = append-nil (earlier ++ []) ∙ append-nil earlier in
+      ap (list_any (λ o. meet o (x.first.0, x.count))) (sym same) ∙ not-true _ g.code.apart)
+      t.tasks (distinct_nil meet) good.tables.tasks.1
+
+  apart_i : IsDistinct meet (ranges_t ++ ranges_i)
+  apart_i = each_distinct (GoodIsr n t.tasks) meet (λ (x : Isr). (x.first.0, x.count)) ranges_t
+      (λ e x g.
+      let earlier = ranges_t ++ map (λ (y : Isr). (y.first.0, y.count)) e in
+      ap (list_any (λ o. meet o (x.first.0, x.count))) (sym (append-nil earlier)) ∙ not-true _ g.code.apart)
+      t.isrs apart_t good.tables.isrs.1
+
+  apart_c : IsDistinct meet (owners t.tasks t.isrs t.counters)
+  apart_c = each_distinct (GoodCounter n t.tasks t.isrs) meet (λ (x : Counter). (x.first.0, x.count)) (ranges_t ++ ranges_i)
+      (λ e x g. not-true _ g.code.apart) t.counters apart_i good.tables.counters.1
+
+  alarm_is : (x : Alarm) (e : List Alarm) → GoodAlarm n t.counters e x → IsAlarmOf t.tasks t.alarms t.resources blocks t.counters x
+  alarm_is x e g = record {
+    counter = ltb-true _ _ g.counter;
+    action = action_named n t x.action refl g.acts;
+    time = start_time_within (slice_index_or t.counters x.counter.0 no_counter) x.autostart x.time (eqb x.autostart 0) g.time;
+    cycle = start_cycle_fits (slice_index_or t.counters x.counter.0 no_counter) x.cycle (eqb x.autostart 0) g.cycle;
+  }
+
+  pub valid_parts : IsValid t.tasks t.alarms t.resources blocks t.isrs t.counters p.hooks t.modes
+  valid_parts = record {
+    known_hooks = ltb-true _ _ good.header.hooks.1;
+    few_tasks = few_below 16 _ good.header.tasks.1;
+    few_isrs = few_below 8 _ good.header.isrs.1;
+    few_counters = few_below 8 _ good.header.counters.1;
+    few_alarms = few_below 16 _ good.header.alarms.1;
+    few_resources = few_below 8 _ good.header.resources.1;
+    few_modes = leb-true _ _ (and_parts (ltb 0 (length t.modes)) (leb (length t.modes) 8) good.header.modes.1).1;
+    some_mode = ltb-true _ _ (and_parts (ltb 0 (length t.modes)) (leb (length t.modes) 8) good.header.modes.1).0;
+    few_blocks = leb-true _ _ good.header.blocks.1;
+    task_names = each_named (GoodTask n) (λ (x : Task). x.name) (λ e x g. g.fresh) t.tasks good.tables.tasks.1;
+    isr_names = each_named (GoodIsr n t.tasks) (λ (x : Isr). x.name) (λ e x g. g.fresh) t.isrs good.tables.isrs.1;
+    counter_names = each_named (GoodCounter n t.tasks t.isrs) (λ (x : Counter). x.name) (λ e x g. g.fresh) t.counters good.tables.counters.1;
+    alarm_names = each_named (GoodAlarm n t.counters) (λ (x : Alarm). x.name) (λ e x g. g.fresh) t.alarms good.tables.alarms.1;
+    resource_names = each_named GoodResource (λ (x : Resource). x.name) (λ e x g. g.fresh) t.resources good.tables.resources.1;
+    mode_names = subst AreNames (map_same t.modes)
+        (each_named GoodMode (λ (x : List ℕ). x) (λ e x g. subst (λ ms. is_fresh ms x ≡ true) (sym (map_same e)) g) t.modes good.tables.modes.1);
+    each_task = λ k d lt. let code = tasks_inside k d lt in task_owner t blocks p.sites good.same block_fact k d lt (some_of _ _ _ code) (inside_of _ _ _ code);
+    task_code = λ k d lt. let code = tasks_inside k d lt in task_code t blocks p.sites good.same block_fact k d lt (inside_of _ _ _ code);
+    task_starts = each_all (GoodTask n) (λ (x : Task). x.autostart < 2 ^ length t.modes) (λ e x g. ltb-true _ _ g.autostart) t.tasks good.tables.tasks.1;
+    each_isr = λ k d lt. let code = isrs_inside k d lt in isr_owner t blocks p.sites good.same block_fact k d lt (some_of _ _ _ code) (inside_of _ _ _ code);
+    isr_code = λ k d lt. let code = isrs_inside k d lt in isr_code t blocks p.sites good.same block_fact k d lt (inside_of _ _ _ code);
+    each_counter = λ k d lt.
+        let code = counters_inside k d lt in (
+          each_all (GoodCounter n t.tasks t.isrs) (λ (x : Counter). 1 ≤ x.max) (λ e x g. ltb-true _ _ g.max_some) t.counters good.tables.counters.1 k d lt,
+          counter_owner t blocks p.sites good.same block_fact k d lt (some_of _ _ _ code) (inside_of _ _ _ code),
+        );
+    min_cycles = each_all (GoodCounter n t.tasks t.isrs) (λ (x : Counter). x.min_cycle ≤ x.max) (λ e x g. leb-true _ _ g.min_within) t.counters good.tables.counters.1;
+    tick_code = λ c lt. let code = counters_inside c no_counter lt in tick_code t blocks p.sites good.same block_fact c no_counter lt (some_of _ _ _ code) (inside_of _ _ _ code);
+    each_alarm = each_all (GoodAlarm n t.counters) (IsAlarmOf t.tasks t.alarms t.resources blocks t.counters) (λ e x g. alarm_is x e g) t.alarms good.tables.alarms.1;
+    alarm_starts = each_all (GoodAlarm n t.counters) (λ (x : Alarm). x.autostart < 2 ^ length t.modes) (λ e x g. ltb-true _ _ g.autostart) t.alarms good.tables.alarms.1;
+    no_starts = each_all (GoodAlarm n t.counters) (λ (x : Alarm). x.autostart ≡ 0 → (x.time ≡ 0) × (x.cycle ≡ 0))
+        (λ e x g none. (start_none (eqb x.autostart 0) _ x.time (eq-eqb x.autostart 0 none) g.time, start_none (eqb x.autostart 0) _ x.cycle (eq-eqb x.autostart 0 none) g.cycle)) t.alarms good.tables.alarms.1;
+    ceilings = each_all GoodResource (λ (x : Resource). x.ceiling ≤ 131071) (λ e x g. leb-true _ _ g.ceiling) t.resources good.tables.resources.1;
+    apart = apart_c;
+    owned = block_owned t blocks p.sites good.same block_fact;
+  }
+
+  pub version_1_parts : FitsVersion1 t.tasks
+  version_1_parts = record {
+    priorities = each_distinct (GoodTask n) nat_eq (λ (x : Task). x.priority) []
+        (λ e x g. any_of_map (λ k. nat_eq k x.priority) (λ (y : Task). y.priority) e ∙ not-true _ g.priority_own) t.tasks (distinct_nil nat_eq) good.tables.tasks.1;
+  }
+
+  pub fits_parts : FitsParts t.tasks t.counters t.alarms blocks
+  fits_parts = record {
+    each_task = each_all (GoodTask n) FitsTask (λ e x g. record { priority = g.priority_fits; own = g.own_fits }) t.tasks good.tables.tasks.1;
+    each_counter = each_all (GoodCounter n t.tasks t.isrs) (λ (x : Counter). x.max < 2 ^ 32) (λ e x g. g.max_fits) t.counters good.tables.counters.1;
+    each_alarm = each_all (GoodAlarm n t.counters) (λ (x : Alarm). FitsAction x.action) (λ e x g. action_fits n x.action g.acts) t.alarms good.tables.alarms.1;
+    each_block = λ b d lt. let f = block_fact b d None lt in record { line = f.line; kind = fits_kind t b (get_or blocks b d).kind f.filled.operands };
+  }
+
+  pub sites_parts : (app : App) → app.tasks ≡ t.tasks → app.blocks ≡ blocks → AreSites app p.sites
+  sites_parts app same_tasks same_blocks = record {
+    count = sym good.same ∙ ap length (sym same_blocks);
+    each = λ b lt.
+        let below : b < length blocks = omega (arith, lt, ap length same_blocks) in
+        let f = (block_fact b no_block None below).site in
+        let is : is_site app b ≡ is_site_in t.tasks b (get_or blocks b no_block).kind = ap (λ (xs : List Task). is_site_in xs b (get_or app.blocks b no_block).kind) same_tasks ∙ ap (λ (xs : List Block). is_site_in t.tasks b (get_or xs b no_block).kind) same_blocks in
+        site_of_good app (is_site app b) (get_or p.sites b None)
+        (subst (λ (k : ℕ). GoodSite k (is_site app b) (get_or p.sites b None)) (ap (λ (xs : List Task). length xs) (sym same_tasks))
+        (subst (λ (e : Bool). GoodSite (length t.tasks) e (get_or p.sites b None)) (sym is) f));
+  }

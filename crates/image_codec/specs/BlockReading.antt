@@ -1,0 +1,269 @@
+-- Reading the blocks of an image, and its end.
+use Rattle.std.specs.Prelude.{ℕ, ◌+◌, ◌-◌, ◌≤◌, Bool, true, false, ◌&&◌, nat_lt, nat_le, ◌==◌, List, [], ◌∷◌, length, map, slice_get, slice_index_or, Option, Some, None, Ok, Err, if◌then◌else◌}
+use Rattle.std.specs.Int.{w16, w32, w64}
+use Rattle.std.specs.List.{list_any, list_all, enumerate_from}
+use Rattle.osek_values.specs.Numbers.{task_no, alarm_no, res_no, block_no, mask}
+use Rattle.osek_standard.specs.declared.objects.Task.{Task}
+use Rattle.osek_standard.specs.declared.objects.Isr.{Isr}
+use Rattle.osek_standard.specs.declared.objects.Counter.{Counter}
+use Rattle.osek_standard.specs.declared.objects.Alarm.{Alarm}
+use Rattle.osek_standard.specs.declared.block.Block.{Block}
+use Rattle.osek_standard.specs.declared.block.Lock.{Lock}
+use Rattle.osek_standard.specs.declared.block.Lock.TheVariants as lock
+use Rattle.osek_standard.specs.declared.block.Kind.{Kind}
+use Rattle.osek_standard.specs.declared.block.Kind.TheVariants as kind
+use Rattle.osek_standard.specs.Validity.{owners, is_within, task_may, isr_may, due_of}
+use Rattle.image_codec.specs.declared.fault.ImageRule.TheVariants.{I3, I5, I6}
+use Rattle.image_codec.specs.declared.site.Form.{Form}
+use Rattle.image_codec.specs.declared.site.Form.TheVariants as form
+use Rattle.image_codec.specs.declared.site.Site.{Site}
+use Rattle.image_codec.specs.declared.parts.Tables.{Tables}
+use Rattle.image_codec.specs.declared.parts.Parts.{Parts}
+use Rattle.image_codec.specs.Reading.{Read, ◌>>=◌, fault_at, kept, byte_at, number_at, tested_at, byte_below_at, flag_at, entries_at}
+use Rattle.image_codec.specs.SiteKinds.{is_site_in}
+use Rattle.image_codec.specs.TableReading.{header_at, tables_at}
+
+-- the numbers of the entries fit a byte
+pub record AreSmall (t : Tables) : Type 0 where
+  pub tasks : length t.tasks ≤ 255
+  pub alarms : length t.alarms ≤ 255
+  pub resources : length t.resources ≤ 255
+
+-- each kind at the place of its number, its operands still blank
+abbrev pub blank_kinds : List Kind
+blank_kinds =
+    kind.Work 0 ∷ kind.Choice (block_no 0) ∷ kind.Loop ∷ kind.ActivateTask (task_no 0) ∷ kind.TerminateTask
+    ∷ kind.ChainTask (task_no 0) ∷ kind.Schedule ∷ kind.GetResource (res_no 0) ∷ kind.ReleaseResource (res_no 0)
+    ∷ kind.SetEvent (task_no 0) (mask 0) ∷ kind.ClearEvent (mask 0) ∷ kind.GetEvent (task_no 0) ∷ kind.WaitEvent (mask 0)
+    ∷ kind.SetRelAlarm (alarm_no 0) 0 0 ∷ kind.SetAbsAlarm (alarm_no 0) 0 0 ∷ kind.CancelAlarm (alarm_no 0)
+    ∷ kind.GetAlarm (alarm_no 0) ∷ kind.GetTaskId ∷ kind.GetTaskState (task_no 0) ∷ kind.GetActiveApplicationMode
+    ∷ kind.ShutdownOs ∷ kind.LockCall lock.SuspendAll ∷ kind.TaskEnd ∷ kind.IsrEnd ∷ kind.CountUp
+    ∷ kind.Expire (alarm_no 0) ∷ []
+
+-- in a tick routine of so many alarms: CountUp, an Expire for each alarm, IsrEnd
+abbrev pub tick_order : ℕ → ℕ → Kind → Bool
+tick_order alarms place kind.CountUp = place == 0
+tick_order alarms place (kind.Expire a) = nat_lt 0 place && nat_le place alarms
+tick_order alarms place kind.IsrEnd = place == alarms + 1
+tick_order alarms place _ = false
+
+-- the test passes if block b is among these
+abbrev pub where_has : ℕ → ℕ × ℕ → Bool → Bool
+where_has b range test = if is_within b range then test else true
+
+-- an owner's blocks
+abbrev pub task_range : Task → ℕ × ℕ
+task_range x = (x.first.0, x.count)
+
+abbrev pub isr_range : Isr → ℕ × ℕ
+isr_range x = (x.first.0, x.count)
+
+abbrev pub counter_range : Counter → ℕ × ℕ
+counter_range x = (x.first.0, x.count)
+
+abbrev pub events_at : List ℕ → Read ℕ
+events_at bytes = tested_at w64 (λ m. nat_lt 0 m) I3 bytes
+
+abbrev pub locks : List Lock
+locks = lock.SuspendAll ∷ lock.ResumeAll ∷ lock.SuspendOs ∷ lock.ResumeOs ∷ lock.DisableAll ∷ lock.EnableAll ∷ []
+
+abbrev pub lock_of : List ℕ → List ℕ → Option Lock → Read Lock
+lock_of bytes rest None = Err (fault_at I3 bytes)
+lock_of bytes rest (Some l) = Ok (l, rest)
+
+unfoldable pub lock_at : List ℕ → Read Lock
+lock_at bytes = do
+  n ← byte_at bytes
+  lock_of bytes n.1 (slice_get locks n.0)
+
+-- the alarm is the one that is due at the place of block b in the tick routine of a counter
+abbrev pub is_due_in : List Alarm → ℕ → ℕ → ℕ × Counter → Bool
+is_due_in alarms b a p = where_has b (counter_range p.1) (slice_index_or (due_of alarms p.0) (b - p.1.first.0 - 1) 256 == a)
+
+-- the form of a number, where there are so many tasks
+abbrev pub direct_form : ℕ → ℕ → Option Form
+direct_form tasks n =
+    if nat_le 0x0200 n && nat_lt n (0x0200 + tasks) then Some (form.Direct (Some (task_no (n - 0x0200)))) else None
+
+abbrev pub form_of : ℕ → ℕ → Option Form
+form_of tasks n =
+    if n == 0x0000 then Some form.Never
+    else if n == 0x0100 then Some form.Stay
+    else if n == 0x02ff then Some (form.Direct None)
+    else if n == 0x0300 then Some form.General
+    else direct_form tasks n
+
+abbrev pub formed_site : List ℕ → List ℕ → Option Form → Read (Option Site)
+formed_site bytes rest None = Err (fault_at I3 bytes)
+formed_site bytes rest (Some f) = Ok (Some (record { form = f }), rest)
+
+module _ (t : Tables) (b : ℕ) where
+  -- whoever has block b allows a block of this kind there
+  abbrev pub tasks_allow : Kind → Bool
+  tasks_allow k = list_all (λ (x : Task). where_has b (task_range x) (task_may (b + 1 == x.first.0 + x.count) k)) t.tasks
+
+  abbrev pub isrs_allow : Kind → Bool
+  isrs_allow k = list_all (λ (x : Isr). where_has b (isr_range x) (isr_may (b + 1 == x.first.0 + x.count) k)) t.isrs
+
+  -- a tick routine has CountUp, an Expire for each alarm of its counter, and IsrEnd
+  abbrev pub counter_allows : Kind → ℕ × Counter → Bool
+  counter_allows k p =
+      where_has b (counter_range p.1)
+      (p.1.count == length (due_of t.alarms p.0) + 2 && tick_order (length (due_of t.alarms p.0)) (b - p.1.first.0) k)
+
+  abbrev pub counters_allow : Kind → Bool
+  counters_allow k = list_all (counter_allows k) (enumerate_from 0 t.counters)
+
+  abbrev pub is_owned : Bool
+  is_owned = list_any (is_within b) (owners t.tasks t.isrs t.counters)
+
+  abbrev pub is_allowed : Kind → Bool
+  is_allowed k = is_owned && tasks_allow k && isrs_allow k && counters_allow k
+
+  -- the alarm is the one that is due here
+  abbrev pub is_due : ℕ → Bool
+  is_due a = list_all (is_due_in t.alarms b a) (enumerate_from 0 t.counters)
+
+  -- a way stays in the owner; in a tick routine it leads to the following block
+  abbrev pub is_way : ℕ → Bool
+  is_way n =
+      list_all (λ (x : Task). where_has b (task_range x) (is_within n (task_range x))) t.tasks
+      && list_all (λ (x : Isr). where_has b (isr_range x) (is_within n (isr_range x))) t.isrs
+      && list_all (λ (x : Counter). where_has b (counter_range x) (n == b + 1)) t.counters
+
+  -- the kind of a number, if there is one and it may stand here
+  abbrev pub judged_at : List ℕ → List ℕ → Option Kind → Read Kind
+  judged_at bytes rest None = Err (fault_at I3 bytes)
+  judged_at bytes rest (Some k) = kept (is_allowed k) I5 bytes (k, rest)
+
+  unfoldable pub kind_at : List ℕ → Read Kind
+  kind_at bytes = do
+    n ← byte_at bytes
+    judged_at bytes n.1 (slice_get blank_kinds n.0)
+
+  abbrev pub task_no_at : List ℕ → Read ℕ
+  task_no_at bytes = byte_below_at (length t.tasks) bytes
+
+  abbrev pub resource_no_at : List ℕ → Read ℕ
+  resource_no_at bytes = byte_below_at (length t.resources) bytes
+
+  abbrev pub alarm_no_at : List ℕ → Read ℕ
+  alarm_no_at bytes = byte_below_at (length t.alarms) bytes
+
+  unfoldable pub due_at : List ℕ → Read ℕ
+  due_at bytes = do
+    a ← alarm_no_at bytes
+    kept (is_due a.0) I5 bytes a
+
+  -- the operands of a kind
+  unfoldable pub operands_at : Kind → List ℕ → Read Kind
+  operands_at (kind.Work _) bytes = do
+    n ← tested_at w16 (λ n. nat_lt 0 n) I3 bytes
+    Ok (kind.Work n.0, n.1)
+  operands_at (kind.Choice o) bytes = Ok (kind.Choice o, bytes)
+  operands_at kind.Loop bytes = Ok (kind.Loop, bytes)
+  operands_at (kind.ActivateTask _) bytes = do
+    x ← task_no_at bytes
+    Ok (kind.ActivateTask (task_no x.0), x.1)
+  operands_at kind.TerminateTask bytes = Ok (kind.TerminateTask, bytes)
+  operands_at (kind.ChainTask _) bytes = do
+    x ← task_no_at bytes
+    Ok (kind.ChainTask (task_no x.0), x.1)
+  operands_at kind.Schedule bytes = Ok (kind.Schedule, bytes)
+  operands_at (kind.GetResource _) bytes = do
+    r ← resource_no_at bytes
+    Ok (kind.GetResource (res_no r.0), r.1)
+  operands_at (kind.ReleaseResource _) bytes = do
+    r ← resource_no_at bytes
+    Ok (kind.ReleaseResource (res_no r.0), r.1)
+  operands_at (kind.SetEvent _ _) bytes = do
+    x ← task_no_at bytes
+    m ← events_at x.1
+    Ok (kind.SetEvent (task_no x.0) (mask m.0), m.1)
+  operands_at (kind.ClearEvent _) bytes = do
+    m ← events_at bytes
+    Ok (kind.ClearEvent (mask m.0), m.1)
+  operands_at (kind.GetEvent _) bytes = do
+    x ← task_no_at bytes
+    Ok (kind.GetEvent (task_no x.0), x.1)
+  operands_at (kind.WaitEvent _) bytes = do
+    m ← events_at bytes
+    Ok (kind.WaitEvent (mask m.0), m.1)
+  operands_at (kind.SetRelAlarm _ _ _) bytes = do
+    a ← alarm_no_at bytes
+    i ← number_at w64 a.1
+    c ← number_at w64 i.1
+    Ok (kind.SetRelAlarm (alarm_no a.0) i.0 c.0, c.1)
+  operands_at (kind.SetAbsAlarm _ _ _) bytes = do
+    a ← alarm_no_at bytes
+    s ← number_at w64 a.1
+    c ← number_at w64 s.1
+    Ok (kind.SetAbsAlarm (alarm_no a.0) s.0 c.0, c.1)
+  operands_at (kind.CancelAlarm _) bytes = do
+    a ← alarm_no_at bytes
+    Ok (kind.CancelAlarm (alarm_no a.0), a.1)
+  operands_at (kind.GetAlarm _) bytes = do
+    a ← alarm_no_at bytes
+    Ok (kind.GetAlarm (alarm_no a.0), a.1)
+  operands_at kind.GetTaskId bytes = Ok (kind.GetTaskId, bytes)
+  operands_at (kind.GetTaskState _) bytes = do
+    x ← task_no_at bytes
+    Ok (kind.GetTaskState (task_no x.0), x.1)
+  operands_at kind.GetActiveApplicationMode bytes = Ok (kind.GetActiveApplicationMode, bytes)
+  operands_at kind.ShutdownOs bytes = Ok (kind.ShutdownOs, bytes)
+  operands_at (kind.LockCall _) bytes = do
+    l ← lock_at bytes
+    Ok (kind.LockCall l.0, l.1)
+  operands_at kind.TaskEnd bytes = Ok (kind.TaskEnd, bytes)
+  operands_at kind.IsrEnd bytes = Ok (kind.IsrEnd, bytes)
+  operands_at kind.CountUp bytes = Ok (kind.CountUp, bytes)
+  operands_at (kind.Expire _) bytes = do
+    a ← due_at bytes
+    Ok (kind.Expire (alarm_no a.0), a.1)
+
+  abbrev pub way_at : List ℕ → Read ℕ
+  way_at bytes = tested_at w16 is_way I5 bytes
+
+  -- where the block leads: an end nowhere, which stands as its own number, and a choice to two blocks
+  unfoldable pub ways_at : Kind → List ℕ → Read (Kind × ℕ)
+  ways_at kind.TaskEnd bytes = Ok ((kind.TaskEnd, b), bytes)
+  ways_at kind.IsrEnd bytes = Ok ((kind.IsrEnd, b), bytes)
+  ways_at (kind.Choice _) bytes = do
+    next ← way_at bytes
+    other ← way_at next.1
+    Ok ((kind.Choice (block_no other.0), next.0), other.1)
+  ways_at k bytes = do
+    next ← way_at bytes
+    Ok ((k, next.0), next.1)
+
+  -- the form, where the block is a site
+  unfoldable pub site_at : Kind → List ℕ → Read (Option Site)
+  site_at k bytes = if is_site_in t.tasks b k then number_at w16 bytes >>= (λ n. formed_site bytes n.1 (form_of (length t.tasks) n.0)) else Ok (None, bytes)
+
+  unfoldable pub block_at : List ℕ → Read (Block × Option Site)
+  block_at bytes = do
+    blank ← kind_at bytes
+    locked ← flag_at blank.1
+    line ← number_at w32 locked.1
+    filled ← operands_at blank.0 line.1
+    ways ← ways_at filled.0 filled.1
+    site ← site_at ways.0.0 ways.1
+    Ok ((record { kind = ways.0.0; locked = locked.0; line = line.0; next = block_no ways.0.1 }, site.0), site.1)
+
+-- the blocks in order, with their sites
+abbrev pub blocks_at : Tables → ℕ → List ℕ → Read (List (Block × Option Site))
+blocks_at t count bytes = entries_at (λ earlier. block_at t (length earlier)) [] count bytes
+
+-- an image at the front of bytes
+unfoldable pub parts_at : List ℕ → Read Parts
+parts_at bytes = do
+  n ← header_at bytes
+  tables ← tables_at n.0 n.1
+  blocks ← blocks_at tables.0 n.0.blocks tables.1
+  Ok (record { hooks = n.0.hooks; tables = tables.0; blocks = map (λ (x : Block × Option Site). x.0) blocks.0; sites = map (λ (x : Block × Option Site). x.1) blocks.0 }, blocks.1)
+
+-- an image that is all of the bytes
+unfoldable pub all_at : List ℕ → Read Parts
+all_at bytes = do
+  p ← parts_at bytes
+  kept (length p.1 == 0) I6 p.1 p

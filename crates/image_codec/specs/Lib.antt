@@ -1,0 +1,12 @@
+pub mod BlockReading
+pub mod Fits
+pub mod ImageReading
+pub mod ImageStep
+pub mod ImageTrace
+pub mod Laws
+pub mod Reading
+pub mod Rules
+pub mod SiteKinds
+pub mod Sites
+pub mod Spelling
+pub mod TableReading

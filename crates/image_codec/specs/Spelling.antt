@@ -1,0 +1,180 @@
+-- The bytes of an image, format version 1: the fields in order, without gaps, numbers big-endian (this project's
+-- profile).
+use Rattle.std.specs.Prelude.{ℕ, ◌+◌, Bool, List, [], ◌∷◌, ◌++◌, length, Option, Some, None, if◌then◌else◌, codes}
+use Rattle.std.specs.List.{flat_map, zip}
+use Rattle.std.specs.Int.{to_be_bytes, w16, w32, w64}
+use Rattle.osek_values.specs.declared.numbers.BlockNo.{BlockNo}
+use Rattle.osek_standard.specs.declared.app.App.{App}
+use Rattle.osek_standard.specs.declared.objects.Task.{Task}
+use Rattle.osek_standard.specs.declared.objects.Isr.{Isr}
+use Rattle.osek_standard.specs.declared.objects.Counter.{Counter}
+use Rattle.osek_standard.specs.declared.objects.Alarm.{Alarm}
+use Rattle.osek_standard.specs.declared.objects.Resource.{Resource}
+use Rattle.osek_standard.specs.declared.objects.Schedule.{Schedule}
+use Rattle.osek_standard.specs.declared.objects.Schedule.TheVariants.{Non, Full}
+use Rattle.osek_standard.specs.declared.objects.Action.{Action}
+use Rattle.osek_standard.specs.declared.objects.Action.TheVariants as action
+use Rattle.osek_standard.specs.declared.block.Block.{Block}
+use Rattle.osek_standard.specs.declared.block.Lock.{Lock}
+use Rattle.osek_standard.specs.declared.block.Lock.TheVariants as lock
+use Rattle.osek_standard.specs.declared.block.Kind.{Kind}
+use Rattle.osek_standard.specs.declared.block.Kind.TheVariants as kind
+use Rattle.image_codec.specs.declared.site.Form.{Form}
+use Rattle.image_codec.specs.declared.site.Form.TheVariants as form
+use Rattle.image_codec.specs.declared.site.Site.{Site}
+use Rattle.image_codec.specs.declared.image.Image.{Image}
+
+abbrev pub one : ℕ → List ℕ
+one n = n ∷ []
+
+abbrev pub two : ℕ → List ℕ
+two n = to_be_bytes w16 n
+
+abbrev pub four : ℕ → List ℕ
+four n = to_be_bytes w32 n
+
+abbrev pub eight : ℕ → List ℕ
+eight n = to_be_bytes w64 n
+
+-- OSEKFIT and the version
+abbrev pub magic : List ℕ
+magic = codes "OSEKFIT" ++ one 1
+
+-- a length byte, and so many bytes
+abbrev pub name_bytes : List ℕ → List ℕ
+name_bytes name = one (length name) ++ name
+
+-- an owner's blocks: the first, and how many
+abbrev pub range_bytes : BlockNo → ℕ → List ℕ
+range_bytes first count = two first.0 ++ two count
+
+abbrev pub schedule_number : Schedule → ℕ
+schedule_number Non = 0
+schedule_number Full = 1
+
+abbrev pub task_bytes : Task → List ℕ
+task_bytes x =
+    name_bytes x.name ++ two x.priority ++ one (schedule_number x.schedule) ++ eight x.own.0 ++ one x.autostart
+    ++ range_bytes x.first x.count
+
+abbrev pub isr_bytes : Isr → List ℕ
+isr_bytes x = name_bytes x.name ++ range_bytes x.first x.count
+
+abbrev pub counter_bytes : Counter → List ℕ
+counter_bytes x = name_bytes x.name ++ four x.max ++ four x.min_cycle ++ range_bytes x.first x.count
+
+abbrev pub action_bytes : Action → List ℕ
+action_bytes (action.ActivateTask t) = one 0 ++ one t.0 ++ eight 0
+action_bytes (action.SetEvent t m) = one 1 ++ one t.0 ++ eight m.0
+
+abbrev pub alarm_bytes : Alarm → List ℕ
+alarm_bytes x =
+    name_bytes x.name ++ one x.counter.0 ++ action_bytes x.action ++ one x.autostart ++ four x.time ++ four x.cycle
+
+abbrev pub resource_bytes : Resource → List ℕ
+resource_bytes x = name_bytes x.name ++ four x.ceiling
+
+abbrev pub lock_number : Lock → ℕ
+lock_number lock.SuspendAll = 0
+lock_number lock.ResumeAll = 1
+lock_number lock.SuspendOs = 2
+lock_number lock.ResumeOs = 3
+lock_number lock.DisableAll = 4
+lock_number lock.EnableAll = 5
+
+abbrev pub kind_number : Kind → ℕ
+kind_number (kind.Work n) = 0
+kind_number (kind.Choice o) = 1
+kind_number kind.Loop = 2
+kind_number (kind.ActivateTask t) = 3
+kind_number kind.TerminateTask = 4
+kind_number (kind.ChainTask t) = 5
+kind_number kind.Schedule = 6
+kind_number (kind.GetResource r) = 7
+kind_number (kind.ReleaseResource r) = 8
+kind_number (kind.SetEvent t m) = 9
+kind_number (kind.ClearEvent m) = 10
+kind_number (kind.GetEvent t) = 11
+kind_number (kind.WaitEvent m) = 12
+kind_number (kind.SetRelAlarm a i c) = 13
+kind_number (kind.SetAbsAlarm a s c) = 14
+kind_number (kind.CancelAlarm a) = 15
+kind_number (kind.GetAlarm a) = 16
+kind_number kind.GetTaskId = 17
+kind_number (kind.GetTaskState t) = 18
+kind_number kind.GetActiveApplicationMode = 19
+kind_number kind.ShutdownOs = 20
+kind_number (kind.LockCall l) = 21
+kind_number kind.TaskEnd = 22
+kind_number kind.IsrEnd = 23
+kind_number kind.CountUp = 24
+kind_number (kind.Expire a) = 25
+
+abbrev pub operand_bytes : Kind → List ℕ
+operand_bytes (kind.Work n) = two n
+operand_bytes (kind.Choice o) = []
+operand_bytes kind.Loop = []
+operand_bytes (kind.ActivateTask t) = one t.0
+operand_bytes kind.TerminateTask = []
+operand_bytes (kind.ChainTask t) = one t.0
+operand_bytes kind.Schedule = []
+operand_bytes (kind.GetResource r) = one r.0
+operand_bytes (kind.ReleaseResource r) = one r.0
+operand_bytes (kind.SetEvent t m) = one t.0 ++ eight m.0
+operand_bytes (kind.ClearEvent m) = eight m.0
+operand_bytes (kind.GetEvent t) = one t.0
+operand_bytes (kind.WaitEvent m) = eight m.0
+operand_bytes (kind.SetRelAlarm a i c) = one a.0 ++ eight i ++ eight c
+operand_bytes (kind.SetAbsAlarm a s c) = one a.0 ++ eight s ++ eight c
+operand_bytes (kind.CancelAlarm a) = one a.0
+operand_bytes (kind.GetAlarm a) = one a.0
+operand_bytes kind.GetTaskId = []
+operand_bytes (kind.GetTaskState t) = one t.0
+operand_bytes kind.GetActiveApplicationMode = []
+operand_bytes kind.ShutdownOs = []
+operand_bytes (kind.LockCall l) = one (lock_number l)
+operand_bytes kind.TaskEnd = []
+operand_bytes kind.IsrEnd = []
+operand_bytes kind.CountUp = []
+operand_bytes (kind.Expire a) = one a.0
+
+-- an end has no next, and a choice has two
+abbrev pub way_bytes : Kind → BlockNo → List ℕ
+way_bytes kind.TaskEnd next = []
+way_bytes kind.IsrEnd next = []
+way_bytes (kind.Choice other) next = two next.0 ++ two other.0
+way_bytes _ next = two next.0
+
+-- a form's two bytes, as one number
+abbrev pub form_number : Form → ℕ
+form_number form.Never = 0x0000
+form_number form.Stay = 0x0100
+form_number (form.Direct (Some t)) = 0x0200 + t.0
+form_number (form.Direct None) = 0x02ff
+form_number form.General = 0x0300
+
+abbrev pub site_bytes : Option Site → List ℕ
+site_bytes None = []
+site_bytes (Some x) = two (form_number x.form)
+
+abbrev pub flag_number : Bool → ℕ
+flag_number b = if b then 1 else 0
+
+abbrev pub block_bytes : Block × Option Site → List ℕ
+block_bytes x =
+    one (kind_number x.0.kind) ++ one (flag_number x.0.locked) ++ four x.0.line ++ operand_bytes x.0.kind
+    ++ way_bytes x.0.kind x.0.next ++ site_bytes x.1
+
+-- the hooks, how many entries each table has, and how many blocks there are
+abbrev pub header_bytes : App → List ℕ
+header_bytes a =
+    one a.hooks.0 ++ one (length a.tasks) ++ one (length a.isrs) ++ one (length a.counters) ++ one (length a.alarms)
+    ++ one (length a.resources) ++ one (length a.modes) ++ two (length a.blocks)
+
+-- The one spelling of an image.
+unfoldable pub spelling : Image → List ℕ
+spelling i =
+    magic ++ header_bytes i.app ++ flat_map task_bytes i.app.tasks ++ flat_map isr_bytes i.app.isrs
+    ++ flat_map counter_bytes i.app.counters ++ flat_map alarm_bytes i.app.alarms
+    ++ flat_map resource_bytes i.app.resources ++ flat_map name_bytes i.app.modes
+    ++ flat_map block_bytes (zip i.app.blocks i.sites)

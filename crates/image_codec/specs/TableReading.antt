@@ -1,0 +1,122 @@
+-- Reading the header and the tables of an image.
+use Rattle.std.specs.Prelude.{ℕ, ◌≤◌, Bool, not, ◌&&◌, nat_lt, nat_le, nat_eq, ◌==◌, List, [], map, Ok, slice_index_or, if◌then◌else◌}
+use Rattle.std.specs.Int.{w16, w32, w64}
+use Rattle.std.specs.List.{list_any}
+use Rattle.osek_values.specs.Hooks.{hook_set}
+use Rattle.osek_values.specs.Numbers.{task_no, counter_no, mask}
+use Rattle.osek_standard.specs.declared.objects.Task.{Task}
+use Rattle.osek_standard.specs.declared.objects.Isr.{Isr}
+use Rattle.osek_standard.specs.declared.objects.Counter.{Counter}
+use Rattle.osek_standard.specs.declared.objects.Alarm.{Alarm}
+use Rattle.osek_standard.specs.declared.objects.Resource.{Resource}
+use Rattle.osek_standard.specs.declared.objects.Schedule.{Schedule}
+use Rattle.osek_standard.specs.declared.objects.Schedule.TheVariants.{Non, Full}
+use Rattle.osek_standard.specs.declared.objects.Action.{Action}
+use Rattle.osek_standard.specs.declared.objects.Action.TheVariants as action
+use Rattle.osek_standard.specs.Validity.{no_counter, is_cycle_of, owners}
+use Rattle.image_codec.specs.declared.fault.ImageRule.TheVariants.{I2, I3, I5}
+use Rattle.image_codec.specs.declared.parts.Header.{Header}
+use Rattle.image_codec.specs.declared.parts.Tables.{Tables}
+use Rattle.image_codec.specs.Spelling.{magic}
+use Rattle.image_codec.specs.Reading.{Read, ◌>>=◌, number_at, tested_byte_at, tested_at, byte_below_at, exactly_at, name_at, modes_at, range_at, entries_at}
+
+-- the numbers of entries are within their limits
+pub record HasFew (n : Header) : Type 0 where
+  pub tasks : n.tasks ≤ 16
+  pub alarms : n.alarms ≤ 16
+  pub resources : n.resources ≤ 8
+  pub modes : n.modes ≤ 8
+
+unfoldable pub header_at : List ℕ → Read Header
+header_at bytes = do
+  start ← exactly_at magic I2 bytes
+  hooks ← byte_below_at 32 start.1
+  tasks ← byte_below_at 17 hooks.1
+  isrs ← byte_below_at 9 tasks.1
+  counters ← byte_below_at 9 isrs.1
+  alarms ← byte_below_at 17 counters.1
+  resources ← byte_below_at 9 alarms.1
+  modes ← tested_byte_at (λ n. nat_lt 0 n && nat_le n 8) I3 resources.1
+  blocks ← tested_at w16 (λ n. nat_le n 1056) I3 modes.1
+  Ok (record { hooks = hook_set hooks.0; tasks = tasks.0; isrs = isrs.0; counters = counters.0; alarms = alarms.0; resources = resources.0; modes = modes.0; blocks = blocks.0 }, blocks.1)
+
+abbrev pub schedule_of : ℕ → Schedule
+schedule_of n = if n == 0 then Non else Full
+
+unfoldable pub schedule_at : List ℕ → Read Schedule
+schedule_at bytes = do
+  n ← byte_below_at 2 bytes
+  Ok (schedule_of n.0, n.1)
+
+-- a task, with a priority of its own
+unfoldable pub task_at : Header → List Task → List ℕ → Read Task
+task_at n earlier bytes = do
+  name ← name_at (map (λ (x : Task). x.name) earlier) bytes
+  priority ← tested_at w16 (λ p. not (list_any (λ (x : Task). nat_eq x.priority p) earlier)) I5 name.1
+  schedule ← schedule_at priority.1
+  own ← number_at w64 schedule.1
+  autostart ← modes_at n.modes own.1
+  code ← range_at n.blocks (owners earlier [] []) autostart.1
+  Ok (record { name = name.0; priority = priority.0; schedule = schedule.0; own = mask own.0; autostart = autostart.0; first = code.0.first; count = code.0.count }, code.1)
+
+unfoldable pub isr_at : Header → List Task → List Isr → List ℕ → Read Isr
+isr_at n tasks earlier bytes = do
+  name ← name_at (map (λ (x : Isr). x.name) earlier) bytes
+  code ← range_at n.blocks (owners tasks earlier []) name.1
+  Ok (record { name = name.0; first = code.0.first; count = code.0.count }, code.1)
+
+unfoldable pub counter_at : Header → List Task → List Isr → List Counter → List ℕ → Read Counter
+counter_at n tasks isrs earlier bytes = do
+  name ← name_at (map (λ (x : Counter). x.name) earlier) bytes
+  max ← tested_at w32 (λ m. nat_lt 0 m) I3 name.1
+  min_cycle ← tested_at w32 (λ m. nat_le m max.0) I3 max.1
+  code ← range_at n.blocks (owners tasks isrs earlier) min_cycle.1
+  Ok (record { name = name.0; max = max.0; min_cycle = min_cycle.0; first = code.0.first; count = code.0.count }, code.1)
+
+-- an alarm that activates has no events, and one that sets events has some
+abbrev pub is_action_mask : ℕ → ℕ → Bool
+is_action_mask act m = if act == 0 then m == 0 else nat_lt 0 m
+
+abbrev pub action_of : ℕ → ℕ → ℕ → Action
+action_of act t m = if act == 0 then action.ActivateTask (task_no t) else action.SetEvent (task_no t) (mask m)
+
+unfoldable pub action_at : Header → List ℕ → Read Action
+action_at n bytes = do
+  act ← byte_below_at 2 bytes
+  task ← byte_below_at n.tasks act.1
+  events ← tested_at w64 (λ m. is_action_mask act.0 m) I3 task.1
+  Ok (action_of act.0 task.0 events.0, events.1)
+
+-- the time of an alarm that is autostarted in these modes, and its cycle; both are 0 where there are no modes
+abbrev pub is_start_time : Counter → ℕ → ℕ → Bool
+is_start_time c autostart time = if autostart == 0 then time == 0 else nat_le time c.max
+
+abbrev pub is_start_cycle : Counter → ℕ → ℕ → Bool
+is_start_cycle c autostart cycle = if autostart == 0 then cycle == 0 else is_cycle_of c cycle
+
+unfoldable pub alarm_at : Header → List Counter → List Alarm → List ℕ → Read Alarm
+alarm_at n counters earlier bytes = do
+  name ← name_at (map (λ (x : Alarm). x.name) earlier) bytes
+  counter ← byte_below_at n.counters name.1
+  act ← action_at n counter.1
+  autostart ← modes_at n.modes act.1
+  time ← tested_at w32 (λ t. is_start_time (slice_index_or counters counter.0 no_counter) autostart.0 t) I3 autostart.1
+  cycle ← tested_at w32 (λ c. is_start_cycle (slice_index_or counters counter.0 no_counter) autostart.0 c) I3 time.1
+  Ok (record { name = name.0; counter = counter_no counter.0; action = act.0; autostart = autostart.0; time = time.0; cycle = cycle.0 }, cycle.1)
+
+unfoldable pub resource_at : List Resource → List ℕ → Read Resource
+resource_at earlier bytes = do
+  name ← name_at (map (λ (x : Resource). x.name) earlier) bytes
+  ceiling ← tested_at w32 (λ c. nat_le c 131071) I3 name.1
+  Ok (record { name = name.0; ceiling = ceiling.0 }, ceiling.1)
+
+-- the tables in order
+unfoldable pub tables_at : Header → List ℕ → Read Tables
+tables_at n bytes = do
+  tasks ← entries_at (task_at n) [] n.tasks bytes
+  isrs ← entries_at (isr_at n tasks.0) [] n.isrs tasks.1
+  counters ← entries_at (counter_at n tasks.0 isrs.0) [] n.counters isrs.1
+  alarms ← entries_at (alarm_at n counters.0) [] n.alarms counters.1
+  resources ← entries_at resource_at [] n.resources alarms.1
+  modes ← entries_at name_at [] n.modes resources.1
+  Ok (record { tasks = tasks.0; isrs = isrs.0; counters = counters.0; alarms = alarms.0; resources = resources.0; modes = modes.0 }, modes.1)

@@ -1,0 +1,332 @@
+//! The bytes of an image.
+ghost use Rattle.std.specs.Prelude.{◌≡◌, ◌++◌, ◌<◌, length, OnOk, IfOk};
+ghost use Rattle.std.specs.List.{flat_map, zip};
+ghost use Rattle.image_codec.specs.Spelling.{one, eight, spelling, header_bytes, name_bytes, range_bytes, schedule_number as number_of_schedule, task_bytes, isr_bytes, counter_bytes, action_bytes, alarm_bytes, resource_bytes, lock_number as number_of_lock, kind_number as number_of_kind, operand_bytes, way_bytes, form_number as number_of_form, site_bytes, block_bytes};
+
+use crate::image::Image;
+use crate::site::{Form, Site};
+use osek_standard::{
+    Action, Alarm, App, Block, Counter, Isr, Kind, Lock, Resource, Schedule, Task,
+};
+use osek_values::{AlarmNo, BlockNo, Memory, Name};
+use std::alloc::{AllocError, Global};
+
+/// OSEKFIT and the version.
+pub(crate) const MAGIC: [u8; 8] = *b"OSEKFIT\x01";
+
+fn put_name(out: &mut Vec<u8>, name: &Name) -> Result<(), AllocError>
+    ensures { OnOk result (out.new.items ≡ out.old.items ++ name_bytes name.now) }
+{
+    let bytes = name.as_bytes();
+    out.push(bytes.len() as u8)?;
+    out.extend_from_slice(bytes)
+}
+
+fn put_range(out: &mut Vec<u8>, first: BlockNo, count: u16) -> Result<(), AllocError>
+    ensures { OnOk result (out.new.items ≡ out.old.items ++ range_bytes first count) }
+{
+    out.extend_from_slice(&first.0.to_be_bytes())?;
+    out.extend_from_slice(&count.to_be_bytes())
+}
+
+fn schedule_number(schedule: Schedule) -> u8
+    ensures { result ≡ number_of_schedule schedule }
+{
+    match schedule {
+        Schedule::Non => 0,
+        Schedule::Full => 1,
+    }
+}
+
+fn put_task(out: &mut Vec<u8>, task: &Task) -> Result<(), AllocError>
+    ensures { OnOk result (out.new.items ≡ out.old.items ++ task_bytes task.now) }
+{
+    put_name(out, &task.name)?;
+    out.extend_from_slice(&task.priority.to_be_bytes())?;
+    out.push(schedule_number(task.schedule))?;
+    out.extend_from_slice(&task.own.0.to_be_bytes())?;
+    out.push(task.autostart)?;
+    put_range(out, task.first, task.count)
+}
+
+fn put_isr(out: &mut Vec<u8>, isr: &Isr) -> Result<(), AllocError>
+    ensures { OnOk result (out.new.items ≡ out.old.items ++ isr_bytes isr.now) }
+{
+    put_name(out, &isr.name)?;
+    put_range(out, isr.first, isr.count)
+}
+
+fn put_counter(out: &mut Vec<u8>, counter: &Counter) -> Result<(), AllocError>
+    ensures { OnOk result (out.new.items ≡ out.old.items ++ counter_bytes counter.now) }
+{
+    put_name(out, &counter.name)?;
+    out.extend_from_slice(&counter.max.to_be_bytes())?;
+    out.extend_from_slice(&counter.min_cycle.to_be_bytes())?;
+    put_range(out, counter.first, counter.count)
+}
+
+fn put_action(out: &mut Vec<u8>, action: Action) -> Result<(), AllocError>
+    ensures { OnOk result (out.new.items ≡ out.old.items ++ action_bytes action) }
+{
+    match action {
+        Action::ActivateTask(task) => {
+            out.push(0)?;
+            out.push(task.0)?;
+            out.extend_from_slice(&0u64.to_be_bytes())
+        }
+        Action::SetEvent(task, events) => {
+            out.push(1)?;
+            out.push(task.0)?;
+            out.extend_from_slice(&events.0.to_be_bytes())
+        }
+    }
+}
+
+fn put_alarm(out: &mut Vec<u8>, alarm: &Alarm) -> Result<(), AllocError>
+    ensures { OnOk result (out.new.items ≡ out.old.items ++ alarm_bytes alarm.now) }
+{
+    put_name(out, &alarm.name)?;
+    out.push(alarm.counter.0)?;
+    put_action(out, alarm.action)?;
+    out.push(alarm.autostart)?;
+    out.extend_from_slice(&alarm.time.to_be_bytes())?;
+    out.extend_from_slice(&alarm.cycle.to_be_bytes())
+}
+
+fn put_resource(out: &mut Vec<u8>, resource: &Resource) -> Result<(), AllocError>
+    ensures { OnOk result (out.new.items ≡ out.old.items ++ resource_bytes resource.now) }
+{
+    put_name(out, &resource.name)?;
+    out.extend_from_slice(&resource.ceiling.to_be_bytes())
+}
+
+fn lock_number(lock: Lock) -> u8
+    ensures { result ≡ number_of_lock lock }
+{
+    match lock {
+        Lock::SuspendAll => 0,
+        Lock::ResumeAll => 1,
+        Lock::SuspendOs => 2,
+        Lock::ResumeOs => 3,
+        Lock::DisableAll => 4,
+        Lock::EnableAll => 5,
+    }
+}
+
+fn kind_number(kind: Kind) -> u8
+    ensures { result ≡ number_of_kind kind }
+{
+    match kind {
+        Kind::Work(_) => 0,
+        Kind::Choice(_) => 1,
+        Kind::Loop => 2,
+        Kind::ActivateTask(_) => 3,
+        Kind::TerminateTask => 4,
+        Kind::ChainTask(_) => 5,
+        Kind::Schedule => 6,
+        Kind::GetResource(_) => 7,
+        Kind::ReleaseResource(_) => 8,
+        Kind::SetEvent(_, _) => 9,
+        Kind::ClearEvent(_) => 10,
+        Kind::GetEvent(_) => 11,
+        Kind::WaitEvent(_) => 12,
+        Kind::SetRelAlarm(_, _, _) => 13,
+        Kind::SetAbsAlarm(_, _, _) => 14,
+        Kind::CancelAlarm(_) => 15,
+        Kind::GetAlarm(_) => 16,
+        Kind::GetTaskId => 17,
+        Kind::GetTaskState(_) => 18,
+        Kind::GetActiveApplicationMode => 19,
+        Kind::ShutdownOs => 20,
+        Kind::LockCall(_) => 21,
+        Kind::TaskEnd => 22,
+        Kind::IsrEnd => 23,
+        Kind::CountUp => 24,
+        Kind::Expire(_) => 25,
+    }
+}
+
+fn put_ticks(out: &mut Vec<u8>, alarm: AlarmNo, ticks: u64, cycle: u64) -> Result<(), AllocError>
+    ensures { OnOk result (out.new.items ≡ out.old.items ++ one alarm.0 ++ eight ticks ++ eight cycle) }
+{
+    out.push(alarm.0)?;
+    out.extend_from_slice(&ticks.to_be_bytes())?;
+    out.extend_from_slice(&cycle.to_be_bytes())
+}
+
+fn put_operands(out: &mut Vec<u8>, kind: Kind) -> Result<(), AllocError>
+    ensures { OnOk result (out.new.items ≡ out.old.items ++ operand_bytes kind) }
+{
+    match kind {
+        Kind::Work(count) => out.extend_from_slice(&count.to_be_bytes()),
+        Kind::ActivateTask(task)
+        | Kind::ChainTask(task)
+        | Kind::GetEvent(task)
+        | Kind::GetTaskState(task) => Ok(out.push(task.0)?),
+        Kind::GetResource(resource) | Kind::ReleaseResource(resource) => Ok(out.push(resource.0)?),
+        Kind::SetEvent(task, events) => {
+            out.push(task.0)?;
+            out.extend_from_slice(&events.0.to_be_bytes())
+        }
+        Kind::ClearEvent(events) | Kind::WaitEvent(events) => {
+            out.extend_from_slice(&events.0.to_be_bytes())
+        }
+        Kind::SetRelAlarm(alarm, increment, cycle) => put_ticks(out, alarm, increment, cycle),
+        Kind::SetAbsAlarm(alarm, start, cycle) => put_ticks(out, alarm, start, cycle),
+        Kind::CancelAlarm(alarm) | Kind::GetAlarm(alarm) | Kind::Expire(alarm) => {
+            Ok(out.push(alarm.0)?)
+        }
+        Kind::LockCall(lock) => Ok(out.push(lock_number(lock))?),
+        Kind::Choice(_)
+        | Kind::Loop
+        | Kind::TerminateTask
+        | Kind::Schedule
+        | Kind::GetTaskId
+        | Kind::GetActiveApplicationMode
+        | Kind::ShutdownOs
+        | Kind::TaskEnd
+        | Kind::IsrEnd
+        | Kind::CountUp => Ok(()),
+    }
+}
+
+fn put_ways(out: &mut Vec<u8>, kind: Kind, next: BlockNo) -> Result<(), AllocError>
+    ensures { OnOk result (out.new.items ≡ out.old.items ++ way_bytes kind next) }
+{
+    match kind {
+        Kind::TaskEnd | Kind::IsrEnd => Ok(()),
+        Kind::Choice(other) => {
+            out.extend_from_slice(&next.0.to_be_bytes())?;
+            out.extend_from_slice(&other.0.to_be_bytes())
+        }
+        _ => out.extend_from_slice(&next.0.to_be_bytes()),
+    }
+}
+
+fn form_number(form: Form) -> u16
+    ensures { result ≡ number_of_form form }
+{
+    match form {
+        Form::Never => 0x0000,
+        Form::Stay => 0x0100,
+        Form::Direct(Some(task)) => 0x0200 + task.0 as u16,
+        Form::Direct(None) => 0x02ff,
+        Form::General => 0x0300,
+    }
+}
+
+fn put_site(out: &mut Vec<u8>, site: Option<Site>) -> Result<(), AllocError>
+    ensures { OnOk result (out.new.items ≡ out.old.items ++ site_bytes site) }
+{
+    match site {
+        None => Ok(()),
+        Some(site) => out.extend_from_slice(&form_number(site.form).to_be_bytes()),
+    }
+}
+
+fn put_block(out: &mut Vec<u8>, block: &Block, site: Option<Site>) -> Result<(), AllocError>
+    ensures { OnOk result (out.new.items ≡ out.old.items ++ block_bytes (block.now, site)) }
+{
+    out.push(kind_number(block.kind))?;
+    out.push(block.locked as u8)?;
+    out.extend_from_slice(&block.line.to_be_bytes())?;
+    put_operands(out, block.kind)?;
+    put_ways(out, block.kind, block.next)?;
+    put_site(out, site)
+}
+
+fn put_tasks(out: &mut Vec<u8>, tasks: &[Task]) -> Result<(), AllocError>
+    ensures { OnOk result (out.new.items ≡ out.old.items ++ flat_map task_bytes tasks.now) }
+{
+    for task in tasks {
+        put_task(out, task)?;
+    }
+    Ok(())
+}
+
+fn put_isrs(out: &mut Vec<u8>, isrs: &[Isr]) -> Result<(), AllocError>
+    ensures { OnOk result (out.new.items ≡ out.old.items ++ flat_map isr_bytes isrs.now) }
+{
+    for isr in isrs {
+        put_isr(out, isr)?;
+    }
+    Ok(())
+}
+
+fn put_counters(out: &mut Vec<u8>, counters: &[Counter]) -> Result<(), AllocError>
+    ensures { OnOk result (out.new.items ≡ out.old.items ++ flat_map counter_bytes counters.now) }
+{
+    for counter in counters {
+        put_counter(out, counter)?;
+    }
+    Ok(())
+}
+
+fn put_alarms(out: &mut Vec<u8>, alarms: &[Alarm]) -> Result<(), AllocError>
+    ensures { OnOk result (out.new.items ≡ out.old.items ++ flat_map alarm_bytes alarms.now) }
+{
+    for alarm in alarms {
+        put_alarm(out, alarm)?;
+    }
+    Ok(())
+}
+
+fn put_resources(out: &mut Vec<u8>, resources: &[Resource]) -> Result<(), AllocError>
+    ensures { OnOk result (out.new.items ≡ out.old.items ++ flat_map resource_bytes resources.now) }
+{
+    for resource in resources {
+        put_resource(out, resource)?;
+    }
+    Ok(())
+}
+
+fn put_modes(out: &mut Vec<u8>, modes: &[Name]) -> Result<(), AllocError>
+    ensures { OnOk result (out.new.items ≡ out.old.items ++ flat_map name_bytes modes.now) }
+{
+    for mode in modes {
+        put_name(out, mode)?;
+    }
+    Ok(())
+}
+
+fn put_blocks(out: &mut Vec<u8>, blocks: &[Block], sites: &[Option<Site>]) -> Result<(), AllocError>
+    requires { length sites.now ≡ length blocks.now }
+    ensures { OnOk result (out.new.items ≡ out.old.items ++ flat_map block_bytes (zip blocks.now sites.now)) }
+{
+    for at in 0..blocks.len() {
+        put_block(out, &blocks[at], sites[at])?;
+    }
+    Ok(())
+}
+
+fn put_header(out: &mut Vec<u8>, app: &App) -> Result<(), AllocError>
+    ensures { OnOk result (out.new.items ≡ out.old.items ++ header_bytes app.now) }
+{
+    out.push(app.hooks.0)?;
+    out.push(app.tasks.len() as u8)?;
+    out.push(app.isrs.len() as u8)?;
+    out.push(app.counters.len() as u8)?;
+    out.push(app.alarms.len() as u8)?;
+    out.push(app.resources.len() as u8)?;
+    out.push(app.modes.len() as u8)?;
+    out.extend_from_slice(&(app.blocks.len() as u16).to_be_bytes())
+}
+
+/// The one spelling of an image.
+#[tactic(auto, unfolding(crate::specs::Spelling::spelling))]
+pub fn encode(alloc: Global, image: &Image) -> Result<Vec<u8>, Memory>
+    ensures { IfOk result (λ v. v.items ≡ spelling image.now) }
+{
+    let app = &image.app;
+    let mut out = Vec::new(alloc);
+    out.extend_from_slice(&MAGIC)?;
+    put_header(&mut out, app)?;
+    put_tasks(&mut out, app.tasks.as_slice())?;
+    put_isrs(&mut out, app.isrs.as_slice())?;
+    put_counters(&mut out, app.counters.as_slice())?;
+    put_alarms(&mut out, app.alarms.as_slice())?;
+    put_resources(&mut out, app.resources.as_slice())?;
+    put_modes(&mut out, app.modes.as_slice())?;
+    put_blocks(&mut out, app.blocks.as_slice(), image.sites.as_slice())?;
+    Ok(out)
+}

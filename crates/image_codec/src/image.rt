@@ -1,0 +1,15 @@
+//! Images.
+ghost use Rattle.image_codec.specs.Sites.{AreSites, AreSites-prop};
+
+use crate::site::Site;
+use osek_standard::App;
+use osek_values::Seq;
+
+/// An application and the forms of its sites. There are as many sites as blocks: one for each block that is a site,
+/// and `None` for each other.
+#[derive(Debug, Drop)]
+pub struct Image {
+    pub app: App,
+    pub sites: Seq<Option<Site>>,
+    pub ghost valid: { AreSites app sites } by { AreSites-prop app sites },
+}
