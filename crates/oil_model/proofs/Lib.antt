@@ -1,0 +1,14 @@
+pub mod Leasts
+pub mod Repeats
+pub mod NameSets
+pub mod FreeBits
+pub mod Least
+pub mod Clean
+pub mod Facts
+pub mod WithinLimits
+pub mod Distinct
+pub mod Referring
+pub mod OneAnswer
+pub mod Bits
+pub mod Numbers
+pub mod Linking

@@ -1,0 +1,12 @@
+pub mod Lines
+pub mod Table
+pub mod Lists
+pub mod LookUp
+pub mod Objects
+pub mod NameSets
+pub mod References
+pub mod Systems
+pub mod Rules
+pub mod Faults
+pub mod Answers
+pub mod Linkable

@@ -1,0 +1,63 @@
+-- What linking needs of a system, and resolving gives: all that an application keeps, but for what comes with code.
+use Rattle.std.specs.Prelude.{◌≡◌, ℕ, ◌^◌, ◌<◌, ◌≤◌, ◌++◌, Bool, ◌==◌, nat_le, nat_eq, ◌||◌, ◌&&◌, IsTrue, List, length, map, slice_index_or, All, [], false}
+use Rattle.std.specs.List.{IsDistinct, list_any}
+use Rattle.std.specs.Str.{bytes_eq}
+use Rattle.osek_standard.specs.declared.objects.Action.{Action}
+use Rattle.osek_standard.specs.declared.objects.Action.TheVariants.{ActivateTask, SetEvent}
+use Rattle.osek_standard.specs.declared.objects.Alarm.{Alarm}
+use Rattle.osek_standard.specs.declared.objects.Resource.{Resource}
+use Rattle.osek_standard.specs.Validity.{AreNames}
+use Rattle.app_model.specs.declared.system.TaskObject.{TaskObject}
+use Rattle.app_model.specs.declared.system.CounterObject.{CounterObject}
+use Rattle.app_model.specs.declared.system.EventObject.{EventObject}
+use Rattle.app_model.specs.declared.system.System.{System}
+
+-- past the end of the table stands a counter that declares nothing
+abbrev pub no_counter_object : CounterObject
+no_counter_object = record { name = []; max = 1; ticks_per_base = 1; min_cycle = 1 }
+
+-- a cycle is 0, for a single alarm, or from MINCYCLE to MAXALLOWEDVALUE
+abbrev pub is_cycle_of_object : CounterObject → ℕ → Bool
+is_cycle_of_object c cycle = (cycle == 0) || (nat_le c.min_cycle cycle && nat_le cycle c.max)
+
+-- an action names one of so many tasks, and some event
+abbrev pub IsActionAmong : ℕ → Action → Type 0
+IsActionAmong tasks (ActivateTask t) = t.0 < tasks
+IsActionAmong tasks (SetEvent t m) = (t.0 < tasks) × (0 < m.0)
+
+pub record IsAlarmAmong (tasks : ℕ) (counters : List CounterObject) (x : Alarm) : Type 0 where
+  pub counter : x.counter.0 < length counters
+  pub action : IsActionAmong tasks x.action
+  pub time : x.time ≤ (slice_index_or counters x.counter.0 no_counter_object).max
+  pub cycle : IsTrue (is_cycle_of_object (slice_index_or counters x.counter.0 no_counter_object) x.cycle)
+
+pub record IsLinkable (s : System) : Type 0 where
+  pub known_hooks : s.hooks.0 < 32
+  pub few_tasks : length s.tasks ≤ 16
+  pub few_isrs : length s.isrs ≤ 8
+  pub few_counters : length s.counters ≤ 8
+  pub few_alarms : length s.alarms ≤ 16
+  pub few_resources : length s.resources ≤ 8
+  pub few_modes : length s.modes ≤ 8
+  pub few_events : length s.events ≤ 32
+  pub some_mode : 0 < length s.modes
+  -- names
+  pub task_names : AreNames (map (λ (x : TaskObject). x.name) s.tasks)
+  pub isr_names : AreNames s.isrs
+  pub counter_names : AreNames (map (λ (x : CounterObject). x.name) s.counters)
+  pub alarm_names : AreNames (map (λ (x : Alarm). x.name) s.alarms)
+  pub resource_names : AreNames (map (λ (x : Resource). x.name) s.resources)
+  pub mode_names : AreNames s.modes
+  pub event_names : AreNames (map (λ (x : EventObject). x.name) s.events)
+  -- a name of a category 1 ISR is no other ISR's
+  pub category_1_names : AreNames s.category_1_isrs
+  pub isrs_apart : All (λ (n : List ℕ). list_any (bytes_eq n) s.category_1_isrs ≡ false) s.isrs
+  -- the entries of the tables
+  pub priorities : IsDistinct nat_eq (map (λ (x : TaskObject). x.priority) s.tasks)
+  pub task_starts : All (λ (x : TaskObject). x.autostart < 2 ^ length s.modes) s.tasks
+  pub each_counter : All (λ (x : CounterObject). (1 ≤ x.max) × (x.min_cycle ≤ x.max)) s.counters
+  pub each_alarm : All (IsAlarmAmong (length s.tasks) s.counters) s.alarms
+  pub alarm_starts : All (λ (x : Alarm). x.autostart < 2 ^ length s.modes) s.alarms
+  pub no_starts : All (λ (x : Alarm). x.autostart ≡ 0 → (x.time ≡ 0) × (x.cycle ≡ 0)) s.alarms
+  pub ceilings : All (λ (x : Resource). x.ceiling ≤ 131071) s.resources
+  pub each_event : All (λ (x : EventObject). 0 < x.mask.0) s.events

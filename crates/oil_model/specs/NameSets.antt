@@ -1,0 +1,19 @@
+-- Sets of names.
+use Rattle.std.specs.Prelude.{◌≡◌, ℕ, Bool, List}
+use Rattle.std.specs.Borrow.{Bor}
+use Rattle.std.specs.List.{list_any}
+use Rattle.std.specs.Str.{bytes_eq}
+use Rattle.oil_tree.specs.declared.tree.Object.{Object}
+use Rattle.oil_model.specs.declared.name_set.NameSet.{NameSet}
+use Rattle.oil_model.specs.Objects.{declares}
+
+abbrev pub is_key : List ℕ → Bor (List ℕ) → Bool
+is_key n key = bytes_eq n key.now
+
+-- whether the set has the name
+abbrev pub has_name : NameSet → List ℕ → Bool
+has_name set n = list_any (is_key n) set.names.keys
+
+-- the set has just the names of the objects of a kind
+abbrev pub KnowsNames : NameSet → List ℕ → List Object → Type 0
+KnowsNames set kind objects = (n : List ℕ) → has_name set n ≡ declares kind n objects

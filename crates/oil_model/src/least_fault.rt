@@ -1,0 +1,82 @@
+//! The least pair of a rule that is violated and a line.
+ghost use Rattle.std.specs.Prelude.{◌≡◌, ◌<◌, ◌≤◌, IfOk};
+ghost use Rattle.oil_model.specs.Lines.{least};
+ghost use Rattle.oil_model.specs.Rules.{lines};
+ghost use Rattle.oil_model.specs.Faults.{order, IsLeastOrNone};
+
+use crate::attribute_rules::{
+    dangling_reference, doubled_attribute, missing_attribute, wrong_value,
+};
+use crate::fault::ModelFault;
+use crate::limits::beyond_limit;
+use crate::masks::empty_mask;
+use crate::object_rules::{
+    callback, faulty_isr, os_fault, repeated_name, several_activations, shared_priority,
+    special_resource, unknown_kind,
+};
+use crate::times::late_time;
+use oil_tree::Tree;
+use osek_values::{Memory, OilRule};
+use std::alloc::Global;
+
+// The least line on which a rule is violated.
+fn least_line(alloc: Global, rule: OilRule, tree: &Tree) -> Result<Option<u32>, Memory>
+    ensures { IfOk result (λ line. line ≡ least (lines rule tree.now)) }
+{
+    let objects = tree.objects.as_slice();
+    match rule {
+        OilRule::O1 => Ok(unknown_kind(objects)),
+        OilRule::O2 => repeated_name(alloc, objects),
+        OilRule::O3 => Ok(os_fault(tree.line, objects)),
+        OilRule::O4 => Ok(missing_attribute(objects)),
+        OilRule::O5 => Ok(doubled_attribute(objects)),
+        OilRule::O6 => Ok(wrong_value(objects)),
+        OilRule::O7 => dangling_reference(alloc, objects),
+        OilRule::O8 => shared_priority(alloc, objects),
+        OilRule::O9 => Ok(several_activations(objects)),
+        OilRule::O10 => Ok(special_resource(objects)),
+        OilRule::O11 => Ok(callback(objects)),
+        OilRule::O12 => Ok(empty_mask(objects)),
+        OilRule::O13 => Ok(beyond_limit(objects)),
+        OilRule::O14 => Ok(late_time(objects)),
+        OilRule::O15 => Ok(faulty_isr(objects)),
+    }
+}
+
+fn rule_at(number: u32) -> OilRule
+    requires first { 1 ≤ number }
+    requires last { number < 16 }
+    ensures { order result ≡ number }
+{
+    match number {
+        1 => OilRule::O1,
+        2 => OilRule::O2,
+        3 => OilRule::O3,
+        4 => OilRule::O4,
+        5 => OilRule::O5,
+        6 => OilRule::O6,
+        7 => OilRule::O7,
+        8 => OilRule::O8,
+        9 => OilRule::O9,
+        10 => OilRule::O10,
+        11 => OilRule::O11,
+        12 => OilRule::O12,
+        13 => OilRule::O13,
+        14 => OilRule::O14,
+        _ => OilRule::O15,
+    }
+}
+
+/// The least fault of a tree, if it has one. A rule is judged only where no lesser rule is violated.
+pub fn least_fault(alloc: Global, tree: &Tree) -> Result<Option<ModelFault>, Memory>
+    ensures { IfOk result (λ fault. IsLeastOrNone fault tree.now) }
+{
+    for number in 1..16u32 {
+        let rule = rule_at(number);
+        let least = least_line(alloc, rule, tree)?;
+        if let Some(line) = least {
+            return Ok(Some(ModelFault { rule, line }));
+        }
+    }
+    Ok(None)
+}

@@ -1,0 +1,275 @@
+//! The table of attributes: which stand where, and with which values (this project's profile of ISO 17356-6).
+ghost use Rattle.std.specs.Prelude.{◌≡◌, Some, None, if◌then◌else◌};
+ghost use Rattle.std.specs.Str.{bytes_eq};
+ghost use Rattle.oil_tree.specs.declared.tree.Value.TheVariants.{Word};
+ghost use Rattle.oil_model.specs.declared.table.Scope.TheVariants as scopes;
+ghost use Rattle.oil_model.specs.declared.table.Presence.TheVariants.{Required, Optional, Many};
+ghost use Rattle.oil_model.specs.Table.{scope_of, entry_of, inner_scope};
+
+use crate::domain::Domain;
+use oil_tree::Value;
+
+/// What a list of attributes describes: an object of a kind, or what an attribute says more of.
+#[derive(Clone, Copy, Debug, PartialEq, Eq)]
+pub enum Scope {
+    Os,
+    AppMode,
+    Task,
+    Isr,
+    Counter,
+    Alarm,
+    Event,
+    Resource,
+    /// AUTOSTART = TRUE of a task.
+    TaskStart,
+    /// AUTOSTART = TRUE of an alarm.
+    AlarmStart,
+    /// ACTION = ACTIVATETASK.
+    Activation,
+    /// ACTION = SETEVENT.
+    EventSetting,
+}
+
+/// How often an attribute may stand in a list.
+#[derive(Clone, Copy, Debug, PartialEq, Eq)]
+pub enum Presence {
+    /// Once.
+    Required,
+    /// Once or not at all.
+    Optional,
+    /// Any number of times.
+    Many,
+}
+
+/// What the table says of a name.
+#[derive(Clone, Copy, Debug, PartialEq, Eq)]
+pub struct Entry {
+    pub domain: Domain,
+    pub presence: Presence,
+}
+
+/// The scope of an object's own attributes, by its kind; none of a kind that the profile doesn't have.
+pub fn scope_of(kind: &[u8]) -> Option<Scope>
+    ensures { result ≡ scope_of kind.now }
+{
+    if kind == b"OS".as_slice() {
+        Some(Scope::Os)
+    } else if kind == b"APPMODE".as_slice() {
+        Some(Scope::AppMode)
+    } else if kind == b"TASK".as_slice() {
+        Some(Scope::Task)
+    } else if kind == b"ISR".as_slice() {
+        Some(Scope::Isr)
+    } else if kind == b"COUNTER".as_slice() {
+        Some(Scope::Counter)
+    } else if kind == b"ALARM".as_slice() {
+        Some(Scope::Alarm)
+    } else if kind == b"EVENT".as_slice() {
+        Some(Scope::Event)
+    } else if kind == b"RESOURCE".as_slice() {
+        Some(Scope::Resource)
+    } else {
+        None
+    }
+}
+
+fn required(domain: Domain) -> Option<Entry>
+    ensures { result ≡ Some (record { domain = domain; presence = Required }) }
+{
+    Some(Entry {
+        domain,
+        presence: Presence::Required,
+    })
+}
+
+fn optional(domain: Domain) -> Option<Entry>
+    ensures { result ≡ Some (record { domain = domain; presence = Optional }) }
+{
+    Some(Entry {
+        domain,
+        presence: Presence::Optional,
+    })
+}
+
+fn many(domain: Domain) -> Option<Entry>
+    ensures { result ≡ Some (record { domain = domain; presence = Many }) }
+{
+    Some(Entry {
+        domain,
+        presence: Presence::Many,
+    })
+}
+
+fn os_entry(name: &[u8]) -> Option<Entry>
+    ensures { result ≡ entry_of scopes.Os name.now }
+{
+    if name == b"STATUS".as_slice() {
+        optional(Domain::Status)
+    } else if name == b"STARTUPHOOK".as_slice()
+        || name == b"ERRORHOOK".as_slice()
+        || name == b"SHUTDOWNHOOK".as_slice()
+        || name == b"PRETASKHOOK".as_slice()
+        || name == b"POSTTASKHOOK".as_slice()
+        || name == b"USERESSCHEDULER".as_slice()
+    {
+        optional(Domain::Truth)
+    } else {
+        None
+    }
+}
+
+fn task_entry(name: &[u8]) -> Option<Entry>
+    ensures { result ≡ entry_of scopes.Task name.now }
+{
+    if name == b"PRIORITY".as_slice() {
+        required(Domain::Number(0, 65535))
+    } else if name == b"SCHEDULE".as_slice() {
+        optional(Domain::Schedule)
+    } else if name == b"ACTIVATION".as_slice() {
+        optional(Domain::Number(0, u64::MAX))
+    } else if name == b"AUTOSTART".as_slice() {
+        optional(Domain::Truth)
+    } else if name == b"RESOURCE".as_slice() {
+        many(Domain::ResourceName)
+    } else if name == b"EVENT".as_slice() {
+        many(Domain::EventName)
+    } else {
+        None
+    }
+}
+
+fn isr_entry(name: &[u8]) -> Option<Entry>
+    ensures { result ≡ entry_of scopes.Isr name.now }
+{
+    if name == b"CATEGORY".as_slice() {
+        required(Domain::Number(0, u64::MAX))
+    } else if name == b"RESOURCE".as_slice() {
+        many(Domain::ResourceName)
+    } else {
+        None
+    }
+}
+
+fn counter_entry(name: &[u8]) -> Option<Entry>
+    ensures { result ≡ entry_of scopes.Counter name.now }
+{
+    if name == b"MAXALLOWEDVALUE".as_slice() {
+        required(Domain::Number(1, 0xffff_ffff))
+    } else if name == b"TICKSPERBASE".as_slice() || name == b"MINCYCLE".as_slice() {
+        optional(Domain::Number(0, u64::MAX))
+    } else {
+        None
+    }
+}
+
+fn alarm_entry(name: &[u8]) -> Option<Entry>
+    ensures { result ≡ entry_of scopes.Alarm name.now }
+{
+    if name == b"COUNTER".as_slice() {
+        required(Domain::CounterName)
+    } else if name == b"ACTION".as_slice() {
+        required(Domain::Action)
+    } else if name == b"AUTOSTART".as_slice() {
+        optional(Domain::Truth)
+    } else {
+        None
+    }
+}
+
+fn alarm_start_entry(name: &[u8]) -> Option<Entry>
+    ensures { result ≡ entry_of scopes.AlarmStart name.now }
+{
+    if name == b"ALARMTIME".as_slice() || name == b"CYCLETIME".as_slice() {
+        required(Domain::Number(0, u64::MAX))
+    } else if name == b"APPMODE".as_slice() {
+        many(Domain::ModeName)
+    } else {
+        None
+    }
+}
+
+fn resource_entry(name: &[u8]) -> Option<Entry>
+    ensures { result ≡ entry_of scopes.Resource name.now }
+{
+    if name == b"RESOURCEPROPERTY".as_slice() {
+        optional(Domain::Property)
+    } else {
+        None
+    }
+}
+
+fn event_setting_entry(name: &[u8]) -> Option<Entry>
+    ensures { result ≡ entry_of scopes.EventSetting name.now }
+{
+    if name == b"TASK".as_slice() {
+        required(Domain::TaskName)
+    } else if name == b"EVENT".as_slice() {
+        required(Domain::EventName)
+    } else {
+        None
+    }
+}
+
+fn only(name: &[u8], wanted: &[u8], entry: Option<Entry>) -> Option<Entry>
+    ensures { result ≡ (if bytes_eq name.now wanted.now then entry else None) }
+{
+    if name == wanted { entry } else { None }
+}
+
+/// What the table says of a name in a scope; none of a name that it doesn't have.
+pub fn entry_of(scope: Scope, name: &[u8]) -> Option<Entry>
+    ensures { result ≡ entry_of scope name.now }
+{
+    match scope {
+        Scope::Os => os_entry(name),
+        Scope::AppMode => None,
+        Scope::Task => task_entry(name),
+        Scope::Isr => isr_entry(name),
+        Scope::Counter => counter_entry(name),
+        Scope::Alarm => alarm_entry(name),
+        Scope::Event => only(name, b"MASK", optional(Domain::EventMask)),
+        Scope::Resource => resource_entry(name),
+        Scope::TaskStart => only(name, b"APPMODE", many(Domain::ModeName)),
+        Scope::AlarmStart => alarm_start_entry(name),
+        Scope::Activation => only(name, b"TASK", required(Domain::TaskName)),
+        Scope::EventSetting => event_setting_entry(name),
+    }
+}
+
+fn scope_in_task(name: &[u8], word: &[u8]) -> Option<Scope>
+    ensures { result ≡ inner_scope scopes.Task name.now (Word word.now) }
+{
+    if name == b"AUTOSTART".as_slice() && word == b"TRUE".as_slice() {
+        Some(Scope::TaskStart)
+    } else {
+        None
+    }
+}
+
+fn scope_in_alarm(name: &[u8], word: &[u8]) -> Option<Scope>
+    ensures { result ≡ inner_scope scopes.Alarm name.now (Word word.now) }
+{
+    if name == b"AUTOSTART".as_slice() && word == b"TRUE".as_slice() {
+        Some(Scope::AlarmStart)
+    } else if name == b"ACTION".as_slice() && word == b"ACTIVATETASK".as_slice() {
+        Some(Scope::Activation)
+    } else if name == b"ACTION".as_slice() && word == b"SETEVENT".as_slice() {
+        Some(Scope::EventSetting)
+    } else {
+        None
+    }
+}
+
+/// The scope of the attributes in an attribute; none where they are passed over.
+pub fn inner_scope(scope: Scope, name: &[u8], value: &Value) -> Option<Scope>
+    ensures { result ≡ inner_scope scope name.now value.now }
+{
+    match value {
+        Value::Word(word) => match scope {
+            Scope::Task => scope_in_task(name, word.as_bytes()),
+            Scope::Alarm => scope_in_alarm(name, word.as_bytes()),
+            _ => None,
+        },
+        _ => None,
+    }
+}

@@ -1,0 +1,89 @@
+//! Tasks and ISRs.
+ghost use Rattle.std.specs.Prelude.{◌≡◌, ◌≤◌, [], length, IfOk, map, filter, codes};
+ghost use Rattle.oil_tree.specs.AttrLists.{attr_list};
+ghost use Rattle.oil_model.specs.Lists.{found_in};
+ghost use Rattle.oil_model.specs.Objects.{objects_of, is_isr, name_of, priority};
+ghost use Rattle.oil_model.specs.Rules.{wrong_in};
+ghost use Rattle.oil_model.specs.Systems.{schedule, task};
+
+use crate::events::own_bits;
+use crate::look_up::says;
+use crate::modes::autostart;
+use crate::names::copy;
+use crate::objects::{is_isr, is_kind, priority};
+use app_model::{EventObject, Schedule, TaskObject};
+use oil_tree::{Attr, Object};
+use osek_values::{Mask, Memory, Name, Seq};
+use std::alloc::Global;
+
+fn schedule(attrs: &[Attr]) -> Schedule
+    ensures { result ≡ schedule attrs.now }
+{
+    if says(b"SCHEDULE", b"NON", attrs) {
+        Schedule::Non
+    } else {
+        Schedule::Full
+    }
+}
+
+/// A priority as a number of 16 bits.
+pub fn narrow(priority: u64) -> u16
+    requires { priority ≤ 65535 }
+    ensures { result ≡ priority }
+{
+    priority as u16
+}
+
+fn task(
+    alloc: Global,
+    object: &Object,
+    modes: &[Name],
+    events: &[EventObject],
+) -> Result<TaskObject, Memory>
+    requires few { length modes.now ≤ 8 }
+    requires in_range { priority object.now ≤ 65535 }
+    ensures { IfOk result (λ t. t ≡ task modes.now events.now object.now) }
+{
+    let attrs = object.attrs.as_slice();
+    let name = copy(alloc, &object.name)?;
+    Ok(TaskObject {
+        name,
+        priority: narrow(priority(object)),
+        schedule: schedule(attrs),
+        own: Mask(own_bits(events, attrs)),
+        autostart: autostart(modes, attrs),
+    })
+}
+
+/// The tasks.
+pub fn tasks(
+    alloc: Global,
+    objects: &[Object],
+    modes: &[Name],
+    events: &[EventObject],
+) -> Result<Seq<TaskObject>, Memory>
+    requires allowed { found_in wrong_in objects.now ≡ [] }
+    requires few { length modes.now ≤ 8 }
+    ensures { IfOk result (λ found. found ≡ map (task modes.now events.now) (objects_of (codes "TASK") objects.now)) }
+{
+    let mut found = Vec::new(alloc);
+    for object in objects {
+        if is_kind(b"TASK", object) {
+            found.push(task(alloc, object, modes, events)?)?;
+        }
+    }
+    Ok(Seq::of(found))
+}
+
+/// The names of the ISRs of a category.
+pub fn isrs(alloc: Global, category: u64, objects: &[Object]) -> Result<Seq<Name>, Memory>
+    ensures { IfOk result (λ names. names ≡ map name_of (filter (is_isr category) objects.now)) }
+{
+    let mut names = Vec::new(alloc);
+    for object in objects {
+        if is_isr(category, object) {
+            names.push(copy(alloc, &object.name)?)?;
+        }
+    }
+    Ok(Seq::of(names))
+}
