@@ -1,0 +1,4 @@
+pub mod Apart
+pub mod SiteEffects
+pub mod OtherEffects
+pub mod SiteForms

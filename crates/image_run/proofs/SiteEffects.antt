@@ -1,0 +1,132 @@
+-- After the effect of a site no routine runs.
+use Rattle.std.proofs.Common.{◌≡◌, ℕ, ◌+◌, ◌<◌, Bool, true, false, List, refl, sym, ◌∙◌, ap, subst, inl, inr, Some, None, not, nat_lt, slice_index_or}
+use Rattle.std.specs.Prelude.{⊤, if◌then◌else◌}
+use Rattle.std.specs.declared.option.Option.{Option}
+use Rattle.std.proofs.lemmas.Bool.{cases_Bool}
+use Rattle.osek_values.specs.declared.numbers.TaskNo.{TaskNo}
+use Rattle.osek_values.specs.declared.numbers.BlockNo.{BlockNo}
+use Rattle.osek_standard.specs.declared.app.App.{App}
+use Rattle.osek_standard.specs.declared.block.Block.{Block}
+use Rattle.osek_standard.specs.declared.block.Kind.{Kind}
+use Rattle.osek_standard.specs.declared.block.Kind.TheVariants as kind
+use Rattle.osek_standard.specs.declared.state.State.{State}
+use Rattle.osek_standard.specs.declared.state.Source.{Source}
+use Rattle.osek_standard.specs.declared.state.Source.TheVariants as source
+use Rattle.osek_standard.specs.declared.state.Processor.{Processor}
+use Rattle.osek_standard.specs.declared.state.Processor.TheVariants as processor
+use Rattle.osek_standard.specs.declared.state.Caller.{Caller}
+use Rattle.osek_standard.specs.declared.state.Caller.TheVariants.{Nobody, Task, Routine}
+use Rattle.osek_standard.specs.declared.task_state.Place.{Place}
+use Rattle.osek_standard.specs.Apps.{the_block, is_extended, is_routine_end, is_site, is_task_block, may_dispatch, source_count}
+use Rattle.osek_standard.specs.States.{caller, here, task_state, with_source}
+use Rattle.osek_standard.specs.Services.{Answer, holds_some, share, wait_event}
+use Rattle.osek_standard.specs.Effects.{effect, effect_at, effect_by, end_task, given_back, goes_on_unless_left, halted_by, moved_by, moved_to, place_at, returned_by}
+use Rattle.osek_standard.specs.Well.{Well, AreOut, InOwner, IsActive, IsOfRoutine, IsProcessor}
+use Rattle.osek_standard.proofs.BoolLaws.{either_way}
+use Rattle.osek_standard.proofs.Callers.{moved_processor}
+use Rattle.osek_standard.proofs.Keeps.{here_own}
+use Rattle.osek_standard.proofs.SourceLaws.{called_leaves}
+use Rattle.osek_standard.proofs.RoutineKeeps.{ended_out}
+use Rattle.image_run.proofs.Apart.{routine_is_no_task_block}
+
+-- a task has the processor
+abbrev TaskRuns : Processor → Type 0
+TaskRuns processor.Halted = ⊥
+TaskRuns processor.Idle = ⊥
+TaskRuns (processor.Running t) = ⊤
+TaskRuns (processor.Interrupted k over) = ⊥
+
+moved_leaves : (s : State) (to : Place) (p : Processor) → TaskRuns p → (moved_by s p to).sources ≡ s.sources
+moved_leaves s to processor.Halted r = absurd r
+moved_leaves s to processor.Idle r = absurd r
+moved_leaves s to (processor.Running t) r = refl
+moved_leaves s to (processor.Interrupted k over) r = absurd r
+
+halted_leaves : (s : State) (p : Processor) → TaskRuns p → (halted_by s p).sources ≡ s.sources
+halted_leaves s processor.Halted r = absurd r
+halted_leaves s processor.Idle r = absurd r
+halted_leaves s (processor.Running t) r = refl
+halted_leaves s (processor.Interrupted k over) r = absurd r
+
+returned_leaves : (app : App) (s : State) (p : Processor) → TaskRuns p → (returned_by app s p).state.sources ≡ s.sources
+returned_leaves app s processor.Halted r = absurd r
+returned_leaves app s processor.Idle r = absurd r
+returned_leaves app s (processor.Running t) r = refl
+returned_leaves app s (processor.Interrupted k over) r = absurd r
+
+end_leaves : (app : App) (s : State) (c : Caller) → (end_task app s c).state.sources ≡ s.sources
+end_leaves app s Nobody = refl
+end_leaves app s (Routine k) = refl
+end_leaves app s (Task t) = refl
+
+wait_leaves : (app : App) (s : State) (c : Caller) (m : ℕ) (next : BlockNo) → (moved_to s next).sources ≡ s.sources → (goes_on_unless_left next (wait_event app s c m)).state.sources ≡ s.sources
+unfolding wait_event
+wait_leaves app s Nobody m next h = h
+wait_leaves app s (Routine k) m next h = h
+wait_leaves app s (Task c) m next h =
+    let P : Answer → Type 0 = λ a. (goes_on_unless_left next a).state.sources ≡ s.sources in
+    either_way P (not (is_extended app c.0)) _ _ h (either_way P (holds_some s c.0) _ _ h (either_way P (share (task_state s c.0).events.0 m) _ _ h refl))
+
+-- an instruction of a task leaves the sources as they are
+task_leaves : (app : App) (s : State) → TaskRuns s.processor → (choice : Bool) (p : Place) (b : Block) (k : Kind) → (effect_at app s choice p b k).state.sources ≡ s.sources
+task_leaves app s r choice p b (kind.Work n) =
+    either_way (λ (a : Answer). a.state.sources ≡ s.sources) (nat_lt (p.offset + 1) n) _ _ (moved_leaves s (place_at p.block (p.offset + 1)) s.processor r) (moved_leaves s (place_at b.next 0) s.processor r)
+task_leaves app s r choice p b (kind.Choice other) = moved_leaves s (place_at (if choice then b.next else other) 0) s.processor r
+task_leaves app s r choice p b (kind.WaitEvent m) = wait_leaves app s (caller s.processor) m.0 b.next (moved_leaves s (place_at b.next 0) s.processor r)
+task_leaves app s r choice p b kind.ShutdownOs =
+    let moved = moved_to s b.next in
+    halted_leaves moved moved.processor (subst TaskRuns (sym (moved_processor s (place_at b.next 0) s.processor)) r) ∙ moved_leaves s (place_at b.next 0) s.processor r
+task_leaves app s r choice p b kind.TaskEnd = end_leaves app s (caller s.processor)
+task_leaves app s r choice p b kind.IsrEnd = returned_leaves app s s.processor r
+task_leaves app s r choice p b k = called_leaves app (moved_to s b.next) (caller s.processor) k ∙ moved_leaves s (place_at b.next 0) s.processor r
+
+out_along : (app : App) (s r : State) → r.sources ≡ s.sources → AreOut app s → AreOut app r
+out_along app s r e out k = ap (λ (xs : List Source). slice_index_or xs k source.Out) e ∙ out k
+
+given_back_out : (app : App) (s : State) (over : Option TaskNo) → AreOut app s → AreOut app (given_back app s over).state
+given_back_out app s None out = out
+given_back_out app s (Some t) out = out
+
+-- after the end of a routine no routine runs
+returned_out : (app : App) (s : State) → Well app s → (p : Processor) → IsProcessor app s p → AreOut app (returned_by app s p).state
+returned_out app s w processor.Halted h = h
+returned_out app s w processor.Idle h = h
+returned_out app s w (processor.Running t) h = h.out
+returned_out app s w (processor.Interrupted k over) h = given_back_out app (with_source s k.0 source.Out) over (ended_out app s k over w h)
+
+end_kind : (k : Kind) → is_routine_end k ≡ true → k ≡ kind.IsrEnd
+end_kind kind.IsrEnd e = refl
+end_kind _ e = absurd (cc)
+
+end_or_task : (end may task : Bool) → (if end then true else if may then task else false) ≡ true → end ≡ false → task ≡ true
+end_or_task true may task e f = absurd (cc)
+end_or_task false true task e f = e
+end_or_task false false task e f = absurd (cc)
+
+-- in a routine its end alone is a site
+routine_site : (app : App) (k b : ℕ) → k < source_count app → IsOfRoutine app k b → is_site app b ≡ true → (the_block app b).kind ≡ kind.IsrEnd
+routine_site app k b known own site = elim (cases_Bool (is_routine_end (the_block app b).kind)) [
+  | inl e ↦ end_kind (the_block app b).kind e
+  | inr e ↦ absurd (routine_is_no_task_block app k b known own (end_or_task (is_routine_end (the_block app b).kind) (may_dispatch (the_block app b).kind) (is_task_block app b) site e))
+]
+
+module _ (app : App) (s : State) (w : Well app s) (choice : Bool) (site : is_site app (here s).block.0 ≡ true) where
+  abbrev at : Place
+  at = here s
+
+  out_after : (p : Processor) → s.processor ≡ p → AreOut app (effect_by app s choice p).state
+  out_after processor.Halted e = subst (IsProcessor app s) e w.processor
+  out_after processor.Idle e = subst (IsProcessor app s) e w.processor
+  out_after (processor.Running t) e =
+      let h = subst (IsProcessor app s) e w.processor in
+      out_along app s (effect_at app s choice at (the_block app at.block.0) (the_block app at.block.0).kind).state
+      (task_leaves app s (subst TaskRuns (sym e) tt) choice at (the_block app at.block.0) (the_block app at.block.0).kind) h.out
+  out_after (processor.Interrupted k over) e =
+      let h = subst (IsProcessor app s) e w.processor in
+      let own = subst (λ (p : Processor). InOwner app p at.block.0) e (here_own app s w (subst IsActive (sym e) tt)) in
+      let end = routine_site app k.0 at.block.0 h.known own site in
+      subst (λ (x : Kind). AreOut app (effect_at app s choice at (the_block app at.block.0) x).state) (sym end) (returned_out app s w s.processor w.processor)
+
+  pub out_after_site : AreOut app (effect app s choice).state
+  unfolding effect
+  out_after_site = out_after s.processor refl

@@ -1,0 +1,98 @@
+//! The machine.
+ghost use Rattle.std.specs.Prelude.{◌≡◌, ◌+◌, ◌<◌, ◌≤◌, length, false, IfOk};
+ghost use Rattle.osek_standard.specs.Dispatch.{stepped};
+ghost use Rattle.osek_standard.specs.Kernel.{start as start_of};
+ghost use Rattle.osek_standard.specs.Well.{Well};
+ghost use Rattle.generic_kernel.specs.Moves.{IsDeclared};
+ghost use Rattle.image_run.specs.Machines.{at_work, turn, turned, noted};
+ghost use Rattle.image_run.specs.Scans.{most_scans};
+
+use crate::instruction::image_step;
+use crate::trap::Trap;
+use generic_kernel::start;
+use image_codec::Image;
+use osek_standard::{App, State};
+use osek_values::{Event, Memory, ModeNo, Notes, Steps};
+use std::alloc::Global;
+use std::marker::Model;
+use std::mem;
+use std::sync::ledger::Ledger;
+
+/// An image at work. It takes all its memory at the start.
+#[derive(Drop)]
+pub struct Machine {
+    image: Image,
+    state: State,
+    /// On which a step is tried, so that a trap leaves the state as it was.
+    spare: State,
+    trapped: bool,
+}
+
+impl Model for Machine {
+    ghost use Rattle.image_run.specs.Machines.{AtWork, AreWell, at_work, at_work_code};
+
+    ghost Value = { AtWork };
+
+    ghost coded = { at_work_code };
+
+    ghost view = { λ m. at_work m.image m.state m.trapped };
+
+    ghost invariant = { λ m. AreWell m.image m.state m.spare };
+}
+
+impl Machine {
+    /// The start of the image's application in a mode.
+    pub fn start(alloc: Global, image: Image, mode: ModeNo) -> Result<(Machine, Notes), Memory>
+        requires { mode.0 < length image.app.modes }
+        ensures machine { IfOk result (λ r. r.0 ≡ at_work image r.0.state false) }
+        ensures start { IfOk result (λ r. start_of image.app mode ≡ stepped r.0.state r.1) }
+    {
+        let (state, notes) = start(alloc, &image.app, mode)?;
+        let (spare, _) = start(alloc, &image.app, mode)?;
+        let machine = Machine {
+            image,
+            state,
+            spare,
+            trapped: false,
+        };
+        Ok((machine, notes))
+    }
+
+    /// One step of the image. A trap leaves the state as it was, and every later step answers it again. It takes no
+    /// memory.
+    pub fn step<L: Ledger>(&mut self, event: Event, scans: &mut Steps<L>) -> Result<Notes, Trap>
+        requires { IsDeclared self.old.image.app event }
+        ensures step { turn self.old event ≡ turned self.new (noted result) }
+        ensures scans { scans.new ≤ scans.old + most_scans self.old event }
+    {
+        if self.trapped {
+            return Err(Trap);
+        }
+        self.spare.assign(&self.state);
+        match image_step(&self.image, &mut self.spare, event, scans) {
+            None => {
+                self.trapped = true;
+                Err(Trap)
+            }
+            Some(notes) => {
+                mem::swap(&mut self.state, &mut self.spare);
+                Ok(notes)
+            }
+        }
+    }
+
+    /// The state now.
+    pub fn state(&self) -> &State
+        ensures state { result.now ≡ self.now.state }
+        ensures well { Well self.now.image.app self.now.state }
+    {
+        &self.state
+    }
+
+    /// The application of the image.
+    pub fn app(&self) -> &App
+        ensures { result.now ≡ self.now.image.app }
+    {
+        &self.image.app
+    }
+}

@@ -1,0 +1,12 @@
+pub mod BodiesRead
+pub mod Elses
+pub mod Expected
+pub mod FirstOfLines
+pub mod FitLaws
+pub mod Fronts
+pub mod Lists
+pub mod OneAnswer
+pub mod Operands
+pub mod Scanned
+pub mod StatementsRead
+pub mod Viable

@@ -1,0 +1,13 @@
+pub mod Answers
+pub mod Calls
+pub mod Expect
+pub mod Faults
+pub mod FirstLines
+pub mod Fit
+pub mod Grammar
+pub mod Phrases
+pub mod Services
+pub mod StatementFalls
+pub mod StatementLists
+pub mod Statements
+pub mod Words

@@ -1,0 +1,75 @@
+//! The bodies of tasks and ISRs.
+ghost use Rattle.std.specs.Prelude.{◌≡◌, ◌∷◌, [], MatchResult, Some};
+ghost use Rattle.oil_grammar.specs.Refusals.{Refuses};
+ghost use Rattle.task_code.specs.Expect.{scan, body_stack};
+ghost use Rattle.task_code.specs.Phrases.{StopsIn, ReadsOwned, ReadsBody, ReadsAll};
+
+use crate::call::Reference;
+use crate::phrases::{close_paren, object_name, open_paren};
+use crate::statements::block;
+use crate::tree::{Body, StatementList};
+use crate::words::body_kind;
+use oil_grammar::{PhraseError, Stop};
+use oil_lexer::{Token, TokenKind};
+use osek_values::Seq;
+use std::alloc::Global;
+
+// ( name ) { statement* }
+fn owned(
+    alloc: Global,
+    tokens: &[Token],
+) -> Result<(Reference, StatementList, &[Token]), PhraseError>
+    ensures { MatchResult result
+        (λ x. ReadsOwned tokens.now x.0 x.1 x.2.now)
+        (λ e. Refuses e (λ stop. StopsIn body_stack 0 tokens.now stop)) }
+{
+    let rest = open_paren(tokens)?;
+    let (owner, rest) = object_name(alloc, rest)?;
+    let rest = close_paren(rest)?;
+    let (statements, rest) = block(alloc, 0, rest)?;
+    Ok((owner, statements, rest))
+}
+
+/// A body, by its first token and what stands behind it.
+fn body<'a>(
+    alloc: Global,
+    token: &Token,
+    tokens: &'a [Token],
+) -> Result<(Body, &'a [Token]), PhraseError>
+    ensures { MatchResult result
+        (λ x. ReadsBody (token.now ∷ tokens.now) x.0 x.1.now)
+        (λ e. Refuses e (λ stop. scan 0 [] (token.now ∷ tokens.now) ≡ Some stop)) }
+{
+    let TokenKind::Name(word) = &token.kind else {
+        return Err(PhraseError::Stopped(Stop::NotAllowed(token.line)));
+    };
+    let Some(kind) = body_kind(word.as_bytes()) else {
+        return Err(PhraseError::Stopped(Stop::NotAllowed(token.line)));
+    };
+    let (owner, statements, rest) = owned(alloc, tokens)?;
+    Ok((
+        Body {
+            kind,
+            line: token.line,
+            owner,
+            statements,
+        },
+        rest,
+    ))
+}
+
+/// The bodies of all the tokens, or where reading stops.
+pub fn bodies(alloc: Global, tokens: &[Token]) -> Result<Seq<Body>, PhraseError>
+    ensures { MatchResult result
+        (λ all. ReadsAll tokens.now all)
+        (λ e. Refuses e (λ stop. scan 0 [] tokens.now ≡ Some stop)) }
+{
+    let mut found = Vec::new(alloc);
+    let mut rest = tokens;
+    while let Some((token, behind)) = rest.split_first() {
+        let (next, after) = body(alloc, token, behind)?;
+        found.push(next)?;
+        rest = after;
+    }
+    Ok(Seq::of(found))
+}
