@@ -1,0 +1,30 @@
+//! Why a command stops before it is done.
+use image_codec::ImageFault;
+use trace_text::FaultyLine;
+
+/// A file that a command reads.
+#[derive(Clone, Copy, PartialEq, Eq, Debug)]
+pub enum Input {
+    Image,
+    Events,
+}
+
+/// Why a command stops, each with a status and a text on err of its own.
+#[derive(Clone, Copy, PartialEq, Eq, Debug)]
+pub enum Stop {
+    /// The words are of no stated form.
+    Usage,
+    /// The image's bytes have this first fault.
+    Image(ImageFault),
+    /// The event text has this fault.
+    Events(FaultyLine),
+    /// The input can't be read, or isn't there.
+    Unread(Input),
+    /// The trace can't be written.
+    Unprinted,
+    Memory,
+    /// The image traps at the event that the trace's last line names.
+    Trapped,
+    /// The image has no mode of the name.
+    NoMode,
+}
