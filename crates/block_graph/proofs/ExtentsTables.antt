@@ -1,0 +1,165 @@
+-- What the tables of the application keep of those of the system, and how many blocks there are.
+use Rattle.std.proofs.Common.{◌≡◌, ℕ, zero, suc, ◌+◌, ◌*◌, ◌<◌, ◌≤◌, ◌^◌, List, [], ◌∷◌, length, map, Bool, true, false, cond, eqb, leb, refl, sym, ap, ◌∙◌, subst, arith}
+use Rattle.std.specs.Prelude.{◌||◌, ◌&&◌, ◌==◌, nat_eq, nat_le, slice_index_or, All, count_by}
+use Rattle.std.specs.List.{IsDistinct, enumerate_from, filter}
+use Rattle.std.proofs.lemmas.Bool.Decides.{nat_tests}
+use Rattle.std.proofs.lemmas.List.{length-append, length-map, map-id}
+use Rattle.std.proofs.lemmas.List.Sums.{count_by-le-length, sum_by-cons}
+use Rattle.osek_standard.specs.declared.objects.Action.{Action}
+use Rattle.osek_standard.specs.declared.objects.Action.TheVariants as action
+use Rattle.osek_standard.specs.declared.objects.Alarm.{Alarm}
+use Rattle.osek_standard.specs.declared.objects.Counter.{Counter}
+use Rattle.osek_standard.specs.declared.objects.Isr.{Isr}
+use Rattle.osek_standard.specs.declared.objects.Task.{Task}
+use Rattle.osek_standard.specs.declared.block.Block.{Block}
+use Rattle.osek_standard.specs.Validity.{AreNames, IsAction, IsAlarmOf, due_of, is_cycle_of, no_counter}
+use Rattle.osek_standard.specs.Versions.{FitsVersion1}
+use Rattle.app_model.specs.declared.system.CounterObject.{CounterObject}
+use Rattle.app_model.specs.declared.system.TaskObject.{TaskObject}
+use Rattle.app_model.specs.declared.system.System.{System}
+use Rattle.oil_model.specs.Linkable.{IsActionAmong, IsAlarmAmong, IsLinkable, is_cycle_of_object, no_counter_object}
+use Rattle.task_code.specs.declared.tree.Body.{Body}
+use Rattle.task_code.specs.declared.tree.BodyKind.TheVariants as body_kind
+use Rattle.task_code.specs.declared.tree.Code.{Code}
+use Rattle.block_graph.specs.Apps.{counters_from, counters_of, extent, isr_with, isrs_of, task_with, tasks_of}
+use Rattle.block_graph.specs.Blocks.{app_blocks, routine, routine_size, routines, source_blocks, source_size}
+use Rattle.block_graph.specs.Faults.{HasNoFault}
+use Rattle.block_graph.proofs.OwnersLaws.{routine_length, source_length}
+use Rattle.block_graph.proofs.ExtentsLists.{all_at, each_map, each_of, mapped_twice}
+use Rattle.block_graph.proofs.ExtentsRules.{few_source_blocks}
+
+-- ---- counters
+
+pub counter_count : (s : System) (xs : List CounterObject) (c n : ℕ) → length (counters_from s xs c n) ≡ length xs
+counter_count s [] c n = refl
+counter_count s (x ∷ xs) c n = ap suc (counter_count s xs (c + 1) (n + routine_size (due_of s.alarms c)))
+
+counter_name : (s : System) (xs : List CounterObject) (c n : ℕ) → map (λ (x : Counter). x.name) (counters_from s xs c n) ≡ map (λ (x : CounterObject). x.name) xs
+counter_name s [] c n = refl
+counter_name s (x ∷ xs) c n = ap (λ (names : List (List ℕ)). x.name ∷ names) (counter_name s xs (c + 1) (n + routine_size (due_of s.alarms c)))
+
+-- a counter has the bounds of its object
+abbrev HasBounds : Counter → CounterObject → Type 0
+HasBounds x o = (x.max ≡ o.max) × (x.min_cycle ≡ o.min_cycle)
+
+counter_bounds : (s : System) (xs : List CounterObject) (c n i : ℕ) (d : Counter) (e : CounterObject) → i < length xs → HasBounds (slice_index_or (counters_from s xs c n) i d) (slice_index_or xs i e)
+counter_bounds s [] c n i d e lt = absurd (omega (arith, lt))
+counter_bounds s (x ∷ xs) c n zero d e lt = (refl, refl)
+counter_bounds s (x ∷ xs) c n (suc i) d e lt = counter_bounds s xs (c + 1) (n + routine_size (due_of s.alarms c)) i d e (omega (arith, lt))
+
+-- ---- alarms
+
+action_named : (tasks : List Task) (s : System) (x : Action) → length tasks ≡ length s.tasks → IsActionAmong (length s.tasks) x → IsAction tasks s.alarms s.resources x
+action_named tasks s (action.ActivateTask t) same h = omega (arith, same, h)
+action_named tasks s (action.SetEvent t m) same h = (omega (arith, same, h.0), h.1)
+
+cycle_kept : (x : Counter) (o : CounterObject) (cycle : ℕ) → HasBounds x o → is_cycle_of_object o cycle ≡ true → is_cycle_of x cycle ≡ true
+cycle_kept x o cycle same e = (λ i. (cycle == 0) || (nat_le (same.1 i) cycle && nat_le cycle (same.0 i))) ∙ e
+
+-- ---- how many blocks there are
+
+-- the alarms from a number on
+abbrev due_from : ℕ → List Alarm → ℕ → List ℕ
+due_from n alarms c = map (λ (p : ℕ × Alarm). p.0) (filter (λ (p : ℕ × Alarm). eqb p.1.counter.0 c) (enumerate_from n alarms))
+
+counted : (is : Bool) (n : ℕ) (x : Alarm) (others : List (ℕ × Alarm)) (k : ℕ) → k ≡ length (map (λ (p : ℕ × Alarm). p.0) others)
+    → length (map (λ (p : ℕ × Alarm). p.0) (cond is ((n, x) ∷ others) others)) ≡ cond is 1 0 + k
+counted true n x others k e = omega (arith, e)
+counted false n x others k e = omega (arith, e)
+
+due_count_from : (n : ℕ) (alarms : List Alarm) (c : ℕ) → length (due_from n alarms c) ≡ count_by (λ (x : Alarm). eqb x.counter.0 c) alarms
+due_count_from n [] c = refl
+due_count_from n (x ∷ xs) c =
+    counted (eqb x.counter.0 c) n x (filter (λ (p : ℕ × Alarm). eqb p.1.counter.0 c) (enumerate_from (n + 1) xs)) (count_by (λ (y : Alarm). eqb y.counter.0 c) xs) (sym (due_count_from (n + 1) xs c))
+    ∙ sym (sum_by-cons (λ (y : Alarm). cond (eqb y.counter.0 c) 1 0) x xs)
+
+due_count : (alarms : List Alarm) (c : ℕ) → length (due_of alarms c) ≡ count_by (λ (x : Alarm). eqb x.counter.0 c) alarms
+due_count alarms c = due_count_from 0 alarms c
+
+-- an alarm of a counter is none of a later one
+one_more : (k c : ℕ) → cond (eqb k c) 1 0 + cond (leb (c + 1) k) 1 0 ≤ cond (leb c k) 1 0
+one_more k c = grind (arith, nat_tests)
+
+more_due : (alarms : List Alarm) (c : ℕ) → count_by (λ (x : Alarm). eqb x.counter.0 c) alarms + count_by (λ (x : Alarm). leb (c + 1) x.counter.0) alarms ≤ count_by (λ (x : Alarm). leb c x.counter.0) alarms
+more_due [] c = omega arith
+more_due (x ∷ xs) c =
+    omega (arith, more_due xs c, one_more x.counter.0 c, sum_by-cons (λ (y : Alarm). cond (eqb y.counter.0 c) 1 0) x xs, sum_by-cons (λ (y : Alarm). cond (leb (c + 1) y.counter.0) 1 0) x xs, sum_by-cons (λ (y : Alarm). cond (leb c y.counter.0) 1 0) x xs)
+
+-- each alarm has one counter
+routine_blocks : (s : System) (xs : List CounterObject) (c n : ℕ) → length (routines s xs c n) ≤ length xs * 2 + count_by (λ (x : Alarm). leb c x.counter.0) s.alarms
+routine_blocks s [] c n = omega arith
+routine_blocks s (x ∷ xs) c n =
+    let due = due_of s.alarms c in
+    let more = routines s xs (c + 1) (n + routine_size due) in
+    omega (arith, routine_blocks s xs (c + 1) (n + routine_size due), length-append (routine due n) more, routine_length due n, due_count s.alarms c, more_due s.alarms c)
+
+pub few_blocks : (s : System) (code : Code) → IsLinkable s → HasNoFault s code → length (app_blocks s code.bodies) ≤ 1056
+few_blocks s code linkable clean =
+    let bodies = code.bodies in
+    omega (
+      arith,
+      few_source_blocks s code clean,
+      linkable.few_counters,
+      linkable.few_alarms,
+      source_length s bodies 0,
+      routine_blocks s s.counters 0 (source_size bodies),
+      count_by-le-length (λ (x : Alarm). leb 0 x.counter.0) s.alarms,
+      length-append (source_blocks s bodies 0) (routines s s.counters 0 (source_size bodies)),
+    )
+
+-- ---- the tables
+
+module _ (s : System) (bodies : List Body) where
+  pub task_count : length (tasks_of s bodies) ≡ length s.tasks
+  task_count = length-map s.tasks (λ (x : TaskObject). task_with x (extent body_kind.Task x.name bodies 0))
+
+  pub isr_count : length (isrs_of s bodies) ≡ length s.isrs
+  isr_count = length-map s.isrs (λ (name : List ℕ). isr_with name (extent body_kind.Isr name bodies 0))
+
+module _ (s : System) (bodies : List Body) (linkable : IsLinkable s) where
+  pub task_names : AreNames (map (λ (x : Task). x.name) (tasks_of s bodies))
+  task_names = subst AreNames (sym (mapped_twice (λ (x : TaskObject). task_with x (extent body_kind.Task x.name bodies 0)) (λ (x : Task). x.name) s.tasks)) linkable.task_names
+
+  pub isr_names : AreNames (map (λ (x : Isr). x.name) (isrs_of s bodies))
+  isr_names = subst AreNames (sym (mapped_twice (λ (name : List ℕ). isr_with name (extent body_kind.Isr name bodies 0)) (λ (x : Isr). x.name) s.isrs ∙ map-id s.isrs)) linkable.isr_names
+
+  pub counter_names : AreNames (map (λ (x : Counter). x.name) (counters_of s bodies))
+  counter_names = subst AreNames (sym (counter_name s s.counters 0 (source_size bodies))) linkable.counter_names
+
+  pub task_starts : All (λ (x : Task). x.autostart < 2 ^ length s.modes) (tasks_of s bodies)
+  task_starts =
+      all_at (λ (x : Task). x.autostart < 2 ^ length s.modes) (tasks_of s bodies)
+      (each_map (λ (x : Task). x.autostart < 2 ^ length s.modes) (λ (x : TaskObject). task_with x (extent body_kind.Task x.name bodies 0)) s.tasks (each_of (λ (x : TaskObject). x.autostart < 2 ^ length s.modes) s.tasks linkable.task_starts))
+
+  counter_facts : (k : ℕ) (d : Counter) → k < length (counters_of s bodies) → (1 ≤ (slice_index_or (counters_of s bodies) k d).max) × ((slice_index_or (counters_of s bodies) k d).min_cycle ≤ (slice_index_or (counters_of s bodies) k d).max)
+  counter_facts k d lt =
+      let below : k < length s.counters = omega (arith, lt, counter_count s s.counters 0 (source_size bodies)) in
+      let same = counter_bounds s s.counters 0 (source_size bodies) k d no_counter_object below in
+      let facts = linkable.each_counter k no_counter_object below in
+      (omega (arith, same.0, facts.0), omega (arith, same.0, same.1, facts.1))
+
+  pub some_maximum : (k : ℕ) (d : Counter) → k < length (counters_of s bodies) → 1 ≤ (slice_index_or (counters_of s bodies) k d).max
+  some_maximum k d lt = (counter_facts k d lt).0
+
+  pub min_cycles : All (λ (x : Counter). x.min_cycle ≤ x.max) (counters_of s bodies)
+  min_cycles = λ k d lt. (counter_facts k d lt).1
+
+  alarm_kept : (blocks : List Block) (x : Alarm) → IsAlarmAmong (length s.tasks) s.counters x → IsAlarmOf (tasks_of s bodies) s.alarms s.resources blocks (counters_of s bodies) x
+  alarm_kept blocks x among =
+      let same = counter_bounds s s.counters 0 (source_size bodies) x.counter.0 no_counter no_counter_object among.counter in
+      let counter = slice_index_or (counters_of s bodies) x.counter.0 no_counter in
+      let object = slice_index_or s.counters x.counter.0 no_counter_object in
+      record {
+        counter = omega (arith, among.counter, counter_count s s.counters 0 (source_size bodies));
+        action = action_named (tasks_of s bodies) s x.action (task_count s bodies) among.action;
+        time = omega (arith, among.time, same.0);
+        cycle = cycle_kept counter object x.cycle same among.cycle;
+      }
+
+  pub each_alarm : (blocks : List Block) → All (IsAlarmOf (tasks_of s bodies) s.alarms s.resources blocks (counters_of s bodies)) s.alarms
+  each_alarm blocks = λ k d lt. alarm_kept blocks (slice_index_or s.alarms k d) (linkable.each_alarm k d lt)
+
+  pub version_1 : FitsVersion1 (tasks_of s bodies)
+  version_1 = record {
+    priorities = subst (IsDistinct nat_eq) (sym (mapped_twice (λ (x : TaskObject). task_with x (extent body_kind.Task x.name bodies 0)) (λ (x : Task). x.priority) s.tasks)) linkable.priorities;
+  }

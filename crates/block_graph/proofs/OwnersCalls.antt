@@ -1,0 +1,165 @@
+-- What the block of a call names is declared.
+use Rattle.std.proofs.Common.{◌≡◌, ℕ, ◌<◌, ◌≤◌, Bool, true, false, cond, ltb, List, [], ◌∷◌, ◌++◌, length, refl, sym, subst, arith, IsTrue}
+use Rattle.std.specs.Prelude.{All, Some, None, unwrap_or}
+use Rattle.std.specs.List.{position, position_or_len, flat_map}
+use Rattle.std.proofs.lemmas.Bool.{ltb-true}
+use Rattle.std.proofs.lemmas.Nat.{le_or_l}
+use Rattle.osek_standard.specs.declared.block.Block.{Block}
+use Rattle.osek_standard.specs.declared.objects.Alarm.{Alarm}
+use Rattle.osek_standard.specs.declared.objects.Resource.{Resource}
+use Rattle.osek_standard.specs.declared.objects.Task.{Task}
+use Rattle.osek_standard.specs.Validity.{IsOtherWay, NamesEntries, isr_may, is_own_next, task_may}
+use Rattle.app_model.specs.declared.system.EventObject.{EventObject}
+use Rattle.app_model.specs.declared.system.System.{System}
+use Rattle.task_code.specs.declared.call.Reference.{Reference}
+use Rattle.task_code.specs.declared.call.Call.{Call}
+use Rattle.task_code.specs.declared.call.Call.TheVariants as call
+use Rattle.task_code.specs.Fit.{NamesEvents}
+use Rattle.block_graph.specs.Blocks.{event_bits, kind_of, mask_bits}
+use Rattle.block_graph.specs.Blocks as graph
+use Rattle.block_graph.specs.Names.{alarm_of, event_of, resource_of, task_of}
+use Rattle.block_graph.specs.Rules.{no_alarm, no_event, no_resource, no_task, of_resource, undeclared, undeclared_in}
+
+pub both_empty : (a b : List ℕ) → a ++ b ≡ [] → (a ≡ []) × (b ≡ [])
+both_empty [] b e = (refl, e)
+both_empty (x ∷ a) b e = absurd cc
+
+below : (found : Bool) (place size line : ℕ) → ltb place size ≡ found → undeclared (cond found (Some place) None) line ≡ [] → unwrap_or (cond found (Some place) None) 0 < size
+below true place size line is e = ltb-true place size is
+below false place size line is e = absurd cc
+
+-- the number of a declared name is one of the table's
+number_inside : {X : Type 0} (test : X → Bool) (table : List X) (line : ℕ) → undeclared (position test table) line ≡ [] → unwrap_or (position test table) 0 < length table
+number_inside test table line e = below (ltb (position_or_len test table) (length table)) (position_or_len test table) (length table) line refl e
+
+module _ (s : System) where
+  task_inside : (r : Reference) (tasks : List Task) → length tasks ≡ length s.tasks → no_task s r ≡ [] → unwrap_or (task_of s r.name) 0 < length tasks
+  task_inside r tasks same e =
+      let inside : unwrap_or (task_of s r.name) 0 < length s.tasks = number_inside _ s.tasks r.line e in
+      subst (λ (n : ℕ). unwrap_or (task_of s r.name) 0 < n) (sym same) inside
+
+  alarm_inside : (r : Reference) → no_alarm s r ≡ [] → unwrap_or (alarm_of s r.name) 0 < length s.alarms
+  alarm_inside r e = number_inside _ s.alarms r.line e
+
+  resource_inside : (r : Reference) → no_resource s r ≡ [] → unwrap_or (resource_of s r.name) 0 < length s.resources
+  resource_inside r e = number_inside _ s.resources r.line e
+
+  -- a declared event has a bit
+  some_bit : (r : Reference) → All (λ (x : EventObject). 0 < x.mask.0) s.events → no_event s r ≡ [] → 0 < event_bits s r
+  some_bit r events e = events (unwrap_or (event_of s r.name) 0) graph.no_event (number_inside _ s.events r.line e)
+
+  -- and so has a mask that names one
+  some_bits : (mask : List Reference) → All (λ (x : EventObject). 0 < x.mask.0) s.events → 1 ≤ length mask → flat_map (no_event s) mask ≡ [] → 0 < mask_bits s mask
+  some_bits [] events some e = absurd (omega arith)
+  some_bits (r ∷ more) events some e =
+      let bit : 0 < event_bits s r = some_bit r events (both_empty (no_event s r) (flat_map (no_event s) more) e).0 in
+      omega (arith, bit, le_or_l (event_bits s r) (mask_bits s more))
+
+  pub call_names_entries : (tasks : List Task) → length tasks ≡ length s.tasks → All (λ (x : EventObject). 0 < x.mask.0) s.events
+      → (line : ℕ) (c : Call) → NamesEvents c → undeclared_in s line c ≡ [] → NamesEntries tasks s.alarms s.resources (kind_of s c)
+  call_names_entries tasks same events line (call.ActivateTask task) m e = task_inside task tasks same e
+  call_names_entries tasks same events line call.TerminateTask m e = tt
+  call_names_entries tasks same events line (call.ChainTask task) m e = task_inside task tasks same e
+  call_names_entries tasks same events line call.Schedule m e = tt
+  call_names_entries tasks same events line (call.GetResource resource) m e = resource_inside resource e
+  call_names_entries tasks same events line (call.ReleaseResource resource) m e = resource_inside resource e
+  call_names_entries tasks same events line (call.SetEvent task mask) m e =
+      let parts = both_empty (no_task s task) (flat_map (no_event s) mask) e in
+      (task_inside task tasks same parts.0, some_bits mask events m parts.1)
+  call_names_entries tasks same events line (call.ClearEvent mask) m e = some_bits mask events m e
+  call_names_entries tasks same events line (call.GetEvent task) m e = task_inside task tasks same e
+  call_names_entries tasks same events line (call.WaitEvent mask) m e = some_bits mask events m e
+  call_names_entries tasks same events line (call.SetRelAlarm alarm increment cycle) m e = alarm_inside alarm e
+  call_names_entries tasks same events line (call.SetAbsAlarm alarm start cycle) m e = alarm_inside alarm e
+  call_names_entries tasks same events line (call.CancelAlarm alarm) m e = alarm_inside alarm e
+  call_names_entries tasks same events line (call.GetAlarm alarm) m e = alarm_inside alarm e
+  call_names_entries tasks same events line call.GetTaskId m e = tt
+  call_names_entries tasks same events line (call.GetTaskState task) m e = task_inside task tasks same e
+  call_names_entries tasks same events line call.GetActiveApplicationMode m e = tt
+  call_names_entries tasks same events line (call.ShutdownOs _) m e = tt
+  call_names_entries tasks same events line (call.LockCall lock) m e = tt
+
+  -- a call is no end, and has one way on
+  pub call_in_task : (c : Call) → IsTrue (task_may false (kind_of s c))
+  call_in_task (call.ActivateTask task) = refl
+  call_in_task call.TerminateTask = refl
+  call_in_task (call.ChainTask task) = refl
+  call_in_task call.Schedule = refl
+  call_in_task (call.GetResource resource) = refl
+  call_in_task (call.ReleaseResource resource) = refl
+  call_in_task (call.SetEvent task mask) = refl
+  call_in_task (call.ClearEvent mask) = refl
+  call_in_task (call.GetEvent task) = refl
+  call_in_task (call.WaitEvent mask) = refl
+  call_in_task (call.SetRelAlarm alarm increment cycle) = refl
+  call_in_task (call.SetAbsAlarm alarm start cycle) = refl
+  call_in_task (call.CancelAlarm alarm) = refl
+  call_in_task (call.GetAlarm alarm) = refl
+  call_in_task call.GetTaskId = refl
+  call_in_task (call.GetTaskState task) = refl
+  call_in_task call.GetActiveApplicationMode = refl
+  call_in_task (call.ShutdownOs _) = refl
+  call_in_task (call.LockCall lock) = refl
+
+  pub call_in_isr : (line : ℕ) (c : Call) → of_resource line c ≡ [] → IsTrue (isr_may false (kind_of s c))
+  call_in_isr line (call.ActivateTask task) e = refl
+  call_in_isr line call.TerminateTask e = refl
+  call_in_isr line (call.ChainTask task) e = refl
+  call_in_isr line call.Schedule e = refl
+  call_in_isr line (call.GetResource resource) e = absurd cc
+  call_in_isr line (call.ReleaseResource resource) e = absurd cc
+  call_in_isr line (call.SetEvent task mask) e = refl
+  call_in_isr line (call.ClearEvent mask) e = refl
+  call_in_isr line (call.GetEvent task) e = refl
+  call_in_isr line (call.WaitEvent mask) e = refl
+  call_in_isr line (call.SetRelAlarm alarm increment cycle) e = refl
+  call_in_isr line (call.SetAbsAlarm alarm start cycle) e = refl
+  call_in_isr line (call.CancelAlarm alarm) e = refl
+  call_in_isr line (call.GetAlarm alarm) e = refl
+  call_in_isr line call.GetTaskId e = refl
+  call_in_isr line (call.GetTaskState task) e = refl
+  call_in_isr line call.GetActiveApplicationMode e = refl
+  call_in_isr line (call.ShutdownOs _) e = refl
+  call_in_isr line (call.LockCall lock) e = refl
+
+  pub call_goes_on : (b next : ℕ) (c : Call) → IsTrue (is_own_next b (kind_of s c) next)
+  call_goes_on b next (call.ActivateTask task) = refl
+  call_goes_on b next call.TerminateTask = refl
+  call_goes_on b next (call.ChainTask task) = refl
+  call_goes_on b next call.Schedule = refl
+  call_goes_on b next (call.GetResource resource) = refl
+  call_goes_on b next (call.ReleaseResource resource) = refl
+  call_goes_on b next (call.SetEvent task mask) = refl
+  call_goes_on b next (call.ClearEvent mask) = refl
+  call_goes_on b next (call.GetEvent task) = refl
+  call_goes_on b next (call.WaitEvent mask) = refl
+  call_goes_on b next (call.SetRelAlarm alarm increment cycle) = refl
+  call_goes_on b next (call.SetAbsAlarm alarm start cycle) = refl
+  call_goes_on b next (call.CancelAlarm alarm) = refl
+  call_goes_on b next (call.GetAlarm alarm) = refl
+  call_goes_on b next call.GetTaskId = refl
+  call_goes_on b next (call.GetTaskState task) = refl
+  call_goes_on b next call.GetActiveApplicationMode = refl
+  call_goes_on b next (call.ShutdownOs _) = refl
+  call_goes_on b next (call.LockCall lock) = refl
+
+  pub call_has_one_way : (tasks : List Task) (alarms : List Alarm) (resources : List Resource) (blocks : List Block) (first count : ℕ) (c : Call) → IsOtherWay tasks alarms resources blocks first count (kind_of s c)
+  call_has_one_way tasks alarms resources blocks first count (call.ActivateTask task) = tt
+  call_has_one_way tasks alarms resources blocks first count call.TerminateTask = tt
+  call_has_one_way tasks alarms resources blocks first count (call.ChainTask task) = tt
+  call_has_one_way tasks alarms resources blocks first count call.Schedule = tt
+  call_has_one_way tasks alarms resources blocks first count (call.GetResource resource) = tt
+  call_has_one_way tasks alarms resources blocks first count (call.ReleaseResource resource) = tt
+  call_has_one_way tasks alarms resources blocks first count (call.SetEvent task mask) = tt
+  call_has_one_way tasks alarms resources blocks first count (call.ClearEvent mask) = tt
+  call_has_one_way tasks alarms resources blocks first count (call.GetEvent task) = tt
+  call_has_one_way tasks alarms resources blocks first count (call.WaitEvent mask) = tt
+  call_has_one_way tasks alarms resources blocks first count (call.SetRelAlarm alarm increment cycle) = tt
+  call_has_one_way tasks alarms resources blocks first count (call.SetAbsAlarm alarm start cycle) = tt
+  call_has_one_way tasks alarms resources blocks first count (call.CancelAlarm alarm) = tt
+  call_has_one_way tasks alarms resources blocks first count (call.GetAlarm alarm) = tt
+  call_has_one_way tasks alarms resources blocks first count call.GetTaskId = tt
+  call_has_one_way tasks alarms resources blocks first count (call.GetTaskState task) = tt
+  call_has_one_way tasks alarms resources blocks first count call.GetActiveApplicationMode = tt
+  call_has_one_way tasks alarms resources blocks first count (call.ShutdownOs _) = tt
+  call_has_one_way tasks alarms resources blocks first count (call.LockCall lock) = tt

@@ -1,0 +1,8 @@
+use Rattle.std.proofs.Common.{◌≡◌, drop}
+use Rattle.std.specs.List.{list_any}
+use Rattle.task_code.specs.declared.tree.BodyKind.TheVariants.{Isr}
+use Rattle.block_graph.specs.Rules.{lacks_code}
+use Rattle.block_graph.proofs.owners.has_bare_isr.Given as goal
+
+abbrev pub invariant-loop-isr : goal.invariant-loop-isr
+invariant-loop-isr l = list_any (lacks_code Isr l.bodies) (drop l.isr-index l.isrs) ≡ list_any (lacks_code Isr l.bodies) l.isrs

@@ -1,0 +1,12 @@
+-- What is asked of each call, by rule.
+use Rattle.std.specs.Prelude.{ℕ, List}
+use Rattle.app_model.specs.declared.system.System.{System}
+use Rattle.task_code.specs.declared.call.Call.{Call}
+use Rattle.block_graph.specs.declared.calls.CallRule.{CallRule}
+use Rattle.block_graph.specs.declared.calls.CallRule.TheVariants.{Declared, Resourceless}
+use Rattle.block_graph.specs.Rules.{undeclared_in, of_resource}
+
+-- the lines on which a call violates the rule
+abbrev pub lines_of : CallRule → System → ℕ → Call → List ℕ
+lines_of Declared s line call = undeclared_in s line call
+lines_of Resourceless s line call = of_resource line call

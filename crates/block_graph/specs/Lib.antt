@@ -1,0 +1,10 @@
+pub mod Answers
+pub mod Apps
+pub mod Blocks
+pub mod CallRules
+pub mod Faults
+pub mod Follows
+pub mod Locks
+pub mod Names
+pub mod Rules
+pub mod StatementBlocks

@@ -1,0 +1,161 @@
+-- The rules on a system and its task code (this project's profile): on which lines each is violated.
+use Rattle.std.specs.Prelude.{ℕ, Bool, true, false, not, ◌||◌, ◌&&◌, if◌then◌else◌, is_some, List, [], ◌∷◌, ◌++◌, Option, Some, None, filter, map, drop}
+use Rattle.std.specs.List.{list_any, flat_map}
+use Rattle.std.specs.Str.{bytes_eq}
+use Rattle.osek_values.specs.declared.limits.TheConstants.{MAX_SOURCE_BLOCKS}
+use Rattle.osek_values.specs.declared.refusal.CodeRule.{CodeRule}
+use Rattle.osek_values.specs.declared.refusal.CodeRule.TheVariants.{C0, C1, C2, C3, C4, C6, C7, C8, C9}
+use Rattle.app_model.specs.declared.system.TaskObject.{TaskObject}
+use Rattle.app_model.specs.declared.system.System.{System}
+use Rattle.oil_model.specs.Rules.{repeated}
+use Rattle.task_code.specs.declared.call.Reference.{Reference}
+use Rattle.task_code.specs.declared.call.Call.{Call}
+use Rattle.task_code.specs.declared.call.Call.TheVariants as call
+use Rattle.task_code.specs.declared.tree.BodyKind.{BodyKind}
+use Rattle.task_code.specs.declared.tree.BodyKind.TheVariants.{Task, Isr}
+use Rattle.task_code.specs.declared.tree.Body.{Body}
+use Rattle.task_code.specs.declared.tree.Code.{Code}
+use Rattle.task_code.specs.Statements.{Statements, closed, work_then, if_then, if_else_then, while_then, call_then, closing_line}
+use Rattle.block_graph.specs.Names.{task_of, isr_of, alarm_of, resource_of, event_of}
+use Rattle.block_graph.specs.Locks.{unpaired}
+
+abbrev pub is_kind : BodyKind → BodyKind → Bool
+is_kind Task Task = true
+is_kind Isr Isr = true
+is_kind _ _ = false
+
+-- the code of the task or of the ISR of this name
+abbrev pub is_code_of : BodyKind → List ℕ → Body → Bool
+is_code_of kind name body = is_kind kind body.kind && bytes_eq name body.owner.name
+
+abbrev pub line_of_body : Body → ℕ
+line_of_body body = body.line
+
+-- C1: a declared task or category 2 ISR has no code; on line 0
+abbrev pub lacks_code : BodyKind → List Body → List ℕ → Bool
+lacks_code kind bodies name = not (list_any (is_code_of kind name) bodies)
+
+abbrev pub missing_code : System → List Body → List ℕ
+missing_code s bodies =
+    if list_any (λ (x : TaskObject). lacks_code Task bodies x.name) s.tasks || list_any (lacks_code Isr bodies) s.isrs then 0 ∷ [] else []
+
+-- C2: code for nothing declared, or for a category 1 ISR
+abbrev pub has_owner : System → BodyKind → List ℕ → Bool
+has_owner s Task name = is_some (task_of s name)
+has_owner s Isr name = is_some (isr_of s name)
+
+abbrev pub is_stray : System → Body → Bool
+is_stray s body = not (has_owner s body.kind body.owner.name)
+
+abbrev pub stray_code : System → List Body → List ℕ
+stray_code s bodies = map line_of_body (filter (is_stray s) bodies)
+
+abbrev pub first_only : List ℕ → List ℕ
+first_only [] = []
+first_only (line ∷ others) = line ∷ []
+
+-- C3: the first body of which an earlier one has the same owner
+abbrev pub has_same_owner : Body → Body → Bool
+has_same_owner body earlier = is_code_of body.kind body.owner.name earlier
+
+abbrev pub repeated_code : List Body → List ℕ
+repeated_code bodies = first_only (map line_of_body (repeated has_same_owner [] bodies))
+
+-- what the calls of statements bring, each by its line, in the order of the text
+abbrev pub from_calls : (ℕ → Call → List ℕ) → Statements → List ℕ
+from_calls lines (closed line) = []
+from_calls lines (work_then line count next) = from_calls lines next
+from_calls lines (if_then line branch next) = from_calls lines branch ++ from_calls lines next
+from_calls lines (if_else_then line branch otherwise next) = from_calls lines branch ++ (from_calls lines otherwise ++ from_calls lines next)
+from_calls lines (while_then line condition body next) = from_calls lines body ++ from_calls lines next
+from_calls lines (call_then line call next) = lines line call ++ from_calls lines next
+
+-- C4: a name in a call isn't declared as the needed kind
+abbrev pub undeclared : Option ℕ → ℕ → List ℕ
+undeclared None line = line ∷ []
+undeclared (Some number) line = []
+
+module _ (s : System) where
+  abbrev pub no_task : Reference → List ℕ
+  no_task r = undeclared (task_of s r.name) r.line
+
+  abbrev pub no_alarm : Reference → List ℕ
+  no_alarm r = undeclared (alarm_of s r.name) r.line
+
+  abbrev pub no_resource : Reference → List ℕ
+  no_resource r = undeclared (resource_of s r.name) r.line
+
+  abbrev pub no_event : Reference → List ℕ
+  no_event r = undeclared (event_of s r.name) r.line
+
+  abbrev pub undeclared_in : ℕ → Call → List ℕ
+  undeclared_in line (call.ActivateTask task) = no_task task
+  undeclared_in line call.TerminateTask = []
+  undeclared_in line (call.ChainTask task) = no_task task
+  undeclared_in line call.Schedule = []
+  undeclared_in line (call.GetResource resource) = no_resource resource
+  undeclared_in line (call.ReleaseResource resource) = no_resource resource
+  undeclared_in line (call.SetEvent task events) = no_task task ++ flat_map no_event events
+  undeclared_in line (call.ClearEvent events) = flat_map no_event events
+  undeclared_in line (call.GetEvent task) = no_task task
+  undeclared_in line (call.WaitEvent events) = flat_map no_event events
+  undeclared_in line (call.SetRelAlarm alarm increment cycle) = no_alarm alarm
+  undeclared_in line (call.SetAbsAlarm alarm start cycle) = no_alarm alarm
+  undeclared_in line (call.CancelAlarm alarm) = no_alarm alarm
+  undeclared_in line (call.GetAlarm alarm) = no_alarm alarm
+  undeclared_in line call.GetTaskId = []
+  undeclared_in line (call.GetTaskState task) = no_task task
+  undeclared_in line call.GetActiveApplicationMode = []
+  undeclared_in line (call.ShutdownOs _) = []
+  undeclared_in line (call.LockCall lock) = []
+
+  abbrev pub undeclared_names : List Body → List ℕ
+  undeclared_names bodies = flat_map (λ (body : Body). from_calls undeclared_in body.statements) bodies
+
+-- C6: GetResource or ReleaseResource in an ISR
+abbrev pub takes_or_gives : Call → Bool
+takes_or_gives (call.GetResource resource) = true
+takes_or_gives (call.ReleaseResource resource) = true
+takes_or_gives _ = false
+
+abbrev pub of_resource : ℕ → Call → List ℕ
+of_resource line call = if takes_or_gives call then line ∷ [] else []
+
+abbrev pub isr_resources_by : BodyKind → Statements → List ℕ
+isr_resources_by Task statements = []
+isr_resources_by Isr statements = from_calls of_resource statements
+
+abbrev pub isr_resources : List Body → List ℕ
+isr_resources bodies = flat_map (λ (body : Body). isr_resources_by body.kind body.statements) bodies
+
+-- C7: interrupt locks don't pair
+abbrev pub unpaired_locks : List Body → List ℕ
+unpaired_locks bodies = flat_map unpaired bodies
+
+-- C8: the first block that is one too many
+abbrev pub statement_lines : Statements → List ℕ
+statement_lines (closed line) = []
+statement_lines (work_then line count next) = line ∷ statement_lines next
+statement_lines (if_then line branch next) = line ∷ (statement_lines branch ++ statement_lines next)
+statement_lines (if_else_then line branch otherwise next) = line ∷ (statement_lines branch ++ (statement_lines otherwise ++ statement_lines next))
+statement_lines (while_then line condition body next) = line ∷ (statement_lines body ++ statement_lines next)
+statement_lines (call_then line call next) = line ∷ statement_lines next
+
+-- a body's statements and its closing brace are blocks
+abbrev pub block_lines : List Body → List ℕ
+block_lines bodies = flat_map (λ (body : Body). statement_lines body.statements ++ closing_line body.statements ∷ []) bodies
+
+abbrev pub beyond_limit : List Body → List ℕ
+beyond_limit bodies = first_only (drop MAX_SOURCE_BLOCKS (block_lines bodies))
+
+-- The lines on which a rule is violated. C9 is the reader's, and C0 isn't used.
+abbrev pub lines : CodeRule → System → Code → List ℕ
+lines C0 s code = []
+lines C1 s code = missing_code s code.bodies
+lines C2 s code = stray_code s code.bodies
+lines C3 s code = repeated_code code.bodies
+lines C4 s code = undeclared_names s code.bodies
+lines C6 s code = isr_resources code.bodies
+lines C7 s code = unpaired_locks code.bodies
+lines C8 s code = beyond_limit code.bodies
+lines C9 s code = []

@@ -1,0 +1,194 @@
+//! The rules on calls: that the names in them are declared, and that no ISR takes or gives back a resource.
+ghost use Rattle.std.specs.Prelude.{◌≡◌, ℕ};
+ghost use Rattle.std.specs.List.{flat_map};
+ghost use Rattle.oil_model.specs.Lines.{sooner, least};
+ghost use Rattle.task_code.specs.Statements.{Statements};
+ghost use Rattle.task_code.specs.StatementLists.{statement_before};
+ghost use Rattle.block_graph.specs.Rules as rules_of;
+ghost use Rattle.block_graph.specs.CallRules.{lines_of};
+
+use crate::lines::{line_if, sooner};
+use crate::names::{alarm_of, event_of, resource_of, task_of};
+use app_model::System;
+use task_code::{Body, BodyKind, Call, Reference, Statement, StatementList};
+
+/// What is asked of each call.
+#[derive(Clone, Copy)]
+pub enum CallRule {
+    /// That the names in it are declared.
+    Declared,
+    /// That it neither takes nor gives back a resource.
+    Resourceless,
+}
+
+fn undeclared(number: Option<usize>, line: u32) -> Option<u32>
+    ensures { result ≡ least (rules_of.undeclared number line) }
+{
+    match number {
+        Some(_) => None,
+        None => Some(line),
+    }
+}
+
+fn no_task(system: &System, task: &Reference) -> Option<u32>
+    ensures { result ≡ least (rules_of.no_task system.now task.now) }
+{
+    undeclared(task_of(system, &task.name), task.line)
+}
+
+fn no_alarm(system: &System, alarm: &Reference) -> Option<u32>
+    ensures { result ≡ least (rules_of.no_alarm system.now alarm.now) }
+{
+    undeclared(alarm_of(system, &alarm.name), alarm.line)
+}
+
+fn no_resource(system: &System, resource: &Reference) -> Option<u32>
+    ensures { result ≡ least (rules_of.no_resource system.now resource.now) }
+{
+    undeclared(resource_of(system, &resource.name), resource.line)
+}
+
+fn no_event(system: &System, event: &Reference) -> Option<u32>
+    ensures { result ≡ least (rules_of.no_event system.now event.now) }
+{
+    undeclared(event_of(system, &event.name), event.line)
+}
+
+/// The least line of an event of a mask that isn't declared.
+fn no_events(system: &System, events: &[Reference]) -> Option<u32>
+    ensures { result ≡ least (flat_map (rules_of.no_event system.now) events.now) }
+{
+    let mut best = None;
+    for event in events {
+        best = sooner(best, no_event(system, event));
+    }
+    best
+}
+
+/// The least line of a name that isn't declared as the needed kind.
+#[tactic(auto, using(oil_model::proofs::Leasts::least_steps))]
+fn undeclared_in(system: &System, call: &Call) -> Option<u32>
+    ensures { (line : ℕ) → result ≡ least (rules_of.undeclared_in system.now line call.now) }
+{
+    match call {
+        Call::ActivateTask(task) => no_task(system, task),
+        Call::TerminateTask => None,
+        Call::ChainTask(task) => no_task(system, task),
+        Call::Schedule => None,
+        Call::GetResource(resource) => no_resource(system, resource),
+        Call::ReleaseResource(resource) => no_resource(system, resource),
+        Call::SetEvent(task, events) => sooner(
+            no_task(system, task),
+            no_events(system, events.as_slice()),
+        ),
+        Call::ClearEvent(events) => no_events(system, events.as_slice()),
+        Call::GetEvent(task) => no_task(system, task),
+        Call::WaitEvent(events) => no_events(system, events.as_slice()),
+        Call::SetRelAlarm(alarm, _, _) => no_alarm(system, alarm),
+        Call::SetAbsAlarm(alarm, _, _) => no_alarm(system, alarm),
+        Call::CancelAlarm(alarm) => no_alarm(system, alarm),
+        Call::GetAlarm(alarm) => no_alarm(system, alarm),
+        Call::GetTaskId => None,
+        Call::GetTaskState(task) => no_task(system, task),
+        Call::GetActiveApplicationMode => None,
+        Call::ShutdownOs(_) => None,
+        Call::LockCall(_) => None,
+    }
+}
+
+fn takes_or_gives(call: &Call) -> bool
+    ensures { result ≡ rules_of.takes_or_gives call.now }
+{
+    match call {
+        Call::GetResource(_) => true,
+        Call::ReleaseResource(_) => true,
+        _ => false,
+    }
+}
+
+/// The least line on which a call violates the rule.
+fn least_of_call(rule: CallRule, system: &System, line: u32, call: &Call) -> Option<u32>
+    ensures { result ≡ least (lines_of rule system.now line call.now) }
+{
+    match rule {
+        CallRule::Declared => undeclared_in(system, call),
+        CallRule::Resourceless => line_if(takes_or_gives(call), line),
+    }
+}
+
+/// The least line on which a call in a statement violates the rule.
+#[cycle(calls_of)]
+#[tactic(auto, using(oil_model::proofs::Leasts::least_steps))]
+fn least_of_statement(rule: CallRule, system: &System, statement: &Statement) -> Option<u32>
+    ensures { (next : Statements) → least (rules_of.from_calls (lines_of rule system.now) (statement_before statement.now next)) ≡ sooner result (least (rules_of.from_calls (lines_of rule system.now) next)) }
+{
+    match statement {
+        Statement::Work { line: _, count: _ } => None,
+        Statement::If {
+            line: _,
+            then,
+            otherwise: None,
+        } => least_of_list(rule, system, then),
+        Statement::If {
+            line: _,
+            then,
+            otherwise: Some(otherwise),
+        } => sooner(
+            least_of_list(rule, system, then),
+            least_of_list(rule, system, otherwise),
+        ),
+        Statement::While {
+            line: _,
+            condition: _,
+            body,
+        } => least_of_list(rule, system, body),
+        Statement::Call { line, call } => least_of_call(rule, system, *line, call),
+    }
+}
+
+/// The least line on which a call in a list of statements violates the rule.
+#[cycle(calls_of)]
+#[tactic(auto, using(oil_model::proofs::Leasts::least_steps))]
+fn least_of_list(rule: CallRule, system: &System, list: &StatementList) -> Option<u32>
+    ensures { result ≡ least (rules_of.from_calls (lines_of rule system.now) list.now) }
+{
+    let mut best = None;
+    for statement in list.as_slice() {
+        best = sooner(best, least_of_statement(rule, system, statement));
+    }
+    best
+}
+
+/// The least line of a name in a call that isn't declared as the needed kind.
+pub fn undeclared_name(system: &System, bodies: &[Body]) -> Option<u32>
+    ensures { result ≡ least (rules_of.undeclared_names system.now bodies.now) }
+{
+    let mut best = None;
+    for body in bodies {
+        best = sooner(
+            best,
+            least_of_list(CallRule::Declared, system, &body.statements),
+        );
+    }
+    best
+}
+
+fn isr_resource_of(system: &System, body: &Body) -> Option<u32>
+    ensures { result ≡ least (rules_of.isr_resources_by body.now.kind body.now.statements) }
+{
+    match body.kind {
+        BodyKind::Task => None,
+        BodyKind::Isr => least_of_list(CallRule::Resourceless, system, &body.statements),
+    }
+}
+
+/// The least line of a GetResource or ReleaseResource in an ISR.
+pub fn isr_resource(system: &System, bodies: &[Body]) -> Option<u32>
+    ensures { result ≡ least (rules_of.isr_resources bodies.now) }
+{
+    let mut best = None;
+    for body in bodies {
+        best = sooner(best, isr_resource_of(system, body));
+    }
+    best
+}

@@ -1,0 +1,97 @@
+//! The application of a system and its code, or their least fault.
+ghost use Rattle.std.specs.Prelude.{◌≡◌, ◌≤◌, All, IfOk, Result, Ok, Err};
+ghost use Rattle.osek_standard.specs.declared.app.App.{App};
+ghost use Rattle.app_model.specs.declared.system.System.{System};
+ghost use Rattle.oil_model.specs.Linkable.{IsLinkable};
+ghost use Rattle.task_code.specs.declared.tree.Code.{Code};
+ghost use Rattle.task_code.specs.Fit.{IsFit, AreFit};
+ghost use Rattle.block_graph.specs.declared.fault.LinkFault.{LinkFault};
+ghost use Rattle.block_graph.specs.Answers.{IsAnswer, IsRight, Answers};
+ghost use Rattle.block_graph.specs.Apps.{HasApp};
+ghost use Rattle.block_graph.specs.Blocks.{source_size as the_source_size, app_blocks as the_app_blocks};
+ghost use Rattle.block_graph.specs.Faults.{HasNoFault, IsLeastFault};
+
+use crate::fault::LinkError;
+use crate::layout::{lay_out_bodies, source_size};
+use crate::least_fault::least_fault;
+use crate::tables::{counters, isrs, tasks};
+use crate::ticks::lay_out_routines;
+use app_model::System;
+use osek_standard::{App, Block};
+use osek_values::{Memory, Seq};
+use std::alloc::Global;
+use task_code::{Body, Code};
+
+/// The blocks of the bodies, and behind them those of the tick routines.
+fn app_blocks(alloc: Global, system: &System, bodies: &[Body]) -> Result<Seq<Block>, Memory>
+    requires linkable { IsLinkable system.now }
+    requires fit { All IsFit bodies.now }
+    requires room { the_source_size bodies.now ≤ 1024 }
+    ensures { IfOk result (λ blocks. blocks ≡ the_app_blocks system.now bodies.now) }
+{
+    let mut blocks = Vec::new(alloc);
+    lay_out_bodies(system, bodies, &mut blocks)?;
+    lay_out_routines(system, source_size(bodies), &mut blocks)?;
+    Ok(Seq::of(blocks))
+}
+
+/// The application of a system and its code that have no fault.
+fn app(alloc: Global, system: System, code: &Code) -> Result<App, Memory>
+    requires linkable { IsLinkable system }
+    requires fit { AreFit code.now }
+    requires no_fault { HasNoFault system code.now }
+    ensures { IfOk result (λ app. HasApp system code.now app) }
+{
+    let bodies = code.bodies.as_slice();
+    let tasks = tasks(alloc, &system, bodies)?;
+    let isrs = isrs(alloc, &system, bodies)?;
+    let counters = counters(alloc, &system, source_size(bodies))?;
+    let blocks = app_blocks(alloc, &system, bodies)?;
+    Ok(App {
+        hooks: system.hooks,
+        tasks,
+        isrs,
+        counters,
+        alarms: system.alarms,
+        resources: system.resources,
+        modes: system.modes,
+        blocks,
+    })
+}
+
+fn answer(alloc: Global, system: System, code: &Code) -> Result<App, LinkError>
+    requires linkable { IsLinkable system }
+    requires fit { AreFit code.now }
+    ensures { IsRight result system code.now }
+{
+    match least_fault(&system, code) {
+        Some(fault) => Err(LinkError::Fault(fault)),
+        None => {
+            let app = app(alloc, system, code)?;
+            Ok(app)
+        }
+    }
+}
+
+/// The application of a system and its task code (this project's profile), or their least fault by rule and line. The
+/// system is dropped where they have none.
+pub fn link(alloc: Global, system: System, code: &Code) -> Result<App, LinkError>
+    requires linkable { IsLinkable system }
+    requires fit { AreFit code.now }
+
+    // What is answered is right,
+    ensures right { IsRight result system code.now }
+
+    // and what is right is answered, unless memory runs out.
+    ensures complete { (app : App) → HasApp system code.now app → Answers result (Ok app) }
+    ensures least_fault { (fault : LinkFault) → IsLeastFault system code.now fault.rule fault.line → Answers result (Err fault) }
+{
+    answer(alloc, system, code)
+}
+
+/// A law: each linkable system and fit code have an application or a least fault, and none has another answer. It does
+/// nothing.
+pub fn one_answer()
+    ensures some { (s : System) (code : Code) → IsLinkable s → AreFit code → (answer : Result App LinkFault) × IsAnswer answer s code }
+    ensures one { (s : System) (code : Code) (a b : Result App LinkFault) → IsAnswer a s code → IsAnswer b s code → a ≡ b }
+{}

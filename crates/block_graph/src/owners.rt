@@ -1,0 +1,119 @@
+//! The rules on whose code there is: that each task and ISR has some, and none has it twice.
+ghost use Rattle.std.specs.Prelude.{◌≡◌};
+ghost use Rattle.std.specs.List.{list_any};
+ghost use Rattle.app_model.specs.declared.system.TaskObject.{TaskObject};
+ghost use Rattle.oil_model.specs.Lines.{least};
+ghost use Rattle.task_code.specs.declared.tree.BodyKind.TheVariants.{Task as of_task, Isr as of_isr};
+ghost use Rattle.block_graph.specs.Rules as rules_of;
+
+use crate::lines::{line_if, sooner};
+use crate::names::{isr_of, task_of};
+use app_model::{System, TaskObject};
+use osek_values::Name;
+use task_code::{Body, BodyKind};
+
+fn is_kind(one: BodyKind, other: BodyKind) -> bool
+    ensures { result ≡ rules_of.is_kind one other }
+{
+    match one {
+        BodyKind::Task => matches!(other, BodyKind::Task),
+        BodyKind::Isr => matches!(other, BodyKind::Isr),
+    }
+}
+
+/// Whether it is the code of the task or of the ISR of this name.
+pub fn is_code_of(kind: BodyKind, name: &Name, body: &Body) -> bool
+    ensures { result ≡ rules_of.is_code_of kind name.now body.now }
+{
+    is_kind(kind, body.kind) && name.as_bytes() == body.owner.name.as_bytes()
+}
+
+fn has_code(kind: BodyKind, name: &Name, bodies: &[Body]) -> bool
+    ensures { result ≡ list_any (rules_of.is_code_of kind name.now) bodies.now }
+{
+    for body in bodies {
+        if is_code_of(kind, name, body) {
+            return true;
+        }
+    }
+    false
+}
+
+fn lacks_code(kind: BodyKind, bodies: &[Body], name: &Name) -> bool
+    ensures { result ≡ rules_of.lacks_code kind bodies.now name.now }
+{
+    !has_code(kind, name, bodies)
+}
+
+fn has_bare_task(tasks: &[TaskObject], bodies: &[Body]) -> bool
+    ensures { result ≡ list_any (λ (task : TaskObject). rules_of.lacks_code of_task bodies.now task.name) tasks.now }
+{
+    for task in tasks {
+        if lacks_code(BodyKind::Task, bodies, &task.name) {
+            return true;
+        }
+    }
+    false
+}
+
+fn has_bare_isr(isrs: &[Name], bodies: &[Body]) -> bool
+    ensures { result ≡ list_any (rules_of.lacks_code of_isr bodies.now) isrs.now }
+{
+    for isr in isrs {
+        if lacks_code(BodyKind::Isr, bodies, isr) {
+            return true;
+        }
+    }
+    false
+}
+
+/// Line 0, where a declared task or category 2 ISR has no code.
+pub fn missing_code(system: &System, bodies: &[Body]) -> Option<u32>
+    ensures { result ≡ least (rules_of.missing_code system.now bodies.now) }
+{
+    let is_missing = has_bare_task(system.tasks.as_slice(), bodies)
+        || has_bare_isr(system.isrs.as_slice(), bodies);
+    line_if(is_missing, 0)
+}
+
+fn has_owner(system: &System, kind: BodyKind, name: &Name) -> bool
+    ensures { result ≡ rules_of.has_owner system.now kind name.now }
+{
+    match kind {
+        BodyKind::Task => task_of(system, name).is_some(),
+        BodyKind::Isr => isr_of(system, name).is_some(),
+    }
+}
+
+fn is_stray(system: &System, body: &Body) -> bool
+    ensures { result ≡ rules_of.is_stray system.now body.now }
+{
+    !has_owner(system, body.kind, &body.owner.name)
+}
+
+/// The least line of code for nothing declared, or for a category 1 ISR.
+#[tactic(auto, using(oil_model::proofs::Leasts::least_steps))]
+pub fn stray_code(system: &System, bodies: &[Body]) -> Option<u32>
+    ensures { result ≡ least (rules_of.stray_code system.now bodies.now) }
+{
+    let mut best = None;
+    for body in bodies {
+        if is_stray(system, body) {
+            best = sooner(best, Some(body.line));
+        }
+    }
+    best
+}
+
+/// The line of the first body of which an earlier one has the same owner. It looks at no body behind that one, so that
+/// where all bodies have a declared owner it looks at few.
+pub fn repeated_code(bodies: &[Body]) -> Option<u32>
+    ensures { result ≡ least (rules_of.repeated_code bodies.now) }
+{
+    for (i, body) in bodies.iter().enumerate() {
+        if has_code(body.kind, &body.owner.name, &bodies[..i]) {
+            return Some(body.line);
+        }
+    }
+    None
+}

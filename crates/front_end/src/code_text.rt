@@ -1,0 +1,61 @@
+//! The application that a task code text gives.
+ghost use Rattle.std.specs.Prelude.{◌≡◌, Result};
+ghost use Rattle.osek_values.specs.declared.refusal.Refusal.{Refusal};
+ghost use Rattle.osek_standard.specs.declared.app.App.{App};
+ghost use Rattle.oil_model.specs.Linkable.{IsLinkable};
+ghost use Rattle.osek_values.specs.declared.refusal.TextFile.TheVariants as file;
+ghost use Rattle.front_end.specs.declared.error.TextError.TheVariants as errors;
+ghost use Rattle.front_end.specs.Answers.{IsCodeAnswer, IsRight, Answers};
+
+use crate::error::TextError;
+use app_model::System;
+use block_graph::{LinkError, link};
+use oil_lexer::{LexError, tokens};
+use osek_standard::App;
+use osek_values::{Refusal, Rule, TextFile};
+use std::alloc::Global;
+use task_code::{CodeError, parse_code};
+
+fn refused(line: u32, rule: Rule) -> TextError
+    ensures { result ≡ errors.Refused (record { file = file.Code; line = line; rule = rule }) }
+{
+    TextError::Refused(Refusal {
+        file: TextFile::Code,
+        line,
+        rule,
+    })
+}
+
+fn read(alloc: Global, system: System, text: &[u8]) -> Result<App, TextError>
+    requires { IsLinkable system }
+    ensures { IsRight (λ r. IsCodeAnswer r system text.now) result }
+{
+    let tokens = match tokens(alloc, text) {
+        Ok(tokens) => tokens,
+        Err(LexError::Fault(fault)) => return Err(refused(fault.line, Rule::Lex(fault.rule))),
+        Err(LexError::Memory) => return Err(TextError::Memory),
+    };
+    let code = match parse_code(alloc, &tokens) {
+        Ok(code) => code,
+        Err(CodeError::Fault(fault)) => return Err(refused(fault.line, fault.rule)),
+        Err(CodeError::Memory) => return Err(TextError::Memory),
+    };
+    match link(alloc, system, &code) {
+        Ok(app) => Ok(app),
+        Err(LinkError::Fault(fault)) => Err(refused(fault.line, Rule::Code(fault.rule))),
+        Err(LinkError::Memory) => Err(TextError::Memory),
+    }
+}
+
+/// The application that a task code text gives beside a system (this project's profile), or the first fault of the text.
+pub fn read_app(alloc: Global, system: System, text: &[u8]) -> Result<App, TextError>
+    requires linkable { IsLinkable system }
+
+    // What is answered is right,
+    ensures right { IsRight (λ r. IsCodeAnswer r system text.now) result }
+
+    // and what is right is answered, unless memory runs out.
+    ensures exact { (expected : Result App Refusal) → IsCodeAnswer expected system text.now → Answers result expected }
+{
+    read(alloc, system, text)
+}
