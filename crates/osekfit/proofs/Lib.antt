@@ -1,7 +1,12 @@
-pub mod Does
+pub mod Commands
+pub mod Compiles
+pub mod Dues
 pub mod EventSteps
+pub mod Exact
 pub mod Fronts
+pub mod InputFiles
+pub mod OneDue
 pub mod PlayedTrace
 pub mod Plays
-pub mod Replays
 pub mod Results
+pub mod Runs

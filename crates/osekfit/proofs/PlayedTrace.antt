@@ -18,15 +18,10 @@ use Rattle.trace_text.specs.EventWords.{read_line}
 use Rattle.trace_text.specs.EventText.{Reading, read_lines, read_text, with_line, numbered_lines}
 use Rattle.trace_text.specs.declared.fault.EventFault.{EventFault}
 use Rattle.trace_text.specs.declared.fault.FaultyLine.{FaultyLine}
+use Rattle.osekfit.specs.Due.{end_of}
 use Rattle.osekfit.specs.Playing.{Played, played, printing, plays, played_line, played_after, line_of}
 use Rattle.osekfit.specs.declared.stop.Stop.{Stop}
 use Rattle.osekfit.specs.declared.stop.Stop.TheVariants as stop
-
--- how a play ends: at a trap, at a fault, or with the text
-abbrev pub end_of : Bool → Option FaultyLine → Result (Unit {0}) Stop
-end_of true fault = Err stop.Trapped
-end_of false None = Ok tt
-end_of false (Some f) = Err (stop.Events f)
 
 -- the lines of a run from line n on, and of its trap
 abbrev pub run_text : Image → ℕ → Run → List ℕ

@@ -24,7 +24,7 @@ use Rattle.osek_io.specs.Stored.{WritesPart}
 use Rattle.osekfit.proofs.Fronts.{grown-grown, front_of_part, front_of_first, front_behind}
 use Rattle.std.proofs.lemmas.List.{append-nil}
 
-grown-nil : (old : Option (List ℕ)) → old ≡ grown old []
+pub grown-nil : (old : Option (List ℕ)) → old ≡ grown old []
 grown-nil None = refl
 grown-nil (Some x) = ap (λ (l : List ℕ). Some l) (sym (append-nil x))
 

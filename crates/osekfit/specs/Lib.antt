@@ -1,8 +1,14 @@
 pub mod Answering
+pub mod Building
+pub mod Compiling
+pub mod Due
 pub mod Inputs
+pub mod Outside
 pub mod Playing
 pub mod Replaying
+pub mod Running
 pub mod Seen
 pub mod Statuses
 pub mod Telling
+pub mod Tracing
 pub mod Words

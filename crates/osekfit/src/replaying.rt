@@ -1,25 +1,15 @@
 //! The command `replay`: the trace of an image under an event text.
-ghost use Rattle.std.specs.Prelude.{◌≡◌, ◌≤◌, ◌<◌, length, false, IfOk, IfErr, IfSome};
-ghost use Rattle.std.specs.List.{position};
-ghost use Rattle.std.specs.Str.{bytes_eq};
-ghost use Rattle.trace_text.specs.EventText.{numbered_lines};
-ghost use Rattle.osek_standard.specs.Dispatch.{stepped};
+ghost use Rattle.std.specs.Prelude.{◌≡◌, ◌≤◌, IfOk, IfErr};
 ghost use Rattle.osekfit.specs.Inputs.{OfFile};
-ghost use Rattle.osekfit.specs.Playing.{PlayAnswers, plays, printing, line_of};
-ghost use Rattle.osekfit.specs.Replaying.{SpellImage, mode_named as mode_of_name, ImageStops, EventsStop, ReplayAnswers};
+ghost use Rattle.osekfit.specs.Outside.{outside};
+ghost use Rattle.osekfit.specs.Replaying.{SpellImage, ImageStops, ReplayAnswers};
 
-use crate::playing::{play, print_line};
+use crate::running::run;
 use crate::stop::{Input, Stop};
 use image_codec::{Image, ImageError, ImageFault, ImageRule, decode};
-use image_run::Machine;
 use osek_io::{LoadError, Shelf, Sink, load};
-use osek_standard::App;
-use osek_values::limits::{LINE_MAX, MAX_EVENT_TEXT, MAX_FILE};
-use osek_values::{ModeNo, Name, Notes, Steps};
+use osek_values::limits::MAX_FILE;
 use std::alloc::Global;
-use std::marker::Brand;
-use std::sync::ledger::{Blank, Ledger};
-use trace_text::{EventFault, FaultyLine};
 
 /// The image that a file's bytes spell.
 fn load_image<F: Shelf>(alloc: Global, shelf: &mut F, image: &str) -> Result<Image, Stop>
@@ -47,69 +37,7 @@ fn load_image<F: Shelf>(alloc: Global, shelf: &mut F, image: &str) -> Result<Ima
     }
 }
 
-/// The event text, within its limit.
-fn load_events<F: Shelf>(alloc: Global, shelf: &mut F, events: &str) -> Result<Vec<u8>, Stop>
-    ensures text { IfOk result (λ v. OfFile (F.contents shelf.old) events.now (λ b. b ≡ v.items)) }
-    ensures within { IfOk result (λ v. length v.items ≤ MAX_EVENT_TEXT) }
-    ensures stop { IfErr result (EventsStop (F.contents shelf.old) (F.read_faults shelf.old) (F.read_faults shelf.new) events.now) }
-    ensures same_files { F.contents shelf.new ≡ F.contents shelf.old }
-    ensures same_writes { F.write_faults shelf.new ≡ F.write_faults shelf.old }
-    ensures never_falls { F.read_faults shelf.old ≤ F.read_faults shelf.new }
-{
-    match load(alloc, shelf, events, MAX_EVENT_TEXT as u64) {
-        Ok(bytes) => Ok(bytes),
-        Err(LoadError::Read) => Err(Stop::Unread(Input::Events)),
-        Err(LoadError::TooLong) => Err(Stop::Events(FaultyLine {
-            line: 0,
-            rule: EventFault::E4,
-        })),
-        Err(LoadError::Memory) => Err(Stop::Memory),
-    }
-}
-
-/// The place of a name.
-fn place_of(names: &[Name], name: &[u8]) -> Option<usize>
-    ensures { result ≡ position (bytes_eq name.now) names.now }
-{
-    names.iter().position(|other| name == other.as_bytes())
-}
-
-/// The number of the mode of a name.
-fn mode_named(app: &App, name: &str) -> Option<ModeNo>
-    ensures mode { result ≡ mode_of_name app.now name.now }
-    ensures known { IfSome result (λ m. m.0 < length app.now.modes) }
-{
-    match place_of(app.modes.as_slice(), name.as_bytes()) {
-        Some(place) => Some(ModeNo(place as u8)),
-        None => None,
-    }
-}
-
-/// Prints the trace of a machine that has just started: the start's line, and what the event text brings.
-fn print_trace<L: Ledger, O: Sink>(
-    blank: Blank,
-    out: &mut O,
-    machine: &mut Machine,
-    notes: &Notes,
-    text: &[u8],
-    line: &mut [u8],
-) -> Result<(), Stop>
-    requires name { blank.name ≡ L.name }
-    requires parts { blank.parts ≡ L.parts }
-    requires some { 0 < L.parts }
-    requires running { machine.old.trapped ≡ false }
-    requires room { LINE_MAX ≤ length line.old }
-    requires few { length text.now ≤ MAX_EVENT_TEXT }
-    ensures { PlayAnswers (O.faults out.old) (O.faults out.new) (O.written out.old) (O.written out.new) (printing (line_of machine.old.image 0 (stepped machine.old.state notes.now)) (plays machine.old.image (numbered_lines text.now) 1 machine.old.state)) result }
-{
-    let mut scans = Steps::<L>::of(blank);
-    match print_line(out, machine, 0, notes, line) {
-        Ok(()) => play(out, machine, text, line, &mut scans),
-        Err(stop) => Err(stop),
-    }
-}
-
-/// Prints the trace of an image in a mode under an event text. All memory is taken before the first line is printed.
+/// Prints the trace of the image that a file's bytes spell, in a mode under an event text.
 pub fn replay<F: Shelf, O: Sink>(
     alloc: Global,
     shelf: &mut F,
@@ -118,7 +46,10 @@ pub fn replay<F: Shelf, O: Sink>(
     mode: &str,
     events: &str,
 ) -> Result<(), Stop>
-    ensures answer { ReplayAnswers (F.contents shelf.old) (F.read_faults shelf.old) (F.read_faults shelf.new) (O.faults out.old) (O.faults out.new) (O.written out.old) (O.written out.new) image.now mode.now events.now result }
+    ensures answer { ReplayAnswers
+        (outside (F.contents shelf.old) (F.read_faults shelf.old) (F.write_faults shelf.old) (O.faults out.old) (O.written out.old))
+        (outside (F.contents shelf.new) (F.read_faults shelf.new) (F.write_faults shelf.new) (O.faults out.new) (O.written out.new))
+        image.now mode.now events.now result }
     ensures same_files { F.contents shelf.new ≡ F.contents shelf.old }
     ensures same_writes { F.write_faults shelf.new ≡ F.write_faults shelf.old }
 {
@@ -126,20 +57,8 @@ pub fn replay<F: Shelf, O: Sink>(
         Ok(image) => image,
         Err(stop) => return Err(stop),
     };
-    let Some(mode) = mode_named(&image.app, mode) else {
-        return Err(Stop::NoMode);
-    };
-    let text = match load_events(alloc, shelf, events) {
-        Ok(text) => text,
-        Err(stop) => return Err(stop),
-    };
-    let Ok(mut line) = vec![in alloc; 0u8; LINE_MAX] else {
-        return Err(Stop::Memory);
-    };
-    match Machine::start(alloc, image, mode) {
-        Ok((mut machine, notes)) => {
-            print_trace::<Brand, O>(Blank::new(1), out, &mut machine, &notes, &text, &mut line)
-        }
-        Err(_) => Err(Stop::Memory),
+    match run(alloc, shelf, out, image, mode, events) {
+        Ok(()) => Ok(()),
+        Err(stop) => Err(stop),
     }
 }

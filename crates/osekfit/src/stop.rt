@@ -1,10 +1,13 @@
 //! Why a command stops before it is done.
 use image_codec::ImageFault;
+use osek_values::Refusal;
 use trace_text::FaultyLine;
 
 /// A file that a command reads.
 #[derive(Clone, Copy, PartialEq, Eq, Debug)]
 pub enum Input {
+    Oil,
+    Code,
     Image,
     Events,
 }
@@ -12,6 +15,8 @@ pub enum Input {
 /// Why a command stops, each with a status and a text on err of its own.
 #[derive(Clone, Copy, PartialEq, Eq, Debug)]
 pub enum Stop {
+    /// The OIL text or the task code has this first fault.
+    Refused(Refusal),
     /// The words are of no stated form.
     Usage,
     /// The image's bytes have this first fault.
@@ -20,11 +25,13 @@ pub enum Stop {
     Events(FaultyLine),
     /// The input can't be read, or isn't there.
     Unread(Input),
+    /// The image can't be written.
+    Unstored,
     /// The trace can't be written.
     Unprinted,
     Memory,
     /// The image traps at the event that the trace's last line names.
     Trapped,
-    /// The image has no mode of the name.
+    /// There is no mode of the name.
     NoMode,
 }

@@ -103,3 +103,84 @@ fn words_of_no_form_are_refused(rt: HostRuntime) -> Result<(), Fail> {
     assert_eq!(rt; done.err.bytes(), b"usage\n".as_slice());
     Ok(())
 }
+
+/// The call with these words over an OIL text `o`, a task code text `c`, an event text `e` and a place for an image `i`,
+/// and then, if it is done, a replay of that image.
+fn run_texts(
+    alloc: Global,
+    words: &[&str],
+    oil: &[u8],
+    code: &[u8],
+    events: &[u8],
+) -> Result<Done, Fail> {
+    let mut list = Vec::new(alloc);
+    list.push(String::from_str(alloc, "osekfit")?)?;
+    for word in words {
+        list.push(String::from_str(alloc, word)?)?;
+    }
+    let mut replay = Vec::new(alloc);
+    replay.push(String::from_str(alloc, "osekfit")?)?;
+    for word in &REPLAY {
+        replay.push(String::from_str(alloc, word)?)?;
+    }
+    let mut shelf = MemShelf::new(alloc, Vec::new(alloc));
+    shelf.set("o", Some(oil), 0)?;
+    shelf.set("c", Some(code), 0)?;
+    shelf.set("e", Some(events), 0)?;
+    shelf.set("i", None, 1000)?;
+    let mut out = MemSink::new(alloc, Vec::new(alloc), 1000)?;
+    let mut err = MemSink::new(alloc, Vec::new(alloc), 1000)?;
+    let mut status = osekfit(alloc, &list, &mut shelf, &mut out, &mut err);
+    if status == 0 && shelf.bytes("i").is_some() {
+        status = osekfit(alloc, &replay, &mut shelf, &mut out, &mut err);
+    }
+    Ok(Done { status, out, err })
+}
+
+const BUILD: [&str; 4] = ["build", "o", "c", "i"];
+
+#[test]
+fn an_image_is_built_and_replayed(rt: HostRuntime) -> Result<(), Fail> {
+    let oil =
+        b"CPU c { OS os; TASK T1 { PRIORITY = 1; AUTOSTART = TRUE; }; TASK T2 { PRIORITY = 2; }; };";
+    let code = b"TASK(T1) { ActivateTask(T2); TerminateTask(); }\nTASK(T2) { TerminateTask(); }\n";
+    let done = run_texts(rt.alloc(), &BUILD, oil, code, b"run 0\nrun 0\nrun 0\n")?;
+    assert_eq!(rt; done.status, 0);
+    let trace = b"0 T1 T1=R T2=S\n1 T2 T1=Y T2=R !E_OK\n2 T1 T1=R T2=S\n3 - T1=S T2=S\n";
+    assert_eq!(rt; done.out.bytes(), trace.as_slice());
+    assert_eq!(rt; done.err.bytes(), b"".as_slice());
+    Ok(())
+}
+
+#[test]
+fn two_texts_are_traced(rt: HostRuntime) -> Result<(), Fail> {
+    let words = ["trace", "o", "c", "OSDEFAULTAPPMODE", "e"];
+    let oil =
+        b"CPU c { OS os { ERRORHOOK = TRUE; }; TASK T1 { PRIORITY = 1; AUTOSTART = TRUE; }; };";
+    let code = b"TASK(T1) { ActivateTask(T1); }";
+    let done = run_texts(rt.alloc(), &words, oil, code, b"run 0\nrun 0\n")?;
+    assert_eq!(rt; done.status, 0);
+    let trace = b"0 T1 T1=R\n1 T1 T1=R !E_OS_LIMIT ^Error\n2 - T1=S\n";
+    assert_eq!(rt; done.out.bytes(), trace.as_slice());
+    Ok(())
+}
+
+#[test]
+fn a_fault_of_the_oil_text_is_told(rt: HostRuntime) -> Result<(), Fail> {
+    let oil =
+        b"CPU c {\nOS os;\nTASK T1 { PRIORITY = 1; };\nTASK T2 { PRIORITY = 1; };\nTASK T3 { SCHEDULE = FULL; };\n};\n";
+    let done = run_texts(rt.alloc(), &BUILD, oil, b"", b"")?;
+    assert_eq!(rt; done.status, 1);
+    assert_eq!(rt; done.err.bytes(), b"o:5: O4\n".as_slice());
+    Ok(())
+}
+
+#[test]
+fn a_fault_of_the_code_is_told(rt: HostRuntime) -> Result<(), Fail> {
+    let oil = b"CPU c { OS os; TASK T1 { PRIORITY = 1; }; };";
+    let code = b"TASK(T1) {\nSuspendOSInterrupts();\nTerminateTask();\nResumeOSInterrupts();\n}\n";
+    let done = run_texts(rt.alloc(), &BUILD, oil, code, b"")?;
+    assert_eq!(rt; done.status, 1);
+    assert_eq!(rt; done.err.bytes(), b"c:3: C7\n".as_slice());
+    Ok(())
+}

@@ -1,7 +1,7 @@
 -- the image is spelled by what the file holds
 use Rattle.std.proofs.Common.{◌≡◌, List, ℕ, ◌∙◌}
 use Rattle.osekfit.specs.Replaying.{SpellImage}
-use Rattle.osekfit.proofs.Replays.{of_loaded}
+use Rattle.osekfit.proofs.InputFiles.{of_loaded}
 use Rattle.osekfit.proofs.replaying.load_image.Goals as goal
 
 pub returns-in-Ok-decode-clause-image : goal.returns-in-Ok-decode-clause-image

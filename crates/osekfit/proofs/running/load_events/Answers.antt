@@ -1,7 +1,7 @@
 -- what was loaded is what the file holds
 use Rattle.std.proofs.Common.{sym}
-use Rattle.osekfit.proofs.Replays.{of_told}
-use Rattle.osekfit.proofs.replaying.load_events.Goals as goal
+use Rattle.osekfit.proofs.InputFiles.{of_told}
+use Rattle.osekfit.proofs.running.load_events.Goals as goal
 
 pub returns-in-Ok-clause-text : goal.returns-in-Ok-clause-text
 returns-in-Ok-clause-text g c =

@@ -3,7 +3,7 @@ use Rattle.std.proofs.Common.{◌≡◌, subst, sym, Err}
 use Rattle.osekfit.specs.declared.stop.Stop.{Stop}
 use Rattle.osekfit.specs.declared.stop.Stop.TheVariants as stop
 use Rattle.osekfit.proofs.Plays.{printed_first, first_fails}
-use Rattle.osekfit.proofs.replaying.print_trace.Goals as goal
+use Rattle.osekfit.proofs.running.print_trace.Goals as goal
 
 pub returns-in-Ok : goal.returns-in-Ok
 returns-in-Ok g c =
