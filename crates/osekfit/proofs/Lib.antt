@@ -1,3 +1,4 @@
+pub mod BuiltReplays
 pub mod Commands
 pub mod Compiles
 pub mod Dues
@@ -10,3 +11,4 @@ pub mod PlayedTrace
 pub mod Plays
 pub mod Results
 pub mod Runs
+pub mod SmallImages

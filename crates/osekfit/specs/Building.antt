@@ -5,7 +5,6 @@ use Rattle.osek_values.specs.declared.numbers.ModeNo.{ModeNo}
 use Rattle.osek_standard.specs.declared.app.App.{App}
 use Rattle.image_codec.specs.declared.image.Image.{Image}
 use Rattle.image_codec.specs.Spelling.{spelling}
-use Rattle.image_codec.specs.Fits.{FitsFormat}
 use Rattle.image_codec.specs.ImageTrace.{AreGeneral}
 use Rattle.image_codec.specs.Laws.{IsKernelsRun}
 use Rattle.osek_io.specs.Counts.{Rose}
@@ -13,15 +12,16 @@ use Rattle.osek_io.specs.Files.{with_file}
 use Rattle.osek_io.specs.Stored.{StoresPart}
 use Rattle.osekfit.specs.Compiling.{OfApp, CompileStops}
 use Rattle.osekfit.specs.Outside.{Outside}
+use Rattle.osekfit.specs.Replaying.{SpellImage}
 use Rattle.osekfit.specs.declared.stop.Stop.{Stop}
 use Rattle.osekfit.specs.declared.stop.Stop.TheVariants as stop
 
 -- An image that is the kernel of an application: in every mode, under every list of events, its trace is the kernel's,
--- without a trap. It has one spelling.
+-- without a trap. Its bytes are those that `replay` reads.
 pub record IsKernelImage (app : App) (i : Image) : Type 0 where
   pub is : i.app ≡ app
   pub general : AreGeneral i.sites
-  pub fits : FitsFormat i
+  pub spelled : SpellImage (spelling i) i
   pub runs : (mode : ModeNo) (events : List Event) → IsKernelsRun i mode events
 
 module _ (before after : Outside) (oil code image : List ℕ) where

@@ -3,6 +3,7 @@ pub mod Building
 pub mod Compiling
 pub mod Due
 pub mod Inputs
+pub mod Laws
 pub mod Outside
 pub mod Playing
 pub mod Replaying

@@ -3,9 +3,12 @@
 
 mod building;
 mod compiling;
+mod laws;
 mod playing;
 mod ranges;
 mod replaying;
+#[cfg(test)]
+mod rows;
 mod running;
 mod stop;
 mod tell;
@@ -17,6 +20,7 @@ mod tracing;
 mod words;
 
 pub use building::build;
+pub use laws::what_is_built_replays;
 use osek_io::{FileShelf, StdSink};
 pub use replaying::replay;
 use std::process::ExitCode;

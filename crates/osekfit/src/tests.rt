@@ -1,5 +1,6 @@
 //! Whole runs of the top call over files in memory.
 use crate::osekfit;
+use crate::rows::{Act, ROWS, Row};
 use osek_io::{MemShelf, MemSink};
 use std::alloc::Global;
 use std::test::Fail;
@@ -14,6 +15,9 @@ const ONE_TASK: [u8; 89] = [
     0xff, 0x16, 0x00, 0x00, 0x00, 0x00, 0x01, 0x00, 0x00,
 ];
 
+/// Room for an image, and for what a run writes.
+const ROOM: usize = 10_000;
+
 /// What the call answered and wrote.
 #[derive(Drop)]
 struct Done {
@@ -22,20 +26,26 @@ struct Done {
     err: MemSink,
 }
 
-/// The call with these words behind the program's name, over an image `i` and an event text `e`, and no other file.
-fn run(alloc: Global, words: &[&str], image: &[u8], events: &[u8]) -> Result<Done, Fail> {
+/// The call with these words behind the program's name.
+fn call(alloc: Global, shelf: &mut MemShelf, words: &[&str]) -> Result<Done, Fail> {
     let mut list = Vec::new(alloc);
     list.push(String::from_str(alloc, "osekfit")?)?;
     for word in words {
         list.push(String::from_str(alloc, word)?)?;
     }
+    let mut out = MemSink::new(alloc, Vec::new(alloc), ROOM)?;
+    let mut err = MemSink::new(alloc, Vec::new(alloc), ROOM)?;
+    let status = osekfit(alloc, &list, shelf, &mut out, &mut err);
+    Ok(Done { status, out, err })
+}
+
+/// The call with these words behind the program's name, over an image `i` and an event text `e`, and no other file.
+fn run(alloc: Global, words: &[&str], image: &[u8], events: &[u8]) -> Result<Done, Fail> {
     let mut shelf = MemShelf::new(alloc, Vec::new(alloc));
     shelf.set("i", Some(image), 0)?;
     shelf.set("e", Some(events), 0)?;
-    let mut out = MemSink::new(alloc, Vec::new(alloc), 1000)?;
-    let mut err = MemSink::new(alloc, Vec::new(alloc), 1000)?;
-    let status = osekfit(alloc, &list, &mut shelf, &mut out, &mut err);
-    Ok(Done { status, out, err })
+    let done = call(alloc, &mut shelf, words)?;
+    Ok(done)
 }
 
 const REPLAY: [&str; 4] = ["replay", "i", "OSDEFAULTAPPMODE", "e"];
@@ -70,32 +80,6 @@ fn the_event_text_is_faulty(rt: HostRuntime) -> Result<(), Fail> {
 }
 
 #[test]
-fn an_empty_image_is_refused(rt: HostRuntime) -> Result<(), Fail> {
-    let done = run(rt.alloc(), &REPLAY, &[], b"")?;
-    assert_eq!(rt; done.status, 3);
-    assert_eq!(rt; done.err.bytes(), b"i:0: I1\n".as_slice());
-    Ok(())
-}
-
-#[test]
-fn a_missing_image_is_refused(rt: HostRuntime) -> Result<(), Fail> {
-    let words = ["replay", "x", "OSDEFAULTAPPMODE", "e"];
-    let done = run(rt.alloc(), &words, &ONE_TASK, b"")?;
-    assert_eq!(rt; done.status, 5);
-    assert_eq!(rt; done.err.bytes(), b"x: read\n".as_slice());
-    Ok(())
-}
-
-#[test]
-fn a_mode_that_is_not_there_is_refused(rt: HostRuntime) -> Result<(), Fail> {
-    let words = ["replay", "i", "NOPE", "e"];
-    let done = run(rt.alloc(), &words, &ONE_TASK, b"")?;
-    assert_eq!(rt; done.status, 9);
-    assert_eq!(rt; done.err.bytes(), b"NOPE: no such mode\n".as_slice());
-    Ok(())
-}
-
-#[test]
 fn words_of_no_form_are_refused(rt: HostRuntime) -> Result<(), Fail> {
     let words = ["replay", "i", "e"];
     let done = run(rt.alloc(), &words, &ONE_TASK, b"")?;
@@ -104,83 +88,139 @@ fn words_of_no_form_are_refused(rt: HostRuntime) -> Result<(), Fail> {
     Ok(())
 }
 
-/// The call with these words over an OIL text `o`, a task code text `c`, an event text `e` and a place for an image `i`,
-/// and then, if it is done, a replay of that image.
-fn run_texts(
-    alloc: Global,
-    words: &[&str],
-    oil: &[u8],
-    code: &[u8],
-    events: &[u8],
-) -> Result<Done, Fail> {
-    let mut list = Vec::new(alloc);
-    list.push(String::from_str(alloc, "osekfit")?)?;
-    for word in words {
-        list.push(String::from_str(alloc, word)?)?;
-    }
-    let mut replay = Vec::new(alloc);
-    replay.push(String::from_str(alloc, "osekfit")?)?;
-    for word in &REPLAY {
-        replay.push(String::from_str(alloc, word)?)?;
-    }
+/// The names that `build` stores images under.
+const IMAGES: [&str; 2] = ["a.img", "x"];
+
+/// A shelf of a row's files, with places for images.
+fn shelf_of(alloc: Global, row: &Row) -> Result<MemShelf, Fail> {
     let mut shelf = MemShelf::new(alloc, Vec::new(alloc));
-    shelf.set("o", Some(oil), 0)?;
-    shelf.set("c", Some(code), 0)?;
-    shelf.set("e", Some(events), 0)?;
-    shelf.set("i", None, 1000)?;
-    let mut out = MemSink::new(alloc, Vec::new(alloc), 1000)?;
-    let mut err = MemSink::new(alloc, Vec::new(alloc), 1000)?;
-    let mut status = osekfit(alloc, &list, &mut shelf, &mut out, &mut err);
-    if status == 0 && shelf.bytes("i").is_some() {
-        status = osekfit(alloc, &replay, &mut shelf, &mut out, &mut err);
+    for (name, text) in row.files {
+        shelf.set(name, Some(text.as_bytes()), 0)?;
     }
-    Ok(Done { status, out, err })
+    for name in &IMAGES {
+        shelf.set(name, None, ROOM)?;
+    }
+    Ok(shelf)
 }
 
-const BUILD: [&str; 4] = ["build", "o", "c", "i"];
-
-#[test]
-fn an_image_is_built_and_replayed(rt: HostRuntime) -> Result<(), Fail> {
-    let oil =
-        b"CPU c { OS os; TASK T1 { PRIORITY = 1; AUTOSTART = TRUE; }; TASK T2 { PRIORITY = 2; }; };";
-    let code = b"TASK(T1) { ActivateTask(T2); TerminateTask(); }\nTASK(T2) { TerminateTask(); }\n";
-    let done = run_texts(rt.alloc(), &BUILD, oil, code, b"run 0\nrun 0\nrun 0\n")?;
-    assert_eq!(rt; done.status, 0);
-    let trace = b"0 T1 T1=R T2=S\n1 T2 T1=Y T2=R !E_OK\n2 T1 T1=R T2=S\n3 - T1=S T2=S\n";
-    assert_eq!(rt; done.out.bytes(), trace.as_slice());
-    assert_eq!(rt; done.err.bytes(), b"".as_slice());
-    Ok(())
+fn is_done(done: &Done, status: u8, out: &str, err: &str) -> bool {
+    done.status == status
+        && done.out.bytes() == out.as_bytes()
+        && done.err.bytes() == err.as_bytes()
 }
 
-#[test]
-fn two_texts_are_traced(rt: HostRuntime) -> Result<(), Fail> {
-    let words = ["trace", "o", "c", "OSDEFAULTAPPMODE", "e"];
-    let oil =
-        b"CPU c { OS os { ERRORHOOK = TRUE; }; TASK T1 { PRIORITY = 1; AUTOSTART = TRUE; }; };";
-    let code = b"TASK(T1) { ActivateTask(T1); }";
-    let done = run_texts(rt.alloc(), &words, oil, code, b"run 0\nrun 0\n")?;
-    assert_eq!(rt; done.status, 0);
-    let trace = b"0 T1 T1=R\n1 T1 T1=R !E_OS_LIMIT ^Error\n2 - T1=S\n";
-    assert_eq!(rt; done.out.bytes(), trace.as_slice());
-    Ok(())
+/// Whether a text has so many lines, and these at their numbers.
+fn has_lines(text: &[u8], count: usize, lines: &[(usize, &str)]) -> bool {
+    if text.iter().filter(|byte| **byte == b'\n').count() != count {
+        return false;
+    }
+    for (number, line) in lines {
+        if text.split(|byte| *byte == b'\n').nth(*number) != Some(line.as_bytes()) {
+            return false;
+        }
+    }
+    true
 }
 
-#[test]
-fn a_fault_of_the_oil_text_is_told(rt: HostRuntime) -> Result<(), Fail> {
-    let oil =
-        b"CPU c {\nOS os;\nTASK T1 { PRIORITY = 1; };\nTASK T2 { PRIORITY = 1; };\nTASK T3 { SCHEDULE = FULL; };\n};\n";
-    let done = run_texts(rt.alloc(), &BUILD, oil, b"", b"")?;
-    assert_eq!(rt; done.status, 1);
-    assert_eq!(rt; done.err.bytes(), b"o:5: O4\n".as_slice());
-    Ok(())
+fn is_trace(done: &Done, count: usize, lines: &[(usize, &str)]) -> bool {
+    done.status == 0 && done.err.bytes().is_empty() && has_lines(done.out.bytes(), count, lines)
 }
+
+/// Whether the image that is built, and the texts themselves, give a trace in this mode.
+fn plays(
+    alloc: Global,
+    shelf: &mut MemShelf,
+    mode: &str,
+    count: usize,
+    lines: &[(usize, &str)],
+) -> Result<bool, Fail> {
+    let built = call(alloc, shelf, &["build", "a.oil", "a.c", "a.img"])?;
+    let replayed = call(alloc, shelf, &["replay", "a.img", mode, "e"])?;
+    let traced = call(alloc, shelf, &["trace", "a.oil", "a.c", mode, "e"])?;
+    Ok(
+        is_done(&built, 0, "", "")
+            && is_trace(&replayed, count, lines)
+            && is_trace(&traced, count, lines),
+    )
+}
+
+/// The bytes at a name, of which there are none where it isn't there.
+fn bytes_at(alloc: Global, shelf: &MemShelf, name: &str) -> Result<Vec<u8>, Fail> {
+    let bytes = match shelf.bytes(name) {
+        Some(bytes) => Vec::from_slice(alloc, bytes)?,
+        None => Vec::new(alloc),
+    };
+    Ok(bytes)
+}
+
+fn holds(alloc: Global, shelf: &mut MemShelf, act: &Act) -> Result<bool, Fail> {
+    match act {
+        Act::Run(words, status, out, err) => {
+            let done = call(alloc, shelf, words)?;
+            Ok(is_done(&done, *status, out, err))
+        }
+        Act::Plays(mode, count, lines) => {
+            let right = plays(alloc, shelf, mode, *count, lines)?;
+            Ok(right)
+        }
+        Act::Cut(from, to, len) => {
+            let mut bytes = bytes_at(alloc, shelf, from)?;
+            bytes.truncate(*len);
+            shelf.set(to, Some(bytes.as_slice()), 0)?;
+            Ok(true)
+        }
+        Act::Add(from, to, more) => {
+            let mut bytes = bytes_at(alloc, shelf, from)?;
+            bytes.extend_from_slice(more)?;
+            shelf.set(to, Some(bytes.as_slice()), 0)?;
+            Ok(true)
+        }
+    }
+}
+
+/// Whether each act of a row does what the row says.
+fn row_holds(alloc: Global, row: &Row) -> Result<bool, Fail> {
+    let mut shelf = shelf_of(alloc, row)?;
+    for act in row.acts {
+        if !holds(alloc, &mut shelf, act)? {
+            return Ok(false);
+        }
+    }
+    Ok(true)
+}
+
+const LOCKED: Row = Row {
+    name: "a call under a lock, on a line of its own",
+    files: &[
+        ("o", "CPU c { OS os; TASK T1 { PRIORITY = 1; }; };"),
+        (
+            "c",
+            "TASK(T1) {\nSuspendOSInterrupts();\nTerminateTask();\nResumeOSInterrupts();\n}\n",
+        ),
+    ],
+    acts: &[Act::Run(&["build", "o", "c", "x"], 1, "", "c:3: C7\n")],
+};
 
 #[test]
 fn a_fault_of_the_code_is_told(rt: HostRuntime) -> Result<(), Fail> {
-    let oil = b"CPU c { OS os; TASK T1 { PRIORITY = 1; }; };";
-    let code = b"TASK(T1) {\nSuspendOSInterrupts();\nTerminateTask();\nResumeOSInterrupts();\n}\n";
-    let done = run_texts(rt.alloc(), &BUILD, oil, code, b"")?;
-    assert_eq!(rt; done.status, 1);
-    assert_eq!(rt; done.err.bytes(), b"c:3: C7\n".as_slice());
+    let right = row_holds(rt.alloc(), &LOCKED)?;
+    assert!(rt; right);
+    Ok(())
+}
+
+/// The name of the first row that doesn't hold.
+fn first_wrong(alloc: Global, rows: &[Row]) -> Result<&'static str, Fail> {
+    for row in rows {
+        if !row_holds(alloc, row)? {
+            return Ok(row.name);
+        }
+    }
+    Ok("")
+}
+
+#[test]
+fn the_worked_rows(rt: HostRuntime) -> Result<(), Fail> {
+    let wrong = first_wrong(rt.alloc(), &ROWS)?;
+    assert_eq!(rt; wrong, "");
     Ok(())
 }

@@ -1,0 +1,147 @@
+-- Each image's bytes fit into a file that is read: its tables are few, its names short, and its blocks are of a few
+-- bytes each.
+use Rattle.std.proofs.Common.{◌≡◌, ℕ, ◌*◌, ◌≤◌, true, List, [], ◌∷◌, length, map, get_or, Option, Some, None, refl, sym, subst, arith}
+use Rattle.std.specs.Prelude.{All, IsTrue, nat_le}
+use Rattle.std.specs.List.{flat_map, zip}
+use Rattle.std.proofs.lemmas.Bool.{leb-true, and_parts}
+use Rattle.std.proofs.lemmas.List.{length-append}
+use Rattle.std.proofs.lemmas.List.Concat.{length-flat_map}
+use Rattle.std.proofs.lemmas.List.Elements.{All-nil, All-cons, All-head, All-tail}
+use Rattle.std.proofs.lemmas.List.Sums.{sum_by-le}
+use Rattle.osek_values.specs.Names.{is_word, is_name}
+use Rattle.osek_values.specs.declared.numbers.BlockNo.{BlockNo}
+use Rattle.osek_standard.specs.declared.objects.Task.{Task}
+use Rattle.osek_standard.specs.declared.objects.Isr.{Isr}
+use Rattle.osek_standard.specs.declared.objects.Counter.{Counter}
+use Rattle.osek_standard.specs.declared.objects.Alarm.{Alarm}
+use Rattle.osek_standard.specs.declared.objects.Resource.{Resource}
+use Rattle.osek_standard.specs.declared.objects.Action.{Action}
+use Rattle.osek_standard.specs.declared.objects.Action.TheVariants as action
+use Rattle.osek_standard.specs.declared.block.Block.{Block}
+use Rattle.osek_standard.specs.declared.block.Kind.{Kind}
+use Rattle.osek_standard.specs.declared.block.Kind.TheVariants as kind
+use Rattle.osek_standard.specs.Validity.{IsValid}
+use Rattle.image_codec.specs.declared.site.Site.{Site}
+use Rattle.image_codec.specs.declared.image.Image.{Image}
+use Rattle.image_codec.specs.Spelling.{four, name_bytes, range_bytes, task_bytes, isr_bytes, counter_bytes, action_bytes, alarm_bytes, resource_bytes, operand_bytes, way_bytes, site_bytes, block_bytes, spelling}
+
+-- ---- fields
+
+name_within : (name : List ℕ) → is_name name ≡ true → length name ≤ 64
+name_within name e = leb-true _ _ (and_parts (is_word name) (nat_le (length name) 64) e).1
+
+task_within : (x : Task) → length x.name ≤ 64 → length (task_bytes x) ≤ 100
+task_within x le = grind (arith, le, length-append)
+
+isr_within : (x : Isr) → length x.name ≤ 64 → length (isr_bytes x) ≤ 100
+isr_within x le = omega (arith, le, length-append (name_bytes x.name) (range_bytes x.first x.count))
+
+counter_within : (x : Counter) → length x.name ≤ 64 → length (counter_bytes x) ≤ 100
+counter_within x le = grind (arith, le, length-append)
+
+action_len : (x : Action) → length (action_bytes x) ≡ 10
+action_len (action.ActivateTask t) = refl
+action_len (action.SetEvent t m) = refl
+
+alarm_within : (x : Alarm) → length x.name ≤ 64 → length (alarm_bytes x) ≤ 100
+alarm_within x le = grind (arith, le, action_len x.action, length-append)
+
+resource_within : (x : Resource) → length x.name ≤ 64 → length (resource_bytes x) ≤ 100
+resource_within x le = omega (arith, le, length-append x.name (four x.ceiling))
+
+mode_within : (name : List ℕ) → length name ≤ 64 → length (name_bytes name) ≤ 100
+mode_within name le = omega (arith, le)
+
+operands_within : (k : Kind) → length (operand_bytes k) ≤ 17
+operands_within (kind.Work n) = omega arith
+operands_within (kind.Choice o) = omega arith
+operands_within kind.Loop = omega arith
+operands_within (kind.ActivateTask t) = omega arith
+operands_within kind.TerminateTask = omega arith
+operands_within (kind.ChainTask t) = omega arith
+operands_within kind.Schedule = omega arith
+operands_within (kind.GetResource r) = omega arith
+operands_within (kind.ReleaseResource r) = omega arith
+operands_within (kind.SetEvent t m) = omega arith
+operands_within (kind.ClearEvent m) = omega arith
+operands_within (kind.GetEvent t) = omega arith
+operands_within (kind.WaitEvent m) = omega arith
+operands_within (kind.SetRelAlarm a i c) = omega arith
+operands_within (kind.SetAbsAlarm a s c) = omega arith
+operands_within (kind.CancelAlarm a) = omega arith
+operands_within (kind.GetAlarm a) = omega arith
+operands_within kind.GetTaskId = omega arith
+operands_within (kind.GetTaskState t) = omega arith
+operands_within kind.GetActiveApplicationMode = omega arith
+operands_within kind.ShutdownOs = omega arith
+operands_within (kind.LockCall l) = omega arith
+operands_within kind.TaskEnd = omega arith
+operands_within kind.IsrEnd = omega arith
+operands_within kind.CountUp = omega arith
+operands_within (kind.Expire a) = omega arith
+
+ways_within : (k : Kind) (next : BlockNo) → length (way_bytes k next) ≤ 4
+ways_within (kind.Choice o) next = omega arith
+ways_within kind.TaskEnd next = omega arith
+ways_within kind.IsrEnd next = omega arith
+ways_within _ next = omega arith
+
+site_within : (x : Option Site) → length (site_bytes x) ≤ 2
+site_within None = omega arith
+site_within (Some x) = omega arith
+
+block_within : (x : Block × Option Site) → length (block_bytes x) ≤ 29
+block_within x = grind (arith, operands_within x.0.kind, ways_within x.0.kind x.0.next, site_within x.1, length-append)
+
+-- ---- tables
+
+module _ {X : Type 0} (spell : X → List ℕ) where
+  -- entries of so many bytes each at most
+  entries_within : (m : ℕ) (xs : List X) → All (λ x. length (spell x) ≤ m) xs → length (flat_map spell xs) ≤ length xs * m
+  entries_within m xs h = subst (λ (n : ℕ). n ≤ length xs * m) (sym (length-flat_map spell xs)) (sum_by-le (λ x. length (spell x)) m xs h)
+
+  module _ (name : X → List ℕ) (one_within : (x : X) → length (name x) ≤ 64 → length (spell x) ≤ 100) where
+    each_within : (xs : List X) → All (λ (n : List ℕ). IsTrue (is_name n)) (map name xs) → All (λ x. length (spell x) ≤ 100) xs
+    each_within [] h = All-nil (λ (x : X). length (spell x) ≤ 100)
+    each_within (x ∷ xs) h =
+        let first = name_within (name x) (All-head (λ (n : List ℕ). IsTrue (is_name n)) (name x) (map name xs) h) in
+        let rest = each_within xs (All-tail (λ (n : List ℕ). IsTrue (is_name n)) (name x) (map name xs) h) in
+        All-cons (λ (y : X). length (spell y) ≤ 100) x xs (one_within x first) rest
+
+    -- a table of 16 entries at most, each with its name
+    table_within : (xs : List X) → length xs ≤ 16 → All (λ (n : List ℕ). IsTrue (is_name n)) (map name xs) → length (flat_map spell xs) ≤ 1600
+    table_within xs few h = omega (arith, few, entries_within 100 xs (each_within xs h))
+
+modes_within : (names : List (List ℕ)) → All (λ (n : List ℕ). IsTrue (is_name n)) names → All (λ n. length (name_bytes n) ≤ 100) names
+modes_within names h k d lt = mode_within (get_or names k d) (name_within (get_or names k d) (h k d lt))
+
+zip_within : {K X : Type 0} (ks : List K) (xs : List X) → length (zip ks xs) ≤ length ks
+zip_within [] xs = omega arith
+zip_within (k ∷ ks) [] = omega arith
+zip_within (k ∷ ks) (x ∷ xs) = omega (arith, zip_within ks xs)
+
+blocks_within : (xs : List (Block × Option Site)) → length xs ≤ 1056 → length (flat_map block_bytes xs) ≤ 30624
+blocks_within xs few = omega (arith, few, entries_within block_bytes 29 xs (λ k d lt. block_within (get_or xs k d)))
+
+-- ---- the whole
+
+pub small : (i : Image) → length (spelling i) ≤ 1048576
+unfolding spelling
+small i =
+    let a = i.app in
+    let v : IsValid a.tasks a.alarms a.resources a.blocks a.isrs a.counters a.hooks a.modes = a.valid in
+    let tasks = flat_map task_bytes a.tasks in
+    let isrs = flat_map isr_bytes a.isrs in
+    let counters = flat_map counter_bytes a.counters in
+    let alarms = flat_map alarm_bytes a.alarms in
+    let resources = flat_map resource_bytes a.resources in
+    let modes = flat_map name_bytes a.modes in
+    let blocks = flat_map block_bytes (zip a.blocks i.sites) in
+    let of_blocks : length blocks ≤ 30624 = blocks_within (zip a.blocks i.sites) (omega (arith, v.few_blocks, zip_within a.blocks i.sites)) in
+    let of_modes : length modes ≤ 1600 = omega (arith, v.few_modes, entries_within name_bytes 100 a.modes (modes_within a.modes v.mode_names.each)) in
+    let of_resources : length resources ≤ 1600 = table_within resource_bytes (λ x. x.name) resource_within a.resources (omega (arith, v.few_resources)) v.resource_names.each in
+    let of_alarms : length alarms ≤ 1600 = table_within alarm_bytes (λ x. x.name) alarm_within a.alarms (omega (arith, v.few_alarms)) v.alarm_names.each in
+    let of_counters : length counters ≤ 1600 = table_within counter_bytes (λ x. x.name) counter_within a.counters (omega (arith, v.few_counters)) v.counter_names.each in
+    let of_isrs : length isrs ≤ 1600 = table_within isr_bytes (λ x. x.name) isr_within a.isrs (omega (arith, v.few_isrs)) v.isr_names.each in
+    let of_tasks : length tasks ≤ 1600 = table_within task_bytes (λ x. x.name) task_within a.tasks (omega (arith, v.few_tasks)) v.task_names.each in
+    grind (arith, of_blocks, of_modes, of_resources, of_alarms, of_counters, of_isrs, of_tasks, length-append)

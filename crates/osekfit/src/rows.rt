@@ -1,0 +1,731 @@
+//! Rows of files with what the program does over them.
+
+/// Files, and what is done with them, one act after the other. An image that was built stands for the acts that follow.
+#[derive(Clone, Copy)]
+pub struct Row {
+    pub name: &'static str,
+    /// Names with their texts.
+    pub files: &'static [(&'static str, &'static str)],
+    pub acts: &'static [Act],
+}
+
+#[derive(Clone, Copy)]
+pub enum Act {
+    /// A run with these words behind the program's name: its status, and all that it writes.
+    Run(&'static [&'static str], u8, &'static str, &'static str),
+    /// `build` of `a.oil` and `a.c` to `a.img`, which writes nothing, and then in this mode a `replay` of `a.img` and a
+    /// `trace` of `a.oil` and `a.c`, both over `e`: so many lines, and these at their numbers, counted from 0.
+    Plays(&'static str, usize, &'static [(usize, &'static str)]),
+    /// A second file of so many first bytes of a first.
+    Cut(&'static str, &'static str, usize),
+    /// A second file of a first with these bytes behind it.
+    Add(&'static str, &'static str, &'static [u8]),
+}
+
+pub const ROWS: [Row; 37] = [
+    Row {
+        name: "one task ends itself",
+        files: &[
+            (
+                "a.oil",
+                "CPU c { OS os; TASK T1 { PRIORITY = 1; AUTOSTART = TRUE; }; };",
+            ),
+            ("a.c", "TASK(T1) { TerminateTask(); }\n"),
+            ("e", "run 0\n"),
+        ],
+        acts: &[Act::Plays("OSDEFAULTAPPMODE", 2, &[(0, "0 T1 T1=R"), (1, "1 - T1=S")])],
+    },
+    Row {
+        name: "activation preempts",
+        files: &[
+            (
+                "a.oil",
+                "CPU c { OS os; TASK T1 { PRIORITY = 1; AUTOSTART = TRUE; }; TASK T2 { PRIORITY = 2; }; };",
+            ),
+            (
+                "a.c",
+                "TASK(T1) { ActivateTask(T2); TerminateTask(); }\nTASK(T2) { TerminateTask(); }\n",
+            ),
+            ("e", "run 0\nrun 0\nrun 0\n"),
+        ],
+        acts: &[Act::Plays(
+            "OSDEFAULTAPPMODE",
+            4,
+            &[
+                (0, "0 T1 T1=R T2=S"),
+                (1, "1 T2 T1=Y T2=R !E_OK"),
+                (2, "2 T1 T1=R T2=S"),
+                (3, "3 - T1=S T2=S"),
+            ],
+        )],
+    },
+    Row {
+        name: "a non-preemptive caller keeps the processor",
+        files: &[
+            (
+                "a.oil",
+                "CPU c { OS os; TASK T1 { PRIORITY = 1; AUTOSTART = TRUE; SCHEDULE = NON; }; TASK T2 { PRIORITY = 2; }; };",
+            ),
+            (
+                "a.c",
+                "TASK(T1) { ActivateTask(T2); TerminateTask(); }\nTASK(T2) { TerminateTask(); }\n",
+            ),
+            ("e", "run 0\nrun 0\nrun 0\n"),
+        ],
+        acts: &[Act::Plays(
+            "OSDEFAULTAPPMODE",
+            4,
+            &[
+                (1, "1 T1 T1=R T2=Y !E_OK"),
+                (2, "2 T2 T1=S T2=R"),
+                (3, "3 - T1=S T2=S"),
+            ],
+        )],
+    },
+    Row {
+        name: "an interrupt activates a lower task",
+        files: &[
+            (
+                "a.oil",
+                "CPU c { OS os; TASK T1 { PRIORITY = 2; AUTOSTART = TRUE; }; TASK T2 { PRIORITY = 1; }; ISR I { CATEGORY = 2; }; };",
+            ),
+            (
+                "a.c",
+                "TASK(T1) { TerminateTask(); }\nTASK(T2) { TerminateTask(); }\nISR(I) { ActivateTask(T2); }\n",
+            ),
+            ("e", "irq I\nrun 0\nrun 0\nrun 0\nrun 0\nrun 0\n"),
+        ],
+        acts: &[Act::Plays(
+            "OSDEFAULTAPPMODE",
+            7,
+            &[
+                (0, "0 T1 T1=R T2=S"),
+                (1, "1 T1 T1=R T2=S"),
+                (2, "2 @I T1=R T2=S"),
+                (3, "3 @I T1=R T2=Y !E_OK"),
+                (4, "4 T1 T1=R T2=Y"),
+                (5, "5 T2 T1=S T2=R"),
+                (6, "6 - T1=S T2=S"),
+            ],
+        )],
+    },
+    Row {
+        name: "activation preempts beside an interrupt",
+        files: &[
+            (
+                "a.oil",
+                "CPU c { OS os; TASK T1 { PRIORITY = 1; AUTOSTART = TRUE; }; TASK T2 { PRIORITY = 2; }; ISR I { CATEGORY = 2; }; };",
+            ),
+            (
+                "a.c",
+                "TASK(T1) { ActivateTask(T2); TerminateTask(); }\nTASK(T2) { TerminateTask(); }\nISR(I) { ActivateTask(T2); }\n",
+            ),
+            ("e", "run 0\nrun 0\nrun 0\n"),
+        ],
+        acts: &[Act::Plays(
+            "OSDEFAULTAPPMODE",
+            4,
+            &[
+                (0, "0 T1 T1=R T2=S"),
+                (1, "1 T2 T1=Y T2=R !E_OK"),
+                (2, "2 T1 T1=R T2=S"),
+                (3, "3 - T1=S T2=S"),
+            ],
+        )],
+    },
+    Row {
+        name: "activating oneself is refused and reported",
+        files: &[
+            (
+                "a.oil",
+                "CPU c { OS os { ERRORHOOK = TRUE; }; TASK T1 { PRIORITY = 1; AUTOSTART = TRUE; }; };",
+            ),
+            ("a.c", "TASK(T1) { ActivateTask(T1); }\n"),
+            ("e", "run 0\nrun 0\n"),
+        ],
+        acts: &[Act::Plays(
+            "OSDEFAULTAPPMODE",
+            3,
+            &[
+                (0, "0 T1 T1=R"),
+                (1, "1 T1 T1=R !E_OS_LIMIT ^Error"),
+                (2, "2 - T1=S"),
+            ],
+        )],
+    },
+    Row {
+        name: "a ceiling delays a higher task",
+        files: &[
+            (
+                "a.oil",
+                "CPU c { OS os; RESOURCE Res; TASK T1 { PRIORITY = 1; AUTOSTART = TRUE; RESOURCE = Res; }; TASK T2 { PRIORITY = 2; RESOURCE = Res; }; };",
+            ),
+            (
+                "a.c",
+                "TASK(T1) { GetResource(Res); ActivateTask(T2); ReleaseResource(Res); TerminateTask(); }\nTASK(T2) { TerminateTask(); }\n",
+            ),
+            ("e", "run 0\nrun 0\nrun 0\nrun 0\nrun 0\n"),
+        ],
+        acts: &[Act::Plays(
+            "OSDEFAULTAPPMODE",
+            6,
+            &[
+                (0, "0 T1 T1=R T2=S"),
+                (1, "1 T1 T1=R+Res T2=S !E_OK"),
+                (2, "2 T1 T1=R+Res T2=Y !E_OK"),
+                (3, "3 T2 T1=Y T2=R !E_OK"),
+                (4, "4 T1 T1=R T2=S"),
+                (5, "5 - T1=S T2=S"),
+            ],
+        )],
+    },
+    Row {
+        name: "resources are released in order",
+        files: &[
+            (
+                "a.oil",
+                "CPU c { OS os; RESOURCE R1; RESOURCE R2; TASK T1 { PRIORITY = 1; AUTOSTART = TRUE; RESOURCE = R1; RESOURCE = R2; }; };",
+            ),
+            (
+                "a.c",
+                "TASK(T1) { GetResource(R1); GetResource(R2); ReleaseResource(R1); }\n",
+            ),
+            ("e", "run 0\nrun 0\nrun 0\nrun 0\n"),
+        ],
+        acts: &[Act::Plays(
+            "OSDEFAULTAPPMODE",
+            5,
+            &[
+                (1, "1 T1 T1=R+R1 !E_OK"),
+                (2, "2 T1 T1=R+R1+R2 !E_OK"),
+                (3, "3 T1 T1=R+R1+R2 !E_OS_NOFUNC"),
+                (4, "4 - T1=S"),
+            ],
+        )],
+    },
+    Row {
+        name: "ending while holding is refused",
+        files: &[
+            (
+                "a.oil",
+                "CPU c { OS os; RESOURCE Res; TASK T1 { PRIORITY = 1; AUTOSTART = TRUE; RESOURCE = Res; }; };",
+            ),
+            (
+                "a.c",
+                "TASK(T1) { GetResource(Res); TerminateTask(); work 1; }\n",
+            ),
+            ("e", "run 0\nrun 0\nrun 0\nrun 0\n"),
+        ],
+        acts: &[Act::Plays(
+            "OSDEFAULTAPPMODE",
+            5,
+            &[
+                (1, "1 T1 T1=R+Res !E_OK"),
+                (2, "2 T1 T1=R+Res !E_OS_RESOURCE"),
+                (3, "3 T1 T1=R+Res"),
+                (4, "4 - T1=S"),
+            ],
+        )],
+    },
+    Row {
+        name: "a chain to oneself starts anew",
+        files: &[
+            (
+                "a.oil",
+                "CPU c { OS os { PRETASKHOOK = TRUE; POSTTASKHOOK = TRUE; }; EVENT E; TASK T1 { PRIORITY = 1; AUTOSTART = TRUE; EVENT = E; }; };",
+            ),
+            ("a.c", "TASK(T1) { SetEvent(T1, E); ChainTask(T1); }\n"),
+            ("e", "run 0\nrun 0\n"),
+        ],
+        acts: &[Act::Plays(
+            "OSDEFAULTAPPMODE",
+            3,
+            &[
+                (0, "0 T1 T1=R:0 ^PreTask"),
+                (1, "1 T1 T1=R:1 !E_OK"),
+                (2, "2 T1 T1=R:0 ^PostTask ^PreTask"),
+            ],
+        )],
+    },
+    Row {
+        name: "an event set while ready",
+        files: &[
+            (
+                "a.oil",
+                "CPU c { OS os; EVENT E; TASK T1 { PRIORITY = 1; AUTOSTART = TRUE; }; TASK T2 { PRIORITY = 2; EVENT = E; }; };",
+            ),
+            (
+                "a.c",
+                "TASK(T1) { SetEvent(T2, E); ActivateTask(T2); SetEvent(T2, E); TerminateTask(); }\nTASK(T2) { if (?) { SetEvent(T2, E); } WaitEvent(E); TerminateTask(); }\n",
+            ),
+            (
+                "e",
+                "run 0\nrun 0\nrun 1\nrun 0\nrun 0\nrun 0\nrun 0\nrun 0\n",
+            ),
+        ],
+        acts: &[Act::Plays(
+            "OSDEFAULTAPPMODE",
+            9,
+            &[
+                (1, "1 T1 T1=R T2=S !E_OS_STATE"),
+                (2, "2 T2 T1=Y T2=R:0 !E_OK"),
+                (3, "3 T2 T1=Y T2=R:0"),
+                (4, "4 T2 T1=Y T2=R:1 !E_OK"),
+                (5, "5 T2 T1=Y T2=R:1 !E_OK"),
+                (6, "6 T1 T1=R T2=S"),
+                (7, "7 T1 T1=R T2=S !E_OS_STATE"),
+                (8, "8 - T1=S T2=S"),
+            ],
+        )],
+    },
+    Row {
+        name: "an event set while waiting",
+        files: &[
+            (
+                "a.oil",
+                "CPU c { OS os; EVENT E; TASK T1 { PRIORITY = 1; AUTOSTART = TRUE; }; TASK T2 { PRIORITY = 2; EVENT = E; }; };",
+            ),
+            (
+                "a.c",
+                "TASK(T1) { SetEvent(T2, E); ActivateTask(T2); SetEvent(T2, E); TerminateTask(); }\nTASK(T2) { if (?) { SetEvent(T2, E); } WaitEvent(E); TerminateTask(); }\n",
+            ),
+            (
+                "e",
+                "run 0\nrun 0\nrun 0\nrun 0\nrun 0\nrun 0\nrun 0\nrun 0\n",
+            ),
+        ],
+        acts: &[Act::Plays(
+            "OSDEFAULTAPPMODE",
+            9,
+            &[
+                (4, "4 T1 T1=R T2=W:0 !E_OK"),
+                (5, "5 T2 T1=Y T2=R:1 !E_OK"),
+                (6, "6 T1 T1=R T2=S"),
+            ],
+        )],
+    },
+    Row {
+        name: "an alarm by increment and its remaining ticks",
+        files: &[
+            (
+                "a.oil",
+                "CPU c { OS os; COUNTER C { MAXALLOWEDVALUE = 9; }; ALARM A { COUNTER = C; ACTION = ACTIVATETASK { TASK = T2; }; }; TASK T1 { PRIORITY = 1; AUTOSTART = TRUE; }; TASK T2 { PRIORITY = 2; }; };",
+            ),
+            (
+                "a.c",
+                "TASK(T1) { SetRelAlarm(A, 9, 0); GetAlarm(A); GetAlarm(A); }\nTASK(T2) { }\n",
+            ),
+            (
+                "e",
+                "tick C\nrun 0\nrun 0\nrun 0\nrun 0\ntick C\nrun 0\nrun 0\nrun 0\nrun 0\ntick C\nrun 0\nrun 0\nrun 0\nrun 0\ntick C\nrun 0\nrun 0\nrun 0\nrun 0\ntick C\nrun 0\nrun 0\nrun 0\nrun 0\nrun 0\nrun 0\ntick C\nrun 0\nrun 0\nrun 0\nrun 0\ntick C\nrun 0\nrun 0\nrun 0\nrun 0\ntick C\nrun 0\nrun 0\nrun 0\nrun 0\ntick C\nrun 0\nrun 0\nrun 0\nrun 0\ntick C\nrun 0\nrun 0\nrun 0\nrun 0\ntick C\nrun 0\nrun 0\nrun 0\nrun 0\ntick C\nrun 0\nrun 0\nrun 0\nrun 0\ntick C\nrun 0\nrun 0\nrun 0\nrun 0\ntick C\nrun 0\nrun 0\nrun 0\nrun 0\nrun 0\nrun 0\n",
+            ),
+        ],
+        acts: &[Act::Plays(
+            "OSDEFAULTAPPMODE",
+            75,
+            &[
+                (26, "26 T1 T1=R T2=S !E_OK"),
+                (27, "27 T1 T1=R T2=S !E_OK =9"),
+                (71, "71 %C T1=R T2=Y !E_OK"),
+                (72, "72 T2 T1=Y T2=R"),
+                (73, "73 T1 T1=R T2=S"),
+                (74, "74 T1 T1=R T2=S !E_OS_NOFUNC"),
+            ],
+        )],
+    },
+    Row {
+        name: "two alarms at one tick",
+        files: &[
+            (
+                "a.oil",
+                "CPU c { OS os; COUNTER C { MAXALLOWEDVALUE = 9; }; EVENT E; ALARM A1 { COUNTER = C; ACTION = ACTIVATETASK { TASK = T2; }; AUTOSTART = TRUE { ALARMTIME = 1; CYCLETIME = 0; }; }; ALARM A2 { COUNTER = C; ACTION = SETEVENT { TASK = T2; EVENT = E; }; AUTOSTART = TRUE { ALARMTIME = 1; CYCLETIME = 0; }; }; TASK T1 { PRIORITY = 1; AUTOSTART = TRUE; }; TASK T2 { PRIORITY = 2; EVENT = E; }; };",
+            ),
+            (
+                "a.c",
+                "TASK(T1) { while (1) { } }\nTASK(T2) { WaitEvent(E); }\n",
+            ),
+            (
+                "e",
+                "tick C\nrun 0\nrun 0\nrun 0\nrun 0\nrun 0\nrun 0\nrun 0\n",
+            ),
+        ],
+        acts: &[Act::Plays(
+            "OSDEFAULTAPPMODE",
+            9,
+            &[
+                (3, "3 %C T1=R T2=S"),
+                (4, "4 %C T1=R T2=Y:0 !E_OK"),
+                (5, "5 %C T1=R T2=Y:1 !E_OK"),
+                (6, "6 T2 T1=Y T2=R:1"),
+                (7, "7 T2 T1=Y T2=R:1 !E_OK"),
+                (8, "8 T1 T1=R T2=S"),
+            ],
+        )],
+    },
+    Row {
+        name: "locked blocks hold interrupts back",
+        files: &[
+            (
+                "a.oil",
+                "CPU c { OS os; TASK T1 { PRIORITY = 1; AUTOSTART = TRUE; }; ISR I { CATEGORY = 2; }; };",
+            ),
+            (
+                "a.c",
+                "TASK(T1) { SuspendOSInterrupts(); work 1; ResumeOSInterrupts(); while (1) { } }\nISR(I) { }\n",
+            ),
+            (
+                "e",
+                "irq I\nirq I\nrun 0\nrun 0\nrun 0\nirq I\nrun 0\nrun 0\nrun 0\nrun 0\nrun 0\n",
+            ),
+        ],
+        acts: &[Act::Plays(
+            "OSDEFAULTAPPMODE",
+            12,
+            &[
+                (0, "0 T1 T1=R"),
+                (1, "1 T1 T1=R"),
+                (2, "2 T1 T1=R"),
+                (3, "3 @I T1=R"),
+                (4, "4 T1 T1=R"),
+                (5, "5 T1 T1=R"),
+                (6, "6 T1 T1=R"),
+                (7, "7 T1 T1=R"),
+                (8, "8 T1 T1=R"),
+                (9, "9 @I T1=R"),
+                (10, "10 T1 T1=R"),
+                (11, "11 T1 T1=R"),
+            ],
+        )],
+    },
+    Row {
+        name: "no events",
+        files: &[
+            (
+                "a.oil",
+                "CPU c { OS os; TASK T1 { PRIORITY = 1; AUTOSTART = TRUE; }; TASK T2 { PRIORITY = 2; }; };",
+            ),
+            (
+                "a.c",
+                "TASK(T1) { ActivateTask(T2); TerminateTask(); }\nTASK(T2) { TerminateTask(); }\n",
+            ),
+            ("e", ""),
+        ],
+        acts: &[Act::Plays("OSDEFAULTAPPMODE", 1, &[(0, "0 T1 T1=R T2=S")])],
+    },
+    Row {
+        name: "event text with CRLF, blanks and a comment",
+        files: &[
+            (
+                "a.oil",
+                "CPU c { OS os; TASK T1 { PRIORITY = 1; AUTOSTART = TRUE; }; TASK T2 { PRIORITY = 2; }; };",
+            ),
+            (
+                "a.c",
+                "TASK(T1) { ActivateTask(T2); TerminateTask(); }\nTASK(T2) { TerminateTask(); }\n",
+            ),
+            ("e", "run 0\r\n\r\n# x\r\nrun 0\r\nrun 0"),
+        ],
+        acts: &[Act::Plays(
+            "OSDEFAULTAPPMODE",
+            4,
+            &[
+                (0, "0 T1 T1=R T2=S"),
+                (1, "1 T2 T1=Y T2=R !E_OK"),
+                (2, "2 T1 T1=R T2=S"),
+                (3, "3 - T1=S T2=S"),
+            ],
+        )],
+    },
+    Row {
+        name: "an image cut or extended",
+        files: &[
+            (
+                "a.oil",
+                "CPU c { OS os; TASK T1 { PRIORITY = 1; AUTOSTART = TRUE; }; TASK T2 { PRIORITY = 2; }; };",
+            ),
+            (
+                "a.c",
+                "TASK(T1) { ActivateTask(T2); TerminateTask(); }\nTASK(T2) { TerminateTask(); }\n",
+            ),
+            ("e", "run 0\nrun 0\nrun 0\n"),
+            ("i", ""),
+        ],
+        acts: &[
+            Act::Run(&["build", "a.oil", "a.c", "a.img"], 0, "", ""),
+            Act::Cut("a.img", "b.img", 136),
+            Act::Run(
+                &["replay", "b.img", "OSDEFAULTAPPMODE", "e"],
+                3,
+                "",
+                "b.img:135: I1\n",
+            ),
+            Act::Add("a.img", "b.img", &[0x00]),
+            Act::Run(
+                &["replay", "b.img", "OSDEFAULTAPPMODE", "e"],
+                3,
+                "",
+                "b.img:137: I6\n",
+            ),
+            Act::Run(
+                &["replay", "i", "OSDEFAULTAPPMODE", "e"],
+                3,
+                "",
+                "i:0: I1\n",
+            ),
+        ],
+    },
+    Row {
+        name: "a missing and a doubled priority",
+        files: &[
+            (
+                "a.oil",
+                "CPU c {\nOS os;\nTASK T1 { PRIORITY = 1; };\nTASK T2 { PRIORITY = 1; };\nTASK T3 { SCHEDULE = FULL; };\n};\n",
+            ),
+            (
+                "b.oil",
+                "CPU c {\nOS os;\nTASK T1 { PRIORITY = 1; };\nTASK T2 { PRIORITY = 1; };\n};\n",
+            ),
+            ("a.c", "TASK(T1) { }\nTASK(T2) { }\n"),
+        ],
+        acts: &[
+            Act::Run(&["build", "a.oil", "a.c", "x"], 1, "", "a.oil:5: O4\n"),
+            Act::Run(&["build", "b.oil", "a.c", "x"], 1, "", "b.oil:4: O8\n"),
+        ],
+    },
+    Row {
+        name: "a missing and a doubled priority",
+        files: &[
+            (
+                "a.oil",
+                "CPU c {\nOS os;\nTASK T1 { PRIORITY = 1; };\nTASK T2 { PRIORITY = 1; };\nTASK T3 { SCHEDULE = FULL; };\n};\n",
+            ),
+            (
+                "b.oil",
+                "CPU c {\nOS os;\nTASK T1 { PRIORITY = 1; };\nTASK T2 { PRIORITY = 1; };\n};\n",
+            ),
+        ],
+        acts: &[
+            Act::Run(&["build", "a.oil", "a.c", "x"], 1, "", "a.oil:5: O4\n"),
+            Act::Run(&["build", "b.oil", "a.c", "x"], 1, "", "b.oil:4: O8\n"),
+        ],
+    },
+    Row {
+        name: "a faulty event, a missing mode, a missing image",
+        files: &[
+            (
+                "a.oil",
+                "CPU c { OS os; TASK T1 { PRIORITY = 1; AUTOSTART = TRUE; }; TASK T2 { PRIORITY = 2; }; };",
+            ),
+            (
+                "a.c",
+                "TASK(T1) { ActivateTask(T2); TerminateTask(); }\nTASK(T2) { TerminateTask(); }\n",
+            ),
+            ("e", "run 0\nrun 0\nirq X\n"),
+        ],
+        acts: &[
+            Act::Run(&["build", "a.oil", "a.c", "a.img"], 0, "", ""),
+            Act::Run(
+                &["replay", "a.img", "OSDEFAULTAPPMODE", "e"],
+                4,
+                "0 T1 T1=R T2=S\n1 T2 T1=Y T2=R !E_OK\n2 T1 T1=R T2=S\n",
+                "e:3: E2\n",
+            ),
+            Act::Run(
+                &["replay", "a.img", "NOPE", "e"],
+                9,
+                "",
+                "NOPE: no such mode\n",
+            ),
+            Act::Run(
+                &["replay", "x", "OSDEFAULTAPPMODE", "e"],
+                5,
+                "",
+                "x: read\n",
+            ),
+        ],
+    },
+    Row {
+        name: "work at its most",
+        files: &[
+            (
+                "a.oil",
+                "CPU c { OS os; TASK T1 { PRIORITY = 1; AUTOSTART = TRUE; }; };",
+            ),
+            ("a.c", "TASK(T1) { work 65535; }\n"),
+        ],
+        acts: &[Act::Run(&["build", "a.oil", "a.c", "x"], 0, "", "")],
+    },
+    Row {
+        name: "work above its most",
+        files: &[
+            (
+                "a.oil",
+                "CPU c { OS os; TASK T1 { PRIORITY = 1; AUTOSTART = TRUE; }; };",
+            ),
+            ("a.c", "TASK(T1) { work 65536; }\n"),
+        ],
+        acts: &[Act::Run(&["build", "a.oil", "a.c", "x"], 1, "", "a.c:1: C9\n")],
+    },
+    Row {
+        name: "work of nothing",
+        files: &[
+            (
+                "a.oil",
+                "CPU c { OS os; TASK T1 { PRIORITY = 1; AUTOSTART = TRUE; }; };",
+            ),
+            ("a.c", "TASK(T1) { work 0; }\n"),
+        ],
+        acts: &[Act::Run(&["build", "a.oil", "a.c", "x"], 1, "", "a.c:1: C9\n")],
+    },
+    Row {
+        name: "a file with much that is passed over",
+        files: &[
+            (
+                "a.oil",
+                "OIL_VERSION = \"2.5\" : \"demo\"; IMPLEMENTATION impl { TASK { UINT32 [0..0xFFFF] STACKSIZE = 256; }; }; CPU c { OS os { STATUS = STANDARD; }; TASK T1 { PRIORITY = 1; AUTOSTART = TRUE { APPMODE = OSDEFAULTAPPMODE; }; STACKSIZE = 512; } : \"main\"; };",
+            ),
+            ("a.c", "TASK(T1) { TerminateTask(); }\n"),
+            ("e", "run 0\n"),
+        ],
+        acts: &[Act::Plays("OSDEFAULTAPPMODE", 2, &[(0, "0 T1 T1=R"), (1, "1 - T1=S")])],
+    },
+    Row {
+        name: "autostart in another mode",
+        files: &[
+            (
+                "a.oil",
+                "CPU c { OS os; APPMODE M1; TASK T1 { PRIORITY = 1; AUTOSTART = TRUE { APPMODE = M1; }; }; };",
+            ),
+            ("a.c", "TASK(T1) { TerminateTask(); }\n"),
+            ("e", ""),
+        ],
+        acts: &[Act::Plays("OSDEFAULTAPPMODE", 1, &[(0, "0 - T1=S")])],
+    },
+    Row {
+        name: "autostart in its mode",
+        files: &[
+            (
+                "a.oil",
+                "CPU c { OS os; APPMODE M1; TASK T1 { PRIORITY = 1; AUTOSTART = TRUE { APPMODE = M1; }; }; };",
+            ),
+            ("a.c", "TASK(T1) { TerminateTask(); }\n"),
+            ("e", ""),
+        ],
+        acts: &[Act::Plays("M1", 1, &[(0, "0 T1 T1=R")])],
+    },
+    Row {
+        name: "shutdown",
+        files: &[
+            (
+                "a.oil",
+                "CPU c { OS os { SHUTDOWNHOOK = TRUE; }; TASK T1 { PRIORITY = 1; AUTOSTART = TRUE; }; };",
+            ),
+            ("a.c", "TASK(T1) { ShutdownOS(E_OK); }\n"),
+            ("e", "run 0\nrun 0\n"),
+        ],
+        acts: &[Act::Plays(
+            "OSDEFAULTAPPMODE",
+            3,
+            &[(1, "1 # T1=Y ^Shutdown"), (2, "2 # T1=Y")],
+        )],
+    },
+    Row {
+        name: "a COM object",
+        files: &[
+            (
+                "a.oil",
+                "CPU c { OS os; TASK T1 { PRIORITY = 1; AUTOSTART = TRUE; }; COM x; };",
+            ),
+            ("a.c", "TASK(T1) { TerminateTask(); }\n"),
+        ],
+        acts: &[Act::Run(&["build", "a.oil", "a.c", "x"], 1, "", "a.oil:1: O1\n")],
+    },
+    Row {
+        name: "a call under a lock",
+        files: &[
+            (
+                "a.oil",
+                "CPU c { OS os; TASK T1 { PRIORITY = 1; AUTOSTART = TRUE; }; };",
+            ),
+            (
+                "a.c",
+                "TASK(T1) { SuspendOSInterrupts(); TerminateTask(); ResumeOSInterrupts(); }\n",
+            ),
+        ],
+        acts: &[Act::Run(&["build", "a.oil", "a.c", "x"], 1, "", "a.c:1: C7\n")],
+    },
+    Row {
+        name: "a missing equals sign",
+        files: &[
+            ("a.oil", "CPU c { OS os; TASK T1 { PRIORITY 1; }; };"),
+            ("a.c", "TASK(T1) { TerminateTask(); }\n"),
+        ],
+        acts: &[Act::Run(&["build", "a.oil", "a.c", "x"], 1, "", "a.oil:1: S1\n")],
+    },
+    Row {
+        name: "an include line",
+        files: &[
+            (
+                "a.oil",
+                "#include \"x\"\nCPU c { OS os; TASK T1 { PRIORITY = 1; AUTOSTART = TRUE; }; };",
+            ),
+            ("a.c", "TASK(T1) { TerminateTask(); }\n"),
+        ],
+        acts: &[Act::Run(&["build", "a.oil", "a.c", "x"], 1, "", "a.oil:1: L1\n")],
+    },
+    Row {
+        name: "nothing declared",
+        files: &[("a.oil", "CPU c { OS os;  };"), ("a.c", ""), ("e", "")],
+        acts: &[Act::Plays("OSDEFAULTAPPMODE", 1, &[(0, "0 -")])],
+    },
+    Row {
+        name: "sixteen more braces",
+        files: &[
+            ("a.c", "TASK(T1) { TerminateTask(); }\n"),
+            (
+                "a.oil",
+                "IMPLEMENTATION i {\n{\n{\n{\n{\n{\n{\n{\n{\n{\n{\n{\n{\n{\n{\n{\n{\n",
+            ),
+        ],
+        acts: &[Act::Run(&["build", "a.oil", "a.c", "x"], 1, "", "a.oil:17: S3\n")],
+    },
+    Row {
+        name: "31 nested loops",
+        files: &[
+            (
+                "a.oil",
+                "CPU c { OS os; TASK T1 { PRIORITY = 1; AUTOSTART = TRUE; }; };",
+            ),
+            (
+                "a.c",
+                "TASK(T1) {\nwhile (1) {\nwhile (1) {\nwhile (1) {\nwhile (1) {\nwhile (1) {\nwhile (1) {\nwhile (1) {\nwhile (1) {\nwhile (1) {\nwhile (1) {\nwhile (1) {\nwhile (1) {\nwhile (1) {\nwhile (1) {\nwhile (1) {\nwhile (1) {\nwhile (1) {\nwhile (1) {\nwhile (1) {\nwhile (1) {\nwhile (1) {\nwhile (1) {\nwhile (1) {\nwhile (1) {\nwhile (1) {\nwhile (1) {\nwhile (1) {\nwhile (1) {\nwhile (1) {\nwhile (1) {\nwhile (1) {\n}\n}\n}\n}\n}\n}\n}\n}\n}\n}\n}\n}\n}\n}\n}\n}\n}\n}\n}\n}\n}\n}\n}\n}\n}\n}\n}\n}\n}\n}\n}\n}\n",
+            ),
+        ],
+        acts: &[Act::Run(&["build", "a.oil", "a.c", "x"], 0, "", "")],
+    },
+    Row {
+        name: "32 nested loops",
+        files: &[
+            (
+                "a.oil",
+                "CPU c { OS os; TASK T1 { PRIORITY = 1; AUTOSTART = TRUE; }; };",
+            ),
+            (
+                "a.c",
+                "TASK(T1) {\nwhile (1) {\nwhile (1) {\nwhile (1) {\nwhile (1) {\nwhile (1) {\nwhile (1) {\nwhile (1) {\nwhile (1) {\nwhile (1) {\nwhile (1) {\nwhile (1) {\nwhile (1) {\nwhile (1) {\nwhile (1) {\nwhile (1) {\nwhile (1) {\nwhile (1) {\nwhile (1) {\nwhile (1) {\nwhile (1) {\nwhile (1) {\nwhile (1) {\nwhile (1) {\nwhile (1) {\nwhile (1) {\nwhile (1) {\nwhile (1) {\nwhile (1) {\nwhile (1) {\nwhile (1) {\nwhile (1) {\nwhile (1) {\n}\n}\n}\n}\n}\n}\n}\n}\n}\n}\n}\n}\n}\n}\n}\n}\n}\n}\n}\n}\n}\n}\n}\n}\n}\n}\n}\n}\n}\n}\n}\n}\n}\n",
+            ),
+        ],
+        acts: &[Act::Run(&["build", "a.oil", "a.c", "x"], 1, "", "a.c:33: S3\n")],
+    },
+    Row {
+        name: "two activations before their time",
+        files: &[
+            (
+                "a.oil",
+                "CPU c { OS os; TASK T1 { PRIORITY = 1; ACTIVATION = 2; }; };",
+            ),
+            ("a.c", "TASK(T1) { }\n"),
+        ],
+        acts: &[Act::Run(&["build", "a.oil", "a.c", "x"], 1, "", "a.oil:1: O9\n")],
+    },
+];
