@@ -1,0 +1,66 @@
+-- What a table keeps of a state decides whether the state is in it.
+use Rattle.std.proofs.Common.{◌≡◌, ℕ, ◌<◌, refl, sym, ap, subst, ◌∙◌, IsTrue}
+use Rattle.osek_values.specs.Numbers.{block_no}
+use Rattle.osek_values.specs.declared.numbers.BlockNo.{BlockNo}
+use Rattle.osek_values.specs.declared.mask.Mask.{Mask}
+use Rattle.osek_standard.specs.declared.app.App.{App}
+use Rattle.osek_standard.specs.declared.state.State.{State}
+use Rattle.osek_standard.specs.declared.state.Processor.{Processor}
+use Rattle.osek_standard.specs.declared.state.Processor.TheVariants as processor
+use Rattle.osek_standard.specs.declared.task_state.Activity.{Activity}
+use Rattle.osek_standard.specs.declared.task_state.Activity.TheVariants as activity
+use Rattle.osek_standard.specs.States.{task_state, place_in, place_by}
+use Rattle.osek_standard.specs.Kernel.{has_bit}
+use Rattle.osek_standard.specs.Well.{Well}
+use Rattle.abstract_state.specs.declared.point.Point.{Point}
+use Rattle.abstract_state.specs.declared.value.Val.{Val}
+use Rattle.abstract_state.specs.declared.value.Val.TheVariants.{Suspended, Live, Waiting}
+use Rattle.abstract_state.specs.declared.value.Component.{Component}
+use Rattle.abstract_state.specs.declared.value.Component.TheVariants as component
+use Rattle.abstract_state.specs.declared.value.PartValue.TheVariants.{OfTask, OfEvent, OfAlarm}
+use Rattle.abstract_state.specs.Points.{point_at, point_of}
+use Rattle.abstract_state.specs.Components.{component_at, component_count, value_in, part_of, abstract_of}
+use Rattle.abstract_state.specs.Alike.{IsAlike}
+use Rattle.abstract_state.specs.Tables.{Sets, In}
+
+pub in_by_components : (app : App) (table : Sets) (s u : State) → Well app u → point_of s ≡ point_of u → ((c : ℕ) → c < component_count app → abstract_of app s c ≡ abstract_of app u c) → In app table s → In app table u
+in_by_components app table s u w p parts h = record {
+  well = w;
+  entry = subst (λ (q : Point). IsTrue (table.entry q)) p h.entry;
+  within = λ c lt.
+      subst (λ v. IsTrue (table.has (point_of u) c v)) (parts c lt)
+      (subst (λ (q : Point). IsTrue (table.has q c (abstract_of app s c))) p (h.within c lt));
+}
+
+block_in : Val → BlockNo
+block_in Suspended = block_no 0
+block_in (Live b held) = b
+block_in (Waiting b) = b
+
+-- a task's block is seen from what a table keeps of it
+block_of_value : (x : Activity) → (place_in x).block ≡ block_in (value_in x)
+unfolding block_in
+block_of_value activity.Suspended = refl
+block_of_value (activity.Live x) = refl
+block_of_value (activity.Waiting b) = refl
+
+same_block : (x y : Activity) → value_in x ≡ value_in y → (place_in x).block ≡ (place_in y).block
+same_block x y e = block_of_value x ∙ ap block_in e ∙ sym (block_of_value y)
+
+module _ (s u : State) (alike : IsAlike s u) where
+  same_point_at : (p : Processor) → point_at (place_by s p).block p ≡ point_at (place_by u p).block p
+  same_point_at processor.Halted = refl
+  same_point_at processor.Idle = refl
+  same_point_at (processor.Running t) = ap (λ (b : BlockNo). point_at b (processor.Running t)) (same_block (task_state s t.0).activity (task_state u t.0).activity (alike.tasks t.0))
+  same_point_at (processor.Interrupted k over) = ap (λ (b : BlockNo). point_at b (processor.Interrupted k over)) (alike.routines k.0)
+
+  pub alike_point : point_of s ≡ point_of u
+  alike_point = same_point_at s.processor ∙ ap (λ (p : Processor). point_at (place_by u p).block p) alike.processor
+
+  pub alike_part : (c : Component) → part_of s c ≡ part_of u c
+  alike_part (component.Task t) = ap OfTask (alike.tasks t.0)
+  alike_part (component.Event t k) = ap (λ (m : Mask). OfEvent (has_bit m.0 k.0)) (alike.events t.0)
+  alike_part (component.Alarm a) = ap OfAlarm (alike.alarms a.0)
+
+pub in_alike : (app : App) (table : Sets) (s u : State) → Well app u → IsAlike s u → In app table s → In app table u
+in_alike app table s u w alike h = in_by_components app table s u w (alike_point s u alike) (λ c lt. alike_part s u alike (component_at app c)) h

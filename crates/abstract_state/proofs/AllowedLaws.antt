@@ -1,0 +1,96 @@
+-- A well-formed state stands at a point of the application, and its components are what they can be there.
+use Rattle.std.proofs.Common.{◌≡◌, ℕ, ◌<◌, true, length, refl, subst, Some, None, IfSome}
+use Rattle.std.specs.declared.option.Option.{Option}
+use Rattle.osek_values.specs.declared.numbers.TaskNo.{TaskNo}
+use Rattle.osek_values.specs.declared.numbers.BlockNo.{BlockNo}
+use Rattle.osek_standard.specs.declared.app.App.{App}
+use Rattle.osek_standard.specs.declared.state.State.{State}
+use Rattle.osek_standard.specs.declared.state.Source.{Source}
+use Rattle.osek_standard.specs.declared.state.Source.TheVariants as source
+use Rattle.osek_standard.specs.declared.state.Processor.{Processor}
+use Rattle.osek_standard.specs.declared.state.Processor.TheVariants as processor
+use Rattle.osek_standard.specs.declared.task_state.Activity.{Activity}
+use Rattle.osek_standard.specs.declared.task_state.Activity.TheVariants as activity
+use Rattle.osek_standard.specs.TaskStates.{is_live_activity}
+use Rattle.osek_standard.specs.States.{task_state, source_state, place_in, place_by, place_of_source}
+use Rattle.osek_standard.specs.Well.{Well, IsActivityOf, IsOwn, IsProcessor, IsRunningAt, IsPlaceOf}
+use Rattle.abstract_state.specs.declared.point.Point.TheVariants as point
+use Rattle.abstract_state.specs.declared.value.Component.{Component}
+use Rattle.abstract_state.specs.declared.value.Component.TheVariants as component
+use Rattle.abstract_state.specs.Points.{point_at, point_of, IsPoint}
+use Rattle.abstract_state.specs.Components.{component_at, component_count, value_in, abstract_of, part_of, IsComponent, IsVal, IsLiveAt, IsLiveSomewhere, FitsPoint, IsPart, IsAllowed}
+use Rattle.abstract_state.proofs.ComponentLaws.{component_known}
+use Rattle.abstract_state.proofs.OwnerLaws.{own_once}
+
+module _ (app : App) where
+  -- the block of a Live task is its own
+  live_owns : (t : ℕ) (x : Activity) → is_live_activity x ≡ true → IsActivityOf app t x → IsOwn app t (place_in x).block.0
+  live_owns t activity.Suspended e h = absurd (cc)
+  live_owns t (activity.Live x) e h = h.own
+  live_owns t (activity.Waiting b) e h = absurd (cc)
+
+  live_there : (x : Activity) → is_live_activity x ≡ true → IsLiveAt (place_in x).block (value_in x)
+  live_there activity.Suspended e = cc
+  live_there (activity.Live x) e = refl
+  live_there (activity.Waiting b) e = cc
+
+  live_somewhere : (x : Activity) → is_live_activity x ≡ true → IsLiveSomewhere (value_in x)
+  live_somewhere activity.Suspended e = cc
+  live_somewhere (activity.Live x) e = tt
+  live_somewhere (activity.Waiting b) e = cc
+
+  val_of_activity : (t : ℕ) (x : Activity) → IsActivityOf app t x → IsVal app t (value_in x)
+  val_of_activity t activity.Suspended h = tt
+  val_of_activity t (activity.Live x) h = (h.own, h.stack)
+  val_of_activity t (activity.Waiting b) h = h
+
+  routine_place : (k : ℕ) (x : Source) → IsRunningAt app k x → IsPlaceOf app k (place_of_source x)
+  routine_place k source.Out h = absurd h
+  routine_place k (source.In p) h = h
+
+  over_known : (s : State) (o : Option TaskNo) → IfSome o (λ t. (t.0 < length app.tasks) × (is_live_activity (task_state s t.0).activity ≡ true)) → IfSome o (λ t. t.0 < length app.tasks)
+  over_known s None h = tt
+  over_known s (Some t) h = h.0
+
+  module _ (s : State) (w : Well app s) where
+    point_by : (p : Processor) → IsProcessor app s p → IsPoint app (point_at (place_by s p).block p)
+    point_by processor.Halted h = tt
+    point_by processor.Idle h = tt
+    point_by (processor.Running t) h = record {
+      task = t.0;
+      known = h.running.0;
+      own = live_owns t.0 (task_state s t.0).activity h.running.1 (w.tasks t.0 h.running.0).activity;
+    }
+    point_by (processor.Interrupted k over) h = record {
+      source = k.0;
+      known = h.known;
+      own = (routine_place k.0 (source_state s k.0) h.runs).own;
+      task = over_known s over h.over;
+    }
+
+    -- the point of a well-formed state
+    pub well_point : IsPoint app (point_of s)
+    well_point = point_by s.processor w.processor
+
+    over_live : (b : BlockNo) (o : Option TaskNo) → IfSome o (λ t. (t.0 < length app.tasks) × (is_live_activity (task_state s t.0).activity ≡ true)) → (t : ℕ) → FitsPoint app (point.Routine b o) t (value_in (task_state s t).activity)
+    over_live b None h t = tt
+    over_live b (Some u) h t = λ same. subst (λ (v : ℕ). IsLiveSomewhere (value_in (task_state s v).activity)) same (live_somewhere (task_state s u.0).activity h.1)
+
+    fits_by : (p : Processor) → IsProcessor app s p → (t : ℕ) → t < length app.tasks → FitsPoint app (point_at (place_by s p).block p) t (value_in (task_state s t).activity)
+    fits_by processor.Halted h t lt = tt
+    fits_by processor.Idle h t lt = tt
+    fits_by (processor.Running r) h t lt = λ own.
+        let runs = live_owns r.0 (task_state s r.0).activity h.running.1 (w.tasks r.0 h.running.0).activity in
+        let same : r.0 ≡ t = own_once app r.0 t (place_in (task_state s r.0).activity).block.0 h.running.0 lt runs own in
+        subst (λ (v : ℕ). IsLiveAt (place_in (task_state s r.0).activity).block (value_in (task_state s v).activity)) same
+        (live_there (task_state s r.0).activity h.running.1)
+    fits_by (processor.Interrupted k over) h t lt = over_live (place_of_source (source_state s k.0)).block over h.over t
+
+    part_by : (x : Component) → IsComponent app x → IsPart app (point_of s) x (part_of s x)
+    part_by (component.Task t) h = (val_of_activity t.0 (task_state s t.0).activity (w.tasks t.0 h).activity, fits_by s.processor w.processor t.0 h)
+    part_by (component.Event t k) h = tt
+    part_by (component.Alarm a) h = tt
+
+    -- what a component of it is
+    pub well_part : (c : ℕ) → c < component_count app → IsAllowed app (point_of s) c (abstract_of app s c)
+    well_part c lt = part_by (component_at app c) (component_known app c lt)

@@ -1,0 +1,265 @@
+-- Values that the components can have at a point, one each, make a well-formed state there.
+use Rattle.std.proofs.Common.{◌≡◌, ℕ, ◌<◌, ◌≤◌, Bool, true, false, ◌&&◌, List, length, map, replicate, get_or, refl, sym, ap, subst, ◌∙◌, inl, inr, arith, Some, None, IfSome}
+use Rattle.std.specs.Prelude.{if◌then◌else◌}
+use Rattle.std.specs.List.{range_with_len}
+use Rattle.std.specs.declared.option.Option.{Option}
+use Rattle.std.proofs.lemmas.Bool.{cases_lt, and_parts, eq-eqb, ne_eqb}
+use Rattle.std.proofs.lemmas.List.{get_or_past, get_or-replicate, length-replicate}
+use Rattle.std.proofs.lemmas.List.FromFn.{length-map-range_with_len, get_or-map-range_with_len}
+use Rattle.osek_values.specs.Numbers.{task_no, source_no, mode_no, event_no, alarm_no}
+use Rattle.osek_values.specs.declared.numbers.TaskNo.{TaskNo}
+use Rattle.osek_values.specs.declared.numbers.BlockNo.{BlockNo}
+use Rattle.osek_values.specs.declared.numbers.ResNo.{ResNo}
+use Rattle.osek_values.specs.declared.numbers.SourceNo.{SourceNo}
+use Rattle.osek_standard.specs.declared.app.App.{App}
+use Rattle.osek_standard.specs.declared.task_state.TaskState.{TaskState}
+use Rattle.osek_standard.specs.declared.state.Source.{Source}
+use Rattle.osek_standard.specs.declared.state.Source.TheVariants as source
+use Rattle.osek_standard.specs.declared.state.AlarmState.{AlarmState}
+use Rattle.osek_standard.specs.declared.state.AlarmState.TheVariants as alarm
+use Rattle.osek_standard.specs.Apps.{the_task, the_counter, the_block, source_count}
+use Rattle.osek_standard.specs.TaskStates.{suspended, is_live, is_live_activity}
+use Rattle.osek_standard.specs.States.{task_state, source_state, alarm_state, place_in, place_of_source}
+use Rattle.osek_standard.specs.Effects.{place_at}
+use Rattle.osek_standard.specs.Kernel.{has_bit}
+use Rattle.osek_standard.specs.Well.{HasProcessor, IsActivityOf, IsAlarmState, IsArmed, IsOffsetAt, IsProcessor, IsRunningAt, IsTaskState}
+use Rattle.osek_standard.proofs.WellLaws.{own_block, routine_block}
+use Rattle.osek_standard.proofs.Keeps.{offset_0}
+use Rattle.abstract_state.specs.declared.point.Point.{Point}
+use Rattle.abstract_state.specs.declared.point.Point.TheVariants as point
+use Rattle.abstract_state.specs.declared.value.Val.{Val}
+use Rattle.abstract_state.specs.declared.value.Val.TheVariants.{Suspended, Live, Waiting}
+use Rattle.abstract_state.specs.declared.value.Component.{Component}
+use Rattle.abstract_state.specs.declared.value.Component.TheVariants as component
+use Rattle.abstract_state.specs.declared.value.PartValue.{PartValue}
+use Rattle.abstract_state.specs.declared.value.PartValue.TheVariants.{OfTask, OfEvent, OfAlarm}
+use Rattle.abstract_state.specs.Points.{point_of, IsPoint}
+use Rattle.abstract_state.specs.Components.{component_at, component_count, component_number, value_in, is_armed, abstract_of, part_of, IsComponent, IsVal, IsLiveAt, IsLiveSomewhere, FitsPoint, IsPart}
+use Rattle.abstract_state.specs.Concrete.{Free, val_of, flag_of, activity_of, alarm_of, event_chosen, task_chosen, alarm_chosen, source_by, processor_by, state_of, StandsThere, IsFree, AreAllowed, HasParts}
+use Rattle.abstract_state.proofs.ComponentLaws.{component_known, component_numbered, task_counted, task_at_its_number}
+use Rattle.abstract_state.proofs.BitLaws.{has_bit_of_number, number_within}
+
+-- values, and what is made of them
+value_of_activity : (v : Val) (o : ℕ) → value_in (activity_of v o) ≡ v
+value_of_activity Suspended o = refl
+value_of_activity (Live b held) o = refl
+value_of_activity (Waiting b) o = refl
+
+live_value : (v : Val) (o : ℕ) → IsLiveSomewhere v → is_live_activity (activity_of v o) ≡ true
+live_value Suspended o h = absurd h
+live_value (Live b held) o h = refl
+live_value (Waiting b) o h = absurd h
+
+live_at_value : (b : BlockNo) (v : Val) → IsLiveAt b v → IsLiveSomewhere v
+live_at_value b Suspended h = h
+live_at_value b (Live c held) h = tt
+live_at_value b (Waiting c) h = h
+
+place_of_value : (b : BlockNo) (v : Val) (o : ℕ) → IsLiveAt b v → (place_in (activity_of v o)).block ≡ b
+place_of_value b Suspended o h = absurd h
+place_of_value b (Live c held) o h = h
+place_of_value b (Waiting c) o h = absurd h
+
+armed_flag : (b : Bool) (at cycle : ℕ) → is_armed (alarm_of b at cycle) ≡ b
+armed_flag true at cycle = refl
+armed_flag false at cycle = refl
+
+live_part : (x : PartValue) (b : BlockNo) (held : List ResNo) → val_of x ≡ Live b held → x ≡ OfTask (Live b held)
+live_part (OfTask v) b held e = ap OfTask e
+live_part (OfEvent f) b held e = absurd (cc)
+live_part (OfAlarm f) b held e = absurd (cc)
+
+module _ (app : App) (p : Point) where
+  task_part : (t : TaskNo) (x : PartValue) → IsPart app p (component.Task t) x → OfTask (val_of x) ≡ x
+  task_part t (OfTask v) h = refl
+  task_part t (OfEvent f) h = absurd h
+  task_part t (OfAlarm f) h = absurd h
+
+  event_part : (t : TaskNo) (x : PartValue) → (k : _) → IsPart app p (component.Event t k) x → OfEvent (flag_of x) ≡ x
+  event_part t (OfTask v) k h = absurd h
+  event_part t (OfEvent f) k h = refl
+  event_part t (OfAlarm f) k h = absurd h
+
+  alarm_part : (x : PartValue) → (a : _) → IsPart app p (component.Alarm a) x → OfAlarm (flag_of x) ≡ x
+  alarm_part (OfTask v) a h = absurd h
+  alarm_part (OfEvent f) a h = absurd h
+  alarm_part (OfAlarm f) a h = refl
+
+  val_part : (t : TaskNo) (x : PartValue) → IsPart app p (component.Task t) x → IsVal app t.0 (val_of x) × FitsPoint app p t.0 (val_of x)
+  val_part t (OfTask v) h = h
+  val_part t (OfEvent f) h = absurd h
+  val_part t (OfAlarm f) h = absurd h
+
+  activity_right : (t : ℕ) (v : Val) (o : ℕ) → IsVal app t v → ((b : BlockNo) (held : List ResNo) → v ≡ Live b held → IsOffsetAt (the_block app b.0).kind o) → IsActivityOf app t (activity_of v o)
+  activity_right t Suspended o h offset = tt
+  activity_right t (Live b held) o h offset = record { own = h.0; offset = offset b held refl; stack = h.1 }
+  activity_right t (Waiting b) o h offset = h
+
+  alarm_right : (a : ℕ) (b : Bool) (at cycle : ℕ) → IsArmed app a at cycle → IsAlarmState app a (alarm_of b at cycle)
+  alarm_right a true at cycle h = h
+  alarm_right a false at cycle h = tt
+
+  module _ (value : ℕ → PartValue) (allowed : AreAllowed app p value) where
+    allowed_task : (t : ℕ) → t < length app.tasks → IsPart app p (component.Task (task_no t)) (value t)
+    allowed_task t lt = subst (λ (x : Component). IsPart app p x (value t)) (task_at_its_number app t lt) (allowed t (task_counted app t lt))
+
+    val_right : (t : ℕ) → t < length app.tasks → IsVal app t (val_of (value t)) × FitsPoint app p t (val_of (value t))
+    val_right t lt = val_part (task_no t) (value t) (allowed_task t lt)
+
+  module _ (value : ℕ → PartValue) (free : Free) where
+    task_is : (t : ℕ) → t < length app.tasks → task_state (state_of app p value free) t ≡ task_chosen app p value free t
+    task_is t lt = get_or-map-range_with_len (task_chosen app p value free) 0 (length app.tasks) t t suspended lt (omega arith)
+
+    alarm_is : (a : ℕ) → a < length app.alarms → alarm_state (state_of app p value free) a ≡ alarm_chosen app p value free a
+    alarm_is a lt = get_or-map-range_with_len (alarm_chosen app p value free) 0 (length app.alarms) a a alarm.Idle lt (omega arith)
+
+    source_is : (k : ℕ) → k < source_count app → source_state (state_of app p value free) k ≡ source_by app p value free p k
+    source_is k lt = get_or-map-range_with_len (source_by app p value free p) 0 (source_count app) k k source.Out lt (omega arith)
+
+    source_out : (k : ℕ) → source_by app p value free p k ≡ source.Out → source_state (state_of app p value free) k ≡ source.Out
+    source_out k e = elim (cases_lt k (source_count app)) [
+      | inl below ↦ source_is k below ∙ e
+      | inr above ↦
+          (let long = length-map-range_with_len (source_by app p value free p) 0 (source_count app) in
+          get_or_past (map (source_by app p value free p) (range_with_len 0 (source_count app))) k source.Out (omega (arith, above, long)))
+    ]
+
+    live_chosen : (t : ℕ) → t < length app.tasks → IsLiveSomewhere (val_of (value t)) → is_live (task_state (state_of app p value free) t) ≡ true
+    live_chosen t lt h = ap (λ (x : TaskState). is_live x) (task_is t lt) ∙ live_value (val_of (value t)) (free.offset t) h
+
+    module _ (allowed : AreAllowed app p value) (chosen : IsFree app p value free) where
+      task_right : (t : ℕ) → t < length app.tasks → IsTaskState app t (task_chosen app p value free t)
+      task_right t lt = record {
+        activity = activity_right t (val_of (value t)) (free.offset t) (val_right value allowed t lt).0 (λ b held e. chosen.offsets t b held lt (live_part (value t) b held e));
+        events = number_within (event_chosen app p value free t) 64 (the_task app t).own.0 (λ k e. (and_parts (has_bit (the_task app t).own.0 k) (flag_of (value (component_number app (component.Event (task_no t) (event_no k))))) e).0);
+      }
+
+      part_is : (x : Component) → IsComponent app x → IsPart app p x (value (component_number app x)) → part_of (state_of app p value free) x ≡ value (component_number app x)
+      part_is (component.Task t) known h =
+          ap (λ (x : TaskState). OfTask (value_in x.activity)) (task_is t.0 known)
+          ∙ ap OfTask (value_of_activity (val_of (value t.0)) (free.offset t.0))
+          ∙ task_part t (value t.0) h
+      part_is (component.Event t k) known h =
+          let n = component_number app (component.Event t k) in
+          ap (λ (x : TaskState). OfEvent (has_bit x.events.0 k.0)) (task_is t.0 known.0)
+          ∙ ap OfEvent (has_bit_of_number (event_chosen app p value free t.0) 64 k.0 known.1)
+          ∙ ap (λ b. OfEvent (b && flag_of (value n))) known.2
+          ∙ event_part t (value n) k h
+      part_is (component.Alarm a) known h =
+          let n = component_number app (component.Alarm a) in
+          ap (λ (x : AlarmState). OfAlarm (is_armed x)) (alarm_is a.0 known)
+          ∙ ap OfAlarm (armed_flag (flag_of (value n)) (free.due a.0) (free.cycle a.0))
+          ∙ alarm_part (value n) a h
+
+      parts_are : (c : ℕ) → c < component_count app → abstract_of app (state_of app p value free) c ≡ value c
+      parts_are c lt =
+          let same : component_number app (component_at app c) ≡ c = component_numbered app c lt in
+          part_is (component_at app c) (component_known app c lt) (subst (λ (n : ℕ). IsPart app p (component_at app c) (value n)) (sym same) (allowed c lt))
+          ∙ ap value same
+
+module _ (app : App) (value : ℕ → PartValue) (free : Free) where
+  here_in : (b : BlockNo) (over : Option TaskNo) (known : free.source.0 < source_count app) → source_state (state_of app (point.Routine b over) value free) free.source.0 ≡ source.In (place_at b free.routine_offset)
+  here_in b over known =
+      source_is app (point.Routine b over) value free free.source.0 known
+      ∙ ap (λ (t : Bool). if t then source.In (place_at b free.routine_offset) else source.Out) (eq-eqb free.source.0 free.source.0 refl)
+
+  interrupted : (b : BlockNo) (over under : Option TaskNo) → IfSome under (λ t. t.0 < length app.tasks) → ((t : ℕ) → t < length app.tasks → FitsPoint app (point.Routine b under) t (val_of (value t))) → IfSome under (HasProcessor app (state_of app (point.Routine b over) value free))
+  interrupted b over None known fits = tt
+  interrupted b over (Some u) known fits = (known, live_chosen app (point.Routine b over) value free u.0 known (fits u.0 known refl))
+
+  processor_right : (p : Point) → StandsThere app p value free p → ((t : ℕ) → t < length app.tasks → FitsPoint app p t (val_of (value t))) → IsProcessor app (state_of app p value free) (processor_by app p value free p)
+  processor_right point.Halted stands fits = λ k. source_out app point.Halted value free k refl
+  processor_right point.Idle stands fits = λ k. source_out app point.Idle value free k refl
+  processor_right (point.Task b) stands fits = record {
+    running = (stands.0, live_chosen app (point.Task b) value free free.task.0 stands.0 (live_at_value b (val_of (value free.task.0)) (fits free.task.0 stands.0 stands.1)));
+    out = λ k. source_out app (point.Task b) value free k refl;
+  }
+  processor_right (point.Routine b over) stands fits = record {
+    known = stands.known;
+    runs = subst (IsRunningAt app free.source.0) (sym (here_in b over stands.known)) (record { own = stands.own; offset = stands.offset });
+    others = λ l other. source_out app (point.Routine b over) value free l (ap (λ (t : Bool). if t then source.In (place_at b free.routine_offset) else source.Out) (ne_eqb l free.source.0 other));
+    over = interrupted b over over stands.interrupted fits;
+  }
+
+  point_is : (p : Point) → StandsThere app p value free p → ((t : ℕ) → t < length app.tasks → FitsPoint app p t (val_of (value t))) → point_of (state_of app p value free) ≡ p
+  point_is point.Halted stands fits = refl
+  point_is point.Idle stands fits = refl
+  point_is (point.Task b) stands fits =
+      ap (λ (x : TaskState). point.Task (place_in x.activity).block) (task_is app (point.Task b) value free free.task.0 stands.0)
+      ∙ ap point.Task (place_of_value b (val_of (value free.task.0)) (free.offset free.task.0) (fits free.task.0 stands.0 stands.1))
+  point_is (point.Routine b over) stands fits = ap (λ (x : Source). point.Routine (place_of_source x).block over) (here_in b over stands.known)
+
+-- the state with these values
+pub state_has_parts : (app : App) (p : Point) (value : ℕ → PartValue) (free : Free) → AreAllowed app p value → IsFree app p value free → HasParts app p value (state_of app p value free)
+state_has_parts app p value free allowed chosen =
+    let fits : (t : ℕ) → t < length app.tasks → FitsPoint app p t (val_of (value t)) = λ t lt. (val_right app p value allowed t lt).1 in
+    record {
+      well = record {
+        mode = chosen.mode;
+        tasks_len = length-map-range_with_len (task_chosen app p value free) 0 (length app.tasks);
+        counters_len = chosen.counters_len;
+        alarms_len = length-map-range_with_len (alarm_chosen app p value free) 0 (length app.alarms);
+        sources_len = length-map-range_with_len (source_by app p value free p) 0 (source_count app);
+        latched_len = chosen.latched_len;
+        tasks = λ t lt. subst (IsTaskState app t) (sym (task_is app p value free t lt)) (task_right app p value free allowed chosen t lt);
+        counters = chosen.counters;
+        alarms = λ a lt. subst (IsAlarmState app a) (sym (alarm_is app p value free a lt)) (alarm_right app p a (flag_of (value (component_number app (component.Alarm (alarm_no a))))) (free.due a) (free.cycle a) (chosen.alarms a lt));
+        processor = processor_right app value free p chosen.stands fits;
+      };
+      point = point_is app value free p chosen.stands fits;
+      parts = parts_are app p value free allowed chosen;
+    }
+
+at_most_any : (n c most : ℕ) → c < n → get_or (replicate n 0) c 0 ≤ most
+at_most_any n c most lt = let none : ℕ = 0 in let e = get_or-replicate n c none none lt in subst (λ (k : ℕ). k ≤ most) (sym e) (omega arith)
+
+-- a choice that well-formedness allows: the first mode, and 0 everywhere
+module _ (app : App) where
+  task_there : (p : Point) → IsPoint app p → TaskNo
+  task_there point.Halted h = task_no 0
+  task_there point.Idle h = task_no 0
+  task_there (point.Task b) h = task_no h.task
+  task_there (point.Routine b over) h = task_no 0
+
+  source_there : (p : Point) → IsPoint app p → SourceNo
+  source_there point.Halted h = source_no 0
+  source_there point.Idle h = source_no 0
+  source_there (point.Task b) h = source_no 0
+  source_there (point.Routine b over) h = source_no h.source
+
+  first_choice : (p : Point) → IsPoint app p → Free
+  first_choice p h = record {
+    mode = mode_no 0;
+    counters = replicate (length app.counters) 0;
+    latched = replicate (source_count app) false;
+    task = task_there p h;
+    source = source_there p h;
+    routine_offset = 0;
+    offset = λ t. 0;
+    due = λ a. 0;
+    cycle = λ a. 0;
+  }
+
+  stands_first : (p : Point) (value : ℕ → PartValue) (h : IsPoint app p) → StandsThere app p value (first_choice p h) p
+  unfolding task_there source_there first_choice
+  stands_first point.Halted value h = tt
+  stands_first point.Idle value h = tt
+  stands_first (point.Task b) value h = (h.known, h.own)
+  stands_first (point.Routine b over) value h = record { known = h.known; own = h.own; offset = offset_0 app (the_block app b.0).kind (routine_block app h.source b.0 h.known h.own).operands; interrupted = h.task }
+
+  pub choice_allowed : (p : Point) (value : ℕ → PartValue) → IsPoint app p → AreAllowed app p value → (free : Free) × IsFree app p value free
+  unfolding first_choice
+  choice_allowed p value h allowed = (
+    first_choice p h,
+    record {
+      mode = app.valid.some_mode;
+      counters_len = length-replicate (length app.counters) 0;
+      counters = λ c lt. at_most_any (length app.counters) c (the_counter app c).max lt;
+      latched_len = length-replicate (source_count app) false;
+      stands = stands_first p value h;
+      offsets = λ t b held lt e.
+          (let x : IsPart app p (component.Task (task_no t)) (OfTask (Live b held)) = subst (IsPart app p (component.Task (task_no t))) e (allowed_task app p value allowed t lt) in
+          offset_0 app (the_block app b.0).kind (own_block app t b.0 lt x.0.0).operands);
+      alarms = λ a lt. record { at_most = omega arith; round = refl };
+    },
+  )

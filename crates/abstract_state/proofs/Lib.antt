@@ -1,0 +1,14 @@
+pub mod ContainmentLaws
+pub mod AlikeLaws
+pub mod FormLaws
+pub mod ImageLaws
+pub mod ComponentLaws
+pub mod OwnerLaws
+pub mod BitLaws
+pub mod AllowedLaws
+pub mod ConcreteLaws
+pub mod EqualityLaws
+pub mod MarkLaws
+pub mod WorkedLaws
+pub mod JoinLaws
+pub mod EntryJoins

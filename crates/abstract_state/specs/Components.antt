@@ -1,0 +1,127 @@
+-- The parts of a state that a table keeps, under one index, and what each can be.
+use Rattle.std.specs.Prelude.{◌≡◌, ⊤, ℕ, zero, suc, ◌+◌, ◌<◌, Bool, true, false, List, ◌++◌, length, map, filter, flat_map, slice_index_or, IsTrue, if◌then◌else◌, Some, None}
+use Rattle.std.specs.List.{range_with_len}
+use Rattle.osek_values.specs.Numbers.{task_no, event_no, alarm_no}
+use Rattle.osek_values.specs.declared.numbers.BlockNo.{BlockNo}
+use Rattle.osek_standard.specs.declared.app.App.{App}
+use Rattle.osek_standard.specs.declared.task_state.Activity.{Activity}
+use Rattle.osek_standard.specs.declared.task_state.Activity.TheVariants as activity
+use Rattle.osek_standard.specs.declared.state.State.{State}
+use Rattle.osek_standard.specs.declared.state.AlarmState.{AlarmState}
+use Rattle.osek_standard.specs.declared.state.AlarmState.TheVariants as alarm
+use Rattle.osek_standard.specs.Apps.{the_task}
+use Rattle.osek_standard.specs.States.{task_state, alarm_state}
+use Rattle.osek_standard.specs.Kernel.{has_bit}
+use Rattle.osek_standard.specs.Well.{IsOwn, IsStack, IsWaitingAt}
+use Rattle.abstract_state.specs.declared.point.Point.{Point}
+use Rattle.abstract_state.specs.declared.point.Point.TheVariants as point
+use Rattle.abstract_state.specs.declared.value.Val.{Val}
+use Rattle.abstract_state.specs.declared.value.Val.TheVariants.{Suspended, Live, Waiting}
+use Rattle.abstract_state.specs.declared.value.Component.{Component}
+use Rattle.abstract_state.specs.declared.value.Component.TheVariants as component
+use Rattle.abstract_state.specs.declared.value.PartValue.{PartValue}
+use Rattle.abstract_state.specs.declared.value.PartValue.TheVariants.{OfTask, OfEvent, OfAlarm}
+
+-- how many numbers below k pass a test
+abbrev pub passing_below : (ℕ → Bool) → ℕ → ℕ
+passing_below test zero = 0
+passing_below test (suc k) = passing_below test k + (if test k then 1 else 0)
+
+module _ (app : App) where
+  -- the numbers of a task's own events
+  abbrev pub own_bits : ℕ → List ℕ
+  own_bits t = filter (has_bit (the_task app t).own.0) (range_with_len 0 64)
+
+  abbrev pub events_of : ℕ → List Component
+  events_of t = map (λ k. component.Event (task_no t) (event_no k)) (own_bits t)
+
+  -- The components of an application's states: the tasks, each task's own events, and the alarms.
+  abbrev pub components : List Component
+  components =
+      map (λ t. component.Task (task_no t)) (range_with_len 0 (length app.tasks))
+      ++ flat_map events_of (range_with_len 0 (length app.tasks))
+      ++ map (λ a. component.Alarm (alarm_no a)) (range_with_len 0 (length app.alarms))
+
+  abbrev pub component_count : ℕ
+  component_count = length components
+
+  abbrev pub component_at : ℕ → Component
+  component_at c = slice_index_or components c (component.Alarm (alarm_no 0))
+
+  -- it is one of the application's
+  abbrev pub IsComponent : Component → Type 0
+  IsComponent (component.Task t) = t.0 < length app.tasks
+  IsComponent (component.Event t k) = (t.0 < length app.tasks) × (k.0 < 64) × IsTrue (has_bit (the_task app t.0).own.0 k.0)
+  IsComponent (component.Alarm a) = a.0 < length app.alarms
+
+  -- the components of a task's events come after those of the tasks below
+  abbrev pub event_start : ℕ → ℕ
+  event_start zero = 0
+  event_start (suc t) = event_start t + length (events_of t)
+
+  -- which number a component has
+  abbrev pub component_number : Component → ℕ
+  component_number (component.Task t) = t.0
+  component_number (component.Event t k) = length app.tasks + event_start t.0 + passing_below (has_bit (the_task app t.0).own.0) k.0
+  component_number (component.Alarm a) = length app.tasks + length (flat_map events_of (range_with_len 0 (length app.tasks))) + a.0
+
+-- a task's activity without the offset in its block
+abbrev pub value_in : Activity → Val
+value_in activity.Suspended = Suspended
+value_in (activity.Live x) = Live x.at.block x.held
+value_in (activity.Waiting b) = Waiting b
+
+abbrev pub is_armed : AlarmState → Bool
+is_armed alarm.Idle = false
+is_armed (alarm.Armed at cycle) = true
+
+-- what a part of a state is
+abbrev pub part_of : State → Component → PartValue
+part_of s (component.Task t) = OfTask (value_in (task_state s t.0).activity)
+part_of s (component.Event t k) = OfEvent (has_bit (task_state s t.0).events.0 k.0)
+part_of s (component.Alarm a) = OfAlarm (is_armed (alarm_state s a.0))
+
+-- What component c of a state is.
+abbrev pub abstract_of : App → State → ℕ → PartValue
+abstract_of app s c = part_of s (component_at app c)
+
+-- Live at this block
+abbrev pub IsLiveAt : BlockNo → Val → Type 0
+IsLiveAt b Suspended = ⊥
+IsLiveAt b (Live c held) = c ≡ b
+IsLiveAt b (Waiting c) = ⊥
+
+abbrev pub IsLiveSomewhere : Val → Type 0
+IsLiveSomewhere Suspended = ⊥
+IsLiveSomewhere (Live b held) = ⊤
+IsLiveSomewhere (Waiting b) = ⊥
+
+module _ (app : App) where
+  -- what a task can be in a well-formed state
+  abbrev pub IsVal : ℕ → Val → Type 0
+  IsVal t Suspended = ⊤
+  IsVal t (Live b held) = IsOwn app t b.0 × IsStack app held
+  IsVal t (Waiting b) = IsWaitingAt app t b.0
+
+  -- the task that has the processor is Live where the point says, and the interrupted one is Live
+  abbrev pub FitsPoint : Point → ℕ → Val → Type 0
+  FitsPoint point.Halted t v = ⊤
+  FitsPoint point.Idle t v = ⊤
+  FitsPoint (point.Task b) t v = IsOwn app t b.0 → IsLiveAt b v
+  FitsPoint (point.Routine b None) t v = ⊤
+  FitsPoint (point.Routine b (Some u)) t v = u.0 ≡ t → IsLiveSomewhere v
+
+  abbrev pub IsPart : Point → Component → PartValue → Type 0
+  IsPart p (component.Task t) (OfTask v) = IsVal t.0 v × FitsPoint p t.0 v
+  IsPart p (component.Event t k) (OfEvent b) = ⊤
+  IsPart p (component.Alarm a) (OfAlarm b) = ⊤
+  IsPart p (component.Task t) (OfEvent b) = ⊥
+  IsPart p (component.Task t) (OfAlarm b) = ⊥
+  IsPart p (component.Event t k) (OfTask v) = ⊥
+  IsPart p (component.Event t k) (OfAlarm b) = ⊥
+  IsPart p (component.Alarm a) (OfTask v) = ⊥
+  IsPart p (component.Alarm a) (OfEvent b) = ⊥
+
+  -- What component c can be in a well-formed state at a point.
+  abbrev pub IsAllowed : Point → ℕ → PartValue → Type 0
+  IsAllowed p c v = IsPart p (component_at app c) v

@@ -1,0 +1,140 @@
+-- States by their parts: one value for each component, and a choice of all that a table doesn't keep.
+use Rattle.std.specs.Prelude.{◌≡◌, ⊤, ℕ, zero, suc, ◌+◌, ◌*◌, ◌<◌, ◌≤◌, Bool, true, false, ◌&&◌, ◌==◌, List, length, map, if◌then◌else◌, slice_index_or, IfSome}
+use Rattle.std.specs.List.{range_with_len}
+use Rattle.std.specs.declared.option.Option.{Option}
+use Rattle.osek_values.specs.Numbers.{task_no, event_no, alarm_no, mask}
+use Rattle.osek_values.specs.declared.numbers.TaskNo.{TaskNo}
+use Rattle.osek_values.specs.declared.numbers.BlockNo.{BlockNo}
+use Rattle.osek_values.specs.declared.numbers.ModeNo.{ModeNo}
+use Rattle.osek_values.specs.declared.numbers.ResNo.{ResNo}
+use Rattle.osek_values.specs.declared.numbers.SourceNo.{SourceNo}
+use Rattle.osek_standard.specs.declared.app.App.{App}
+use Rattle.osek_standard.specs.declared.task_state.TaskState.{TaskState}
+use Rattle.osek_standard.specs.declared.task_state.Activity.{Activity}
+use Rattle.osek_standard.specs.declared.task_state.Activity.TheVariants as activity
+use Rattle.osek_standard.specs.declared.state.State.{State}
+use Rattle.osek_standard.specs.declared.state.AlarmState.{AlarmState}
+use Rattle.osek_standard.specs.declared.state.AlarmState.TheVariants as alarm
+use Rattle.osek_standard.specs.declared.state.Source.{Source}
+use Rattle.osek_standard.specs.declared.state.Source.TheVariants as source
+use Rattle.osek_standard.specs.declared.state.Processor.{Processor}
+use Rattle.osek_standard.specs.declared.state.Processor.TheVariants as processor
+use Rattle.osek_standard.specs.Apps.{the_task, the_counter, the_block, source_count}
+use Rattle.osek_standard.specs.Effects.{place_at}
+use Rattle.osek_standard.specs.Kernel.{has_bit}
+use Rattle.osek_standard.specs.Well.{Well, IsOwn, IsOfRoutine, IsOffsetAt, IsArmed}
+use Rattle.abstract_state.specs.declared.point.Point.{Point}
+use Rattle.abstract_state.specs.declared.point.Point.TheVariants as point
+use Rattle.abstract_state.specs.declared.value.Val.{Val}
+use Rattle.abstract_state.specs.declared.value.Val.TheVariants.{Suspended, Live, Waiting}
+use Rattle.abstract_state.specs.declared.value.Component.TheVariants as component
+use Rattle.abstract_state.specs.declared.value.PartValue.{PartValue}
+use Rattle.abstract_state.specs.declared.value.PartValue.TheVariants.{OfTask, OfEvent, OfAlarm}
+use Rattle.abstract_state.specs.Points.{point_of}
+use Rattle.abstract_state.specs.Components.{component_count, component_number, abstract_of, IsAllowed}
+
+-- all of a state that a table doesn't keep, and whose block the point's is
+pub record Free : Type 0 where
+  pub mode : ModeNo
+  pub counters : List ℕ
+  pub latched : List Bool
+  -- the task that stands at the point, or the source whose routine does
+  pub task : TaskNo
+  pub source : SourceNo
+  -- how far the routine, and each Live task, is in its block
+  pub routine_offset : ℕ
+  pub offset : ℕ → ℕ
+  -- when each armed alarm expires, and its cycle
+  pub due : ℕ → ℕ
+  pub cycle : ℕ → ℕ
+
+abbrev pub val_of : PartValue → Val
+val_of (OfTask v) = v
+val_of (OfEvent b) = Suspended
+val_of (OfAlarm b) = Suspended
+
+abbrev pub flag_of : PartValue → Bool
+flag_of (OfTask v) = false
+flag_of (OfEvent b) = b
+flag_of (OfAlarm b) = b
+
+abbrev pub activity_of : Val → ℕ → Activity
+activity_of Suspended o = activity.Suspended
+activity_of (Live b held) o = activity.Live (record { at = place_at b o; held = held })
+activity_of (Waiting b) o = activity.Waiting b
+
+abbrev pub alarm_of : Bool → ℕ → ℕ → AlarmState
+alarm_of false at cycle = alarm.Idle
+alarm_of true at cycle = alarm.Armed at cycle
+
+-- the number of so many bits whose bit k is set where the test passes
+abbrev pub bits_number : (ℕ → Bool) → ℕ → ℕ
+bits_number test zero = 0
+bits_number test (suc w) = (if test 0 then 1 else 0) + 2 * bits_number (λ k. test (suc k)) w
+
+module _ (app : App) (p : Point) (value : ℕ → PartValue) (free : Free) where
+  abbrev pub event_chosen : ℕ → ℕ → Bool
+  event_chosen t k = has_bit (the_task app t).own.0 k && flag_of (value (component_number app (component.Event (task_no t) (event_no k))))
+
+  abbrev pub task_chosen : ℕ → TaskState
+  task_chosen t = record { activity = activity_of (val_of (value t)) (free.offset t); events = mask (bits_number (event_chosen t) 64) }
+
+  abbrev pub alarm_chosen : ℕ → AlarmState
+  alarm_chosen a = alarm_of (flag_of (value (component_number app (component.Alarm (alarm_no a))))) (free.due a) (free.cycle a)
+
+  abbrev pub source_by : Point → ℕ → Source
+  source_by point.Halted k = source.Out
+  source_by point.Idle k = source.Out
+  source_by (point.Task b) k = source.Out
+  source_by (point.Routine b over) k = if k == free.source.0 then source.In (place_at b free.routine_offset) else source.Out
+
+  abbrev pub processor_by : Point → Processor
+  processor_by point.Halted = processor.Halted
+  processor_by point.Idle = processor.Idle
+  processor_by (point.Task b) = processor.Running free.task
+  processor_by (point.Routine b over) = processor.Interrupted free.source over
+
+  -- The state at a point with these values of its components, all else as chosen.
+  abbrev pub state_of : State
+  state_of = record {
+    mode = free.mode;
+    processor = processor_by p;
+    tasks = map task_chosen (range_with_len 0 (length app.tasks));
+    counters = free.counters;
+    alarms = map alarm_chosen (range_with_len 0 (length app.alarms));
+    sources = map (source_by p) (range_with_len 0 (source_count app));
+    latched = free.latched;
+  }
+
+  -- the source's routine has the block, and may stand there
+  pub record IsRoutineAt (b : BlockNo) (over : Option TaskNo) : Type 0 where
+    pub known : free.source.0 < source_count app
+    pub own : IsOfRoutine app free.source.0 b.0
+    pub offset : IsOffsetAt (the_block app b.0).kind free.routine_offset
+    pub interrupted : IfSome over (λ t. t.0 < length app.tasks)
+
+  abbrev pub StandsThere : Point → Type 0
+  StandsThere point.Halted = ⊤
+  StandsThere point.Idle = ⊤
+  StandsThere (point.Task b) = (free.task.0 < length app.tasks) × IsOwn app free.task.0 b.0
+  StandsThere (point.Routine b over) = IsRoutineAt b over
+
+  -- a choice that well-formedness allows
+  pub record IsFree : Type 0 where
+    pub mode : free.mode.0 < length app.modes
+    pub counters_len : length free.counters ≡ length app.counters
+    pub counters : (c : ℕ) → c < length app.counters → slice_index_or free.counters c 0 ≤ (the_counter app c).max
+    pub latched_len : length free.latched ≡ source_count app
+    pub stands : StandsThere p
+    pub offsets : (t : ℕ) (b : BlockNo) (held : List ResNo) → t < length app.tasks → value t ≡ OfTask (Live b held) → IsOffsetAt (the_block app b.0).kind (free.offset t)
+    pub alarms : (a : ℕ) → a < length app.alarms → IsArmed app a (free.due a) (free.cycle a)
+
+-- each component's value is one that it can have at the point
+abbrev pub AreAllowed : App → Point → (ℕ → PartValue) → Type 0
+AreAllowed app p value = (c : ℕ) → c < component_count app → IsAllowed app p c (value c)
+
+-- a well-formed state at the point, with these values
+pub record HasParts (app : App) (p : Point) (value : ℕ → PartValue) (s : State) : Type 0 where
+  pub well : Well app s
+  pub point : point_of s ≡ p
+  pub parts : (c : ℕ) → c < component_count app → abstract_of app s c ≡ value c

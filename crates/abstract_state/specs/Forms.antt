@@ -1,0 +1,101 @@
+-- The forms and the edges that a table dictates.
+use Rattle.std.specs.Prelude.{◌≡◌, ◌≢◌, ◌⊎◌, ℕ, Bool, Some}
+use Rattle.std.specs.declared.option.Option.{Option}
+use Rattle.osek_values.specs.declared.event.Event.{Event}
+use Rattle.osek_values.specs.declared.numbers.TaskNo.{TaskNo}
+use Rattle.osek_values.specs.declared.status.Status.{Status}
+use Rattle.osek_standard.specs.declared.app.App.{App}
+use Rattle.osek_standard.specs.declared.state.State.{State}
+use Rattle.osek_standard.specs.declared.state.Processor.TheVariants as processor
+use Rattle.osek_standard.specs.States.{here}
+use Rattle.osek_standard.specs.Effects.{effect}
+use Rattle.osek_standard.specs.Dispatch.{Outcome, Keep, To, outcome}
+use Rattle.osek_standard.specs.Kernel.{step}
+use Rattle.osek_standard.specs.Well.{IsActive}
+use Rattle.image_codec.specs.declared.site.Form.{Form}
+use Rattle.image_codec.specs.declared.site.Form.TheVariants as form
+use Rattle.image_codec.specs.declared.image.Image.{Image}
+use Rattle.image_codec.specs.ImageStep.{form_at}
+use Rattle.abstract_state.specs.declared.point.Point.{Point}
+use Rattle.abstract_state.specs.Points.{point_of}
+use Rattle.abstract_state.specs.Outcomes.{Did, shows}
+use Rattle.abstract_state.specs.Tables.{Sets, In}
+
+-- some state in the table stands at block b, and its instruction has this outcome
+pub record Occurs (app : App) (table : Sets) (b : ℕ) (o : Outcome) : Type 0 where
+  pub from : State
+  pub choice : Bool
+  pub inside : In app table from
+  pub active : IsActive from.processor
+  pub stands : (here from).block.0 ≡ b
+  pub is : outcome app from choice ≡ o
+
+-- it occurs, and no other does
+pub record OccursAlone (app : App) (table : Sets) (b : ℕ) (o : Outcome) : Type 0 where
+  pub occurs : Occurs app table b o
+  pub alone : (p : Outcome) → Occurs app table b p → p ≡ o
+
+-- two different ones occur
+pub record OccurTwo (app : App) (table : Sets) (b : ℕ) : Type 0 where
+  pub one : Outcome
+  pub other : Outcome
+  pub one_occurs : Occurs app table b one
+  pub other_occurs : Occurs app table b other
+  pub differ : one ≢ other
+
+-- The form that a table dictates at block b, by the outcomes that occur there.
+abbrev pub FormOf : App → Sets → ℕ → Form → Type 0
+FormOf app table b form.Never = (o : Outcome) → Occurs app table b o → ⊥
+FormOf app table b form.Stay = OccursAlone app table b Keep
+FormOf app table b (form.Direct x) = OccursAlone app table b (To x)
+FormOf app table b form.General = OccurTwo app table b
+
+-- some state in the table stands at block b, and its instruction notes this status, or none
+pub record Noted (app : App) (table : Sets) (b : ℕ) (x : Option Status) : Type 0 where
+  pub from : State
+  pub choice : Bool
+  pub inside : In app table from
+  pub active : IsActive from.processor
+  pub stands : (here from).block.0 ≡ b
+  pub is : (effect app from choice).notes.status ≡ x
+
+pub record NotedAlone (app : App) (table : Sets) (b : ℕ) (x : Option Status) : Type 0 where
+  pub noted : Noted app table b x
+  pub alone : (y : Option Status) → Noted app table b y → y ≡ x
+
+pub record NotedTwo (app : App) (table : Sets) (b : ℕ) : Type 0 where
+  pub one : Option Status
+  pub other : Option Status
+  pub one_noted : Noted app table b one
+  pub other_noted : Noted app table b other
+  pub differ : one ≢ other
+
+-- what is known of the status at a block: nothing, or that it is always this one, or none
+pub data Known : Type 0 where
+  Unknown : Known
+  Always : (status : Option Status) → Known
+
+-- What a table says of the status at block b.
+abbrev pub KnownOf : App → Sets → ℕ → Known → Type 0
+KnownOf app table b Unknown = ((x : Option Status) → Noted app table b x → ⊥) ⊎ NotedTwo app table b
+KnownOf app table b (Always x) = NotedAlone app table b x
+
+-- each site of an image has the form that a table of its application dictates
+abbrev pub HasDictatedForms : Sets → Image → Type 0
+HasDictatedForms table i = (b : ℕ) (f : Form) → form_at i b ≡ Some f → FormOf i.app table b f
+
+-- the step dispatches the task that runs anew
+pub record IsAnew (app : App) (s : State) (e : Event) : Type 0 where
+  pub task : TaskNo
+  pub status : Option Status
+  pub runs : s.processor ≡ processor.Running task
+  pub dispatched : shows app s e ≡ Did (To (Some task)) status
+
+-- Some state in the table at p steps to a state at q, and q is another point or the task of p is dispatched anew.
+pub record Edge (app : App) (table : Sets) (p q : Point) : Type 0 where
+  pub from : State
+  pub event : Event
+  pub inside : In app table from
+  pub begins : point_of from ≡ p
+  pub ends : point_of (step app from event).state ≡ q
+  pub moves : (p ≢ q) ⊎ IsAnew app from event

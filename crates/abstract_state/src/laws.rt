@@ -1,0 +1,133 @@
+//! Laws over the definitions, each on a function that does nothing.
+ghost use Rattle.std.specs.Prelude.{◌≡◌, ◌↔◌, ℕ, ◌<◌, List, length, take, IsTrue, Some};
+ghost use Rattle.std.specs.List.{IsDistinct};
+ghost use Rattle.osek_values.specs.declared.event.Event.{Event};
+ghost use Rattle.osek_values.specs.declared.numbers.ModeNo.{ModeNo};
+ghost use Rattle.osek_values.specs.declared.status.Status.{Status};
+ghost use Rattle.std.specs.declared.option.Option.{Option};
+ghost use Rattle.osek_standard.specs.declared.app.App.{App};
+ghost use Rattle.osek_standard.specs.declared.state.State.{State};
+ghost use Rattle.osek_standard.specs.Dispatch.{Outcome};
+ghost use Rattle.osek_standard.specs.Kernel.{step};
+ghost use Rattle.osek_standard.specs.Well.{Well};
+ghost use Rattle.image_codec.specs.declared.site.Form.{Form};
+ghost use Rattle.image_codec.specs.declared.image.Image.{Image};
+ghost use Rattle.image_codec.specs.ImageStep.{image_step};
+ghost use Rattle.image_codec.specs.Laws.{IsKernelsRun};
+ghost use Rattle.abstract_state.specs.declared.point.Point.{Point};
+ghost use Rattle.abstract_state.specs.declared.table.ValueSet.{ValueSet};
+ghost use Rattle.abstract_state.specs.declared.table.Entry.{Entry};
+ghost use Rattle.abstract_state.specs.declared.table.Table.{Table};
+ghost use Rattle.abstract_state.specs.declared.value.PartValue.{PartValue};
+ghost use Rattle.abstract_state.specs.Points.{point_of, IsPoint};
+ghost use Rattle.abstract_state.specs.Components.{component_count, abstract_of, IsAllowed};
+ghost use Rattle.abstract_state.specs.Concrete.{Free, IsFree, AreAllowed, HasParts, state_of};
+ghost use Rattle.abstract_state.specs.Alike.{IsAlike};
+ghost use Rattle.abstract_state.specs.Tables.{Sets, In, Inductive, IsContained, Least, meet, full, same_part, IsSubset, IsPartOfJoin, set_at, joined_entry, joined, with_members, sets_of, HasRow, HasValue};
+ghost use Rattle.abstract_state.specs.Outcomes.{Silent, Arrived, Did, shows, IsInstruction, IsArrivalStep};
+ghost use Rattle.abstract_state.specs.Forms.{FormOf, Known, KnownOf, HasDictatedForms, Edge};
+
+/// Containment is a partial order.
+pub fn containment_is_a_partial_order()
+    ensures itself { (a : Sets) → IsContained a a }
+    ensures onward { (a b c : Sets) → IsContained a b → IsContained b c → IsContained a c }
+    ensures equal { (a b : Sets) → IsContained a b → IsContained b a → a ≡ b }
+{}
+
+/// What two tables have in common is inductive where both are; a state is in it exactly where it is in both, and it is
+/// the greatest table that both contain.
+pub fn the_meet_is_inductive()
+    ensures inductive { (app : App) (a b : Sets) → Inductive app a → Inductive app b → Inductive app (meet a b) }
+    ensures states { (app : App) (a b : Sets) (s : State) → In app (meet a b) s ↔ (In app a s × In app b s) }
+    ensures left { (a b : Sets) → IsContained (meet a b) a }
+    ensures right { (a b : Sets) → IsContained (meet a b) b }
+    ensures greatest { (a b c : Sets) → IsContained c a → IsContained c b → IsContained c (meet a b) }
+{}
+
+/// The table of everything is inductive, with each well-formed state in it.
+pub fn the_full_table_is_inductive()
+    ensures inductive { (app : App) → Inductive app full }
+    ensures states { (app : App) (s : State) → Well app s → In app full s }
+{}
+
+/// At most one table is least.
+pub fn one_table_is_least()
+    ensures { (app : App) (a b : Sets) → Least app a → Least app b → a ≡ b }
+{}
+
+/// A larger table has more states in it.
+pub fn states_stay_in_larger_tables()
+    ensures { (app : App) (a b : Sets) (s : State) → IsContained a b → In app a s → In app b s }
+{}
+
+/// Whether a well-formed state is in a table is seen from its point and its components alone: mode, counter values,
+/// latches, offsets, due times and cycles are free.
+pub fn alike_states_are_in_together()
+    ensures components { (app : App) (table : Sets) (s u : State) → Well app u → point_of s ≡ point_of u → ((c : ℕ) → c < component_count app → abstract_of app s c ≡ abstract_of app u c) → In app table s → In app table u }
+    ensures free { (app : App) (table : Sets) (s u : State) → Well app u → IsAlike s u → In app table s → In app table u }
+{}
+
+/// A well-formed state stands at a point of the application, and each component of it is what it can be there.
+pub fn well_formed_states_have_allowed_parts()
+    ensures point { (app : App) (s : State) → Well app s → IsPoint app (point_of s) }
+    ensures parts { (app : App) (s : State) → Well app s → (c : ℕ) → c < component_count app → IsAllowed app (point_of s) c (abstract_of app s c) }
+{}
+
+/// Values that the components can have at a point, one each, are those of a well-formed state there, whatever choice of
+/// the rest well-formedness allows; and it allows one.
+pub fn allowed_parts_make_a_state()
+    ensures state { (app : App) (p : Point) (value : ℕ → PartValue) (free : Free) → AreAllowed app p value → IsFree app p value free → HasParts app p value (state_of app p value free) }
+    ensures choice { (app : App) (p : Point) (value : ℕ → PartValue) → IsPoint app p → AreAllowed app p value → (free : Free) × IsFree app p value free }
+{}
+
+/// A written table says what stands in its rows.
+pub fn a_written_table_says_its_rows()
+    ensures entry { (table : Table) (p : Point) → IsTrue ((sets_of table).entry p) ↔ HasRow table p }
+    ensures has { (table : Table) (p : Point) (c : ℕ) (v : PartValue) → IsTrue ((sets_of table).has p c v) ↔ HasValue table p c v }
+{}
+
+/// The join of two sets is the least above both, and each set on the way to it lies between; where it has no more
+/// values it is the first set, and where that has no value twice the join has none twice.
+pub fn the_join_is_the_least_set_above_both()
+    ensures left { (a b : ValueSet) → IsSubset a (joined a b) }
+    ensures right { (a b : ValueSet) → IsSubset b (joined a b) }
+    ensures least { (a b c : ValueSet) → IsSubset a c → IsSubset b c → IsSubset (joined a b) c }
+    ensures before { (a b : ValueSet) (k : ℕ) → IsSubset a (with_members a (take k b.members)) }
+    ensures after { (a b : ValueSet) (k : ℕ) → IsSubset (with_members a (take k b.members)) (joined a b) }
+    ensures same { (a b : ValueSet) → length (joined a b).members ≡ length a.members → joined a b ≡ a }
+    ensures distinct { (a b : ValueSet) → IsDistinct same_part a.members → IsDistinct same_part (joined a b).members }
+{}
+
+/// Entries join set by set, and where a join stopped each set lies between what it was and the join.
+pub fn entries_join_set_by_set()
+    ensures sets { (a b : Entry) (c : ℕ) → length a.sets ≡ length b.sets → set_at (joined_entry a b) c ≡ joined (set_at a c) (set_at b c) }
+    ensures before { (a b x : Entry) (c : ℕ) → length a.sets ≡ length b.sets → IsPartOfJoin a b x → IsSubset (set_at a c) (set_at x c) }
+    ensures after { (a b x : Entry) (c : ℕ) → length a.sets ≡ length b.sets → IsPartOfJoin a b x → IsSubset (set_at x c) (set_at (joined_entry a b) c) }
+{}
+
+/// A step does what it shows: an instruction with this outcome and status, the begin of a routine, or nothing that a
+/// table keeps.
+pub fn a_step_does_what_it_shows()
+    ensures did { (app : App) (s : State) (e : Event) (o : Outcome) (x : Option Status) → shows app s e ≡ Did o x → IsInstruction app s e o x }
+    ensures arrived { (app : App) (s : State) (e : Event) → shows app s e ≡ Arrived → IsArrivalStep app s e }
+    ensures silent { (app : App) (s : State) (e : Event) → shows app s e ≡ Silent → IsAlike s (step app s e).state }
+{}
+
+/// A table dictates one form at most, and says one thing at most of the status.
+pub fn one_form_is_dictated()
+    ensures known { (app : App) (table : Sets) (b : ℕ) (x y : Known) → KnownOf app table b x → KnownOf app table b y → x ≡ y }
+    ensures form { (app : App) (table : Sets) (b : ℕ) (f g : Form) → FormOf app table b f → FormOf app table b g → f ≡ g }
+{}
+
+/// An edge begins at a point with an entry, and ends at one where the table is inductive.
+pub fn edges_lead_from_entry_to_entry()
+    ensures begins { (app : App) (table : Sets) (p q : Point) → Edge app table p q → IsTrue (table.entry p) }
+    ensures ends { (app : App) (table : Sets) (p q : Point) → Inductive app table → Edge app table p q → IsTrue (table.entry q) }
+{}
+
+/// An image whose sites have the forms that a table dictates does the kernel's steps, and doesn't trap, from each state
+/// in the table; and where the table is inductive, its trace is the kernel's in every mode over every list of events.
+pub fn dictated_forms_are_the_kernel()
+    ensures step { (i : Image) (table : Sets) (s : State) (e : Event) → HasDictatedForms table i → In i.app table s → image_step i s e ≡ Some (step i.app s e) }
+    ensures run { (i : Image) (table : Sets) (mode : ModeNo) (es : List Event) → Inductive i.app table → HasDictatedForms table i → mode.0 < length i.app.modes → IsKernelsRun i mode es }
+{}
