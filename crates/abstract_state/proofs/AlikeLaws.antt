@@ -12,13 +12,13 @@ use Rattle.osek_standard.specs.declared.task_state.Activity.TheVariants as activ
 use Rattle.osek_standard.specs.States.{task_state, place_in, place_by}
 use Rattle.osek_standard.specs.Kernel.{has_bit}
 use Rattle.osek_standard.specs.Well.{Well}
-use Rattle.abstract_state.specs.declared.point.Point.{Point}
+use Rattle.osek_standard.specs.declared.point.Point.{Point}
 use Rattle.abstract_state.specs.declared.value.Val.{Val}
 use Rattle.abstract_state.specs.declared.value.Val.TheVariants.{Suspended, Live, Waiting}
 use Rattle.abstract_state.specs.declared.value.Component.{Component}
 use Rattle.abstract_state.specs.declared.value.Component.TheVariants as component
 use Rattle.abstract_state.specs.declared.value.PartValue.TheVariants.{OfTask, OfEvent, OfAlarm}
-use Rattle.abstract_state.specs.Points.{point_at, point_of}
+use Rattle.osek_standard.specs.Points.{point_at, point_of}
 use Rattle.abstract_state.specs.Components.{component_at, component_count, value_in, part_of, abstract_of}
 use Rattle.abstract_state.specs.Alike.{IsAlike}
 use Rattle.abstract_state.specs.Tables.{Sets, In}

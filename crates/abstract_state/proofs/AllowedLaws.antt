@@ -14,10 +14,10 @@ use Rattle.osek_standard.specs.declared.task_state.Activity.TheVariants as activ
 use Rattle.osek_standard.specs.TaskStates.{is_live_activity}
 use Rattle.osek_standard.specs.States.{task_state, source_state, place_in, place_by, place_of_source}
 use Rattle.osek_standard.specs.Well.{Well, IsActivityOf, IsOwn, IsProcessor, IsRunningAt, IsPlaceOf}
-use Rattle.abstract_state.specs.declared.point.Point.TheVariants as point
+use Rattle.osek_standard.specs.declared.point.Point.TheVariants as point
 use Rattle.abstract_state.specs.declared.value.Component.{Component}
 use Rattle.abstract_state.specs.declared.value.Component.TheVariants as component
-use Rattle.abstract_state.specs.Points.{point_at, point_of, IsPoint}
+use Rattle.osek_standard.specs.Points.{point_at, point_of, IsPoint}
 use Rattle.abstract_state.specs.Components.{component_at, component_count, value_in, abstract_of, part_of, IsComponent, IsVal, IsLiveAt, IsLiveSomewhere, FitsPoint, IsPart, IsAllowed}
 use Rattle.abstract_state.proofs.ComponentLaws.{component_known}
 use Rattle.abstract_state.proofs.OwnerLaws.{own_once}

@@ -25,15 +25,15 @@ use Rattle.osek_standard.specs.Kernel.{has_bit}
 use Rattle.osek_standard.specs.Well.{HasProcessor, IsActivityOf, IsAlarmState, IsArmed, IsOffsetAt, IsProcessor, IsRunningAt, IsTaskState}
 use Rattle.osek_standard.proofs.WellLaws.{own_block, routine_block}
 use Rattle.osek_standard.proofs.Keeps.{offset_0}
-use Rattle.abstract_state.specs.declared.point.Point.{Point}
-use Rattle.abstract_state.specs.declared.point.Point.TheVariants as point
+use Rattle.osek_standard.specs.declared.point.Point.{Point}
+use Rattle.osek_standard.specs.declared.point.Point.TheVariants as point
 use Rattle.abstract_state.specs.declared.value.Val.{Val}
 use Rattle.abstract_state.specs.declared.value.Val.TheVariants.{Suspended, Live, Waiting}
 use Rattle.abstract_state.specs.declared.value.Component.{Component}
 use Rattle.abstract_state.specs.declared.value.Component.TheVariants as component
 use Rattle.abstract_state.specs.declared.value.PartValue.{PartValue}
 use Rattle.abstract_state.specs.declared.value.PartValue.TheVariants.{OfTask, OfEvent, OfAlarm}
-use Rattle.abstract_state.specs.Points.{point_of, IsPoint}
+use Rattle.osek_standard.specs.Points.{point_of, IsPoint}
 use Rattle.abstract_state.specs.Components.{component_at, component_count, component_number, value_in, is_armed, abstract_of, part_of, IsComponent, IsVal, IsLiveAt, IsLiveSomewhere, FitsPoint, IsPart}
 use Rattle.abstract_state.specs.Concrete.{Free, val_of, flag_of, activity_of, alarm_of, event_chosen, task_chosen, alarm_chosen, source_by, processor_by, state_of, StandsThere, IsFree, AreAllowed, HasParts}
 use Rattle.abstract_state.proofs.ComponentLaws.{component_known, component_numbered, task_counted, task_at_its_number}

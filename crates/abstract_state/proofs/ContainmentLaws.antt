@@ -4,9 +4,9 @@ use mathlib.Core.Path.{fun_ext}
 use Rattle.osek_standard.specs.declared.app.App.{App}
 use Rattle.osek_standard.specs.declared.state.State.{State}
 use Rattle.osek_standard.specs.Kernel.{start, step}
-use Rattle.abstract_state.specs.declared.point.Point.{Point}
+use Rattle.osek_standard.specs.declared.point.Point.{Point}
 use Rattle.abstract_state.specs.declared.value.PartValue.{PartValue}
-use Rattle.abstract_state.specs.Points.{point_of}
+use Rattle.osek_standard.specs.Points.{point_of}
 use Rattle.abstract_state.specs.Components.{abstract_of}
 use Rattle.abstract_state.specs.Tables.{Sets, In, Inductive, IsContained, Least, meet, full}
 use Rattle.osek_standard.specs.Well.{Well}

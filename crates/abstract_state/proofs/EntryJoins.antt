@@ -10,7 +10,7 @@ use Rattle.abstract_state.specs.declared.table.Entry.{Entry}
 use Rattle.abstract_state.specs.Tables.{empty_set, set_at, is_member, with_member, with_members, joined, joined_sets, joined_entry, entry_values, IsPartOfJoin, IsSubset}
 use Rattle.abstract_state.proofs.JoinLaws.{members_keep, join_between}
 
-few_by : (b : Bool) (s : ValueSet) (v : PartValue) → length (if b then s else record { members = s.members ++ v ∷ [] }).members ≤ length s.members + 1
+few_by : (b : Bool) (s : ValueSet) (v : PartValue) → length (if b then s else record { domain = s.domain; members = s.members ++ v ∷ [] }).members ≤ length s.members + 1
 few_by true s v = omega arith
 few_by false s v = omega (arith, length_push s.members v)
 

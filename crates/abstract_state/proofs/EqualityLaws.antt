@@ -8,8 +8,8 @@ use Rattle.osek_values.specs.Numbers.{task_no, block_no, res_no}
 use Rattle.osek_values.specs.declared.numbers.TaskNo.{TaskNo}
 use Rattle.osek_values.specs.declared.numbers.BlockNo.{BlockNo}
 use Rattle.osek_values.specs.declared.numbers.ResNo.{ResNo}
-use Rattle.abstract_state.specs.declared.point.Point.{Point}
-use Rattle.abstract_state.specs.declared.point.Point.TheVariants as point
+use Rattle.osek_standard.specs.declared.point.Point.{Point}
+use Rattle.osek_standard.specs.declared.point.Point.TheVariants as point
 use Rattle.abstract_state.specs.declared.value.Val.{Val}
 use Rattle.abstract_state.specs.declared.value.Val.TheVariants.{Suspended, Live, Waiting}
 use Rattle.abstract_state.specs.declared.value.PartValue.{PartValue}

@@ -1,13 +1,17 @@
--- The form that a table dictates is one; where an edge begins and ends.
-use Rattle.std.proofs.Common.{◌≡◌, ℕ, refl, sym, ap, subst, ◌∙◌, inl, inr, IsTrue, Option}
+-- The form that a table dictates is one, and none is missing; where an edge begins and ends.
+use Rattle.std.proofs.Common.{◌≡◌, ◌≢◌, ◌⊎◌, ℕ, refl, sym, ap, subst, ◌∙◌, inl, inr, IsTrue, Option, Some, None}
+use Rattle.std.proofs.lemmas.Bool.{cases_eq}
+use Rattle.osek_values.specs.Numbers.{task_no}
+use Rattle.osek_values.specs.declared.numbers.TaskNo.{TaskNo}
 use Rattle.osek_values.specs.declared.status.Status.{Status}
+use Rattle.osek_values.specs.declared.status.Status.TheVariants as status
 use Rattle.osek_standard.specs.declared.app.App.{App}
 use Rattle.osek_standard.specs.Dispatch.{Outcome, Keep, To}
 use Rattle.image_codec.specs.declared.site.Form.{Form}
 use Rattle.image_codec.specs.declared.site.Form.TheVariants as form
-use Rattle.abstract_state.specs.declared.point.Point.{Point}
+use Rattle.osek_standard.specs.declared.point.Point.{Point}
 use Rattle.abstract_state.specs.Tables.{Sets, Inductive}
-use Rattle.abstract_state.specs.Forms.{OccursAlone, OccurTwo, FormOf, Edge, NotedAlone, Known, Unknown, Always, KnownOf}
+use Rattle.abstract_state.specs.Forms.{Occurs, OccursAlone, OccurTwo, FormOf, Edge, Noted, NotedAlone, NotedTwo, Known, Unknown, Always, KnownOf}
 
 module _ (app : App) (table : Sets) (b : ℕ) where
   not_two : (o : Outcome) → OccursAlone app table b o → OccurTwo app table b → ⊥
@@ -51,3 +55,75 @@ module _ (app : App) (table : Sets) (b : ℕ) where
   one_known Unknown (Always t) x y = absurd (not_unknown t y x)
   one_known (Always t) Unknown x y = absurd (not_unknown t x y)
   one_known (Always t) (Always u) x y = ap Always (y.alone t x.noted)
+
+-- outcomes are the same or differ, and so are statuses
+tasks_decided : (t u : TaskNo) → (t ≡ u) ⊎ (t ≢ u)
+tasks_decided t u = elim (cases_eq t.0 u.0) [
+  | inl e ↦ inl (ap task_no e)
+  | inr differ ↦ inr (λ e. differ (ap (λ (x : TaskNo). x.0) e))
+]
+
+some_by : (t u : TaskNo) → (t ≡ u) ⊎ (t ≢ u) → (To (Some t) ≡ To (Some u)) ⊎ (To (Some t) ≢ To (Some u))
+some_by t u (inl e) = inl (ap (λ (x : TaskNo). To (Some x)) e)
+some_by t u (inr differ) = inr (λ e. differ (cc))
+
+outcomes_decided : (o p : Outcome) → (o ≡ p) ⊎ (o ≢ p)
+outcomes_decided Keep Keep = inl refl
+outcomes_decided Keep (To x) = inr (λ e. cc)
+outcomes_decided (To x) Keep = inr (λ e. cc)
+outcomes_decided (To None) (To None) = inl refl
+outcomes_decided (To None) (To (Some u)) = inr (λ e. cc)
+outcomes_decided (To (Some t)) (To None) = inr (λ e. cc)
+outcomes_decided (To (Some t)) (To (Some u)) = some_by t u (tasks_decided t u)
+
+statuses_decided : (x y : Status) → (x ≡ y) ⊎ (x ≢ y)
+statuses_decided status.Ok status.Ok = inl refl
+statuses_decided status.Access status.Access = inl refl
+statuses_decided status.CallLevel status.CallLevel = inl refl
+statuses_decided status.Id status.Id = inl refl
+statuses_decided status.Limit status.Limit = inl refl
+statuses_decided status.NoFunc status.NoFunc = inl refl
+statuses_decided status.Resource status.Resource = inl refl
+statuses_decided status.State status.State = inl refl
+statuses_decided status.Value status.Value = inl refl
+statuses_decided _ _ = inr (λ e. cc)
+
+noted_by : (x y : Status) → (x ≡ y) ⊎ (x ≢ y) → (Some x ≡ Some y) ⊎ (Some x ≢ Some y)
+noted_by x y (inl e) = inl (ap (λ (z : Status). Some z) e)
+noted_by x y (inr differ) = inr (λ e. differ (cc))
+
+notes_decided : (x y : Option Status) → (x ≡ y) ⊎ (x ≢ y)
+notes_decided None None = inl refl
+notes_decided None (Some y) = inr (λ e. cc)
+notes_decided (Some x) None = inr (λ e. cc)
+notes_decided (Some x) (Some y) = noted_by x y (statuses_decided x y)
+
+module _ (app : App) (table : Sets) (b : ℕ) where
+  -- what occurs is alone unless two occur
+  occurs_alone : (o : Outcome) → Occurs app table b o → (OccurTwo app table b → ⊥) → OccursAlone app table b o
+  occurs_alone o h not = record {
+    occurs = h;
+    alone = λ p k. elim (outcomes_decided p o) [
+      | inl e ↦ e
+      | inr differ ↦ absurd (not (record { one = p; other = o; one_occurs = k; other_occurs = h; differ = differ }))
+    ];
+  }
+
+  form_by : (o : Outcome) → Occurs app table b o → ((f : Form) → FormOf app table b f → ⊥) → ⊥
+  form_by Keep h none = none form.Stay (occurs_alone Keep h (none form.General))
+  form_by (To x) h none = none (form.Direct x) (occurs_alone (To x) h (none form.General))
+
+  pub some_form : ((f : Form) → FormOf app table b f → ⊥) → ⊥
+  some_form none = none form.Never (λ o h. form_by o h none)
+
+  noted_alone : (x : Option Status) → Noted app table b x → (NotedTwo app table b → ⊥) → NotedAlone app table b x
+  noted_alone x h not = record {
+    noted = h;
+    alone = λ y k. elim (notes_decided y x) [
+      | inl e ↦ e
+      | inr differ ↦ absurd (not (record { one = y; other = x; one_noted = k; other_noted = h; differ = differ }))
+    ];
+  }
+
+  pub some_known : ((x : Known) → KnownOf app table b x → ⊥) → ⊥
+  some_known none = none Unknown (inl (λ x h. none (Always x) (noted_alone x h (λ two. none Unknown (inr two)))))

@@ -20,7 +20,7 @@ with_members_append set (x ∷ xs) ys = with_members_append (with_member set x) 
 pub with_members_more : (set : ValueSet) (xs : List PartValue) (i : ℕ) (d : PartValue) → i < length xs → with_members set (take (i + 1) xs) ≡ with_member (with_members set (take i xs)) (get_or xs i d)
 with_members_more set xs i d lt = ap (with_members set) (take_more xs i d lt) ∙ with_members_append set (take i xs) (get_or xs i d ∷ [])
 
-grown_by : (b : Bool) (set : ValueSet) (v : PartValue) → length set.members ≤ length (if b then set else record { members = set.members ++ v ∷ [] }).members
+grown_by : (b : Bool) (set : ValueSet) (v : PartValue) → length set.members ≤ length (if b then set else record { domain = set.domain; members = set.members ++ v ∷ [] }).members
 grown_by true set v = omega arith
 grown_by false set v = omega (arith, length_push set.members v)
 
@@ -35,7 +35,7 @@ any_append test (x ∷ xs) ys = ap (λ b. test x || b) (any_append test xs ys) �
 
 -- a set and one value more
 abbrev pushed : ValueSet → PartValue → ValueSet
-pushed set v = record { members = set.members ++ v ∷ [] }
+pushed set v = record { domain = set.domain; members = set.members ++ v ∷ [] }
 
 module _ (set : ValueSet) (v w : PartValue) where
   pushed_keeps : IsTrue (is_member set w) → IsTrue (is_member (pushed set v) w)

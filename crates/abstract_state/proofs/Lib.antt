@@ -12,3 +12,11 @@ pub mod MarkLaws
 pub mod WorkedLaws
 pub mod JoinLaws
 pub mod EntryJoins
+pub mod WorkedStates
+pub mod WorkedLeast
+pub mod WorkedForms
+pub mod Stacks
+pub mod DomainValues
+pub mod HeightLaws
+pub mod SoundSets
+pub mod LatticeLaws

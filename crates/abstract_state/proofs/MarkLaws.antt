@@ -15,7 +15,7 @@ use Rattle.osek_standard.specs.Arrivals.{arrival, entered}
 use Rattle.osek_standard.specs.Kernel.{step, run_by, entered_or}
 use Rattle.osek_standard.specs.Well.{IsActive}
 use Rattle.abstract_state.specs.Alike.{IsAlike}
-use Rattle.abstract_state.specs.Outcomes.{Mark, Silent, Arrived, Did, did, arrived_or, shown_by, shows, IsInstruction, IsArrivalStep}
+use Rattle.osek_standard.specs.Outcomes.{Mark, Silent, Arrived, Did, did, arrived_or, shown_by, shows, IsInstruction, IsArrivalStep}
 
 abbrev itself : Stepped → Stepped
 itself n = n

@@ -11,14 +11,14 @@ use Rattle.osek_standard.specs.Services.{activate_task, terminate_task}
 use Rattle.osek_standard.specs.Kernel.{start, step, run}
 use Rattle.osek_standard.specs.WorkedApps.{MeetsConditions, activation, app_of, times}
 use Rattle.osek_standard.proofs.StepKeeps.{start_is_well, step_keeps}
-use Rattle.abstract_state.specs.Points.{point_of}
+use Rattle.osek_standard.specs.Points.{point_of}
 use Rattle.abstract_state.specs.Components.{component_count, abstract_of}
 use Rattle.abstract_state.specs.Tables.{In, sets_of}
 use Rattle.abstract_state.specs.WorkedTables.{activation_table}
 
 module _ (m : MeetsConditions activation) where
   -- two components, each in its set
-  both_within : (s : State)
+  pub both_within : (s : State)
       → IsTrue ((sets_of activation_table).has (point_of s) 0 (abstract_of (app_of activation m) s 0))
       → IsTrue ((sets_of activation_table).has (point_of s) 1 (abstract_of (app_of activation m) s 1))
       → (c : ℕ) → c < component_count (app_of activation m) → IsTrue ((sets_of activation_table).has (point_of s) c (abstract_of (app_of activation m) s c))

@@ -13,8 +13,8 @@ use Rattle.osek_standard.specs.Apps.{the_task}
 use Rattle.osek_standard.specs.States.{task_state, alarm_state}
 use Rattle.osek_standard.specs.Kernel.{has_bit}
 use Rattle.osek_standard.specs.Well.{IsOwn, IsStack, IsWaitingAt}
-use Rattle.abstract_state.specs.declared.point.Point.{Point}
-use Rattle.abstract_state.specs.declared.point.Point.TheVariants as point
+use Rattle.osek_standard.specs.declared.point.Point.{Point}
+use Rattle.osek_standard.specs.declared.point.Point.TheVariants as point
 use Rattle.abstract_state.specs.declared.value.Val.{Val}
 use Rattle.abstract_state.specs.declared.value.Val.TheVariants.{Suspended, Live, Waiting}
 use Rattle.abstract_state.specs.declared.value.Component.{Component}

@@ -23,14 +23,14 @@ use Rattle.osek_standard.specs.Apps.{the_task, the_counter, the_block, source_co
 use Rattle.osek_standard.specs.Effects.{place_at}
 use Rattle.osek_standard.specs.Kernel.{has_bit}
 use Rattle.osek_standard.specs.Well.{Well, IsOwn, IsOfRoutine, IsOffsetAt, IsArmed}
-use Rattle.abstract_state.specs.declared.point.Point.{Point}
-use Rattle.abstract_state.specs.declared.point.Point.TheVariants as point
+use Rattle.osek_standard.specs.declared.point.Point.{Point}
+use Rattle.osek_standard.specs.declared.point.Point.TheVariants as point
 use Rattle.abstract_state.specs.declared.value.Val.{Val}
 use Rattle.abstract_state.specs.declared.value.Val.TheVariants.{Suspended, Live, Waiting}
 use Rattle.abstract_state.specs.declared.value.Component.TheVariants as component
 use Rattle.abstract_state.specs.declared.value.PartValue.{PartValue}
 use Rattle.abstract_state.specs.declared.value.PartValue.TheVariants.{OfTask, OfEvent, OfAlarm}
-use Rattle.abstract_state.specs.Points.{point_of}
+use Rattle.osek_standard.specs.Points.{point_of}
 use Rattle.abstract_state.specs.Components.{component_count, component_number, abstract_of, IsAllowed}
 
 -- all of a state that a table doesn't keep, and whose block the point's is

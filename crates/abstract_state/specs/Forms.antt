@@ -16,9 +16,9 @@ use Rattle.image_codec.specs.declared.site.Form.{Form}
 use Rattle.image_codec.specs.declared.site.Form.TheVariants as form
 use Rattle.image_codec.specs.declared.image.Image.{Image}
 use Rattle.image_codec.specs.ImageStep.{form_at}
-use Rattle.abstract_state.specs.declared.point.Point.{Point}
-use Rattle.abstract_state.specs.Points.{point_of}
-use Rattle.abstract_state.specs.Outcomes.{Did, shows}
+use Rattle.osek_standard.specs.declared.point.Point.{Point}
+use Rattle.osek_standard.specs.Points.{point_of}
+use Rattle.osek_standard.specs.Outcomes.{Did, shows}
 use Rattle.abstract_state.specs.Tables.{Sets, In}
 
 -- some state in the table stands at block b, and its instruction has this outcome

@@ -1,8 +1,7 @@
 pub mod Alike
 pub mod Components
 pub mod Concrete
+pub mod Domains
 pub mod Forms
-pub mod Outcomes
-pub mod Points
 pub mod Tables
 pub mod WorkedTables

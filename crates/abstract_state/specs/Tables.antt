@@ -11,17 +11,19 @@ use Rattle.osek_standard.specs.declared.app.App.{App}
 use Rattle.osek_standard.specs.declared.state.State.{State}
 use Rattle.osek_standard.specs.Kernel.{start, step}
 use Rattle.osek_standard.specs.Well.{Well}
-use Rattle.abstract_state.specs.declared.point.Point.{Point}
-use Rattle.abstract_state.specs.declared.point.Point.TheVariants as point
+use Rattle.osek_standard.specs.declared.point.Point.{Point}
+use Rattle.osek_standard.specs.declared.point.Point.TheVariants as point
 use Rattle.abstract_state.specs.declared.value.Val.{Val}
 use Rattle.abstract_state.specs.declared.value.Val.TheVariants.{Suspended, Live, Waiting}
+use Rattle.abstract_state.specs.declared.value.Domain.{Domain}
+use Rattle.abstract_state.specs.declared.value.Domain.TheVariants as domain
 use Rattle.abstract_state.specs.declared.value.PartValue.{PartValue}
 use Rattle.abstract_state.specs.declared.value.PartValue.TheVariants.{OfTask, OfEvent, OfAlarm}
 use Rattle.abstract_state.specs.declared.table.ValueSet.{ValueSet}
 use Rattle.abstract_state.specs.declared.table.Entry.{Entry}
 use Rattle.abstract_state.specs.declared.table.TableRow.{TableRow}
 use Rattle.abstract_state.specs.declared.table.Table.{Table}
-use Rattle.abstract_state.specs.Points.{point_of, IsPoint}
+use Rattle.osek_standard.specs.Points.{point_of, IsPoint}
 use Rattle.abstract_state.specs.Components.{component_count, abstract_of, IsAllowed}
 
 -- What a table says, however it is written down: which points have an entry, and which values are in the entry's set
@@ -107,8 +109,12 @@ same_part (OfAlarm a) (OfAlarm b) = same_flag a b
 same_part _ _ = false
 
 -- a written table
+abbrev pub empty_of : Domain → ValueSet
+empty_of d = record { domain = d; members = [] }
+
+-- what is read where an entry has no set
 abbrev pub empty_set : ValueSet
-empty_set = record { members = [] }
+empty_set = empty_of domain.Alarm
 
 abbrev pub set_at : Entry → ℕ → ValueSet
 set_at entry c = slice_index_or entry.sets c empty_set
@@ -122,7 +128,7 @@ IsSubset set other = (v : PartValue) → IsTrue (is_member set v) → IsTrue (is
 
 -- a set with one more value, if it isn't there
 abbrev pub with_member : ValueSet → PartValue → ValueSet
-with_member set v = if is_member set v then set else record { members = set.members ++ v ∷ [] }
+with_member set v = if is_member set v then set else record { domain = set.domain; members = set.members ++ v ∷ [] }
 
 -- a set with all values of a list
 abbrev pub with_members : ValueSet → List PartValue → ValueSet

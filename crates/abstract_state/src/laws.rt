@@ -1,5 +1,5 @@
 //! Laws over the definitions, each on a function that does nothing.
-ghost use Rattle.std.specs.Prelude.{◌≡◌, ◌↔◌, ℕ, ◌<◌, List, length, take, IsTrue, Some};
+ghost use Rattle.std.specs.Prelude.{◌≡◌, ◌↔◌, ℕ, ◌<◌, ◌≤◌, List, length, take, IsTrue, Some};
 ghost use Rattle.std.specs.List.{IsDistinct};
 ghost use Rattle.osek_values.specs.declared.event.Event.{Event};
 ghost use Rattle.osek_values.specs.declared.numbers.ModeNo.{ModeNo};
@@ -14,17 +14,18 @@ ghost use Rattle.image_codec.specs.declared.site.Form.{Form};
 ghost use Rattle.image_codec.specs.declared.image.Image.{Image};
 ghost use Rattle.image_codec.specs.ImageStep.{image_step};
 ghost use Rattle.image_codec.specs.Laws.{IsKernelsRun};
-ghost use Rattle.abstract_state.specs.declared.point.Point.{Point};
+ghost use Rattle.osek_standard.specs.declared.point.Point.{Point};
 ghost use Rattle.abstract_state.specs.declared.table.ValueSet.{ValueSet};
 ghost use Rattle.abstract_state.specs.declared.table.Entry.{Entry};
 ghost use Rattle.abstract_state.specs.declared.table.Table.{Table};
 ghost use Rattle.abstract_state.specs.declared.value.PartValue.{PartValue};
-ghost use Rattle.abstract_state.specs.Points.{point_of, IsPoint};
+ghost use Rattle.osek_standard.specs.Points.{point_of, IsPoint};
 ghost use Rattle.abstract_state.specs.Components.{component_count, abstract_of, IsAllowed};
 ghost use Rattle.abstract_state.specs.Concrete.{Free, IsFree, AreAllowed, HasParts, state_of};
 ghost use Rattle.abstract_state.specs.Alike.{IsAlike};
 ghost use Rattle.abstract_state.specs.Tables.{Sets, In, Inductive, IsContained, Least, meet, full, same_part, IsSubset, IsPartOfJoin, set_at, joined_entry, joined, with_members, sets_of, HasRow, HasValue};
-ghost use Rattle.abstract_state.specs.Outcomes.{Silent, Arrived, Did, shows, IsInstruction, IsArrivalStep};
+ghost use Rattle.abstract_state.specs.Domains.{IsSound};
+ghost use Rattle.osek_standard.specs.Outcomes.{Silent, Arrived, Did, shows, IsInstruction, IsArrivalStep};
 ghost use Rattle.abstract_state.specs.Forms.{FormOf, Known, KnownOf, HasDictatedForms, Edge};
 
 /// Containment is a partial order.
@@ -130,4 +131,18 @@ pub fn edges_lead_from_entry_to_entry()
 pub fn dictated_forms_are_the_kernel()
     ensures step { (i : Image) (table : Sets) (s : State) (e : Event) → HasDictatedForms table i → In i.app table s → image_step i s e ≡ Some (step i.app s e) }
     ensures run { (i : Image) (table : Sets) (mode : ModeNo) (es : List Event) → Inductive i.app table → HasDictatedForms table i → mode.0 < length i.app.modes → IsKernelsRun i mode es }
+{}
+
+/// No block is without a form: that a table dictated none of them would be a contradiction.
+pub fn no_block_is_without_a_form()
+    ensures form { (app : App) (table : Sets) (b : ℕ) → ((f : Form) → FormOf app table b f → ⊥) → ⊥ }
+    ensures known { (app : App) (table : Sets) (b : ℕ) → ((x : Known) → KnownOf app table b x → ⊥) → ⊥ }
+{}
+
+/// A sound set has no more members than one that contains it, and where it has as many both have the same values;
+/// joins of sound sets are sound.
+pub fn sound_sets_grow_by_their_members()
+    ensures fewer { (a b : ValueSet) → IsSound a → IsSubset a b → length a.members ≤ length b.members }
+    ensures same { (a b : ValueSet) → IsSound a → IsSound b → IsSubset a b → length b.members ≤ length a.members → IsSubset b a }
+    ensures joins { (a b : ValueSet) → IsSound a → IsSound b → a.domain ≡ b.domain → IsSound (joined a b) }
 {}

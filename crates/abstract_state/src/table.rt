@@ -1,14 +1,15 @@
 //! Tables in their plainest form: rows of sets.
 ghost use Rattle.std.specs.Prelude.{◌≡◌};
 
-use crate::point::Point;
-use crate::value::PartValue;
+use crate::value::{Domain, PartValue};
+use osek_standard::Point;
 use osek_values::{Memory, Seq};
 use std::alloc::Global;
 
 /// A set of values, which its members make: order and repeats say nothing.
 #[derive(Drop)]
 pub struct ValueSet {
+    pub domain: Domain,
     pub members: Seq<PartValue>,
 }
 
@@ -33,13 +34,14 @@ pub struct Table {
 
 impl ValueSet {
     ghost use Rattle.std.specs.Prelude.{◌≡◌, ◌+◌, [], ℕ, ◌≤◌, not, length, take, IfOk, OnOk, OnErr};
-    ghost use Rattle.abstract_state.specs.Tables.{empty_set, is_member, with_member, with_members, joined};
+    ghost use Rattle.abstract_state.specs.Tables.{empty_of, is_member, with_member, with_members, joined};
 
     /// The set without a value. It takes no memory yet.
-    pub fn new(alloc: Global) -> ValueSet
-        ensures { result ≡ empty_set }
+    pub fn new(alloc: Global, domain: Domain) -> ValueSet
+        ensures { result ≡ empty_of domain }
     {
         ValueSet {
+            domain,
             members: Seq::new(alloc),
         }
     }

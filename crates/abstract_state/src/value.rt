@@ -21,6 +21,21 @@ pub enum Component {
     Alarm(AlarmNo),
 }
 
+/// What the values of a set are values of, which bounds how many there can be.
+#[derive(Clone, Copy, PartialEq, Eq, Debug)]
+pub enum Domain {
+    /// A task with these blocks, in an application with so many resources.
+    Task {
+        first: BlockNo,
+        count: u16,
+        resources: u8,
+    },
+    /// An event, set or not.
+    Event,
+    /// An alarm, armed or idle.
+    Alarm,
+}
+
 /// What a part of a state can be.
 #[derive(Drop)]
 pub enum PartValue {

@@ -16,8 +16,6 @@ mod owners;
 mod pairs;
 mod sizes;
 mod tables;
-#[cfg(test)]
-mod tests;
 mod ticks;
 mod walk;
 

@@ -5,8 +5,6 @@
 mod code_text;
 mod error;
 mod oil_text;
-#[cfg(test)]
-mod tests;
 
 pub use code_text::read_app;
 pub use error::TextError;

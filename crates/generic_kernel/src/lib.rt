@@ -21,6 +21,3 @@ pub use places::here;
 pub use replies::Effect;
 pub use startup::start;
 pub use steps::{nothing, step, take_event};
-
-#[cfg(test)]
-mod tests;

@@ -21,6 +21,3 @@ pub use forms::{form, general};
 pub use image::Image;
 pub use laws::{general_is_the_kernel, one_spelling};
 pub use site::{Form, Site};
-
-#[cfg(test)]
-mod tests;

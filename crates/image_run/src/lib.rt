@@ -7,6 +7,3 @@ mod trap;
 
 pub use machine::Machine;
 pub use trap::Trap;
-
-#[cfg(test)]
-mod tests;

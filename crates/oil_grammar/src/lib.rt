@@ -4,8 +4,6 @@
 
 mod fault;
 mod front;
-#[cfg(test)]
-mod tests;
 
 pub use fault::{PhraseError, Stop, SyntaxFault, fault_of};
 pub use front::{copied, first, is_close, is_open};

@@ -6,8 +6,6 @@ mod classes;
 mod error;
 mod lexer;
 mod piece;
-#[cfg(test)]
-mod tests;
 mod token;
 
 pub use error::{LexError, LexFault};

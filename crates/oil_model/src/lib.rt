@@ -24,8 +24,6 @@ mod resolver;
 mod resources;
 mod table;
 mod tasks;
-#[cfg(test)]
-mod tests;
 mod times;
 
 pub use fault::{ModelError, ModelFault};

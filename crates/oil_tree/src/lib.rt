@@ -6,8 +6,6 @@ mod error;
 mod file;
 mod parser;
 mod phrases;
-#[cfg(test)]
-mod tests;
 mod tree;
 mod words;
 

@@ -28,6 +28,3 @@ pub use shelf::Shelf;
 pub use sink::Sink;
 pub use std_sink::StdSink;
 pub use storing::{PutError, put_all, store};
-
-#[cfg(test)]
-mod tests;

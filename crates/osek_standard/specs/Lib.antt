@@ -4,6 +4,8 @@ pub mod Counts
 pub mod Dispatch
 pub mod Effects
 pub mod Kernel
+pub mod Outcomes
+pub mod Points
 pub mod Priority
 pub mod Services
 pub mod States

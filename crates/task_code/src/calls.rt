@@ -110,6 +110,35 @@ fn next_number(tokens: &[Token]) -> Result<(u64, &[Token]), Stop>
     Ok((value, rest))
 }
 
+// name , mask
+fn call_of_set_event(alloc: Global, tokens: &[Token]) -> Result<(Call, &[Token]), PhraseError>
+    ensures { MatchResult result
+        (λ x. IsCall Service.SetEvent x.0 tokens.now x.1.now)
+        (λ e. Refuses e (λ stop. (d : ℕ) → StopsIn (operands Service.SetEvent) d tokens.now stop)) }
+{
+    let (task, rest) = object_name(alloc, tokens)?;
+    let rest = comma(rest)?;
+    let (events, rest) = mask(alloc, rest)?;
+    Ok((Call::SetEvent(task, events), rest))
+}
+
+// name , number , number )
+fn call_of_alarm(
+    alloc: Global,
+    service: AlarmService,
+    tokens: &[Token],
+) -> Result<(Call, &[Token]), PhraseError>
+    ensures { MatchResult result
+        (λ x. IsCall (Service.Alarm service) x.0 tokens.now x.1.now)
+        (λ e. Refuses e (λ stop. (d : ℕ) → StopsIn (operands (Service.Alarm service)) d tokens.now stop)) }
+{
+    let (alarm, rest) = object_name(alloc, tokens)?;
+    let (first, rest) = next_number(rest)?;
+    let (cycle, rest) = next_number(rest)?;
+    let rest = close_paren(rest)?;
+    Ok((alarm_call(service, alarm, first, cycle), rest))
+}
+
 /// The call of a service, by what stands between its parentheses and the closing one.
 pub fn call(
     alloc: Global,
@@ -134,19 +163,8 @@ pub fn call(
             let (events, rest) = mask(alloc, tokens)?;
             Ok((mask_call(of_mask, events), rest))
         }
-        Service::SetEvent => {
-            let (task, rest) = object_name(alloc, tokens)?;
-            let rest = comma(rest)?;
-            let (events, rest) = mask(alloc, rest)?;
-            Ok((Call::SetEvent(task, events), rest))
-        }
-        Service::Alarm(of_alarm) => {
-            let (alarm, rest) = object_name(alloc, tokens)?;
-            let (first, rest) = next_number(rest)?;
-            let (cycle, rest) = next_number(rest)?;
-            let rest = close_paren(rest)?;
-            Ok((alarm_call(of_alarm, alarm, first, cycle), rest))
-        }
+        Service::SetEvent => call_of_set_event(alloc, tokens),
+        Service::Alarm(of_alarm) => call_of_alarm(alloc, of_alarm, tokens),
         Service::ShutdownOs => {
             let (status, rest) = status(tokens)?;
             let rest = close_paren(rest)?;

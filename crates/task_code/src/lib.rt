@@ -9,8 +9,6 @@ mod error;
 mod parser;
 mod phrases;
 mod statements;
-#[cfg(test)]
-mod tests;
 mod tree;
 mod words;
 mod works;

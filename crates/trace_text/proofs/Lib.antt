@@ -3,7 +3,6 @@ pub mod GrammarLaws
 pub mod HexadecimalLaws
 pub mod LineLaws
 pub mod Parts
-pub mod SampleLaws
 pub mod StackLaws
 pub mod TextLaws
 pub mod WordLaws

@@ -2,6 +2,5 @@ pub mod EventFaults
 pub mod EventGrammar
 pub mod EventText
 pub mod EventWords
-pub mod Sample
 pub mod TraceLine
 pub mod WorkedLines

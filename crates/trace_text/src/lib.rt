@@ -14,6 +14,3 @@ pub use event_lines::{EventLine, EventLines};
 pub use event_words::read_event;
 pub use fault::{EventFault, FaultyLine};
 pub use trace_line::write_line;
-
-#[cfg(test)]
-mod tests;

@@ -1,24 +1,155 @@
-use Rattle.std.proofs.Common.{◌≡◌, ◌++◌, ◌∙◌, arith, subst, take, Option, sym}
+use Rattle.std.proofs.Common.{◌≡◌, ◌≢◌, ℕ, ◌+◌, ◌-◌, ◌<◌, ◌≤◌, ◌⊎◌, List, [], ◌∷◌, ◌++◌, ◌∙◌, arith, refl, ap, subst, length, take, drop, Option, Result, Ok, Err, IsErr, inl, inr, sym}
+use Rattle.std.specs.Result.{IsErrAnd, IsErrOf}
+use Rattle.std.proofs.lemmas.List.{length-append, length-drop, length-take-le}
+use Rattle.std.proofs.lemmas.Result.{err_from_is_err_and}
+use Rattle.osek_io.specs.Counts.{Rose}
 use Rattle.osek_io.specs.Files.{Files, Holds, IsMissing}
-use Rattle.osek_io.proofs.Turns.{reads_on, taken, length-taken}
+use Rattle.osek_io.specs.Pieces.{ReadsPiece}
+use Rattle.osek_io.specs.declared.failed.Failed.{Failed}
+use Rattle.osek_io.specs.declared.loading.LoadError.{LoadError}
+use Rattle.osek_io.specs.declared.loading.LoadError.TheVariants.{Memory, Read, TooLong}
+use Rattle.osek_io.proofs.Turns.{reads_on, rises, taken, length-taken}
 use Rattle.osek_io.proofs.loading.load.Goals as goal
+
+-- Nothing is a front of what a file holds.
+empty_front : (so_far all : List ℕ) → so_far ≡ [] → so_far ≡ take (length so_far) all
+empty_front [] all e = refl
+empty_front (x ∷ xs) all e = absurd (cc)
+
+-- A fault of the last turn is one of the whole, and so is a file that is missing.
+fault_or_missing : (before now : Option Files) (name : List ℕ) (a b c : ℕ) → now ≡ before → a ≤ b → Rose b c ⊎ IsMissing now name → Rose a c ⊎ IsMissing before name
+fault_or_missing before now name a b c e le (inl h) = inl (rises a b c le h)
+fault_or_missing before now name a b c e le (inr missing) = inr (subst (λ (o : Option Files). IsMissing o name) e missing)
+
+-- More than was left came in.
+too_many : (all piece : List ℕ) (at n most : ℕ) → most - at < n → ReadsPiece all at piece n → most < length all
+too_many all piece at n most h read = omega (arith, read.within, length-drop at all)
+
+-- No count falls.
+never_falls : (a b c : ℕ) → a ≤ b → b ≤ c → a ≤ c
+never_falls a b c h k = omega arith
+
+-- One outcome is no other.
+read_not_too_long : {T : Type 0} → IsErrOf {T = T} (Err Read) TooLong → ⊥
+read_not_too_long h = cc
+
+too_long_not_read : {T : Type 0} → IsErrOf {T = T} (Err TooLong) Read → ⊥
+too_long_not_read h = cc
+
+memory_not_read : {T : Type 0} (r : Result T LoadError) → r ≡ Err Memory → IsErrOf r Read → ⊥
+memory_not_read r e h = cc
+
+memory_not_too_long : {T : Type 0} (r : Result T LoadError) → r ≡ Err Memory → IsErrOf r TooLong → ⊥
+memory_not_too_long r e h = cc
+
+-- What was read did not fail.
+not_failed : (n : ℕ) → IsErr {E = Failed} (Ok n) → ⊥
+not_failed n h = cc
+
+-- A turn that took something leaves less to take.
+grows_shorter : (now before all rest : List ℕ) (n most : ℕ) → n ≤ length all → now ≡ before ++ take n (all ++ rest) → length before ≤ most → n ≢ 0 → most + 1 - length now < most + 1 - length before
+grows_shorter now before all rest n most le e within some =
+    let items : now ≡ before ++ take n all = taken now before all rest n le e in
+    omega (arith, ap length items, length-append before (take n all), length-take-le n all le)
+
+-- Memory ran out where the result says so.
+out_of_memory : {T : Type 0} (r : Result T LoadError) → IsErrAnd r (λ e. e ≡ Memory) → r ≡ Err Memory
+out_of_memory r h = let p = err_from_is_err_and r h in p.1 ∙ ap Err p.2
+
+pub loop-count-init : goal.loop-count-init
+loop-count-init g c = record {
+  within = omega (arith, ap length c.new-bytes.ensures.items);
+  front = λ all h. empty_front c.new-bytes.result.items all c.new-bytes.ensures.items;
+  files = refl;
+  reads = omega arith;
+  uncounted = λ h. refl;
+  writes = refl;
+}
+
+pub bytes_to_ask-want-requires : goal.bytes_to_ask-want-requires
+bytes_to_ask-want-requires g c = omega (arith, c.len-taken.ensures, c.loop-count.bytes.ok.0, c.loop-count.invariant.within)
+
+pub slice_bounds-piece-end : goal.slice_bounds-piece-end
+slice_bounds-piece-end g c = omega (arith, c.bytes_to_ask-want.ensures.piece, c.type_inv.piece)
+
+pub slice_bounds-read-end : goal.slice_bounds-read-end
+slice_bounds-read-end g c = sym (length-take-le c.bytes_to_ask-want.result c.loop-count.piece (omega arith))
+
+pub returns-in_default : goal.returns-in_default
+returns-in_default g c = record {
+  bytes = tt;
+  within = tt;
+  read = λ e.
+      fault_or_missing (g.F.Shelf.contents c.args.shelf.now) (g.F.Shelf.contents c.loop-count.shelf) c.args.name.now (g.F.Shelf.read_faults c.args.shelf.now) (g.F.Shelf.read_faults c.loop-count.shelf)
+      (g.F.Shelf.read_faults c.read.new.self) c.loop-count.invariant.files c.loop-count.invariant.reads c.in_default.ensures.cause;
+  missing = λ h. refl;
+  uncounted = λ h.
+      c.read.ensures.uncounted (subst (λ (o : Option Files). IsMissing o c.args.name.now) (sym c.loop-count.invariant.files) h) ∙ c.loop-count.invariant.uncounted h;
+  too_long = λ e. absurd (read_not_too_long e);
+  never_falls = never_falls _ _ _ c.loop-count.invariant.reads c.read.ensures.never_falls;
+  same_files = c.read.ensures.same_files ∙ c.loop-count.invariant.files;
+  same_writes = c.read.ensures.same_writes ∙ c.loop-count.invariant.writes;
+}
+
+pub overflow_sub-most : goal.overflow_sub-most
+overflow_sub-most g c = omega (arith, c.len-taken.ensures, c.loop-count.bytes.ok.0, c.loop-count.invariant.within)
+
+pub returns-then-most-taken : goal.returns-then-most-taken
+returns-then-most-taken g c = record {
+  bytes = tt;
+  within = tt;
+  read = λ e. absurd (too_long_not_read e);
+  missing = λ h. absurd (not_failed c.in-Ok.count (c.in-Ok.ensures.missing (subst (λ (o : Option Files). IsMissing o c.args.name.now) (sym c.loop-count.invariant.files) h)));
+  uncounted = λ h.
+      c.read.ensures.uncounted (subst (λ (o : Option Files). IsMissing o c.args.name.now) (sym c.loop-count.invariant.files) h) ∙ c.loop-count.invariant.uncounted h;
+  too_long = λ e all h.
+      too_many all c.read.new.into c.len-taken.result c.in-Ok.count c.args.most c.if-most-taken.true
+      (c.in-Ok.ensures.piece all (subst (λ (o : Option Files). Holds o c.args.name.now all) (sym c.loop-count.invariant.files) h));
+  never_falls = never_falls _ _ _ c.loop-count.invariant.reads c.read.ensures.never_falls;
+  same_files = c.read.ensures.same_files ∙ c.loop-count.invariant.files;
+  same_writes = c.read.ensures.same_writes ∙ c.loop-count.invariant.writes;
+}
+
+pub slice_bounds-piece-end-in-loop-count : goal.slice_bounds-piece-end-in-loop-count
+slice_bounds-piece-end-in-loop-count g c = omega (arith, c.in-Ok.ensures.bound, length-append c.read.new.into (drop c.bytes_to_ask-want.result c.loop-count.piece))
+
+pub slice_bounds-extend_from_slice-end : goal.slice_bounds-extend_from_slice-end
+slice_bounds-extend_from_slice-end g c =
+    let rest = drop c.bytes_to_ask-want.result c.loop-count.piece in
+    sym (length-take-le c.in-Ok.count (c.read.new.into ++ rest) (omega (arith, c.in-Ok.ensures.bound, length-append c.read.new.into rest)))
+
+pub loop-count-smaller : goal.loop-count-smaller
+loop-count-smaller g c =
+    grows_shorter c.extend_from_slice.new.self.items c.loop-count.bytes.items c.read.new.into (drop c.bytes_to_ask-want.result c.loop-count.piece) c.in-Ok.count c.args.most
+    c.in-Ok.ensures.bound c.in_ok-extend_from_slice.ensures.items c.loop-count.invariant.within c.if-count-eq0.false
 
 pub loop-count-preserved : goal.loop-count-preserved
 loop-count-preserved g c =
     let now = c.extend_from_slice.new.self.items in
     let before = c.loop-count.bytes.items in
     let same = c.loop-count.invariant.files in
-    let items : now ≡ before ++ take c.in-Ok.count c.read.new.into = taken now before c.read.new.into _ c.in-Ok.count c.in-Ok.ensures.bound c.in_ok-extend_from_slice.ensures.items in
+    let items : now ≡ before ++ take c.in-Ok.count c.read.new.into =
+    taken now before c.read.new.into (drop c.bytes_to_ask-want.result c.loop-count.piece) c.in-Ok.count c.in-Ok.ensures.bound c.in_ok-extend_from_slice.ensures.items in
     record {
       within = omega (arith, length-taken now before c.read.new.into c.in-Ok.count items);
-      front = λ all h. reads_on before c.read.new.into all now c.len-taken.result c.in-Ok.count (c.loop-count.invariant.front all h) (omega (arith, c.len-taken.ensures, c.loop-count.bytes.ok.0))
+      front = λ all h. reads_on before c.read.new.into all now c.len-taken.result c.in-Ok.count (c.loop-count.invariant.front all h) (c.len-taken.ensures ∙ c.loop-count.bytes.ok.0)
           (c.in-Ok.ensures.piece all (subst (λ (o : Option Files). Holds o c.args.name.now all) (sym same) h)) items;
       files = c.read.ensures.same_files ∙ same;
-      reads = omega (arith, c.read.ensures.never_falls);
+      reads = never_falls _ _ _ c.loop-count.invariant.reads c.read.ensures.never_falls;
       uncounted = λ h. c.read.ensures.uncounted (subst (λ (o : Option Files). IsMissing o c.args.name.now) (sym same) h) ∙ c.loop-count.invariant.uncounted h;
       writes = c.read.ensures.same_writes ∙ c.loop-count.invariant.writes;
     }
 
-pub returns-in_default-clause-uncounted : goal.returns-in_default-clause-uncounted
-returns-in_default-clause-uncounted g c = λ h.
-    c.read.ensures.uncounted (subst (λ (o : Option Files). IsMissing o c.args.name.now) (sym c.loop-count.invariant.files) h) ∙ c.loop-count.invariant.uncounted h
+pub returns-in_err-extend_from_slice : goal.returns-in_err-extend_from_slice
+returns-in_err-extend_from_slice g c = record {
+  bytes = rw (out_of_memory c.from_residual.result c.from_residual.ensures.1) tt;
+  within = rw (out_of_memory c.from_residual.result c.from_residual.ensures.1) tt;
+  read = λ e. absurd (memory_not_read _ (out_of_memory c.from_residual.result c.from_residual.ensures.1) e);
+  missing = λ h. absurd (not_failed c.in-Ok.count (c.in-Ok.ensures.missing (subst (λ (o : Option Files). IsMissing o c.args.name.now) (sym c.loop-count.invariant.files) h)));
+  uncounted = λ h.
+      c.read.ensures.uncounted (subst (λ (o : Option Files). IsMissing o c.args.name.now) (sym c.loop-count.invariant.files) h) ∙ c.loop-count.invariant.uncounted h;
+  too_long = λ e. absurd (memory_not_too_long _ (out_of_memory c.from_residual.result c.from_residual.ensures.1) e);
+  never_falls = never_falls _ _ _ c.loop-count.invariant.reads c.read.ensures.never_falls;
+  same_files = c.read.ensures.same_files ∙ c.loop-count.invariant.files;
+  same_writes = c.read.ensures.same_writes ∙ c.loop-count.invariant.writes;
+}

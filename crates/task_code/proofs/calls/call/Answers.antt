@@ -1,6 +1,6 @@
 use Rattle.std.proofs.Common.{refl}
-use Rattle.task_code.specs.Grammar.{plain, object, mask, set_event, alarm, shutdown}
-use Rattle.task_code.proofs.Operands.{is_call, two_tokens, six_tokens}
+use Rattle.task_code.specs.Grammar.{plain, object, mask, shutdown}
+use Rattle.task_code.proofs.Operands.{is_call, two_tokens}
 use Rattle.task_code.proofs.calls.call.Goals as goal
 
 pub returns-in_ok-rest-in-Plain : goal.returns-in_ok-rest-in-Plain
@@ -12,14 +12,6 @@ returns-in_ok-rest-in-Object c =
 
 pub returns-in_ok-events-in-Mask : goal.returns-in_ok-events-in-Mask
 returns-in_ok-events-in-Mask c = is_call _ _ _ _ _ _ _ c.in-Mask.is c.mask_call.ensures refl (mask c.in_ok-events-in-Mask.ensures)
-
-pub returns-in_ok-events-in-SetEvent : goal.returns-in_ok-events-in-SetEvent
-returns-in_ok-events-in-SetEvent c =
-    is_call _ _ _ _ _ _ _ c.in-SetEvent.is refl (two_tokens _ _ _ _ _ c.in_ok-task-in-SetEvent.ensures c.in_ok-rest-in-SetEvent.ensures.1) (set_event c.in_ok-events-in-SetEvent.ensures)
-
-pub returns-in_ok-rest-in-Alarm : goal.returns-in_ok-rest-in-Alarm
-returns-in_ok-rest-in-Alarm c =
-    is_call _ _ _ _ _ _ _ c.in-Alarm.is c.alarm_call.ensures (six_tokens _ _ _ _ _ _ _ _ _ _ _ c.in_ok-alarm-in-Alarm.ensures c.in_ok-first-in-Alarm.ensures.2 c.in_ok-cycle-in-Alarm.ensures.2 c.in_ok-rest-in-Alarm.ensures.1) alarm
 
 pub returns-in_ok-rest-in-ShutdownOs : goal.returns-in_ok-rest-in-ShutdownOs
 returns-in_ok-rest-in-ShutdownOs c =

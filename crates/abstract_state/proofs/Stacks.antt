@@ -1,0 +1,362 @@
+-- Lists without repeats, and all stacks of distinct resources.
+use Rattle.std.proofs.Common.{◌≡◌, ◌⊎◌, ℕ, zero, suc, ◌+◌, ◌*◌, ◌<◌, ◌≤◌, Bool, true, false, List, [], ◌∷◌, ◌++◌, length, map, flat_map, get_or, refl, sym, ap, subst, ◌∙◌, inl, inr, arith, Contains}
+use Rattle.std.proofs.Math.Nat.{add-mul}
+use Rattle.std.specs.Prelude.{if◌then◌else◌, nat_eq}
+use Rattle.std.specs.List.{range_with_len, IsDistinct, AllByRecursion}
+use Rattle.std.proofs.lemmas.Bool.{cases_Bool, eqb-true, eq-eqb}
+use Rattle.std.proofs.lemmas.Bool.Decides.{nat_tests}
+use Rattle.std.proofs.lemmas.List.{length-append, length-map}
+use Rattle.std.proofs.lemmas.List.Elements.{recursion_from_All, All-from_recursion}
+use Rattle.std.proofs.lemmas.List.FromFn.{length-map-range_with_len}
+use Rattle.osek_values.specs.Numbers.{res_no}
+use Rattle.osek_values.specs.declared.numbers.ResNo.{ResNo}
+use Rattle.osek_standard.specs.Counts.{stacks}
+use Rattle.osek_standard.specs.Well.{same_resource}
+use Rattle.osek_standard.proofs.Members.{Among}
+use Rattle.abstract_state.specs.Domains.{IsStackOutOf}
+
+-- no element stands twice
+abbrev pub Apart : {X : Type 0} → List X → Type 0
+Apart [] = Unit {0}
+Apart (x ∷ xs) = (Among x xs → ⊥) × Apart xs
+
+false_by : (b : Bool) → (b ≡ true → ⊥) → b ≡ false
+false_by true h = absurd (h refl)
+false_by false h = refl
+
+module _ {X : Type 0} where
+  pub among_left : (x : X) (xs ys : List X) → Among x xs → Among x (xs ++ ys)
+  among_left x [] ys m = absurd m
+  among_left x (y ∷ xs) ys (inl e) = inl e
+  among_left x (y ∷ xs) ys (inr m) = inr (among_left x xs ys m)
+
+  pub among_right : (x : X) (xs ys : List X) → Among x ys → Among x (xs ++ ys)
+  among_right x [] ys m = m
+  among_right x (y ∷ xs) ys m = inr (among_right x xs ys m)
+
+  pub among_cases : (x : X) (xs ys : List X) → Among x (xs ++ ys) → Among x xs ⊎ Among x ys
+  among_cases x [] ys m = inr m
+  among_cases x (y ∷ xs) ys (inl e) = inl (inl e)
+  among_cases x (y ∷ xs) ys (inr m) = elim (among_cases x xs ys m) [ inl h ↦ inl (inr h) | inr h ↦ inr h ]
+
+  -- lists without repeats and without a common element, joined
+  pub apart_append : (xs ys : List X) → Apart xs → Apart ys → ((x : X) → Among x xs → Among x ys → ⊥) → Apart (xs ++ ys)
+  apart_append [] ys h k none = k
+  apart_append (x ∷ xs) ys h k none =
+      (λ m. elim (among_cases x xs ys m) [ inl a ↦ h.0 a | inr b ↦ none x (inl refl) b ], apart_append xs ys h.1 k (λ y m. none y (inr m)))
+
+  -- `Contains`, by the list
+  at_place : (xs : List X) (k : ℕ) (d x : X) → k < length xs → get_or xs k d ≡ x → Among x xs
+  at_place [] k d x lt e = absurd (omega (arith, lt))
+  at_place (y ∷ xs) zero d x lt e = inl (sym e)
+  at_place (y ∷ xs) (suc k) d x lt e = inr (at_place xs k d x (omega (arith, lt)) e)
+
+  pub contained_among : (xs : List X) (x : X) → Contains xs x → Among x xs
+  contained_among xs x h = at_place xs h.0 x x h.1 h.2
+
+  pub among_contained : (xs : List X) (x : X) → Among x xs → Contains xs x
+  among_contained [] x m = absurd m
+  among_contained (y ∷ xs) x (inl e) = (0, omega arith, sym e)
+  among_contained (y ∷ xs) x (inr m) = let h = among_contained xs x m in (suc h.0, omega (arith, h.1), h.2)
+
+  each_among : (P : X → Type 0) (xs : List X) → ((x : X) → Among x xs → P x) → AllByRecursion P xs
+  each_among P [] h = tt
+  each_among P (x ∷ xs) h = (h x (inl refl), each_among P xs (λ y m. h y (inr m)))
+
+  among_each : (P : X → Type 0) (xs : List X) → AllByRecursion P xs → (x : X) → Among x xs → P x
+  among_each P [] all x m = absurd m
+  among_each P (y ∷ xs) all x (inl e) = subst P (sym e) all.0
+  among_each P (y ∷ xs) all x (inr m) = among_each P xs all.1 x m
+
+  -- by a test for equality
+  pub distinct_apart : (test : X → X → Bool) → ((x y : X) → test x y ≡ true → x ≡ y) → (xs : List X) → Apart xs → IsDistinct test xs
+  unfolding IsDistinct
+  distinct_apart test right [] h = tt
+  distinct_apart test right (x ∷ xs) h =
+      (each_among (λ y. test x y ≡ false) xs (λ y m. false_by (test x y) (λ e. h.0 (subst (λ (z : X). Among z xs) (sym (right x y e)) m))), distinct_apart test right xs h.1)
+
+  pub apart_distinct : (test : X → X → Bool) → ((x : X) → test x x ≡ true) → (xs : List X) → IsDistinct test xs → Apart xs
+  unfolding IsDistinct
+  apart_distinct test itself [] d = tt
+  apart_distinct test itself (x ∷ xs) d =
+      (λ m. let differs : test x x ≡ false = among_each (λ y. test x y ≡ false) xs d.0 x m in let equal : test x x ≡ true = itself x in absurd (cc), apart_distinct test itself xs d.1)
+
+module _ {X Y : Type 0} where
+  pub among_map : (f : X → Y) (x : X) (xs : List X) → Among x xs → Among (f x) (map f xs)
+  among_map f x [] m = absurd m
+  among_map f x (y ∷ xs) (inl e) = inl (ap f e)
+  among_map f x (y ∷ xs) (inr m) = inr (among_map f x xs m)
+
+  pub map_among : (f : X → Y) (y : Y) (xs : List X) → Among y (map f xs) → (x : X) × Among x xs × (y ≡ f x)
+  map_among f y [] m = absurd m
+  map_among f y (x ∷ xs) (inl e) = (x, inl refl, e)
+  map_among f y (x ∷ xs) (inr m) = let h = map_among f y xs m in (h.0, inr h.1, h.2)
+
+  pub among_flat_map : (f : X → List Y) (x : X) (y : Y) (xs : List X) → Among x xs → Among y (f x) → Among y (flat_map f xs)
+  among_flat_map f x y [] m h = absurd m
+  among_flat_map f x y (z ∷ xs) (inl e) h = among_left y (f z) (flat_map f xs) (subst (λ (w : X). Among y (f w)) e h)
+  among_flat_map f x y (z ∷ xs) (inr m) h = among_right y (f z) (flat_map f xs) (among_flat_map f x y xs m h)
+
+  pub flat_map_among : (f : X → List Y) (y : Y) (xs : List X) → Among y (flat_map f xs) → (x : X) × Among x xs × Among y (f x)
+  flat_map_among f y [] m = absurd m
+  flat_map_among f y (x ∷ xs) m = elim (among_cases y (f x) (flat_map f xs) m) [
+    | inl h ↦ (x, inl refl, h)
+    | inr h ↦ (let back = flat_map_among f y xs h in (back.0, inr back.1, back.2))
+  ]
+
+  -- a function that tells elements apart
+  pub apart_map : (f : X → Y) → ((x y : X) → f x ≡ f y → x ≡ y) → (xs : List X) → Apart xs → Apart (map f xs)
+  apart_map f one [] h = tt
+  apart_map f one (x ∷ xs) h =
+      (λ m. let back = map_among f (f x) xs m in h.0 (subst (λ (z : X). Among z xs) (sym (one x back.0 back.2)) back.1), apart_map f one xs h.1)
+
+  -- lists without repeats, one for each element, none with an element of another's
+  pub apart_flat_map : (f : X → List Y) → ((x y : X) (z : Y) → Among z (f x) → Among z (f y) → x ≡ y) → (xs : List X) → ((x : X) → Among x xs → Apart (f x)) → Apart xs → Apart (flat_map f xs)
+  apart_flat_map f one [] each h = tt
+  apart_flat_map f one (x ∷ xs) each h =
+      apart_append (f x) (flat_map f xs) (each x (inl refl)) (apart_flat_map f one xs (λ y m. each y (inr m)) h.1)
+      (λ z m n. let back = flat_map_among f z xs n in h.0 (subst (λ (w : X). Among w xs) (sym (one x back.0 z m back.2)) back.1))
+
+  -- as many for each element
+  pub length_flat_map : (f : X → List Y) (m : ℕ) (xs : List X) → ((x : X) → Among x xs → length (f x) ≡ m) → length (flat_map f xs) ≡ length xs * m
+  length_flat_map f m [] each = omega arith
+  length_flat_map f m (x ∷ xs) each =
+      let here = each x (inl refl) in
+      let rest = length_flat_map f m xs (λ y among. each y (inr among)) in
+      let more : (length xs + 1) * m ≡ length xs * m + 1 * m = add-mul (length xs) 1 m in
+      let size : length (x ∷ xs) ≡ length xs + 1 = omega arith in
+      length-append (f x) (flat_map f xs) ∙ omega (arith, here, rest, more) ∙ ap (λ (n : ℕ). n * m) (sym size)
+
+-- a range of numbers
+pub among_range : (a n t : ℕ) → a ≤ t → t < a + n → Among t (range_with_len a n)
+among_range a zero t low high = absurd (omega (arith, low, high))
+among_range a (suc n) t low high = elim (cases_Bool (nat_eq t a)) [
+  | inl e ↦ inl (eqb-true t a e)
+  | inr e ↦ inr (among_range (a + 1) n t (grind (arith, nat_tests)) (omega (arith, high)))
+]
+
+pub range_among : (a n t : ℕ) → Among t (range_with_len a n) → (a ≤ t) × (t < a + n)
+range_among a zero t m = absurd m
+range_among a (suc n) t (inl e) = (omega (arith, e), omega (arith, e))
+range_among a (suc n) t (inr m) = let h = range_among (a + 1) n t m in (omega (arith, h.0), omega (arith, h.1))
+
+pub apart_range : (a n : ℕ) → Apart (range_with_len a n)
+apart_range a zero = tt
+apart_range a (suc n) = (λ m. let h = range_among (a + 1) n a m in absurd (omega (arith, h.0)), apart_range (a + 1) n)
+
+-- a list but for one resource
+abbrev without : ResNo → List ResNo → List ResNo
+without r [] = []
+without r (x ∷ xs) = if same_resource r x then without r xs else x ∷ without r xs
+
+resource_itself : (r : ResNo) → same_resource r r ≡ true
+resource_itself r = eq-eqb r.0 r.0 refl
+
+resource_right : (q r : ResNo) → same_resource q r ≡ true → q ≡ r
+resource_right q r e = ap res_no (eqb-true q.0 r.0 e)
+
+resource_other : (q r : ResNo) → same_resource q r ≡ false → q ≡ r → ⊥
+resource_other q r e same = let equal : same_resource q r ≡ true = subst (λ (x : ResNo). same_resource q x ≡ true) same (resource_itself q) in absurd (cc)
+
+module _ (r : ResNo) where
+  without_same : (x : ResNo) (xs : List ResNo) → same_resource r x ≡ true → without r (x ∷ xs) ≡ without r xs
+  without_same x xs e = ap (λ (b : Bool). if b then without r xs else x ∷ without r xs) e
+
+  without_other : (x : ResNo) (xs : List ResNo) → same_resource r x ≡ false → without r (x ∷ xs) ≡ x ∷ without r xs
+  without_other x xs e = ap (λ (b : Bool). if b then without r xs else x ∷ without r xs) e
+
+  -- it has the others
+  among_without : (q : ResNo) (xs : List ResNo) → Among q xs → (r ≡ q → ⊥) → Among q (without r xs)
+  among_without q [] m differs = m
+  among_without q (x ∷ xs) m differs = elim (cases_Bool (same_resource r x)) [
+    | inl equal ↦ subst (Among q) (sym (without_same x xs equal)) (elim m [
+      | inl e ↦ absurd (differs (resource_right r x equal ∙ sym e))
+      | inr h ↦ among_without q xs h differs
+    ])
+    | inr other ↦ subst (Among q) (sym (without_other x xs other)) (elim m [
+      | inl e ↦ inl e
+      | inr h ↦ inr (among_without q xs h differs)
+    ])
+  ]
+
+  without_among : (q : ResNo) (xs : List ResNo) → Among q (without r xs) → Among q xs × (r ≡ q → ⊥)
+  without_among q [] m = absurd m
+  without_among q (x ∷ xs) m = elim (cases_Bool (same_resource r x)) [
+    | inl equal ↦ (let h = without_among q xs (subst (Among q) (without_same x xs equal) m) in (inr h.0, h.1))
+    | inr other ↦
+        (let n : Among q (x ∷ without r xs) = subst (Among q) (without_other x xs other) m in
+        elim n [
+          | inl e ↦ (inl e, λ same. resource_other r x other (same ∙ e))
+          | inr h ↦ (let k = without_among q xs h in (inr k.0, k.1))
+        ])
+  ]
+
+  apart_without : (xs : List ResNo) → Apart xs → Apart (without r xs)
+  apart_without [] h = tt
+  apart_without (x ∷ xs) h = elim (cases_Bool (same_resource r x)) [
+    | inl equal ↦ subst Apart (sym (without_same x xs equal)) (apart_without xs h.1)
+    | inr other ↦ subst Apart (sym (without_other x xs other)) (λ m. h.0 (without_among x xs m).0, apart_without xs h.1)
+  ]
+
+  length_absent : (xs : List ResNo) → (Among r xs → ⊥) → length (without r xs) ≡ length xs
+  length_absent [] absent = refl
+  length_absent (x ∷ xs) absent = elim (cases_Bool (same_resource r x)) [
+    | inl equal ↦ absurd (absent (inl (resource_right r x equal)))
+    | inr other ↦ ap length (without_other x xs other) ∙ omega (arith, length_absent xs (λ m. absent (inr m)))
+  ]
+
+  -- it is one shorter
+  length_without : (xs : List ResNo) → Apart xs → Among r xs → length (without r xs) + 1 ≡ length xs
+  length_without [] h m = absurd m
+  length_without (x ∷ xs) h m = elim (cases_Bool (same_resource r x)) [
+    | inl equal ↦
+        (let gone : Among r xs → ⊥ = λ n. h.0 (subst (λ (q : ResNo). Among q xs) (resource_right r x equal) n) in
+        omega (arith, ap length (without_same x xs equal), length_absent xs gone))
+    | inr other ↦
+        (let later : Among r xs = elim m [ inl e ↦ absurd (resource_other r x other e) | inr n ↦ n ] in
+        omega (arith, ap length (without_other x xs other), length_without xs h.1 later))
+  ]
+
+-- the stacks of the resources left: the empty one, and each resource on top of each stack of the others
+abbrev all_stacks : ℕ → List ResNo → List (List ResNo)
+all_stacks zero left = [] ∷ []
+all_stacks (suc n) left = [] ∷ flat_map (λ r. map (λ held. r ∷ held) (all_stacks n (without r left))) left
+
+-- those with this resource on top
+abbrev stacks_on : ℕ → List ResNo → ResNo → List (List ResNo)
+stacks_on n left r = map (λ held. r ∷ held) (all_stacks n (without r left))
+
+-- a stack of distinct resources of a list
+record IsStackOf (left held : List ResNo) : Type 0 where
+  apart : Apart held
+  known : (q : ResNo) → Among q held → Among q left
+
+none_held : (left held : List ResNo) → held ≡ [] → IsStackOf left held
+none_held left held e = subst (IsStackOf left) (sym e) (record { apart = tt; known = λ q m. absurd m })
+
+stack_on : (left : List ResNo) (r : ResNo) (held : List ResNo) → Among r left → IsStackOf (without r left) held → IsStackOf left (r ∷ held)
+stack_on left r held m stack = record {
+  apart = (λ n. (without_among r r left (stack.known r n)).1 refl, stack.apart);
+  known = λ q n. elim n [
+    | inl e ↦ subst (λ (x : ResNo). Among x left) (sym e) m
+    | inr h ↦ (without_among r q left (stack.known q h)).0
+  ];
+}
+
+stack_under : (left : List ResNo) (r : ResNo) (held : List ResNo) → IsStackOf left (r ∷ held) → IsStackOf (without r left) held
+stack_under left r held stack = record {
+  apart = stack.apart.1;
+  known = λ q n. among_without r q left (stack.known q (inr n)) (λ e. stack.apart.0 (subst (λ (x : ResNo). Among x held) (sym e) n));
+}
+
+-- each of them is a stack
+stack_there : (n : ℕ) (left held : List ResNo) → Among held (all_stacks n left) → IsStackOf left held
+stack_there zero left held (inl e) = none_held left held e
+stack_there zero left held (inr m) = absurd m
+stack_there (suc n) left held (inl e) = none_held left held e
+stack_there (suc n) left held (inr m) =
+    let on = flat_map_among (stacks_on n left) held left m in
+    let under = map_among (λ (more : List ResNo). on.0 ∷ more) held (all_stacks n (without on.0 left)) on.2 in
+    subst (IsStackOf left) (sym under.2) (stack_on left on.0 under.0 on.1 (stack_there n (without on.0 left) under.0 under.1))
+
+-- one of them taken away, n are left
+fewer_left : (n : ℕ) (left : List ResNo) (r : ResNo) → length left ≡ suc n → Apart left → Among r left → length (without r left) ≡ n
+fewer_left n left r size apart m = omega (arith, size, length_without r left apart m)
+
+none_left : (left : List ResNo) → length left ≡ 0 → left ≡ []
+none_left [] e = refl
+none_left (x ∷ left) e = absurd (omega (arith, e))
+
+-- and each stack is among them
+there_stack : (n : ℕ) (left held : List ResNo) → length left ≡ n → Apart left → IsStackOf left held → Among held (all_stacks n left)
+there_stack zero left [] size apart stack = inl refl
+there_stack zero left (r ∷ held) size apart stack = absurd (subst (Among r) (none_left left size) (stack.known r (inl refl)))
+there_stack (suc n) left [] size apart stack = inl refl
+there_stack (suc n) left (r ∷ held) size apart stack =
+    let m = stack.known r (inl refl) in
+    inr (among_flat_map (stacks_on n left) r (r ∷ held) left m
+    (among_map (λ (more : List ResNo). r ∷ more) held (all_stacks n (without r left))
+    (there_stack n (without r left) held (fewer_left n left r size apart m) (apart_without r left apart) (stack_under left r held stack))))
+
+-- two tops differ
+one_top : (n : ℕ) (left : List ResNo) (q r : ResNo) (held : List ResNo) → Among held (stacks_on n left q) → Among held (stacks_on n left r) → q ≡ r
+one_top n left q r held m k =
+    let over_q = map_among (λ (more : List ResNo). q ∷ more) held (all_stacks n (without q left)) m in
+    let over_r = map_among (λ (more : List ResNo). r ∷ more) held (all_stacks n (without r left)) k in
+    let same : q ∷ over_q.0 ≡ r ∷ over_r.0 = sym over_q.2 ∙ over_r.2 in
+    cc
+
+one_rest : (r : ResNo) (held kept : List ResNo) → r ∷ held ≡ r ∷ kept → held ≡ kept
+one_rest r held kept e = cc
+
+-- none stands twice
+apart_stacks : (n : ℕ) (left : List ResNo) → length left ≡ n → Apart left → Apart (all_stacks n left)
+apart_stacks zero left size apart = (λ m. m, tt)
+apart_stacks (suc n) left size apart = (
+  λ m.
+      let on = flat_map_among (stacks_on n left) [] left m in
+      let under = map_among (λ (more : List ResNo). on.0 ∷ more) [] (all_stacks n (without on.0 left)) on.2 in
+      let e = under.2 in
+      absurd (cc),
+  apart_flat_map (stacks_on n left) (one_top n left) left
+      (λ r m. apart_map (λ (more : List ResNo). r ∷ more) (one_rest r) (all_stacks n (without r left))
+      (apart_stacks n (without r left) (fewer_left n left r size apart m) (apart_without r left apart)))
+      apart,
+)
+
+-- and these are so many
+length_stacks : (n : ℕ) (left : List ResNo) → length left ≡ n → Apart left → length (all_stacks n left) ≡ stacks n
+length_stacks zero left size apart = refl
+length_stacks (suc n) left size apart =
+    let each = length_flat_map (stacks_on n left) (stacks n) left (λ r m.
+    length-map (all_stacks n (without r left)) (λ (more : List ResNo). r ∷ more)
+    ∙ length_stacks n (without r left) (fewer_left n left r size apart m) (apart_without r left apart)) in
+    let all : length (flat_map (stacks_on n left) left) ≡ suc n * stacks n = each ∙ ap (λ (k : ℕ). k * stacks n) size in
+    omega (arith, all)
+
+-- so many resources, by their numbers
+abbrev resources : ℕ → List ResNo
+resources n = map res_no (range_with_len 0 n)
+
+one_number : (a b : ℕ) → res_no a ≡ res_no b → a ≡ b
+one_number a b e = ap (λ (r : ResNo). r.0) e
+
+apart_resources : (n : ℕ) → Apart (resources n)
+apart_resources n = apart_map res_no one_number (range_with_len 0 n) (apart_range 0 n)
+
+length_resources : (n : ℕ) → length (resources n) ≡ n
+length_resources n = length-map-range_with_len res_no 0 n
+
+among_resources : (n : ℕ) (r : ResNo) → r.0 < n → Among r (resources n)
+among_resources n r lt = among_map res_no r.0 (range_with_len 0 n) (among_range 0 n r.0 (omega arith) (omega (arith, lt)))
+
+resources_among : (n : ℕ) (r : ResNo) → Among r (resources n) → r.0 < n
+resources_among n r m =
+    let back = map_among res_no r (range_with_len 0 n) m in
+    let low = range_among 0 n back.0 back.1 in
+    let same : r.0 ≡ back.0 = ap (λ (q : ResNo). q.0) back.2 in
+    omega (arith, low.1, same)
+
+-- All stacks out of so many resources.
+abbrev pub stacks_out_of : ℕ → List (List ResNo)
+stacks_out_of n = all_stacks n (resources n)
+
+pub apart_stacks_out_of : (n : ℕ) → Apart (stacks_out_of n)
+apart_stacks_out_of n = apart_stacks n (resources n) (length_resources n) (apart_resources n)
+
+pub length_stacks_out_of : (n : ℕ) → length (stacks_out_of n) ≡ stacks n
+length_stacks_out_of n = length_stacks n (resources n) (length_resources n) (apart_resources n)
+
+pub stack_out_of : (n : ℕ) (held : List ResNo) → Among held (stacks_out_of n) → IsStackOutOf n held
+stack_out_of n held m =
+    let stack = stack_there n (resources n) held m in
+    record {
+      distinct = distinct_apart same_resource resource_right held stack.apart;
+      known = All-from_recursion (λ (r : ResNo). r.0 < n) held (each_among (λ (r : ResNo). r.0 < n) held (λ r k. resources_among n r (stack.known r k)));
+    }
+
+pub out_of_stack : (n : ℕ) (held : List ResNo) → IsStackOutOf n held → Among held (stacks_out_of n)
+out_of_stack n held stack = there_stack n (resources n) held (length_resources n) (apart_resources n) (record {
+  apart = apart_distinct same_resource resource_itself held stack.distinct;
+  known = λ r m. among_resources n r (among_each (λ (q : ResNo). q.0 < n) held (recursion_from_All (λ (q : ResNo). q.0 < n) held stack.known) r m);
+})

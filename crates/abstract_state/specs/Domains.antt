@@ -1,0 +1,93 @@
+-- What the values of a set are values of, and how many these are: what bounds the growth of an entry.
+use Rattle.std.specs.Prelude.{◌≡◌, ◌↔◌, ⊤, ℕ, ◌+◌, ◌*◌, ◌<◌, ◌^◌, List, length, map, All, sum_by, Contains}
+use Rattle.std.specs.List.{IsDistinct}
+use Rattle.osek_values.specs.declared.numbers.ResNo.{ResNo}
+use Rattle.osek_standard.specs.declared.app.App.{App}
+use Rattle.osek_standard.specs.declared.objects.Task.{Task}
+use Rattle.osek_standard.specs.Apps.{the_task}
+use Rattle.osek_standard.specs.Counts.{stacks}
+use Rattle.osek_standard.specs.Validity.{IsAmong}
+use Rattle.osek_standard.specs.Well.{same_resource}
+use Rattle.abstract_state.specs.declared.value.Val.{Val}
+use Rattle.abstract_state.specs.declared.value.Val.TheVariants.{Suspended, Live, Waiting}
+use Rattle.abstract_state.specs.declared.value.Component.{Component}
+use Rattle.abstract_state.specs.declared.value.Component.TheVariants as component
+use Rattle.abstract_state.specs.declared.value.Domain.{Domain}
+use Rattle.abstract_state.specs.declared.value.Domain.TheVariants as domain
+use Rattle.abstract_state.specs.declared.value.PartValue.{PartValue}
+use Rattle.abstract_state.specs.declared.value.PartValue.TheVariants.{OfTask, OfEvent, OfAlarm}
+use Rattle.abstract_state.specs.declared.table.ValueSet.{ValueSet}
+use Rattle.abstract_state.specs.declared.table.Entry.{Entry}
+use Rattle.abstract_state.specs.Components.{components}
+use Rattle.abstract_state.specs.Tables.{same_part, set_at, IsSubset}
+
+-- distinct resources out of so many
+pub record IsStackOutOf (resources : ℕ) (stack : List ResNo) : Type 0 where
+  pub distinct : IsDistinct same_resource stack
+  pub known : All (λ (r : ResNo). r.0 < resources) stack
+
+-- what a task with these blocks can be: suspended, Live at one of them with a stack of resources, or waiting at one
+abbrev pub IsValWithin : ℕ → ℕ → ℕ → Val → Type 0
+IsValWithin first count resources Suspended = ⊤
+IsValWithin first count resources (Live b held) = IsAmong b.0 first count × IsStackOutOf resources held
+IsValWithin first count resources (Waiting b) = IsAmong b.0 first count
+
+-- A value is one of the domain's.
+abbrev pub IsWithin : Domain → PartValue → Type 0
+IsWithin (domain.Task first count resources) (OfTask v) = IsValWithin first.0 count resources v
+IsWithin domain.Event (OfEvent b) = ⊤
+IsWithin domain.Alarm (OfAlarm b) = ⊤
+IsWithin (domain.Task first count resources) (OfEvent b) = ⊥
+IsWithin (domain.Task first count resources) (OfAlarm b) = ⊥
+IsWithin domain.Event (OfTask v) = ⊥
+IsWithin domain.Event (OfAlarm b) = ⊥
+IsWithin domain.Alarm (OfTask v) = ⊥
+IsWithin domain.Alarm (OfEvent b) = ⊥
+
+-- How many values a domain has.
+abbrev pub domain_size : Domain → ℕ
+domain_size (domain.Task first count resources) = 1 + count + count * stacks resources
+domain_size domain.Event = 2
+domain_size domain.Alarm = 2
+
+-- the domain's values stand in a list, none twice, with so many members
+pub record IsCounted (d : Domain) : Type 0 where
+  pub values : List PartValue
+  pub distinct : IsDistinct same_part values
+  pub whole : (v : PartValue) → Contains values v ↔ IsWithin d v
+  pub count : length values ≡ domain_size d
+
+-- What the values of a component are values of.
+abbrev pub domain_of : App → Component → Domain
+domain_of app (component.Task t) = domain.Task (the_task app t.0).first (the_task app t.0).count (length app.resources)
+domain_of app (component.Event t k) = domain.Event
+domain_of app (component.Alarm a) = domain.Alarm
+
+abbrev pub domains_of : App → List Domain
+domains_of app = map (domain_of app) (components app)
+
+-- the domains that an entry keeps
+abbrev pub domains : Entry → List Domain
+domains entry = map (λ (set : ValueSet). set.domain) entry.sets
+
+-- each task's own event bits are below the 64th, as in a mask of the program
+abbrev pub HasMasks : App → Type 0
+HasMasks app = All (λ (x : Task). x.own.0 < 2 ^ 64) app.tasks
+
+-- How many values an entry can have.
+abbrev pub entry_height : Entry → ℕ
+entry_height entry = sum_by (λ (set : ValueSet). domain_size set.domain) entry.sets
+
+-- values of the domain, none twice
+pub record IsSound (set : ValueSet) : Type 0 where
+  pub within : All (IsWithin set.domain) set.members
+  pub distinct : IsDistinct same_part set.members
+
+-- each set is sound, and a count of 64 bits holds the number of values
+pub record IsSoundEntry (entry : Entry) : Type 0 where
+  pub sets : All IsSound entry.sets
+  pub few : entry_height entry < 2 ^ 64
+
+-- The order of entries: each set is contained in the other's.
+pub record IsBelow (entry other : Entry) : Type 0 where
+  pub each : (c : ℕ) → IsSubset (set_at entry c) (set_at other c)

@@ -1,0 +1,9 @@
+//! The worked rows of the profile, and runs of the top call over files in memory.
+#![tactic(auto)]
+
+#[cfg(test)]
+mod long_rows;
+#[cfg(test)]
+mod rows;
+#[cfg(test)]
+mod runs;

@@ -1,0 +1,137 @@
+-- One answer is due at most.
+use Rattle.std.proofs.Common.{◌≡◌, ℕ, ◌≤◌, List, [], ◌++◌, Bool, length, refl, sym, ◌∙◌, ap, subst, inl, inr, Some, None, Ok, Err, arith}
+use Rattle.std.specs.declared.option.Option.{Option}
+use Rattle.std.specs.declared.result.Result.{Result}
+use Rattle.osek_values.specs.declared.event.Event.{Event}
+use Rattle.osek_values.specs.declared.numbers.ModeNo.{ModeNo}
+use Rattle.osek_values.specs.declared.refusal.Refusal.{Refusal}
+use Rattle.osek_standard.specs.declared.app.App.{App}
+use Rattle.app_model.specs.declared.system.System.{System}
+use Rattle.front_end.specs.Texts.{DeclaresSystem, GivesApp}
+use Rattle.front_end.specs.Answers.{IsOilRefusal, IsCodeRefusal}
+use Rattle.front_end.proofs.OneAnswer.{one_oil, one_code}
+use Rattle.image_codec.specs.declared.image.Image.{Image}
+use Rattle.image_codec.specs.declared.fault.ImageFault.{ImageFault}
+use Rattle.image_codec.specs.Spelling.{spelling}
+use Rattle.image_codec.specs.ImageReading.{read_image, parts_of}
+use Rattle.image_codec.specs.ImageTrace.{has_trap}
+use Rattle.image_codec.proofs.DecodeLaws.{its_reading}
+use Rattle.image_codec.proofs.GoodOfValid.{one_spelling_holds, read_again}
+use Rattle.trace_text.specs.EventText.{read_text}
+use Rattle.osek_io.specs.Files.{Files}
+use Rattle.commands.specs.Due.{end_of, RunDue, no_mode, no_events, ends, ReplayDue, no_image, bad_image, runs, TextsDue, no_oil, bad_oil, no_code, bad_code, goes_on, IsDone, IsDue}
+use Rattle.commands.specs.Replaying.{SpellImage, IsImageFault}
+use Rattle.commands.specs.Tracing.{never}
+use Rattle.commands.specs.Words.{Command, Build, Replay, Trace}
+use Rattle.commands.specs.declared.stop.Stop.{Stop}
+use Rattle.commands.specs.declared.stop.Stop.TheVariants as stop
+
+-- the same look-up finds the same
+same_found : {X : Type 0} (o : Option X) (a b : X) → o ≡ Some a → o ≡ Some b → a ≡ b
+same_found o a b x y = let e = sym x ∙ y in cc e
+
+not_found : {X : Type 0} (o : Option X) (a : X) → o ≡ None → o ≡ Some a → ⊥
+not_found o a x y = let e = sym x ∙ y in absurd (cc e)
+
+module _ (files : Files) where
+  one_run : (app : App) (traps : ModeNo → List Event → Bool) (mode events : List ℕ) (a b : Result (Unit {0}) Stop) → RunDue files app traps mode events a → RunDue files app traps mode events b → a ≡ b
+  one_run app traps mode events _ _ (no_mode x) (no_mode y) = refl
+  one_run app traps mode events _ _ (no_mode x) (no_events m y p) = absurd (not_found _ m x y)
+  one_run app traps mode events _ _ (no_mode x) (ends m t y p) = absurd (not_found _ m x y)
+  one_run app traps mode events _ _ (no_events m x p) (no_mode y) = absurd (not_found _ m y x)
+  one_run app traps mode events _ _ (no_events m x p) (no_events n y q) = refl
+  one_run app traps mode events _ _ (no_events m x p) (ends n t y q) = absurd (not_found _ t p q)
+  one_run app traps mode events _ _ (ends m t x p) (no_mode y) = absurd (not_found _ m y x)
+  one_run app traps mode events _ _ (ends m t x p) (no_events n y q) = absurd (not_found _ t q p)
+  one_run app traps mode events _ _ (ends m t x p) (ends n u y q) =
+      let modes : m ≡ n = same_found _ m n x y in
+      let texts : t ≡ u = same_found _ t u p q in
+      (λ j. end_of (traps (modes j) (read_text app (texts j)).events) (read_text app (texts j)).fault)
+
+  same_image : (b c : List ℕ) (i j : Image) → b ≡ c → SpellImage b i → SpellImage c j → i ≡ j
+  same_image b c i j e x y = (one_spelling_holds i j [] [] x.fits y.fits (ap (λ (l : List ℕ). l ++ []) (x.spelled ∙ e ∙ sym y.spelled))).0
+
+  -- bytes that spell an image have no fault
+  no_image_fault : (b c : List ℕ) (i : Image) (f : ImageFault) → b ≡ c → SpellImage b i → IsImageFault c f → ⊥
+  no_image_fault b c i f e x (inl (over, is)) = let within = subst (λ (l : List ℕ). length l ≤ 1048576) e x.within in omega (arith, over, within)
+  no_image_fault b c i f e x (inr (within, fault)) =
+      let reads : read_image (spelling i) ≡ Ok (parts_of i) = its_reading (spelling i) (parts_of i) [] (read_again i x.fits) in
+      let faulty : read_image (spelling i) ≡ Err f = ap read_image (x.spelled ∙ e) ∙ fault in
+      let both = sym reads ∙ faulty in absurd (cc both)
+
+  same_image_fault : (b c : List ℕ) (f g : ImageFault) → b ≡ c → IsImageFault b f → IsImageFault c g → f ≡ g
+  same_image_fault b c f g e (inl (over, x)) (inl (more, y)) = x ∙ sym y
+  same_image_fault b c f g e (inl (over, x)) (inr (within, y)) = let same : length b ≡ length c = ap (λ (l : List ℕ). length l) e in absurd (omega (arith, over, within, same))
+  same_image_fault b c f g e (inr (within, x)) (inl (over, y)) = let same : length b ≡ length c = ap (λ (l : List ℕ). length l) e in absurd (omega (arith, over, within, same))
+  same_image_fault b c f g e (inr (within, x)) (inr (inside, y)) = let both = sym x ∙ ap read_image e ∙ y in cc both
+
+  one_replay : (image mode events : List ℕ) (a b : Result (Unit {0}) Stop) → ReplayDue files image mode events a → ReplayDue files image mode events b → a ≡ b
+  one_replay image mode events _ _ (no_image x) (no_image y) = refl
+  one_replay image mode events _ _ (no_image x) (bad_image b f y p) = absurd (not_found _ b x y)
+  one_replay image mode events _ _ (no_image x) (runs b i r y p d) = absurd (not_found _ b x y)
+  one_replay image mode events _ _ (bad_image b f x p) (no_image y) = absurd (not_found _ b y x)
+  one_replay image mode events _ _ (bad_image b f x p) (bad_image c g y q) = ap (λ (k : ImageFault). Err (stop.Image k)) (same_image_fault b c f g (same_found _ b c x y) p q)
+  one_replay image mode events _ _ (bad_image b f x p) (runs c i r y q d) = absurd (no_image_fault c b i f (same_found _ c b y x) q p)
+  one_replay image mode events _ _ (runs b i r x p d) (no_image y) = absurd (not_found _ b y x)
+  one_replay image mode events _ _ (runs b i r x p d) (bad_image c g y q) = absurd (no_image_fault b c i g (same_found _ b c x y) p q)
+  one_replay image mode events _ _ (runs b i r x p d) (runs c j q y s e) =
+      let images : j ≡ i = same_image c b j i (same_found _ c b y x) s p in
+      one_run i.app (has_trap i) mode events r q d (subst (λ (k : Image). RunDue files k.app (has_trap k) mode events q) images e)
+
+  -- the two texts: an answer of the OIL text, and of the code beside its system
+  same_system : (t u : List ℕ) (s r : System) → t ≡ u → DeclaresSystem t s → DeclaresSystem u r → s ≡ r
+  same_system t u s r e x y = let both = one_oil u (Ok s) (Ok r) (subst (λ (l : List ℕ). DeclaresSystem l s) e x) y in cc both
+
+  no_oil_refusal : (t u : List ℕ) (s : System) (r : Refusal) → t ≡ u → DeclaresSystem t s → IsOilRefusal u r → ⊥
+  no_oil_refusal t u s r e x y = let both = one_oil u (Ok s) (Err r) (subst (λ (l : List ℕ). DeclaresSystem l s) e x) y in absurd (cc both)
+
+  same_oil_refusal : (t u : List ℕ) (r q : Refusal) → t ≡ u → IsOilRefusal t r → IsOilRefusal u q → r ≡ q
+  same_oil_refusal t u r q e x y = let both = one_oil u (Err r) (Err q) (subst (λ (l : List ℕ). IsOilRefusal l r) e x) y in cc both
+
+  same_given : (s z : System) (t u : List ℕ) (a b : App) → s ≡ z → t ≡ u → GivesApp s t a → GivesApp z u b → a ≡ b
+  same_given s z t u a b f e x y = let both = one_code z u (Ok a) (Ok b) (subst (λ (l : List ℕ). GivesApp z l a) e (subst (λ (k : System). GivesApp k t a) f x)) y in cc both
+
+  no_code_refusal : (s z : System) (t u : List ℕ) (a : App) (r : Refusal) → s ≡ z → t ≡ u → GivesApp s t a → IsCodeRefusal z u r → ⊥
+  no_code_refusal s z t u a r f e x y = let both = one_code z u (Ok a) (Err r) (subst (λ (l : List ℕ). GivesApp z l a) e (subst (λ (k : System). GivesApp k t a) f x)) y in absurd (cc both)
+
+  same_code_refusal : (s z : System) (t u : List ℕ) (r q : Refusal) → s ≡ z → t ≡ u → IsCodeRefusal s t r → IsCodeRefusal z u q → r ≡ q
+  same_code_refusal s z t u r q f e x y = let both = one_code z u (Err r) (Err q) (subst (λ (l : List ℕ). IsCodeRefusal z l r) e (subst (λ (k : System). IsCodeRefusal k t r) f x)) y in cc both
+
+  module _ (oil code : List ℕ) (Next : App → Result (Unit {0}) Stop → Type 0) (one_next : (app : App) (a b : Result (Unit {0}) Stop) → Next app a → Next app b → a ≡ b) where
+    one_texts : (a b : Result (Unit {0}) Stop) → TextsDue files oil code Next a → TextsDue files oil code Next b → a ≡ b
+    one_texts _ _ (no_oil x) (no_oil y) = refl
+    one_texts _ _ (no_oil x) (bad_oil u q y p) = absurd (not_found _ u x y)
+    one_texts _ _ (no_oil x) (no_code u z y p m) = absurd (not_found _ u x y)
+    one_texts _ _ (no_oil x) (bad_code u z v q y p w k) = absurd (not_found _ u x y)
+    one_texts _ _ (no_oil x) (goes_on u z v b q y p w k n) = absurd (not_found _ u x y)
+    one_texts _ _ (bad_oil t r x h) (no_oil y) = absurd (not_found _ t y x)
+    one_texts _ _ (bad_oil t r x h) (bad_oil u q y p) = ap (λ (k : Refusal). Err (stop.Refused k)) (same_oil_refusal t u r q (same_found _ t u x y) h p)
+    one_texts _ _ (bad_oil t r x h) (no_code u z y p m) = absurd (no_oil_refusal u t z r (same_found _ u t y x) p h)
+    one_texts _ _ (bad_oil t r x h) (bad_code u z v q y p w k) = absurd (no_oil_refusal u t z r (same_found _ u t y x) p h)
+    one_texts _ _ (bad_oil t r x h) (goes_on u z v b q y p w k n) = absurd (no_oil_refusal u t z r (same_found _ u t y x) p h)
+    one_texts _ _ (no_code t s x h m) (no_oil y) = absurd (not_found _ t y x)
+    one_texts _ _ (no_code t s x h m) (bad_oil u q y p) = absurd (no_oil_refusal t u s q (same_found _ t u x y) h p)
+    one_texts _ _ (no_code t s x h m) (no_code u z y p n) = refl
+    one_texts _ _ (no_code t s x h m) (bad_code u z v q y p w k) = absurd (not_found _ v m w)
+    one_texts _ _ (no_code t s x h m) (goes_on u z v b q y p w k n) = absurd (not_found _ v m w)
+    one_texts _ _ (bad_code t s c r x h l g) (no_oil y) = absurd (not_found _ t y x)
+    one_texts _ _ (bad_code t s c r x h l g) (bad_oil u q y p) = absurd (no_oil_refusal t u s q (same_found _ t u x y) h p)
+    one_texts _ _ (bad_code t s c r x h l g) (no_code u z y p m) = absurd (not_found _ c m l)
+    one_texts _ _ (bad_code t s c r x h l g) (bad_code u z v q y p w k) =
+        ap (λ (k : Refusal). Err (stop.Refused k)) (same_code_refusal s z c v r q (same_system t u s z (same_found _ t u x y) h p) (same_found _ c v l w) g k)
+    one_texts _ _ (bad_code t s c r x h l g) (goes_on u z v b q y p w k n) =
+        absurd (no_code_refusal z s v c b r (same_system u t z s (same_found _ u t y x) p h) (same_found _ v c w l) k g)
+    one_texts _ _ (goes_on t s c a r x h l g d) (no_oil y) = absurd (not_found _ t y x)
+    one_texts _ _ (goes_on t s c a r x h l g d) (bad_oil u q y p) = absurd (no_oil_refusal t u s q (same_found _ t u x y) h p)
+    one_texts _ _ (goes_on t s c a r x h l g d) (no_code u z y p m) = absurd (not_found _ c m l)
+    one_texts _ _ (goes_on t s c a r x h l g d) (bad_code u z v q y p w k) =
+        absurd (no_code_refusal s z c v a q (same_system t u s z (same_found _ t u x y) h p) (same_found _ c v l w) g k)
+    one_texts _ _ (goes_on t s c a r x h l g d) (goes_on u z v b q y p w k n) =
+        let apps : b ≡ a = same_given z s v c b a (same_system u t z s (same_found _ u t y x) p h) (same_found _ v c w l) k g in
+        one_next a r q d (subst (λ (f : App). Next f q) apps n)
+
+  pub one_due : (command : Option Command) (a b : Result (Unit {0}) Stop) → IsDue files command a → IsDue files command b → a ≡ b
+  one_due None a b x y = x ∙ sym y
+  one_due (Some (Build oil code image)) a b x y = one_texts oil code IsDone (λ app a b x y. x ∙ sym y) a b x y
+  one_due (Some (Replay image mode events)) a b x y = one_replay image mode events a b x y
+  one_due (Some (Trace oil code mode events)) a b x y = one_texts oil code (λ app. RunDue files app never mode events) (λ app. one_run app never mode events) a b x y

@@ -1,0 +1,23 @@
+-- the image that was loaded runs
+use Rattle.std.proofs.Common.{Ok, Err}
+use Rattle.commands.specs.Outside.{outside}
+use Rattle.commands.proofs.Runs.{earlier, replay_runs}
+use Rattle.commands.proofs.replaying.replay.Goals as goal
+
+pub returns-in-Ok-run-clause-answer : goal.returns-in-Ok-run-clause-answer
+returns-in-Ok-run-clause-answer g c =
+    replay_runs
+    (outside (g.F.Shelf.contents c.args.shelf.now) (g.F.Shelf.read_faults c.args.shelf.now) (g.F.Shelf.write_faults c.args.shelf.now) (g.O.Sink.faults c.args.out.now) (g.O.Sink.written c.args.out.now))
+    (outside (g.F.Shelf.contents c.run.new.shelf) (g.F.Shelf.read_faults c.run.new.shelf) (g.F.Shelf.write_faults c.run.new.shelf) (g.O.Sink.faults c.run.new.out) (g.O.Sink.written c.run.new.out))
+    c.args.image.now c.args.mode.now c.args.events.now c.in-Ok.image c.in-Ok.ensures.image (Ok tt)
+    (earlier (g.F.Shelf.contents c.args.shelf.now) (g.F.Shelf.contents c.load_image.new.shelf) c.in-Ok.ensures.same_files (g.F.Shelf.read_faults c.args.shelf.now) (g.F.Shelf.read_faults c.load_image.new.shelf) c.in-Ok.ensures.never_falls
+    (g.F.Shelf.write_faults c.args.shelf.now) (g.F.Shelf.write_faults c.load_image.new.shelf) (g.O.Sink.faults c.args.out.now) (g.O.Sink.written c.args.out.now) _ _ _ _ c.args.mode.now c.args.events.now (Ok tt) c.in-Ok-run.ensures.answer)
+
+pub returns-in-Err-run-clause-answer : goal.returns-in-Err-run-clause-answer
+returns-in-Err-run-clause-answer g c =
+    replay_runs
+    (outside (g.F.Shelf.contents c.args.shelf.now) (g.F.Shelf.read_faults c.args.shelf.now) (g.F.Shelf.write_faults c.args.shelf.now) (g.O.Sink.faults c.args.out.now) (g.O.Sink.written c.args.out.now))
+    (outside (g.F.Shelf.contents c.run.new.shelf) (g.F.Shelf.read_faults c.run.new.shelf) (g.F.Shelf.write_faults c.run.new.shelf) (g.O.Sink.faults c.run.new.out) (g.O.Sink.written c.run.new.out))
+    c.args.image.now c.args.mode.now c.args.events.now c.in-Ok.image c.in-Ok.ensures.image (Err c.in-Err-run.stop)
+    (earlier (g.F.Shelf.contents c.args.shelf.now) (g.F.Shelf.contents c.load_image.new.shelf) c.in-Ok.ensures.same_files (g.F.Shelf.read_faults c.args.shelf.now) (g.F.Shelf.read_faults c.load_image.new.shelf) c.in-Ok.ensures.never_falls
+    (g.F.Shelf.write_faults c.args.shelf.now) (g.F.Shelf.write_faults c.load_image.new.shelf) (g.O.Sink.faults c.args.out.now) (g.O.Sink.written c.args.out.now) _ _ _ _ c.args.mode.now c.args.events.now (Err c.in-Err-run.stop) c.in-Err-run.ensures.answer)

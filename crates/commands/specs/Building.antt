@@ -1,0 +1,45 @@
+-- The answers of `build`, each with its cause and what it leaves.
+use Rattle.std.specs.Prelude.{◌≡◌, ℕ, List, Result, Ok, Err}
+use Rattle.osek_values.specs.declared.event.Event.{Event}
+use Rattle.osek_values.specs.declared.numbers.ModeNo.{ModeNo}
+use Rattle.osek_standard.specs.declared.app.App.{App}
+use Rattle.image_codec.specs.declared.image.Image.{Image}
+use Rattle.image_codec.specs.Spelling.{spelling}
+use Rattle.image_codec.specs.ImageTrace.{AreGeneral}
+use Rattle.image_codec.specs.Laws.{IsKernelsRun}
+use Rattle.osek_io.specs.Counts.{Rose}
+use Rattle.osek_io.specs.Files.{with_file}
+use Rattle.osek_io.specs.Stored.{StoresPart}
+use Rattle.commands.specs.Compiling.{OfApp, CompileStops}
+use Rattle.commands.specs.Outside.{Outside}
+use Rattle.commands.specs.Replaying.{SpellImage}
+use Rattle.commands.specs.declared.stop.Stop.{Stop}
+use Rattle.commands.specs.declared.stop.Stop.TheVariants as stop
+
+-- An image that is the kernel of an application: in every mode, under every list of events, its trace is the kernel's,
+-- without a trap. Its bytes are those that `replay` reads.
+pub record IsKernelImage (app : App) (i : Image) : Type 0 where
+  pub is : i.app ≡ app
+  pub general : AreGeneral i.sites
+  pub spelled : SpellImage (spelling i) i
+  pub runs : (mode : ModeNo) (events : List Event) → IsKernelsRun i mode events
+
+-- the bytes of such an image
+pub record SpellsKernelImage (app : App) (bytes : List ℕ) : Type 0 where
+  pub image : Image
+  pub kernel : IsKernelImage app image
+  pub are : bytes ≡ spelling image
+
+module _ (before after : Outside) (oil code image : List ℕ) where
+  -- the image's bytes were stored, all of them
+  abbrev pub Stores : App → Type 0
+  Stores app = (i : Image) × IsKernelImage app i × (after.files ≡ with_file before.files image (spelling i))
+
+  -- The files are as they were, or the image's holds a front of the bytes.
+  abbrev pub StoresFront : App → Type 0
+  StoresFront app = (i : Image) × IsKernelImage app i × StoresPart before.files after.files image (spelling i)
+
+  abbrev pub BuildAnswers : Result (Unit {0}) Stop → Type 0
+  BuildAnswers (Ok done) = OfApp before.files oil code Stores
+  BuildAnswers (Err stop.Unstored) = Rose before.writes after.writes × OfApp before.files oil code StoresFront
+  BuildAnswers (Err s) = CompileStops before.files before.reads after.reads oil code s × (after.files ≡ before.files)

@@ -1,0 +1,84 @@
+-- What a machine prints for the lines of an event text that are ahead, and how it ends.
+use Rattle.std.specs.Prelude.{◌≡◌, ◌⊎◌, ℕ, ◌+◌, List, [], ◌∷◌, ◌++◌, Option, Some, None, Result, Ok, Err}
+use Rattle.osek_values.specs.declared.event.Event.{Event}
+use Rattle.osek_values.specs.declared.numbers.ModeNo.{ModeNo}
+use Rattle.osek_standard.specs.declared.state.State.{State}
+use Rattle.osek_standard.specs.Dispatch.{Stepped}
+use Rattle.osek_standard.specs.Kernel.{start}
+use Rattle.osek_standard.specs.TraceText.{line_text}
+use Rattle.image_codec.specs.declared.image.Image.{Image}
+use Rattle.image_codec.specs.ImageStep.{image_step}
+use Rattle.image_codec.specs.ImageTrace.{trap_line}
+use Rattle.trace_text.specs.EventText.{numbered_lines}
+use Rattle.trace_text.specs.EventWords.{read_line}
+use Rattle.trace_text.specs.declared.fault.EventFault.{EventFault}
+use Rattle.osek_io.specs.Counts.{Rose}
+use Rattle.osek_io.specs.Pieces.{grown}
+use Rattle.commands.specs.Telling.{WritesFront}
+use Rattle.commands.specs.declared.stop.Stop.{Stop}
+use Rattle.commands.specs.declared.stop.Stop.TheVariants as stop
+
+-- what is printed, and at a stop why
+pub record Played : Type 0 where
+  pub text : List ℕ
+  pub end : Result (Unit {0}) Stop
+
+abbrev pub played : List ℕ → Result (Unit {0}) Stop → Played
+played text end = record { text = text; end = end }
+
+abbrev pub printing : List ℕ → Played → Played
+printing text p = played (text ++ p.text) p.end
+
+abbrev pub line_of : Image → ℕ → Stepped → List ℕ
+line_of i n x = line_text i.app n x ++ 10 ∷ []
+
+-- event n: its line and then the rest, or the line of a trap
+abbrev pub played_after : Image → ℕ → (State → Played) → Option Stepped → Played
+played_after i n more None = played (trap_line n) (Err stop.Trapped)
+played_after i n more (Some x) = printing (line_of i n x) (more x.state)
+
+-- a line: no event, a fault that ends all, or event n in a state, with what comes after it
+abbrev pub played_line : Image → ℕ → State → ℕ → (ℕ → State → Played) → Result (Option Event) EventFault → Played
+played_line i n s line more (Ok None) = more n s
+played_line i n s line more (Ok (Some e)) = played_after i n (more (n + 1)) (image_step i s e)
+played_line i n s line more (Err rule) = played [] (Err (stop.Events (record { line = line; rule = rule })))
+
+abbrev pub plays : Image → List (ℕ × List ℕ) → ℕ → State → Played
+plays i [] n s = played [] (Ok tt)
+plays i (line ∷ more) n s = played_line i n s line.0 (plays i more) (read_line i.app line.1)
+
+-- What playing event n answers and leaves: the line of the step, or of a trap, was printed; or a front of it, where a
+-- write failed.
+abbrev pub AnswersEvent : (faults faults_after : ℕ) → Option (List ℕ) → Option (List ℕ) → Image → ℕ → State → Option Stepped → Result (Unit {0}) Stop → Type 0
+AnswersEvent faults faults_after printed printed_after i n s None r =
+    ((r ≡ Err stop.Trapped) × (printed_after ≡ grown printed (trap_line n)))
+    ⊎ ((r ≡ Err stop.Unprinted) × Rose faults faults_after × WritesFront printed printed_after (trap_line n))
+AnswersEvent faults faults_after printed printed_after i n s (Some x) r =
+    ((r ≡ Ok tt) × (s ≡ x.state) × (printed_after ≡ grown printed (line_of i n x)))
+    ⊎ ((r ≡ Err stop.Unprinted) × Rose faults faults_after × WritesFront printed printed_after (line_of i n x))
+
+-- What playing a line answers and leaves, whatever comes after it: how many events there were next, in which state, what
+-- was printed; or an end of the play.
+pub record GoesOn (printed printed_after : Option (List ℕ)) (line : (ℕ → State → Played) → Played) (next : ℕ) (s : State) : Type 0 where
+  pub text : List ℕ
+  pub prints : printed_after ≡ grown printed text
+  pub goes_on : (more : ℕ → State → Played) → line more ≡ printing text (more next s)
+
+-- What is left of a play: all was printed, to its end, or a write failed.
+abbrev pub PlayAnswers : (faults faults_after : ℕ) → Option (List ℕ) → Option (List ℕ) → Played → Result (Unit {0}) Stop → Type 0
+PlayAnswers faults faults_after printed printed_after p r =
+    ((r ≡ p.end) × (printed_after ≡ grown printed p.text))
+    ⊎ ((r ≡ Err stop.Unprinted) × Rose faults faults_after × WritesFront printed printed_after p.text)
+
+abbrev pub AnswersLine : (faults faults_after : ℕ) → Option (List ℕ) → Option (List ℕ) → ((ℕ → State → Played) → Played) → State → Result ℕ Stop → Type 0
+AnswersLine faults faults_after printed printed_after line s (Ok next) = GoesOn printed printed_after line next s
+AnswersLine faults faults_after printed printed_after line s (Err e) = (more : ℕ → State → Played) → PlayAnswers faults faults_after printed printed_after (line more) (Err e)
+
+-- what is printed of an image from its start in a mode, under the lines of an event text
+abbrev pub whole_play : Image → ModeNo → List ℕ → Played
+whole_play i m text = printing (line_of i 0 (start i.app m)) (plays i (numbered_lines text) 1 (start i.app m).state)
+
+-- All of it was played, or nothing for want of memory.
+abbrev pub PlaysWhole : (faults faults_after : ℕ) → Option (List ℕ) → Option (List ℕ) → Image → ModeNo → List ℕ → Result (Unit {0}) Stop → Type 0
+PlaysWhole faults faults_after printed printed_after i m text r =
+    ((r ≡ Err stop.Memory) × (printed_after ≡ printed)) ⊎ PlayAnswers faults faults_after printed printed_after (whole_play i m text) r

@@ -1,0 +1,9 @@
+-- A command of the code as the definitions see it: the bytes of its words.
+use Rattle.commands.specs.Words as words
+use Rattle.commands.specs.declared.words.Command.{Command}
+use Rattle.commands.specs.declared.words.Command.TheVariants as command
+
+abbrev pub seen : Command → words.Command
+seen (command.Build oil code image) = words.Build oil.now code.now image.now
+seen (command.Replay image mode events) = words.Replay image.now mode.now events.now
+seen (command.Trace oil code mode events) = words.Trace oil.now code.now mode.now events.now

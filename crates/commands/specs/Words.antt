@@ -1,0 +1,50 @@
+-- The stated forms of the words (this project's profile).
+use Rattle.std.specs.Prelude.{ℕ, ◌==◌, ◌&&◌, Bool, false, not, List, [], ◌∷◌, Option, Some, None, if◌then◌else◌, codes}
+use Rattle.std.specs.Str.{bytes_eq}
+use Rattle.commands.specs.declared.stop.Input.{Input}
+use Rattle.commands.specs.declared.stop.Input.TheVariants.{Oil, Code, Image, Events}
+
+pub data Command : Type 0 where
+  Build : (oil code image : List ℕ) → Command
+  Replay : (image mode events : List ℕ) → Command
+  Trace : (oil code mode events : List ℕ) → Command
+
+-- neither empty nor beginning with a dash
+abbrev pub is_plain : List ℕ → Bool
+is_plain [] = false
+is_plain (c ∷ cs) = not (c == 45)
+
+abbrev pub command_of_three : List ℕ → (a b c : List ℕ) → Option Command
+command_of_three verb a b c =
+    if bytes_eq verb (codes "build") then Some (Build a b c)
+    else (if bytes_eq verb (codes "replay") then Some (Replay a b c) else None)
+
+abbrev pub command_of_four : List ℕ → (a b c d : List ℕ) → Option Command
+command_of_four verb a b c d = if bytes_eq verb (codes "trace") then Some (Trace a b c d) else None
+
+-- the first word is the program's name, and isn't looked at
+abbrev pub command_of : List (List ℕ) → Option Command
+command_of (program ∷ verb ∷ a ∷ b ∷ c ∷ []) = if is_plain a && is_plain b && is_plain c then command_of_three verb a b c else None
+command_of (program ∷ verb ∷ a ∷ b ∷ c ∷ d ∷ []) = if is_plain a && is_plain b && is_plain c && is_plain d then command_of_four verb a b c d else None
+command_of other = None
+
+-- the word that names an input of a command; empty where it has none of the kind
+abbrev pub input_name : Command → Input → List ℕ
+input_name (Build oil code image) Oil = oil
+input_name (Build oil code image) Code = code
+input_name (Build oil code image) Image = image
+input_name (Build oil code image) Events = []
+input_name (Replay image mode events) Oil = []
+input_name (Replay image mode events) Code = []
+input_name (Replay image mode events) Image = image
+input_name (Replay image mode events) Events = events
+input_name (Trace oil code mode events) Oil = oil
+input_name (Trace oil code mode events) Code = code
+input_name (Trace oil code mode events) Image = []
+input_name (Trace oil code mode events) Events = events
+
+-- the word that names the mode
+abbrev pub mode_name : Command → List ℕ
+mode_name (Build oil code image) = []
+mode_name (Replay image mode events) = mode
+mode_name (Trace oil code mode events) = mode

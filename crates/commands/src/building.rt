@@ -1,0 +1,57 @@
+//! The command `build`: the image of an application.
+ghost use Rattle.std.specs.Prelude.{ℕ, List, Option, IfOk};
+ghost use Rattle.commands.specs.Building.{BuildAnswers, IsKernelImage, SpellsKernelImage};
+ghost use Rattle.commands.specs.Outside.{outside};
+
+use crate::compiling::compile;
+use crate::ranges::read_numbers;
+use crate::stop::Stop;
+use image_codec::{Image, encode, general};
+use osek_io::{PutError, Shelf, store};
+use osek_standard::App;
+use osek_values::Memory;
+use std::alloc::Global;
+
+/// The image of an application, each of whose sites is General.
+pub fn image_of(alloc: Global, app: App) -> Result<Image, Memory>
+    ensures { IfOk result (IsKernelImage app) }
+{
+    let image = general(alloc, app)?;
+    read_numbers(&image);
+    Ok(image)
+}
+
+/// The bytes of that image.
+fn image_bytes(alloc: Global, app: App) -> Result<Vec<u8>, Memory>
+    ensures { IfOk result (λ v. SpellsKernelImage app v.items) }
+{
+    let image = image_of(alloc, app)?;
+    let bytes = encode(alloc, &image)?;
+    Ok(bytes)
+}
+
+/// Stores the image of the application that the two texts give. No file is written before the image is made.
+pub fn build<F: Shelf>(
+    alloc: Global,
+    shelf: &mut F,
+    oil: &str,
+    code: &str,
+    image: &str,
+) -> Result<(), Stop>
+    ensures answer { (faults : ℕ) (printed : Option (List ℕ)) → BuildAnswers
+        (outside (F.contents shelf.old) (F.read_faults shelf.old) (F.write_faults shelf.old) faults printed)
+        (outside (F.contents shelf.new) (F.read_faults shelf.new) (F.write_faults shelf.new) faults printed)
+        oil.now code.now image.now result }
+{
+    let bytes = match compile(alloc, shelf, oil, code) {
+        Ok(app) => image_bytes(alloc, app),
+        Err(stop) => return Err(stop),
+    };
+    let Ok(bytes) = bytes else {
+        return Err(Stop::Memory);
+    };
+    match store(shelf, image, &bytes) {
+        Ok(()) => Ok(()),
+        Err(PutError::Write) => Err(Stop::Unstored),
+    }
+}

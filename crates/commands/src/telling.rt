@@ -1,0 +1,131 @@
+//! The answer of a command: its text on err, and its status.
+ghost use Rattle.std.specs.Prelude.{◌≡◌, ◌++◌, OnOk, OnErr, option_map, codes};
+ghost use Rattle.osek_io.specs.Counts.{Rose};
+ghost use Rattle.osek_io.specs.Pieces.{grown};
+ghost use Rattle.commands.specs.Answering.{Tells};
+ghost use Rattle.commands.specs.Seen.{seen};
+ghost use Rattle.commands.specs.Statuses.{stop_status, stop_text, names_of, mode_of, text_input as the_text_input};
+ghost use Rattle.commands.specs.Telling.{WritesFront};
+
+use crate::stop::{Input, Stop};
+use crate::tell::{put_two, tell_fault};
+use crate::words::{Command, input_name, mode_name};
+use osek_io::{PutError, Sink};
+use osek_values::TextFile;
+
+/// The status where a write fails.
+const UNWRITTEN: u8 = 6;
+
+/// The status of a stop.
+fn status(stop: &Stop) -> u8
+    ensures { result ≡ stop_status stop.now }
+{
+    match stop {
+        Stop::Refused(_) => 1,
+        Stop::Usage => 2,
+        Stop::Image(_) => 3,
+        Stop::Events(_) => 4,
+        Stop::Unread(_) => 5,
+        Stop::Unstored => UNWRITTEN,
+        Stop::Unprinted => UNWRITTEN,
+        Stop::Memory => 7,
+        Stop::Trapped => 8,
+        Stop::NoMode => 9,
+    }
+}
+
+/// The input that holds a text.
+fn text_input(file: TextFile) -> Input
+    ensures { result ≡ the_text_input file }
+{
+    match file {
+        TextFile::Oil => Input::Oil,
+        TextFile::Code => Input::Code,
+    }
+}
+
+/// The word that names an input; empty where there is none.
+fn name_of<'a>(command: &Option<Command<'a>>, input: Input) -> &'a str
+    ensures { result.now ≡ names_of (option_map seen command.now) input }
+{
+    match command {
+        Some(command) => input_name(command, input),
+        None => "",
+    }
+}
+
+/// The word that names the mode; empty where there is none.
+fn mode_word<'a>(command: &Option<Command<'a>>) -> &'a str
+    ensures { result.now ≡ mode_of (option_map seen command.now) }
+{
+    match command {
+        Some(command) => mode_name(command),
+        None => "",
+    }
+}
+
+/// Tells that there is no mode of the name.
+fn tell_mode<E: Sink>(err: &mut E, command: &Option<Command<'_>>) -> Result<(), PutError>
+    ensures ok { OnOk result (E.written err.new ≡ grown (E.written err.old) (mode_of (option_map seen command.now) ++ codes ": no such mode\n")) }
+    ensures front { OnErr result (WritesFront (E.written err.old) (E.written err.new) (mode_of (option_map seen command.now) ++ codes ": no such mode\n")) }
+    ensures cause { OnErr result (Rose (E.faults err.old) (E.faults err.new)) }
+{
+    let mode = mode_word(command);
+    put_two(err, mode.as_bytes(), b": no such mode\n")?;
+    Ok(())
+}
+
+/// Tells the text of a stop.
+fn tell_stop<E: Sink>(
+    err: &mut E,
+    command: &Option<Command<'_>>,
+    stop: &Stop,
+) -> Result<(), PutError>
+    ensures ok { OnOk result (E.written err.new ≡ grown (E.written err.old) (stop_text (names_of (option_map seen command.now)) (mode_of (option_map seen command.now)) stop.now)) }
+    ensures front { OnErr result (WritesFront (E.written err.old) (E.written err.new) (stop_text (names_of (option_map seen command.now)) (mode_of (option_map seen command.now)) stop.now)) }
+    ensures cause { OnErr result (Rose (E.faults err.old) (E.faults err.new)) }
+{
+    match stop {
+        Stop::Refused(refusal) => {
+            let file = name_of(command, text_input(refusal.file));
+            tell_fault(
+                err,
+                file.as_bytes(),
+                refusal.line as u64,
+                refusal.rule.name(),
+            )?
+        }
+        Stop::Usage => put_two(err, b"usage", b"\n")?,
+        Stop::Image(fault) => {
+            let file = name_of(command, Input::Image);
+            tell_fault(err, file.as_bytes(), fault.offset as u64, fault.rule.name())?
+        }
+        Stop::Events(fault) => {
+            let file = name_of(command, Input::Events);
+            tell_fault(err, file.as_bytes(), fault.line as u64, fault.rule.name())?
+        }
+        Stop::Unread(input) => {
+            let file = name_of(command, *input);
+            put_two(err, file.as_bytes(), b": read\n")?
+        }
+        Stop::Unstored => {
+            let file = name_of(command, Input::Image);
+            put_two(err, file.as_bytes(), b": write\n")?
+        }
+        Stop::Unprinted => put_two(err, b"out", b": write\n")?,
+        Stop::Memory => put_two(err, b"memory", b"\n")?,
+        Stop::Trapped => (),
+        Stop::NoMode => tell_mode(err, command)?,
+    }
+    Ok(())
+}
+
+/// Tells why a command stopped.
+pub fn refuse<E: Sink>(err: &mut E, command: &Option<Command<'_>>, stop: &Stop) -> u8
+    ensures { Tells (E.faults err.old) (E.faults err.new) (E.written err.old) (E.written err.new) (stop_text (names_of (option_map seen command.now)) (mode_of (option_map seen command.now)) stop.now) (stop_status stop.now) result }
+{
+    match tell_stop(err, command, stop) {
+        Ok(()) => status(stop),
+        Err(PutError::Write) => UNWRITTEN,
+    }
+}

@@ -1,0 +1,114 @@
+//! The top call: the words of the command line, carried out over a shelf and two sinks.
+ghost use Rattle.std.specs.Prelude.{◌≡◌, ◌⊎◌, map, option_map, Result, Some};
+ghost use Rattle.std.specs.String.{string_bytes};
+ghost use Rattle.osek_io.specs.Counts.{Rose};
+ghost use Rattle.osek_io.specs.Files.{Files};
+ghost use Rattle.commands.specs.declared.stop.Stop.{Stop};
+ghost use Rattle.commands.specs.Due.{IsCalm, IsDue};
+ghost use Rattle.commands.specs.Statuses.{status_of};
+ghost use Rattle.commands.specs.Answering.{CommandAnswers, Does, Tells};
+ghost use Rattle.commands.specs.Outside.{outside};
+ghost use Rattle.commands.specs.Seen.{seen};
+ghost use Rattle.commands.specs.Words.{command_of};
+
+use crate::building::build;
+use crate::replaying::replay;
+use crate::stop::Stop;
+use crate::telling::refuse;
+use crate::tracing::trace;
+use crate::words::{Command, command_from};
+use osek_io::{Shelf, Sink};
+use std::alloc::Global;
+
+/// Carries out a command.
+fn carry_out<F: Shelf, O: Sink>(
+    alloc: Global,
+    command: &Command<'_>,
+    shelf: &mut F,
+    out: &mut O,
+) -> Result<(), Stop>
+    ensures { CommandAnswers
+        (outside (F.contents shelf.old) (F.read_faults shelf.old) (F.write_faults shelf.old) (O.faults out.old) (O.written out.old))
+        (outside (F.contents shelf.new) (F.read_faults shelf.new) (F.write_faults shelf.new) (O.faults out.new) (O.written out.new))
+        (Some (seen command.now)) result }
+{
+    match command {
+        Command::Build { oil, code, image } => match build(alloc, shelf, oil, code, image) {
+            Ok(()) => Ok(()),
+            Err(stop) => Err(stop),
+        },
+        Command::Replay {
+            image,
+            mode,
+            events,
+        } => match replay(alloc, shelf, out, image, mode, events) {
+            Ok(()) => Ok(()),
+            Err(stop) => Err(stop),
+        },
+        Command::Trace {
+            oil,
+            code,
+            mode,
+            events,
+        } => match trace(alloc, shelf, out, oil, code, mode, events) {
+            Ok(()) => Ok(()),
+            Err(stop) => Err(stop),
+        },
+    }
+}
+
+/// Carries out a command, if the words are one.
+fn carry_out_words<F: Shelf, O: Sink>(
+    alloc: Global,
+    command: &Option<Command<'_>>,
+    shelf: &mut F,
+    out: &mut O,
+) -> Result<(), Stop>
+    ensures { CommandAnswers
+        (outside (F.contents shelf.old) (F.read_faults shelf.old) (F.write_faults shelf.old) (O.faults out.old) (O.written out.old))
+        (outside (F.contents shelf.new) (F.read_faults shelf.new) (F.write_faults shelf.new) (O.faults out.new) (O.written out.new))
+        (option_map seen command.now) result }
+{
+    match command {
+        Some(command) => match carry_out(alloc, command, shelf, out) {
+            Ok(()) => Ok(()),
+            Err(stop) => Err(stop),
+        },
+        None => Err(Stop::Usage),
+    }
+}
+
+/// Carries out the words, of which the first is the program's name, and answers the program's status:
+/// `build OIL CODE IMAGE` stores the image of the application that an OIL text and task code give;
+/// `replay IMAGE MODE EVENTS` prints on `out` the trace of an image, from a start in a mode, under an event text;
+/// `trace OIL CODE MODE EVENTS` prints the kernel's trace of the application of the two texts.
+/// It tells on `err` why the status isn't 0.
+pub fn osekfit<F: Shelf, O: Sink, E: Sink>(
+    alloc: Global,
+    words: &[String],
+    shelf: &mut F,
+    out: &mut O,
+    err: &mut E,
+) -> u8
+    ensures does { Does (command_of (map string_bytes words.now))
+        (CommandAnswers
+        (outside (F.contents shelf.old) (F.read_faults shelf.old) (F.write_faults shelf.old) (O.faults out.old) (O.written out.old))
+        (outside (F.contents shelf.new) (F.read_faults shelf.new) (F.write_faults shelf.new) (O.faults out.new) (O.written out.new))
+        (command_of (map string_bytes words.now)))
+        (λ text status. Tells (E.faults err.old) (E.faults err.new) (E.written err.old) (E.written err.new) text status result) }
+
+    // Over files that are told, where no count of faults rose, the answer is the one that is due, or memory ran out.
+    ensures exact { (files : Files) (due : Result (Unit {0}) Stop) → F.contents shelf.old ≡ Some files
+        → IsCalm
+        (outside (F.contents shelf.old) (F.read_faults shelf.old) (F.write_faults shelf.old) (O.faults out.old) (O.written out.old))
+        (outside (F.contents shelf.new) (F.read_faults shelf.new) (F.write_faults shelf.new) (O.faults out.new) (O.written out.new))
+        → (Rose (E.faults err.old) (E.faults err.new) → ⊥)
+        → IsDue files (command_of (map string_bytes words.now)) due
+        → (result ≡ status_of due) ⊎ (result ≡ 7) }
+{
+    let command = command_from(words);
+    match carry_out_words(alloc, &command, shelf, out) {
+        Ok(()) => 0,
+        Err(stop) => refuse(err, &command, &stop),
+    }
+}

@@ -1,0 +1,127 @@
+//! Joins of sets and entries.
+ghost use Rattle.std.specs.Prelude.{◌≡◌, length, IfOk};
+ghost use Rattle.abstract_state.specs.Tables.{entry_values};
+
+use abstract_state::{Domain, Entry, PartValue, Val, ValueSet};
+use entry_lattice::Lattice;
+use osek_values::{BlockNo, Held, Memory, ResNo, Seq};
+use std::alloc::Global;
+use std::test::*;
+
+/// A task with three blocks, in an application with two resources.
+const TASK: Domain = Domain::Task {
+    first: BlockNo(0),
+    count: 3,
+    resources: 2,
+};
+
+fn live(block: u16, resource: Option<ResNo>) -> PartValue {
+    let mut held = Held::new();
+    match resource {
+        Some(taken) => held.push(taken),
+        None => {}
+    }
+    PartValue::OfTask(Val::Live {
+        block: BlockNo(block),
+        held,
+    })
+}
+
+/// The set of these blocks at which a task is Live.
+fn set_of(alloc: Global, blocks: &[u16]) -> Result<ValueSet, Memory> {
+    let mut set = ValueSet::new(alloc, TASK);
+    for block in blocks {
+        set.insert(live(*block, None))?;
+    }
+    Ok(set)
+}
+
+/// How many values are new where a set is joined into another, and how many there are then.
+fn joined(alloc: Global, blocks: &[u16], more: &[u16]) -> Result<(u64, usize), Memory> {
+    let mut set = set_of(alloc, blocks)?;
+    let other = set_of(alloc, more)?;
+    let added = set.join_into(&other)?;
+    Ok((added, set.members.len()))
+}
+
+#[test]
+fn a_join_counts_what_is_new(rt: HostRuntime) {
+    let alloc = rt.alloc();
+    assert_eq!(rt; joined(alloc, &[], &[]), Ok((0, 0)));
+    assert_eq!(rt; joined(alloc, &[], &[0, 1]), Ok((2, 2)));
+    assert_eq!(rt; joined(alloc, &[0, 1], &[1, 0]), Ok((0, 2)));
+    assert_eq!(rt; joined(alloc, &[0, 1], &[2, 1]), Ok((1, 3)));
+}
+
+/// Values that differ in a block, a resource, or what the task does there.
+fn different() -> [PartValue; 5] {
+    [
+        live(1, None),
+        live(1, Some(ResNo(0))),
+        live(2, None),
+        PartValue::OfTask(Val::Waiting(BlockNo(1))),
+        PartValue::OfTask(Val::Suspended),
+    ]
+}
+
+/// How many of these are new in the set of those before them.
+fn new_ones(alloc: Global, values: &[PartValue]) -> Result<usize, Memory> {
+    let mut set = ValueSet::new(alloc, TASK);
+    for value in values {
+        set.insert(value.copy())?;
+    }
+    Ok(set.members.len())
+}
+
+#[test]
+fn a_set_has_each_value_once(rt: HostRuntime) {
+    let values = different();
+    assert_eq!(rt; new_ones(rt.alloc(), &values), Ok(5));
+    for value in &values {
+        assert_eq!(rt; new_ones(rt.alloc(), &[value.copy(), value.copy()]), Ok(1));
+    }
+}
+
+/// An entry of an event alone, with one value.
+fn entry_of(alloc: Global, is_set: bool) -> Result<Entry, Memory>
+    ensures { IfOk result (λ e. (length e.sets ≡ 1) × (entry_values e ≡ 1)) }
+{
+    let mut set = ValueSet::new(alloc, Domain::Event);
+    set.members.push(PartValue::OfEvent(is_set))?;
+    let mut sets = Seq::new(alloc);
+    sets.push(set)?;
+    Ok(Entry { sets })
+}
+
+fn entries_joined(alloc: Global, is_set: bool, other: bool) -> Result<u64, Memory> {
+    let mut entry = entry_of(alloc, is_set)?;
+    let other = entry_of(alloc, other)?;
+    entry.join_into(&other)
+}
+
+#[test]
+fn entries_join_set_by_set(rt: HostRuntime) {
+    assert_eq!(rt; entries_joined(rt.alloc(), true, true), Ok(0));
+    assert_eq!(rt; entries_joined(rt.alloc(), true, false), Ok(1));
+}
+
+/// A join through the bound.
+fn join<L: Lattice>(value: &mut L, other: &L) -> Result<u64, Memory>
+    requires element { L.is_element value.old }
+    requires of_element { L.is_element other.now }
+    requires alike { L.alike value.old other.now }
+{
+    value.join_into(other)
+}
+
+#[test]
+fn entries_of_nothing_join(rt: HostRuntime) {
+    let alloc = rt.alloc();
+    let mut entry = Entry {
+        sets: Seq::new(alloc),
+    };
+    let other = Entry {
+        sets: Seq::new(alloc),
+    };
+    assert_eq!(rt; join(&mut entry, &other), Ok(0));
+}

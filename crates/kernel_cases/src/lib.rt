@@ -1,0 +1,20 @@
+//! Cases of the kernel, of images and of what lies outside, worked by hand: that the calls answer where memory is there,
+//! which no clause says, and what rows of the profile come to.
+#![tactic(auto)]
+
+#[cfg(test)]
+mod activation;
+#[cfg(test)]
+mod image_bytes;
+#[cfg(test)]
+mod joins;
+#[cfg(test)]
+mod kernel_runs;
+#[cfg(test)]
+mod machines;
+#[cfg(test)]
+mod points;
+#[cfg(test)]
+mod shelves_and_sinks;
+#[cfg(test)]
+mod trace_lines;

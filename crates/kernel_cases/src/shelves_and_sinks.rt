@@ -1,0 +1,267 @@
+//! What no clause says: that the calls succeed where memory is there, the scripted failures by the
+//! numbers of the calls, and the real files and streams.
+use osek_io::{
+    Failed, FileShelf, LoadError, MemShelf, MemSink, PutError, Shelf, Sink, StdSink, load, put_all,
+    store,
+};
+use osek_values::Memory;
+use std::alloc::Global;
+use std::io::{ErrorKind, Write};
+use std::test::Fail;
+use std::{env, fs, io, process};
+
+/// A call over a shelf with its answer, or what the shelf tells.
+#[derive(Clone, Copy)]
+enum Step<'a> {
+    Loads(&'a str, u64, Result<&'a [u8], LoadError>),
+    Stores(&'a str, &'a [u8], Result<(), PutError>),
+    Appends(&'a str, &'a [u8], Result<usize, Failed>),
+    Holds(&'a str, Option<&'a [u8]>),
+    Called(u64),
+}
+
+fn loads(
+    alloc: Global,
+    shelf: &mut MemShelf,
+    name: &str,
+    most: u64,
+    wanted: Result<&[u8], LoadError>,
+) -> bool {
+    match (load(alloc, shelf, name, most), wanted) {
+        (Ok(bytes), Ok(text)) => bytes.as_slice() == text,
+        (Err(one), Err(other)) => one == other,
+        _ => false,
+    }
+}
+
+fn is_so(alloc: Global, shelf: &mut MemShelf, step: Step) -> bool {
+    match step {
+        Step::Loads(name, most, wanted) => loads(alloc, shelf, name, most, wanted),
+        Step::Stores(name, bytes, wanted) => store(shelf, name, bytes) == wanted,
+        Step::Appends(name, bytes, wanted) => shelf.append(name, bytes) == wanted,
+        Step::Holds(name, wanted) => shelf.bytes(name) == wanted,
+        Step::Called(calls) => shelf.calls() == calls,
+    }
+}
+
+/// The number of the first step that isn't so.
+fn first_wrong(alloc: Global, shelf: &mut MemShelf, steps: &[Step]) -> Option<usize> {
+    for (number, step) in steps.iter().enumerate() {
+        if !is_so(alloc, shelf, *step) {
+            return Some(number);
+        }
+    }
+    None
+}
+
+/// A shelf with room for so many bytes at two names, the second of which isn't there, where these calls fail.
+fn shelf_of(alloc: Global, bytes: &[u8], room: usize, fails: &[u64]) -> Result<MemShelf, Memory> {
+    let mut shelf = MemShelf::new(alloc, Vec::from_slice(alloc, fails)?);
+    shelf.set("a", Some(bytes), room)?;
+    shelf.set("b", None, room)?;
+    Ok(shelf)
+}
+
+/// The number of the first step that isn't so over a shelf.
+fn first_wrong_over(
+    alloc: Global,
+    bytes: &[u8],
+    room: usize,
+    fails: &[u64],
+    steps: &[Step],
+) -> Result<Option<usize>, Memory> {
+    let mut shelf = shelf_of(alloc, bytes, room, fails)?;
+    Ok(first_wrong(alloc, &mut shelf, steps))
+}
+
+#[test]
+fn loads_up_to_the_limit(rt: HostRuntime) {
+    let steps = [
+        Step::Loads("a", 5, Ok(b"12345")),
+        // A piece, and its end.
+        Step::Called(2),
+        Step::Loads("a", 4, Err(LoadError::TooLong)),
+        // It isn't there.
+        Step::Loads("b", 4, Err(LoadError::Read)),
+        // The fifth call.
+        Step::Loads("a", 5, Err(LoadError::Read)),
+        Step::Loads("a", 5, Ok(b"12345")),
+    ];
+    let wrong = first_wrong_over(rt.alloc(), b"12345", 8, &[5], &steps);
+    assert_eq!(rt; wrong, Ok(None));
+}
+
+#[test]
+fn loads_a_file_of_many_pieces(rt: HostRuntime) {
+    let bytes = [7; 10_000];
+    let steps = [
+        Step::Loads("a", 10_000, Ok(&bytes)),
+        Step::Loads("a", 9_999, Err(LoadError::TooLong)),
+    ];
+    let wrong = first_wrong_over(rt.alloc(), &bytes, 0, &[], &steps);
+    assert_eq!(rt; wrong, Ok(None));
+}
+
+#[test]
+fn stores_over_pieces_and_failures(rt: HostRuntime) {
+    let steps = [
+        // Calls 1 and 2 write; call 3, a `create`, fails, and the file is as it was.
+        Step::Stores("a", b"1234", Ok(())),
+        Step::Stores("a", b"xy", Err(PutError::Write)),
+        Step::Holds("a", Some(b"1234")),
+        // Call 5 takes what fits; call 6 fails by its number, call 9 at a full room.
+        Step::Stores("a", b"12345", Err(PutError::Write)),
+        Step::Holds("a", Some(b"1234")),
+        Step::Holds("b", None),
+        Step::Stores("b", b"12345", Err(PutError::Write)),
+        Step::Holds("b", Some(b"1234")),
+        // A name without a place can't be made, and one that isn't there can't grow.
+        Step::Stores("none", b"", Err(PutError::Write)),
+        Step::Appends("none", b"x", Err(Failed)),
+        Step::Called(11),
+    ];
+    let wrong = first_wrong_over(rt.alloc(), b"old", 4, &[3, 6], &steps);
+    assert_eq!(rt; wrong, Ok(None));
+}
+
+/// A call over a sink with its answer, or what the sink tells.
+#[derive(Clone, Copy)]
+enum Put<'a> {
+    All(&'a [u8], Result<(), PutError>),
+    Once(&'a [u8], Result<usize, Failed>),
+    Holds(&'a [u8]),
+    Called(u64),
+}
+
+fn is_put(sink: &mut MemSink, put: Put) -> bool {
+    match put {
+        Put::All(bytes, wanted) => put_all(sink, bytes) == wanted,
+        Put::Once(bytes, wanted) => sink.put(bytes) == wanted,
+        Put::Holds(bytes) => sink.bytes() == bytes,
+        Put::Called(calls) => sink.calls() == calls,
+    }
+}
+
+/// The number of the first that isn't so over a sink with room for five bytes, whose second call fails.
+fn first_wrong_put(alloc: Global, puts: &[Put]) -> Result<Option<usize>, Memory> {
+    let mut sink = MemSink::new(alloc, Vec::from_slice(alloc, &[2])?, 5)?;
+    for (number, put) in puts.iter().enumerate() {
+        if !is_put(&mut sink, *put) {
+            return Ok(Some(number));
+        }
+    }
+    Ok(None)
+}
+
+#[test]
+fn puts_over_pieces_and_failures(rt: HostRuntime) {
+    let puts = [
+        Put::All(b"123", Ok(())),
+        // The second call.
+        Put::All(b"45", Err(PutError::Write)),
+        Put::Holds(b"123"),
+        // What fits, then a full room.
+        Put::All(b"456", Err(PutError::Write)),
+        Put::Holds(b"12345"),
+        // No call.
+        Put::All(b"", Ok(())),
+        // A full room takes an empty piece.
+        Put::Once(b"", Ok(0)),
+        Put::Called(5),
+    ];
+    assert_eq!(rt; first_wrong_put(rt.alloc(), &puts), Ok(None));
+}
+
+/// The path of a file that isn't there yet.
+fn a_path(rt: &HostRuntime) -> Result<String, Fail> {
+    let folder = env::temp_dir(rt)?;
+    let number = process::id(rt.process());
+    let path = format!(in rt.alloc(); "{}/osek-io-{number}", folder.display())?;
+    Ok(path)
+}
+
+/// Whether a file that isn't there is refused, made and replaced.
+fn keeps<F: Shelf>(alloc: Global, shelf: &mut F, name: &str, bytes: &[u8]) -> bool {
+    load(alloc, shelf, name, 9).err() == Some(LoadError::Read)
+        && shelf.append(name, b"x") == Err(Failed)
+        && store(shelf, name, b"older, to be replaced") == Ok(())
+        && store(shelf, name, bytes) == Ok(())
+}
+
+/// Whether the 9,000 bytes of a file are read, and are too many for a limit below.
+fn reads<F: Shelf>(alloc: Global, shelf: &mut F, name: &str, bytes: &[u8]) -> bool {
+    match (
+        load(alloc, shelf, name, 9_000),
+        load(alloc, shelf, name, 8_999),
+    ) {
+        (Ok(found), Err(error)) => found.as_slice() == bytes && error == LoadError::TooLong,
+        _ => false,
+    }
+}
+
+#[test]
+fn keeps_a_file_of_the_system(rt: HostRuntime) -> Result<(), Fail> {
+    let path = a_path(&rt)?;
+    let mut bytes = [1; 9_000];
+    bytes[5_000..].fill(2);
+    let mut shelf = FileShelf::new(&rt);
+    assert!(rt; keeps(rt.alloc(), &mut shelf, path.as_str(), &bytes));
+    assert!(rt; reads(rt.alloc(), &mut shelf, path.as_str(), &bytes));
+    fs::remove_file(&rt, path.as_str())?;
+    Ok(())
+}
+
+/// A stream that is interrupted, takes two bytes at a time, and then fails.
+#[derive(Drop)]
+struct Failing {
+    calls: u8,
+}
+
+impl Write for Failing {
+    fn write(&mut self, piece: &[u8]) -> io::Result<usize> {
+        self.calls = self.calls.saturating_add(1);
+        match self.calls {
+            1 | 3 => Err(io::Error::from(ErrorKind::Interrupted)),
+            2 | 4 => Ok(piece.len().min(2)),
+            5 => Ok(0),
+            _ => Err(io::Error::from(ErrorKind::BrokenPipe)),
+        }
+    }
+
+    fn flush(&mut self) -> io::Result<()> {
+        Ok(())
+    }
+}
+
+#[test]
+fn names_its_errors(rt: HostRuntime) -> Result<(), Fail> {
+    let alloc = rt.alloc();
+    let text = format!(in alloc;
+        "{}, {}, {}, {}, {}",
+        Failed,
+        LoadError::Read,
+        LoadError::TooLong,
+        LoadError::Memory,
+        PutError::Write
+    )?;
+    assert_eq!(rt; text.as_str(), "failed, read, too long, memory, write");
+    Ok(())
+}
+
+#[test]
+fn writes_to_a_stream(rt: HostRuntime) {
+    let mut sink = StdSink::new(Failing { calls: 0 });
+    // Two pieces, each tried twice.
+    assert_eq!(rt; put_all(&mut sink, b"123"), Ok(()));
+    // Nothing is taken; a broken pipe.
+    assert_eq!(rt; sink.put(b"4"), Err(Failed));
+    assert_eq!(rt; sink.put(b"4"), Err(Failed));
+}
+
+#[test]
+fn writes_to_the_standard_streams(rt: HostRuntime) {
+    let mut out = StdSink::new(rt.stdout());
+    assert_eq!(rt; put_all(&mut out, b"to standard output\n"), Ok(()));
+    let mut err = StdSink::new(rt.stderr());
+    assert_eq!(rt; put_all(&mut err, b"to standard error\n"), Ok(()));
+}

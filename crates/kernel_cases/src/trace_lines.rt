@@ -1,0 +1,306 @@
+//! Lines of a small application: an extended task, an ISR and a counter.
+ghost use Rattle.std.specs.Prelude.{◌≡◌, ◌≤◌, false, [], ◌∷◌, length, IsTrue, IfOk, codes};
+ghost use Rattle.osek_values.specs.Names.{is_name};
+ghost use Rattle.osek_values.specs.Numbers.{block_no, mask};
+ghost use Rattle.osek_standard.specs.Well.{Well};
+ghost use Rattle.trace_text.specs.EventText.{read_text};
+ghost use Rattle.kernel_cases.specs.Sample.{IsOfSampleSize, sample_state};
+ghost use Rattle.osek_standard.specs.declared.block.Kind.TheVariants as kind;
+ghost use Rattle.osek_standard.specs.declared.objects.Schedule.TheVariants as schedule;
+
+use osek_standard::{
+    Activity, App, Block, Counter, Isr, Kind, Processor, Resource, Schedule, Source, State, Task,
+    TaskState,
+};
+use osek_values::limits::LINE_MAX;
+use osek_values::{
+    BlockNo, CounterNo, Event, HookSet, IsrNo, Mask, Memory, ModeNo, Name, Notes, Seq, Status,
+    TaskNo, Value,
+};
+use std::alloc::Global;
+use trace_text::{EventFault, EventLine, EventLines, FaultyLine, read_event, write_line};
+
+fn name(alloc: Global, bytes: &[u8]) -> Result<Name, Memory>
+    requires { IsTrue (is_name bytes.now) }
+    ensures { IfOk result (λ n. n ≡ bytes.now) }
+{
+    Ok(Name::new(Vec::from_slice(alloc, bytes)?))
+}
+
+fn tasks(alloc: Global) -> Result<Seq<Task>, Memory>
+    ensures { IfOk result (λ x. x ≡ record { name = codes "T1"; priority = 1; schedule = schedule.Full; own = mask 1; autostart = 1; first = block_no 0; count = 1 } ∷ []) }
+{
+    let mut tasks = Seq::new(alloc);
+    tasks.push(Task {
+        name: name(alloc, b"T1")?,
+        priority: 1,
+        schedule: Schedule::Full,
+        own: Mask(1),
+        autostart: 1,
+        first: BlockNo(0),
+        count: 1,
+    })?;
+    Ok(tasks)
+}
+
+fn isrs(alloc: Global) -> Result<Seq<Isr>, Memory>
+    ensures { IfOk result (λ x. x ≡ record { name = codes "I"; first = block_no 1; count = 1 } ∷ []) }
+{
+    let mut isrs = Seq::new(alloc);
+    isrs.push(Isr {
+        name: name(alloc, b"I")?,
+        first: BlockNo(1),
+        count: 1,
+    })?;
+    Ok(isrs)
+}
+
+fn counters(alloc: Global) -> Result<Seq<Counter>, Memory>
+    ensures { IfOk result (λ x. x ≡ record { name = codes "C"; max = 9; min_cycle = 1; first = block_no 2; count = 2 } ∷ []) }
+{
+    let mut counters = Seq::new(alloc);
+    counters.push(Counter {
+        name: name(alloc, b"C")?,
+        max: 9,
+        min_cycle: 1,
+        first: BlockNo(2),
+        count: 2,
+    })?;
+    Ok(counters)
+}
+
+fn resources(alloc: Global) -> Result<Seq<Resource>, Memory>
+    ensures { IfOk result (λ x. x ≡ record { name = codes "RES_SCHEDULER"; ceiling = 3 } ∷ []) }
+{
+    let mut resources = Seq::new(alloc);
+    resources.push(Resource {
+        name: name(alloc, b"RES_SCHEDULER")?,
+        ceiling: 3,
+    })?;
+    Ok(resources)
+}
+
+fn modes(alloc: Global) -> Result<Seq<Name>, Memory>
+    ensures { IfOk result (λ x. x ≡ codes "OSDEFAULTAPPMODE" ∷ []) }
+{
+    let mut modes = Seq::new(alloc);
+    modes.push(name(alloc, b"OSDEFAULTAPPMODE")?)?;
+    Ok(modes)
+}
+
+fn block(kind: Kind, line: u32, next: u16) -> Block
+    ensures { result ≡ record { kind = kind; locked = false; line = line; next = block_no next } }
+{
+    Block {
+        kind,
+        locked: false,
+        line,
+        next: BlockNo(next),
+    }
+}
+
+fn blocks(alloc: Global) -> Result<Seq<Block>, Memory>
+    ensures { IfOk result (λ x. x
+        ≡ record { kind = kind.TaskEnd; locked = false; line = 1; next = block_no 0 }
+        ∷ record { kind = kind.IsrEnd; locked = false; line = 2; next = block_no 1 }
+        ∷ record { kind = kind.CountUp; locked = false; line = 0; next = block_no 3 }
+        ∷ record { kind = kind.IsrEnd; locked = false; line = 0; next = block_no 3 } ∷ []) }
+{
+    let mut blocks = Seq::new(alloc);
+    blocks.push(block(Kind::TaskEnd, 1, 0))?;
+    blocks.push(block(Kind::IsrEnd, 2, 1))?;
+    blocks.push(block(Kind::CountUp, 0, 3))?;
+    blocks.push(block(Kind::IsrEnd, 0, 3))?;
+    Ok(blocks)
+}
+
+fn sample(alloc: Global) -> Result<App, Memory>
+    ensures { IfOk result IsOfSampleSize }
+{
+    let tasks = tasks(alloc)?;
+    let isrs = isrs(alloc)?;
+    let counters = counters(alloc)?;
+    let resources = resources(alloc)?;
+    let modes = modes(alloc)?;
+    let blocks = blocks(alloc)?;
+    Ok(App {
+        hooks: HookSet(31),
+        tasks,
+        isrs,
+        counters,
+        alarms: Seq::new(alloc),
+        resources,
+        modes,
+        blocks,
+    })
+}
+
+/// Lines with what is read of them.
+const LINES: [(&[u8], Result<Option<Event>, EventFault>); 14] = [
+    (b"run 0", Ok(Some(Event::Run(false)))),
+    (b"\trun  1 ", Ok(Some(Event::Run(true)))),
+    (b"irq I", Ok(Some(Event::Irq(IsrNo(0))))),
+    (b"tick\tC", Ok(Some(Event::Tick(CounterNo(0))))),
+    (b"", Ok(None)),
+    (b" \t", Ok(None)),
+    (b" # run 2", Ok(None)),
+    (b"#", Ok(None)),
+    (b"run 2", Err(EventFault::E1)),
+    (b"run 0\r", Err(EventFault::E1)),
+    (b"irq", Err(EventFault::E1)),
+    (b"irq I I", Err(EventFault::E1)),
+    (b"irq C", Err(EventFault::E2)),
+    (b"tick 5", Err(EventFault::E2)),
+];
+
+/// Whether the lines are read so, and one of 256 bytes is within the limit.
+fn are_read(app: &App) -> bool {
+    for (line, want) in LINES {
+        if read_event(app, line) != want {
+            return false;
+        }
+    }
+    read_event(app, &[b'#'; 256]) == Ok(None)
+        && read_event(app, &[b'#'; 257]) == Err(EventFault::E3)
+}
+
+#[test]
+fn reads_event_lines(rt: HostRuntime) {
+    let read = sample(rt.alloc()).map(|app| are_read(&app));
+    assert_eq!(rt; read, Ok(true));
+}
+
+fn lines_are(text: &[u8], want: &[&[u8]]) -> bool
+    requires { length text.now ≤ 16777216 }
+{
+    let mut lines = EventLines::new(text);
+    for (index, bytes) in want.iter().enumerate() {
+        let Some(line) = lines.next_line() else {
+            return false;
+        };
+        if line.number as usize != index + 1 || line.bytes != *bytes {
+            return false;
+        }
+    }
+    lines.next_line().is_none()
+}
+
+#[test]
+fn parts_a_text_into_lines(rt: HostRuntime) {
+    assert!(rt; lines_are(b"", &[]));
+    assert!(rt; lines_are(b"run 0", &[b"run 0"]));
+    assert!(rt; lines_are(b"run 0\n", &[b"run 0"]));
+    assert!(rt; lines_are(b"\r\n\n", &[b"", b""]));
+    assert!(rt;
+        lines_are(
+            b"run 0\r\n# x\r\r\n\nrun 1\r",
+            &[b"run 0", b"# x\r", b"", b"run 1\r"]
+        )
+    );
+}
+
+// The first fault of a text, as a caller finds it.
+fn first_fault(app: &App, text: &[u8]) -> Option<FaultyLine>
+    requires { length text.now ≤ 16777216 }
+    ensures { result ≡ (read_text app.now text.now).fault }
+{
+    let mut lines = EventLines::new(text);
+    while let Some(line) = lines.next_line() {
+        if let Err(rule) = read_event(app, line.bytes) {
+            return Some(FaultyLine {
+                line: line.number,
+                rule,
+            });
+        }
+    }
+    None
+}
+
+/// Whether a text without a fault and one with two give what they should.
+fn are_found(app: &App) -> bool {
+    let unknown = FaultyLine {
+        line: 3,
+        rule: EventFault::E2,
+    };
+    first_fault(app, b"run 0\r\n\n# x\r\nirq I") == None
+        && first_fault(app, b"run 0\nrun 0\nirq X\nrun 2\n") == Some(unknown)
+}
+
+#[test]
+fn finds_the_first_fault(rt: HostRuntime) {
+    let found = sample(rt.alloc()).map(|app| are_found(&app));
+    assert_eq!(rt; found, Ok(true));
+}
+
+// The task is suspended, and nothing runs.
+fn idle(alloc: Global) -> Result<State, Memory>
+    ensures { IfOk result (λ s. s ≡ sample_state) }
+{
+    let mut tasks = Seq::new(alloc);
+    tasks.push(TaskState {
+        activity: Activity::Suspended,
+        events: Mask(0),
+    })?;
+    let mut counters = Seq::new(alloc);
+    counters.push(0)?;
+    let mut sources = Seq::new(alloc);
+    sources.push(Source::Out)?;
+    sources.push(Source::Out)?;
+    let mut latched = Seq::new(alloc);
+    latched.push(false)?;
+    latched.push(false)?;
+    Ok(State {
+        mode: ModeNo(0),
+        processor: Processor::Idle,
+        tasks,
+        counters,
+        alarms: Seq::new(alloc),
+        sources,
+        latched,
+    })
+}
+
+fn is_line(app: &App, n: u64, state: &State, notes: &Notes, want: &[u8]) -> bool
+    requires { Well app.now state.now }
+{
+    let mut buf = [0; LINE_MAX];
+    let length = write_line(app, n, state, notes, &mut buf);
+    &buf[..length] == want
+}
+
+/// Whether lines with nothing, with a value and with all hooks are written.
+fn are_written(app: &App, state: &State) -> bool
+    requires { Well app.now state.now }
+{
+    let nothing = Notes {
+        status: None,
+        value: None,
+        hooks: HookSet(0),
+    };
+    let events = Notes {
+        status: Some(Status::Ok),
+        value: Some(Value::Mask(Mask(0x2af0))),
+        hooks: HookSet(0),
+    };
+    let all = Notes {
+        status: Some(Status::Limit),
+        value: Some(Value::Task(Some(TaskNo(0)))),
+        hooks: HookSet(31),
+    };
+    let longest =
+        b"18446744073709551615 - T1=S !E_OS_LIMIT ^Error =T1 ^Startup ^Shutdown ^PostTask ^PreTask\n";
+    is_line(app, 0, state, &nothing, b"0 - T1=S\n")
+        && is_line(app, 12, state, &events, b"12 - T1=S !E_OK =2af0\n")
+        && is_line(app, u64::MAX, state, &all, longest)
+}
+
+fn sample_is_written(alloc: Global) -> Result<bool, Memory> {
+    let app = sample(alloc)?;
+    let state = idle(alloc)?;
+    Ok(are_written(&app, &state))
+}
+
+#[test]
+fn writes_lines(rt: HostRuntime) {
+    assert_eq!(rt; sample_is_written(rt.alloc()), Ok(true));
+}

@@ -1,5 +1,0 @@
-use Rattle.osekfit.proofs.BuiltReplays.{built_replays}
-use Rattle.osekfit.proofs.laws.what_is_built_replays.Goals as goal
-
-pub returns-clause-replays : goal.returns-clause-replays
-returns-clause-replays c = built_replays

@@ -1,8 +1,0 @@
-use Rattle.trace_text.proofs.SampleLaws.{sample_is_valid, sample_fits}
-use Rattle.trace_text.proofs.tests.sample.Goals as goal
-
-pub invariant_of-result : goal.invariant_of-result
-invariant_of-result c = record {
-  valid = rw (c.in_ok-tasks.ensures, c.new.ensures, c.in_ok-resources.ensures, c.in_ok-blocks.ensures, c.in_ok-isrs.ensures, c.in_ok-counters.ensures, c.in_ok-modes.ensures) sample_is_valid;
-  version_1 = rw c.in_ok-tasks.ensures sample_fits;
-}
