@@ -3,8 +3,8 @@ use crate::long_rows::{LONG_ROWS, LongRow, Repeated};
 use crate::rows::{Act, ROWS, Row};
 use commands::osekfit;
 use osek_io::{MemShelf, MemSink};
+use osek_values::Memory;
 use std::alloc::Global;
-use std::test::Fail;
 
 /// An image of one task, which terminates.
 const ONE_TASK: [u8; 89] = [
@@ -22,175 +22,230 @@ const ROOM: usize = 10_000;
 /// Room for an image of the most blocks.
 const LONG_ROOM: usize = 30_000;
 
-/// What the call answered and wrote.
-#[derive(Drop)]
-struct Done {
-    status: u8,
-    out: MemSink,
-    err: MemSink,
+/// What a call is to answer and to write.
+#[derive(Clone, Copy)]
+enum Wanted {
+    /// A status, and all that is written.
+    Exactly(u8, &'static str, &'static str),
+    /// A trace of so many lines, and these at their numbers, counted from 0.
+    Trace(usize, &'static [(usize, &'static str)]),
 }
 
-/// The call with these words behind the program's name.
-fn call(alloc: Global, shelf: &mut MemShelf, words: &[&str]) -> Result<Done, Fail> {
-    let mut list = Vec::new(alloc);
-    list.push(String::from_str(alloc, "osekfit")?)?;
-    for word in words {
-        list.push(String::from_str(alloc, word)?)?;
-    }
-    let mut out = MemSink::new(alloc, Vec::new(alloc), LONG_ROOM)?;
-    let mut err = MemSink::new(alloc, Vec::new(alloc), ROOM)?;
-    let status = osekfit(alloc, &list, shelf, &mut out, &mut err);
-    Ok(Done { status, out, err })
+fn is_break(byte: &u8) -> bool {
+    *byte == b'\n'
 }
 
-/// The call with these words behind the program's name, over an image `i` and an event text `e`, and no other file.
-fn run(alloc: Global, words: &[&str], image: &[u8], events: &[u8]) -> Result<Done, Fail> {
-    let mut shelf = MemShelf::new(alloc, Vec::new(alloc));
-    shelf.set("i", Some(image), 0)?;
-    shelf.set("e", Some(events), 0)?;
-    let done = call(alloc, &mut shelf, words)?;
-    Ok(done)
+fn count_of_lines(text: &[u8]) -> usize {
+    text.iter().filter(|byte| is_break(byte)).count()
 }
 
-const REPLAY: [&str; 4] = ["replay", "i", "OSDEFAULTAPPMODE", "e"];
-
-#[test]
-fn the_trace_of_a_task(rt: HostRuntime) -> Result<(), Fail> {
-    let done = run(rt.alloc(), &REPLAY, &ONE_TASK, b"run 0\n")?;
-    assert_eq!(rt; done.status, 0);
-    assert_eq!(rt; done.out.bytes(), b"0 T1 T1=R\n1 - T1=S\n".as_slice());
-    assert_eq!(rt; done.err.bytes(), b"".as_slice());
-    Ok(())
+/// Whether the line of this number is so.
+fn has_line(text: &[u8], number: usize, line: &[u8]) -> bool {
+    text.split(is_break).nth(number) == Some(line)
 }
 
-#[test]
-fn a_site_that_is_never_reached_traps(rt: HostRuntime) -> Result<(), Fail> {
-    let mut image = ONE_TASK;
-    image[79] = 0;
-    image[80] = 0;
-    let done = run(rt.alloc(), &REPLAY, &image, b"run 0\nrun 0\n")?;
-    assert_eq!(rt; done.status, 8);
-    assert_eq!(rt; done.out.bytes(), b"0 T1 T1=R\ntrap 1\n".as_slice());
-    Ok(())
-}
-
-#[test]
-fn the_event_text_is_faulty(rt: HostRuntime) -> Result<(), Fail> {
-    let done = run(rt.alloc(), &REPLAY, &ONE_TASK, b"run 2\n")?;
-    assert_eq!(rt; done.status, 4);
-    assert_eq!(rt; done.out.bytes(), b"0 T1 T1=R\n".as_slice());
-    assert_eq!(rt; done.err.bytes(), b"e:1: E1\n".as_slice());
-    Ok(())
-}
-
-#[test]
-fn words_of_no_form_are_refused(rt: HostRuntime) -> Result<(), Fail> {
-    let words = ["replay", "i", "e"];
-    let done = run(rt.alloc(), &words, &ONE_TASK, b"")?;
-    assert_eq!(rt; done.status, 2);
-    assert_eq!(rt; done.err.bytes(), b"usage\n".as_slice());
-    Ok(())
-}
-
-/// The names that `build` stores images under.
-const IMAGES: [&str; 2] = ["a.img", "x"];
-
-/// A shelf of a row's files, with places for images.
-fn shelf_of(alloc: Global, row: &Row) -> Result<MemShelf, Fail> {
-    let mut shelf = MemShelf::new(alloc, Vec::new(alloc));
-    for (name, text) in row.files {
-        shelf.set(name, Some(text.as_bytes()), 0)?;
-    }
-    for name in &IMAGES {
-        shelf.set(name, None, ROOM)?;
-    }
-    Ok(shelf)
-}
-
-fn is_done(done: &Done, status: u8, out: &str, err: &str) -> bool {
-    done.status == status
-        && done.out.bytes() == out.as_bytes()
-        && done.err.bytes() == err.as_bytes()
-}
-
-/// Whether a text has so many lines, and these at their numbers.
-fn has_lines(text: &[u8], count: usize, lines: &[(usize, &str)]) -> bool {
-    if text.iter().filter(|byte| **byte == b'\n').count() != count {
-        return false;
-    }
+/// Whether a text has these lines at their numbers.
+fn has_lines(text: &[u8], lines: &[(usize, &str)]) -> bool {
     for (number, line) in lines {
-        if text.split(|byte| *byte == b'\n').nth(*number) != Some(line.as_bytes()) {
+        if !has_line(text, *number, line.as_bytes()) {
             return false;
         }
     }
     true
 }
 
-fn is_trace(done: &Done, count: usize, lines: &[(usize, &str)]) -> bool {
-    done.status == 0 && done.err.bytes().is_empty() && has_lines(done.out.bytes(), count, lines)
+fn is_trace(text: &[u8], count: usize, lines: &[(usize, &str)]) -> bool {
+    count_of_lines(text) == count && has_lines(text, lines)
 }
 
-/// Whether the image that is built, and the texts themselves, give a trace in this mode.
-fn plays(
-    alloc: Global,
-    shelf: &mut MemShelf,
-    mode: &str,
-    count: usize,
-    lines: &[(usize, &str)],
-) -> Result<bool, Fail> {
-    let built = call(alloc, shelf, &["build", "a.oil", "a.c", "a.img"])?;
-    let replayed = call(alloc, shelf, &["replay", "a.img", mode, "e"])?;
-    let traced = call(alloc, shelf, &["trace", "a.oil", "a.c", mode, "e"])?;
-    Ok(
-        is_done(&built, 0, "", "")
-            && is_trace(&replayed, count, lines)
-            && is_trace(&traced, count, lines),
-    )
-}
-
-/// The bytes at a name, of which there are none where it isn't there.
-fn bytes_at(alloc: Global, shelf: &MemShelf, name: &str) -> Result<Vec<u8>, Fail> {
-    let bytes = match shelf.bytes(name) {
-        Some(bytes) => Vec::from_slice(alloc, bytes)?,
-        None => Vec::new(alloc),
-    };
-    Ok(bytes)
-}
-
-fn holds(alloc: Global, shelf: &mut MemShelf, act: &Act) -> Result<bool, Fail> {
-    match act {
-        Act::Run(words, status, out, err) => {
-            let done = call(alloc, shelf, words)?;
-            Ok(is_done(&done, *status, out, err))
+fn is_wanted(status: u8, out: &[u8], err: &[u8], wanted: Wanted) -> bool {
+    match wanted {
+        Wanted::Exactly(answer, text, told) => {
+            status == answer && out == text.as_bytes() && err == told.as_bytes()
         }
-        Act::Plays(mode, count, lines) => {
-            let right = plays(alloc, shelf, mode, *count, lines)?;
-            Ok(right)
-        }
-        Act::Cut(from, to, len) => {
-            let mut bytes = bytes_at(alloc, shelf, from)?;
-            bytes.truncate(*len);
-            shelf.set(to, Some(bytes.as_slice()), 0)?;
-            Ok(true)
-        }
-        Act::Add(from, to, more) => {
-            let mut bytes = bytes_at(alloc, shelf, from)?;
-            bytes.extend_from_slice(more)?;
-            shelf.set(to, Some(bytes.as_slice()), 0)?;
-            Ok(true)
+        Wanted::Trace(count, lines) => {
+            status == 0 && err.is_empty() && is_trace(out, count, lines)
         }
     }
 }
 
-/// Whether each act of a row does what the row says.
-fn row_holds(alloc: Global, row: &Row) -> Result<bool, Fail> {
-    let mut shelf = shelf_of(alloc, row)?;
-    for act in row.acts {
-        if !holds(alloc, &mut shelf, act)? {
+/// Whether the call with these words answers and writes what is wanted.
+fn answers(
+    alloc: Global,
+    shelf: &mut MemShelf,
+    words: &[String],
+    wanted: Wanted,
+) -> Result<bool, Memory> {
+    let mut out = MemSink::new(alloc, Vec::new(alloc), LONG_ROOM)?;
+    let mut err = MemSink::new(alloc, Vec::new(alloc), ROOM)?;
+    let status = osekfit(alloc, words, shelf, &mut out, &mut err);
+    Ok(is_wanted(status, out.bytes(), err.bytes(), wanted))
+}
+
+/// A word behind those of a list.
+fn add_word(alloc: Global, list: &mut Vec<String>, word: &str) -> Result<(), Memory> {
+    list.push(String::from_str(alloc, word)?)?;
+    Ok(())
+}
+
+fn add_words(alloc: Global, list: &mut Vec<String>, words: &[&str]) -> Result<(), Memory> {
+    for word in words {
+        add_word(alloc, list, word)?;
+    }
+    Ok(())
+}
+
+/// The same with these words behind the program's name.
+fn gives(
+    alloc: Global,
+    shelf: &mut MemShelf,
+    words: &[&str],
+    wanted: Wanted,
+) -> Result<bool, Memory> {
+    let mut list = Vec::new(alloc);
+    add_word(alloc, &mut list, "osekfit")?;
+    add_words(alloc, &mut list, words)?;
+    answers(alloc, shelf, &list, wanted)
+}
+
+fn put_inputs(shelf: &mut MemShelf, image: &[u8], events: &[u8]) -> Result<(), Memory> {
+    shelf.set("i", Some(image), 0)?;
+    shelf.set("e", Some(events), 0)
+}
+
+/// The same over an image `i` and an event text `e`, and no other file.
+fn run_gives(
+    alloc: Global,
+    words: &[&str],
+    image: &[u8],
+    events: &[u8],
+    wanted: Wanted,
+) -> Result<bool, Memory> {
+    let mut shelf = MemShelf::new(alloc, Vec::new(alloc));
+    put_inputs(&mut shelf, image, events)?;
+    gives(alloc, &mut shelf, words, wanted)
+}
+
+const REPLAY: [&str; 4] = ["replay", "i", "OSDEFAULTAPPMODE", "e"];
+
+#[test]
+fn the_trace_of_a_task(rt: HostRuntime) {
+    let wanted = Wanted::Exactly(0, "0 T1 T1=R\n1 - T1=S\n", "");
+    let right = run_gives(rt.alloc(), &REPLAY, &ONE_TASK, b"run 0\n", wanted);
+    assert_eq!(rt; right, Ok(true));
+}
+
+#[test]
+fn a_site_that_is_never_reached_traps(rt: HostRuntime) {
+    let mut image = ONE_TASK;
+    image[79] = 0;
+    image[80] = 0;
+    let wanted = Wanted::Exactly(8, "0 T1 T1=R\ntrap 1\n", "");
+    let right = run_gives(rt.alloc(), &REPLAY, &image, b"run 0\nrun 0\n", wanted);
+    assert_eq!(rt; right, Ok(true));
+}
+
+#[test]
+fn the_event_text_is_faulty(rt: HostRuntime) {
+    let wanted = Wanted::Exactly(4, "0 T1 T1=R\n", "e:1: E1\n");
+    let right = run_gives(rt.alloc(), &REPLAY, &ONE_TASK, b"run 2\n", wanted);
+    assert_eq!(rt; right, Ok(true));
+}
+
+#[test]
+fn words_of_no_form_are_refused(rt: HostRuntime) {
+    let words = ["replay", "i", "e"];
+    let wanted = Wanted::Exactly(2, "", "usage\n");
+    let right = run_gives(rt.alloc(), &words, &ONE_TASK, b"", wanted);
+    assert_eq!(rt; right, Ok(true));
+}
+
+/// The names that `build` stores images under.
+const IMAGES: [&str; 2] = ["a.img", "x"];
+
+fn put_files(shelf: &mut MemShelf, files: &[(&str, &str)]) -> Result<(), Memory> {
+    for (name, text) in files {
+        shelf.set(name, Some(text.as_bytes()), 0)?;
+    }
+    Ok(())
+}
+
+/// Places for images.
+fn put_places(shelf: &mut MemShelf) -> Result<(), Memory> {
+    for name in &IMAGES {
+        shelf.set(name, None, ROOM)?;
+    }
+    Ok(())
+}
+
+/// Whether the image that is built, and the texts themselves, give a trace in this mode.
+fn plays(alloc: Global, shelf: &mut MemShelf, mode: &str, trace: Wanted) -> Result<bool, Memory> {
+    let build = ["build", "a.oil", "a.c", "a.img"];
+    let built = gives(alloc, shelf, &build, Wanted::Exactly(0, "", ""))?;
+    let replayed = gives(alloc, shelf, &["replay", "a.img", mode, "e"], trace)?;
+    let traced = gives(alloc, shelf, &["trace", "a.oil", "a.c", mode, "e"], trace)?;
+    Ok(built && replayed && traced)
+}
+
+/// The bytes at a name, of which there are none where it isn't there.
+fn bytes_at(alloc: Global, shelf: &MemShelf, name: &str) -> Result<Vec<u8>, Memory> {
+    let bytes = shelf.bytes(name).unwrap_or(b"");
+    Ok(Vec::from_slice(alloc, bytes)?)
+}
+
+/// A second file of so many first bytes of a first.
+fn cut(
+    alloc: Global,
+    shelf: &mut MemShelf,
+    from: &str,
+    to: &str,
+    len: usize,
+) -> Result<(), Memory> {
+    let mut bytes = bytes_at(alloc, shelf, from)?;
+    bytes.truncate(len);
+    shelf.set(to, Some(bytes.as_slice()), 0)
+}
+
+/// A second file of a first with more bytes behind it.
+fn add(
+    alloc: Global,
+    shelf: &mut MemShelf,
+    from: &str,
+    to: &str,
+    more: &[u8],
+) -> Result<(), Memory> {
+    let mut bytes = bytes_at(alloc, shelf, from)?;
+    bytes.extend_from_slice(more)?;
+    shelf.set(to, Some(bytes.as_slice()), 0)
+}
+
+fn holds(alloc: Global, shelf: &mut MemShelf, act: &Act) -> Result<bool, Memory> {
+    match act {
+        Act::Run(words, status, out, err) => {
+            gives(alloc, shelf, words, Wanted::Exactly(*status, out, err))
+        }
+        Act::Plays(mode, count, lines) => plays(alloc, shelf, mode, Wanted::Trace(*count, lines)),
+        Act::Cut(from, to, len) => cut(alloc, shelf, from, to, *len).map(|()| true),
+        Act::Add(from, to, more) => add(alloc, shelf, from, to, more).map(|()| true),
+    }
+}
+
+/// Whether each act does what it says.
+fn all_hold(alloc: Global, shelf: &mut MemShelf, acts: &[Act]) -> Result<bool, Memory> {
+    for act in acts {
+        if !holds(alloc, shelf, act)? {
             return Ok(false);
         }
     }
     Ok(true)
+}
+
+/// The same of a row's acts, over its files and places for images.
+fn row_holds(alloc: Global, row: &Row) -> Result<bool, Memory> {
+    let mut shelf = MemShelf::new(alloc, Vec::new(alloc));
+    put_files(&mut shelf, row.files)?;
+    put_places(&mut shelf)?;
+    all_hold(alloc, &mut shelf, row.acts)
 }
 
 const LOCKED: Row = Row {
@@ -206,14 +261,12 @@ const LOCKED: Row = Row {
 };
 
 #[test]
-fn a_fault_of_the_code_is_told(rt: HostRuntime) -> Result<(), Fail> {
-    let right = row_holds(rt.alloc(), &LOCKED)?;
-    assert!(rt; right);
-    Ok(())
+fn a_fault_of_the_code_is_told(rt: HostRuntime) {
+    assert_eq!(rt; row_holds(rt.alloc(), &LOCKED), Ok(true));
 }
 
 /// The name of the first row that doesn't hold.
-fn first_wrong(alloc: Global, rows: &[Row]) -> Result<&'static str, Fail> {
+fn first_wrong(alloc: Global, rows: &[Row]) -> Result<&'static str, Memory> {
     for row in rows {
         if !row_holds(alloc, row)? {
             return Ok(row.name);
@@ -223,13 +276,11 @@ fn first_wrong(alloc: Global, rows: &[Row]) -> Result<&'static str, Fail> {
 }
 
 #[test]
-fn the_worked_rows(rt: HostRuntime) -> Result<(), Fail> {
-    let wrong = first_wrong(rt.alloc(), &ROWS)?;
-    assert_eq!(rt; wrong, "");
-    Ok(())
+fn the_worked_rows(rt: HostRuntime) {
+    assert_eq!(rt; first_wrong(rt.alloc(), &ROWS), Ok(""));
 }
 
-fn text_of(alloc: Global, text: &Repeated) -> Result<Vec<u8>, Fail> {
+fn text_of(alloc: Global, text: &Repeated) -> Result<Vec<u8>, Memory> {
     let mut bytes = Vec::from_slice(alloc, text.front.as_bytes())?;
     for _ in 0..text.times {
         bytes.extend_from_slice(text.part.as_bytes())?;
@@ -238,18 +289,27 @@ fn text_of(alloc: Global, text: &Repeated) -> Result<Vec<u8>, Fail> {
     Ok(bytes)
 }
 
-fn long_row_holds(alloc: Global, row: &LongRow) -> Result<bool, Fail> {
-    let oil = text_of(alloc, &row.oil)?;
-    let code = text_of(alloc, &row.code)?;
-    let mut shelf = MemShelf::new(alloc, Vec::new(alloc));
-    shelf.set("a.oil", Some(oil.as_slice()), 0)?;
-    shelf.set("a.c", Some(code.as_slice()), 0)?;
-    shelf.set("x", None, LONG_ROOM)?;
-    let done = call(alloc, &mut shelf, &["build", "a.oil", "a.c", "x"])?;
-    Ok(is_done(&done, row.status, "", row.err))
+/// The two texts, and a place for a long image.
+fn put_texts(shelf: &mut MemShelf, oil: &[u8], code: &[u8]) -> Result<(), Memory> {
+    shelf.set("a.oil", Some(oil), 0)?;
+    shelf.set("a.c", Some(code), 0)?;
+    shelf.set("x", None, LONG_ROOM)
 }
 
-fn first_long_wrong(alloc: Global, rows: &[LongRow]) -> Result<&'static str, Fail> {
+/// Whether a `build` of the two texts does what is wanted.
+fn build_gives(alloc: Global, oil: &[u8], code: &[u8], wanted: Wanted) -> Result<bool, Memory> {
+    let mut shelf = MemShelf::new(alloc, Vec::new(alloc));
+    put_texts(&mut shelf, oil, code)?;
+    gives(alloc, &mut shelf, &["build", "a.oil", "a.c", "x"], wanted)
+}
+
+fn long_row_holds(alloc: Global, row: &LongRow) -> Result<bool, Memory> {
+    let oil = text_of(alloc, &row.oil)?;
+    let code = text_of(alloc, &row.code)?;
+    build_gives(alloc, &oil, &code, Wanted::Exactly(row.status, "", row.err))
+}
+
+fn first_long_wrong(alloc: Global, rows: &[LongRow]) -> Result<&'static str, Memory> {
     for row in rows {
         if !long_row_holds(alloc, row)? {
             return Ok(row.name);
@@ -259,10 +319,8 @@ fn first_long_wrong(alloc: Global, rows: &[LongRow]) -> Result<&'static str, Fai
 }
 
 #[test]
-fn the_long_rows(rt: HostRuntime) -> Result<(), Fail> {
-    let wrong = first_long_wrong(rt.alloc(), &LONG_ROWS)?;
-    assert_eq!(rt; wrong, "");
-    Ok(())
+fn the_long_rows(rt: HostRuntime) {
+    assert_eq!(rt; first_long_wrong(rt.alloc(), &LONG_ROWS), Ok(""));
 }
 
 /// A task that loops for ever.
@@ -282,23 +340,34 @@ const RUNS: Repeated = Repeated {
     back: "",
 };
 
-#[test]
-fn a_loop_for_ever(rt: HostRuntime) -> Result<(), Fail> {
-    let alloc = rt.alloc();
-    let events = text_of(alloc, &RUNS)?;
+/// Lines of their trace.
+const LOOPED: [(usize, &str); 4] = [
+    (0, "0 T1 T1=R"),
+    (1, "1 T1 T1=R"),
+    (500, "500 T1 T1=R"),
+    (1_000, "1000 T1 T1=R"),
+];
+
+/// Whether the loop gives these lines over events.
+fn loop_plays(alloc: Global, events: &[u8]) -> Result<bool, Memory> {
     let mut shelf = MemShelf::new(alloc, Vec::new(alloc));
-    for (name, text) in LOOP {
-        shelf.set(name, Some(text.as_bytes()), 0)?;
-    }
-    shelf.set("e", Some(events.as_slice()), 0)?;
-    shelf.set("a.img", None, ROOM)?;
-    let lines = [
-        (0, "0 T1 T1=R"),
-        (1, "1 T1 T1=R"),
-        (500, "500 T1 T1=R"),
-        (1_000, "1000 T1 T1=R"),
-    ];
-    let right = plays(alloc, &mut shelf, "OSDEFAULTAPPMODE", 1_001, &lines)?;
-    assert!(rt; right);
-    Ok(())
+    put_files(&mut shelf, &LOOP)?;
+    put_places(&mut shelf)?;
+    shelf.set("e", Some(events), 0)?;
+    plays(
+        alloc,
+        &mut shelf,
+        "OSDEFAULTAPPMODE",
+        Wanted::Trace(1_001, &LOOPED),
+    )
+}
+
+fn loops(alloc: Global) -> Result<bool, Memory> {
+    let events = text_of(alloc, &RUNS)?;
+    loop_plays(alloc, &events)
+}
+
+#[test]
+fn a_loop_for_ever(rt: HostRuntime) {
+    assert_eq!(rt; loops(rt.alloc()), Ok(true));
 }

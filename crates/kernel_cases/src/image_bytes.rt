@@ -35,29 +35,35 @@ const FIELDS: [usize; 51] = [
     125, 127, 129, 130, 131, 135, 137,
 ];
 
-/// The fault of bytes that are no image.
-fn fault_of(alloc: Global, bytes: &[u8]) -> Option<(ImageRule, usize)> {
-    match decode(alloc, bytes) {
-        Err(ImageError::Fault(fault)) => Some((fault.rule, fault.offset)),
-        Err(ImageError::Memory) | Ok(_) => None,
+fn rule_and_place(error: ImageError) -> Option<(ImageRule, usize)> {
+    match error {
+        ImageError::Fault(fault) => Some((fault.rule, fault.offset)),
+        ImageError::Memory => None,
     }
 }
 
-/// The fault of the two tasks' image with one byte changed.
-fn changed(alloc: Global, at: usize, byte: u8) -> Option<(ImageRule, usize)> {
+/// The fault of bytes that are no image.
+fn fault_of(alloc: Global, bytes: &[u8]) -> Option<(ImageRule, usize)> {
+    rule_and_place(decode(alloc, bytes).err()?)
+}
+
+/// Whether bytes have this fault.
+fn is_fault(alloc: Global, bytes: &[u8], rule: ImageRule, offset: usize) -> bool {
+    fault_of(alloc, bytes) == Some((rule, offset))
+}
+
+/// The two tasks' image with one byte changed.
+fn changed(at: usize, byte: u8) -> [u8; 137] {
     let mut bytes = TWO_TASKS;
     if at < 137 {
         bytes[at] = byte;
     }
-    fault_of(alloc, &bytes)
+    bytes
 }
 
 /// Whether the bytes are the image's.
 fn spells(alloc: Global, image: &Image, bytes: &[u8]) -> bool {
-    match encode(alloc, image) {
-        Ok(found) => found.as_slice() == bytes,
-        Err(_) => false,
-    }
+    encode(alloc, image).is_ok_and(|found| found.as_slice() == bytes)
 }
 
 fn is_first_task(task: &Task) -> bool {
@@ -84,15 +90,19 @@ fn has_forms(image: &Image, forms: &[Form]) -> bool {
         })
 }
 
+/// Whether bytes are an image that is so, and are what it is spelled with.
+fn reads<T: Fn(&Image) -> bool>(alloc: Global, bytes: &[u8], is_so: T) -> bool
+    requires { T.IsAlwaysCallable is_so }
+{
+    match decode(alloc, bytes) {
+        Ok(image) => is_so(&image) && spells(alloc, &image, bytes),
+        Err(_) => false,
+    }
+}
+
 #[test]
 fn one_task(rt: HostRuntime) {
-    match decode(rt.alloc(), &ONE_TASK) {
-        Ok(image) => {
-            assert!(rt; is_of_one_task(&image));
-            assert!(rt; spells(rt.alloc(), &image, &ONE_TASK));
-        }
-        Err(_) => assert!(rt; false),
-    }
+    assert!(rt; reads(rt.alloc(), &ONE_TASK, is_of_one_task));
 }
 
 /// What the blocks of two tasks do.
@@ -118,24 +128,12 @@ fn is_of_two_tasks(image: &Image) -> bool {
 
 #[test]
 fn two_tasks(rt: HostRuntime) {
-    match decode(rt.alloc(), &TWO_TASKS) {
-        Ok(image) => {
-            assert!(rt; is_of_two_tasks(&image));
-            assert!(rt; spells(rt.alloc(), &image, &TWO_TASKS));
-        }
-        Err(_) => assert!(rt; false),
-    }
+    assert!(rt; reads(rt.alloc(), &TWO_TASKS, is_of_two_tasks));
 }
 
-/// The image of one task, and then with general forms.
-fn made_general(alloc: Global, bytes: &[u8]) -> Option<Image> {
-    match decode(alloc, bytes) {
-        Ok(image) => match general(alloc, image.app) {
-            Ok(image) => Some(image),
-            Err(_) => None,
-        },
-        Err(_) => None,
-    }
+/// An image with general forms in place of its own.
+fn made_general(alloc: Global, image: Image) -> Option<Image> {
+    general(alloc, image.app).ok()
 }
 
 /// Whether the first block has no form, and the second the general one.
@@ -145,6 +143,21 @@ fn is_general_behind_work(image: &Image) -> bool {
         && form(image, BlockNo(1)) == Some(Form::General)
 }
 
+fn is_so_made_general(alloc: Global, image: Image) -> bool {
+    match made_general(alloc, image) {
+        Some(image) => is_general_behind_work(&image),
+        None => false,
+    }
+}
+
+/// The same of bytes.
+fn are_so_made_general(alloc: Global, bytes: &[u8]) -> bool {
+    match decode(alloc, bytes) {
+        Ok(image) => is_so_made_general(alloc, image),
+        Err(_) => false,
+    }
+}
+
 #[test]
 fn general_forms(rt: HostRuntime) {
     // TerminateTask made `work 1`, which is no site: its next block is the operand, and its form the next block
@@ -152,83 +165,105 @@ fn general_forms(rt: HostRuntime) {
     bytes[71] = 0;
     bytes[79] = 0;
     bytes[80] = 1;
-    match made_general(rt.alloc(), &bytes) {
-        Some(image) => assert!(rt; is_general_behind_work(&image)),
-        None => assert!(rt; false),
+    assert!(rt; are_so_made_general(rt.alloc(), &bytes));
+}
+
+/// Whether the first bytes of the two tasks' image, so many, end early in this field.
+fn is_cut(alloc: Global, len: usize, field: usize) -> bool {
+    match TWO_TASKS.get(..len) {
+        Some(bytes) => is_fault(alloc, bytes, ImageRule::I1, field),
+        None => false,
     }
 }
 
-#[test]
-fn cut_at_each_length(rt: HostRuntime) {
-    let alloc = rt.alloc();
+/// The first length that the two tasks' image isn't rightly cut to.
+fn first_wrong_cut(alloc: Global) -> Option<usize> {
     let mut field = 0;
     for len in 0..137usize {
         if FIELDS.contains(&len) {
             field = len;
         }
-        assert_eq!(rt;
-            fault_of(alloc, &TWO_TASKS[..len]),
-            Some((ImageRule::I1, field)),
-            "cut to {len}"
-        );
+        if !is_cut(alloc, len, field) {
+            return Some(len);
+        }
     }
+    None
+}
+
+#[test]
+fn cut_at_each_length(rt: HostRuntime) {
+    assert_eq!(rt; first_wrong_cut(rt.alloc()), None);
+}
+
+/// The two tasks' image with a byte behind it.
+fn longer() -> [u8; 138] {
+    let mut bytes = [0; 138];
+    bytes[..137].copy_from_slice(&TWO_TASKS);
+    bytes
 }
 
 #[test]
 fn a_byte_after_the_end(rt: HostRuntime) {
-    let mut longer = [0; 138];
-    longer[..137].copy_from_slice(&TWO_TASKS);
-    assert_eq!(rt; fault_of(rt.alloc(), &longer), Some((ImageRule::I6, 137)));
+    assert!(rt; is_fault(rt.alloc(), &longer(), ImageRule::I6, 137));
+}
+
+/// A byte of the two tasks' image at an offset, and the fault with it: its rule and its offset.
+const HOSTILE: [(&str, usize, u8, ImageRule, usize); 18] = [
+    ("no magic", 0, 0x4e, ImageRule::I2, 0),
+    ("another version", 7, 2, ImageRule::I2, 0),
+    ("a sixth hook", 8, 32, ImageRule::I3, 8),
+    ("seventeen tasks", 9, 17, ImageRule::I3, 9),
+    ("no mode", 14, 0, ImageRule::I3, 14),
+    ("a name of no byte", 17, 0, ImageRule::I4, 17),
+    (
+        "a name that begins with a digit",
+        18,
+        0x31,
+        ImageRule::I4,
+        17,
+    ),
+    ("one name twice", 38, 0x31, ImageRule::I4, 36),
+    ("one priority twice", 40, 1, ImageRule::I5, 39),
+    (
+        "an owner that takes a block of a later one",
+        35,
+        4,
+        ImageRule::I5,
+        53,
+    ),
+    (
+        "an owner whose last block is no end",
+        35,
+        2,
+        ImageRule::I5,
+        101,
+    ),
+    ("an owner of no block", 35, 0, ImageRule::I3, 34),
+    ("a kind above 25", 90, 26, ImageRule::I3, 90),
+    ("IsrEnd in a task", 90, 23, ImageRule::I5, 90),
+    ("a task beyond the tasks", 96, 2, ImageRule::I3, 96),
+    ("a way out of the owner", 98, 3, ImageRule::I5, 97),
+    (
+        "a form for a task beyond the tasks",
+        100,
+        2,
+        ImageRule::I3,
+        99,
+    ),
+    ("a form above General", 99, 4, ImageRule::I3, 99),
+];
+
+/// The name of the first that gives another fault, or none.
+fn first_wrong_byte(alloc: Global) -> Option<&'static str> {
+    for (name, at, byte, rule, offset) in HOSTILE {
+        if !is_fault(alloc, &changed(at, byte), rule, offset) {
+            return Some(name);
+        }
+    }
+    None
 }
 
 #[test]
 fn hostile_bytes(rt: HostRuntime) {
-    let alloc = rt.alloc();
-    let cases = [
-        ("no magic", 0, 0x4e, ImageRule::I2, 0),
-        ("another version", 7, 2, ImageRule::I2, 0),
-        ("a sixth hook", 8, 32, ImageRule::I3, 8),
-        ("seventeen tasks", 9, 17, ImageRule::I3, 9),
-        ("no mode", 14, 0, ImageRule::I3, 14),
-        ("a name of no byte", 17, 0, ImageRule::I4, 17),
-        (
-            "a name that begins with a digit",
-            18,
-            0x31,
-            ImageRule::I4,
-            17,
-        ),
-        ("one name twice", 38, 0x31, ImageRule::I4, 36),
-        ("one priority twice", 40, 1, ImageRule::I5, 39),
-        (
-            "an owner that takes a block of a later one",
-            35,
-            4,
-            ImageRule::I5,
-            53,
-        ),
-        (
-            "an owner whose last block is no end",
-            35,
-            2,
-            ImageRule::I5,
-            101,
-        ),
-        ("an owner of no block", 35, 0, ImageRule::I3, 34),
-        ("a kind above 25", 90, 26, ImageRule::I3, 90),
-        ("IsrEnd in a task", 90, 23, ImageRule::I5, 90),
-        ("a task beyond the tasks", 96, 2, ImageRule::I3, 96),
-        ("a way out of the owner", 98, 3, ImageRule::I5, 97),
-        (
-            "a form for a task beyond the tasks",
-            100,
-            2,
-            ImageRule::I3,
-            99,
-        ),
-        ("a form above General", 99, 4, ImageRule::I3, 99),
-    ];
-    for (what, at, byte, rule, offset) in cases {
-        assert_eq!(rt; changed(alloc, at, byte), Some((rule, offset)), "{what}");
-    }
+    assert_eq!(rt; first_wrong_byte(rt.alloc()), None);
 }

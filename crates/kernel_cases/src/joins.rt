@@ -44,13 +44,27 @@ fn joined(alloc: Global, blocks: &[u16], more: &[u16]) -> Result<(u64, usize), M
     Ok((added, set.members.len()))
 }
 
+/// Two sets' blocks, how many of the second's values are new where it is joined into the first, and how many there are then.
+const JOINS: [(&[u16], &[u16], u64, usize); 4] = [
+    (&[], &[], 0, 0),
+    (&[], &[0, 1], 2, 2),
+    (&[0, 1], &[1, 0], 0, 2),
+    (&[0, 1], &[2, 1], 1, 3),
+];
+
+/// The number of the first join that gives other counts.
+fn first_wrong_join(alloc: Global) -> Option<usize> {
+    for (number, (blocks, more, added, members)) in JOINS.iter().enumerate() {
+        if joined(alloc, blocks, more) != Ok((*added, *members)) {
+            return Some(number);
+        }
+    }
+    None
+}
+
 #[test]
 fn a_join_counts_what_is_new(rt: HostRuntime) {
-    let alloc = rt.alloc();
-    assert_eq!(rt; joined(alloc, &[], &[]), Ok((0, 0)));
-    assert_eq!(rt; joined(alloc, &[], &[0, 1]), Ok((2, 2)));
-    assert_eq!(rt; joined(alloc, &[0, 1], &[1, 0]), Ok((0, 2)));
-    assert_eq!(rt; joined(alloc, &[0, 1], &[2, 1]), Ok((1, 3)));
+    assert_eq!(rt; first_wrong_join(rt.alloc()), None);
 }
 
 /// Values that differ in a block, a resource, or what the task does there.
@@ -73,13 +87,24 @@ fn new_ones(alloc: Global, values: &[PartValue]) -> Result<usize, Memory> {
     Ok(set.members.len())
 }
 
+/// Whether a value is new once where it is put into a set twice.
+fn is_new_once(alloc: Global, value: &PartValue) -> bool {
+    new_ones(alloc, &[value.copy(), value.copy()]) == Ok(1)
+}
+
+/// Whether different values are new each, and each of them is new once.
+fn are_new_once(alloc: Global, values: &[PartValue]) -> bool {
+    for value in values {
+        if !is_new_once(alloc, value) {
+            return false;
+        }
+    }
+    new_ones(alloc, values) == Ok(5)
+}
+
 #[test]
 fn a_set_has_each_value_once(rt: HostRuntime) {
-    let values = different();
-    assert_eq!(rt; new_ones(rt.alloc(), &values), Ok(5));
-    for value in &values {
-        assert_eq!(rt; new_ones(rt.alloc(), &[value.copy(), value.copy()]), Ok(1));
-    }
+    assert!(rt; are_new_once(rt.alloc(), &different()));
 }
 
 /// An entry of an event alone, with one value.
@@ -114,14 +139,18 @@ fn join<L: Lattice>(value: &mut L, other: &L) -> Result<u64, Memory>
     value.join_into(other)
 }
 
-#[test]
-fn entries_of_nothing_join(rt: HostRuntime) {
-    let alloc = rt.alloc();
+/// How many values are new where an entry of nothing is joined into another.
+fn nothing_joined(alloc: Global) -> Result<u64, Memory> {
     let mut entry = Entry {
         sets: Seq::new(alloc),
     };
     let other = Entry {
         sets: Seq::new(alloc),
     };
-    assert_eq!(rt; join(&mut entry, &other), Ok(0));
+    join(&mut entry, &other)
+}
+
+#[test]
+fn entries_of_nothing_join(rt: HostRuntime) {
+    assert_eq!(rt; nothing_joined(rt.alloc()), Ok(0));
 }

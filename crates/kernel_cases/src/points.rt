@@ -10,8 +10,23 @@ fn over(block: u16, task: Option<TaskNo>) -> Point {
     }
 }
 
+/// Whether a point is before another, which is neither before it nor before itself.
+fn are_in_order(one: Point, other: Point) -> bool {
+    one.is_before(other) && !other.is_before(one) && !other.is_before(other)
+}
+
+/// The number of the first that doesn't come behind the one before it.
+fn first_wrong(points: &[Point]) -> Option<usize> {
+    for number in 1..points.len() {
+        if !are_in_order(points[number - 1], points[number]) {
+            return Some(number);
+        }
+    }
+    None
+}
+
 #[test]
-fn points_in_order(rt: HostRuntime) -> Result<(), Fail> {
+fn points_in_order(rt: HostRuntime) {
     let points = [
         Point::Halted,
         Point::Idle,
@@ -23,17 +38,11 @@ fn points_in_order(rt: HostRuntime) -> Result<(), Fail> {
         over(3, None),
         Point::Task(BlockNo(65_535)),
     ];
-    for i in 1..points.len() {
-        assert!(rt; points[i - 1].is_before(points[i]));
-        assert!(rt; !points[i].is_before(points[i - 1]));
-        assert!(rt; !points[i].is_before(points[i]));
-    }
-    Ok(())
+    assert_eq!(rt; first_wrong(&points), None);
 }
 
 #[test]
-fn the_last_point_has_the_greatest_number(rt: HostRuntime) -> Result<(), Fail> {
+fn the_last_point_has_the_greatest_number(rt: HostRuntime) {
     assert_eq!(rt; over(65_535, Some(TaskNo(255))).number(), 16_842_753);
     assert_eq!(rt; Point::Idle.number(), 1);
-    Ok(())
 }

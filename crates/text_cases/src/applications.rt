@@ -1,13 +1,17 @@
 //! Texts with their application, and with their least fault.
+ghost use Rattle.std.specs.Prelude.{IfSome};
+ghost use Rattle.oil_model.specs.Linkable.{IsLinkable};
+ghost use Rattle.task_code.specs.Fit.{AreFit};
+
+use app_model::System;
 use block_graph::{LinkError, link, one_answer};
 use oil_lexer::tokens;
 use oil_model::resolve;
 use oil_tree::parse;
-use osek_standard::{App, Block, Kind, Lock};
+use osek_standard::{App, Block, Counter, Isr, Kind, Lock, Task};
 use osek_values::{AlarmNo, BlockNo, CodeRule, Mask, TaskNo};
-use std::alloc::Global;
-use std::test::Fail;
-use task_code::parse_code;
+use std::alloc::{AllocError, Global};
+use task_code::{Code, parse_code};
 
 /// What comes of an OIL text and a code text.
 #[derive(Clone, Copy, Debug, PartialEq, Eq)]
@@ -19,23 +23,35 @@ enum Outcome {
     Nothing,
 }
 
+fn system_of(alloc: Global, oil: &[u8]) -> Option<System>
+    ensures { IfSome result IsLinkable }
+{
+    let Ok(tokens) = tokens(alloc, oil) else {
+        return None;
+    };
+    match parse(alloc, tokens.as_slice()) {
+        Ok(tree) => resolve(alloc, &tree).ok(),
+        Err(_) => None,
+    }
+}
+
+fn code_of(alloc: Global, text: &[u8]) -> Option<Code>
+    ensures { IfSome result AreFit }
+{
+    match tokens(alloc, text) {
+        Ok(tokens) => parse_code(alloc, tokens.as_slice()).ok(),
+        Err(_) => None,
+    }
+}
+
 fn linked(alloc: Global, oil: &[u8], text: &[u8]) -> Result<App, LinkError> {
-    let Ok(oil_tokens) = tokens(alloc, oil) else {
+    let Some(code) = code_of(alloc, text) else {
         return Err(LinkError::Memory);
     };
-    let Ok(tree) = parse(alloc, oil_tokens.as_slice()) else {
-        return Err(LinkError::Memory);
-    };
-    let Ok(system) = resolve(alloc, &tree) else {
-        return Err(LinkError::Memory);
-    };
-    let Ok(code_tokens) = tokens(alloc, text) else {
-        return Err(LinkError::Memory);
-    };
-    let Ok(code) = parse_code(alloc, code_tokens.as_slice()) else {
-        return Err(LinkError::Memory);
-    };
-    link(alloc, system, &code)
+    match system_of(alloc, oil) {
+        Some(system) => link(alloc, system, &code),
+        None => Err(LinkError::Memory),
+    }
 }
 
 fn outcome_of(alloc: Global, oil: &[u8], text: &[u8]) -> Outcome {
@@ -64,15 +80,16 @@ fn under_lock(kind: Kind, line: u32, next: u16) -> Block {
     }
 }
 
-#[test]
-fn tasks_in_the_order_of_the_text(rt: HostRuntime) {
-    let alloc = rt.alloc();
-    let oil = b"CPU c { OS os; TASK T1 { PRIORITY = 1; }; TASK T2 { PRIORITY = 2; }; };";
-    let text = b"TASK(T2) { ActivateTask(T1);\n TerminateTask(); }\nTASK(T1) { TerminateTask();\n}";
-    let Ok(app) = linked(alloc, oil.as_slice(), text.as_slice()) else {
-        assert!(rt; false);
-        return;
-    };
+fn are_two_tasks(tasks: &[Task]) -> bool {
+    tasks.len() == 2
+        && tasks[0].first == BlockNo(3)
+        && tasks[0].count == 2
+        && tasks[1].first == BlockNo(0)
+        && tasks[1].count == 3
+}
+
+/// The blocks of T2, whose code comes first, and then those of T1.
+fn second_before_first(app: &App) -> bool {
     let wanted = [
         block(Kind::ActivateTask(TaskNo(0)), 1, 1),
         block(Kind::TerminateTask, 2, 2),
@@ -80,24 +97,19 @@ fn tasks_in_the_order_of_the_text(rt: HostRuntime) {
         block(Kind::TerminateTask, 3, 4),
         block(Kind::TaskEnd, 4, 4),
     ];
-    assert!(rt; app.blocks.as_slice() == wanted.as_slice());
-    let tasks = app.tasks.as_slice();
-    assert!(rt; tasks.len() == 2);
-    assert!(rt; tasks[0].first == BlockNo(3) && tasks[0].count == 2);
-    assert!(rt; tasks[1].first == BlockNo(0) && tasks[1].count == 3);
-    one_answer();
+    app.blocks.as_slice() == wanted.as_slice() && are_two_tasks(app.tasks.as_slice())
 }
 
 #[test]
-fn branches_and_loops(rt: HostRuntime) {
-    let alloc = rt.alloc();
-    let oil = b"CPU c { OS os; TASK T { PRIORITY = 1; }; };";
-    let text =
-        b"TASK(T) {\nif (?) { work 1; } else { }\nif (?) { } else { work 2; }\nwhile (?) { }\nwhile (?) { if (?) { } }\nwhile (1) { Schedule(); }\n}";
-    let Ok(app) = linked(alloc, oil.as_slice(), text.as_slice()) else {
-        assert!(rt; false);
-        return;
-    };
+fn tasks_in_the_order_of_the_text(rt: HostRuntime) {
+    let oil = b"CPU c { OS os; TASK T1 { PRIORITY = 1; }; TASK T2 { PRIORITY = 2; }; };";
+    let text = b"TASK(T2) { ActivateTask(T1);\n TerminateTask(); }\nTASK(T1) { TerminateTask();\n}";
+    let right = linked(rt.alloc(), oil, text).is_ok_and(|app| second_before_first(&app));
+    assert!(rt; right);
+    one_answer();
+}
+
+fn branches_and_loops_lead(app: &App) -> bool {
     let wanted = [
         block(Kind::Choice(BlockNo(2)), 2, 1),
         block(Kind::Work(1), 2, 2),
@@ -110,20 +122,28 @@ fn branches_and_loops(rt: HostRuntime) {
         block(Kind::Schedule, 6, 7),
         block(Kind::TaskEnd, 7, 9),
     ];
-    assert!(rt; app.blocks.as_slice() == wanted.as_slice());
+    app.blocks.as_slice() == wanted.as_slice()
 }
 
 #[test]
-fn locks_masks_and_ticks(rt: HostRuntime) {
-    let alloc = rt.alloc();
-    let oil =
-        b"CPU c { OS os; EVENT E1; EVENT E2; EVENT E3; TASK T { PRIORITY = 1; EVENT = E1; EVENT = E2; EVENT = E3; }; ISR I { CATEGORY = 2; }; COUNTER C { MAXALLOWEDVALUE = 9; }; COUNTER D { MAXALLOWEDVALUE = 9; }; ALARM A { COUNTER = D; ACTION = ACTIVATETASK { TASK = T; }; }; ALARM B { COUNTER = C; ACTION = ACTIVATETASK { TASK = T; }; }; };";
+fn branches_and_loops(rt: HostRuntime) {
+    let oil = b"CPU c { OS os; TASK T { PRIORITY = 1; }; };";
     let text =
-        b"ISR(I) {\nSuspendAllInterrupts();\nwork 3;\nResumeAllInterrupts();\nSetEvent(T, E1 | E3);\nCancelAlarm(B);\n}\nTASK(T) { }";
-    let Ok(app) = linked(alloc, oil.as_slice(), text.as_slice()) else {
-        assert!(rt; false);
-        return;
-    };
+        b"TASK(T) {\nif (?) { work 1; } else { }\nif (?) { } else { work 2; }\nwhile (?) { }\nwhile (?) { if (?) { } }\nwhile (1) { Schedule(); }\n}";
+    let right = linked(rt.alloc(), oil, text).is_ok_and(|app| branches_and_loops_lead(&app));
+    assert!(rt; right);
+}
+
+fn are_counters(counters: &[Counter]) -> bool {
+    counters.len() == 2 && counters[1].first == BlockNo(10) && counters[1].count == 3
+}
+
+fn is_one_isr(isrs: &[Isr]) -> bool {
+    isrs.len() == 1 && isrs[0].first == BlockNo(0) && isrs[0].count == 6
+}
+
+/// An ISR's blocks, the task's, and the ticks of C and D.
+fn locks_and_ticks_stand(app: &App) -> bool {
     let wanted = [
         block(Kind::LockCall(Lock::SuspendAll), 2, 1),
         under_lock(Kind::Work(3), 3, 2),
@@ -132,7 +152,6 @@ fn locks_masks_and_ticks(rt: HostRuntime) {
         block(Kind::CancelAlarm(AlarmNo(1)), 6, 5),
         block(Kind::IsrEnd, 7, 5),
         block(Kind::TaskEnd, 8, 6),
-        // the ticks of C and D
         block(Kind::CountUp, 0, 8),
         block(Kind::Expire(AlarmNo(1)), 0, 9),
         block(Kind::IsrEnd, 0, 9),
@@ -140,83 +159,92 @@ fn locks_masks_and_ticks(rt: HostRuntime) {
         block(Kind::Expire(AlarmNo(0)), 0, 12),
         block(Kind::IsrEnd, 0, 12),
     ];
-    assert!(rt; app.blocks.as_slice() == wanted.as_slice());
-    let counters = app.counters.as_slice();
-    assert!(rt; counters.len() == 2);
-    assert!(rt; counters[1].first == BlockNo(10) && counters[1].count == 3);
-    let isrs = app.isrs.as_slice();
-    assert!(rt; isrs.len() == 1);
-    assert!(rt; isrs[0].first == BlockNo(0) && isrs[0].count == 6);
+    app.blocks.as_slice() == wanted.as_slice()
+        && are_counters(app.counters.as_slice())
+        && is_one_isr(app.isrs.as_slice())
 }
 
 #[test]
-fn least_faults(rt: HostRuntime) -> Result<(), Fail> {
-    let alloc = rt.alloc();
+fn locks_masks_and_ticks(rt: HostRuntime) {
     let oil =
-        b"CPU c { OS os; TASK T { PRIORITY = 1; }; RESOURCE R; ISR I { CATEGORY = 2; }; ISR J { CATEGORY = 1; }; };";
-    let rows = [
-        (b"TASK(T) { } ISR(I) { }".as_slice(), Outcome::Blocks(2)),
-        // a lesser rule outranks a lesser line
-        (
-            b"TASK(T) { } ISR(J) { }".as_slice(),
-            Outcome::Faulty(CodeRule::C1, 0),
-        ),
-        (
-            b"TASK(T) { } ISR(I) { }\nISR(J) { }".as_slice(),
-            Outcome::Faulty(CodeRule::C2, 2),
-        ),
-        (
-            b"TASK(T) { } ISR(I) { }\nTASK(T) { }".as_slice(),
-            Outcome::Faulty(CodeRule::C3, 2),
-        ),
-        (
-            b"TASK(T) { ActivateTask(\nI); } ISR(I) { }".as_slice(),
-            Outcome::Faulty(CodeRule::C4, 2),
-        ),
-        (
-            b"TASK(T) { GetResource(R); } ISR(I) {\nReleaseResource(R); }".as_slice(),
-            Outcome::Faulty(CodeRule::C6, 2),
-        ),
-        (
-            b"TASK(T) { SuspendAllInterrupts();\nSchedule(); } ISR(I) { }".as_slice(),
-            Outcome::Faulty(CodeRule::C7, 2),
-        ),
-    ];
-    for (text, wanted) in rows {
-        assert_eq!(rt; outcome_of(alloc, oil.as_slice(), text), wanted);
+        b"CPU c { OS os; EVENT E1; EVENT E2; EVENT E3; TASK T { PRIORITY = 1; EVENT = E1; EVENT = E2; EVENT = E3; }; ISR I { CATEGORY = 2; }; COUNTER C { MAXALLOWEDVALUE = 9; }; COUNTER D { MAXALLOWEDVALUE = 9; }; ALARM A { COUNTER = D; ACTION = ACTIVATETASK { TASK = T; }; }; ALARM B { COUNTER = C; ACTION = ACTIVATETASK { TASK = T; }; }; };";
+    let text =
+        b"ISR(I) {\nSuspendAllInterrupts();\nwork 3;\nResumeAllInterrupts();\nSetEvent(T, E1 | E3);\nCancelAlarm(B);\n}\nTASK(T) { }";
+    let right = linked(rt.alloc(), oil, text).is_ok_and(|app| locks_and_ticks_stand(&app));
+    assert!(rt; right);
+}
+
+/// A system with a task, a resource, and an ISR of either category.
+const OIL: &[u8] =
+    b"CPU c { OS os; TASK T { PRIORITY = 1; }; RESOURCE R; ISR I { CATEGORY = 2; }; ISR J { CATEGORY = 1; }; };";
+
+/// Code texts beside it, with what comes of them.
+const TEXTS: [(&[u8], Outcome); 7] = [
+    (b"TASK(T) { } ISR(I) { }", Outcome::Blocks(2)),
+    // a lesser rule outranks a lesser line
+    (b"TASK(T) { } ISR(J) { }", Outcome::Faulty(CodeRule::C1, 0)),
+    (
+        b"TASK(T) { } ISR(I) { }\nISR(J) { }",
+        Outcome::Faulty(CodeRule::C2, 2),
+    ),
+    (
+        b"TASK(T) { } ISR(I) { }\nTASK(T) { }",
+        Outcome::Faulty(CodeRule::C3, 2),
+    ),
+    (
+        b"TASK(T) { ActivateTask(\nI); } ISR(I) { }",
+        Outcome::Faulty(CodeRule::C4, 2),
+    ),
+    (
+        b"TASK(T) { GetResource(R); } ISR(I) {\nReleaseResource(R); }",
+        Outcome::Faulty(CodeRule::C6, 2),
+    ),
+    (
+        b"TASK(T) { SuspendAllInterrupts();\nSchedule(); } ISR(I) { }",
+        Outcome::Faulty(CodeRule::C7, 2),
+    ),
+];
+
+/// The first text of which something else comes.
+fn first_wrong(alloc: Global) -> Option<usize> {
+    for (at, (text, wanted)) in TEXTS.iter().enumerate() {
+        if outcome_of(alloc, OIL, text) != *wanted {
+            return Some(at);
+        }
     }
-    Ok(())
+    None
+}
+
+#[test]
+fn least_faults(rt: HostRuntime) {
+    assert_eq!(rt; first_wrong(rt.alloc()), None);
 }
 
 /// A task with so many statements, one a line from line 2 on.
-fn long(alloc: Global, statements: usize) -> Result<Vec<u8>, Fail> {
-    let mut text = Vec::new(alloc);
-    text.extend_from_slice(b"TASK(T) {".as_slice())?;
+fn long(alloc: Global, statements: usize) -> Result<Vec<u8>, AllocError> {
+    let mut text = b"TASK(T) {".to_vec(alloc)?;
     for _ in 0..statements {
-        text.extend_from_slice(b"\nwork 1;".as_slice())?;
+        text.extend_from_slice(b"\nwork 1;")?;
     }
-    text.extend_from_slice(b"\n}".as_slice())?;
+    text.extend_from_slice(b"\n}")?;
     Ok(text)
 }
 
-#[test]
-fn long_texts(rt: HostRuntime) -> Result<(), Fail> {
-    let alloc = rt.alloc();
+/// What comes of a task with so many statements.
+fn outcome_of_long(alloc: Global, statements: usize) -> Outcome {
     let oil = b"CPU c { OS os; TASK T { PRIORITY = 1; }; };";
-    let fits = long(alloc, 1023)?;
-    assert_eq!(rt;
-        outcome_of(alloc, oil.as_slice(), fits.as_slice()),
-        Outcome::Blocks(1024)
-    );
-    let ends_late = long(alloc, 1024)?;
-    assert_eq!(rt;
-        outcome_of(alloc, oil.as_slice(), ends_late.as_slice()),
-        Outcome::Faulty(CodeRule::C8, 1026)
-    );
-    let goes_on = long(alloc, 1025)?;
-    assert_eq!(rt;
-        outcome_of(alloc, oil.as_slice(), goes_on.as_slice()),
-        Outcome::Faulty(CodeRule::C8, 1026)
-    );
-    Ok(())
+    match long(alloc, statements) {
+        Ok(text) => outcome_of(alloc, oil, text.as_slice()),
+        Err(_) => Outcome::Nothing,
+    }
+}
+
+#[test]
+fn long_texts(rt: HostRuntime) {
+    let alloc = rt.alloc();
+    assert_eq!(rt; outcome_of_long(alloc, 1023), Outcome::Blocks(1024));
+    let late = Outcome::Faulty(CodeRule::C8, 1026);
+    // The task's end comes too late, and one statement more does.
+    assert_eq!(rt; outcome_of_long(alloc, 1024), late);
+    assert_eq!(rt; outcome_of_long(alloc, 1025), late);
 }

@@ -1,53 +1,48 @@
 //! Texts and what they give.
 use front_end::{TextError, read_app, read_system};
 use osek_values::{CodeRule, OilRule, Refusal, Rule, TextFile};
-use std::test::Fail;
+use std::alloc::Global;
+
+/// Why no system comes of an OIL text, if none does.
+fn fault_of(alloc: Global, oil: &[u8]) -> Option<TextError> {
+    read_system(alloc, oil).err()
+}
 
 #[test]
-fn the_least_fault_of_an_oil_text(rt: HostRuntime) -> Result<(), Fail> {
+fn the_least_fault_of_an_oil_text(rt: HostRuntime) {
     let text = b"CPU c {\nOS os;\nTASK T1 { PRIORITY = 1; };\nTASK T2 { PRIORITY = 1; };\n};\n";
     let fault = Refusal {
         file: TextFile::Oil,
         line: 4,
         rule: Rule::Oil(OilRule::O8),
     };
-    match read_system(rt.alloc(), text) {
-        Err(TextError::Refused(refusal)) => assert!(rt; refusal == fault),
-        _ => assert!(rt; false),
+    assert_eq!(rt; fault_of(rt.alloc(), text), Some(TextError::Refused(fault)));
+}
+
+/// A task alone.
+const OIL: &[u8] = b"CPU c { OS os; TASK T1 { PRIORITY = 1; AUTOSTART = TRUE; }; };";
+
+/// How many tasks and blocks the application has that comes of a code text beside it.
+fn sizes(alloc: Global, text: &[u8]) -> Result<(usize, usize), TextError> {
+    let system = read_system(alloc, OIL)?;
+    match read_app(alloc, system, text) {
+        Ok(app) => Ok((app.tasks.len(), app.blocks.len())),
+        Err(error) => Err(error),
     }
-    Ok(())
 }
 
 #[test]
-fn an_application_of_two_texts(rt: HostRuntime) -> Result<(), Fail> {
-    let oil = b"CPU c { OS os; TASK T1 { PRIORITY = 1; AUTOSTART = TRUE; }; };";
-    match read_system(rt.alloc(), oil) {
-        Ok(system) => match read_app(rt.alloc(), system, b"TASK(T1) { TerminateTask(); }") {
-            Ok(app) => {
-                assert_eq!(rt; app.tasks.len(), 1);
-                assert_eq!(rt; app.blocks.len(), 2);
-            }
-            Err(_) => assert!(rt; false),
-        },
-        Err(_) => assert!(rt; false),
-    }
-    Ok(())
+fn an_application_of_two_texts(rt: HostRuntime) {
+    let sizes = sizes(rt.alloc(), b"TASK(T1) { TerminateTask(); }");
+    assert_eq!(rt; sizes, Ok((1, 2)));
 }
 
 #[test]
-fn a_task_without_code(rt: HostRuntime) -> Result<(), Fail> {
-    let oil = b"CPU c { OS os; TASK T1 { PRIORITY = 1; AUTOSTART = TRUE; }; };";
+fn a_task_without_code(rt: HostRuntime) {
     let fault = Refusal {
         file: TextFile::Code,
         line: 0,
         rule: Rule::Code(CodeRule::C1),
     };
-    match read_system(rt.alloc(), oil) {
-        Ok(system) => match read_app(rt.alloc(), system, b"") {
-            Err(TextError::Refused(refusal)) => assert!(rt; refusal == fault),
-            _ => assert!(rt; false),
-        },
-        Err(_) => assert!(rt; false),
-    }
-    Ok(())
+    assert_eq!(rt; sizes(rt.alloc(), b""), Err(TextError::Refused(fault)));
 }

@@ -2,8 +2,7 @@
 use oil_lexer::{LexError, tokens};
 use osek_standard::Lock;
 use osek_values::{CodeRule, Rule, Status, SyntaxRule};
-use std::alloc::Global;
-use std::test::Fail;
+use std::alloc::{AllocError, Global};
 use task_code::{
     Body, BodyKind, Call, CodeError, Condition, Reference, Statement, one_answer, parse_code,
 };
@@ -93,44 +92,63 @@ fn is_one_call(alloc: Global, text: &[u8], service: &[u8]) -> bool {
     }
 }
 
-#[test]
-fn each_call(rt: HostRuntime) -> Result<(), Fail> {
-    let alloc = rt.alloc();
-    let rows = [
-        (b"ActivateTask".as_slice(), b"(T)".as_slice()),
-        (b"TerminateTask".as_slice(), b"()".as_slice()),
-        (b"ChainTask".as_slice(), b"(T)".as_slice()),
-        (b"Schedule".as_slice(), b"()".as_slice()),
-        (b"GetResource".as_slice(), b"(R)".as_slice()),
-        (b"ReleaseResource".as_slice(), b"(R)".as_slice()),
-        (b"SetEvent".as_slice(), b"(T, e1 | e2)".as_slice()),
-        (b"ClearEvent".as_slice(), b"(e1 | e2 | e3)".as_slice()),
-        (b"GetEvent".as_slice(), b"(T)".as_slice()),
-        (b"WaitEvent".as_slice(), b"(e1)".as_slice()),
-        (b"SetRelAlarm".as_slice(), b"(A, 5, 0x10)".as_slice()),
-        (b"SetAbsAlarm".as_slice(), b"(A, 0, 7)".as_slice()),
-        (b"CancelAlarm".as_slice(), b"(A)".as_slice()),
-        (b"GetAlarm".as_slice(), b"(A)".as_slice()),
-        (b"GetTaskID".as_slice(), b"()".as_slice()),
-        (b"GetTaskState".as_slice(), b"(T)".as_slice()),
-        (b"GetActiveApplicationMode".as_slice(), b"()".as_slice()),
-        (b"ShutdownOS".as_slice(), b"(E_OS_NOFUNC)".as_slice()),
-        (b"SuspendAllInterrupts".as_slice(), b"()".as_slice()),
-        (b"ResumeAllInterrupts".as_slice(), b"()".as_slice()),
-        (b"SuspendOSInterrupts".as_slice(), b"()".as_slice()),
-        (b"ResumeOSInterrupts".as_slice(), b"()".as_slice()),
-        (b"DisableAllInterrupts".as_slice(), b"()".as_slice()),
-        (b"EnableAllInterrupts".as_slice(), b"()".as_slice()),
-    ];
-    for (service, operands) in rows {
-        let mut text = Vec::new(alloc);
-        text.extend_from_slice(b"ISR(I) {\n".as_slice())?;
-        text.extend_from_slice(service)?;
-        text.extend_from_slice(operands)?;
-        text.extend_from_slice(b"; }".as_slice())?;
-        assert!(rt; is_one_call(alloc, text.as_slice(), service));
+/// Each service with operands that it takes.
+const CALLS: [(&[u8], &[u8]); 24] = [
+    (b"ActivateTask", b"(T)"),
+    (b"TerminateTask", b"()"),
+    (b"ChainTask", b"(T)"),
+    (b"Schedule", b"()"),
+    (b"GetResource", b"(R)"),
+    (b"ReleaseResource", b"(R)"),
+    (b"SetEvent", b"(T, e1 | e2)"),
+    (b"ClearEvent", b"(e1 | e2 | e3)"),
+    (b"GetEvent", b"(T)"),
+    (b"WaitEvent", b"(e1)"),
+    (b"SetRelAlarm", b"(A, 5, 0x10)"),
+    (b"SetAbsAlarm", b"(A, 0, 7)"),
+    (b"CancelAlarm", b"(A)"),
+    (b"GetAlarm", b"(A)"),
+    (b"GetTaskID", b"()"),
+    (b"GetTaskState", b"(T)"),
+    (b"GetActiveApplicationMode", b"()"),
+    (b"ShutdownOS", b"(E_OS_NOFUNC)"),
+    (b"SuspendAllInterrupts", b"()"),
+    (b"ResumeAllInterrupts", b"()"),
+    (b"SuspendOSInterrupts", b"()"),
+    (b"ResumeOSInterrupts", b"()"),
+    (b"DisableAllInterrupts", b"()"),
+    (b"EnableAllInterrupts", b"()"),
+];
+
+fn text_of_call(alloc: Global, service: &[u8], operands: &[u8]) -> Result<Vec<u8>, AllocError> {
+    let mut text = b"ISR(I) {\n".to_vec(alloc)?;
+    text.extend_from_slice(service)?;
+    text.extend_from_slice(operands)?;
+    text.extend_from_slice(b"; }")?;
+    Ok(text)
+}
+
+/// Whether the service and its operands, written as a call, are read as that service.
+fn is_read(alloc: Global, service: &[u8], operands: &[u8]) -> bool {
+    match text_of_call(alloc, service, operands) {
+        Ok(text) => is_one_call(alloc, text.as_slice(), service),
+        Err(_) => false,
     }
-    Ok(())
+}
+
+/// The first call that isn't read as what it is.
+fn first_misread(alloc: Global) -> Option<usize> {
+    for (at, (service, operands)) in CALLS.iter().enumerate() {
+        if !is_read(alloc, service, operands) {
+            return Some(at);
+        }
+    }
+    None
+}
+
+#[test]
+fn each_call(rt: HostRuntime) {
+    assert_eq!(rt; first_misread(rt.alloc()), None);
 }
 
 fn is_work(statement: &Statement, at: u32, instructions: u64) -> bool {
@@ -201,121 +219,124 @@ fn branch_sets_events(statement: &Statement) -> bool {
     }
 }
 
+fn is_task(body: &Body) -> bool {
+    body.kind == BodyKind::Task
+        && body.line == 1
+        && is_at(&body.owner, b"T1", 2)
+        && body.statements.closing_line() == 14
+}
+
+fn is_isr(body: &Body) -> bool {
+    body.kind == BodyKind::Isr
+        && body.line == 15
+        && is_at(&body.owner, b"I1", 15)
+        && body.statements.closing_line() == 15
+        && body.statements.as_slice().is_empty()
+}
+
+fn are_statements(statements: &[Statement]) -> bool {
+    statements.len() == 5
+        && is_work(&statements[0], 3, 16)
+        && is_if(&statements[1], 4, 5, Some(6))
+        && is_if(&statements[2], 7, 9, None)
+        && branch_sets_events(&statements[2])
+        && is_while(&statements[3], 10, Condition::Always, 12)
+        && is_while(&statements[4], 13, Condition::Choice, 13)
+}
+
+fn are_bodies(bodies: &[Body]) -> bool {
+    bodies.len() == 2
+        && is_task(&bodies[0])
+        && is_isr(&bodies[1])
+        && are_statements(bodies[0].statements.as_slice())
+}
+
+/// Whether the text gives code with those bodies.
+fn gives_bodies(alloc: Global, text: &[u8]) -> bool {
+    let Ok(tokens) = tokens(alloc, text) else {
+        return false;
+    };
+    match parse_code(alloc, tokens.as_slice()) {
+        Ok(code) => are_bodies(code.bodies.as_slice()),
+        Err(_) => false,
+    }
+}
+
 #[test]
 fn tree_of_a_text(rt: HostRuntime) {
-    let alloc = rt.alloc();
     let text =
         b"TASK(\nT1) {\n work 0x10;\n if (?) {\n } else {\n }\n if (?) { SetEvent(T2,\n e1 |\n e2); }\n while (0x1) {\n work 1;\n }\n while (?) { }\n}\nISR(I1) { }";
-    let Ok(tokens) = tokens(alloc, text.as_slice()) else {
-        assert!(rt; false);
-        return;
-    };
-    let Ok(code) = parse_code(alloc, tokens.as_slice()) else {
-        assert!(rt; false);
-        return;
-    };
-    let bodies = code.bodies.as_slice();
-    assert!(rt; bodies.len() == 2);
-    let task = &bodies[0];
-    assert!(rt; task.kind == BodyKind::Task && task.line == 1 && is_at(&task.owner, b"T1", 2));
-    assert!(rt; task.statements.closing_line() == 14);
-    let isr = &bodies[1];
-    assert!(rt; isr.kind == BodyKind::Isr && isr.line == 15 && is_at(&isr.owner, b"I1", 15));
-    assert!(rt; isr.statements.closing_line() == 15 && isr.statements.as_slice().is_empty());
-    let statements = task.statements.as_slice();
-    assert!(rt; statements.len() == 5);
-    assert!(rt; is_work(&statements[0], 3, 16));
-    assert!(rt; is_if(&statements[1], 4, 5, Some(6)));
-    assert!(rt; is_if(&statements[2], 7, 9, None) && branch_sets_events(&statements[2]));
-    assert!(rt; is_while(&statements[3], 10, Condition::Always, 12));
-    assert!(rt; is_while(&statements[4], 13, Condition::Choice, 13));
+    assert!(rt; gives_bodies(rt.alloc(), text));
     one_answer();
 }
 
-#[test]
-fn first_faults(rt: HostRuntime) -> Result<(), Fail> {
-    let alloc = rt.alloc();
-    let rows = [
-        (b"".as_slice(), Outcome::Bodies(0)),
-        (
-            b"TASK(T) { }\nISR(I) { } TASK(T) { }".as_slice(),
-            Outcome::Bodies(3),
-        ),
-        // A word of the grammar may name an object.
-        (
-            b"TASK(TASK) { ActivateTask(while); }".as_slice(),
-            Outcome::Bodies(1),
-        ),
-        // Locks are judged later.
-        (
-            b"TASK(T1) { SuspendOSInterrupts(); TerminateTask(); ResumeOSInterrupts(); }".as_slice(),
-            Outcome::Bodies(1),
-        ),
-        (
-            b"TASK(T) {\n StartOS(); }".as_slice(),
-            Outcome::Fault(2, S1),
-        ),
-        (
-            b"TASK(T) { ShutdownOS(\nE_OS_PROTECTION); }".as_slice(),
-            Outcome::Fault(2, S1),
-        ),
-        (
-            b"TASK(T) { while (\n2) { } }".as_slice(),
-            Outcome::Fault(2, S1),
-        ),
-        (
-            b"TASK(T) { if (\n1) { } }".as_slice(),
-            Outcome::Fault(2, S1),
-        ),
-        (b"TASK(T) {\nelse { } }".as_slice(), Outcome::Fault(2, S1)),
-        (
-            b"TASK(T) { if (?) { } else { }\nelse { } }".as_slice(),
-            Outcome::Fault(2, S1),
-        ),
-        (
-            b"TASK(T) { ClearEvent(\n); }".as_slice(),
-            Outcome::Fault(2, S1),
-        ),
-        (
-            b"TASK(T) { SetEvent(T\n); }".as_slice(),
-            Outcome::Fault(2, S1),
-        ),
-        (b"TASK(T) { Schedule()\n}".as_slice(), Outcome::Fault(2, S1)),
-        (b"\ntask(T) { }".as_slice(), Outcome::Fault(2, S1)),
-        (b"TASK(T) { }\n}".as_slice(), Outcome::Fault(2, S1)),
-        // A brace that isn't allowed is no brace too deep.
-        (b"TASK(T) {\n{".as_slice(), Outcome::Fault(2, S1)),
-        (b"TASK".as_slice(), Outcome::Fault(1, S2)),
-        (b"TASK(T) {\n work 0;\n\n".as_slice(), Outcome::Fault(2, S2)),
-        (b"TASK(T) { work 65535; }".as_slice(), Outcome::Bodies(1)),
-        (
-            b"TASK(T) {\n work\n 65536; }".as_slice(),
-            Outcome::Fault(2, C9),
-        ),
-        (b"TASK(T) {\n work 0; }".as_slice(), Outcome::Fault(2, C9)),
-        // The first one in the text counts, and the grammar before it.
-        (
-            b"TASK(T) { if (?) { } else { while (?) {\n work 0; } }\n work 0; }".as_slice(),
-            Outcome::Fault(2, C9),
-        ),
-        (b"TASK(T) { work 0; }\nx".as_slice(), Outcome::Fault(2, S1)),
-        (b"TASK(T) { work 1 / 2; }".as_slice(), Outcome::Lexer(1)),
-    ];
-    for (text, wanted) in rows {
-        assert_eq!(rt; outcome_of(alloc, text), wanted);
+/// Texts with what comes of them.
+const TEXTS: [(&[u8], Outcome); 24] = [
+    (b"", Outcome::Bodies(0)),
+    (b"TASK(T) { }\nISR(I) { } TASK(T) { }", Outcome::Bodies(3)),
+    // A word of the grammar may name an object.
+    (b"TASK(TASK) { ActivateTask(while); }", Outcome::Bodies(1)),
+    // Locks are judged later.
+    (
+        b"TASK(T1) { SuspendOSInterrupts(); TerminateTask(); ResumeOSInterrupts(); }",
+        Outcome::Bodies(1),
+    ),
+    (b"TASK(T) {\n StartOS(); }", Outcome::Fault(2, S1)),
+    (
+        b"TASK(T) { ShutdownOS(\nE_OS_PROTECTION); }",
+        Outcome::Fault(2, S1),
+    ),
+    (b"TASK(T) { while (\n2) { } }", Outcome::Fault(2, S1)),
+    (b"TASK(T) { if (\n1) { } }", Outcome::Fault(2, S1)),
+    (b"TASK(T) {\nelse { } }", Outcome::Fault(2, S1)),
+    (
+        b"TASK(T) { if (?) { } else { }\nelse { } }",
+        Outcome::Fault(2, S1),
+    ),
+    (b"TASK(T) { ClearEvent(\n); }", Outcome::Fault(2, S1)),
+    (b"TASK(T) { SetEvent(T\n); }", Outcome::Fault(2, S1)),
+    (b"TASK(T) { Schedule()\n}", Outcome::Fault(2, S1)),
+    (b"\ntask(T) { }", Outcome::Fault(2, S1)),
+    (b"TASK(T) { }\n}", Outcome::Fault(2, S1)),
+    // A brace that isn't allowed is no brace too deep.
+    (b"TASK(T) {\n{", Outcome::Fault(2, S1)),
+    (b"TASK", Outcome::Fault(1, S2)),
+    (b"TASK(T) {\n work 0;\n\n", Outcome::Fault(2, S2)),
+    (b"TASK(T) { work 65535; }", Outcome::Bodies(1)),
+    (b"TASK(T) {\n work\n 65536; }", Outcome::Fault(2, C9)),
+    (b"TASK(T) {\n work 0; }", Outcome::Fault(2, C9)),
+    // The first one in the text counts, and the grammar before it.
+    (
+        b"TASK(T) { if (?) { } else { while (?) {\n work 0; } }\n work 0; }",
+        Outcome::Fault(2, C9),
+    ),
+    (b"TASK(T) { work 0; }\nx", Outcome::Fault(2, S1)),
+    (b"TASK(T) { work 1 / 2; }", Outcome::Lexer(1)),
+];
+
+/// The first text of which something else comes.
+fn first_wrong(alloc: Global) -> Option<usize> {
+    for (at, (text, wanted)) in TEXTS.iter().enumerate() {
+        if outcome_of(alloc, text) != *wanted {
+            return Some(at);
+        }
     }
-    Ok(())
+    None
+}
+
+#[test]
+fn first_faults(rt: HostRuntime) {
+    assert_eq!(rt; first_wrong(rt.alloc()), None);
 }
 
 /// A task with so many loops in one another, the innermost on line 2.
-fn nested(alloc: Global, loops: usize) -> Result<Vec<u8>, Fail> {
-    let mut text = Vec::new(alloc);
-    text.extend_from_slice(b"TASK(T) {".as_slice())?;
+fn nested(alloc: Global, loops: usize) -> Result<Vec<u8>, AllocError> {
+    let mut text = b"TASK(T) {".to_vec(alloc)?;
     for i in 0..loops {
         if i + 1 == loops {
             text.push(b'\n')?;
         }
-        text.extend_from_slice(b"while (?) {".as_slice())?;
+        text.extend_from_slice(b"while (?) {")?;
     }
     for _ in 0..loops {
         text.push(b'}')?;
@@ -324,25 +345,33 @@ fn nested(alloc: Global, loops: usize) -> Result<Vec<u8>, Fail> {
     Ok(text)
 }
 
-#[test]
-fn deep_and_large_texts(rt: HostRuntime) -> Result<(), Fail> {
-    let alloc = rt.alloc();
-    assert_eq!(rt;
-        outcome_of(alloc, nested(alloc, 31)?.as_slice()),
-        Outcome::Bodies(1)
-    );
-    assert_eq!(rt;
-        outcome_of(alloc, nested(alloc, 32)?.as_slice()),
-        Outcome::Fault(2, S3)
-    );
-    let blanks = vec![in alloc; b' '; 1_048_576]?;
-    assert_eq!(rt; outcome_of(alloc, blanks.as_slice()), Outcome::Bodies(0));
-    let mut calls = Vec::new(alloc);
-    calls.extend_from_slice(b"TASK(T) {".as_slice())?;
+/// A task with 80000 calls.
+fn many_calls(alloc: Global) -> Result<Vec<u8>, AllocError> {
+    let mut text = b"TASK(T) {".to_vec(alloc)?;
     for _ in 0..80_000 {
-        calls.extend_from_slice(b"Schedule();".as_slice())?;
+        text.extend_from_slice(b"Schedule();")?;
     }
-    calls.push(b'}')?;
-    assert_eq!(rt; outcome_of(alloc, calls.as_slice()), Outcome::Bodies(1));
-    Ok(())
+    text.push(b'}')?;
+    Ok(text)
+}
+
+/// What comes of a text that was made, if there was memory for it.
+fn outcome_of_made(alloc: Global, text: Result<Vec<u8>, AllocError>) -> Outcome {
+    match text {
+        Ok(text) => outcome_of(alloc, text.as_slice()),
+        Err(_) => Outcome::Memory,
+    }
+}
+
+#[test]
+fn deep_and_large_texts(rt: HostRuntime) {
+    let alloc = rt.alloc();
+    let fits = outcome_of_made(alloc, nested(alloc, 31));
+    assert_eq!(rt; fits, Outcome::Bodies(1));
+    let deep = outcome_of_made(alloc, nested(alloc, 32));
+    assert_eq!(rt; deep, Outcome::Fault(2, S3));
+    let blanks = outcome_of_made(alloc, vec![in alloc; b' '; 1_048_576]);
+    assert_eq!(rt; blanks, Outcome::Bodies(0));
+    let calls = outcome_of_made(alloc, many_calls(alloc));
+    assert_eq!(rt; calls, Outcome::Bodies(1));
 }

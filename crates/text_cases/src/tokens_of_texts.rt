@@ -1,8 +1,7 @@
 //! Texts with their tokens, and with their first fault.
 use oil_lexer::{LexError, Mark, TokenKind, tokens};
-use osek_values::LexRule;
+use osek_values::{LexRule, Memory};
 use std::alloc::Global;
-use std::test::Fail;
 
 /// What a token is to be.
 #[derive(Clone, Copy, Debug)]
@@ -42,174 +41,193 @@ fn fault(alloc: Global, text: &[u8]) -> Option<(u32, LexRule)> {
     }
 }
 
-#[test]
-fn texts_with_tokens(rt: HostRuntime) -> Result<(), Fail> {
-    let alloc = rt.alloc();
-    let rows = [
-        (b"".as_slice(), [].as_slice()),
-        // The longest token counts: no numbers with exponents or letters behind.
-        (
-            b"5e3".as_slice(),
-            [(1, Want::Number(5)), (1, Want::Name(b"e3"))].as_slice(),
-        ),
-        (
-            b"0x".as_slice(),
-            [(1, Want::Number(0)), (1, Want::Name(b"x"))].as_slice(),
-        ),
-        (
-            b"0xg1".as_slice(),
-            [(1, Want::Number(0)), (1, Want::Name(b"xg1"))].as_slice(),
-        ),
-        (
-            b"1x2".as_slice(),
-            [(1, Want::Number(1)), (1, Want::Name(b"x2"))].as_slice(),
-        ),
-        // A token is its value.
-        (
-            b"0x1F 0X1f 0031".as_slice(),
-            [
-                (1, Want::Number(31)),
-                (1, Want::Number(31)),
-                (1, Want::Number(31)),
-            ]
-            .as_slice(),
-        ),
-        (
-            b"18446744073709551615 0xFFFFffffFFFFffff".as_slice(),
-            [(1, Want::Number(u64::MAX)), (1, Want::Number(u64::MAX))].as_slice(),
-        ),
-        (
-            b"1.5".as_slice(),
-            [
-                (1, Want::Number(1)),
-                (1, Want::Mark(Mark::Period)),
-                (1, Want::Number(5)),
-            ]
-            .as_slice(),
-        ),
-        (
-            b"_a1+Z".as_slice(),
-            [
-                (1, Want::Name(b"_a1")),
-                (1, Want::Mark(Mark::Plus)),
-                (1, Want::Name(b"Z")),
-            ]
-            .as_slice(),
-        ),
-        // A name has at most 64 bytes.
-        (
-            b"a234567890123456789012345678901234567890123456789012345678901234".as_slice(),
-            [(
-                1,
-                Want::Name(b"a234567890123456789012345678901234567890123456789012345678901234"),
-            )]
-            .as_slice(),
-        ),
-        // A text has no escapes, and a comment in it is none.
-        (b"\"\"".as_slice(), [(1, Want::Text(b""))].as_slice()),
-        (
-            b"\"a\\\"b".as_slice(),
-            [(1, Want::Text(b"a\\")), (1, Want::Name(b"b"))].as_slice(),
-        ),
-        (
-            b"\"/*\xff\"".as_slice(),
-            [(1, Want::Text(b"/*\xff"))].as_slice(),
-        ),
-        // Comments don't nest, and `/*/` doesn't end one.
-        (
-            b"a/* /* // */b//c\nd".as_slice(),
-            [
-                (1, Want::Name(b"a")),
-                (1, Want::Name(b"b")),
-                (2, Want::Name(b"d")),
-            ]
-            .as_slice(),
-        ),
-        (
-            b"/**/x/*/y*/z//".as_slice(),
-            [(1, Want::Name(b"x")), (1, Want::Name(b"z"))].as_slice(),
-        ),
-        // A token has the line of its first byte.
-        (
-            b"a\n/*\n\n*/b\r\n\tc\x0cd".as_slice(),
-            [
-                (1, Want::Name(b"a")),
-                (4, Want::Name(b"b")),
-                (5, Want::Name(b"c")),
-                (5, Want::Name(b"d")),
-            ]
-            .as_slice(),
-        ),
-        (
-            b"{}()[]=;:,.?|-".as_slice(),
-            [
-                (1, Want::Mark(Mark::OpenBrace)),
-                (1, Want::Mark(Mark::CloseBrace)),
-                (1, Want::Mark(Mark::OpenParen)),
-                (1, Want::Mark(Mark::CloseParen)),
-                (1, Want::Mark(Mark::OpenBracket)),
-                (1, Want::Mark(Mark::CloseBracket)),
-                (1, Want::Mark(Mark::Equals)),
-                (1, Want::Mark(Mark::Semicolon)),
-                (1, Want::Mark(Mark::Colon)),
-                (1, Want::Mark(Mark::Comma)),
-                (1, Want::Mark(Mark::Period)),
-                (1, Want::Mark(Mark::Question)),
-                (1, Want::Mark(Mark::Bar)),
-                (1, Want::Mark(Mark::Minus)),
-            ]
-            .as_slice(),
-        ),
-    ];
-    for (text, wanted) in rows {
-        assert!(rt; reads(alloc, text, wanted));
+/// Texts with their tokens.
+const TEXTS: [(&[u8], &[(u32, Want)]); 17] = [
+    (b"", &[]),
+    // The longest token counts: no numbers with exponents or letters behind.
+    (b"5e3", &[(1, Want::Number(5)), (1, Want::Name(b"e3"))]),
+    (b"0x", &[(1, Want::Number(0)), (1, Want::Name(b"x"))]),
+    (b"0xg1", &[(1, Want::Number(0)), (1, Want::Name(b"xg1"))]),
+    (b"1x2", &[(1, Want::Number(1)), (1, Want::Name(b"x2"))]),
+    // A token is its value.
+    (
+        b"0x1F 0X1f 0031",
+        &[
+            (1, Want::Number(31)),
+            (1, Want::Number(31)),
+            (1, Want::Number(31)),
+        ],
+    ),
+    (
+        b"18446744073709551615 0xFFFFffffFFFFffff",
+        &[(1, Want::Number(u64::MAX)), (1, Want::Number(u64::MAX))],
+    ),
+    (
+        b"1.5",
+        &[
+            (1, Want::Number(1)),
+            (1, Want::Mark(Mark::Period)),
+            (1, Want::Number(5)),
+        ],
+    ),
+    (
+        b"_a1+Z",
+        &[
+            (1, Want::Name(b"_a1")),
+            (1, Want::Mark(Mark::Plus)),
+            (1, Want::Name(b"Z")),
+        ],
+    ),
+    // A name has at most 64 bytes.
+    (
+        b"a234567890123456789012345678901234567890123456789012345678901234",
+        &[(
+            1,
+            Want::Name(b"a234567890123456789012345678901234567890123456789012345678901234"),
+        )],
+    ),
+    // A text has no escapes, and a comment in it is none.
+    (b"\"\"", &[(1, Want::Text(b""))]),
+    (
+        b"\"a\\\"b",
+        &[(1, Want::Text(b"a\\")), (1, Want::Name(b"b"))],
+    ),
+    (b"\"/*\xff\"", &[(1, Want::Text(b"/*\xff"))]),
+    // Comments don't nest, and `/*/` doesn't end one.
+    (
+        b"a/* /* // */b//c\nd",
+        &[
+            (1, Want::Name(b"a")),
+            (1, Want::Name(b"b")),
+            (2, Want::Name(b"d")),
+        ],
+    ),
+    (
+        b"/**/x/*/y*/z//",
+        &[(1, Want::Name(b"x")), (1, Want::Name(b"z"))],
+    ),
+    // A token has the line of its first byte.
+    (
+        b"a\n/*\n\n*/b\r\n\tc\x0cd",
+        &[
+            (1, Want::Name(b"a")),
+            (4, Want::Name(b"b")),
+            (5, Want::Name(b"c")),
+            (5, Want::Name(b"d")),
+        ],
+    ),
+    (
+        b"{}()[]=;:,.?|-",
+        &[
+            (1, Want::Mark(Mark::OpenBrace)),
+            (1, Want::Mark(Mark::CloseBrace)),
+            (1, Want::Mark(Mark::OpenParen)),
+            (1, Want::Mark(Mark::CloseParen)),
+            (1, Want::Mark(Mark::OpenBracket)),
+            (1, Want::Mark(Mark::CloseBracket)),
+            (1, Want::Mark(Mark::Equals)),
+            (1, Want::Mark(Mark::Semicolon)),
+            (1, Want::Mark(Mark::Colon)),
+            (1, Want::Mark(Mark::Comma)),
+            (1, Want::Mark(Mark::Period)),
+            (1, Want::Mark(Mark::Question)),
+            (1, Want::Mark(Mark::Bar)),
+            (1, Want::Mark(Mark::Minus)),
+        ],
+    ),
+];
+
+/// The number of the first text that doesn't have its tokens.
+fn first_wrong_text(alloc: Global, rows: &[(&[u8], &[(u32, Want)])]) -> Option<usize> {
+    for (number, (text, wanted)) in rows.iter().enumerate() {
+        if !reads(alloc, text, wanted) {
+            return Some(number);
+        }
     }
-    let blanks = vec![in alloc; b' '; 1_048_576]?;
-    assert!(rt; reads(alloc, blanks.as_slice(), [].as_slice()));
-    Ok(())
+    None
+}
+
+/// So many bytes, of which the first is another one.
+fn long_text(alloc: Global, first: u8, others: u8, length: usize) -> Result<Vec<u8>, Memory> {
+    let mut text = vec![in alloc; others; length]?;
+    if length > 0 {
+        text[0] = first;
+    }
+    Ok(text)
+}
+
+/// Whether there is no token in a text of so many blanks.
+fn blanks_have_no_token(alloc: Global, length: usize) -> bool {
+    match long_text(alloc, b' ', b' ', length) {
+        Ok(text) => reads(alloc, text.as_slice(), &[]),
+        Err(_) => false,
+    }
 }
 
 #[test]
-fn texts_with_a_fault(rt: HostRuntime) -> Result<(), Fail> {
-    let alloc = rt.alloc();
-    let rows = [
-        (b"#include \"x\"".as_slice(), 1, LexRule::L1),
-        (b"a\nb / c".as_slice(), 2, LexRule::L1),
-        (b"/* a */ */".as_slice(), 1, LexRule::L1),
-        (b"\x00".as_slice(), 1, LexRule::L1),
-        // The first in the text counts.
-        (b"% \"a".as_slice(), 1, LexRule::L1),
-        (b"a\n\n/* b\n\n".as_slice(), 3, LexRule::L2),
-        (b"/*/".as_slice(), 1, LexRule::L2),
-        (b"\n\n\"x\n\"".as_slice(), 3, LexRule::L3),
-        (b"\"a".as_slice(), 1, LexRule::L3),
-        (
-            b"0xFFFFFFFFFFFFFFFF\n18446744073709551616".as_slice(),
-            2,
-            LexRule::L4,
-        ),
-        (b"0x10000000000000000".as_slice(), 1, LexRule::L4),
-        (
-            b"a2345678901234567890123456789012345678901234567890123456789012345".as_slice(),
-            1,
-            LexRule::L5,
-        ),
-    ];
-    for (text, line, rule) in rows {
-        assert_eq!(rt; fault(alloc, text), Some((line, rule)));
+fn texts_with_tokens(rt: HostRuntime) {
+    assert_eq!(rt; first_wrong_text(rt.alloc(), &TEXTS), None);
+    assert!(rt; blanks_have_no_token(rt.alloc(), 1_048_576));
+}
+
+/// Texts with the line and the rule of their first fault.
+const FAULTS: [(&[u8], u32, LexRule); 12] = [
+    (b"#include \"x\"", 1, LexRule::L1),
+    (b"a\nb / c", 2, LexRule::L1),
+    (b"/* a */ */", 1, LexRule::L1),
+    (b"\x00", 1, LexRule::L1),
+    // The first in the text counts.
+    (b"% \"a", 1, LexRule::L1),
+    (b"a\n\n/* b\n\n", 3, LexRule::L2),
+    (b"/*/", 1, LexRule::L2),
+    (b"\n\n\"x\n\"", 3, LexRule::L3),
+    (b"\"a", 1, LexRule::L3),
+    (b"0xFFFFFFFFFFFFFFFF\n18446744073709551616", 2, LexRule::L4),
+    (b"0x10000000000000000", 1, LexRule::L4),
+    (
+        b"a2345678901234567890123456789012345678901234567890123456789012345",
+        1,
+        LexRule::L5,
+    ),
+];
+
+/// The number of the first text that doesn't have its fault.
+fn first_wrong_fault(alloc: Global, rows: &[(&[u8], u32, LexRule)]) -> Option<usize> {
+    for (number, (text, line, rule)) in rows.iter().enumerate() {
+        if fault(alloc, text) != Some((*line, *rule)) {
+            return Some(number);
+        }
     }
-    let large_number = vec![in alloc; b'9'; 400_000]?;
-    assert_eq!(rt;
-        fault(alloc, large_number.as_slice()),
-        Some((1, LexRule::L4))
-    );
-    let mut open_comment = vec![in alloc; b'*'; 1_048_576]?;
-    open_comment[0] = b'/';
-    assert_eq!(rt;
-        fault(alloc, open_comment.as_slice()),
-        Some((1, LexRule::L2))
-    );
-    let too_long = vec![in alloc; b' '; 1_048_577]?;
-    assert_eq!(rt; fault(alloc, too_long.as_slice()), Some((0, LexRule::L6)));
-    Ok(())
+    None
+}
+
+/// The fault of so many bytes, of which the first is another one.
+fn long_fault(alloc: Global, first: u8, others: u8, length: usize) -> Option<(u32, LexRule)> {
+    match long_text(alloc, first, others, length) {
+        Ok(text) => fault(alloc, text.as_slice()),
+        Err(_) => None,
+    }
+}
+
+/// Long texts by their first byte, their others and their length, with the line and the rule of their fault.
+const LONG_FAULTS: [(u8, u8, usize, u32, LexRule); 3] = [
+    (b'9', b'9', 400_000, 1, LexRule::L4),
+    (b'/', b'*', 1_048_576, 1, LexRule::L2),
+    (b' ', b' ', 1_048_577, 0, LexRule::L6),
+];
+
+/// The number of the first long text that doesn't have its fault.
+fn first_wrong_long_fault(alloc: Global, rows: &[(u8, u8, usize, u32, LexRule)]) -> Option<usize> {
+    for (number, (first, others, length, line, rule)) in rows.iter().enumerate() {
+        if long_fault(alloc, *first, *others, *length) != Some((*line, *rule)) {
+            return Some(number);
+        }
+    }
+    None
+}
+
+#[test]
+fn texts_with_a_fault(rt: HostRuntime) {
+    assert_eq!(rt; first_wrong_fault(rt.alloc(), &FAULTS), None);
+    assert_eq!(rt; first_wrong_long_fault(rt.alloc(), &LONG_FAULTS), None);
 }
