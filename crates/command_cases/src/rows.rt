@@ -22,7 +22,8 @@ pub enum Act {
     Add(&'static str, &'static str, &'static [u8]),
 }
 
-pub const ROWS: [Row; 37] = [
+/// Rows of tasks, activation and resources.
+pub const TASK_ROWS: [Row; 10] = [
     Row {
         name: "one task ends itself",
         files: &[
@@ -247,6 +248,10 @@ pub const ROWS: [Row; 37] = [
             ],
         )],
     },
+];
+
+/// Rows of events, alarms, interrupts, event texts and images.
+pub const EVENT_ROWS: [Row; 8] = [
     Row {
         name: "an event set while ready",
         files: &[
@@ -474,6 +479,10 @@ pub const ROWS: [Row; 37] = [
             ),
         ],
     },
+];
+
+/// Rows of refusals at the edge, of limits and of modes.
+pub const MODE_ROWS: [Row; 10] = [
     Row {
         name: "a missing and a doubled priority",
         files: &[
@@ -629,6 +638,10 @@ pub const ROWS: [Row; 37] = [
             &[(1, "1 # T1=Y ^Shutdown"), (2, "2 # T1=Y")],
         )],
     },
+];
+
+/// Rows of texts that are refused, and of their limits.
+pub const TEXT_ROWS: [Row; 9] = [
     Row {
         name: "a COM object",
         files: &[

@@ -1,6 +1,6 @@
 //! Whole runs of the top call over files in memory.
 use crate::long_rows::{LONG_ROWS, LongRow, Repeated};
-use crate::rows::{Act, ROWS, Row};
+use crate::rows::{Act, EVENT_ROWS, MODE_ROWS, Row, TASK_ROWS, TEXT_ROWS};
 use commands::osekfit;
 use osek_io::{MemShelf, MemSink};
 use osek_values::Memory;
@@ -276,8 +276,23 @@ fn first_wrong(alloc: Global, rows: &[Row]) -> Result<&'static str, Memory> {
 }
 
 #[test]
-fn the_worked_rows(rt: HostRuntime) {
-    assert_eq!(rt; first_wrong(rt.alloc(), &ROWS), Ok(""));
+fn the_rows_of_tasks(rt: HostRuntime) {
+    assert_eq!(rt; first_wrong(rt.alloc(), &TASK_ROWS), Ok(""));
+}
+
+#[test]
+fn the_rows_of_events(rt: HostRuntime) {
+    assert_eq!(rt; first_wrong(rt.alloc(), &EVENT_ROWS), Ok(""));
+}
+
+#[test]
+fn the_rows_of_modes(rt: HostRuntime) {
+    assert_eq!(rt; first_wrong(rt.alloc(), &MODE_ROWS), Ok(""));
+}
+
+#[test]
+fn the_rows_of_texts(rt: HostRuntime) {
+    assert_eq!(rt; first_wrong(rt.alloc(), &TEXT_ROWS), Ok(""));
 }
 
 fn text_of(alloc: Global, text: &Repeated) -> Result<Vec<u8>, Memory> {
