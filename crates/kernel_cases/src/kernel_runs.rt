@@ -1,11 +1,11 @@
 //! Two tasks, of which one activates the other, from the start on.
-ghost use Rattle.std.specs.Prelude.{◌≡◌, ◌<◌};
+ghost use Rattle.std.specs.Prelude.{◌≡◌, ◌<◌, length};
 ghost use Rattle.osek_standard.specs.Well.{Well};
 
 use crate::activation::activation;
 use generic_kernel::{nothing, start, step};
 use osek_standard::{App, Processor, State};
-use osek_values::{Event, Memory, ModeNo, Notes, Status, Steps, TaskNo};
+use osek_values::{Event, ModeNo, Notes, Status, Steps, TaskNo};
 use std::alloc::Global;
 use std::marker::Brand;
 use std::sync::ledger::{Blank, Ledger};
@@ -45,24 +45,35 @@ fn all_suspended(state: &State) -> bool {
         .all(|task| task.is_suspended())
 }
 
-/// What the runs of activation note from the start on, who has the processor then, and whether all tasks are suspended
-/// at the end.
-fn runs_of(alloc: Global) -> Result<([(Processor, Notes); 4], bool), Memory> {
-    let app = activation(alloc)?;
-    let (mut state, notes) = start(alloc, &app, ModeNo(0))?;
-    let first = (state.processor, notes);
-    let [second, third, fourth] = three_runs::<Brand>(&app, &mut state, Blank::new(1));
-    Ok(([first, second, third, fourth], all_suspended(&state)))
+/// Whether three runs from a state are these, and all tasks are suspended then.
+fn runs_as(app: &App, state: &mut State, wanted: &[(Processor, Notes); 3]) -> bool
+    requires { Well app.now state.old }
+{
+    three_runs::<Brand>(app, state, Blank::new(1)) == *wanted && all_suspended(state)
+}
+
+/// Whether the start in the mode gives the processor to the first task and notes nothing, and runs so.
+fn starts_and_runs_as(alloc: Global, app: &App, wanted: &[(Processor, Notes); 3]) -> bool
+    requires { 0 < length app.now.modes }
+{
+    match start(alloc, app, ModeNo(0)) {
+        Ok((mut state, notes)) => {
+            state.processor == Processor::Running(TaskNo(0))
+                && notes == nothing()
+                && runs_as(app, &mut state, wanted)
+        }
+        Err(_) => false,
+    }
 }
 
 #[test]
 fn activation_preempts(rt: HostRuntime) {
-    let (seen, ended) = runs_of(rt.alloc()).expect(&rt, "memory");
     let (low, high) = (TaskNo(0), TaskNo(1));
-    let accepted = noted(Some(Status::Ok));
-    assert_eq!(rt; seen[0], (Processor::Running(low), nothing()));
-    assert_eq!(rt; seen[1], (Processor::Running(high), accepted));
-    assert_eq!(rt; seen[2], (Processor::Running(low), noted(None)));
-    assert_eq!(rt; seen[3], (Processor::Idle, noted(None)));
-    assert!(rt; ended);
+    let wanted = [
+        (Processor::Running(high), noted(Some(Status::Ok))),
+        (Processor::Running(low), noted(None)),
+        (Processor::Idle, noted(None)),
+    ];
+    let app = activation(rt.alloc()).expect(&rt, "memory");
+    assert!(rt; starts_and_runs_as(rt.alloc(), &app, &wanted));
 }

@@ -60,33 +60,39 @@ fn noted(status: Option<Status>) -> Result<Notes, Trap> {
     })
 }
 
-/// The same from the start of an image, where memory is there.
-fn runs_of(alloc: Global, image: Image) -> Option<[(Processor, Result<Notes, Trap>); 3]>
+/// What a run notes, and who has the processor then.
+type Turn = (Processor, Result<Notes, Trap>);
+
+/// Whether three runs of a machine are these.
+fn runs_as(machine: &mut Machine, wanted: &[Turn; 3]) -> bool {
+    three_runs::<Brand>(machine, Blank::new(1)) == *wanted
+}
+
+/// The same from the start of an image.
+fn starts_and_runs_as(alloc: Global, image: Image, wanted: &[Turn; 3]) -> bool
     requires { 0 < length image.app.modes }
 {
     match Machine::start(alloc, image, ModeNo(0)) {
-        Ok((mut machine, _)) => Some(three_runs::<Brand>(&mut machine, Blank::new(1))),
-        Err(_) => None,
+        Ok((mut machine, _)) => runs_as(&mut machine, wanted),
+        Err(_) => false,
     }
 }
 
 #[test]
 fn general_forms_run_as_the_kernel(rt: HostRuntime) {
     let image = image(rt.alloc()).expect(&rt, "memory");
-    let seen = runs_of(rt.alloc(), image).expect(&rt, "memory");
     let (low, high) = (TaskNo(0), TaskNo(1));
-    let accepted = noted(Some(Status::Ok));
-    assert_eq!(rt; seen[0], (Processor::Running(high), accepted));
-    assert_eq!(rt; seen[1], (Processor::Running(low), noted(None)));
-    assert_eq!(rt; seen[2], (Processor::Idle, noted(None)));
+    let wanted = [
+        (Processor::Running(high), noted(Some(Status::Ok))),
+        (Processor::Running(low), noted(None)),
+        (Processor::Idle, noted(None)),
+    ];
+    assert!(rt; starts_and_runs_as(rt.alloc(), image, &wanted));
 }
 
 #[test]
 fn a_trap_is_answered_again(rt: HostRuntime) {
     let image = image_that_traps(rt.alloc()).expect(&rt, "memory");
-    let seen = runs_of(rt.alloc(), image).expect(&rt, "memory");
-    let low = Processor::Running(TaskNo(0));
-    for turn in seen {
-        assert_eq!(rt; turn, (low, Err(Trap)));
-    }
+    let trapped = (Processor::Running(TaskNo(0)), Err(Trap));
+    assert!(rt; starts_and_runs_as(rt.alloc(), image, &[trapped; 3]));
 }
