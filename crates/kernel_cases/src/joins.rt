@@ -107,27 +107,34 @@ fn a_set_has_each_value_once(rt: HostRuntime) {
     assert!(rt; are_new_once(rt.alloc(), &different()));
 }
 
-/// An entry of an event alone, with one value.
-fn entry_of(alloc: Global, is_set: bool) -> Result<Entry, Memory>
-    ensures { IfOk result (λ e. (length e.sets ≡ 1) × (entry_values e ≡ 1)) }
+/// An entry of a task and an event, each with one value.
+fn entry_of(alloc: Global, block: u16, is_set: bool) -> Result<Entry, Memory>
+    ensures { IfOk result (λ e. (length e.sets ≡ 2) × (entry_values e ≡ 2)) }
 {
-    let mut set = ValueSet::new(alloc, Domain::Event);
-    set.members.push(PartValue::OfEvent(is_set))?;
+    let mut task = ValueSet::new(alloc, TASK);
+    task.members.push(live(block, None))?;
+    let mut event = ValueSet::new(alloc, Domain::Event);
+    event.members.push(PartValue::OfEvent(is_set))?;
     let mut sets = Seq::new(alloc);
-    sets.push(set)?;
+    sets.push(task)?;
+    sets.push(event)?;
     Ok(Entry { sets })
 }
 
-fn entries_joined(alloc: Global, is_set: bool, other: bool) -> Result<u64, Memory> {
-    let mut entry = entry_of(alloc, is_set)?;
-    let other = entry_of(alloc, other)?;
+/// How many values are new where the entry of another block and event is joined into that of block 0 and the event
+/// not set.
+fn entries_joined(alloc: Global, block: u16, is_set: bool) -> Result<u64, Memory> {
+    let mut entry = entry_of(alloc, 0, false)?;
+    let other = entry_of(alloc, block, is_set)?;
     entry.join_into(&other)
 }
 
 #[test]
 fn entries_join_set_by_set(rt: HostRuntime) {
-    assert_eq!(rt; entries_joined(rt.alloc(), true, true), Ok(0));
-    assert_eq!(rt; entries_joined(rt.alloc(), true, false), Ok(1));
+    assert_eq!(rt; entries_joined(rt.alloc(), 0, false), Ok(0));
+    assert_eq!(rt; entries_joined(rt.alloc(), 1, false), Ok(1));
+    assert_eq!(rt; entries_joined(rt.alloc(), 0, true), Ok(1));
+    assert_eq!(rt; entries_joined(rt.alloc(), 1, true), Ok(2));
 }
 
 /// A join through the bound.

@@ -68,12 +68,16 @@ fn runs_as(machine: &mut Machine, wanted: &[Turn; 3]) -> bool {
     three_runs::<Brand>(machine, Blank::new(1)) == *wanted
 }
 
-/// The same from the start of an image.
+/// Whether the start gives the processor to the first task and notes nothing, and three runs are these.
 fn starts_and_runs_as(alloc: Global, image: Image, wanted: &[Turn; 3]) -> bool
     requires { 0 < length image.app.modes }
 {
     match Machine::start(alloc, image, ModeNo(0)) {
-        Ok((mut machine, _)) => runs_as(&mut machine, wanted),
+        Ok((mut machine, notes)) => {
+            machine.state().processor == Processor::Running(TaskNo(0))
+                && Ok(notes) == noted(None)
+                && runs_as(&mut machine, wanted)
+        }
         Err(_) => false,
     }
 }
