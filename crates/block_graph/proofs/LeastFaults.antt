@@ -3,7 +3,7 @@ use Rattle.std.proofs.Common.{◌≡◌, ℕ, suc, zero, ◌+◌, ◌<◌, ◌�
 use Rattle.std.proofs.str.Laws.{order as compare}
 use Rattle.std.specs.Prelude.{Option, Some, None, if◌then◌else◌, ◌==◌}
 use Rattle.osek_values.specs.declared.refusal.CodeRule.{CodeRule}
-use Rattle.osek_values.specs.declared.refusal.CodeRule.TheVariants.{C0, C1, C2, C3, C4, C6, C7, C8, C9}
+use Rattle.osek_values.specs.declared.refusal.CodeRule.TheVariants.{C1, C2, C3, C4, C6, C7, C8, C9}
 use Rattle.app_model.specs.declared.system.System.{System}
 use Rattle.oil_model.specs.Lines.{sooner, least, IsIn}
 use Rattle.task_code.specs.declared.tree.Code.{Code}
@@ -14,11 +14,10 @@ use Rattle.block_graph.specs.Faults.{Violates, order, IsLeastFault, HasNoFault}
 -- the rule of a number
 abbrev rule_at : ℕ → CodeRule
 rule_at n =
-    if n == 0 then C0 else (if n == 1 then C1 else (if n == 2 then C2 else (if n == 3 then C3 else (if n == 4 then C4
-    else (if n == 6 then C6 else (if n == 7 then C7 else (if n == 8 then C8 else C9)))))))
+    if n == 1 then C1 else (if n == 2 then C2 else (if n == 3 then C3 else (if n == 4 then C4
+    else (if n == 6 then C6 else (if n == 7 then C7 else (if n == 8 then C8 else C9))))))
 
 rule_is : (r : CodeRule) → r ≡ rule_at (order r)
-rule_is C0 = refl
 rule_is C1 = refl
 rule_is C2 = refl
 rule_is C3 = refl
@@ -58,7 +57,7 @@ abbrev pub judged : List CodeRule
 judged = C1 ∷ C2 ∷ C3 ∷ C4 ∷ C6 ∷ C7 ∷ C8 ∷ []
 
 abbrev pub judged_at : ℕ → CodeRule
-judged_at i = get_or judged i C0
+judged_at i = get_or judged i C1
 
 bounds : (i : ℕ) → i < 7 → (i + 1 ≤ order (judged_at i)) × (order (judged_at i) ≤ i + 2)
 bounds zero h = (omega arith, omega arith)
@@ -87,7 +86,6 @@ module _ (s : System) (code : Code) where
   none_at i k clean h l v = least_none (lines (judged_at k) s code) (clean k h) l v
 
   none_below : (i : ℕ) → i < 7 → AreCleanBelow i → (other : CodeRule) (l : ℕ) → order other < order (judged_at i) → Violates other s code l → ⊥
-  none_below i h clean C0 l less v = v
   none_below i h clean C1 l less v = none_at i 0 clean (earlier 0 i (omega arith) h less) l v
   none_below i h clean C2 l less v = none_at i 1 clean (earlier 1 i (omega arith) h less) l v
   none_below i h clean C3 l less v = none_at i 2 clean (earlier 2 i (omega arith) h less) l v
@@ -103,7 +101,6 @@ module _ (s : System) (code : Code) where
       record { violated = is.0; least_rule = none_below i h clean; least_line = is.1 }
 
   pub clean_all : (i : ℕ) → 7 ≤ i → AreCleanBelow i → HasNoFault s code
-  clean_all i h clean C0 l v = v
   clean_all i h clean C1 l v = none_at i 0 clean (omega arith) l v
   clean_all i h clean C2 l v = none_at i 1 clean (omega arith) l v
   clean_all i h clean C3 l v = none_at i 2 clean (omega arith) l v

@@ -1,7 +1,7 @@
 -- The faults of a system and its task code, and the least of them.
 use Rattle.std.specs.Prelude.{ℕ, ◌<◌, ◌≤◌, Option, Some, None}
 use Rattle.osek_values.specs.declared.refusal.CodeRule.{CodeRule}
-use Rattle.osek_values.specs.declared.refusal.CodeRule.TheVariants.{C0, C1, C2, C3, C4, C6, C7, C8, C9}
+use Rattle.osek_values.specs.declared.refusal.CodeRule.TheVariants.{C1, C2, C3, C4, C6, C7, C8, C9}
 use Rattle.app_model.specs.declared.system.System.{System}
 use Rattle.oil_model.specs.Lines.{IsIn}
 use Rattle.task_code.specs.declared.tree.Code.{Code}
@@ -17,7 +17,6 @@ HasNoFault s code = (rule : CodeRule) (line : ℕ) → Violates rule s code line
 
 -- the number of a rule
 abbrev pub order : CodeRule → ℕ
-order C0 = 0
 order C1 = 1
 order C2 = 2
 order C3 = 3

@@ -4,6 +4,7 @@ pub mod Blocks
 pub mod CallRules
 pub mod Faults
 pub mod Follows
+pub mod Generated
 pub mod Locks
 pub mod Names
 pub mod Rules

@@ -4,7 +4,7 @@ use Rattle.std.specs.List.{list_any, flat_map}
 use Rattle.std.specs.Str.{bytes_eq}
 use Rattle.osek_values.specs.declared.limits.TheConstants.{MAX_SOURCE_BLOCKS}
 use Rattle.osek_values.specs.declared.refusal.CodeRule.{CodeRule}
-use Rattle.osek_values.specs.declared.refusal.CodeRule.TheVariants.{C0, C1, C2, C3, C4, C6, C7, C8, C9}
+use Rattle.osek_values.specs.declared.refusal.CodeRule.TheVariants.{C1, C2, C3, C4, C6, C7, C8, C9}
 use Rattle.app_model.specs.declared.system.TaskObject.{TaskObject}
 use Rattle.app_model.specs.declared.system.System.{System}
 use Rattle.oil_model.specs.Rules.{repeated}
@@ -148,9 +148,8 @@ block_lines bodies = flat_map (λ (body : Body). statement_lines body.statements
 abbrev pub beyond_limit : List Body → List ℕ
 beyond_limit bodies = first_only (drop MAX_SOURCE_BLOCKS (block_lines bodies))
 
--- The lines on which a rule is violated. C9 is the reader's, and C0 isn't used.
+-- The lines on which a rule is violated. C9 is the reader's.
 abbrev pub lines : CodeRule → System → Code → List ℕ
-lines C0 s code = []
 lines C1 s code = missing_code s code.bodies
 lines C2 s code = stray_code s code.bodies
 lines C3 s code = repeated_code code.bodies

@@ -30,7 +30,6 @@ fn least_line(rule: CodeRule, system: &System, code: &Code) -> Option<u32>
 {
     let bodies = code.bodies.as_slice();
     match rule {
-        CodeRule::C0 => None,
         CodeRule::C1 => missing_code(system, bodies),
         CodeRule::C2 => stray_code(system, bodies),
         CodeRule::C3 => repeated_code(bodies),

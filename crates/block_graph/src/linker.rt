@@ -8,6 +8,7 @@ ghost use Rattle.task_code.specs.Fit.{IsFit, AreFit};
 ghost use Rattle.block_graph.specs.declared.fault.LinkFault.{LinkFault};
 ghost use Rattle.block_graph.specs.Answers.{IsAnswer, IsRight, Answers};
 ghost use Rattle.block_graph.specs.Apps.{HasApp};
+ghost use Rattle.block_graph.specs.Generated.{IsGenerated};
 ghost use Rattle.block_graph.specs.Blocks.{source_size as the_source_size, app_blocks as the_app_blocks};
 ghost use Rattle.block_graph.specs.Faults.{HasNoFault, IsLeastFault};
 
@@ -17,7 +18,7 @@ use crate::least_fault::least_fault;
 use crate::tables::{counters, isrs, tasks};
 use crate::ticks::lay_out_routines;
 use app_model::System;
-use osek_standard::{App, Block};
+use osek_standard::{App, Block, Counter, Isr, Task};
 use osek_values::{Memory, Seq};
 use std::alloc::Global;
 use task_code::{Body, Code};
@@ -35,6 +36,34 @@ fn app_blocks(alloc: Global, system: &System, bodies: &[Body]) -> Result<Seq<Blo
     Ok(Seq::of(blocks))
 }
 
+/// What is generated from the bodies: the blocks, and the objects that have blocks of their own.
+#[derive(Drop)]
+struct Generated {
+    tasks: Seq<Task>,
+    isrs: Seq<Isr>,
+    counters: Seq<Counter>,
+    blocks: Seq<Block>,
+}
+
+/// Generates what a system has of its bodies.
+fn generate(alloc: Global, system: &System, bodies: &[Body]) -> Result<Generated, Memory>
+    requires linkable { IsLinkable system.now }
+    requires fit { All IsFit bodies.now }
+    requires room { the_source_size bodies.now ≤ 1024 }
+    ensures { IfOk result (IsGenerated system.now bodies.now) }
+{
+    let tasks = tasks(alloc, system, bodies)?;
+    let isrs = isrs(alloc, system, bodies)?;
+    let counters = counters(alloc, system, source_size(bodies))?;
+    let blocks = app_blocks(alloc, system, bodies)?;
+    Ok(Generated {
+        tasks,
+        isrs,
+        counters,
+        blocks,
+    })
+}
+
 /// The application of a system and its code that have no fault.
 fn app(alloc: Global, system: System, code: &Code) -> Result<App, Memory>
     requires linkable { IsLinkable system }
@@ -42,20 +71,16 @@ fn app(alloc: Global, system: System, code: &Code) -> Result<App, Memory>
     requires no_fault { HasNoFault system code.now }
     ensures { IfOk result (λ app. HasApp system code.now app) }
 {
-    let bodies = code.bodies.as_slice();
-    let tasks = tasks(alloc, &system, bodies)?;
-    let isrs = isrs(alloc, &system, bodies)?;
-    let counters = counters(alloc, &system, source_size(bodies))?;
-    let blocks = app_blocks(alloc, &system, bodies)?;
+    let generated = generate(alloc, &system, code.bodies.as_slice())?;
     Ok(App {
         hooks: system.hooks,
-        tasks,
-        isrs,
-        counters,
+        tasks: generated.tasks,
+        isrs: generated.isrs,
+        counters: generated.counters,
         alarms: system.alarms,
         resources: system.resources,
         modes: system.modes,
-        blocks,
+        blocks: generated.blocks,
     })
 }
 

@@ -11,4 +11,5 @@ pub mod PlayedTrace
 pub mod Plays
 pub mod Results
 pub mod Runs
+pub mod Unloaded
 pub mod SmallImages

@@ -4,9 +4,15 @@ use Rattle.osek_standard.specs.declared.app.App.{App}
 use Rattle.app_model.specs.declared.system.System.{System}
 use Rattle.front_end.specs.Texts.{DeclaresSystem, GivesApp}
 use Rattle.front_end.specs.Answers.{IsOilRefusal, IsCodeRefusal}
+use Rattle.osek_values.specs.declared.refusal.LexRule.TheVariants.{L6}
+use Rattle.osek_values.specs.declared.refusal.Rule.TheVariants as rule
+use Rattle.osek_values.specs.declared.refusal.TextFile.{TextFile}
+use Rattle.osek_io.specs.declared.loading.LoadError.{LoadError}
+use Rattle.osek_io.specs.declared.loading.LoadError.TheVariants as load_error
 use Rattle.osek_io.specs.Counts.{Rose}
 use Rattle.osek_io.specs.Files.{Files, IsMissing}
 use Rattle.commands.specs.Inputs.{OfFile}
+use Rattle.commands.specs.Statuses.{text_input}
 use Rattle.commands.specs.declared.stop.Input.TheVariants as input
 use Rattle.commands.specs.declared.stop.Stop.{Stop}
 use Rattle.commands.specs.declared.stop.Stop.TheVariants as stop
@@ -18,6 +24,12 @@ OfSystem files oil P = OfFile files oil (λ text. (s : System) × DeclaresSystem
 -- of the application that both texts give P is true
 abbrev pub OfApp : Option Files → (oil code : List ℕ) → (App → Type 0) → Type 0
 OfApp files oil code P = OfSystem files oil (λ s. OfFile files code (λ text. (app : App) × GivesApp s text app × P app))
+
+-- why a text that isn't loaded stops the command
+abbrev pub unloaded : TextFile → LoadError → Stop
+unloaded file load_error.Read = stop.Unread (text_input file)
+unloaded file load_error.TooLong = stop.Refused (record { file = file; line = 0; rule = rule.Lex L6 })
+unloaded file load_error.Memory = stop.Memory
 
 -- why no system was made
 abbrev pub SystemStops : Option Files → (reads reads_after : ℕ) → (oil : List ℕ) → Stop → Type 0

@@ -26,8 +26,9 @@ fn image_bytes(alloc: Global, app: App) -> Result<Vec<u8>, Memory>
     ensures { IfOk result (λ v. SpellsKernelImage app v.items) }
 {
     let image = image_of(alloc, app)?;
-    let bytes = encode(alloc, &image)?;
-    Ok(bytes)
+    let bytes = encode(alloc, &image);
+    drop(image);
+    Ok(bytes?)
 }
 
 /// Stores the image of the application that the two texts give. No file is written before the image is made.

@@ -6,9 +6,10 @@ ghost use Rattle.osek_values.specs.declared.refusal.Rule.TheVariants as rule;
 ghost use Rattle.front_end.specs.Texts.{DeclaresSystem, GivesApp};
 ghost use Rattle.commands.specs.declared.stop.Stop.TheVariants as stop;
 ghost use Rattle.commands.specs.Inputs.{OfFile};
-ghost use Rattle.commands.specs.Compiling.{OfApp, SystemStops, CodeStops, CompileStops};
+ghost use Rattle.commands.specs.Compiling.{OfApp, unloaded as unloaded_stop, SystemStops, CodeStops, CompileStops};
 
-use crate::stop::{Input, Stop};
+use crate::stop::Stop;
+use crate::telling::text_input;
 use app_model::System;
 use front_end::{TextError, read_app, read_system};
 use osek_io::{LoadError, Shelf, load};
@@ -28,6 +29,17 @@ fn too_long(file: TextFile) -> Stop
     })
 }
 
+/// Why a text that isn't loaded stops the command.
+fn unloaded(file: TextFile, error: LoadError) -> Stop
+    ensures { result ≡ unloaded_stop file error }
+{
+    match error {
+        LoadError::Read => Stop::Unread(text_input(file)),
+        LoadError::TooLong => too_long(file),
+        LoadError::Memory => Stop::Memory,
+    }
+}
+
 /// The system that the OIL text in a file declares.
 fn load_system<F: Shelf>(alloc: Global, shelf: &mut F, oil: &str) -> Result<System, Stop>
     ensures system { IfOk result (λ s. OfFile (F.contents shelf.old) oil.now (λ b. DeclaresSystem b s)) }
@@ -39,9 +51,7 @@ fn load_system<F: Shelf>(alloc: Global, shelf: &mut F, oil: &str) -> Result<Syst
 {
     let text = match load(alloc, shelf, oil, MAX_FILE as u64) {
         Ok(text) => text,
-        Err(LoadError::Read) => return Err(Stop::Unread(Input::Oil)),
-        Err(LoadError::TooLong) => return Err(too_long(TextFile::Oil)),
-        Err(LoadError::Memory) => return Err(Stop::Memory),
+        Err(error) => return Err(unloaded(TextFile::Oil, error)),
     };
     match read_system(alloc, &text) {
         Ok(system) => Ok(system),
@@ -66,9 +76,10 @@ fn load_code<F: Shelf>(
 {
     let text = match load(alloc, shelf, code, MAX_FILE as u64) {
         Ok(text) => text,
-        Err(LoadError::Read) => return Err(Stop::Unread(Input::Code)),
-        Err(LoadError::TooLong) => return Err(too_long(TextFile::Code)),
-        Err(LoadError::Memory) => return Err(Stop::Memory),
+        Err(error) => {
+            drop(system);
+            return Err(unloaded(TextFile::Code, error));
+        }
     };
     match read_app(alloc, system, &text) {
         Ok(app) => Ok(app),

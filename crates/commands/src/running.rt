@@ -92,6 +92,44 @@ fn line_room(alloc: Global) -> Result<Vec<u8>, Memory>
     Ok(vec![in alloc; 0u8; LINE_MAX]?)
 }
 
+/// Plays a machine that has just started, to its end. Its scans are counted in a ledger of their own.
+fn play_machine<O: Sink>(
+    out: &mut O,
+    mut machine: Machine,
+    notes: &Notes,
+    text: &[u8],
+    line: &mut [u8],
+) -> Result<(), Stop>
+    requires running { machine.trapped ≡ false }
+    requires room { LINE_MAX ≤ length line.old }
+    requires few { length text.now ≤ MAX_EVENT_TEXT }
+    ensures { PlayAnswers (O.faults out.old) (O.faults out.new) (O.written out.old) (O.written out.new) (printing (line_of machine.image 0 (stepped machine.state notes.now)) (plays machine.image (numbered_lines text.now) 1 machine.state)) result }
+{
+    let played = print_trace::<Brand, O>(Blank::new(1), out, &mut machine, notes, text, line);
+    drop(machine);
+    played
+}
+
+/// Plays an image from its start in a mode, with room for a line.
+fn play_with<O: Sink>(
+    alloc: Global,
+    out: &mut O,
+    image: Image,
+    mode: ModeNo,
+    text: &[u8],
+    line: &mut [u8],
+) -> Result<(), Stop>
+    requires known { mode.0 < length image.app.modes }
+    requires room { LINE_MAX ≤ length line.old }
+    requires few { length text.now ≤ MAX_EVENT_TEXT }
+    ensures { PlaysWhole (O.faults out.old) (O.faults out.new) (O.written out.old) (O.written out.new) image mode text.now result }
+{
+    match Machine::start(alloc, image, mode) {
+        Ok((machine, notes)) => play_machine(out, machine, &notes, text, line),
+        Err(_) => Err(Stop::Memory),
+    }
+}
+
 /// Plays an image from its start in a mode. All memory is taken before the first line is printed.
 fn play_image<O: Sink>(
     alloc: Global,
@@ -104,14 +142,12 @@ fn play_image<O: Sink>(
     requires few { length text.now ≤ MAX_EVENT_TEXT }
     ensures { PlaysWhole (O.faults out.old) (O.faults out.new) (O.written out.old) (O.written out.new) image mode text.now result }
 {
-    let Ok(mut line) = line_room(alloc) else {
-        return Err(Stop::Memory);
-    };
-    match Machine::start(alloc, image, mode) {
-        Ok((mut machine, notes)) => {
-            print_trace::<Brand, O>(Blank::new(1), out, &mut machine, &notes, text, &mut line)
+    match line_room(alloc) {
+        Ok(mut line) => play_with(alloc, out, image, mode, text, &mut line),
+        Err(_) => {
+            drop(image);
+            Err(Stop::Memory)
         }
-        Err(_) => Err(Stop::Memory),
     }
 }
 
@@ -133,10 +169,14 @@ pub fn run<F: Shelf, O: Sink>(
     ensures never_falls { F.read_faults shelf.old ≤ F.read_faults shelf.new }
 {
     let Some(mode) = mode_named(&image.app, mode) else {
+        drop(image);
         return Err(Stop::NoMode);
     };
     match load_events(alloc, shelf, events) {
         Ok(text) => play_image(alloc, out, image, mode, &text),
-        Err(stop) => Err(stop),
+        Err(stop) => {
+            drop(image);
+            Err(stop)
+        }
     }
 }

@@ -5,7 +5,7 @@ ghost use Rattle.osek_io.specs.Pieces.{grown};
 ghost use Rattle.commands.specs.Answering.{Tells};
 ghost use Rattle.commands.specs.Seen.{seen};
 ghost use Rattle.commands.specs.Statuses.{stop_status, stop_text, names_of, mode_of, text_input as the_text_input};
-ghost use Rattle.commands.specs.Telling.{WritesFront};
+ghost use Rattle.commands.specs.Telling.{WritesFront, fault_text};
 
 use crate::stop::{Input, Stop};
 use crate::tell::{put_two, tell_fault};
@@ -35,7 +35,7 @@ fn status(stop: &Stop) -> u8
 }
 
 /// The input that holds a text.
-fn text_input(file: TextFile) -> Input
+pub fn text_input(file: TextFile) -> Input
     ensures { result ≡ the_text_input file }
 {
     match file {
@@ -75,6 +75,35 @@ fn tell_mode<E: Sink>(err: &mut E, command: &Option<Command<'_>>) -> Result<(), 
     Ok(())
 }
 
+/// Tells a fault at a place of an input.
+fn tell_fault_in<E: Sink>(
+    err: &mut E,
+    command: &Option<Command<'_>>,
+    input: Input,
+    place: u64,
+    rule: &[u8],
+) -> Result<(), PutError>
+    ensures ok { OnOk result (E.written err.new ≡ grown (E.written err.old) (fault_text (names_of (option_map seen command.now) input) place rule.now)) }
+    ensures front { OnErr result (WritesFront (E.written err.old) (E.written err.new) (fault_text (names_of (option_map seen command.now) input) place rule.now)) }
+    ensures cause { OnErr result (Rose (E.faults err.old) (E.faults err.new)) }
+{
+    tell_fault(err, name_of(command, input).as_bytes(), place, rule)
+}
+
+/// Tells what is said of an input.
+fn tell_of<E: Sink>(
+    err: &mut E,
+    command: &Option<Command<'_>>,
+    input: Input,
+    said: &[u8],
+) -> Result<(), PutError>
+    ensures ok { OnOk result (E.written err.new ≡ grown (E.written err.old) (names_of (option_map seen command.now) input ++ said.now)) }
+    ensures front { OnErr result (WritesFront (E.written err.old) (E.written err.new) (names_of (option_map seen command.now) input ++ said.now)) }
+    ensures cause { OnErr result (Rose (E.faults err.old) (E.faults err.new)) }
+{
+    put_two(err, name_of(command, input).as_bytes(), said)
+}
+
 /// Tells the text of a stop.
 fn tell_stop<E: Sink>(
     err: &mut E,
@@ -87,37 +116,36 @@ fn tell_stop<E: Sink>(
 {
     match stop {
         Stop::Refused(refusal) => {
-            let file = name_of(command, text_input(refusal.file));
-            tell_fault(
+            tell_fault_in(
                 err,
-                file.as_bytes(),
+                command,
+                text_input(refusal.file),
                 refusal.line as u64,
                 refusal.rule.name(),
-            )?
+            )
         }
-        Stop::Usage => put_two(err, b"usage", b"\n")?,
-        Stop::Image(fault) => {
-            let file = name_of(command, Input::Image);
-            tell_fault(err, file.as_bytes(), fault.offset as u64, fault.rule.name())?
-        }
-        Stop::Events(fault) => {
-            let file = name_of(command, Input::Events);
-            tell_fault(err, file.as_bytes(), fault.line as u64, fault.rule.name())?
-        }
-        Stop::Unread(input) => {
-            let file = name_of(command, *input);
-            put_two(err, file.as_bytes(), b": read\n")?
-        }
-        Stop::Unstored => {
-            let file = name_of(command, Input::Image);
-            put_two(err, file.as_bytes(), b": write\n")?
-        }
-        Stop::Unprinted => put_two(err, b"out", b": write\n")?,
-        Stop::Memory => put_two(err, b"memory", b"\n")?,
-        Stop::Trapped => (),
-        Stop::NoMode => tell_mode(err, command)?,
+        Stop::Usage => put_two(err, b"usage", b"\n"),
+        Stop::Image(fault) => tell_fault_in(
+            err,
+            command,
+            Input::Image,
+            fault.offset as u64,
+            fault.rule.name(),
+        ),
+        Stop::Events(fault) => tell_fault_in(
+            err,
+            command,
+            Input::Events,
+            fault.line as u64,
+            fault.rule.name(),
+        ),
+        Stop::Unread(input) => tell_of(err, command, *input, b": read\n"),
+        Stop::Unstored => tell_of(err, command, Input::Image, b": write\n"),
+        Stop::Unprinted => put_two(err, b"out", b": write\n"),
+        Stop::Memory => put_two(err, b"memory", b"\n"),
+        Stop::Trapped => Ok(()),
+        Stop::NoMode => tell_mode(err, command),
     }
-    Ok(())
 }
 
 /// Tells why a command stopped.

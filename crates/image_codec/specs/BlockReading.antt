@@ -1,5 +1,5 @@
 -- Reading the blocks of an image, and its end.
-use Rattle.std.specs.Prelude.{ℕ, ◌+◌, ◌-◌, ◌≤◌, Bool, true, false, ◌&&◌, nat_lt, nat_le, ◌==◌, List, [], ◌∷◌, length, map, slice_get, slice_index_or, Option, Some, None, Ok, Err, if◌then◌else◌}
+use Rattle.std.specs.Prelude.{⊤, ℕ, ◌+◌, ◌-◌, ◌≤◌, Bool, true, false, ◌&&◌, nat_lt, nat_le, ◌==◌, List, [], ◌∷◌, length, map, slice_get, slice_index_or, Option, Some, None, Ok, Err, if◌then◌else◌}
 use Rattle.std.specs.Int.{w16, w32, w64}
 use Rattle.std.specs.List.{list_any, list_all, enumerate_from}
 use Rattle.osek_values.specs.Numbers.{task_no, alarm_no, res_no, block_no, mask}
@@ -22,6 +22,26 @@ use Rattle.image_codec.specs.declared.parts.Parts.{Parts}
 use Rattle.image_codec.specs.Reading.{Read, ◌>>=◌, fault_at, kept, byte_at, number_at, tested_at, byte_below_at, flag_at, entries_at}
 use Rattle.image_codec.specs.SiteKinds.{is_site_in}
 use Rattle.image_codec.specs.TableReading.{header_at, tables_at}
+
+-- a call for an alarm, or its expiry
+abbrev pub IsForAlarm : Kind → Type 0
+IsForAlarm (kind.SetRelAlarm _ _ _) = ⊤
+IsForAlarm (kind.SetAbsAlarm _ _ _) = ⊤
+IsForAlarm (kind.CancelAlarm _) = ⊤
+IsForAlarm (kind.GetAlarm _) = ⊤
+IsForAlarm (kind.Expire _) = ⊤
+IsForAlarm k = ⊥
+
+-- a call for a task or for events
+abbrev pub IsForTask : Kind → Type 0
+IsForTask (kind.ActivateTask _) = ⊤
+IsForTask (kind.ChainTask _) = ⊤
+IsForTask (kind.GetTaskState _) = ⊤
+IsForTask (kind.SetEvent _ _) = ⊤
+IsForTask (kind.GetEvent _) = ⊤
+IsForTask (kind.ClearEvent _) = ⊤
+IsForTask (kind.WaitEvent _) = ⊤
+IsForTask k = ⊥
 
 -- the numbers of the entries fit a byte
 pub record AreSmall (t : Tables) : Type 0 where

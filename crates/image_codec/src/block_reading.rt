@@ -4,7 +4,7 @@ ghost use Rattle.std.specs.Int.{w16, w32, w64};
 ghost use Rattle.std.specs.List.{list_any, list_all, enumerate_from, zip};
 ghost use Rattle.osek_standard.specs.Validity.{owners, is_within as is_among, task_may as may_in_task, isr_may as may_in_isr, due_of};
 ghost use Rattle.image_codec.specs.Reading.{Gives, byte_below_at, tested_at, tested_byte_at, entries_at};
-ghost use Rattle.image_codec.specs.BlockReading.{blank_kinds, AreSmall, tick_order as order_of_ticks, where_has, task_range, isr_range, counter_range, tasks_allow as do_tasks_allow, isrs_allow as do_isrs_allow, counter_allows as does_counter_allow, counters_allow as do_counters_allow, is_owned as has_owner, is_allowed as may_stand, is_due_in as is_due_in_counter, is_due as is_the_due, is_way as may_lead_to, kind_at, events_at, lock_at, locks, due_at, operands_at, way_at, ways_at, direct_form, form_of as form_of_number, site_at, block_at, blocks_at};
+ghost use Rattle.image_codec.specs.BlockReading.{blank_kinds, AreSmall, IsForAlarm, IsForTask, tick_order as order_of_ticks, where_has, task_range, isr_range, counter_range, tasks_allow as do_tasks_allow, isrs_allow as do_isrs_allow, counter_allows as does_counter_allow, counters_allow as do_counters_allow, is_owned as has_owner, is_allowed as may_stand, is_due_in as is_due_in_counter, is_due as is_the_due, is_way as may_lead_to, kind_at, events_at, lock_at, locks, due_at, operands_at, way_at, ways_at, direct_form, form_of as form_of_number, site_at, block_at, blocks_at};
 ghost use Rattle.image_codec.specs.declared.fault.ImageRule.TheVariants.{I3, I5};
 
 use crate::fault::{ImageRule, ReadError};
@@ -427,25 +427,19 @@ fn due(reader: &mut Reader, tables: &Tables, block: u16) -> Result<AlarmNo, Read
     Ok(alarm)
 }
 
-/// A kind with its operands.
+/// A call for an alarm with its operands, or its expiry.
 #[tactic(auto, unfolding(crate::specs::BlockReading::operands_at))]
-fn operands(reader: &mut Reader, tables: &Tables, block: u16, kind: Kind) -> Result<Kind, ReadError>
-    requires { AreSmall tables.now }
+fn alarm_operands(
+    reader: &mut Reader,
+    tables: &Tables,
+    block: u16,
+    kind: Kind,
+) -> Result<Kind, ReadError>
+    requires small { AreSmall tables.now }
+    requires for_alarm { IsForAlarm kind }
     ensures { Gives (λ x. x) result reader.new (operands_at tables.now block kind reader.old) }
 {
     match kind {
-        Kind::Work(_) => Ok(Kind::Work(instructions(reader)?)),
-        Kind::ActivateTask(_) => Ok(Kind::ActivateTask(task_no(reader, tables)?)),
-        Kind::ChainTask(_) => Ok(Kind::ChainTask(task_no(reader, tables)?)),
-        Kind::GetResource(_) => Ok(Kind::GetResource(resource_no(reader, tables)?)),
-        Kind::ReleaseResource(_) => Ok(Kind::ReleaseResource(resource_no(reader, tables)?)),
-        Kind::SetEvent(_, _) => {
-            let task = task_no(reader, tables)?;
-            Ok(Kind::SetEvent(task, events(reader)?))
-        }
-        Kind::ClearEvent(_) => Ok(Kind::ClearEvent(events(reader)?)),
-        Kind::GetEvent(_) => Ok(Kind::GetEvent(task_no(reader, tables)?)),
-        Kind::WaitEvent(_) => Ok(Kind::WaitEvent(events(reader)?)),
         Kind::SetRelAlarm(_, _, _) => {
             let alarm = alarm_no(reader, tables)?;
             let increment = reader.number_64()?;
@@ -460,9 +454,61 @@ fn operands(reader: &mut Reader, tables: &Tables, block: u16, kind: Kind) -> Res
         }
         Kind::CancelAlarm(_) => Ok(Kind::CancelAlarm(alarm_no(reader, tables)?)),
         Kind::GetAlarm(_) => Ok(Kind::GetAlarm(alarm_no(reader, tables)?)),
-        Kind::GetTaskState(_) => Ok(Kind::GetTaskState(task_no(reader, tables)?)),
-        Kind::LockCall(_) => Ok(Kind::LockCall(lock(reader)?)),
         Kind::Expire(_) => Ok(Kind::Expire(due(reader, tables, block)?)),
+        other => Ok(other),
+    }
+}
+
+/// A call for a task or for events with its operands.
+#[tactic(auto, unfolding(crate::specs::BlockReading::operands_at))]
+fn task_operands(
+    reader: &mut Reader,
+    tables: &Tables,
+    block: u16,
+    kind: Kind,
+) -> Result<Kind, ReadError>
+    requires small { AreSmall tables.now }
+    requires for_task { IsForTask kind }
+    ensures { Gives (λ x. x) result reader.new (operands_at tables.now block kind reader.old) }
+{
+    match kind {
+        Kind::ActivateTask(_) => Ok(Kind::ActivateTask(task_no(reader, tables)?)),
+        Kind::ChainTask(_) => Ok(Kind::ChainTask(task_no(reader, tables)?)),
+        Kind::GetTaskState(_) => Ok(Kind::GetTaskState(task_no(reader, tables)?)),
+        Kind::SetEvent(_, _) => {
+            let task = task_no(reader, tables)?;
+            Ok(Kind::SetEvent(task, events(reader)?))
+        }
+        Kind::GetEvent(_) => Ok(Kind::GetEvent(task_no(reader, tables)?)),
+        Kind::ClearEvent(_) => Ok(Kind::ClearEvent(events(reader)?)),
+        Kind::WaitEvent(_) => Ok(Kind::WaitEvent(events(reader)?)),
+        other => Ok(other),
+    }
+}
+
+/// A kind with its operands.
+#[tactic(auto, unfolding(crate::specs::BlockReading::operands_at))]
+fn operands(reader: &mut Reader, tables: &Tables, block: u16, kind: Kind) -> Result<Kind, ReadError>
+    requires { AreSmall tables.now }
+    ensures { Gives (λ x. x) result reader.new (operands_at tables.now block kind reader.old) }
+{
+    match kind {
+        Kind::Work(_) => Ok(Kind::Work(instructions(reader)?)),
+        Kind::GetResource(_) => Ok(Kind::GetResource(resource_no(reader, tables)?)),
+        Kind::ReleaseResource(_) => Ok(Kind::ReleaseResource(resource_no(reader, tables)?)),
+        Kind::LockCall(_) => Ok(Kind::LockCall(lock(reader)?)),
+        Kind::ActivateTask(_)
+        | Kind::ChainTask(_)
+        | Kind::GetTaskState(_)
+        | Kind::SetEvent(_, _)
+        | Kind::GetEvent(_)
+        | Kind::ClearEvent(_)
+        | Kind::WaitEvent(_) => task_operands(reader, tables, block, kind),
+        Kind::SetRelAlarm(_, _, _)
+        | Kind::SetAbsAlarm(_, _, _)
+        | Kind::CancelAlarm(_)
+        | Kind::GetAlarm(_)
+        | Kind::Expire(_) => alarm_operands(reader, tables, block, kind),
         Kind::Choice(_)
         | Kind::Loop
         | Kind::TerminateTask

@@ -95,7 +95,11 @@ fn reads<T: Fn(&Image) -> bool>(alloc: Global, bytes: &[u8], is_so: T) -> bool
     requires { T.IsAlwaysCallable is_so }
 {
     match decode(alloc, bytes) {
-        Ok(image) => is_so(&image) && spells(alloc, &image, bytes),
+        Ok(image) => {
+            let right = is_so(&image) && spells(alloc, &image, bytes);
+            drop(image);
+            right
+        }
         Err(_) => false,
     }
 }
@@ -145,7 +149,11 @@ fn is_general_behind_work(image: &Image) -> bool {
 
 fn is_so_made_general(alloc: Global, image: Image) -> bool {
     match made_general(alloc, image) {
-        Some(image) => is_general_behind_work(&image),
+        Some(image) => {
+            let right = is_general_behind_work(&image);
+            drop(image);
+            right
+        }
         None => false,
     }
 }
@@ -255,9 +263,9 @@ const HOSTILE: [(&str, usize, u8, ImageRule, usize); 18] = [
 
 /// The name of the first that gives another fault, or none.
 fn first_wrong_byte(alloc: Global) -> Option<&'static str> {
-    for (name, at, byte, rule, offset) in HOSTILE {
-        if !is_fault(alloc, &changed(at, byte), rule, offset) {
-            return Some(name);
+    for (name, at, byte, rule, offset) in &HOSTILE {
+        if !is_fault(alloc, &changed(*at, *byte), *rule, *offset) {
+            return Some(*name);
         }
     }
     None

@@ -58,9 +58,11 @@ fn starts_and_runs_as(alloc: Global, app: &App, wanted: &[(Processor, Notes); 3]
 {
     match start(alloc, app, ModeNo(0)) {
         Ok((mut state, notes)) => {
-            state.processor == Processor::Running(TaskNo(0))
+            let right = state.processor == Processor::Running(TaskNo(0))
                 && notes == nothing()
-                && runs_as(app, &mut state, wanted)
+                && runs_as(app, &mut state, wanted);
+            drop(state);
+            right
         }
         Err(_) => false,
     }

@@ -74,9 +74,11 @@ fn starts_and_runs_as(alloc: Global, image: Image, wanted: &[Turn; 3]) -> bool
 {
     match Machine::start(alloc, image, ModeNo(0)) {
         Ok((mut machine, notes)) => {
-            machine.state().processor == Processor::Running(TaskNo(0))
+            let right = machine.state().processor == Processor::Running(TaskNo(0))
                 && Ok(notes) == noted(None)
-                && runs_as(&mut machine, wanted)
+                && runs_as(&mut machine, wanted);
+            drop(machine);
+            right
         }
         Err(_) => false,
     }

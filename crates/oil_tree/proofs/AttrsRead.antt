@@ -7,6 +7,7 @@ use Rattle.oil_lexer.specs.declared.token.Mark.TheVariants.{OpenBrace, CloseBrac
 use Rattle.oil_lexer.specs.declared.token.Token.{Token}
 use Rattle.oil_tree.specs.declared.tree.Value.{Value}
 use Rattle.oil_tree.specs.declared.tree.Attr.{Attr}
+use Rattle.oil_grammar.specs.declared.fault.Stop.{Stop}
 use Rattle.oil_grammar.specs.declared.fault.Stop.TheVariants.{TooDeep}
 use Rattle.oil_tree.specs.Attrs.{Attrs, no_attrs, attr_then}
 use Rattle.oil_tree.specs.AttrLists.{list_before}
@@ -48,6 +49,17 @@ open_body d l stack ts h = shallow MAX_OIL_DEPTH d _ _ h
 
 pub deep_body : (d l : ℕ) (stack : Stack) (ts : List Token) → MAX_OIL_DEPTH ≤ d → scan d (a_body ∷ stack) (mark OpenBrace l ∷ ts) ≡ Some (TooDeep l)
 deep_body d l stack ts h = deep MAX_OIL_DEPTH d _ _ h
+
+-- reading stops in the braces of a body, or behind them
+pub stops_within : (t : Token) (d : ℕ) (stack : Stack) (ts tokens : List Token) (stop : Stop) → tokens ≡ t ∷ ts → is_open t.kind ≡ true → d < MAX_OIL_DEPTH → scan (d + 1) (some_attrs ∷ (an_end ∷ stack)) ts ≡ Some stop → scan d (a_body ∷ stack) tokens ≡ Some stop
+stops_within t d stack ts tokens stop e o h s =
+    let front : tokens ≡ mark OpenBrace t.line ∷ ts = front_is t (Mark OpenBrace) tokens ts e (open_kind t.kind o) in
+    ap (scan d (a_body ∷ stack)) front ∙ open_body d t.line stack ts h ∙ s
+
+pub stops_behind_attrs : (t : Token) (d : ℕ) (inner : Attrs) (stack : Stack) (ts tokens b : List Token) (stop : Stop) → tokens ≡ t ∷ ts → is_open t.kind ≡ true → d < MAX_OIL_DEPTH → ReadsAttrs (d + 1) ts inner b → scan d (an_end ∷ stack) b ≡ Some stop → scan d (a_body ∷ stack) tokens ≡ Some stop
+stops_behind_attrs t d inner stack ts tokens b stop e o h r s =
+    let back : d + 1 - 1 ≡ d = omega arith in
+    stops_within t d stack ts tokens stop e o h (r.takes (an_end ∷ stack) ∙ ap (λ n. scan n (an_end ∷ stack) b) back ∙ s)
 
 pub reads_nested : (t : Token) (d : ℕ) (inner : Attrs) (ts tokens b rest : List Token) → tokens ≡ t ∷ ts → is_open t.kind ≡ true → d < MAX_OIL_DEPTH → ReadsAttrs (d + 1) ts inner b → IsEnd b rest → ReadsBody d tokens inner rest
 reads_nested t d inner ts tokens b rest e o h r end =

@@ -4,7 +4,7 @@ use Rattle.std.specs.Prelude.{Some, Result, Ok, Err}
 use Rattle.osek_values.specs.declared.refusal.Rule.{Rule}
 use Rattle.osek_values.specs.declared.refusal.Rule.TheVariants.{Lex, Syntax, Oil, Code as of_code}
 use Rattle.osek_values.specs.declared.refusal.SyntaxRule.{SyntaxRule}
-use Rattle.osek_values.specs.declared.refusal.CodeRule.TheVariants.{C0, C1, C2, C3, C4, C6, C7, C8, C9}
+use Rattle.osek_values.specs.declared.refusal.CodeRule.TheVariants.{C1, C2, C3, C4, C6, C7, C8, C9}
 use Rattle.osek_values.specs.declared.limits.TheConstants.{MAX_CODE_DEPTH}
 use Rattle.oil_lexer.specs.declared.token.Mark.TheVariants.{Semicolon}
 use Rattle.oil_lexer.specs.declared.token.Token.{Token}
@@ -148,7 +148,6 @@ code_or_fault tokens code (of_code C9) line h f =
     let none : wrong_works_in f.code.bodies ≡ [] = ap (λ (c : Code). wrong_works_in c.bodies) (sym same) ∙ h.works in
     let some = f.works in
     absurd cc
-code_or_fault tokens code (of_code C0) line h f = f
 code_or_fault tokens code (of_code C1) line h f = f
 code_or_fault tokens code (of_code C2) line h f = f
 code_or_fault tokens code (of_code C3) line h f = f
@@ -172,7 +171,6 @@ Same rule line rule' line' = (rule ≡ rule') × (line ≡ line')
 same_as_syntax : (tokens : List Token) (rule : SyntaxRule) (rule' : Rule) (line line' : ℕ) → IsSyntaxFault tokens rule line → IsFirstFault tokens rule' line' → Same (Syntax rule) line rule' line'
 same_as_syntax tokens rule (Syntax rule') line line' f g = let s = same_fault Code IsSentence MAX_CODE_DEPTH tokens rule rule' line line' f g in (ap Syntax s.0, s.1)
 same_as_syntax tokens rule (of_code C9) line line' f g = absurd (no_fault Code IsSentence MAX_CODE_DEPTH tokens g.code rule line g.tree f)
-same_as_syntax tokens rule (of_code C0) line line' f g = absurd g
 same_as_syntax tokens rule (of_code C1) line line' f g = absurd g
 same_as_syntax tokens rule (of_code C2) line line' f g = absurd g
 same_as_syntax tokens rule (of_code C3) line line' f g = absurd g
@@ -186,7 +184,6 @@ same_as_syntax tokens rule (Oil rule') line line' f g = absurd g
 same_as_work : (tokens : List Token) (rule' : Rule) (line line' : ℕ) → HasWrongWork tokens line → IsFirstFault tokens rule' line' → Same (of_code C9) line rule' line'
 same_as_work tokens (Syntax rule') line line' f g = absurd (no_fault Code IsSentence MAX_CODE_DEPTH tokens f.code rule' line' f.tree g)
 same_as_work tokens (of_code C9) line line' f g = (refl, works_same tokens line line' f g)
-same_as_work tokens (of_code C0) line line' f g = absurd g
 same_as_work tokens (of_code C1) line line' f g = absurd g
 same_as_work tokens (of_code C2) line line' f g = absurd g
 same_as_work tokens (of_code C3) line line' f g = absurd g
@@ -200,7 +197,6 @@ same_as_work tokens (Oil rule') line line' f g = absurd g
 same_first : (tokens : List Token) (rule rule' : Rule) (line line' : ℕ) → IsFirstFault tokens rule line → IsFirstFault tokens rule' line' → Same rule line rule' line'
 same_first tokens (Syntax rule) rule' line line' f g = same_as_syntax tokens rule rule' line line' f g
 same_first tokens (of_code C9) rule' line line' f g = same_as_work tokens rule' line line' f g
-same_first tokens (of_code C0) rule' line line' f g = absurd f
 same_first tokens (of_code C1) rule' line line' f g = absurd f
 same_first tokens (of_code C2) rule' line line' f g = absurd f
 same_first tokens (of_code C3) rule' line line' f g = absurd f

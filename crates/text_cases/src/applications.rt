@@ -54,9 +54,27 @@ fn linked(alloc: Global, oil: &[u8], text: &[u8]) -> Result<App, LinkError> {
     }
 }
 
+/// Whether the application of two texts is so.
+fn gives<T: Fn(&App) -> bool>(alloc: Global, oil: &[u8], text: &[u8], is_so: T) -> bool
+    requires { T.IsAlwaysCallable is_so }
+{
+    match linked(alloc, oil, text) {
+        Ok(app) => {
+            let right = is_so(&app);
+            drop(app);
+            right
+        }
+        Err(_) => false,
+    }
+}
+
 fn outcome_of(alloc: Global, oil: &[u8], text: &[u8]) -> Outcome {
     match linked(alloc, oil, text) {
-        Ok(app) => Outcome::Blocks(app.blocks.len()),
+        Ok(app) => {
+            let blocks = app.blocks.len();
+            drop(app);
+            Outcome::Blocks(blocks)
+        }
         Err(LinkError::Fault(fault)) => Outcome::Faulty(fault.rule, fault.line),
         Err(LinkError::Memory) => Outcome::Nothing,
     }
@@ -104,8 +122,7 @@ fn second_before_first(app: &App) -> bool {
 fn tasks_in_the_order_of_the_text(rt: HostRuntime) {
     let oil = b"CPU c { OS os; TASK T1 { PRIORITY = 1; }; TASK T2 { PRIORITY = 2; }; };";
     let text = b"TASK(T2) { ActivateTask(T1);\n TerminateTask(); }\nTASK(T1) { TerminateTask();\n}";
-    let right = linked(rt.alloc(), oil, text).is_ok_and(|app| second_before_first(&app));
-    assert!(rt; right);
+    assert!(rt; gives(rt.alloc(), oil, text, second_before_first));
     one_answer();
 }
 
@@ -130,8 +147,7 @@ fn branches_and_loops(rt: HostRuntime) {
     let oil = b"CPU c { OS os; TASK T { PRIORITY = 1; }; };";
     let text =
         b"TASK(T) {\nif (?) { work 1; } else { }\nif (?) { } else { work 2; }\nwhile (?) { }\nwhile (?) { if (?) { } }\nwhile (1) { Schedule(); }\n}";
-    let right = linked(rt.alloc(), oil, text).is_ok_and(|app| branches_and_loops_lead(&app));
-    assert!(rt; right);
+    assert!(rt; gives(rt.alloc(), oil, text, branches_and_loops_lead));
 }
 
 fn are_counters(counters: &[Counter]) -> bool {
@@ -170,8 +186,7 @@ fn locks_masks_and_ticks(rt: HostRuntime) {
         b"CPU c { OS os; EVENT E1; EVENT E2; EVENT E3; TASK T { PRIORITY = 1; EVENT = E1; EVENT = E2; EVENT = E3; }; ISR I { CATEGORY = 2; }; COUNTER C { MAXALLOWEDVALUE = 9; }; COUNTER D { MAXALLOWEDVALUE = 9; }; ALARM A { COUNTER = D; ACTION = ACTIVATETASK { TASK = T; }; }; ALARM B { COUNTER = C; ACTION = ACTIVATETASK { TASK = T; }; }; };";
     let text =
         b"ISR(I) {\nSuspendAllInterrupts();\nwork 3;\nResumeAllInterrupts();\nSetEvent(T, E1 | E3);\nCancelAlarm(B);\n}\nTASK(T) { }";
-    let right = linked(rt.alloc(), oil, text).is_ok_and(|app| locks_and_ticks_stand(&app));
-    assert!(rt; right);
+    assert!(rt; gives(rt.alloc(), oil, text, locks_and_ticks_stand));
 }
 
 /// A system with a task, a resource, and an ISR of either category.

@@ -26,7 +26,11 @@ const OIL: &[u8] = b"CPU c { OS os; TASK T1 { PRIORITY = 1; AUTOSTART = TRUE; };
 fn sizes(alloc: Global, text: &[u8]) -> Result<(usize, usize), TextError> {
     let system = read_system(alloc, OIL)?;
     match read_app(alloc, system, text) {
-        Ok(app) => Ok((app.tasks.len(), app.blocks.len())),
+        Ok(app) => {
+            let sizes = (app.tasks.len(), app.blocks.len());
+            drop(app);
+            Ok(sizes)
+        }
         Err(error) => Err(error),
     }
 }

@@ -1,9 +1,13 @@
-use Rattle.std.proofs.Common.{◌≡◌, ℕ, ◌+◌, ◌-◌, List, ◌++◌, length, length-drop, ◌∙◌, sym, ap, subst, drop, arith}
+use Rattle.std.proofs.Common.{◌≡◌, ℕ, ◌+◌, ◌-◌, List, [], ◌∷◌, ◌++◌, length, length-drop, append_assoc, ◌∙◌, sym, ap, subst, drop, rules, arith}
 use Rattle.std.proofs.lemmas.List.{take_all}
+use Rattle.osek_values.specs.Numbers.{block_no}
+use Rattle.osek_standard.specs.declared.block.Block.{Block}
+use Rattle.osek_standard.specs.declared.block.Kind.TheVariants as kind
 use Rattle.task_code.specs.declared.tree.Statement.{Statement}
 use Rattle.task_code.specs.Statements.{closing_line}
 use Rattle.task_code.specs.StatementLists.{list_of}
-use Rattle.block_graph.specs.Blocks.{entry, blocks_of}
+use Rattle.block_graph.specs.Blocks.{block, entry, blocks_of}
+use Rattle.block_graph.specs.StatementBlocks.{loop_kind, statement_blocks}
 use Rattle.block_graph.proofs.BlocksSteps.{laid_out, nodes_left, counts_left}
 use Rattle.block_graph.proofs.layout.+layout.Goals as goal
 
@@ -30,3 +34,36 @@ lay_out-loop-i-preserved t c =
       fewer = let before = c.loop-i.invariant.fewer in omega (arith, left, before);
       counts = counts_left s items i close n c.args.after st lt item c.loop-i.invariant.counts;
     }
+
+pub lay_out_statement-returns-in_ok-lay_out-in-If-default-default-None : goal.lay_out_statement-returns-in_ok-lay_out-in-If-default-default-None
+lay_out_statement-returns-in_ok-lay_out-in-If-default-default-None t c =
+    let s = c.args.system.now in
+    let n = c.args.number in
+    let out = c.args.out in
+    let locks = c.args.locks.now in
+    let before = c.args.blocks.now.items in
+    let line = c.in-If-default-default-None.line in
+    let branch = c.in-If-default-default-None.then in
+    let rest = blocks_of s branch (n + 1) out locks in
+    let head : c.block-in-If-default-default-None.result ≡ block locks (kind.Choice (block_no out)) line (entry branch (n + 1) out) = c.block-in-If-default-default-None.ensures ∙ (λ i. block locks (kind.Choice (c.block_no.ensures i)) line (c.entry-next.ensures i)) in
+    let same : statement_blocks s c.args.statement.now n out locks ≡ block locks (kind.Choice (block_no out)) line (entry branch (n + 1) out) ∷ rest = search rules in
+    c.in_ok-lay_out-in-If-default-default-None.ensures
+    ∙ (λ i. (c.in_ok-push-in-If-default-default-None.ensures.items ∙ (λ j. before ++ head j ∷ [])) i ++ rest)
+    ∙ append_assoc before (block locks (kind.Choice (block_no out)) line (entry branch (n + 1) out) ∷ []) rest
+    ∙ sym (ap (λ (blocks : List Block). before ++ blocks) same)
+
+pub lay_out_statement-returns-in_ok-lay_out-in-While : goal.lay_out_statement-returns-in_ok-lay_out-in-While
+lay_out_statement-returns-in_ok-lay_out-in-While t c =
+    let s = c.args.system.now in
+    let n = c.args.number in
+    let out = c.args.out in
+    let locks = c.args.locks.now in
+    let before = c.args.blocks.now.items in
+    let line = c.in-While.line in
+    let body = c.in-While.body in
+    let rest = blocks_of s body (n + 1) n locks in
+    let head : c.block-in-While.result ≡ block locks (loop_kind c.in-While.condition out) line (entry body (n + 1) n) = c.block-in-While.ensures ∙ (λ i. block locks (c.loop_kind.ensures i) line (c.entry-next-in-While.ensures i)) in
+    c.in_ok-lay_out-in-While.ensures
+    ∙ (λ i. (c.in_ok-push-in-While.ensures.items ∙ (λ j. before ++ head j ∷ [])) i ++ rest)
+    ∙ append_assoc before (block locks (loop_kind c.in-While.condition out) line (entry body (n + 1) n) ∷ []) rest
+    ∙ sym (ap (λ (st : Statement). before ++ statement_blocks s st n out locks) c.in-While.is)

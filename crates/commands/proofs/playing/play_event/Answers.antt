@@ -1,6 +1,14 @@
--- the line of the step was printed, or a front of it
-use Rattle.std.proofs.Common.{Some}
-use Rattle.commands.proofs.EventSteps.{turn_is, stepped_on, same_image, event_unprinted}
+-- a front of the line of the step was printed, or the line of a trap
+use Rattle.std.proofs.Common.{◌≡◌, ℕ, List, refl, sym, subst, inl, Some, None, Err}
+use Rattle.std.specs.declared.option.Option.{Option}
+use Rattle.osek_standard.specs.declared.state.State.{State}
+use Rattle.osek_standard.specs.Dispatch.{Stepped}
+use Rattle.image_codec.specs.declared.image.Image.{Image}
+use Rattle.image_codec.specs.ImageTrace.{trap_line}
+use Rattle.osek_io.specs.Pieces.{grown}
+use Rattle.commands.specs.Playing.{AnswersEvent}
+use Rattle.commands.specs.declared.stop.Stop.TheVariants as stop
+use Rattle.commands.proofs.EventSteps.{turn_is, stepped_on, same_image, trapped_on, event_unprinted}
 use Rattle.commands.proofs.playing.play_event.Goals as goal
 
 pub returns-in-Err-print_line-clause-event : goal.returns-in-Err-print_line-clause-event
@@ -9,3 +17,17 @@ returns-in-Err-print_line-clause-event g c =
     event_unprinted _ _ _ _ c.args.machine.now.image c.step.new.self.image c.args.number c.step.new.self.state _ c.in-Ok.notes c.in-Err-print_line.stop
     (stepped_on c.args.machine.now c.step.new.self _ c.in-Ok.notes t) (same_image c.args.machine.now c.step.new.self _ (Some c.in-Ok.notes) t)
     (cc (c.in-Err-print_line.ensures.error)) c.in-Err-print_line.ensures.cause c.in-Err-print_line.ensures.front
+
+event_trapped : (faults faults_after : ℕ) (old new : Option (List ℕ)) (i : Image) (n : ℕ) (s : State) (o : Option Stepped) → o ≡ None → new ≡ grown old (trap_line n) →
+    AnswersEvent faults faults_after old new i n s o (Err stop.Trapped)
+event_trapped faults faults_after old new i n s o is prints =
+    subst (λ (x : Option Stepped). AnswersEvent faults faults_after old new i n s x (Err stop.Trapped)) (sym is) (inl (refl, prints))
+
+pub returns-in_ok-print_trap-in-Err-clause-running : goal.returns-in_ok-print_trap-in-Err-clause-running
+returns-in_ok-print_trap-in-Err-clause-running g c = tt
+
+pub returns-in_ok-print_trap-in-Err-clause-event : goal.returns-in_ok-print_trap-in-Err-clause-event
+returns-in_ok-print_trap-in-Err-clause-event g c =
+    let t = turn_is c.args.machine.now c.args.event _ c.requires.running c.in-Err.ensures.step in
+    event_trapped (g.O.Sink.faults c.args.out.now) (g.O.Sink.faults c.print_trap.new.out) (g.O.Sink.written c.args.out.now) (g.O.Sink.written c.print_trap.new.out)
+    c.args.machine.now.image c.args.number c.step.new.self.state _ (trapped_on c.args.machine.now c.step.new.self _ t) c.in_ok-print_trap-in-Err.ensures.ok

@@ -8,3 +8,6 @@ pub returns-in-Ok-decode-clause-image : goal.returns-in-Ok-decode-clause-image
 returns-in-Ok-decode-clause-image g c =
     of_loaded _ _ (λ (b : List ℕ). SpellImage b c.in-Ok-decode.image) c.in-Ok.bytes.items c.in-Ok.ensures.bytes (λ m. cc (c.in-Ok.ensures.missing m))
     (record { within = c.in-Ok.ensures.within; fits = c.in-Ok-decode.ensures.fits; spelled = c.in-Ok-decode.ensures.spelled ∙ c.deref.ensures.value })
+
+pub returns-in-Ok-decode-clause-stop : goal.returns-in-Ok-decode-clause-stop
+returns-in-Ok-decode-clause-stop g c = tt

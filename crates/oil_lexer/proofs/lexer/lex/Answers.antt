@@ -1,4 +1,4 @@
-use Rattle.std.proofs.Common.{arith}
+use Rattle.std.proofs.Common.{arith, rules, inl, inr}
 use Rattle.oil_lexer.specs.Text.{none}
 use Rattle.oil_lexer.proofs.Steps.{Parts-step}
 use Rattle.oil_lexer.proofs.lexer.lex.Goals as goal
@@ -16,3 +16,9 @@ loop-rest-preserved c =
       within = c.loop-rest.invariant.within;
       first = omega arith;
     }
+
+pub returns-in-Err-Broken : goal.returns-in-Err-Broken
+returns-in-Err-Broken c = inr (record { within = c.loop-rest.invariant.within; found = (c.loop-rest.rest.now, c.loop-rest.tokens.items, c.loop-rest.invariant.parts, search rules, search rules) })
+
+pub returns-then-bytes-gt-MAX_FILE : goal.returns-then-bytes-gt-MAX_FILE
+returns-then-bytes-gt-MAX_FILE c = inl (c.if-bytes-gt-MAX_FILE.true, search rules)

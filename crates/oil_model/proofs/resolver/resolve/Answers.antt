@@ -6,3 +6,6 @@ returns-clause-complete c = λ h. gives_system _ _ c.answer.ensures.right h
 
 pub returns-clause-least_fault : goal.returns-clause-least_fault
 returns-clause-least_fault c = λ fault h. gives_fault _ _ fault c.answer.ensures.right h
+
+pub returns-clause-right : goal.returns-clause-right
+returns-clause-right c = c.answer.ensures.right

@@ -1,10 +1,41 @@
-use Rattle.std.proofs.Common.{ℕ, ◌≤◌, ◌∙◌, sym, subst}
-use Rattle.std.specs.Prelude.{codes}
+use Rattle.std.proofs.Common.{◌≡◌, ℕ, List, ◌+◌, ◌*◌, ◌≤◌, ◌∷◌, drop, max, true, false, ◌∙◌, sym, ap, subst, rules, arith}
+use Rattle.std.specs.Prelude.{codes, filter, if◌then◌else◌}
 use Rattle.oil_tree.specs.declared.tree.Object.{Object}
-use Rattle.oil_model.specs.Objects.{is_kind, priority}
+use Rattle.oil_model.specs.Objects.{is_kind, objects_of, priority}
+use Rattle.oil_model.specs.Systems.{names_resource, above_all}
 use Rattle.oil_model.proofs.Clean.{at_passing}
 use Rattle.oil_model.proofs.Facts.{priorities}
+use Rattle.oil_model.proofs.Repeats.{filter_yes, filter_not}
 use Rattle.oil_model.proofs.resources.ceiling.Goals as goal
+use Rattle.oil_model.proofs.resources.ceiling.Goals.{then-is_kind+then-names_resource, then-is_kind+else-names_resource, else-is_kind}
 
 pub narrow-requires : goal.narrow-requires
 narrow-requires c = subst (λ (p : ℕ). p ≤ 65535) (sym c.priority.ensures) (at_passing (λ (o : Object). priority o ≤ 65535) (is_kind (codes "TASK")) c.args.objects.now c.loop-object.object-index c.object-item.result (priorities c.args.objects.now c.requires) c.loop-object-test.true c.object-item.is (sym c.is_kind.ensures ∙ c.if-is_kind.true))
+
+max_assoc : (a b c : ℕ) → max (max a b) c ≡ max a (max b c)
+max_assoc a b c = omega arith
+
+pub loop-object-preserved : goal.loop-object-preserved
+loop-object-preserved c =
+    let objects : List Object = c.args.objects.now in
+    let x : Object = c.object-item.result in
+    let rest : List Object = objects_of (codes "TASK") (drop (c.loop-object.object-index + 1) objects) in
+    let names = λ (o : Object). names_resource c.args.name.now o in
+    let others : ℕ = above_all (filter names rest) in
+    let all = λ (os : List Object). max c.loop-object.highest (above_all (filter names os)) in
+    elim c.if-is_kind.branch [
+      | then-is_kind+then-names_resource w ↦
+          let passes = filter_yes (is_kind (codes "TASK")) objects c.loop-object.object-index x c.loop-object-test.true c.object-item.is (sym c.is_kind.ensures ∙ w.if-is_kind.true) in
+          let named : names x ≡ true = sym w.names_resource.ensures ∙ w.if-names_resource.true in
+          let above : w.above-above.result ≡ 2 * priority x + 1 = w.above-above.ensures ∙ ap (λ (p : ℕ). 2 * p + 1) (w.narrow.ensures ∙ w.priority.ensures) in
+          let higher : c.if-is_kind.highest ≡ max c.loop-object.highest w.above-above.result = search rules in
+          let t = (λ i. max (higher i) others) ∙ (λ i. max (max c.loop-object.highest (above i)) others) ∙ max_assoc c.loop-object.highest (2 * priority x + 1) others in
+          t ∙ sym (ap all passes ∙ (λ i. max c.loop-object.highest (above_all (if named i then x ∷ filter names rest else filter names rest)))) ∙ c.loop-object.invariant
+      | then-is_kind+else-names_resource w ↦
+          let passes = filter_yes (is_kind (codes "TASK")) objects c.loop-object.object-index x c.loop-object-test.true c.object-item.is (sym c.is_kind.ensures ∙ w.if-is_kind.true) in
+          let named : names x ≡ false = sym w.names_resource.ensures ∙ w.if-names_resource.false in
+          (λ i. max (w.highest-is i) others) ∙ sym (ap all passes ∙ (λ i. max c.loop-object.highest (above_all (if named i then x ∷ filter names rest else filter names rest)))) ∙ c.loop-object.invariant
+      | else-is_kind w ↦
+          let passes = filter_not (is_kind (codes "TASK")) objects c.loop-object.object-index x c.loop-object-test.true c.object-item.is (sym c.is_kind.ensures ∙ w.if-is_kind.false) in
+          (λ i. max (w.highest-is i) others) ∙ sym (ap all passes) ∙ c.loop-object.invariant
+    ]

@@ -1,9 +1,9 @@
 use Rattle.std.proofs.Common.{◌∷◌, sym, ◌∙◌, arith}
 use Rattle.std.proofs.lemmas.Result.{err_from_is_err_and}
 use Rattle.oil_tree.specs.Attrs.{attr_then}
-use Rattle.oil_tree.specs.Expect.{some_attrs}
+use Rattle.oil_tree.specs.Expect.{an_end, some_attrs}
 use Rattle.oil_grammar.proofs.Refusals.{refuses_map}
-use Rattle.oil_tree.proofs.AttrsRead.{reads_attr, reads_close, reads_bare, reads_nested, not_close, not_open, list_before-push}
+use Rattle.oil_tree.proofs.AttrsRead.{reads_attr, reads_close, reads_bare, reads_nested, not_close, not_open, stops_within, stops_behind_attrs, list_before-push}
 use Rattle.oil_tree.proofs.attrs.+attrs.Goals as goal
 
 pub attr-returns : goal.attr-returns
@@ -35,6 +35,19 @@ body-returns-in_err-rest t c =
 pub body-returns-then-not-is_open : goal.body-returns-then-not-is_open
 body-returns-then-not-is_open t c =
     rw (c.from_vec.ensures, c.new.ensures.items) (reads_bare _ _ _ _ _ c.in_ok-token.ensures (sym c.is_open.ensures ∙ c.if-not-is_open.true) c.in_ok-rest.ensures)
+
+pub body-attrs-requires : goal.body-attrs-requires
+body-attrs-requires t c = (omega arith, omega arith)
+
+pub body-returns-in_err-found : goal.body-returns-in_err-found
+body-returns-in_err-found t c =
+    let p = err_from_is_err_and c.from_residual-in_err-found.result c.from_residual-in_err-found.ensures.1 in
+    rw (p.1, p.2) (refuses_map c.in_err-found.field-0.0 _ _ (λ stop h stack. stops_within _ _ stack _ _ stop c.in_ok-token.ensures (sym c.is_open.ensures ∙ c.if-not-is_open.false) (omega arith) (h (an_end ∷ stack))) c.in_err-found.ensures)
+
+pub body-returns-in_err-rest-2 : goal.body-returns-in_err-rest-2
+body-returns-in_err-rest-2 t c =
+    let p = err_from_is_err_and c.from_residual-in_err-rest-2.result c.from_residual-in_err-rest-2.ensures.1 in
+    rw (p.1, p.2) (λ stack. stops_behind_attrs _ _ _ stack _ _ _ _ c.in_ok-token.ensures (sym c.is_open.ensures ∙ c.if-not-is_open.false) (omega arith) c.in_ok-found.ensures (c.in_err-rest-2.ensures _ stack))
 
 pub body-returns : goal.body-returns
 body-returns t c = reads_nested _ _ _ _ _ _ _ c.in_ok-token.ensures (sym c.is_open.ensures ∙ c.if-not-is_open.false) (omega arith) c.in_ok-found.ensures c.in_ok-rest-2.ensures

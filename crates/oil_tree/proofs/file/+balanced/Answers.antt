@@ -1,9 +1,19 @@
-use Rattle.std.proofs.Common.{sym, ◌∙◌, arith}
+use Rattle.std.proofs.Common.{◌∷◌, sym, ap, ◌∙◌, arith}
+use Rattle.osek_values.specs.declared.limits.TheConstants.{MAX_OIL_DEPTH}
+use Rattle.oil_lexer.specs.declared.token.TokenKind.TheVariants.{Mark}
+use Rattle.oil_lexer.specs.declared.token.Mark.TheVariants.{OpenBrace}
+use Rattle.oil_grammar.proofs.Braces.{open_kind, front_is, deep}
+use Rattle.oil_tree.specs.Expect.{some_balanced, scan}
 use Rattle.oil_tree.proofs.BalancedRead.{reads_balanced, balanced_shorter, braces_join, braces_taken, other_joins, other_taken}
 use Rattle.oil_tree.proofs.file.+balanced.Goals as goal
 
 pub returns-then-is_close : goal.returns-then-is_close
 returns-then-is_close t c = reads_balanced _ _ _ _ _ c.loop-token.invariant.joins c.loop-token.invariant.takes c.in_ok-token.ensures (sym c.is_close.ensures ∙ c.if-is_close.true)
+
+pub returns-then-depth-ge-MAX_OIL_DEPTH : goal.returns-then-depth-ge-MAX_OIL_DEPTH
+returns-then-depth-ge-MAX_OIL_DEPTH t c =
+    let front = front_is _ (Mark OpenBrace) _ _ c.in_ok-token.ensures (open_kind _ (sym c.is_open.ensures ∙ c.if-is_open.true)) in
+    λ stack. c.loop-token.invariant.takes stack ∙ ap (scan c.args.depth (some_balanced ∷ stack)) front ∙ deep MAX_OIL_DEPTH c.args.depth _ _ (omega arith)
 
 pub loop-token-smaller-then-is_open : goal.loop-token-smaller-then-is_open
 loop-token-smaller-then-is_open t c = balanced_shorter _ _ _ _ _ c.in_ok-token.ensures c.in_ok-rest.ensures

@@ -1,6 +1,9 @@
 use Rattle.oil_tree.proofs.OneAnswer.{answers_tree, answers_fault}
 use Rattle.oil_tree.proofs.parser.parse.Goals as goal
 
+pub returns-clause-right : goal.returns-clause-right
+returns-clause-right c = c.read.ensures
+
 pub returns-clause-complete : goal.returns-clause-complete
 returns-clause-complete c = λ tree has. answers_tree _ _ tree c.read.ensures has
 

@@ -30,6 +30,9 @@ never_falls : (a b c : ℕ) → a ≤ b → b ≤ c → a ≤ c
 never_falls a b c h k = omega arith
 
 -- One outcome is no other.
+ok_not_read : {T : Type 0} (v : T) → IsErrOf (Ok v) Read → ⊥
+ok_not_read v h = cc
+
 read_not_too_long : {T : Type 0} → IsErrOf {T = T} (Err Read) TooLong → ⊥
 read_not_too_long h = cc
 
@@ -90,6 +93,9 @@ returns-in_default g c = record {
   same_files = c.read.ensures.same_files ∙ c.loop-count.invariant.files;
   same_writes = c.read.ensures.same_writes ∙ c.loop-count.invariant.writes;
 }
+
+pub returns-then-count-eq0-clause-read : goal.returns-then-count-eq0-clause-read
+returns-then-count-eq0-clause-read g c = λ e. absurd (ok_not_read _ e)
 
 pub overflow_sub-most : goal.overflow_sub-most
 overflow_sub-most g c = omega (arith, c.len-taken.ensures, c.loop-count.bytes.ok.0, c.loop-count.invariant.within)

@@ -1,4 +1,6 @@
-use Rattle.std.proofs.Common.{sym, arith}
+use Rattle.std.proofs.Common.{◌∙◌, sym, ap, arith}
+use Rattle.std.proofs.lemmas.List.{take_all}
+use Rattle.osek_io.specs.Pieces.{grown}
 use Rattle.osek_io.proofs.Turns.{grows, grown-nil, length-rest}
 use Rattle.osek_io.proofs.storing.put_all.Goals as goal
 
@@ -18,3 +20,6 @@ loop-done-preserved g c =
       written = grows _ _ _ bytes done c.in-Ok.count c.loop-done.invariant.written c.in-Ok.ensures.ok;
       later = omega (arith, c.put.ensures.never_falls);
     }
+
+pub returns-clause-ok : goal.returns-clause-ok
+returns-clause-ok g c = c.loop-done.invariant.written ∙ ap (grown (g.K.Sink.written c.args.sink.now)) (take_all _ _ (omega arith))

@@ -1,4 +1,6 @@
-use Rattle.std.proofs.Common.{◌∙◌, arith, inr}
+use Rattle.std.proofs.Common.{◌∙◌, ap, arith, inr}
+use Rattle.std.proofs.lemmas.List.{take_all}
+use Rattle.osek_io.specs.Files.{with_file}
 use Rattle.osek_io.proofs.FileChanges.{stored-others}
 use Rattle.osek_io.proofs.Turns.{grows_file, rises_there, length-rest}
 use Rattle.osek_io.proofs.storing.store.Goals as goal
@@ -26,3 +28,6 @@ returns-in_default-clause-same_others g c = stored-others _ _ c.args.name.now _ 
 
 pub returns-clause-same_others : goal.returns-clause-same_others
 returns-clause-same_others g c = stored-others _ _ c.args.name.now _ c.loop-added.invariant.files
+
+pub returns-clause-ok : goal.returns-clause-ok
+returns-clause-ok g c = c.loop-added.invariant.files ∙ ap (with_file (g.F.Shelf.contents c.args.shelf.now) c.args.name.now) (take_all _ _ (omega arith))

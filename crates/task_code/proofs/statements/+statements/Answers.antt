@@ -3,8 +3,19 @@ use Rattle.std.specs.Prelude.{Some}
 use Rattle.std.proofs.lemmas.Result.{err_from_is_err_and}
 use Rattle.oil_grammar.proofs.Refusals.{refuses_map}
 use Rattle.task_code.specs.Words.{statement_word}
-use Rattle.task_code.proofs.StatementsRead.{reads_block, reads_if, reads_if_else, reads_while, reads_statement, reads_close, stops_in_else, stops_behind_condition, list_joins, list_takes, list_within, list_stops}
+use Rattle.task_code.proofs.StatementsRead.{reads_block, reads_if, reads_if_else, reads_while, reads_statement, reads_close, stops_in_else, stops_behind_condition, list_joins, list_takes, list_within, list_stops, stops_at_word, stops_behind_word, stops_in_block, stops_not_open}
 use Rattle.task_code.proofs.statements.+statements.Goals as goal
+
+pub block-returns-then-not-is_open : goal.block-returns-then-not-is_open
+block-returns-then-not-is_open t c = stops_not_open _ _ _ _ c.in_ok-token.ensures (sym c.is_open.ensures ∙ c.if-not-is_open.true)
+
+pub block-statements-requires : goal.block-statements-requires
+block-statements-requires t c = (omega arith, omega arith)
+
+pub block-returns-in_err-found : goal.block-returns-in_err-found
+block-returns-in_err-found t c =
+    let p = err_from_is_err_and c.from_residual-in_err-found.result c.from_residual-in_err-found.ensures.1 in
+    rw (p.1, p.2) (refuses_map c.in_err-found.field-0.0 _ _ (λ stop h. stops_in_block _ _ _ _ stop c.in_ok-token.ensures (sym c.is_open.ensures ∙ c.if-not-is_open.false) (omega arith) h) c.in_err-found.ensures)
 
 pub block-returns : goal.block-returns
 block-returns t c = reads_block _ _ _ _ _ _ c.in_ok-token.ensures (sym c.is_open.ensures ∙ c.if-not-is_open.false) (omega arith) c.in_ok-found.ensures
@@ -46,6 +57,23 @@ statements-loop-found-preserved t c =
 pub statements-returns-in-Mark-CloseBrace : goal.statements-returns-in-Mark-CloseBrace
 statements-returns-in-Mark-CloseBrace t c =
     reads_close _ _ _ _ _ _ _ _ c.requires c.loop-found.invariant.joins c.loop-found.invariant.takes c.loop-found.invariant.within c.in_ok-token.ensures c.in-Mark-CloseBrace.is (rw c.in-Mark-CloseBrace.is at c.in-Mark-CloseBrace.field-0-is) c.from_vec.ensures
+
+pub statement-returns-in_default : goal.statement-returns-in_default
+statement-returns-in_default t c =
+    let kind = ap statement_word (sym c.as_bytes.ensures.bytes) ∙ sym c.in_default.ensures in
+    stops_at_word _ _ _ _ kind
+
+pub statement-returns-in_err-read-in-If : goal.statement-returns-in_err-read-in-If
+statement-returns-in_err-read-in-If t c =
+    let kind = ap statement_word (sym c.as_bytes.ensures.bytes) ∙ sym c.in-Some.ensures ∙ ap Some c.in-If.is in
+    let p = err_from_is_err_and c.from_residual-in_err-read-in-If.result c.from_residual-in_err-read-in-If.ensures.1 in
+    rw (p.1, p.2) (refuses_map c.in_err-read-in-If.field-0.0 _ _ (λ stop h. stops_behind_word _ _ _ _ _ stop kind h) c.in_err-read-in-If.ensures)
+
+pub statement-returns-in_err-read-in-While : goal.statement-returns-in_err-read-in-While
+statement-returns-in_err-read-in-While t c =
+    let kind = ap statement_word (sym c.as_bytes.ensures.bytes) ∙ sym c.in-Some.ensures ∙ ap Some c.in-While.is in
+    let p = err_from_is_err_and c.from_residual-in_err-read-in-While.result c.from_residual-in_err-read-in-While.ensures.1 in
+    rw (p.1, p.2) (refuses_map c.in_err-read-in-While.field-0.0 _ _ (λ stop h. stops_behind_word _ _ _ _ _ stop kind h) c.in_err-read-in-While.ensures)
 
 pub statement-returns-in_ok-read-in-Work : goal.statement-returns-in_ok-read-in-Work
 statement-returns-in_ok-read-in-Work t c =

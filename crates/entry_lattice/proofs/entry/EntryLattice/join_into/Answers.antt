@@ -1,4 +1,4 @@
-use Rattle.std.proofs.Common.{arith}
+use Rattle.std.proofs.Common.{rules, arith}
 use Rattle.abstract_state.proofs.DomainValues.{domain_counted}
 use Rattle.abstract_state.proofs.LatticeLaws.{on_the_way, join_done, join_of_none, most_values}
 use Rattle.entry_lattice.proofs.entry.EntryLattice.join_into.Goals as goal
@@ -23,8 +23,7 @@ returns-clause-least c =
     (on_the_way c.args.self.now c.args.other.now c.requires.element c.requires.of_element c.requires.alike c.join_into.new.self c.join_into.result c.join_into.ensures.entry c.join_into.ensures.err).least
 
 pub returns-clause-joins : goal.returns-clause-joins
-returns-clause-joins c =
-    join_done c.args.self.now c.args.other.now c.requires.element c.requires.of_element c.requires.alike c.join_into.new.self c.join_into.result c.join_into.ensures.entry
+returns-clause-joins c = search (rules, join_done c.args.self.now c.args.other.now c.requires.element c.requires.of_element c.requires.alike)
 
 pub returns-clause-same : goal.returns-clause-same
 returns-clause-same c =

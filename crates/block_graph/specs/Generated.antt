@@ -1,0 +1,13 @@
+-- What is generated for a system from the bodies of its task code.
+use Rattle.std.specs.Prelude.{◌≡◌, List}
+use Rattle.app_model.specs.declared.system.System.{System}
+use Rattle.task_code.specs.declared.tree.Body.{Body}
+use Rattle.block_graph.specs.declared.linker.Generated.{Generated}
+use Rattle.block_graph.specs.Apps.{tasks_of, isrs_of, counters_of}
+use Rattle.block_graph.specs.Blocks.{app_blocks}
+
+pub record IsGenerated (s : System) (bodies : List Body) (g : Generated) : Type 0 where
+  pub tasks : g.tasks ≡ tasks_of s bodies
+  pub isrs : g.isrs ≡ isrs_of s bodies
+  pub counters : g.counters ≡ counters_of s bodies
+  pub blocks : g.blocks ≡ app_blocks s bodies

@@ -1,0 +1,6 @@
+-- an activated task's state
+use Rattle.std.proofs.Common.{refl}
+use Rattle.osek_standard.proofs.app.App.activated.Goals as goal
+
+pub returns : goal.returns
+returns c = rw (← c.task.ensures, c.new.ensures) refl

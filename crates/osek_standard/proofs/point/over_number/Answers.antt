@@ -1,0 +1,9 @@
+-- the number of what lies under a routine
+use Rattle.std.proofs.Common.{refl}
+use Rattle.osek_standard.proofs.point.over_number.Goals as goal
+
+pub returns-in-None : goal.returns-in-None
+returns-in-None c = rw c.in-None.is refl
+
+pub returns-in-Some : goal.returns-in-Some
+returns-in-Some c = rw c.in-Some.is refl

@@ -1,0 +1,6 @@
+-- a space or a tab
+use Rattle.std.proofs.Common.{rules}
+use Rattle.trace_text.proofs.event_words.is_blank.Goals as goal
+
+pub returns-else-byte-eq32 : goal.returns-else-byte-eq32
+returns-else-byte-eq32 c = search rules
