@@ -90,7 +90,10 @@ fn answer(alloc: Global, system: System, code: &Code) -> Result<App, LinkError>
     ensures { IsRight result system code.now }
 {
     match least_fault(&system, code) {
-        Some(fault) => Err(LinkError::Fault(fault)),
+        Some(fault) => {
+            drop(system);
+            Err(LinkError::Fault(fault))
+        }
         None => {
             let app = app(alloc, system, code)?;
             Ok(app)

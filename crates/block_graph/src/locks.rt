@@ -148,7 +148,8 @@ impl Locks {
     fn may_open(&self, opener: Opener) -> bool
         ensures { result ≡ may_it_open self.now opener }
     {
-        self.open.len() < MAX_LOCKS && !is_doubled(self.open.as_slice(), opener)
+        let has_room = self.open.len() < MAX_LOCKS;
+        has_room && !is_doubled(self.open.as_slice(), opener)
     }
 
     /// Whether the lock was opened last.

@@ -23,10 +23,7 @@ fn room_behind_statement(room: usize, statement: &Statement) -> Result<usize, u3
     ensures { (next : Statements) (more : List ℕ) → MatchResult result (λ left. drop room (statement_lines (statement_before statement.now next) ++ more) ≡ drop left (statement_lines next ++ more)) (λ failing. first_only (drop room (statement_lines (statement_before statement.now next) ++ more)) ≡ failing ∷ []) }
 {
     match statement {
-        Statement::Work { line, count: _ } => {
-            let left = room_behind_block(room, *line)?;
-            Ok(left)
-        }
+        Statement::Work { line, count: _ } => room_behind_block(room, *line),
         Statement::If {
             line,
             then,
@@ -35,10 +32,7 @@ fn room_behind_statement(room: usize, statement: &Statement) -> Result<usize, u3
             let inner = room_behind_block(room, *line)?;
             let second = room_behind(inner, then)?;
             match otherwise {
-                Some(otherwise) => {
-                    let left = room_behind(second, otherwise)?;
-                    Ok(left)
-                }
+                Some(otherwise) => room_behind(second, otherwise),
                 None => Ok(second),
             }
         }
@@ -51,10 +45,7 @@ fn room_behind_statement(room: usize, statement: &Statement) -> Result<usize, u3
             let left = room_behind(inner, body)?;
             Ok(left)
         }
-        Statement::Call { line, call: _ } => {
-            let left = room_behind_block(room, *line)?;
-            Ok(left)
-        }
+        Statement::Call { line, call: _ } => room_behind_block(room, *line),
     }
 }
 

@@ -21,6 +21,7 @@ use Rattle.image_codec.specs.ImageStep.{image_step}
 use Rattle.image_run.specs.Machines.{AtWork, Turn, turned, turned_by, turn}
 use Rattle.trace_text.specs.declared.fault.EventFault.{EventFault}
 use Rattle.trace_text.specs.EventWords.{read_line, said, said_with, said_by, of_source, is_comment, isr_named, counter_named, words}
+use Rattle.image_codec.specs.ImageTrace.{trap_line}
 use Rattle.osek_io.specs.Counts.{Rose}
 use Rattle.osek_io.specs.Pieces.{grown}
 use Rattle.commands.specs.Telling.{WritesFront}
@@ -53,11 +54,16 @@ event_printed faults faults_after old new i j n s o notes is same prints =
     (inl (refl, refl, prints ∙ ap (λ (k : Image). grown old (line_of k n (stepped s notes))) same))
 
 pub event_unprinted : (faults faults_after : ℕ) (old new : Option (List ℕ)) (i j : Image) (n : ℕ) (s : State) (o : Option Stepped) (notes : Notes) (end : Stop) →
-    o ≡ Some (stepped s notes) → j ≡ i → end ≡ stop.Unprinted → Rose faults faults_after → WritesFront old new (line_of j n (stepped s notes)) →
+    o ≡ Some (stepped s notes) → j ≡ i → ◌≡◌ {A = Result (Unit {0}) Stop} (Err end) (Err stop.Unprinted) → Rose faults faults_after → WritesFront old new (line_of j n (stepped s notes)) →
     AnswersEvent faults faults_after old new i n s o (Err end)
 event_unprinted faults faults_after old new i j n s o notes end is same unprinted rose front =
     subst (λ (x : Option Stepped). AnswersEvent faults faults_after old new i n s x (Err end)) (sym is)
-    (inr (ap (λ (e : Stop). Err e) unprinted, rose, subst (λ (k : Image). WritesFront old new (line_of k n (stepped s notes))) same front))
+    (inr (unprinted, rose, subst (λ (k : Image). WritesFront old new (line_of k n (stepped s notes))) same front))
+
+pub trap_unprinted : (faults faults_after : ℕ) (old new : Option (List ℕ)) (i : Image) (n : ℕ) (s : State) (o : Option Stepped) (end : Stop) →
+    o ≡ None → ◌≡◌ {A = Result (Unit {0}) Stop} (Err end) (Err stop.Unprinted) → Rose faults faults_after → WritesFront old new (trap_line n) → AnswersEvent faults faults_after old new i n s o (Err end)
+trap_unprinted faults faults_after old new i n s o end is unprinted rose front =
+    subst (λ (x : Option Stepped). AnswersEvent faults faults_after old new i n s x (Err end)) (sym is) (inr (unprinted, rose, front))
 
 -- what was read is declared, if it is an event
 abbrev Declares : App → Result (Option Event) EventFault → Type 0

@@ -13,3 +13,4 @@ pub mod Results
 pub mod Runs
 pub mod Unloaded
 pub mod SmallImages
+pub mod SomeDue

@@ -1,6 +1,7 @@
 -- Why a text that isn't loaded stops the command.
-use Rattle.std.proofs.Common.{◌≡◌, ◌<◌, ◌⊎◌, ℕ, List, length, refl, sym, subst, inl}
+use Rattle.std.proofs.Common.{◌≡◌, ◌<◌, ◌⊎◌, ℕ, List, length, refl, sym, subst, inl, Vec, Global, Err}
 use Rattle.std.specs.declared.option.Option.{Option}
+use Rattle.std.specs.Result.{IsErrOf}
 use Rattle.osek_values.specs.declared.limits.TheConstants.{MAX_FILE}
 use Rattle.osek_values.specs.declared.refusal.TextFile.TheVariants as file
 use Rattle.app_model.specs.declared.system.System.{System}
@@ -15,9 +16,9 @@ use Rattle.commands.proofs.InputFiles.{of_told}
 module _ (files : Option Files) (reads reads_after : ℕ) (name : List ℕ) where
   -- what is known of the error
   pub record Cause (e : LoadError) : Type 0 where
-    pub read : e ≡ Read → Rose reads reads_after ⊎ IsMissing files name
-    pub too_long : e ≡ TooLong → (bytes : List ℕ) → Holds files name bytes → MAX_FILE < length bytes
-    pub missing : IsMissing files name → e ≡ Read
+    pub read : IsErrOf {T = Vec ℕ Global} (Err e) Read → Rose reads reads_after ⊎ IsMissing files name
+    pub too_long : IsErrOf {T = Vec ℕ Global} (Err e) TooLong → (bytes : List ℕ) → Holds files name bytes → MAX_FILE < length bytes
+    pub missing : IsMissing files name → IsErrOf {T = Vec ℕ Global} (Err e) Read
 
   pub system_stops : (e : LoadError) → Cause e → SystemStops files reads reads_after name (unloaded file.Oil e)
   system_stops Read h = h.read refl

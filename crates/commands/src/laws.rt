@@ -1,5 +1,11 @@
 //! Laws over the definitions.
-ghost use Rattle.commands.specs.Laws.{WhatIsBuiltReplays, WhatIsBuiltIsTheKernel};
+ghost use Rattle.commands.specs.Laws.{SomeIsDue, OneIsDue, WhatIsBuiltReplays, WhatIsBuiltIsTheKernel};
+
+/// Over files of bytes one answer is due to each command, and no other.
+pub fn one_answer()
+    ensures some { SomeIsDue }
+    ensures one { OneIsDue }
+{}
 
 /// What `build` stores, `replay` reads and runs to the end of the events, and it prints the kernel's trace.
 pub fn what_is_built_replays()

@@ -16,7 +16,7 @@ mod tracing;
 mod words;
 
 pub use building::build;
-pub use laws::what_is_built_replays;
+pub use laws::{one_answer, what_is_built_replays};
 pub use replaying::replay;
 pub use stop::{Input, Stop};
 pub use top::osekfit;

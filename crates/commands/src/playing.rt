@@ -90,10 +90,10 @@ fn play_event<L: Ledger, O: Sink>(
             Ok(()) => Ok(()),
             Err(stop) => Err(stop),
         },
-        Err(Trap) => {
-            print_trap(out, number)?;
-            Err(Stop::Trapped)
-        }
+        Err(Trap) => match print_trap(out, number) {
+            Ok(()) => Err(Stop::Trapped),
+            Err(stop) => Err(stop),
+        },
     }
 }
 

@@ -33,27 +33,18 @@ fn carry_out<F: Shelf, O: Sink>(
         (Some (seen command.now)) result }
 {
     match command {
-        Command::Build { oil, code, image } => match build(alloc, shelf, oil, code, image) {
-            Ok(()) => Ok(()),
-            Err(stop) => Err(stop),
-        },
+        Command::Build { oil, code, image } => build(alloc, shelf, oil, code, image),
         Command::Replay {
             image,
             mode,
             events,
-        } => match replay(alloc, shelf, out, image, mode, events) {
-            Ok(()) => Ok(()),
-            Err(stop) => Err(stop),
-        },
+        } => replay(alloc, shelf, out, image, mode, events),
         Command::Trace {
             oil,
             code,
             mode,
             events,
-        } => match trace(alloc, shelf, out, oil, code, mode, events) {
-            Ok(()) => Ok(()),
-            Err(stop) => Err(stop),
-        },
+        } => trace(alloc, shelf, out, oil, code, mode, events),
     }
 }
 

@@ -11,9 +11,8 @@ use Rattle.app_model.specs.declared.system.System.{System}
 use Rattle.oil_grammar.specs.declared.fault.SyntaxFault.{SyntaxFault}
 use Rattle.oil_lexer.specs.declared.token.Token.{Token}
 use Rattle.oil_lexer.specs.declared.error.LexFault.{LexFault}
-use Rattle.oil_lexer.specs.declared.error.LexError.TheVariants as lex_error
 use Rattle.oil_lexer.specs.Text.{AreTokens, IsFirstFault}
-use Rattle.oil_lexer.proofs.Unique as lexer
+use Rattle.oil_lexer.proofs.Unique as lexer_law
 use Rattle.oil_tree.specs.declared.tree.Tree.{Tree}
 use Rattle.oil_tree.specs.Faults as oil
 use Rattle.oil_tree.specs.Answers as tree
@@ -34,39 +33,25 @@ use Rattle.front_end.specs.declared.error.TextError.TheVariants.{Memory, Refused
 use Rattle.front_end.specs.Texts.{IsOilFault, IsCodeFault}
 use Rattle.front_end.specs.Answers.{IsOilAnswer, IsCodeAnswer, IsRight, Answers}
 
--- a text has tokens, or a first fault
-abbrev IsLexed : Result (List Token) LexFault → List ℕ → Type 0
-IsLexed (Ok tokens) text = AreTokens text tokens
-IsLexed (Err fault) text = IsFirstFault text fault
-
-one_lexed : (text : List ℕ) (a b : Result (List Token) LexFault) → IsLexed a text → IsLexed b text → a ≡ b
-one_lexed text (Ok a) b x y = sym (answered b y)
-  where
-    answered : (b : Result (List Token) LexFault) → IsLexed b text → b ≡ Ok a
-    answered (Ok b) y = lexer.answers_tokens {X = List Token} (λ v. v) (Ok a) text b x y
-    answered (Err f) y = lexer.answers_fault {X = List Token} (λ v. v) (Ok a) text f x y
-one_lexed text (Err f) (Ok b) x y = lexer.answers_fault {X = List Token} (λ v. v) (Ok b) text f y x
-one_lexed text (Err f) (Err g) x y = sym (lexer.answers_fault {X = List Token} (λ v. v) (Err (lex_error.Fault f)) text g x y)
-
 -- what a stage answers, where its fault ends all and its value goes on
 abbrev goes_on : {X F Y : Type 0} → (F → Refusal) → (X → Result Y Refusal) → Result X F → Result Y Refusal
 goes_on refuse next (Ok x) = next x
 goes_on refuse next (Err e) = Err (refuse e)
 
-abbrev refusal : TextFile → Rule → ℕ → Refusal
+abbrev pub refusal : TextFile → Rule → ℕ → Refusal
 refusal f q line = record { file = f; line = line; rule = q }
 
-abbrev lex_refusal : TextFile → LexFault → Refusal
+abbrev pub lex_refusal : TextFile → LexFault → Refusal
 lex_refusal f e = refusal f (rule.Lex e.rule) e.line
 
 -- An answer of an OIL text, stage by stage: of its bytes, of its tokens, of its tree.
-abbrev model_refusal : ModelFault → Refusal
+abbrev pub model_refusal : ModelFault → Refusal
 model_refusal e = refusal file.Oil (rule.Oil e.rule) e.line
 
 abbrev of_tree : Result System ModelFault → Result System Refusal
 of_tree a = goes_on model_refusal (λ s. Ok s) a
 
-abbrev oil_refusal : SyntaxFault → Refusal
+abbrev pub oil_refusal : SyntaxFault → Refusal
 oil_refusal e = refusal file.Oil (rule.Syntax e.rule) e.line
 
 data IsOilStage (text : List ℕ) : Result System Refusal → Type 0 where
@@ -85,13 +70,13 @@ oil_stage text (Ok s) h = at_tree h.tokens h.tree (Ok s) h.are_tokens h.has_tree
 oil_stage text (Err r) h = oil_refused text r.file r.line r.rule h.0 h.1
 
 same_tokens : (text : List ℕ) (a b : List Token) → AreTokens text a → AreTokens text b → a ≡ b
-same_tokens text a b x y = let e = one_lexed text (Ok a) (Ok b) x y in cc e
+same_tokens text a b x y = let e = lexer_law.one_answer text (Ok a) (Ok b) x y in cc e
 
 no_tokens : (text : List ℕ) (f : LexFault) (a : List Token) → IsFirstFault text f → AreTokens text a → ⊥
-no_tokens text f a x y = let e = one_lexed text (Err f) (Ok a) x y in absurd (cc e)
+no_tokens text f a x y = let e = lexer_law.one_answer text (Err f) (Ok a) x y in absurd (cc e)
 
 same_lex_fault : (text : List ℕ) (f g : LexFault) → IsFirstFault text f → IsFirstFault text g → f ≡ g
-same_lex_fault text f g x y = let e = one_lexed text (Err f) (Err g) x y in cc e
+same_lex_fault text f g x y = let e = lexer_law.one_answer text (Err f) (Err g) x y in cc e
 
 -- the answers of the same tokens are the same
 parsed : (text : List ℕ) (t u : List Token) (a b : Result Tree SyntaxFault) → AreTokens text t → AreTokens text u → tree.IsAnswer a t → tree.IsAnswer b u → a ≡ b
@@ -117,10 +102,10 @@ same_oil text _ _ (at_tree t v a x p w) (at_tree u z b y q k) =
     ap of_tree (resolved v z a b trees w k)
 
 -- An answer of a task code text, stage by stage: of its bytes, of its tokens, of its code beside the system.
-abbrev code_refusal : CodeFault → Refusal
+abbrev pub code_refusal : CodeFault → Refusal
 code_refusal e = refusal file.Code e.rule e.line
 
-abbrev link_refusal : LinkFault → Refusal
+abbrev pub link_refusal : LinkFault → Refusal
 link_refusal e = refusal file.Code (rule.Code e.rule) e.line
 
 abbrev of_code : Result App LinkFault → Result App Refusal

@@ -32,13 +32,25 @@ fn read(alloc: Global, system: System, text: &[u8]) -> Result<App, TextError>
 {
     let tokens = match tokens(alloc, text) {
         Ok(tokens) => tokens,
-        Err(LexError::Fault(fault)) => return Err(refused(fault.line, Rule::Lex(fault.rule))),
-        Err(LexError::Memory) => return Err(TextError::Memory),
+        Err(LexError::Fault(fault)) => {
+            drop(system);
+            return Err(refused(fault.line, Rule::Lex(fault.rule)));
+        }
+        Err(LexError::Memory) => {
+            drop(system);
+            return Err(TextError::Memory);
+        }
     };
     let code = match parse_code(alloc, &tokens) {
         Ok(code) => code,
-        Err(CodeError::Fault(fault)) => return Err(refused(fault.line, fault.rule)),
-        Err(CodeError::Memory) => return Err(TextError::Memory),
+        Err(CodeError::Fault(fault)) => {
+            drop(system);
+            return Err(refused(fault.line, fault.rule));
+        }
+        Err(CodeError::Memory) => {
+            drop(system);
+            return Err(TextError::Memory);
+        }
     };
     match link(alloc, system, &code) {
         Ok(app) => Ok(app),

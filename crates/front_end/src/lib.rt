@@ -4,8 +4,10 @@
 
 mod code_text;
 mod error;
+mod laws;
 mod oil_text;
 
 pub use code_text::read_app;
 pub use error::TextError;
+pub use laws::one_answer;
 pub use oil_text::read_system;

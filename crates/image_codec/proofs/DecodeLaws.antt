@@ -55,10 +55,10 @@ its_fault bytes f offset e same = ap (placed (length bytes)) e ∙ ap (λ (k : �
 
 -- ---- images with the same parts are the same
 
-abbrev IsValidOf : Parts → Type 0
+abbrev pub IsValidOf : Parts → Type 0
 IsValidOf p = IsValid p.tables.tasks p.tables.alarms p.tables.resources p.blocks p.tables.isrs p.tables.counters p.hooks p.tables.modes
 
-abbrev app_of : (p : Parts) → IsValidOf p → FitsVersion1 p.tables.tasks → App
+abbrev pub app_of : (p : Parts) → IsValidOf p → FitsVersion1 p.tables.tasks → App
 app_of p v w = record {
   hooks = p.hooks;
   tasks = p.tables.tasks;
@@ -72,7 +72,7 @@ app_of p v w = record {
   version_1 = w;
 }
 
-abbrev image_of : (p : Parts) (v : IsValidOf p) (w : FitsVersion1 p.tables.tasks) → AreSites (app_of p v w) p.sites → Image
+abbrev pub image_of : (p : Parts) (v : IsValidOf p) (w : FitsVersion1 p.tables.tasks) → AreSites (app_of p v w) p.sites → Image
 image_of p v w s = record { app = app_of p v w; sites = p.sites; valid = s }
 
 module _ (p : Parts) (v : IsValidOf p) (w : FitsVersion1 p.tables.tasks) (s : AreSites (app_of p v w) p.sites) where

@@ -15,6 +15,7 @@ pub mod NameReading
 pub mod OwnerTests
 pub mod PartsLaws
 pub mod Places
+pub mod SomeImage
 pub mod Spells
 pub mod TableLaws
 pub mod ValidOfGood

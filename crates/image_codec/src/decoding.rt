@@ -23,13 +23,18 @@ fn parts(alloc: Global, reader: &mut Reader) -> Result<Parts, ReadError>
 {
     let header = header(reader)?;
     let tables = tables(alloc, reader, header)?;
-    let (blocks, sites) = blocks(alloc, reader, &tables, header.blocks)?;
-    Ok(Parts {
-        hooks: header.hooks,
-        tables,
-        blocks,
-        sites,
-    })
+    match blocks(alloc, reader, &tables, header.blocks) {
+        Ok((blocks, sites)) => Ok(Parts {
+            hooks: header.hooks,
+            tables,
+            blocks,
+            sites,
+        }),
+        Err(error) => {
+            drop(tables);
+            Err(error)
+        }
+    }
 }
 
 /// An image that is all of the bytes.
@@ -40,6 +45,7 @@ fn all(alloc: Global, reader: &mut Reader) -> Result<Parts, ReadError>
     let parts = parts(alloc, reader)?;
     let left = reader.left();
     if left != 0 {
+        drop(parts);
         return Err(fault(ImageRule::I6, left));
     }
     Ok(parts)

@@ -19,5 +19,5 @@ pub use encoding::encode;
 pub use fault::{ImageError, ImageFault, ImageRule};
 pub use forms::{form, general};
 pub use image::Image;
-pub use laws::{general_is_the_kernel, one_spelling};
+pub use laws::{general_is_the_kernel, one_answer, one_spelling};
 pub use site::{Form, Site};

@@ -47,15 +47,29 @@ impl Machine {
         ensures machine { IfOk result (λ r. r.0 ≡ at_work image r.0.state false) }
         ensures start { IfOk result (λ r. start_of image.app mode ≡ stepped r.0.state r.1) }
     {
-        let (state, notes) = start(alloc, &image.app, mode)?;
-        let (spare, _) = start(alloc, &image.app, mode)?;
-        let machine = Machine {
-            image,
-            state,
-            spare,
-            trapped: false,
+        let (state, notes) = match start(alloc, &image.app, mode) {
+            Ok(started) => started,
+            Err(memory) => {
+                drop(image);
+                return Err(memory);
+            }
         };
-        Ok((machine, notes))
+        match start(alloc, &image.app, mode) {
+            Ok((spare, _)) => {
+                let machine = Machine {
+                    image,
+                    state,
+                    spare,
+                    trapped: false,
+                };
+                Ok((machine, notes))
+            }
+            Err(memory) => {
+                drop(state);
+                drop(image);
+                Err(memory)
+            }
+        }
     }
 
     /// One step of the image. A trap leaves the state as it was, and every later step answers it again. It takes no

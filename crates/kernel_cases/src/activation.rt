@@ -5,15 +5,33 @@ ghost use Rattle.osek_values.specs.Numbers.{block_no, task_no, mask};
 ghost use Rattle.osek_standard.specs.declared.block.Kind.TheVariants as kind;
 ghost use Rattle.osek_standard.specs.declared.objects.Schedule.TheVariants as schedule;
 
-use osek_standard::{App, Block, Kind, Resource, Schedule, Task};
-use osek_values::{BlockNo, HookSet, Mask, Memory, Name, Seq, TaskNo};
+use crate::lists;
+use crate::lists::{block, default_mode, listed, one, scheduler};
+use osek_standard::{App, Block, Kind, Schedule, Task};
+use osek_values::{BlockNo, HookSet, Mask, Memory, Seq, TaskNo};
 use std::alloc::Global;
 
-fn name(alloc: Global, bytes: &[u8]) -> Result<Name, Memory>
-    requires { IsTrue (is_name bytes.now) }
-    ensures { IfOk result (λ n. n ≡ bytes.now) }
+fn task(
+    alloc: Global,
+    name: &[u8],
+    priority: u16,
+    autostart: u8,
+    first: u16,
+    count: u16,
+) -> Result<Task, Memory>
+    requires { IsTrue (is_name name.now) }
+    ensures { IfOk result (λ x. x
+        ≡ record { name = name.now; priority = priority; schedule = schedule.Full; own = mask 0; autostart = autostart; first = block_no first; count = count }) }
 {
-    Ok(Name::new(Vec::from_slice(alloc, bytes)?))
+    Ok(Task {
+        name: lists::name(alloc, name)?,
+        priority,
+        schedule: Schedule::Full,
+        own: Mask(0),
+        autostart,
+        first: BlockNo(first),
+        count,
+    })
 }
 
 fn tasks(alloc: Global) -> Result<Seq<Task>, Memory>
@@ -21,56 +39,11 @@ fn tasks(alloc: Global) -> Result<Seq<Task>, Memory>
         ≡ record { name = codes "T1"; priority = 1; schedule = schedule.Full; own = mask 0; autostart = 1; first = block_no 0; count = 3 }
         ∷ record { name = codes "T2"; priority = 2; schedule = schedule.Full; own = mask 0; autostart = 0; first = block_no 3; count = 2 } ∷ []) }
 {
-    let mut tasks = Seq::new(alloc);
-    tasks.push(Task {
-        name: name(alloc, b"T1")?,
-        priority: 1,
-        schedule: Schedule::Full,
-        own: Mask(0),
-        autostart: 1,
-        first: BlockNo(0),
-        count: 3,
-    })?;
-    tasks.push(Task {
-        name: name(alloc, b"T2")?,
-        priority: 2,
-        schedule: Schedule::Full,
-        own: Mask(0),
-        autostart: 0,
-        first: BlockNo(3),
-        count: 2,
-    })?;
+    let low = task(alloc, b"T1", 1, 1, 0, 3)?;
+    let mut tasks = one(alloc, low)?;
+    let high = task(alloc, b"T2", 2, 0, 3, 2)?;
+    tasks.push(high)?;
     Ok(tasks)
-}
-
-fn resources(alloc: Global) -> Result<Seq<Resource>, Memory>
-    ensures { IfOk result (λ x. x ≡ record { name = codes "RES_SCHEDULER"; ceiling = 5 } ∷ []) }
-{
-    let mut resources = Seq::new(alloc);
-    resources.push(Resource {
-        name: name(alloc, b"RES_SCHEDULER")?,
-        ceiling: 5,
-    })?;
-    Ok(resources)
-}
-
-fn modes(alloc: Global) -> Result<Seq<Name>, Memory>
-    ensures { IfOk result (λ x. x ≡ codes "OSDEFAULTAPPMODE" ∷ []) }
-{
-    let mut modes = Seq::new(alloc);
-    modes.push(name(alloc, b"OSDEFAULTAPPMODE")?)?;
-    Ok(modes)
-}
-
-fn block(kind: Kind, line: u32, next: u16) -> Block
-    ensures { result ≡ record { kind = kind; locked = false; line = line; next = block_no next } }
-{
-    Block {
-        kind,
-        locked: false,
-        line,
-        next: BlockNo(next),
-    }
 }
 
 fn blocks(alloc: Global) -> Result<Seq<Block>, Memory>
@@ -81,13 +54,16 @@ fn blocks(alloc: Global) -> Result<Seq<Block>, Memory>
         ∷ record { kind = kind.TerminateTask; locked = false; line = 2; next = block_no 4 }
         ∷ record { kind = kind.TaskEnd; locked = false; line = 2; next = block_no 4 } ∷ []) }
 {
-    let mut blocks = Seq::new(alloc);
-    blocks.push(block(Kind::ActivateTask(TaskNo(1)), 1, 1))?;
-    blocks.push(block(Kind::TerminateTask, 1, 2))?;
-    blocks.push(block(Kind::TaskEnd, 1, 2))?;
-    blocks.push(block(Kind::TerminateTask, 2, 4))?;
-    blocks.push(block(Kind::TaskEnd, 2, 4))?;
-    Ok(blocks)
+    listed(
+        alloc,
+        &[
+            block(Kind::ActivateTask(TaskNo(1)), 1, 1),
+            block(Kind::TerminateTask, 1, 2),
+            block(Kind::TaskEnd, 1, 2),
+            block(Kind::TerminateTask, 2, 4),
+            block(Kind::TaskEnd, 2, 4),
+        ],
+    )
 }
 
 /// T1 activates T2 of higher priority, and both end.
@@ -95,8 +71,8 @@ pub fn activation(alloc: Global) -> Result<App, Memory>
     ensures { IfOk result (λ app. (length app.modes ≡ 1) × (0 < length app.blocks)) }
 {
     let tasks = tasks(alloc)?;
-    let resources = resources(alloc)?;
-    let modes = modes(alloc)?;
+    let resources = scheduler(alloc, 5)?;
+    let modes = default_mode(alloc)?;
     let blocks = blocks(alloc)?;
     Ok(App {
         hooks: HookSet::none(),

@@ -11,6 +11,8 @@ mod joins;
 #[cfg(test)]
 mod kernel_runs;
 #[cfg(test)]
+mod lists;
+#[cfg(test)]
 mod machines;
 #[cfg(test)]
 mod points;

@@ -1,6 +1,5 @@
 //! Lines of a small application: an extended task, an ISR and a counter.
-ghost use Rattle.std.specs.Prelude.{◌≡◌, ◌≤◌, false, [], ◌∷◌, length, IsTrue, IfOk, codes};
-ghost use Rattle.osek_values.specs.Names.{is_name};
+ghost use Rattle.std.specs.Prelude.{◌≡◌, ◌≤◌, false, [], ◌∷◌, length, IfOk, codes};
 ghost use Rattle.osek_values.specs.Numbers.{block_no, mask};
 ghost use Rattle.osek_standard.specs.Well.{Well};
 ghost use Rattle.trace_text.specs.EventText.{read_text};
@@ -8,95 +7,58 @@ ghost use Rattle.kernel_cases.specs.Sample.{IsOfSampleSize, sample_state};
 ghost use Rattle.osek_standard.specs.declared.block.Kind.TheVariants as kind;
 ghost use Rattle.osek_standard.specs.declared.objects.Schedule.TheVariants as schedule;
 
+use crate::lists::{block, default_mode, listed, name, one, scheduler};
 use osek_standard::{
-    Activity, App, Block, Counter, Isr, Kind, Processor, Resource, Schedule, Source, State, Task,
-    TaskState,
+    Activity, App, Block, Counter, Isr, Kind, Processor, Schedule, Source, State, Task, TaskState,
 };
 use osek_values::limits::LINE_MAX;
 use osek_values::{
-    BlockNo, CounterNo, Event, HookSet, IsrNo, Mask, Memory, ModeNo, Name, Notes, Seq, Status,
-    TaskNo, Value,
+    BlockNo, CounterNo, Event, HookSet, IsrNo, Mask, Memory, ModeNo, Notes, Seq, Status, TaskNo,
+    Value,
 };
 use std::alloc::Global;
 use trace_text::{EventFault, EventLine, EventLines, FaultyLine, read_event, write_line};
 
-fn name(alloc: Global, bytes: &[u8]) -> Result<Name, Memory>
-    requires { IsTrue (is_name bytes.now) }
-    ensures { IfOk result (λ n. n ≡ bytes.now) }
-{
-    Ok(Name::new(Vec::from_slice(alloc, bytes)?))
-}
-
 fn tasks(alloc: Global) -> Result<Seq<Task>, Memory>
     ensures { IfOk result (λ x. x ≡ record { name = codes "T1"; priority = 1; schedule = schedule.Full; own = mask 1; autostart = 1; first = block_no 0; count = 1 } ∷ []) }
 {
-    let mut tasks = Seq::new(alloc);
-    tasks.push(Task {
-        name: name(alloc, b"T1")?,
+    let name = name(alloc, b"T1")?;
+    let task = Task {
+        name,
         priority: 1,
         schedule: Schedule::Full,
         own: Mask(1),
         autostart: 1,
         first: BlockNo(0),
         count: 1,
-    })?;
-    Ok(tasks)
+    };
+    one(alloc, task)
 }
 
 fn isrs(alloc: Global) -> Result<Seq<Isr>, Memory>
     ensures { IfOk result (λ x. x ≡ record { name = codes "I"; first = block_no 1; count = 1 } ∷ []) }
 {
-    let mut isrs = Seq::new(alloc);
-    isrs.push(Isr {
-        name: name(alloc, b"I")?,
+    let name = name(alloc, b"I")?;
+    let isr = Isr {
+        name,
         first: BlockNo(1),
         count: 1,
-    })?;
-    Ok(isrs)
+    };
+    one(alloc, isr)
 }
 
 fn counters(alloc: Global) -> Result<Seq<Counter>, Memory>
     ensures { IfOk result (λ x. x ≡ record { name = codes "C"; max = 9; min_cycle = 1; first = block_no 2; count = 2 } ∷ []) }
 {
-    let mut counters = Seq::new(alloc);
-    counters.push(Counter {
-        name: name(alloc, b"C")?,
+    let name = name(alloc, b"C")?;
+    let counter = Counter {
+        name,
         max: 9,
         min_cycle: 1,
         first: BlockNo(2),
         count: 2,
-    })?;
-    Ok(counters)
-}
-
-fn resources(alloc: Global) -> Result<Seq<Resource>, Memory>
-    ensures { IfOk result (λ x. x ≡ record { name = codes "RES_SCHEDULER"; ceiling = 3 } ∷ []) }
-{
-    let mut resources = Seq::new(alloc);
-    resources.push(Resource {
-        name: name(alloc, b"RES_SCHEDULER")?,
-        ceiling: 3,
-    })?;
-    Ok(resources)
-}
-
-fn modes(alloc: Global) -> Result<Seq<Name>, Memory>
-    ensures { IfOk result (λ x. x ≡ codes "OSDEFAULTAPPMODE" ∷ []) }
-{
-    let mut modes = Seq::new(alloc);
-    modes.push(name(alloc, b"OSDEFAULTAPPMODE")?)?;
-    Ok(modes)
-}
-
-fn block(kind: Kind, line: u32, next: u16) -> Block
-    ensures { result ≡ record { kind = kind; locked = false; line = line; next = block_no next } }
-{
-    Block {
-        kind,
-        locked: false,
-        line,
-        next: BlockNo(next),
-    }
+    };
+    one(alloc, counter)
 }
 
 fn blocks(alloc: Global) -> Result<Seq<Block>, Memory>
@@ -106,12 +68,15 @@ fn blocks(alloc: Global) -> Result<Seq<Block>, Memory>
         ∷ record { kind = kind.CountUp; locked = false; line = 0; next = block_no 3 }
         ∷ record { kind = kind.IsrEnd; locked = false; line = 0; next = block_no 3 } ∷ []) }
 {
-    let mut blocks = Seq::new(alloc);
-    blocks.push(block(Kind::TaskEnd, 1, 0))?;
-    blocks.push(block(Kind::IsrEnd, 2, 1))?;
-    blocks.push(block(Kind::CountUp, 0, 3))?;
-    blocks.push(block(Kind::IsrEnd, 0, 3))?;
-    Ok(blocks)
+    listed(
+        alloc,
+        &[
+            block(Kind::TaskEnd, 1, 0),
+            block(Kind::IsrEnd, 2, 1),
+            block(Kind::CountUp, 0, 3),
+            block(Kind::IsrEnd, 0, 3),
+        ],
+    )
 }
 
 fn sample(alloc: Global) -> Result<App, Memory>
@@ -120,8 +85,8 @@ fn sample(alloc: Global) -> Result<App, Memory>
     let tasks = tasks(alloc)?;
     let isrs = isrs(alloc)?;
     let counters = counters(alloc)?;
-    let resources = resources(alloc)?;
-    let modes = modes(alloc)?;
+    let resources = scheduler(alloc, 3)?;
+    let modes = default_mode(alloc)?;
     let blocks = blocks(alloc)?;
     Ok(App {
         hooks: HookSet(31),
@@ -164,10 +129,16 @@ fn are_read(app: &App) -> bool {
         && read_event(app, &[b'#'; 257]) == Err(EventFault::E3)
 }
 
+fn sample_reads(alloc: Global) -> Result<bool, Memory> {
+    let app = sample(alloc)?;
+    let read = are_read(&app);
+    drop(app);
+    Ok(read)
+}
+
 #[test]
 fn reads_event_lines(rt: HostRuntime) {
-    let read = sample(rt.alloc()).map(|app| are_read(&app));
-    assert_eq!(rt; read, Ok(true));
+    assert_eq!(rt; sample_reads(rt.alloc()), Ok(true));
 }
 
 fn lines_are(text: &[u8], want: &[&[u8]]) -> bool
@@ -226,29 +197,30 @@ fn are_found(app: &App) -> bool {
         && first_fault(app, b"run 0\nrun 0\nirq X\nrun 2\n") == Some(unknown)
 }
 
+fn sample_finds(alloc: Global) -> Result<bool, Memory> {
+    let app = sample(alloc)?;
+    let found = are_found(&app);
+    drop(app);
+    Ok(found)
+}
+
 #[test]
 fn finds_the_first_fault(rt: HostRuntime) {
-    let found = sample(rt.alloc()).map(|app| are_found(&app));
-    assert_eq!(rt; found, Ok(true));
+    assert_eq!(rt; sample_finds(rt.alloc()), Ok(true));
 }
 
 // The task is suspended, and nothing runs.
 fn idle(alloc: Global) -> Result<State, Memory>
     ensures { IfOk result (λ s. s ≡ sample_state) }
 {
-    let mut tasks = Seq::new(alloc);
-    tasks.push(TaskState {
+    let asleep = TaskState {
         activity: Activity::Suspended,
         events: Mask(0),
-    })?;
-    let mut counters = Seq::new(alloc);
-    counters.push(0)?;
-    let mut sources = Seq::new(alloc);
-    sources.push(Source::Out)?;
-    sources.push(Source::Out)?;
-    let mut latched = Seq::new(alloc);
-    latched.push(false)?;
-    latched.push(false)?;
+    };
+    let tasks = one(alloc, asleep)?;
+    let counters = listed(alloc, &[0])?;
+    let sources = listed(alloc, &[Source::Out, Source::Out])?;
+    let latched = listed(alloc, &[false, false])?;
     Ok(State {
         mode: ModeNo(0),
         processor: Processor::Idle,
@@ -295,9 +267,12 @@ fn are_written(app: &App, state: &State) -> bool
 }
 
 fn sample_is_written(alloc: Global) -> Result<bool, Memory> {
-    let app = sample(alloc)?;
     let state = idle(alloc)?;
-    Ok(are_written(&app, &state))
+    let app = sample(alloc)?;
+    let written = are_written(&app, &state);
+    drop(app);
+    drop(state);
+    Ok(written)
 }
 
 #[test]

@@ -1,5 +1,8 @@
+pub mod EachFront
+pub mod EachText
 pub mod Firsts
 pub mod Longest
+pub mod NamedTokens
 pub mod Steps
 pub mod Unique
 pub mod Values

@@ -20,7 +20,7 @@ use Rattle.oil_lexer.specs.declared.error.LexError.TheVariants.{Memory, Fault}
 use Rattle.oil_lexer.specs.Classes.{class_of, AllIn}
 use Rattle.oil_lexer.specs.Pieces.{IsOf, IsLongest, IsHex, is_x, Fits, Breaks}
 use Rattle.oil_lexer.specs.Text.{Parts, none, gap, token, line_ends, token_of, AreTokens, IsFirstFault}
-use Rattle.oil_lexer.specs.Answers.{IsRight, Answers}
+use Rattle.oil_lexer.specs.Answers.{IsAnswer, IsRight, Answers}
 
 x_no_digit : (b : ℕ) → is_x b ≡ true → is_digit b ≡ true → ⊥
 x_no_digit b x d = grind arith
@@ -142,6 +142,12 @@ same_fault bytes f g (inr a) (inr b) =
     let lines : f.line ≡ g.line = same.lasts in
     let rules : f.rule ≡ g.rule = same_rule f.rule g.rule y.0 (subst (Breaks f.rule) same.rests x.4) y.4 in
     (λ i. record { rule = rules i; line = lines i })
+
+pub one_answer : (bytes : List ℕ) (a b : Result (List Token) LexFault) → IsAnswer a bytes → IsAnswer b bytes → a ≡ b
+one_answer bytes (Ok x) (Ok y) a b = ap Ok (same_tokens bytes x y a b)
+one_answer bytes (Ok x) (Err f) a b = absurd (no_fault bytes x f a b)
+one_answer bytes (Err f) (Ok y) a b = absurd (no_fault bytes y f b a)
+one_answer bytes (Err f) (Err g) a b = ap Err (same_fault bytes f g a b)
 
 pub answers_tokens : {X : Type 0} (view : X → List Token) (result : Result X LexError) (bytes : List ℕ) (tokens : List Token) → IsRight view result bytes → AreTokens bytes tokens → Answers view result (Ok tokens)
 answers_tokens view (Ok v) bytes tokens r a = ap Ok (same_tokens bytes tokens (view v) a r)

@@ -6,6 +6,11 @@ use Rattle.oil_lexer.specs.declared.error.LexError.{LexError}
 use Rattle.oil_lexer.specs.declared.error.LexError.TheVariants.{Memory, Fault}
 use Rattle.oil_lexer.specs.Text.{AreTokens, IsFirstFault}
 
+-- the tokens of the text, or its first fault
+abbrev pub IsAnswer : Result (List Token) LexFault → List ℕ → Type 0
+IsAnswer (Ok tokens) bytes = AreTokens bytes tokens
+IsAnswer (Err fault) bytes = IsFirstFault bytes fault
+
 -- a result, whose tokens view shows, holds the tokens of the text or its first fault, or memory ran out
 abbrev pub IsRight : {X : Type 0} → (X → List Token) → Result X LexError → List ℕ → Type 0
 IsRight view (Ok tokens) bytes = AreTokens bytes (view tokens)

@@ -1,9 +1,9 @@
 //! The tokens of a text.
-ghost use Rattle.std.specs.Prelude.{◌≡◌, ◌≤◌, ◌++◌, OnOk, List, length, Ok, Err};
+ghost use Rattle.std.specs.Prelude.{◌≡◌, ◌≤◌, ◌++◌, ℕ, OnOk, List, length, Result, Ok, Err};
 ghost use Rattle.oil_lexer.specs.declared.token.Token.{Token};
 ghost use Rattle.oil_lexer.specs.declared.error.LexFault.{LexFault};
 ghost use Rattle.oil_lexer.specs.Text.{tokens_of, line_ends, AreTokens, IsFirstFault};
-ghost use Rattle.oil_lexer.specs.Answers.{IsRight, Answers};
+ghost use Rattle.oil_lexer.specs.Answers.{IsAnswer, IsRight, Answers};
 
 use crate::error::{LexError, LexFault};
 use crate::piece::{PieceError, piece};
@@ -75,3 +75,9 @@ pub fn tokens(alloc: Global, bytes: &[u8]) -> Result<Vec<Token>, LexError>
 {
     lex(alloc, bytes)
 }
+
+/// A law: each text has tokens or a first fault, and no other. It does nothing.
+pub fn one_answer()
+    ensures some { (text : List ℕ) → (answer : Result (List Token) LexFault) × IsAnswer answer text }
+    ensures one { (text : List ℕ) (a b : Result (List Token) LexFault) → IsAnswer a text → IsAnswer b text → a ≡ b }
+{}

@@ -9,5 +9,5 @@ mod piece;
 mod token;
 
 pub use error::{LexError, LexFault};
-pub use lexer::tokens;
+pub use lexer::{one_answer, tokens};
 pub use token::{Mark, Token, TokenKind};

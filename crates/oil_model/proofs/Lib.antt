@@ -1,5 +1,7 @@
 pub mod Leasts
 pub mod Repeats
+pub mod Collected
+pub mod Marked
 pub mod NameSets
 pub mod FreeBits
 pub mod Least

@@ -4,6 +4,7 @@ ghost use Rattle.oil_tree.specs.declared.tree.Value.TheVariants.{Word, Numeric};
 ghost use Rattle.oil_tree.specs.declared.tree.Sign.TheVariants.{Bare};
 ghost use Rattle.oil_model.specs.Table.{allows};
 
+use crate::names::same;
 use oil_tree::{Sign, Value};
 
 /// A set of values.
@@ -34,21 +35,17 @@ fn allows_word(domain: Domain, word: &[u8]) -> bool
     ensures { result ≡ allows domain (Word word.now) }
 {
     match domain {
-        Domain::Truth => word == b"TRUE".as_slice() || word == b"FALSE".as_slice(),
-        Domain::Status => word == b"STANDARD".as_slice() || word == b"EXTENDED".as_slice(),
-        Domain::Schedule => word == b"NON".as_slice() || word == b"FULL".as_slice(),
+        Domain::Truth => same(word, b"TRUE") || same(word, b"FALSE"),
+        Domain::Status => same(word, b"STANDARD") || same(word, b"EXTENDED"),
+        Domain::Schedule => same(word, b"NON") || same(word, b"FULL"),
         Domain::Action => {
-            word == b"ACTIVATETASK".as_slice()
-                || word == b"SETEVENT".as_slice()
-                || word == b"ALARMCALLBACK".as_slice()
+            same(word, b"ACTIVATETASK") || same(word, b"SETEVENT") || same(word, b"ALARMCALLBACK")
         }
         Domain::Property => {
-            word == b"STANDARD".as_slice()
-                || word == b"LINKED".as_slice()
-                || word == b"INTERNAL".as_slice()
+            same(word, b"STANDARD") || same(word, b"LINKED") || same(word, b"INTERNAL")
         }
         Domain::Number(_, _) => false,
-        Domain::EventMask => word == b"AUTO".as_slice(),
+        Domain::EventMask => same(word, b"AUTO"),
         Domain::TaskName => true,
         Domain::EventName => true,
         Domain::ResourceName => true,

@@ -1,5 +1,6 @@
 //! Names of objects, read and copied.
 ghost use Rattle.std.specs.Prelude.{◌≡◌, IsTrue, All, IfOk, codes};
+ghost use Rattle.std.specs.Str.{bytes_eq};
 ghost use Rattle.osek_values.specs.Names.{is_name};
 ghost use Rattle.oil_model.specs.Objects.{name_of};
 ghost use Rattle.oil_tree.specs.declared.tree.Object.{Object};
@@ -7,6 +8,13 @@ ghost use Rattle.oil_tree.specs.declared.tree.Object.{Object};
 use oil_tree::Object;
 use osek_values::{Memory, Name};
 use std::alloc::Global;
+
+/// Whether two names or words are the same.
+pub fn same(a: &[u8], b: &[u8]) -> bool
+    ensures { result ≡ bytes_eq a.now b.now }
+{
+    a == b
+}
 
 /// A copy of a name.
 pub fn copy(alloc: Global, name: &Name) -> Result<Name, Memory>

@@ -6,6 +6,7 @@ ghost use Rattle.oil_model.specs.Rules as rules_of;
 
 use crate::domain::Domain;
 use crate::name_set::NameSet;
+use crate::names::same;
 use crate::objects::{has_scheduler, is_kind};
 use crate::table::{Entry, Scope, entry_of};
 use oil_tree::{Attr, Object, Value};
@@ -65,9 +66,9 @@ impl<'a> References<'a> {
             Domain::EventName => self.events.has(name),
             Domain::CounterName => self.counters.has(name),
             Domain::ResourceName => {
-                self.resources.has(name) || (self.scheduler && name == b"RES_SCHEDULER".as_slice())
+                self.resources.has(name) || (self.scheduler && same(name, b"RES_SCHEDULER"))
             }
-            Domain::ModeName => { self.modes.has(name) || name == b"OSDEFAULTAPPMODE".as_slice() }
+            Domain::ModeName => { self.modes.has(name) || same(name, b"OSDEFAULTAPPMODE") }
             Domain::Truth
             | Domain::Status
             | Domain::Schedule

@@ -7,6 +7,7 @@ ghost use Rattle.oil_model.specs.declared.table.Presence.TheVariants.{Required, 
 ghost use Rattle.oil_model.specs.Table.{scope_of, entry_of, inner_scope};
 
 use crate::domain::Domain;
+use crate::names::same;
 use oil_tree::Value;
 
 /// What a list of attributes describes: an object of a kind, or what an attribute says more of.
@@ -52,21 +53,21 @@ pub struct Entry {
 pub fn scope_of(kind: &[u8]) -> Option<Scope>
     ensures { result ≡ scope_of kind.now }
 {
-    if kind == b"OS".as_slice() {
+    if same(kind, b"OS") {
         Some(Scope::Os)
-    } else if kind == b"APPMODE".as_slice() {
+    } else if same(kind, b"APPMODE") {
         Some(Scope::AppMode)
-    } else if kind == b"TASK".as_slice() {
+    } else if same(kind, b"TASK") {
         Some(Scope::Task)
-    } else if kind == b"ISR".as_slice() {
+    } else if same(kind, b"ISR") {
         Some(Scope::Isr)
-    } else if kind == b"COUNTER".as_slice() {
+    } else if same(kind, b"COUNTER") {
         Some(Scope::Counter)
-    } else if kind == b"ALARM".as_slice() {
+    } else if same(kind, b"ALARM") {
         Some(Scope::Alarm)
-    } else if kind == b"EVENT".as_slice() {
+    } else if same(kind, b"EVENT") {
         Some(Scope::Event)
-    } else if kind == b"RESOURCE".as_slice() {
+    } else if same(kind, b"RESOURCE") {
         Some(Scope::Resource)
     } else {
         None
@@ -103,14 +104,14 @@ fn many(domain: Domain) -> Option<Entry>
 fn os_entry(name: &[u8]) -> Option<Entry>
     ensures { result ≡ entry_of scopes.Os name.now }
 {
-    if name == b"STATUS".as_slice() {
+    if same(name, b"STATUS") {
         optional(Domain::Status)
-    } else if name == b"STARTUPHOOK".as_slice()
-        || name == b"ERRORHOOK".as_slice()
-        || name == b"SHUTDOWNHOOK".as_slice()
-        || name == b"PRETASKHOOK".as_slice()
-        || name == b"POSTTASKHOOK".as_slice()
-        || name == b"USERESSCHEDULER".as_slice()
+    } else if same(name, b"STARTUPHOOK")
+        || same(name, b"ERRORHOOK")
+        || same(name, b"SHUTDOWNHOOK")
+        || same(name, b"PRETASKHOOK")
+        || same(name, b"POSTTASKHOOK")
+        || same(name, b"USERESSCHEDULER")
     {
         optional(Domain::Truth)
     } else {
@@ -121,17 +122,17 @@ fn os_entry(name: &[u8]) -> Option<Entry>
 fn task_entry(name: &[u8]) -> Option<Entry>
     ensures { result ≡ entry_of scopes.Task name.now }
 {
-    if name == b"PRIORITY".as_slice() {
+    if same(name, b"PRIORITY") {
         required(Domain::Number(0, 65535))
-    } else if name == b"SCHEDULE".as_slice() {
+    } else if same(name, b"SCHEDULE") {
         optional(Domain::Schedule)
-    } else if name == b"ACTIVATION".as_slice() {
+    } else if same(name, b"ACTIVATION") {
         optional(Domain::Number(0, u64::MAX))
-    } else if name == b"AUTOSTART".as_slice() {
+    } else if same(name, b"AUTOSTART") {
         optional(Domain::Truth)
-    } else if name == b"RESOURCE".as_slice() {
+    } else if same(name, b"RESOURCE") {
         many(Domain::ResourceName)
-    } else if name == b"EVENT".as_slice() {
+    } else if same(name, b"EVENT") {
         many(Domain::EventName)
     } else {
         None
@@ -141,9 +142,9 @@ fn task_entry(name: &[u8]) -> Option<Entry>
 fn isr_entry(name: &[u8]) -> Option<Entry>
     ensures { result ≡ entry_of scopes.Isr name.now }
 {
-    if name == b"CATEGORY".as_slice() {
+    if same(name, b"CATEGORY") {
         required(Domain::Number(0, u64::MAX))
-    } else if name == b"RESOURCE".as_slice() {
+    } else if same(name, b"RESOURCE") {
         many(Domain::ResourceName)
     } else {
         None
@@ -153,9 +154,9 @@ fn isr_entry(name: &[u8]) -> Option<Entry>
 fn counter_entry(name: &[u8]) -> Option<Entry>
     ensures { result ≡ entry_of scopes.Counter name.now }
 {
-    if name == b"MAXALLOWEDVALUE".as_slice() {
+    if same(name, b"MAXALLOWEDVALUE") {
         required(Domain::Number(1, 0xffff_ffff))
-    } else if name == b"TICKSPERBASE".as_slice() || name == b"MINCYCLE".as_slice() {
+    } else if same(name, b"TICKSPERBASE") || same(name, b"MINCYCLE") {
         optional(Domain::Number(0, u64::MAX))
     } else {
         None
@@ -165,11 +166,11 @@ fn counter_entry(name: &[u8]) -> Option<Entry>
 fn alarm_entry(name: &[u8]) -> Option<Entry>
     ensures { result ≡ entry_of scopes.Alarm name.now }
 {
-    if name == b"COUNTER".as_slice() {
+    if same(name, b"COUNTER") {
         required(Domain::CounterName)
-    } else if name == b"ACTION".as_slice() {
+    } else if same(name, b"ACTION") {
         required(Domain::Action)
-    } else if name == b"AUTOSTART".as_slice() {
+    } else if same(name, b"AUTOSTART") {
         optional(Domain::Truth)
     } else {
         None
@@ -179,9 +180,9 @@ fn alarm_entry(name: &[u8]) -> Option<Entry>
 fn alarm_start_entry(name: &[u8]) -> Option<Entry>
     ensures { result ≡ entry_of scopes.AlarmStart name.now }
 {
-    if name == b"ALARMTIME".as_slice() || name == b"CYCLETIME".as_slice() {
+    if same(name, b"ALARMTIME") || same(name, b"CYCLETIME") {
         required(Domain::Number(0, u64::MAX))
-    } else if name == b"APPMODE".as_slice() {
+    } else if same(name, b"APPMODE") {
         many(Domain::ModeName)
     } else {
         None
@@ -191,7 +192,7 @@ fn alarm_start_entry(name: &[u8]) -> Option<Entry>
 fn resource_entry(name: &[u8]) -> Option<Entry>
     ensures { result ≡ entry_of scopes.Resource name.now }
 {
-    if name == b"RESOURCEPROPERTY".as_slice() {
+    if same(name, b"RESOURCEPROPERTY") {
         optional(Domain::Property)
     } else {
         None
@@ -201,9 +202,9 @@ fn resource_entry(name: &[u8]) -> Option<Entry>
 fn event_setting_entry(name: &[u8]) -> Option<Entry>
     ensures { result ≡ entry_of scopes.EventSetting name.now }
 {
-    if name == b"TASK".as_slice() {
+    if same(name, b"TASK") {
         required(Domain::TaskName)
-    } else if name == b"EVENT".as_slice() {
+    } else if same(name, b"EVENT") {
         required(Domain::EventName)
     } else {
         None
@@ -213,7 +214,7 @@ fn event_setting_entry(name: &[u8]) -> Option<Entry>
 fn only(name: &[u8], wanted: &[u8], entry: Option<Entry>) -> Option<Entry>
     ensures { result ≡ (if bytes_eq name.now wanted.now then entry else None) }
 {
-    if name == wanted { entry } else { None }
+    if same(name, wanted) { entry } else { None }
 }
 
 /// What the table says of a name in a scope; none of a name that it doesn't have.
@@ -239,7 +240,7 @@ pub fn entry_of(scope: Scope, name: &[u8]) -> Option<Entry>
 fn scope_in_task(name: &[u8], word: &[u8]) -> Option<Scope>
     ensures { result ≡ inner_scope scopes.Task name.now (Word word.now) }
 {
-    if name == b"AUTOSTART".as_slice() && word == b"TRUE".as_slice() {
+    if same(name, b"AUTOSTART") && same(word, b"TRUE") {
         Some(Scope::TaskStart)
     } else {
         None
@@ -249,11 +250,11 @@ fn scope_in_task(name: &[u8], word: &[u8]) -> Option<Scope>
 fn scope_in_alarm(name: &[u8], word: &[u8]) -> Option<Scope>
     ensures { result ≡ inner_scope scopes.Alarm name.now (Word word.now) }
 {
-    if name == b"AUTOSTART".as_slice() && word == b"TRUE".as_slice() {
+    if same(name, b"AUTOSTART") && same(word, b"TRUE") {
         Some(Scope::AlarmStart)
-    } else if name == b"ACTION".as_slice() && word == b"ACTIVATETASK".as_slice() {
+    } else if same(name, b"ACTION") && same(word, b"ACTIVATETASK") {
         Some(Scope::Activation)
-    } else if name == b"ACTION".as_slice() && word == b"SETEVENT".as_slice() {
+    } else if same(name, b"ACTION") && same(word, b"SETEVENT") {
         Some(Scope::EventSetting)
     } else {
         None

@@ -3,6 +3,7 @@ pub mod BalancedRead
 pub mod Ends
 pub mod FileRead
 pub mod Lists
+pub mod NamedObjects
 pub mod ObjectsRead
 pub mod OneAnswer
 pub mod Prefixes

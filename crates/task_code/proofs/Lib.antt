@@ -1,4 +1,5 @@
 pub mod BodiesRead
+pub mod Depths
 pub mod Elses
 pub mod Expected
 pub mod FirstOfLines
@@ -9,4 +10,5 @@ pub mod OneAnswer
 pub mod Operands
 pub mod Scanned
 pub mod StatementsRead
+pub mod Tables
 pub mod Viable

@@ -1,5 +1,6 @@
 -- The words of task code (this project's profile): keywords, the services of ISO 17356-3 that code may call, statuses.
 use Rattle.std.specs.Prelude.{ℕ, List, [], ◌∷◌, Bool, if◌then◌else◌, Option, Some, None, codes}
+use Rattle.std.specs.Borrow.{Bor}
 use Rattle.std.specs.Str.{bytes_eq}
 use Rattle.osek_values.specs.declared.status.Status.{Status}
 use Rattle.osek_values.specs.declared.status.Status.TheVariants as status
@@ -21,6 +22,10 @@ use Rattle.task_code.specs.declared.words.StatementWord.TheVariants.{Work, If, W
 abbrev pub found_in : {A : Type 0} → List (List ℕ × A) → List ℕ → Option A
 found_in [] n = None
 found_in ((word, meaning) ∷ more) n = if bytes_eq n word then Some meaning else found_in more n
+
+-- an entry of such a table, whose word is borrowed
+abbrev pub entry : {A : Type 0} → Bor (List ℕ) × A → List ℕ × A
+entry e = (e.0.now, e.1)
 
 -- a meaning, or where there is none another
 abbrev pub or_else : {A B : Type 0} → (A → B) → Option A → Option B → Option B

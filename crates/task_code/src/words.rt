@@ -1,6 +1,6 @@
 //! The words of the grammar: the keywords, the services by what stands between their parentheses, the status names.
-ghost use Rattle.std.specs.Prelude.{◌≡◌};
-ghost use Rattle.task_code.specs.Words.{body_kind as the_body_kind, is_else as is_the_else, status_of as the_status, plain_service as the_plain_service, object_service as the_object_service, service_of as the_service, statement_word as the_statement_word};
+ghost use Rattle.std.specs.Prelude.{◌≡◌, map};
+ghost use Rattle.task_code.specs.Words.{body_kind as the_body_kind, is_else as is_the_else, status_of as the_status, plain_service as the_plain_service, object_service as the_object_service, service_of as the_service, statement_word as the_statement_word, found_in as meaning_in, entry};
 
 use crate::tree::BodyKind;
 use osek_standard::Lock;
@@ -65,18 +65,29 @@ pub enum StatementWord {
     Service(Service),
 }
 
+/// A word with what it stands for.
+type Entry<T> = (&'static [u8], T);
+
+/// What a name stands for in a table of words, if it is one of them.
+fn found_in<T: Copy>(table: &[Entry<T>], name: &[u8]) -> Option<T>
+    ensures { result ≡ meaning_in (map entry table.now) name.now }
+{
+    for (word, meaning) in table {
+        if name == *word {
+            return Some(*meaning);
+        }
+    }
+    None
+}
+
+const BODY_KINDS: [Entry<BodyKind>; 2] = [(b"TASK", BodyKind::Task), (b"ISR", BodyKind::Isr)];
+
 /// Whose body it is, by its first word.
 #[tactic(auto, unfolding(crate::specs::Words::body_kind))]
 pub fn body_kind(name: &[u8]) -> Option<BodyKind>
     ensures { result ≡ the_body_kind name.now }
 {
-    if name == b"TASK".as_slice() {
-        Some(BodyKind::Task)
-    } else if name == b"ISR".as_slice() {
-        Some(BodyKind::Isr)
-    } else {
-        None
-    }
+    found_in(&BODY_KINDS, name)
 }
 
 #[tactic(auto, unfolding(crate::specs::Words::is_else))]
@@ -86,104 +97,88 @@ pub fn is_else(name: &[u8]) -> bool
     name == b"else".as_slice()
 }
 
+const STATUSES: [Entry<Status>; 9] = [
+    (b"E_OK", Status::Ok),
+    (b"E_OS_ACCESS", Status::Access),
+    (b"E_OS_CALLEVEL", Status::CallLevel),
+    (b"E_OS_ID", Status::Id),
+    (b"E_OS_LIMIT", Status::Limit),
+    (b"E_OS_NOFUNC", Status::NoFunc),
+    (b"E_OS_RESOURCE", Status::Resource),
+    (b"E_OS_STATE", Status::State),
+    (b"E_OS_VALUE", Status::Value),
+];
+
 /// The status that has the name.
 #[tactic(auto, unfolding(crate::specs::Words::status_of))]
 pub fn status_of(name: &[u8]) -> Option<Status>
     ensures { result ≡ the_status name.now }
 {
-    if name == b"E_OK".as_slice() {
-        Some(Status::Ok)
-    } else if name == b"E_OS_ACCESS".as_slice() {
-        Some(Status::Access)
-    } else if name == b"E_OS_CALLEVEL".as_slice() {
-        Some(Status::CallLevel)
-    } else if name == b"E_OS_ID".as_slice() {
-        Some(Status::Id)
-    } else if name == b"E_OS_LIMIT".as_slice() {
-        Some(Status::Limit)
-    } else if name == b"E_OS_NOFUNC".as_slice() {
-        Some(Status::NoFunc)
-    } else if name == b"E_OS_RESOURCE".as_slice() {
-        Some(Status::Resource)
-    } else if name == b"E_OS_STATE".as_slice() {
-        Some(Status::State)
-    } else if name == b"E_OS_VALUE".as_slice() {
-        Some(Status::Value)
-    } else {
-        None
-    }
+    found_in(&STATUSES, name)
 }
+
+const PLAIN_SERVICES: [Entry<PlainService>; 10] = [
+    (b"TerminateTask", PlainService::TerminateTask),
+    (b"Schedule", PlainService::Schedule),
+    (b"GetTaskID", PlainService::GetTaskId),
+    (
+        b"GetActiveApplicationMode",
+        PlainService::GetActiveApplicationMode,
+    ),
+    (
+        b"SuspendAllInterrupts",
+        PlainService::Lock(Lock::SuspendAll),
+    ),
+    (b"ResumeAllInterrupts", PlainService::Lock(Lock::ResumeAll)),
+    (b"SuspendOSInterrupts", PlainService::Lock(Lock::SuspendOs)),
+    (b"ResumeOSInterrupts", PlainService::Lock(Lock::ResumeOs)),
+    (
+        b"DisableAllInterrupts",
+        PlainService::Lock(Lock::DisableAll),
+    ),
+    (b"EnableAllInterrupts", PlainService::Lock(Lock::EnableAll)),
+];
 
 #[tactic(auto, unfolding(crate::specs::Words::plain_service))]
 fn plain_service(name: &[u8]) -> Option<PlainService>
     ensures { result ≡ the_plain_service name.now }
 {
-    if name == b"TerminateTask".as_slice() {
-        Some(PlainService::TerminateTask)
-    } else if name == b"Schedule".as_slice() {
-        Some(PlainService::Schedule)
-    } else if name == b"GetTaskID".as_slice() {
-        Some(PlainService::GetTaskId)
-    } else if name == b"GetActiveApplicationMode".as_slice() {
-        Some(PlainService::GetActiveApplicationMode)
-    } else if name == b"SuspendAllInterrupts".as_slice() {
-        Some(PlainService::Lock(Lock::SuspendAll))
-    } else if name == b"ResumeAllInterrupts".as_slice() {
-        Some(PlainService::Lock(Lock::ResumeAll))
-    } else if name == b"SuspendOSInterrupts".as_slice() {
-        Some(PlainService::Lock(Lock::SuspendOs))
-    } else if name == b"ResumeOSInterrupts".as_slice() {
-        Some(PlainService::Lock(Lock::ResumeOs))
-    } else if name == b"DisableAllInterrupts".as_slice() {
-        Some(PlainService::Lock(Lock::DisableAll))
-    } else if name == b"EnableAllInterrupts".as_slice() {
-        Some(PlainService::Lock(Lock::EnableAll))
-    } else {
-        None
-    }
+    found_in(&PLAIN_SERVICES, name)
 }
+
+const OBJECT_SERVICES: [Entry<ObjectService>; 8] = [
+    (b"ActivateTask", ObjectService::ActivateTask),
+    (b"ChainTask", ObjectService::ChainTask),
+    (b"GetResource", ObjectService::GetResource),
+    (b"ReleaseResource", ObjectService::ReleaseResource),
+    (b"GetEvent", ObjectService::GetEvent),
+    (b"CancelAlarm", ObjectService::CancelAlarm),
+    (b"GetAlarm", ObjectService::GetAlarm),
+    (b"GetTaskState", ObjectService::GetTaskState),
+];
 
 #[tactic(auto, unfolding(crate::specs::Words::object_service))]
 fn object_service(name: &[u8]) -> Option<ObjectService>
     ensures { result ≡ the_object_service name.now }
 {
-    if name == b"ActivateTask".as_slice() {
-        Some(ObjectService::ActivateTask)
-    } else if name == b"ChainTask".as_slice() {
-        Some(ObjectService::ChainTask)
-    } else if name == b"GetResource".as_slice() {
-        Some(ObjectService::GetResource)
-    } else if name == b"ReleaseResource".as_slice() {
-        Some(ObjectService::ReleaseResource)
-    } else if name == b"GetEvent".as_slice() {
-        Some(ObjectService::GetEvent)
-    } else if name == b"CancelAlarm".as_slice() {
-        Some(ObjectService::CancelAlarm)
-    } else if name == b"GetAlarm".as_slice() {
-        Some(ObjectService::GetAlarm)
-    } else if name == b"GetTaskState".as_slice() {
-        Some(ObjectService::GetTaskState)
-    } else {
-        None
-    }
+    found_in(&OBJECT_SERVICES, name)
 }
+
+const OTHER_SERVICES: [Entry<Service>; 6] = [
+    (b"SetEvent", Service::SetEvent),
+    (b"ClearEvent", Service::Mask(MaskService::ClearEvent)),
+    (b"WaitEvent", Service::Mask(MaskService::WaitEvent)),
+    (b"SetRelAlarm", Service::Alarm(AlarmService::SetRelAlarm)),
+    (b"SetAbsAlarm", Service::Alarm(AlarmService::SetAbsAlarm)),
+    (b"ShutdownOS", Service::ShutdownOs),
+];
 
 #[tactic(auto, unfolding(crate::specs::Words::service_of))]
 fn service_of(name: &[u8]) -> Option<Service>
     ensures { result ≡ the_service name.now }
 {
-    if name == b"SetEvent".as_slice() {
-        Some(Service::SetEvent)
-    } else if name == b"ClearEvent".as_slice() {
-        Some(Service::Mask(MaskService::ClearEvent))
-    } else if name == b"WaitEvent".as_slice() {
-        Some(Service::Mask(MaskService::WaitEvent))
-    } else if name == b"SetRelAlarm".as_slice() {
-        Some(Service::Alarm(AlarmService::SetRelAlarm))
-    } else if name == b"SetAbsAlarm".as_slice() {
-        Some(Service::Alarm(AlarmService::SetAbsAlarm))
-    } else if name == b"ShutdownOS".as_slice() {
-        Some(Service::ShutdownOs)
+    if let Some(service) = found_in(&OTHER_SERVICES, name) {
+        Some(service)
     } else if let Some(object) = object_service(name) {
         Some(Service::Object(object))
     } else if let Some(plain) = plain_service(name) {
@@ -193,17 +188,19 @@ fn service_of(name: &[u8]) -> Option<Service>
     }
 }
 
+const KEYWORDS: [Entry<StatementWord>; 3] = [
+    (b"work", StatementWord::Work),
+    (b"if", StatementWord::If),
+    (b"while", StatementWord::While),
+];
+
 /// The word that a statement begins with.
 #[tactic(auto, unfolding(crate::specs::Words::statement_word))]
 pub fn statement_word(name: &[u8]) -> Option<StatementWord>
     ensures { result ≡ the_statement_word name.now }
 {
-    if name == b"work".as_slice() {
-        Some(StatementWord::Work)
-    } else if name == b"if".as_slice() {
-        Some(StatementWord::If)
-    } else if name == b"while".as_slice() {
-        Some(StatementWord::While)
+    if let Some(keyword) = found_in(&KEYWORDS, name) {
+        Some(keyword)
     } else if let Some(service) = service_of(name) {
         Some(StatementWord::Service(service))
     } else {

@@ -1,4 +1,5 @@
 use Rattle.std.proofs.Common.{◌≡◌, ℕ, ◌+◌, ◌-◌, List, [], ◌∷◌, ◌++◌, length, length-drop, append_assoc, ◌∙◌, sym, ap, subst, drop, rules, arith}
+use Rattle.std.proofs.lemmas.Grind.{common_steps}
 use Rattle.std.proofs.lemmas.List.{take_all}
 use Rattle.osek_values.specs.Numbers.{block_no}
 use Rattle.osek_standard.specs.declared.block.Block.{Block}
@@ -67,3 +68,231 @@ lay_out_statement-returns-in_ok-lay_out-in-While t c =
     ∙ (λ i. (c.in_ok-push-in-While.ensures.items ∙ (λ j. before ++ head j ∷ [])) i ++ rest)
     ∙ append_assoc before (block locks (loop_kind c.in-While.condition out) line (entry body (n + 1) n) ∷ []) rest
     ∙ sym (ap (λ (st : Statement). before ++ statement_blocks s st n out locks) c.in-While.is)
+
+pub lay_out-copy-open-requires : goal.lay_out-copy-open-requires
+lay_out-copy-open-requires t c = tt
+
+pub lay_out-as_slice-statements-requires : goal.lay_out-as_slice-statements-requires
+lay_out-as_slice-statements-requires t c = tt
+
+pub lay_out-loop-i-init : goal.lay_out-loop-i-init
+lay_out-loop-i-init t c = search rules
+
+pub lay_out-offset_bounds-statements-i : goal.lay_out-offset_bounds-statements-i
+lay_out-offset_bounds-statements-i t c = search rules
+
+pub lay_out-bounds-statements-i : goal.lay_out-bounds-statements-i
+lay_out-bounds-statements-i t c = search rules
+
+pub lay_out-overflow_add-i : goal.lay_out-overflow_add-i
+lay_out-overflow_add-i t c = search rules
+
+pub lay_out-offset_bounds-statements-i-in-loop-i : goal.lay_out-offset_bounds-statements-i-in-loop-i
+lay_out-offset_bounds-statements-i-in-loop-i t c = search rules
+
+pub lay_out-slice_bounds-follower-count : goal.lay_out-slice_bounds-follower-count
+lay_out-slice_bounds-follower-count t c = search rules
+
+pub lay_out-slice_bounds-follower-start : goal.lay_out-slice_bounds-follower-start
+lay_out-slice_bounds-follower-start t c = search rules
+
+pub lay_out-slice_bounds-follower-end : goal.lay_out-slice_bounds-follower-end
+lay_out-slice_bounds-follower-end t c = search rules
+
+pub lay_out-follower-out-requires : goal.lay_out-follower-out-requires
+lay_out-follower-out-requires t c = tt
+
+pub lay_out-branch-lay_out_statement-requires : goal.lay_out-branch-lay_out_statement-requires
+lay_out-branch-lay_out_statement-requires t c κs = search rules
+
+pub lay_out-from_residual-requires : goal.lay_out-from_residual-requires
+lay_out-from_residual-requires t c κs = search rules
+
+pub lay_out-returns-in_err-lay_out_statement : goal.lay_out-returns-in_err-lay_out_statement
+lay_out-returns-in_err-lay_out_statement t c = search rules
+
+pub lay_out-locks_behind-open-requires : goal.lay_out-locks_behind-open-requires
+lay_out-locks_behind-open-requires t c = tt
+
+pub lay_out-loop-i-smaller : goal.lay_out-loop-i-smaller
+lay_out-loop-i-smaller t c = search rules
+
+pub lay_out_statement-overflow_add-first : goal.lay_out_statement-overflow_add-first
+lay_out_statement-overflow_add-first t c = search rules
+
+pub lay_out_statement-work-requires : goal.lay_out_statement-work-requires
+lay_out_statement-work-requires t c = search rules
+
+pub lay_out_statement-block-requires : goal.lay_out_statement-block-requires
+lay_out_statement-block-requires t c = search rules
+
+pub lay_out_statement-push-requires : goal.lay_out_statement-push-requires
+lay_out_statement-push-requires t c κs = search rules
+
+pub lay_out_statement-branch-push-requires : goal.lay_out_statement-branch-push-requires
+lay_out_statement-branch-push-requires t c κs = search rules
+
+pub lay_out_statement-from_residual-requires : goal.lay_out_statement-from_residual-requires
+lay_out_statement-from_residual-requires t c κs = search rules
+
+pub lay_out_statement-returns-in_err-push-in-Work : goal.lay_out_statement-returns-in_err-push-in-Work
+lay_out_statement-returns-in_err-push-in-Work t c = search rules
+
+pub lay_out_statement-entry-next-requires : goal.lay_out_statement-entry-next-requires
+lay_out_statement-entry-next-requires t c = tt
+
+pub lay_out_statement-block_no-requires : goal.lay_out_statement-block_no-requires
+lay_out_statement-block_no-requires t c = search rules
+
+pub lay_out_statement-block-requires-in-If-default-default-None : goal.lay_out_statement-block-requires-in-If-default-default-None
+lay_out_statement-block-requires-in-If-default-default-None t c = search rules
+
+pub lay_out_statement-push-requires-in-If-default-default-None : goal.lay_out_statement-push-requires-in-If-default-default-None
+lay_out_statement-push-requires-in-If-default-default-None t c κs = search rules
+
+pub lay_out_statement-branch-push-requires-in-If-default-default-None : goal.lay_out_statement-branch-push-requires-in-If-default-default-None
+lay_out_statement-branch-push-requires-in-If-default-default-None t c κs = search rules
+
+pub lay_out_statement-from_residual-requires-in_err-push-in-If-default-default-None : goal.lay_out_statement-from_residual-requires-in_err-push-in-If-default-default-None
+lay_out_statement-from_residual-requires-in_err-push-in-If-default-default-None t c κs = search rules
+
+pub lay_out_statement-returns-in_err-push-in-If-default-default-None : goal.lay_out_statement-returns-in_err-push-in-If-default-default-None
+lay_out_statement-returns-in_err-push-in-If-default-default-None t c = search rules
+
+pub lay_out_statement-lay_out-requires : goal.lay_out_statement-lay_out-requires
+lay_out_statement-lay_out-requires t c = search rules
+
+pub lay_out_statement-branch-lay_out-requires : goal.lay_out_statement-branch-lay_out-requires
+lay_out_statement-branch-lay_out-requires t c κs = search rules
+
+pub lay_out_statement-from_residual-requires-in_err-lay_out-in-If-default-default-None : goal.lay_out_statement-from_residual-requires-in_err-lay_out-in-If-default-default-None
+lay_out_statement-from_residual-requires-in_err-lay_out-in-If-default-default-None t c κs = search rules
+
+pub lay_out_statement-returns-in_err-lay_out-in-If-default-default-None : goal.lay_out_statement-returns-in_err-lay_out-in-If-default-default-None
+lay_out_statement-returns-in_err-lay_out-in-If-default-default-None t c = search rules
+
+pub lay_out_statement-nodes-requires : goal.lay_out_statement-nodes-requires
+lay_out_statement-nodes-requires t c = search rules
+
+pub lay_out_statement-overflow_add-second : goal.lay_out_statement-overflow_add-second
+lay_out_statement-overflow_add-second t c = search rules
+
+pub lay_out_statement-entry-other-requires : goal.lay_out_statement-entry-other-requires
+lay_out_statement-entry-other-requires t c = tt
+
+pub lay_out_statement-entry-next-requires-in-If-default-default-Some : goal.lay_out_statement-entry-next-requires-in-If-default-default-Some
+lay_out_statement-entry-next-requires-in-If-default-default-Some t c = tt
+
+pub lay_out_statement-block_no-requires-in-If-default-default-Some : goal.lay_out_statement-block_no-requires-in-If-default-default-Some
+lay_out_statement-block_no-requires-in-If-default-default-Some t c = search rules
+
+pub lay_out_statement-block-requires-in-If-default-default-Some : goal.lay_out_statement-block-requires-in-If-default-default-Some
+lay_out_statement-block-requires-in-If-default-default-Some t c = search rules
+
+pub lay_out_statement-push-requires-in-If-default-default-Some : goal.lay_out_statement-push-requires-in-If-default-default-Some
+lay_out_statement-push-requires-in-If-default-default-Some t c κs = search rules
+
+pub lay_out_statement-branch-push-requires-in-If-default-default-Some : goal.lay_out_statement-branch-push-requires-in-If-default-default-Some
+lay_out_statement-branch-push-requires-in-If-default-default-Some t c κs = search rules
+
+pub lay_out_statement-from_residual-requires-in_err-push-in-If-default-default-Some : goal.lay_out_statement-from_residual-requires-in_err-push-in-If-default-default-Some
+lay_out_statement-from_residual-requires-in_err-push-in-If-default-default-Some t c κs = search rules
+
+pub lay_out_statement-returns-in_err-push-in-If-default-default-Some : goal.lay_out_statement-returns-in_err-push-in-If-default-default-Some
+lay_out_statement-returns-in_err-push-in-If-default-default-Some t c = search rules
+
+pub lay_out_statement-lay_out-requires-in-If-default-default-Some : goal.lay_out_statement-lay_out-requires-in-If-default-default-Some
+lay_out_statement-lay_out-requires-in-If-default-default-Some t c = search rules
+
+pub lay_out_statement-branch-lay_out-requires-in-If-default-default-Some : goal.lay_out_statement-branch-lay_out-requires-in-If-default-default-Some
+lay_out_statement-branch-lay_out-requires-in-If-default-default-Some t c κs = search rules
+
+pub lay_out_statement-from_residual-requires-in_err-lay_out-in-If-default-default-Some : goal.lay_out_statement-from_residual-requires-in_err-lay_out-in-If-default-default-Some
+lay_out_statement-from_residual-requires-in_err-lay_out-in-If-default-default-Some t c κs = search rules
+
+pub lay_out_statement-returns-in_err-lay_out-in-If-default-default-Some : goal.lay_out_statement-returns-in_err-lay_out-in-If-default-default-Some
+lay_out_statement-returns-in_err-lay_out-in-If-default-default-Some t c = search rules
+
+pub lay_out_statement-lay_out-requires-in-If-default-default-Some-2 : goal.lay_out_statement-lay_out-requires-in-If-default-default-Some-2
+lay_out_statement-lay_out-requires-in-If-default-default-Some-2 t c = search rules
+
+pub lay_out_statement-branch-lay_out-requires-in-If-default-default-Some-2 : goal.lay_out_statement-branch-lay_out-requires-in-If-default-default-Some-2
+lay_out_statement-branch-lay_out-requires-in-If-default-default-Some-2 t c κs = search rules
+
+pub lay_out_statement-from_residual-requires-in_err-lay_out-in-If-default-default-Some-2 : goal.lay_out_statement-from_residual-requires-in_err-lay_out-in-If-default-default-Some-2
+lay_out_statement-from_residual-requires-in_err-lay_out-in-If-default-default-Some-2 t c κs = search rules
+
+pub lay_out_statement-returns-in_err-lay_out-in-If-default-default-Some-2 : goal.lay_out_statement-returns-in_err-lay_out-in-If-default-default-Some-2
+lay_out_statement-returns-in_err-lay_out-in-If-default-default-Some-2 t c = search rules
+
+pub lay_out_statement-entry-next-requires-in-While : goal.lay_out_statement-entry-next-requires-in-While
+lay_out_statement-entry-next-requires-in-While t c = tt
+
+pub lay_out_statement-loop_kind-requires : goal.lay_out_statement-loop_kind-requires
+lay_out_statement-loop_kind-requires t c = search rules
+
+pub lay_out_statement-block-requires-in-While : goal.lay_out_statement-block-requires-in-While
+lay_out_statement-block-requires-in-While t c = search rules
+
+pub lay_out_statement-push-requires-in-While : goal.lay_out_statement-push-requires-in-While
+lay_out_statement-push-requires-in-While t c κs = search rules
+
+pub lay_out_statement-branch-push-requires-in-While : goal.lay_out_statement-branch-push-requires-in-While
+lay_out_statement-branch-push-requires-in-While t c κs = search rules
+
+pub lay_out_statement-from_residual-requires-in_err-push-in-While : goal.lay_out_statement-from_residual-requires-in_err-push-in-While
+lay_out_statement-from_residual-requires-in_err-push-in-While t c κs = search rules
+
+pub lay_out_statement-returns-in_err-push-in-While : goal.lay_out_statement-returns-in_err-push-in-While
+lay_out_statement-returns-in_err-push-in-While t c = search rules
+
+pub lay_out_statement-lay_out-requires-in-While : goal.lay_out_statement-lay_out-requires-in-While
+lay_out_statement-lay_out-requires-in-While t c = search rules
+
+pub lay_out_statement-branch-lay_out-requires-in-While : goal.lay_out_statement-branch-lay_out-requires-in-While
+lay_out_statement-branch-lay_out-requires-in-While t c κs = search rules
+
+pub lay_out_statement-from_residual-requires-in_err-lay_out-in-While : goal.lay_out_statement-from_residual-requires-in_err-lay_out-in-While
+lay_out_statement-from_residual-requires-in_err-lay_out-in-While t c κs = search rules
+
+pub lay_out_statement-returns-in_err-lay_out-in-While : goal.lay_out_statement-returns-in_err-lay_out-in-While
+lay_out_statement-returns-in_err-lay_out-in-While t c = search rules
+
+pub lay_out_statement-kind_of-requires : goal.lay_out_statement-kind_of-requires
+lay_out_statement-kind_of-requires t c = search rules
+
+pub lay_out_statement-block-requires-in-Call : goal.lay_out_statement-block-requires-in-Call
+lay_out_statement-block-requires-in-Call t c = search rules
+
+pub lay_out_statement-push-requires-in-Call : goal.lay_out_statement-push-requires-in-Call
+lay_out_statement-push-requires-in-Call t c κs = search rules
+
+pub lay_out_statement-branch-push-requires-in-Call : goal.lay_out_statement-branch-push-requires-in-Call
+lay_out_statement-branch-push-requires-in-Call t c κs = search rules
+
+pub lay_out_statement-from_residual-requires-in_err-push-in-Call : goal.lay_out_statement-from_residual-requires-in_err-push-in-Call
+lay_out_statement-from_residual-requires-in_err-push-in-Call t c κs = search rules
+
+pub lay_out_statement-returns-in_err-push-in-Call : goal.lay_out_statement-returns-in_err-push-in-Call
+lay_out_statement-returns-in_err-push-in-Call t c = search rules
+
+pub lay_out_statement-returns-in_ok-push-in-Work : goal.lay_out_statement-returns-in_ok-push-in-Work
+lay_out_statement-returns-in_ok-push-in-Work t c = search rules
+
+pub lay_out_statement-returns-in_ok-push-in-Call : goal.lay_out_statement-returns-in_ok-push-in-Call
+lay_out_statement-returns-in_ok-push-in-Call t c = search rules
+
+pub lay_out-statement_nodes-requires : goal.lay_out-statement_nodes-requires
+lay_out-statement_nodes-requires t c = grind (arith, common_steps)
+
+pub lay_out-overflow_add-behind : goal.lay_out-overflow_add-behind
+lay_out-overflow_add-behind t c = grind (arith, common_steps)
+
+pub lay_out-lay_out_statement-requires : goal.lay_out-lay_out_statement-requires
+lay_out-lay_out_statement-requires t c = grind (arith, common_steps)
+
+pub lay_out-returns : goal.lay_out-returns
+lay_out-returns t c = grind (arith, common_steps)
+
+pub lay_out_statement-returns-in_ok-lay_out-in-If-default-default-Some-2 : goal.lay_out_statement-returns-in_ok-lay_out-in-If-default-default-Some-2
+lay_out_statement-returns-in_ok-lay_out-in-If-default-default-Some-2 t c = grind (arith, common_steps)

@@ -1,7 +1,7 @@
 -- the image that was loaded runs
-use Rattle.std.proofs.Common.{Ok, Err}
+use Rattle.std.proofs.Common.{◌∙◌, refl, Ok, Err}
 use Rattle.commands.specs.Outside.{outside}
-use Rattle.commands.proofs.Runs.{earlier, replay_runs}
+use Rattle.commands.proofs.Runs.{earlier, replay_runs, image_stops}
 use Rattle.commands.proofs.replaying.replay.Goals as goal
 
 pub returns-in-Ok-run-clause-answer : goal.returns-in-Ok-run-clause-answer
@@ -21,3 +21,22 @@ returns-in-Err-run-clause-answer g c =
     c.args.image.now c.args.mode.now c.args.events.now c.in-Ok.image c.in-Ok.ensures.image (Err c.in-Err-run.stop)
     (earlier (g.F.Shelf.contents c.args.shelf.now) (g.F.Shelf.contents c.load_image.new.shelf) c.in-Ok.ensures.same_files (g.F.Shelf.read_faults c.args.shelf.now) (g.F.Shelf.read_faults c.load_image.new.shelf) c.in-Ok.ensures.never_falls
     (g.F.Shelf.write_faults c.args.shelf.now) (g.F.Shelf.write_faults c.load_image.new.shelf) (g.O.Sink.faults c.args.out.now) (g.O.Sink.written c.args.out.now) _ _ _ _ c.args.mode.now c.args.events.now (Err c.in-Err-run.stop) c.in-Err-run.ensures.answer)
+
+pub returns-in-Ok-run-clause-same_files : goal.returns-in-Ok-run-clause-same_files
+returns-in-Ok-run-clause-same_files g c = c.in-Ok-run.ensures.same_files ∙ c.in-Ok.ensures.same_files
+
+pub returns-in-Ok-run-clause-same_writes : goal.returns-in-Ok-run-clause-same_writes
+returns-in-Ok-run-clause-same_writes g c = c.in-Ok-run.ensures.same_writes ∙ c.in-Ok.ensures.same_writes
+
+pub returns-in-Err-run-clause-same_files : goal.returns-in-Err-run-clause-same_files
+returns-in-Err-run-clause-same_files g c = c.in-Err-run.ensures.same_files ∙ c.in-Ok.ensures.same_files
+
+pub returns-in-Err-run-clause-same_writes : goal.returns-in-Err-run-clause-same_writes
+returns-in-Err-run-clause-same_writes g c = c.in-Err-run.ensures.same_writes ∙ c.in-Ok.ensures.same_writes
+
+pub returns-in-Err-clause-answer : goal.returns-in-Err-clause-answer
+returns-in-Err-clause-answer g c =
+    image_stops
+    (outside (g.F.Shelf.contents c.args.shelf.now) (g.F.Shelf.read_faults c.args.shelf.now) (g.F.Shelf.write_faults c.args.shelf.now) (g.O.Sink.faults c.args.out.now) (g.O.Sink.written c.args.out.now))
+    (outside (g.F.Shelf.contents c.load_image.new.shelf) (g.F.Shelf.read_faults c.load_image.new.shelf) (g.F.Shelf.write_faults c.load_image.new.shelf) (g.O.Sink.faults c.args.out.now) (g.O.Sink.written c.args.out.now))
+    c.args.image.now c.args.mode.now c.args.events.now refl c.in-Err.stop c.in-Err.ensures.stop

@@ -1,30 +1,56 @@
 -- the text of the stop that it is
-use Rattle.std.proofs.Common.{◌≡◌, ℕ, List, sym, ◌∙◌, ap, subst, option_map, OnOk}
-use Rattle.std.specs.Prelude.{OnErr}
-use Rattle.osek_io.specs.Pieces.{grown}
-use Rattle.trace_text.specs.EventFaults.{event_fault_name}
-use Rattle.trace_text.specs.declared.fault.FaultyLine.{FaultyLine}
-use Rattle.commands.specs.Seen.{seen}
-use Rattle.commands.specs.Statuses.{stop_text, names_of, mode_of}
-use Rattle.commands.specs.Telling.{WritesFront, fault_text}
-use Rattle.commands.specs.declared.stop.Input.{Input}
-use Rattle.commands.specs.declared.stop.Input.TheVariants as input
-use Rattle.commands.specs.declared.stop.Stop.{Stop}
-use Rattle.commands.specs.declared.stop.Stop.TheVariants as stop
 use Rattle.commands.proofs.telling.tell_stop.Goals as goal
 
-events_told : (names : Input → List ℕ) (mode : List ℕ) (s : Stop) (fault : FaultyLine) (rule : List ℕ) → s ≡ stop.Events fault → rule ≡ event_fault_name fault.rule →
-    fault_text (names input.Events) fault.line rule ≡ stop_text names mode s
-events_told names mode s fault rule is called = ap (λ (word : List ℕ). fault_text (names input.Events) fault.line word) called ∙ sym (ap (stop_text names mode) is)
+pub returns-in-Refused-clause-ok : goal.returns-in-Refused-clause-ok
+returns-in-Refused-clause-ok g c = rw c.in-Refused.is (rw (c.text_input.ensures, c.name.ensures) at c.tell_fault_in.ensures.ok)
+
+pub returns-in-Refused-clause-front : goal.returns-in-Refused-clause-front
+returns-in-Refused-clause-front g c = rw c.in-Refused.is (rw (c.text_input.ensures, c.name.ensures) at c.tell_fault_in.ensures.front)
+
+pub returns-in-Image-clause-ok : goal.returns-in-Image-clause-ok
+returns-in-Image-clause-ok g c = rw c.in-Image.is (rw c.name-in-Image.ensures at c.tell_fault_in-in-Image.ensures.ok)
+
+pub returns-in-Image-clause-front : goal.returns-in-Image-clause-front
+returns-in-Image-clause-front g c = rw c.in-Image.is (rw c.name-in-Image.ensures at c.tell_fault_in-in-Image.ensures.front)
 
 pub returns-in-Events-clause-ok : goal.returns-in-Events-clause-ok
-returns-in-Events-clause-ok g c =
-    subst (λ (text : List ℕ). OnOk c.tell_fault_in-in-Events.result (g.E.Sink.written c.tell_fault_in-in-Events.new.err ≡ grown (g.E.Sink.written c.args.err.now) text))
-    (events_told (names_of (option_map seen c.args.command.now)) (mode_of (option_map seen c.args.command.now)) c.args.stop.now c.in-Events.fault c.name-in-Events.result.now c.in-Events.is c.name-in-Events.ensures)
-    c.tell_fault_in-in-Events.ensures.ok
+returns-in-Events-clause-ok g c = rw c.in-Events.is (rw c.name-in-Events.ensures at c.tell_fault_in-in-Events.ensures.ok)
 
 pub returns-in-Events-clause-front : goal.returns-in-Events-clause-front
-returns-in-Events-clause-front g c =
-    subst (λ (text : List ℕ). OnErr c.tell_fault_in-in-Events.result (WritesFront (g.E.Sink.written c.args.err.now) (g.E.Sink.written c.tell_fault_in-in-Events.new.err) text))
-    (events_told (names_of (option_map seen c.args.command.now)) (mode_of (option_map seen c.args.command.now)) c.args.stop.now c.in-Events.fault c.name-in-Events.result.now c.in-Events.is c.name-in-Events.ensures)
-    c.tell_fault_in-in-Events.ensures.front
+returns-in-Events-clause-front g c = rw c.in-Events.is (rw c.name-in-Events.ensures at c.tell_fault_in-in-Events.ensures.front)
+
+pub returns-in-Usage-clause-ok : goal.returns-in-Usage-clause-ok
+returns-in-Usage-clause-ok g c = rw c.in-Usage.is c.put_two.ensures.ok
+
+pub returns-in-Usage-clause-front : goal.returns-in-Usage-clause-front
+returns-in-Usage-clause-front g c = rw c.in-Usage.is c.put_two.ensures.front
+
+pub returns-in-Unread-clause-ok : goal.returns-in-Unread-clause-ok
+returns-in-Unread-clause-ok g c = rw c.in-Unread.is c.tell_of.ensures.ok
+
+pub returns-in-Unread-clause-front : goal.returns-in-Unread-clause-front
+returns-in-Unread-clause-front g c = rw c.in-Unread.is c.tell_of.ensures.front
+
+pub returns-in-Unstored-clause-ok : goal.returns-in-Unstored-clause-ok
+returns-in-Unstored-clause-ok g c = rw c.in-Unstored.is c.tell_of-in-Unstored.ensures.ok
+
+pub returns-in-Unstored-clause-front : goal.returns-in-Unstored-clause-front
+returns-in-Unstored-clause-front g c = rw c.in-Unstored.is c.tell_of-in-Unstored.ensures.front
+
+pub returns-in-Unprinted-clause-ok : goal.returns-in-Unprinted-clause-ok
+returns-in-Unprinted-clause-ok g c = rw c.in-Unprinted.is c.put_two-in-Unprinted.ensures.ok
+
+pub returns-in-Unprinted-clause-front : goal.returns-in-Unprinted-clause-front
+returns-in-Unprinted-clause-front g c = rw c.in-Unprinted.is c.put_two-in-Unprinted.ensures.front
+
+pub returns-in-Memory-clause-ok : goal.returns-in-Memory-clause-ok
+returns-in-Memory-clause-ok g c = rw c.in-Memory.is c.put_two-in-Memory.ensures.ok
+
+pub returns-in-Memory-clause-front : goal.returns-in-Memory-clause-front
+returns-in-Memory-clause-front g c = rw c.in-Memory.is c.put_two-in-Memory.ensures.front
+
+pub returns-in-NoMode-clause-ok : goal.returns-in-NoMode-clause-ok
+returns-in-NoMode-clause-ok g c = rw c.in-NoMode.is c.tell_mode.ensures.ok
+
+pub returns-in-NoMode-clause-front : goal.returns-in-NoMode-clause-front
+returns-in-NoMode-clause-front g c = rw c.in-NoMode.is c.tell_mode.ensures.front
