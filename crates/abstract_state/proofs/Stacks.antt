@@ -11,9 +11,8 @@ use Rattle.std.proofs.lemmas.List.FromFn.{length-map-range_with_len}
 use Rattle.osek_values.specs.Numbers.{res_no}
 use Rattle.osek_values.specs.declared.numbers.ResNo.{ResNo}
 use Rattle.osek_standard.specs.Counts.{stacks}
-use Rattle.osek_standard.specs.Well.{same_resource}
+use Rattle.osek_standard.specs.Well.{same_resource, IsStackOutOf}
 use Rattle.osek_standard.proofs.Members.{Among}
-use Rattle.abstract_state.specs.Domains.{IsStackOutOf}
 
 -- no element stands twice
 abbrev pub Apart : {X : Type 0} → List X → Type 0

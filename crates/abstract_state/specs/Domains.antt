@@ -1,13 +1,12 @@
 -- What the values of a set are values of, and how many these are: what bounds the growth of an entry.
 use Rattle.std.specs.Prelude.{◌≡◌, ◌↔◌, ⊤, ℕ, ◌+◌, ◌*◌, ◌<◌, ◌^◌, List, length, map, All, sum_by, Contains}
 use Rattle.std.specs.List.{IsDistinct}
-use Rattle.osek_values.specs.declared.numbers.ResNo.{ResNo}
 use Rattle.osek_standard.specs.declared.app.App.{App}
 use Rattle.osek_standard.specs.declared.objects.Task.{Task}
 use Rattle.osek_standard.specs.Apps.{the_task}
 use Rattle.osek_standard.specs.Counts.{stacks}
 use Rattle.osek_standard.specs.Validity.{IsAmong}
-use Rattle.osek_standard.specs.Well.{same_resource}
+use Rattle.osek_standard.specs.Well.{IsStackOutOf}
 use Rattle.abstract_state.specs.declared.value.Val.{Val}
 use Rattle.abstract_state.specs.declared.value.Val.TheVariants.{Suspended, Live, Waiting}
 use Rattle.abstract_state.specs.declared.value.Component.{Component}
@@ -20,11 +19,6 @@ use Rattle.abstract_state.specs.declared.table.ValueSet.{ValueSet}
 use Rattle.abstract_state.specs.declared.table.Entry.{Entry}
 use Rattle.abstract_state.specs.Components.{components}
 use Rattle.abstract_state.specs.Tables.{same_part, set_at, IsSubset}
-
--- distinct resources out of so many
-pub record IsStackOutOf (resources : ℕ) (stack : List ResNo) : Type 0 where
-  pub distinct : IsDistinct same_resource stack
-  pub known : All (λ (r : ResNo). r.0 < resources) stack
 
 -- what a task with these blocks can be: suspended, Live at one of them with a stack of resources, or waiting at one
 abbrev pub IsValWithin : ℕ → ℕ → ℕ → Val → Type 0

@@ -7,6 +7,6 @@ mod system;
 pub use activation::activate;
 pub use osek_standard::{
     Action, Activity, Alarm, AlarmState, App, Block, Caller, Counter, Isr, Kind, Lock, Place,
-    Processor, Resource, Schedule, Source, Standing, State, Task, TaskState,
+    Point, Processor, Resource, Schedule, Source, Standing, State, Task, TaskState,
 };
 pub use system::{CounterObject, EventObject, System, TaskObject};

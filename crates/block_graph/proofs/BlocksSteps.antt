@@ -31,14 +31,14 @@ some_nodes (While line condition body) = omega arith
 some_nodes (Call line call) = omega arith
 
 pub counts_here : (st : Statement) (next : Statements) → HasCounts (statement_before st next) → HasCounts (statement_before st (closed 0))
-counts_here (Work line count) next h = (h.0, h.1, tt)
+counts_here (Work line count) next h = (h.0, tt)
 counts_here (If line branch None) next h = (h.0, tt)
 counts_here (If line branch (Some otherwise)) next h = (h.0, h.1, tt)
 counts_here (While line condition body) next h = (h.0, tt)
 counts_here (Call line call) next h = tt
 
 pub counts_next : (st : Statement) (next : Statements) → HasCounts (statement_before st next) → HasCounts next
-counts_next (Work line count) next h = h.2
+counts_next (Work line count) next h = h.1
 counts_next (If line branch None) next h = h.1
 counts_next (If line branch (Some otherwise)) next h = h.2
 counts_next (While line condition body) next h = h.1

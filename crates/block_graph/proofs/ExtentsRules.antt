@@ -60,7 +60,7 @@ module _ (s : System) (code : Code) (clean : HasNoFault s code) where
   pub first_of_owner : (before : List Body) (body : Body) (behind : List Body) → code.bodies ≡ before ++ body ∷ behind → list_any (is_code_of body.kind body.owner.name) before ≡ false
   first_of_owner before body behind split =
       let none : repeated_code code.bodies ≡ [] = no_line (repeated_code code.bodies) (λ l h. clean C3 l h) in
-      let once : repeated has_same_owner [] code.bodies ≡ [] = map_empty line_of_body (repeated has_same_owner [] code.bodies) (first_none _ none) in
+      let once : repeated has_same_owner [] code.bodies ≡ [] = map_empty line_of_body (repeated has_same_owner [] code.bodies) none in
       not_repeated has_same_owner [] before body behind (subst (λ bodies. repeated has_same_owner [] bodies ≡ []) split once)
 
   -- each name in a call is declared

@@ -8,7 +8,6 @@ pub mod ExtentsOwned
 pub mod ExtentsPlaces
 pub mod ExtentsRules
 pub mod ExtentsTables
-pub mod FirstRepeats
 pub mod FollowsBlocks
 pub mod FollowsPlaces
 pub mod LeastFaults

@@ -8,6 +8,7 @@ use Rattle.app_model.specs.declared.system.EventObject.{EventObject}
 use Rattle.app_model.specs.declared.system.System.{System}
 use Rattle.task_code.specs.declared.tree.Condition.TheVariants.{Choice, Always}
 use Rattle.task_code.specs.Fit.{HasCounts, HasMasks}
+use Rattle.task_code.proofs.FitLaws.{count_range}
 use Rattle.task_code.specs.Statements.{Statements, closed, work_then, if_then, if_else_then, while_then, call_then, nodes}
 use Rattle.block_graph.specs.declared.locks.Opener.{Opener}
 use Rattle.block_graph.specs.Blocks.{blocks_of, entry}
@@ -69,8 +70,8 @@ module _ (s : System) (tasks : List Task) (blocks : List Block) (first count : â
     blocks_are_good (closed line) n after locks lie counts masks declared = tt
     blocks_are_good (work_then line work next) n after locks lie counts masks declared =
         let rest : Lie next (n + 1) after = (omega arith, omega arith, lie.2) in (
-          record { own_next = refl; is_block = record { operands = counts.0; next = entry_among next (n + 1) after rest; other = tt } },
-          blocks_are_good next (n + 1) after locks rest counts.2 masks declared,
+          record { own_next = refl; is_block = record { operands = (count_range work counts.0).0; next = entry_among next (n + 1) after rest; other = tt } },
+          blocks_are_good next (n + 1) after locks rest counts.1 masks declared,
         )
     blocks_are_good (if_then line branch next) n after locks lie counts masks declared =
         let start = n + 1 in let behind = start + nodes branch in let out = entry next behind after in

@@ -50,16 +50,12 @@ is_stray s body = not (has_owner s body.kind body.owner.name)
 abbrev pub stray_code : System → List Body → List ℕ
 stray_code s bodies = map line_of_body (filter (is_stray s) bodies)
 
-abbrev pub first_only : List ℕ → List ℕ
-first_only [] = []
-first_only (line ∷ others) = line ∷ []
-
--- C3: the first body of which an earlier one has the same owner
+-- C3: a body of which an earlier one has the same owner
 abbrev pub has_same_owner : Body → Body → Bool
 has_same_owner body earlier = is_code_of body.kind body.owner.name earlier
 
 abbrev pub repeated_code : List Body → List ℕ
-repeated_code bodies = first_only (map line_of_body (repeated has_same_owner [] bodies))
+repeated_code bodies = map line_of_body (repeated has_same_owner [] bodies)
 
 -- what the calls of statements bring, each by its line, in the order of the text
 abbrev pub from_calls : (ℕ → Call → List ℕ) → Statements → List ℕ
@@ -144,6 +140,10 @@ statement_lines (call_then line call next) = line ∷ statement_lines next
 -- a body's statements and its closing brace are blocks
 abbrev pub block_lines : List Body → List ℕ
 block_lines bodies = flat_map (λ (body : Body). statement_lines body.statements ++ closing_line body.statements ∷ []) bodies
+
+abbrev pub first_only : List ℕ → List ℕ
+first_only [] = []
+first_only (line ∷ others) = line ∷ []
 
 abbrev pub beyond_limit : List Body → List ℕ
 beyond_limit bodies = first_only (drop MAX_SOURCE_BLOCKS (block_lines bodies))

@@ -7,9 +7,9 @@ ghost use Rattle.task_code.specs.StatementLists.{statement_before};
 ghost use Rattle.block_graph.specs.Rules as rules_of;
 ghost use Rattle.block_graph.specs.CallRules.{lines_of};
 
-use crate::lines::{line_if, sooner};
 use crate::names::{alarm_of, event_of, resource_of, task_of};
 use app_model::System;
+use oil_model::{line_if, sooner};
 use task_code::{Body, BodyKind, Call, Reference, Statement, StatementList};
 
 /// What is asked of each call.

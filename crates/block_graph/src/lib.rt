@@ -8,7 +8,6 @@ mod kinds;
 mod laws;
 mod layout;
 mod least_fault;
-mod lines;
 mod linker;
 mod locks;
 mod names;

@@ -1,14 +1,14 @@
 //! The rules on whose code there is: that each task and ISR has some, and none has it twice.
-ghost use Rattle.std.specs.Prelude.{◌≡◌};
+ghost use Rattle.std.specs.Prelude.{◌≡◌, ◌∷◌, [], if◌then◌else◌};
 ghost use Rattle.std.specs.List.{list_any};
 ghost use Rattle.app_model.specs.declared.system.TaskObject.{TaskObject};
-ghost use Rattle.oil_model.specs.Lines.{least};
+ghost use Rattle.oil_model.specs.Lines.{sooner, least};
 ghost use Rattle.task_code.specs.declared.tree.BodyKind.TheVariants.{Task as of_task, Isr as of_isr};
 ghost use Rattle.block_graph.specs.Rules as rules_of;
 
-use crate::lines::{line_if, sooner};
 use crate::names::{isr_of, task_of};
 use app_model::{System, TaskObject};
+use oil_model::{line_if, sooner};
 use osek_values::Name;
 use task_code::{Body, BodyKind};
 
@@ -105,15 +105,28 @@ pub fn stray_code(system: &System, bodies: &[Body]) -> Option<u32>
     best
 }
 
-/// The line of the first body of which an earlier one has the same owner. It looks at no body behind that one, so that
-/// where all bodies have a declared owner it looks at few.
+/// The least line so far, or the body's where that is lesser and an earlier body has the same owner. The earlier ones are
+/// looked through only where its line is lesser. In a text no line behind that of the first repeated body is, so that
+/// they are looked through for few bodies where each has a declared owner.
+fn sooner_repeat(best: Option<u32>, body: &Body, earlier: &[Body]) -> Option<u32>
+    ensures { result ≡ sooner best (least (if list_any (rules_of.has_same_owner body.now) earlier.now then body.now.line ∷ [] else [])) }
+{
+    match best {
+        Some(line) if line <= body.line => best,
+        _ => sooner(
+            best,
+            line_if(has_code(body.kind, &body.owner.name, earlier), body.line),
+        ),
+    }
+}
+
+/// The least line of a body of which an earlier one has the same owner.
 pub fn repeated_code(bodies: &[Body]) -> Option<u32>
     ensures { result ≡ least (rules_of.repeated_code bodies.now) }
 {
+    let mut best = None;
     for (i, body) in bodies.iter().enumerate() {
-        if has_code(body.kind, &body.owner.name, &bodies[..i]) {
-            return Some(body.line);
-        }
+        best = sooner_repeat(best, body, &bodies[..i]);
     }
-    None
+    best
 }

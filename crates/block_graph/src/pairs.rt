@@ -4,9 +4,9 @@ ghost use Rattle.oil_model.specs.Lines.{least};
 ghost use Rattle.block_graph.specs.Locks.{unpaired as the_unpaired};
 ghost use Rattle.block_graph.specs.Rules as rules_of;
 
-use crate::lines::{line_if, sooner};
 use crate::locks::Locks;
 use crate::walk::walk;
+use oil_model::{line_if, sooner};
 use task_code::Body;
 
 /// The line on which a body's locks don't pair.

@@ -70,23 +70,23 @@ fn room_behind_body(room: usize, body: &Body) -> Result<usize, u32>
     Ok(left)
 }
 
-/// The same behind all bodies.
-fn room_behind_bodies(room: usize, bodies: &[Body]) -> Result<usize, u32>
-    ensures { MatchResult result (λ left. drop room (block_lines bodies.now) ≡ []) (λ failing. first_only (drop room (block_lines bodies.now)) ≡ failing ∷ []) }
+/// Whether there is room for all bodies, or the line of the first block that is one too many.
+fn room_for_bodies(room: usize, bodies: &[Body]) -> Result<(), u32>
+    ensures { MatchResult result (λ _. drop room (block_lines bodies.now) ≡ []) (λ failing. first_only (drop room (block_lines bodies.now)) ≡ failing ∷ []) }
 {
     let mut left = room;
     for body in bodies {
         left = room_behind_body(left, body)?;
     }
-    Ok(left)
+    Ok(())
 }
 
 /// The line of the first block that is one too many.
 pub fn beyond_limit(bodies: &[Body]) -> Option<u32>
     ensures { result ≡ least (rules_of.beyond_limit bodies.now) }
 {
-    match room_behind_bodies(MAX_SOURCE_BLOCKS, bodies) {
-        Ok(_) => None,
+    match room_for_bodies(MAX_SOURCE_BLOCKS, bodies) {
+        Ok(()) => None,
         Err(line) => Some(line),
     }
 }

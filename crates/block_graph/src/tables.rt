@@ -9,18 +9,11 @@ use crate::layout::{block_no, size};
 use crate::owners::is_code_of;
 use crate::ticks::routine_size;
 use app_model::{CounterObject, System, TaskObject};
+use oil_model::copied;
 use osek_standard::{Counter, Isr, Task};
 use osek_values::{Memory, Name, Seq};
 use std::alloc::Global;
 use task_code::{Body, BodyKind};
-
-/// A copy of a name.
-fn copy(alloc: Global, name: &Name) -> Result<Name, Memory>
-    ensures { IfOk result (λ copied. copied ≡ name.now) }
-{
-    let bytes = name.as_bytes().to_vec(alloc)?;
-    Ok(Name::new(bytes))
-}
 
 /// A number of blocks as a number of 16 bits.
 fn narrow(count: usize) -> u16
@@ -53,7 +46,7 @@ fn task(alloc: Global, declared: &TaskObject, bodies: &[Body]) -> Result<Task, M
     ensures { IfOk result (λ t. t ≡ task_with declared.now (the_extent body_kind.Task declared.now.name bodies.now 0)) }
 {
     let extent = extent(BodyKind::Task, &declared.name, bodies);
-    let name = copy(alloc, &declared.name)?;
+    let name = copied(alloc, &declared.name)?;
     Ok(Task {
         name,
         priority: declared.priority,
@@ -82,7 +75,7 @@ fn isr(alloc: Global, declared: &Name, bodies: &[Body]) -> Result<Isr, Memory>
     ensures { IfOk result (λ x. x ≡ isr_with declared.now (the_extent body_kind.Isr declared.now bodies.now 0)) }
 {
     let extent = extent(BodyKind::Isr, declared, bodies);
-    let name = copy(alloc, declared)?;
+    let name = copied(alloc, declared)?;
     Ok(Isr {
         name,
         first: block_no(extent.0),
@@ -112,7 +105,7 @@ fn counter(
     requires count { count ≤ 65535 }
     ensures { IfOk result (λ x. x ≡ counter_with declared.now (first, count)) }
 {
-    let name = copy(alloc, &declared.name)?;
+    let name = copied(alloc, &declared.name)?;
     Ok(Counter {
         name,
         max: declared.max,

@@ -2,6 +2,8 @@
 #![tactic(auto)]
 
 #[cfg(test)]
+mod example_rows;
+#[cfg(test)]
 mod long_rows;
 #[cfg(test)]
 mod rows;

@@ -33,6 +33,7 @@ const ENDS: Repeated = Repeated {
     back: "",
 };
 
+/// Texts at a limit are judged like any other; those beyond it meet the rule of that limit.
 pub const LONG_ROWS: [LongRow; 6] = [
     LongRow {
         name: "blocks at their limit",

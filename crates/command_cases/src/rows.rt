@@ -9,6 +9,7 @@ pub struct Row {
     pub acts: &'static [Act],
 }
 
+/// A step of a row, which is wrong where anything differs from what the step says. `Cut` and `Add` only make files.
 #[derive(Clone, Copy)]
 pub enum Act {
     /// A run with these words behind the program's name: its status, and all that it writes.
@@ -16,11 +17,36 @@ pub enum Act {
     /// `build` of `a.oil` and `a.c` to `a.img`, which writes nothing, and then in this mode a `replay` of `a.img` and a
     /// `trace` of `a.oil` and `a.c`, both over `e`: so many lines, and these at their numbers, counted from 0.
     Plays(&'static str, usize, &'static [(usize, &'static str)]),
+    /// A file is there, of exactly these bytes.
+    Holds(&'static str, &'static [u8]),
     /// A second file of so many first bytes of a first.
     Cut(&'static str, &'static str, usize),
     /// A second file of a first with these bytes behind it.
     Add(&'static str, &'static str, &'static [u8]),
 }
+
+/// The image of one task: the header, the task, its resource, its mode, and two blocks, whose last two bytes are the
+/// general form.
+const ONE_TASK_IMAGE: &[u8] = b"\
+    OSEKFIT\x01\x00\x01\x00\x00\x00\x01\x01\x00\x02\
+    \x02T1\x00\x01\x01\x00\x00\x00\x00\x00\x00\x00\x00\x01\x00\x00\x00\x02\
+    \x0dRES_SCHEDULER\x00\x00\x00\x03\
+    \x10OSDEFAULTAPPMODE\
+    \x04\x00\x00\x00\x00\x01\x00\x01\x03\x00\
+    \x16\x00\x00\x00\x00\x01\x03\x00";
+
+/// The same of two tasks, of which the first activates the second: five blocks, each of them a site.
+const ACTIVATION_IMAGE: &[u8] = b"\
+    OSEKFIT\x01\x00\x02\x00\x00\x00\x01\x01\x00\x05\
+    \x02T1\x00\x01\x01\x00\x00\x00\x00\x00\x00\x00\x00\x01\x00\x00\x00\x03\
+    \x02T2\x00\x02\x01\x00\x00\x00\x00\x00\x00\x00\x00\x00\x00\x03\x00\x02\
+    \x0dRES_SCHEDULER\x00\x00\x00\x05\
+    \x10OSDEFAULTAPPMODE\
+    \x03\x00\x00\x00\x00\x01\x01\x00\x01\x03\x00\
+    \x04\x00\x00\x00\x00\x01\x00\x02\x03\x00\
+    \x16\x00\x00\x00\x00\x01\x03\x00\
+    \x04\x00\x00\x00\x00\x02\x00\x04\x03\x00\
+    \x16\x00\x00\x00\x00\x02\x03\x00";
 
 /// Rows of tasks, activation and resources.
 pub const TASK_ROWS: [Row; 10] = [
@@ -34,7 +60,10 @@ pub const TASK_ROWS: [Row; 10] = [
             ("a.c", "TASK(T1) { TerminateTask(); }\n"),
             ("e", "run 0\n"),
         ],
-        acts: &[Act::Plays("OSDEFAULTAPPMODE", 2, &[(0, "0 T1 T1=R"), (1, "1 - T1=S")])],
+        acts: &[
+            Act::Plays("OSDEFAULTAPPMODE", 2, &[(0, "0 T1 T1=R"), (1, "1 - T1=S")]),
+            Act::Holds("a.img", ONE_TASK_IMAGE),
+        ],
     },
     Row {
         name: "activation preempts",
@@ -49,16 +78,19 @@ pub const TASK_ROWS: [Row; 10] = [
             ),
             ("e", "run 0\nrun 0\nrun 0\n"),
         ],
-        acts: &[Act::Plays(
-            "OSDEFAULTAPPMODE",
-            4,
-            &[
-                (0, "0 T1 T1=R T2=S"),
-                (1, "1 T2 T1=Y T2=R !E_OK"),
-                (2, "2 T1 T1=R T2=S"),
-                (3, "3 - T1=S T2=S"),
-            ],
-        )],
+        acts: &[
+            Act::Plays(
+                "OSDEFAULTAPPMODE",
+                4,
+                &[
+                    (0, "0 T1 T1=R T2=S"),
+                    (1, "1 T2 T1=Y T2=R !E_OK"),
+                    (2, "2 T1 T1=R T2=S"),
+                    (3, "3 - T1=S T2=S"),
+                ],
+            ),
+            Act::Holds("a.img", ACTIVATION_IMAGE),
+        ],
     },
     Row {
         name: "a non-preemptive caller keeps the processor",
@@ -502,7 +534,7 @@ pub const MODE_ROWS: [Row; 10] = [
         ],
     },
     Row {
-        name: "a missing and a doubled priority",
+        name: "a missing and a doubled priority, without the code file",
         files: &[
             (
                 "a.oil",

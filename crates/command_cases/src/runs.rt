@@ -1,10 +1,12 @@
 //! Whole runs of the top call over files in memory.
+use crate::example_rows::EXAMPLE_ROWS;
 use crate::long_rows::{LONG_ROWS, LongRow, Repeated};
 use crate::rows::{Act, EVENT_ROWS, MODE_ROWS, Row, TASK_ROWS, TEXT_ROWS};
 use commands::osekfit;
 use osek_io::{MemShelf, MemSink};
 use osek_values::Memory;
 use std::alloc::Global;
+use std::fmt::Write;
 
 /// An image of one task, which terminates.
 const ONE_TASK: [u8; 89] = [
@@ -24,9 +26,9 @@ const LONG_ROOM: usize = 30_000;
 
 /// What a call is to answer and to write.
 #[derive(Clone, Copy)]
-enum Wanted {
+enum Wanted<'a> {
     /// A status, and all that is written.
-    Exactly(u8, &'static str, &'static str),
+    Exactly(u8, &'a str, &'a str),
     /// A trace of so many lines, and these at their numbers, counted from 0.
     Trace(usize, &'static [(usize, &'static str)]),
 }
@@ -225,6 +227,7 @@ fn holds(alloc: Global, shelf: &mut MemShelf, act: &Act) -> Result<bool, Memory>
             gives(alloc, shelf, words, Wanted::Exactly(*status, out, err))
         }
         Act::Plays(mode, count, lines) => plays(alloc, shelf, mode, Wanted::Trace(*count, lines)),
+        Act::Holds(name, bytes) => Ok(shelf.bytes(name) == Some(*bytes)),
         Act::Cut(from, to, len) => cut(alloc, shelf, from, to, *len).map(|()| true),
         Act::Add(from, to, more) => add(alloc, shelf, from, to, more).map(|()| true),
     }
@@ -295,6 +298,11 @@ fn the_rows_of_texts(rt: HostRuntime) {
     assert_eq!(rt; first_wrong(rt.alloc(), &TEXT_ROWS), Ok(""));
 }
 
+#[test]
+fn the_rows_of_examples(rt: HostRuntime) {
+    assert_eq!(rt; first_wrong(rt.alloc(), &EXAMPLE_ROWS), Ok(""));
+}
+
 fn text_of(alloc: Global, text: &Repeated) -> Result<Vec<u8>, Memory> {
     let mut bytes = Vec::from_slice(alloc, text.front.as_bytes())?;
     for _ in 0..text.times {
@@ -355,16 +363,17 @@ const RUNS: Repeated = Repeated {
     back: "",
 };
 
-/// Lines of their trace.
-const LOOPED: [(usize, &str); 4] = [
-    (0, "0 T1 T1=R"),
-    (1, "1 T1 T1=R"),
-    (500, "500 T1 T1=R"),
-    (1_000, "1000 T1 T1=R"),
-];
+/// Their trace: the start, and a line for each run.
+fn trace_of_runs(alloc: Global) -> Result<String, Memory> {
+    let mut text = String::new(alloc);
+    for number in 0..=RUNS.times {
+        writeln!(text, "{number} T1 T1=R")?;
+    }
+    Ok(text)
+}
 
-/// Whether the loop gives these lines over events.
-fn loop_plays(alloc: Global, events: &[u8]) -> Result<bool, Memory> {
+/// Whether the loop gives this trace over events.
+fn loop_plays(alloc: Global, events: &[u8], trace: &str) -> Result<bool, Memory> {
     let mut shelf = MemShelf::new(alloc, Vec::new(alloc));
     put_files(&mut shelf, &LOOP)?;
     put_places(&mut shelf)?;
@@ -373,13 +382,14 @@ fn loop_plays(alloc: Global, events: &[u8]) -> Result<bool, Memory> {
         alloc,
         &mut shelf,
         "OSDEFAULTAPPMODE",
-        Wanted::Trace(1_001, &LOOPED),
+        Wanted::Exactly(0, trace, ""),
     )
 }
 
 fn loops(alloc: Global) -> Result<bool, Memory> {
     let events = text_of(alloc, &RUNS)?;
-    loop_plays(alloc, &events)
+    let trace = trace_of_runs(alloc)?;
+    loop_plays(alloc, &events, &trace)
 }
 
 #[test]

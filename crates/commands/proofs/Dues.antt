@@ -16,7 +16,7 @@ use Rattle.osek_io.specs.Files.{Files}
 use Rattle.commands.specs.Answering.{CommandAnswers}
 use Rattle.commands.specs.Building.{BuildAnswers}
 use Rattle.commands.specs.Compiling.{OfApp, CompileStops}
-use Rattle.commands.specs.Due.{IsCalm, end_of, RunDue, no_mode, no_events, ends, ReplayDue, no_image, bad_image, runs, TextsDue, no_oil, bad_oil, no_code, bad_code, goes_on, IsDone, IsDue}
+use Rattle.commands.specs.Due.{IsCalm, end_of, RunDue, no_mode, no_events, ends, ReplayDue, no_image, bad_image, runs, TextsDue, no_oil, bad_oil, no_code, bad_code, goes_on, IsBuilt, IsDue}
 use Rattle.commands.specs.Outside.{Outside, outside}
 use Rattle.commands.specs.Replaying.{OfImage, ReplayAnswers}
 use Rattle.commands.specs.Running.{RunAnswers}
@@ -107,18 +107,18 @@ module _ (files : Files) (after : Outside) (reads writes faults : ℕ) (printed 
     texts_stop oil code Next stop.Trapped h = absurd h
     texts_stop oil code Next stop.NoMode h = absurd h
 
-    pub build_due : (oil code image : List ℕ) (r : Result (Unit {0}) Stop) → BuildAnswers told after oil code image r → OrMemory (TextsDue files oil code IsDone) r
+    pub build_due : (oil code image : List ℕ) (r : Result (Unit {0}) Stop) → BuildAnswers told after oil code image r → OrMemory (TextsDue files oil code IsBuilt) r
     build_due oil code image (Ok tt) (text, holds, (s, declares, (code_text, code_holds, (app, gives, h)))) = inr (goes_on text s code_text app (Ok tt) holds declares code_holds gives refl)
-    build_due oil code image (Err (stop.Refused r)) h = texts_stop oil code IsDone (stop.Refused r) h.0
-    build_due oil code image (Err stop.Usage) h = texts_stop oil code IsDone stop.Usage h.0
-    build_due oil code image (Err (stop.Image f)) h = texts_stop oil code IsDone (stop.Image f) h.0
-    build_due oil code image (Err (stop.Events f)) h = texts_stop oil code IsDone (stop.Events f) h.0
-    build_due oil code image (Err (stop.Unread i)) h = texts_stop oil code IsDone (stop.Unread i) h.0
+    build_due oil code image (Err (stop.Refused r)) h = texts_stop oil code IsBuilt (stop.Refused r) h.0
+    build_due oil code image (Err stop.Usage) h = texts_stop oil code IsBuilt stop.Usage h.0
+    build_due oil code image (Err (stop.Image f)) h = texts_stop oil code IsBuilt (stop.Image f) h.0
+    build_due oil code image (Err (stop.Events f)) h = texts_stop oil code IsBuilt (stop.Events f) h.0
+    build_due oil code image (Err (stop.Unread i)) h = texts_stop oil code IsBuilt (stop.Unread i) h.0
     build_due oil code image (Err stop.Unstored) h = absurd (calm.writes h.0)
-    build_due oil code image (Err stop.Unprinted) h = texts_stop oil code IsDone stop.Unprinted h.0
+    build_due oil code image (Err stop.Unprinted) h = texts_stop oil code IsBuilt stop.Unprinted h.0
     build_due oil code image (Err stop.Memory) h = inl refl
-    build_due oil code image (Err stop.Trapped) h = texts_stop oil code IsDone stop.Trapped h.0
-    build_due oil code image (Err stop.NoMode) h = texts_stop oil code IsDone stop.NoMode h.0
+    build_due oil code image (Err stop.Trapped) h = texts_stop oil code IsBuilt stop.Trapped h.0
+    build_due oil code image (Err stop.NoMode) h = texts_stop oil code IsBuilt stop.NoMode h.0
 
     at_app : (oil code mode events : List ℕ) (r : Result (Unit {0}) Stop) → OfApp (Some files) oil code (λ app. RunAnswers told after app (kernel_trace app) never mode events r) →
         OrMemory (TextsDue files oil code (λ app. RunDue files app never mode events)) r

@@ -14,8 +14,7 @@ use Rattle.osek_standard.specs.declared.objects.Isr.{Isr}
 use Rattle.osek_standard.specs.declared.objects.Counter.{Counter}
 use Rattle.osek_standard.specs.declared.state.State.{State}
 use Rattle.osek_standard.specs.Dispatch.{Stepped, stepped}
-use Rattle.osek_standard.specs.Apps.{no_isr, no_counter}
-use Rattle.generic_kernel.specs.Moves.{IsDeclared}
+use Rattle.osek_standard.specs.Apps.{no_isr, no_counter, IsDeclared}
 use Rattle.image_codec.specs.declared.image.Image.{Image}
 use Rattle.image_codec.specs.ImageStep.{image_step}
 use Rattle.image_run.specs.Machines.{AtWork, Turn, turned, turned_by, turn}

@@ -19,7 +19,7 @@ use Rattle.image_codec.proofs.DecodeLaws.{its_reading}
 use Rattle.image_codec.proofs.GoodOfValid.{one_spelling_holds, read_again}
 use Rattle.trace_text.specs.EventText.{read_text}
 use Rattle.osek_io.specs.Files.{Files}
-use Rattle.commands.specs.Due.{end_of, RunDue, no_mode, no_events, ends, ReplayDue, no_image, bad_image, runs, TextsDue, no_oil, bad_oil, no_code, bad_code, goes_on, IsDone, IsDue}
+use Rattle.commands.specs.Due.{end_of, RunDue, no_mode, no_events, ends, ReplayDue, no_image, bad_image, runs, TextsDue, no_oil, bad_oil, no_code, bad_code, goes_on, IsBuilt, IsDue}
 use Rattle.commands.specs.Replaying.{SpellImage, IsImageFault}
 use Rattle.commands.specs.Tracing.{never}
 use Rattle.commands.specs.Words.{Command, Build, Replay, Trace}
@@ -132,6 +132,6 @@ module _ (files : Files) where
 
   pub one_due : (command : Option Command) (a b : Result (Unit {0}) Stop) → IsDue files command a → IsDue files command b → a ≡ b
   one_due None a b x y = x ∙ sym y
-  one_due (Some (Build oil code image)) a b x y = one_texts oil code IsDone (λ app a b x y. x ∙ sym y) a b x y
+  one_due (Some (Build oil code image)) a b x y = one_texts oil code IsBuilt (λ app a b x y. x ∙ sym y) a b x y
   one_due (Some (Replay image mode events)) a b x y = one_replay image mode events a b x y
   one_due (Some (Trace oil code mode events)) a b x y = one_texts oil code (λ app. RunDue files app never mode events) (λ app. one_run app never mode events) a b x y

@@ -21,7 +21,7 @@ use Rattle.image_codec.specs.ImageTrace.{has_trap}
 use Rattle.image_codec.specs.Spelling.{spelling}
 use Rattle.image_codec.proofs.SomeImage.{spell_or_fail}
 use Rattle.osek_io.specs.Files.{Files}
-use Rattle.commands.specs.Due.{RunDue, no_mode, no_events, ends, ReplayDue, no_image, bad_image, runs, TextsDue, no_oil, bad_oil, no_code, bad_code, goes_on, IsDone, IsDue}
+use Rattle.commands.specs.Due.{RunDue, no_mode, no_events, ends, ReplayDue, no_image, bad_image, runs, TextsDue, no_oil, bad_oil, no_code, bad_code, goes_on, IsBuilt, IsDue}
 use Rattle.commands.specs.Laws.{HoldBytes}
 use Rattle.commands.specs.Running.{mode_named}
 use Rattle.commands.specs.Tracing.{never}
@@ -89,6 +89,6 @@ module _ (files : Files) where
 
   pub some_due : HoldBytes files → (command : Option Command) → (r : Result (Unit {0}) Stop) × IsDue files command r
   some_due hold None = (_, refl)
-  some_due hold (Some (Build oil code image)) = some_texts oil code IsDone (λ app. (Ok tt, refl))
+  some_due hold (Some (Build oil code image)) = some_texts oil code IsBuilt (λ app. (Ok tt, refl))
   some_due hold (Some (Replay image mode events)) = some_replay image mode events hold
   some_due hold (Some (Trace oil code mode events)) = some_texts oil code (λ app. RunDue files app never mode events) (λ app. some_run app never mode events)

@@ -11,7 +11,7 @@ use Rattle.osek_io.specs.Counts.{Rose}
 use Rattle.osek_io.specs.Files.{Files, Holds, IsMissing}
 use Rattle.commands.specs.declared.stop.Stop.{Stop}
 use Rattle.commands.specs.Compiling.{unloaded, SystemStops, CodeStops}
-use Rattle.commands.proofs.InputFiles.{of_told}
+use Rattle.commands.proofs.InputFiles.{of_longer}
 
 module _ (files : Option Files) (reads reads_after : ℕ) (name : List ℕ) where
   -- what is known of the error
@@ -22,12 +22,12 @@ module _ (files : Option Files) (reads reads_after : ℕ) (name : List ℕ) wher
 
   pub system_stops : (e : LoadError) → Cause e → SystemStops files reads reads_after name (unloaded file.Oil e)
   system_stops Read h = h.read refl
-  system_stops TooLong h = of_told files name _ (λ b held. (refl, inl (h.too_long refl b held, refl))) (λ m. let e = h.missing m in absurd (cc e))
+  system_stops TooLong h = of_longer files name MAX_FILE _ (λ b over. (refl, inl (over, refl))) (h.too_long refl) (λ m. let e = h.missing m in absurd (cc e))
   system_stops Memory h = tt
 
   pub code_stops : (s : System) (e : LoadError) → Cause e → CodeStops files reads reads_after s name (unloaded file.Code e)
   code_stops s Read h = h.read refl
-  code_stops s TooLong h = of_told files name _ (λ b held. (refl, inl (h.too_long refl b held, refl))) (λ m. let e = h.missing m in absurd (cc e))
+  code_stops s TooLong h = of_longer files name MAX_FILE _ (λ b over. (refl, inl (over, refl))) (h.too_long refl) (λ m. let e = h.missing m in absurd (cc e))
   code_stops s Memory h = tt
 
   pub system_stopped : (e : LoadError) (s : Stop) → s ≡ unloaded file.Oil e → Cause e → SystemStops files reads reads_after name s

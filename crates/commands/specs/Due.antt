@@ -60,11 +60,11 @@ pub data TextsDue (files : Files) (oil code : List ℕ) (Next : App → Result (
       GivesApp s code_text app → Next app r → TextsDue files oil code Next r
 
 -- `build` is done where both texts give an application; `trace` runs it, and never traps
-abbrev pub IsDone : App → Result (Unit {0}) Stop → Type 0
-IsDone app r = r ≡ Ok tt
+abbrev pub IsBuilt : App → Result (Unit {0}) Stop → Type 0
+IsBuilt app r = r ≡ Ok tt
 
 abbrev pub IsDue : Files → Option Command → Result (Unit {0}) Stop → Type 0
 IsDue files None r = r ≡ Err stop.Usage
-IsDue files (Some (Build oil code image)) r = TextsDue files oil code IsDone r
+IsDue files (Some (Build oil code image)) r = TextsDue files oil code IsBuilt r
 IsDue files (Some (Replay image mode events)) r = ReplayDue files image mode events r
 IsDue files (Some (Trace oil code mode events)) r = TextsDue files oil code (λ app. RunDue files app never mode events) r

@@ -7,7 +7,7 @@ use Rattle.osek_standard.specs.TraceText.{kernel_trace}
 use Rattle.image_codec.specs.declared.image.Image.{Image}
 use Rattle.image_codec.specs.Spelling.{spelling}
 use Rattle.image_codec.specs.ImageTrace.{image_trace}
-use Rattle.image_codec.specs.Laws.{AreBytes}
+use Rattle.image_codec.specs.Reading.{AreBytes}
 use Rattle.trace_text.specs.EventText.{read_text}
 use Rattle.osek_io.specs.Files.{Files}
 use Rattle.commands.specs.Building.{IsKernelImage}

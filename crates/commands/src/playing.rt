@@ -1,6 +1,6 @@
 //! An image at work: each line of an event text, and the line of the trace that comes of it.
 ghost use Rattle.std.specs.Prelude.{◌≡◌, ◌≤◌, ◌<◌, ◌^◌, ◌+◌, ◌++◌, ◌∷◌, [], length, take, false, OnOk, OnErr, IfOk, Err};
-ghost use Rattle.generic_kernel.specs.Moves.{IsDeclared};
+ghost use Rattle.osek_standard.specs.Apps.{IsDeclared};
 ghost use Rattle.osek_standard.specs.Dispatch.{stepped};
 ghost use Rattle.osek_standard.specs.TraceText.{line_text};
 ghost use Rattle.osek_io.specs.Counts.{Rose};

@@ -3,8 +3,8 @@ ghost use Rattle.std.specs.Prelude.{◌≡◌, ◌+◌, ◌≤◌, ℕ, IfOk, On
 
 use osek_values::Memory;
 
-/// A partial order with joins in which a chain grows only so often: each growth raises the rank, which never passes the
-/// height.
+/// A preorder in which a chain grows only so often: each growth raises the rank, which never passes the height. The join
+/// is what the clauses of `join_into` say.
 pub trait Lattice {
     /// A value that the type is made for.
     ghost is_element: { Self → Type 0 };

@@ -1,2 +1,3 @@
 pub mod BestBelow
+pub mod CallKinds
 pub mod Moves

@@ -21,12 +21,6 @@ abbrev pub entered_if : App → State → Option SourceNo → State
 entered_if app s None = s
 entered_if app s (Some k) = entered app s k
 
--- the event is of a source that is declared
-abbrev pub IsDeclared : App → Event → Type 0
-IsDeclared app (Run choice) = ⊤
-IsDeclared app (Irq i) = i.0 < length app.isrs
-IsDeclared app (Tick c) = c.0 < length app.counters
-
 -- a task that calls is declared
 abbrev pub IsKnownCaller : App → Caller → Type 0
 IsKnownCaller app Nobody = ⊤

@@ -5,6 +5,7 @@ ghost use Rattle.osek_standard.specs.States.{caller};
 ghost use Rattle.osek_standard.specs.Services.{answer, maybe_if, get_resource_by, release_resource_by, counted_by};
 ghost use Rattle.osek_standard.specs.Effects.{called};
 ghost use Rattle.osek_standard.specs.Well.{Well, IsActive, IsWaitEvent};
+ghost use Rattle.generic_kernel.specs.CallKinds.{IsForEventOrAlarm};
 
 use crate::replies::Reply;
 use crate::services::{chain_task, schedule, terminate_task};
@@ -78,6 +79,68 @@ fn count(app: &App, state: &mut State)
     }
 }
 
+/// The row of a call for an event or an alarm, or of an alarm's expiry.
+fn call_for_event_or_alarm(app: &App, state: &mut State, kind: Kind) -> Reply
+    requires operands { NamesEntries app.now.tasks app.now.alarms app.now.resources kind }
+    requires group { IsForEventOrAlarm kind }
+    requires well { Well app.now state.old }
+    requires active { IsActive state.old.processor }
+    ensures { called app.now state.old (caller state.old.processor) kind ≡ answer state.new result.status result.value result.ask }
+{
+    match kind {
+        Kind::SetEvent(task, mask) => {
+            let (status, ask) = set_event(app, state, task, mask);
+            Reply::of(Some(status), ask)
+        }
+        Kind::ClearEvent(mask) => {
+            let status = clear_event(app, state, mask);
+            Reply::of(Some(status), Ask::No)
+        }
+        Kind::GetEvent(task) => match get_event(app, state, task) {
+            Ok(events) => Reply::value(Value::Mask(events)),
+            Err(status) => Reply::of(Some(status), Ask::No),
+        },
+        Kind::SetRelAlarm(alarm, increment, cycle) => {
+            let status = set_rel_alarm(app, state, alarm, increment, cycle);
+            Reply::of(Some(status), Ask::No)
+        }
+        Kind::SetAbsAlarm(alarm, start, cycle) => {
+            let status = set_abs_alarm(app, state, alarm, start, cycle);
+            Reply::of(Some(status), Ask::No)
+        }
+        Kind::CancelAlarm(alarm) => {
+            let status = cancel_alarm(app, state, alarm);
+            Reply::of(Some(status), Ask::No)
+        }
+        Kind::GetAlarm(alarm) => match get_alarm(app, state, alarm) {
+            Ok(ticks) => Reply::value(Value::Number(ticks)),
+            Err(status) => Reply::of(Some(status), Ask::No),
+        },
+        Kind::Expire(alarm) => {
+            let status = expire(app, state, alarm);
+            Reply::of(status, Ask::No)
+        }
+        Kind::Work(_)
+        | Kind::Choice(_)
+        | Kind::Loop
+        | Kind::ActivateTask(_)
+        | Kind::TerminateTask
+        | Kind::ChainTask(_)
+        | Kind::Schedule
+        | Kind::GetResource(_)
+        | Kind::ReleaseResource(_)
+        | Kind::WaitEvent(_)
+        | Kind::GetTaskId
+        | Kind::GetTaskState(_)
+        | Kind::GetActiveApplicationMode
+        | Kind::ShutdownOs
+        | Kind::LockCall(_)
+        | Kind::TaskEnd
+        | Kind::IsrEnd
+        | Kind::CountUp => unreachable!(),
+    }
+}
+
 /// The row of a call whose caller went on before. The kinds that are no calls do nothing here.
 pub fn call(app: &App, state: &mut State, kind: Kind) -> Reply
     requires operands { NamesEntries app.now.tasks app.now.alarms app.now.resources kind }
@@ -105,35 +168,15 @@ pub fn call(app: &App, state: &mut State, kind: Kind) -> Reply
         }
         Kind::GetResource(resource) => get_resource(app, state, resource),
         Kind::ReleaseResource(resource) => release_resource(app, state, resource),
-        Kind::SetEvent(task, mask) => {
-            let (status, ask) = set_event(app, state, task, mask);
-            Reply::of(Some(status), ask)
-        }
-        Kind::ClearEvent(mask) => {
-            let status = clear_event(app, state, mask);
-            Reply::of(Some(status), Ask::No)
-        }
-        Kind::GetEvent(task) => match get_event(app, state, task) {
-            Ok(events) => Reply::value(Value::Mask(events)),
-            Err(status) => Reply::of(Some(status), Ask::No),
-        },
+        Kind::SetEvent(_, _)
+        | Kind::ClearEvent(_)
+        | Kind::GetEvent(_)
+        | Kind::SetRelAlarm(_, _, _)
+        | Kind::SetAbsAlarm(_, _, _)
+        | Kind::CancelAlarm(_)
+        | Kind::GetAlarm(_)
+        | Kind::Expire(_) => call_for_event_or_alarm(app, state, kind),
         Kind::WaitEvent(_) => unreachable!(),
-        Kind::SetRelAlarm(alarm, increment, cycle) => {
-            let status = set_rel_alarm(app, state, alarm, increment, cycle);
-            Reply::of(Some(status), Ask::No)
-        }
-        Kind::SetAbsAlarm(alarm, start, cycle) => {
-            let status = set_abs_alarm(app, state, alarm, start, cycle);
-            Reply::of(Some(status), Ask::No)
-        }
-        Kind::CancelAlarm(alarm) => {
-            let status = cancel_alarm(app, state, alarm);
-            Reply::of(Some(status), Ask::No)
-        }
-        Kind::GetAlarm(alarm) => match get_alarm(app, state, alarm) {
-            Ok(ticks) => Reply::value(Value::Number(ticks)),
-            Err(status) => Reply::of(Some(status), Ask::No),
-        },
         Kind::GetTaskId => Reply::value(Value::Task(state.current())),
         Kind::GetTaskState(task) => Reply::value(Value::State(state.letter(task))),
         Kind::GetActiveApplicationMode => Reply {
@@ -144,10 +187,6 @@ pub fn call(app: &App, state: &mut State, kind: Kind) -> Reply
         Kind::CountUp => {
             count(app, state);
             Reply::unnoted(Ask::No)
-        }
-        Kind::Expire(alarm) => {
-            let status = expire(app, state, alarm);
-            Reply::of(status, Ask::No)
         }
         Kind::Work(_)
         | Kind::Choice(_)

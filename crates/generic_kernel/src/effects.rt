@@ -28,7 +28,8 @@ fn go_to(app: &App, state: &mut State, block: BlockNo)
     move_to(app, state, Place { block, offset: 0 });
 }
 
-/// What a caller's call asks: at interrupt level nothing, and of a non-preemptive task nothing but at Schedule.
+/// What a caller's call asks: at interrupt level nothing. A non-preemptive task asks Maybe at Schedule alone, and Left
+/// where it ends, as any other task does.
 fn asked_by(app: &App, caller: Caller, kind: Kind, ask: Ask) -> Ask
     requires { IsKnownCaller app.now caller }
     ensures { result ≡ asked_by_row app.now caller kind ask }
@@ -180,7 +181,7 @@ fn effect_at(app: &App, state: &mut State, choice: bool, place: Place) -> Effect
 }
 
 /// The effect of the instruction at the processor, with the choice that an opaque condition takes. A non-preemptive
-/// caller asks nothing but at Schedule. A caller that left, and a routine that ended over no task, leave the processor
+/// caller asks Maybe at Schedule alone. A caller that left, and a routine that ended over no task, leave the processor
 /// idle; a routine that ended over a task gives it back to that task.
 pub fn effect(app: &App, state: &mut State, choice: bool) -> Effect
     requires well { Well app.now state.old }

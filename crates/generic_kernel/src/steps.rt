@@ -4,7 +4,8 @@ ghost use Rattle.osek_standard.specs.Dispatch.{nothing_noted, stepped};
 ghost use Rattle.osek_standard.specs.Kernel.{step as step_of};
 ghost use Rattle.osek_standard.specs.Arrivals.{arrival as arrival_of};
 ghost use Rattle.osek_standard.specs.Well.{Well, IsActive};
-ghost use Rattle.generic_kernel.specs.Moves.{IsDeclared, instruction_due, event_taken, due_by, run_taken};
+ghost use Rattle.osek_standard.specs.Apps.{IsDeclared};
+ghost use Rattle.generic_kernel.specs.Moves.{instruction_due, event_taken, due_by, run_taken};
 
 use crate::arrivals::take_arrival;
 use crate::dispatch::instruct;

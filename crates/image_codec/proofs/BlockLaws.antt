@@ -14,11 +14,11 @@ use Rattle.image_codec.specs.declared.site.Form.{Form}
 use Rattle.image_codec.specs.declared.site.Form.TheVariants as form
 use Rattle.image_codec.specs.declared.site.Site.{Site}
 use Rattle.image_codec.specs.declared.parts.Tables.{Tables}
-use Rattle.image_codec.specs.SiteKinds.{is_site_in}
+use Rattle.osek_standard.specs.Apps.{is_site_in}
 use Rattle.image_codec.specs.Spelling.{one, two, four, eight, kind_number, lock_number, operand_bytes, way_bytes, form_number, site_bytes, flag_number, block_bytes}
-use Rattle.image_codec.specs.Reading.{Read, ◌>>=◌, number_at, tested_at, flag_at}
+use Rattle.image_codec.specs.Reading.{AreBytes, Read, ◌>>=◌, number_at, tested_at, flag_at}
 use Rattle.image_codec.specs.BlockReading.{blank_kinds, is_way, kind_at, task_no_at, resource_no_at, alarm_no_at, events_at, lock_at, due_at, operands_at, way_at, ways_at, direct_form, form_of, formed_site, site_at, block_at}
-use Rattle.image_codec.proofs.Spells.{IsBytes, bind_ok, ok_is, done_with, Takes, Spells, nothing_more, and_then, said, wide16, wide32, number_law, Tested, tested_number_law}
+use Rattle.image_codec.proofs.Spells.{bind_ok, ok_is, done_with, Takes, Spells, nothing_more, and_then, said, wide16, wide32, number_law, Tested, tested_number_law}
 use Rattle.image_codec.proofs.FieldLaws.{flag_law}
 use Rattle.image_codec.proofs.KindLaws.{GoodBlank, kind_law, other_of, GoodOperands, GoodFilled, operands_take, task_no_law, resource_no_law, alarm_no_law, events_law, due_law, lock_law, ticks_law, set_event_law, made_of}
 use Rattle.image_codec.proofs.TableLaws.{joined6}
@@ -104,7 +104,7 @@ module _ (tables : Tables) (b : ℕ) where
   ways_bytes w = way_bytes w.0 (block_no w.1)
 
   abbrev TookWays : Kind → (List ℕ → Read (Kind × ℕ)) → Type 0
-  TookWays filled read = (bytes : List ℕ) (w : Kind × ℕ) (rest : List ℕ) → IsBytes bytes → read bytes ≡ Ok (w, rest) → Takes bytes (ways_bytes w) rest × GoodWays filled w
+  TookWays filled read = (bytes : List ℕ) (w : Kind × ℕ) (rest : List ℕ) → AreBytes bytes → read bytes ≡ Ok (w, rest) → Takes bytes (ways_bytes w) rest × GoodWays filled w
 
   abbrev nowhere : Kind → List ℕ → Read (Kind × ℕ)
   nowhere k bytes = Ok ((k, b), bytes)
@@ -216,7 +216,7 @@ formed_ok bytes rest (Some f) x e = (f, refl, ok_is (Some (record { form = f }),
 abbrev site_reader : ℕ → Bool → List ℕ → Read (Option Site)
 site_reader tasks is bytes = cond is (number_at w16 bytes >>= (λ n. formed_site bytes n.1 (form_of tasks n.0))) (Ok (None, bytes))
 
-site_takes : (tasks : ℕ) (is : Bool) (bytes : List ℕ) (x : Option Site) (rest : List ℕ) → IsBytes bytes → site_reader tasks is bytes ≡ Ok (x, rest) → Takes bytes (site_bytes x) rest × GoodSite tasks is x
+site_takes : (tasks : ℕ) (is : Bool) (bytes : List ℕ) (x : Option Site) (rest : List ℕ) → AreBytes bytes → site_reader tasks is bytes ≡ Ok (x, rest) → Takes bytes (site_bytes x) rest × GoodSite tasks is x
 site_takes tasks true bytes x rest fits e =
     let a = bind_ok (number_at w16 bytes) (λ n. formed_site bytes n.1 (form_of tasks n.0)) (x, rest) e in
     let g = formed_ok bytes a.0.1 (form_of tasks a.0.0) (x, rest) a.2 in

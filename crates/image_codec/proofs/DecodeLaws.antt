@@ -14,11 +14,10 @@ use Rattle.image_codec.specs.declared.parts.Tables.{Tables}
 use Rattle.image_codec.specs.declared.parts.Parts.{Parts}
 use Rattle.image_codec.specs.Sites.{AreSites, AreSites-prop}
 use Rattle.image_codec.specs.Spelling.{spelling}
-use Rattle.image_codec.specs.Reading.{Read, ◌>>=◌}
+use Rattle.image_codec.specs.Reading.{AreBytes, Read, ◌>>=◌}
 use Rattle.image_codec.specs.TableReading.{header_at, tables_at}
 use Rattle.image_codec.specs.BlockReading.{blocks_at, parts_at, all_at}
 use Rattle.image_codec.specs.ImageReading.{placed, read_image, parts_of}
-use Rattle.image_codec.proofs.Spells.{IsBytes}
 use Rattle.image_codec.proofs.BlockLaws.{Entry}
 use Rattle.image_codec.proofs.BlockLoop.{zip_firsts, zip_seconds}
 use Rattle.image_codec.proofs.PartsLaws.{spelling_is, all_takes}
@@ -39,7 +38,7 @@ parts_read bytes h r1 t r2 bs ss r3 e1 e2 e3 same =
     ∙ ap (λ (r : Read (List Entry)). r >>= λ b. some_parts h t (map (λ (x : Entry). x.0) b.0) (map (λ (x : Entry). x.1) b.0) b.1) e3
     ∙ with_lists h t r3 (zip_firsts bs ss same) (zip_seconds bs ss same)
 
-pub its_spelling : (bytes : List ℕ) (i : Image) (rest : List ℕ) → IsBytes bytes → all_at bytes ≡ Ok (parts_of i, rest) → spelling i ≡ bytes
+pub its_spelling : (bytes : List ℕ) (i : Image) (rest : List ℕ) → AreBytes bytes → all_at bytes ≡ Ok (parts_of i, rest) → spelling i ≡ bytes
 its_spelling bytes i rest fits e = spelling_is i ∙ sym (all_takes bytes (parts_of i) rest fits e).spelled
 
 pub its_reading : (bytes : List ℕ) (p : Parts) (rest : List ℕ) → all_at bytes ≡ Ok (p, rest) → read_image bytes ≡ Ok p

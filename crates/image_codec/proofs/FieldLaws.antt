@@ -19,7 +19,7 @@ use Rattle.image_codec.specs.declared.parts.Range.{Range}
 use Rattle.image_codec.specs.Spelling.{one, two, name_bytes, range_bytes, schedule_number, flag_number}
 use Rattle.image_codec.specs.Reading.{Read, ◌>>=◌, fault_at, kept, tested_byte_at, tested_at, byte_below_at, exactly_at, text_at, name_at, count_at, range_at, flag_at}
 use Rattle.image_codec.specs.TableReading.{schedule_of, schedule_at}
-use Rattle.image_codec.proofs.Spells.{IsBytes-drop, bind_ok, kept_ok, kept_again, enough_ok, Takes, Takes-then, Spells, nothing_more, and_then, said, wide16, Tested, tested_law, tested_byte_law, tested_number_law}
+use Rattle.image_codec.proofs.Spells.{AreBytes-drop, bind_ok, kept_ok, kept_again, enough_ok, Takes, Takes-then, Spells, nothing_more, and_then, said, wide16, Tested, tested_law, tested_byte_law, tested_number_law}
 
 bytes_eq_refl : (xs : List ℕ) → bytes_eq xs xs ≡ true
 bytes_eq_refl xs = (bytes_eq-Decides xs xs).1 refl
@@ -41,7 +41,7 @@ exactly_law wanted rule = record {
       let h = kept_ok (bytes_eq (take n bytes) wanted) rule bytes (wanted, drop n bytes) (x, rest) g.1 in
       let front : take n bytes ≡ wanted = bytes_eq_is (take n bytes) wanted h.0 in
       subst (λ (p : List ℕ × List ℕ). Takes bytes wanted p.1 × (p.0 ≡ wanted)) h.1
-      (record { parts = sym (take-append-drop n bytes) ∙ ap (λ (t : List ℕ). t ++ drop n bytes) front; rest_fits = IsBytes-drop n bytes fits }, refl);
+      (record { parts = sym (take-append-drop n bytes) ∙ ap (λ (t : List ℕ). t ++ drop n bytes) front; rest_fits = AreBytes-drop n bytes fits }, refl);
   again = λ x rest good.
       let n = length wanted in
       let long : ltb (length (wanted ++ rest)) n ≡ false = le-ltb _ _ (omega (arith, length-append wanted rest)) in
@@ -74,7 +74,7 @@ name_law earlier = record {
       let h = kept_ok (is_fresh earlier b.0.0) I4 bytes b.0 (x, rest) b.2 in
       let long : len ≤ length after = ltb-false _ _ g.0 in
       let len_is : length (take len after) ≡ len = omega (arith, length-take len after) in
-      let second : Takes after (take len after) (drop len after) = record { parts = sym (take-append-drop len after); rest_fits = IsBytes-drop len after t.0.rest_fits } in
+      let second : Takes after (take len after) (drop len after) = record { parts = sym (take-append-drop len after); rest_fits = AreBytes-drop len after t.0.rest_fits } in
       let both : Takes bytes (one len ++ take len after) (drop len after) = Takes-then bytes (one len) after (take len after) (drop len after) t.0 second in
       let whole : Takes bytes (name_bytes (take len after)) (drop len after) = subst (λ (k : ℕ). Takes bytes (one k ++ take len after) (drop len after)) (sym len_is) both in
       let fresh : is_fresh earlier (take len after) ≡ true = ap (λ (p : List ℕ × List ℕ). is_fresh earlier p.0) g.1 ∙ h.0 in

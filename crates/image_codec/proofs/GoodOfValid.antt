@@ -21,7 +21,7 @@ use Rattle.image_codec.specs.declared.parts.Header.{Header}
 use Rattle.image_codec.specs.declared.parts.Range.{Range}
 use Rattle.image_codec.specs.declared.parts.Tables.{Tables}
 use Rattle.image_codec.specs.declared.parts.Parts.{Parts}
-use Rattle.image_codec.specs.SiteKinds.{is_site_in}
+use Rattle.osek_standard.specs.Apps.{is_site_in}
 use Rattle.image_codec.specs.Sites.{IsSiteAt}
 use Rattle.image_codec.specs.Spelling.{spelling}
 use Rattle.image_codec.specs.Fits.{FitsTask, FitsAction, FitsBlock, FitsFormat}

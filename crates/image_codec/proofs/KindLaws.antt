@@ -13,9 +13,9 @@ use Rattle.osek_standard.specs.declared.block.Kind.TheVariants as kind
 use Rattle.image_codec.specs.declared.fault.ImageRule.TheVariants.{I3, I5}
 use Rattle.image_codec.specs.declared.parts.Tables.{Tables}
 use Rattle.image_codec.specs.Spelling.{one, two, eight, kind_number, lock_number, operand_bytes}
-use Rattle.image_codec.specs.Reading.{Read, ◌>>=◌, byte_at, number_at, tested_at}
+use Rattle.image_codec.specs.Reading.{AreBytes, Read, ◌>>=◌, byte_at, number_at, tested_at}
 use Rattle.image_codec.specs.BlockReading.{blank_kinds, is_allowed, is_due, judged_at, kind_at, task_no_at, resource_no_at, alarm_no_at, events_at, locks, lock_of, lock_at, due_at, operands_at}
-use Rattle.image_codec.proofs.Spells.{IsBytes, bind_ok, kept_ok, kept_again, ok_is, Takes, Spells, nothing_more, and_then, wide16, wide64, number_law, byte_takes, Tested, tested_law, tested_byte_law, tested_number_law}
+use Rattle.image_codec.proofs.Spells.{bind_ok, kept_ok, kept_again, ok_is, Takes, Spells, nothing_more, and_then, wide16, wide64, number_law, byte_takes, Tested, tested_law, tested_byte_law, tested_number_law}
 
 -- ---- the kind
 
@@ -233,7 +233,7 @@ module _ (tables : Tables) (b : ℕ) where
 
   -- what a shape of operands gives
   module _ (read : List ℕ → Read Kind) (spell : Kind → List ℕ) (Good : Kind → Type 0) (law : Spells read spell Good) (blank : Kind) (fine : (k : Kind) → Good k → (spell k ≡ operand_bytes k) × GoodFilled blank k) where
-    taken : (bytes : List ℕ) (k : Kind) (rest : List ℕ) → IsBytes bytes → read bytes ≡ Ok (k, rest) → Takes bytes (operand_bytes k) rest × GoodFilled blank k
+    taken : (bytes : List ℕ) (k : Kind) (rest : List ℕ) → AreBytes bytes → read bytes ≡ Ok (k, rest) → Takes bytes (operand_bytes k) rest × GoodFilled blank k
     taken bytes k rest fits e =
         let u = law.takes bytes k rest fits e in
         let v = fine k u.1 in
@@ -242,16 +242,16 @@ module _ (tables : Tables) (b : ℕ) where
   -- of a shape with one field
   module _ {A : Type 0} (read : List ℕ → Read A) (spell : A → List ℕ) (Good : A → Type 0) (law : Spells read spell Good) (f : A → Kind) (part : Kind → A) (back : (a : A) → part (f a) ≡ a)
       (blank : Kind) (spelled : (a : A) → spell a ++ [] ≡ operand_bytes (f a)) (good : (a : A) → Good a → GoodFilled blank (f a)) where
-    took_one : (bytes : List ℕ) (k : Kind) (rest : List ℕ) → IsBytes bytes → made_of read f bytes ≡ Ok (k, rest) → Takes bytes (operand_bytes k) rest × GoodFilled blank k
+    took_one : (bytes : List ℕ) (k : Kind) (rest : List ℕ) → AreBytes bytes → made_of read f bytes ≡ Ok (k, rest) → Takes bytes (operand_bytes k) rest × GoodFilled blank k
     took_one = taken (made_of read f) (λ k. spell (part k) ++ []) (λ k. Good (part k) × (k ≡ f (part k))) (one_field read spell Good law f part back) blank
         (λ k g. (spelled (part k) ∙ ap operand_bytes (sym g.1), subst (GoodFilled blank) (sym g.1) (good (part k) g.0)))
 
-  took_none : (blank : Kind) → operand_bytes blank ≡ [] → GoodOperands blank → (bytes : List ℕ) (k : Kind) (rest : List ℕ) → IsBytes bytes → as_it_is blank bytes ≡ Ok (k, rest) → Takes bytes (operand_bytes k) rest × GoodFilled blank k
+  took_none : (blank : Kind) → operand_bytes blank ≡ [] → GoodOperands blank → (bytes : List ℕ) (k : Kind) (rest : List ℕ) → AreBytes bytes → as_it_is blank bytes ≡ Ok (k, rest) → Takes bytes (operand_bytes k) rest × GoodFilled blank k
   took_none blank none good bytes k rest fits e =
       subst (λ (p : Kind × List ℕ). Takes bytes (operand_bytes p.0) p.1 × GoodFilled blank p.0) (ok_is (blank, bytes) (k, rest) e)
       (subst (λ (s : List ℕ). Takes bytes s bytes) (sym none) (record { parts = refl; rest_fits = fits }), record { number = refl; other = refl; operands = good })
 
-  pub operands_take : (blank : Kind) (bytes : List ℕ) (k : Kind) (rest : List ℕ) → IsBytes bytes → operands_at tables b blank bytes ≡ Ok (k, rest) → Takes bytes (operand_bytes k) rest × GoodFilled blank k
+  pub operands_take : (blank : Kind) (bytes : List ℕ) (k : Kind) (rest : List ℕ) → AreBytes bytes → operands_at tables b blank bytes ≡ Ok (k, rest) → Takes bytes (operand_bytes k) rest × GoodFilled blank k
   unfolding operands_at
   operands_take (kind.Work w) = took_one (tested_at w16 is_some I3) two (Tested is_some (λ n. n < 2 ^ 16)) (tested_number_law w16 (2 ^ 16) wide16 is_some I3) (λ n. kind.Work n) first_of (λ n. refl) (kind.Work w) (λ n. refl) (λ n g. record { number = refl; other = refl; operands = g })
   operands_take (kind.Choice o) = took_none (kind.Choice o) refl tt

@@ -15,11 +15,11 @@ use Rattle.image_codec.specs.declared.parts.Tables.{Tables}
 use Rattle.image_codec.specs.declared.parts.Parts.{Parts}
 use Rattle.image_codec.specs.declared.image.Image.{Image}
 use Rattle.image_codec.specs.Spelling.{one, two, magic, block_bytes, spelling, task_bytes, isr_bytes, counter_bytes, alarm_bytes, resource_bytes, name_bytes}
-use Rattle.image_codec.specs.Reading.{Read, ◌>>=◌, kept, byte_below_at, tested_byte_at, tested_at, exactly_at}
+use Rattle.image_codec.specs.Reading.{AreBytes, Read, ◌>>=◌, kept, byte_below_at, tested_byte_at, tested_at, exactly_at}
 use Rattle.image_codec.specs.TableReading.{header_at, tables_at}
 use Rattle.image_codec.specs.BlockReading.{blocks_at, parts_at, all_at}
 use Rattle.image_codec.specs.ImageReading.{parts_of}
-use Rattle.image_codec.proofs.Spells.{IsBytes, bind_ok, kept_ok, Spells, nothing_more, and_then, said, wide16, Tested, tested_byte_law, tested_number_law, GoodEntries, entries_law}
+use Rattle.image_codec.proofs.Spells.{bind_ok, kept_ok, Spells, nothing_more, and_then, said, wide16, Tested, tested_byte_law, tested_number_law, GoodEntries, entries_law}
 use Rattle.image_codec.proofs.FieldLaws.{exactly_law}
 use Rattle.image_codec.proofs.TableLaws.{GoodTables, tables_bytes, tables_law}
 use Rattle.image_codec.proofs.BlockLaws.{Entry, GoodBlock, block_law}
@@ -167,7 +167,7 @@ pub record IsAllOf (bytes : List ℕ) (p : Parts) (rest : List ℕ) : Type 0 whe
   pub good : GoodParts p
   pub none : rest ≡ []
 
-pub all_takes : (bytes : List ℕ) (p : Parts) (rest : List ℕ) → IsBytes bytes → all_at bytes ≡ Ok (p, rest) → IsAllOf bytes p rest
+pub all_takes : (bytes : List ℕ) (p : Parts) (rest : List ℕ) → AreBytes bytes → all_at bytes ≡ Ok (p, rest) → IsAllOf bytes p rest
 unfolding all_at
 all_takes bytes p rest fits e =
     let a = bind_ok (parts_at bytes) (λ q. kept (eqb (length q.1) 0) I6 q.1 q) (p, rest) e in

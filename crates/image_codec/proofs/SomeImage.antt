@@ -4,8 +4,8 @@ use Rattle.image_codec.specs.declared.fault.ImageFault.{ImageFault}
 use Rattle.image_codec.specs.declared.image.Image.{Image}
 use Rattle.image_codec.specs.declared.parts.Parts.{Parts}
 use Rattle.image_codec.specs.Fits.{FitsFormat}
-use Rattle.image_codec.specs.Laws.{AreBytes, SpellOrFail, SpellingIsRead}
-use Rattle.image_codec.specs.Reading.{Read}
+use Rattle.image_codec.specs.Laws.{SpellOrFail, SpellingIsRead}
+use Rattle.image_codec.specs.Reading.{AreBytes, Read}
 use Rattle.image_codec.specs.BlockReading.{all_at}
 use Rattle.image_codec.specs.ImageReading.{read_image}
 use Rattle.image_codec.specs.Spelling.{spelling}

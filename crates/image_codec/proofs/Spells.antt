@@ -1,6 +1,6 @@
 -- A reader and a spelling that belong together: what is read is spelled so, and what is spelled so is read, whatever
 -- follows. Records are built from their fields.
-use Rattle.std.proofs.Common.{◌≡◌, ℕ, zero, suc, ◌+◌, ◌^◌, ◌<◌, ◌≤◌, Bool, true, false, cond, ltb, List, [], ◌∷◌, ◌++◌, length, get_or, take, drop, Result, Ok, Err, refl, sym, ap, subst, ◌∙◌, append_assoc, arith, inl, inr}
+use Rattle.std.proofs.Common.{◌≡◌, ℕ, zero, suc, ◌+◌, ◌^◌, ◌<◌, ◌≤◌, Bool, true, false, cond, ltb, List, [], ◌∷◌, ◌++◌, length, take, drop, Result, Ok, Err, refl, sym, ap, subst, ◌∙◌, append_assoc, arith, inl, inr}
 use Rattle.std.specs.Int.{Width, w16, w32, w64, byte_len, from_be_bytes, to_be_bytes}
 use Rattle.std.specs.List.{flat_map}
 use Rattle.std.proofs.lemmas.Bool.{cases_lt, ltb-false, le-ltb}
@@ -10,23 +10,20 @@ use Rattle.image_codec.specs.declared.fault.ImageRule.{ImageRule}
 use Rattle.image_codec.specs.declared.fault.ImageRule.TheVariants.{I1}
 use Rattle.image_codec.specs.declared.fault.Fault.{Fault}
 use Rattle.image_codec.specs.Spelling.{one}
-use Rattle.image_codec.specs.Reading.{Read, ◌>>=◌, fault_at, kept, byte_at, number_at, tested_byte_at, tested_at, entries_at}
+use Rattle.image_codec.specs.Reading.{AreBytes, Read, ◌>>=◌, fault_at, kept, byte_at, number_at, tested_byte_at, tested_at, entries_at}
 
-abbrev pub IsBytes : List ℕ → Type 0
-IsBytes bytes = (i : ℕ) → get_or bytes i 0 < 256
+pub AreBytes-drop : (n : ℕ) (bytes : List ℕ) → AreBytes bytes → AreBytes (drop n bytes)
+AreBytes-drop n bytes h i = rw get_or-drop (h (n + i))
 
-pub IsBytes-drop : (n : ℕ) (bytes : List ℕ) → IsBytes bytes → IsBytes (drop n bytes)
-IsBytes-drop n bytes h i = rw get_or-drop (h (n + i))
-
-pub IsBytes-take : (n : ℕ) (bytes : List ℕ) → IsBytes bytes → IsBytes (take n bytes)
-IsBytes-take n bytes h i =
+pub AreBytes-take : (n : ℕ) (bytes : List ℕ) → AreBytes bytes → AreBytes (take n bytes)
+AreBytes-take n bytes h i =
     elim (cases_lt i n) [
       | inl lt ↦ rw (get_or-take n bytes i 0 lt) (h i)
       | inr le ↦ rw (get_or_past (take n bytes) i 0 (omega (arith, length-take n bytes))) (omega arith)
     ]
 
-pub IsBytes-rest : (b : ℕ) (bytes : List ℕ) → IsBytes (b ∷ bytes) → IsBytes bytes
-IsBytes-rest b bytes h i = h (suc i)
+pub AreBytes-rest : (b : ℕ) (bytes : List ℕ) → AreBytes (b ∷ bytes) → AreBytes bytes
+AreBytes-rest b bytes h i = h (suc i)
 
 -- the value of a step that did not fail
 pub bind_ok : {A B : Type 0} (r : Result A Fault) (f : A → Result B Fault) (y : B) → (r >>= f) ≡ Ok y → (x : A) × (r ≡ Ok x) × (f x ≡ Ok y)
@@ -55,14 +52,14 @@ ok_is x y e = cc
 -- what a reader took from the front
 pub record Takes (bytes text rest : List ℕ) : Type 0 where
   pub parts : bytes ≡ text ++ rest
-  pub rest_fits : IsBytes rest
+  pub rest_fits : AreBytes rest
 
 pub Takes-then : (a x b y c : List ℕ) → Takes a x b → Takes b y c → Takes a (x ++ y) c
 Takes-then a x b y c p q = record { parts = p.parts ∙ ap (λ (t : List ℕ). x ++ t) q.parts ∙ sym (append_assoc x y c); rest_fits = q.rest_fits }
 
 module _ {X : Type 0} (read : List ℕ → Read X) (spell : X → List ℕ) (Good : X → Type 0) where
   pub record Spells : Type 0 where
-    pub takes : (bytes : List ℕ) (x : X) (rest : List ℕ) → IsBytes bytes → read bytes ≡ Ok (x, rest) → Takes bytes (spell x) rest × Good x
+    pub takes : (bytes : List ℕ) (x : X) (rest : List ℕ) → AreBytes bytes → read bytes ≡ Ok (x, rest) → Takes bytes (spell x) rest × Good x
     pub again : (x : X) (rest : List ℕ) → Good x → read (spell x ++ rest) ≡ Ok (x, rest)
 
 -- a value that takes no bytes
@@ -104,9 +101,9 @@ said read spell Good spell' Good' law same to back = record {
 
 pub record IsWide (w : Width) (limit : ℕ) : Type 0 where
   pub len : (n : ℕ) → length (to_be_bytes w n) ≡ byte_len w
-  pub back : (bytes : List ℕ) → length bytes ≡ byte_len w → IsBytes bytes → to_be_bytes w (from_be_bytes w bytes) ≡ bytes
+  pub back : (bytes : List ℕ) → length bytes ≡ byte_len w → AreBytes bytes → to_be_bytes w (from_be_bytes w bytes) ≡ bytes
   pub again : (n : ℕ) → n < limit → from_be_bytes w (to_be_bytes w n) ≡ n
-  pub below : (bytes : List ℕ) → IsBytes bytes → from_be_bytes w bytes < limit
+  pub below : (bytes : List ℕ) → AreBytes bytes → from_be_bytes w bytes < limit
 
 pub wide16 : IsWide w16 (2 ^ 16)
 wide16 = record {
@@ -138,10 +135,10 @@ number_law w limit wide = record {
       let g = enough_ok (ltb (length bytes) (byte_len w)) (fault_at I1 bytes) (from_be_bytes w (take (byte_len w) bytes), drop (byte_len w) bytes) (n, rest) e in
       let long : byte_len w ≤ length bytes = ltb-false _ _ g.0 in
       let front : to_be_bytes w (from_be_bytes w (take (byte_len w) bytes)) ≡ take (byte_len w) bytes =
-      wide.back (take (byte_len w) bytes) (omega (arith, length-take (byte_len w) bytes)) (IsBytes-take (byte_len w) bytes fits) in
+      wide.back (take (byte_len w) bytes) (omega (arith, length-take (byte_len w) bytes)) (AreBytes-take (byte_len w) bytes fits) in
       subst (λ (p : ℕ × List ℕ). Takes bytes (to_be_bytes w p.0) p.1 × (p.0 < limit)) g.1 (
-        record { parts = rw front (sym (take-append-drop (byte_len w) bytes)); rest_fits = IsBytes-drop (byte_len w) bytes fits },
-        wide.below (take (byte_len w) bytes) (IsBytes-take (byte_len w) bytes fits),
+        record { parts = rw front (sym (take-append-drop (byte_len w) bytes)); rest_fits = AreBytes-drop (byte_len w) bytes fits },
+        wide.below (take (byte_len w) bytes) (AreBytes-take (byte_len w) bytes fits),
       );
   again = λ n rest lt.
       let len = wide.len n in
@@ -149,11 +146,11 @@ number_law w limit wide = record {
       rw (long, take_at (to_be_bytes w n) rest (byte_len w) len, drop_at (to_be_bytes w n) rest (byte_len w) len, wide.again n lt) refl;
 }
 
-pub byte_takes : (bytes : List ℕ) (n : ℕ) (rest : List ℕ) → IsBytes bytes → byte_at bytes ≡ Ok (n, rest) → Takes bytes (one n) rest × (n < 256)
+pub byte_takes : (bytes : List ℕ) (n : ℕ) (rest : List ℕ) → AreBytes bytes → byte_at bytes ≡ Ok (n, rest) → Takes bytes (one n) rest × (n < 256)
 byte_takes [] n rest fits e = absurd cc
 byte_takes (b ∷ bytes) n rest fits e =
     subst (λ (p : ℕ × List ℕ). Takes (b ∷ bytes) (one p.0) p.1 × (p.0 < 256)) (ok_is (b, bytes) (n, rest) e)
-    (record { parts = refl; rest_fits = IsBytes-rest b bytes fits }, fits 0)
+    (record { parts = refl; rest_fits = AreBytes-rest b bytes fits }, fits 0)
 
 pub byte_law : Spells byte_at one (λ n. n < 256)
 byte_law = record { takes = byte_takes; again = λ n rest lt. refl }
@@ -206,7 +203,7 @@ module _ {X : Type 0} (read_one : List X → List ℕ → Read X) (spell : X →
     pub takes : Takes bytes (flat_map spell more) rest
     pub each : Each Good earlier more
 
-  entries_take : (k : ℕ) (earlier : List X) (bytes : List ℕ) (all : List X) (rest : List ℕ) → IsBytes bytes → entries_at read_one earlier k bytes ≡ Ok (all, rest) → TookEntries earlier k bytes all rest
+  entries_take : (k : ℕ) (earlier : List X) (bytes : List ℕ) (all : List X) (rest : List ℕ) → AreBytes bytes → entries_at read_one earlier k bytes ≡ Ok (all, rest) → TookEntries earlier k bytes all rest
   unfolding entries_at
   entries_take zero earlier bytes all rest fits e =
       subst (λ (p : List X × List ℕ). TookEntries earlier 0 bytes p.0 p.1) (ok_is (earlier, bytes) (all, rest) e)

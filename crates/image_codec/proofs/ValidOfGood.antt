@@ -17,7 +17,7 @@ use Rattle.osek_standard.specs.declared.block.Kind.TheVariants as kind
 use Rattle.osek_standard.specs.declared.app.App.{App}
 use Rattle.osek_standard.specs.Validity.{no_block, no_counter, AreNames, meet, owners, is_cycle_of, IsAction, IsAlarmOf, IsValid}
 use Rattle.osek_standard.specs.Versions.{FitsVersion1}
-use Rattle.osek_standard.specs.Apps.{is_site}
+use Rattle.osek_standard.specs.Apps.{is_site, is_site_in}
 use Rattle.image_codec.specs.declared.site.Form.{Form}
 use Rattle.image_codec.specs.declared.site.Form.TheVariants as form
 use Rattle.image_codec.specs.declared.site.Site.{Site}
@@ -25,7 +25,6 @@ use Rattle.image_codec.specs.declared.parts.Header.{Header}
 use Rattle.image_codec.specs.declared.parts.Tables.{Tables}
 use Rattle.image_codec.specs.declared.parts.Parts.{Parts}
 use Rattle.image_codec.specs.Sites.{IsForm, IsSiteAt, AreSites}
-use Rattle.image_codec.specs.SiteKinds.{is_site_in}
 use Rattle.image_codec.specs.Spelling.{form_number}
 use Rattle.image_codec.specs.Fits.{FitsTask, FitsAction, FitsKind, FitsParts}
 use Rattle.image_codec.specs.BlockReading.{form_of}

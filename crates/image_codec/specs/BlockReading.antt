@@ -20,7 +20,7 @@ use Rattle.image_codec.specs.declared.site.Site.{Site}
 use Rattle.image_codec.specs.declared.parts.Tables.{Tables}
 use Rattle.image_codec.specs.declared.parts.Parts.{Parts}
 use Rattle.image_codec.specs.Reading.{Read, ◌>>=◌, fault_at, kept, byte_at, number_at, tested_at, byte_below_at, flag_at, entries_at}
-use Rattle.image_codec.specs.SiteKinds.{is_site_in}
+use Rattle.osek_standard.specs.Apps.{is_site_in}
 use Rattle.image_codec.specs.TableReading.{header_at, tables_at}
 
 -- a call for an alarm, or its expiry

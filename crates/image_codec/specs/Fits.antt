@@ -26,7 +26,26 @@ FitsKind (kind.ClearEvent m) = m.0 < 2 ^ 64
 FitsKind (kind.WaitEvent m) = m.0 < 2 ^ 64
 FitsKind (kind.SetRelAlarm a i c) = (i < 2 ^ 64) × (c < 2 ^ 64)
 FitsKind (kind.SetAbsAlarm a s c) = (s < 2 ^ 64) × (c < 2 ^ 64)
-FitsKind _ = ⊤
+FitsKind (kind.Choice o) = ⊤
+FitsKind kind.Loop = ⊤
+FitsKind (kind.ActivateTask t) = ⊤
+FitsKind kind.TerminateTask = ⊤
+FitsKind (kind.ChainTask t) = ⊤
+FitsKind kind.Schedule = ⊤
+FitsKind (kind.GetResource r) = ⊤
+FitsKind (kind.ReleaseResource r) = ⊤
+FitsKind (kind.GetEvent t) = ⊤
+FitsKind (kind.CancelAlarm a) = ⊤
+FitsKind (kind.GetAlarm a) = ⊤
+FitsKind kind.GetTaskId = ⊤
+FitsKind (kind.GetTaskState t) = ⊤
+FitsKind kind.GetActiveApplicationMode = ⊤
+FitsKind kind.ShutdownOs = ⊤
+FitsKind (kind.LockCall l) = ⊤
+FitsKind kind.TaskEnd = ⊤
+FitsKind kind.IsrEnd = ⊤
+FitsKind kind.CountUp = ⊤
+FitsKind (kind.Expire a) = ⊤
 
 pub record FitsBlock (x : Block) : Type 0 where
   pub line : x.line < 2 ^ 32

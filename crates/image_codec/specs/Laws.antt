@@ -1,5 +1,5 @@
 -- What holds of all images.
-use Rattle.std.specs.Prelude.{◌≡◌, ◌<◌, ◌⊎◌, false, List, ℕ, ◌++◌, slice_index, Ok, Err}
+use Rattle.std.specs.Prelude.{◌≡◌, ◌⊎◌, false, List, ℕ, ◌++◌, Ok, Err}
 use Rattle.osek_values.specs.declared.event.Event.{Event}
 use Rattle.osek_values.specs.declared.numbers.ModeNo.{ModeNo}
 use Rattle.osek_standard.specs.TraceText.{kernel_trace}
@@ -8,15 +8,12 @@ use Rattle.image_codec.specs.declared.fault.ImageFault.{ImageFault}
 use Rattle.image_codec.specs.Spelling.{spelling}
 use Rattle.image_codec.specs.Fits.{FitsFormat}
 use Rattle.image_codec.specs.ImageReading.{read_image, parts_of}
+use Rattle.image_codec.specs.Reading.{AreBytes}
 use Rattle.image_codec.specs.ImageTrace.{AreGeneral, has_trap, image_trace}
 
 -- equal bytes mean equal images, whatever follows them
 abbrev pub OneSpelling : Type 0
 OneSpelling = (i j : Image) (x y : List ℕ) → FitsFormat i → FitsFormat j → spelling i ++ x ≡ spelling j ++ y → (i ≡ j) × (x ≡ y)
-
--- each is a byte
-abbrev pub AreBytes : List ℕ → Type 0
-AreBytes bytes = (i : ℕ) → slice_index bytes i < 256
 
 -- Bytes spell an image, or have a first fault;
 abbrev pub SpellOrFail : Type 0

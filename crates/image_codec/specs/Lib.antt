@@ -6,7 +6,6 @@ pub mod ImageTrace
 pub mod Laws
 pub mod Reading
 pub mod Rules
-pub mod SiteKinds
 pub mod Sites
 pub mod Spelling
 pub mod TableReading

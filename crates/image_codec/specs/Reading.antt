@@ -1,5 +1,5 @@
 -- Reading the fields of bytes in order, with the first fault that is met.
-use Rattle.std.specs.Prelude.{◌≡◌, ℕ, zero, suc, ◌+◌, ◌^◌, Bool, not, ◌&&◌, nat_lt, nat_le, ◌==◌, List, [], ◌∷◌, ◌++◌, length, take, drop, Result, Ok, Err, if◌then◌else◌}
+use Rattle.std.specs.Prelude.{◌≡◌, ℕ, zero, suc, ◌+◌, ◌^◌, ◌<◌, Bool, not, ◌&&◌, nat_lt, nat_le, ◌==◌, List, [], ◌∷◌, ◌++◌, length, take, drop, slice_index, Result, Ok, Err, if◌then◌else◌}
 use Rattle.std.specs.Int.{Width, w16, byte_len, from_be_bytes}
 use Rattle.std.specs.List.{list_any}
 use Rattle.std.specs.Str.{bytes_eq}
@@ -12,6 +12,10 @@ use Rattle.image_codec.specs.declared.fault.Fault.{Fault}
 use Rattle.image_codec.specs.declared.fault.ReadError.{ReadError}
 use Rattle.image_codec.specs.declared.fault.ReadError.TheVariants as errors
 use Rattle.image_codec.specs.declared.parts.Range.{Range}
+
+-- each is a byte
+abbrev pub AreBytes : List ℕ → Type 0
+AreBytes bytes = (i : ℕ) → slice_index bytes i < 256
 
 -- A field is a value and the bytes after it, or a fault.
 abbrev pub Read : Type 0 → Type 0

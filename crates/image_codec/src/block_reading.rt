@@ -1,5 +1,5 @@
 //! Reading the blocks of an image.
-ghost use Rattle.std.specs.Prelude.{◌≡◌, ◌+◌, ◌-◌, ◌≤◌, ◌<◌, ◌^◌, ◌&&◌, ◌==◌, [], not, nat_lt, nat_le, length, slice_index_or, slice_get, true, IfOk, if◌then◌else◌};
+ghost use Rattle.std.specs.Prelude.{◌≡◌, ℕ, ◌+◌, ◌-◌, ◌≤◌, ◌<◌, ◌^◌, ◌&&◌, ◌==◌, [], not, nat_lt, nat_le, length, slice_index_or, slice_get, true, IfOk, if◌then◌else◌};
 ghost use Rattle.std.specs.Int.{w16, w32, w64};
 ghost use Rattle.std.specs.List.{list_any, list_all, enumerate_from, zip};
 ghost use Rattle.osek_standard.specs.Validity.{owners, is_within as is_among, task_may as may_in_task, isr_may as may_in_isr, due_of};
@@ -10,7 +10,7 @@ ghost use Rattle.image_codec.specs.declared.fault.ImageRule.TheVariants.{I3, I5}
 use crate::fault::{ImageRule, ReadError};
 use crate::parts::Tables;
 use crate::reader::{Reader, fault};
-use crate::site::{Form, Site, is_site, is_within};
+use crate::site::{Form, Site, is_site, is_task_block, is_within};
 use osek_standard::{Alarm, Block, Counter, Isr, Kind, Lock, Task};
 use osek_values::{AlarmNo, BlockNo, Mask, ResNo, Seq, TaskNo};
 use std::alloc::Global;
@@ -258,12 +258,6 @@ fn counters_allow(tables: &Tables, block: u16, kind: Kind) -> bool
     true
 }
 
-fn has_task(tasks: &[Task], block: u16) -> bool
-    ensures { result ≡ list_any (λ x. is_among block (x.first.0, x.count)) tasks.now }
-{
-    tasks.iter().any(|x| is_within(block, x.first, x.count))
-}
-
 fn has_isr(isrs: &[Isr], block: u16) -> bool
     ensures { result ≡ list_any (λ x. is_among block (x.first.0, x.count)) isrs.now }
 {
@@ -281,7 +275,7 @@ fn has_counter(counters: &[Counter], block: u16) -> bool
 fn is_owned(tables: &Tables, block: u16) -> bool
     ensures { result ≡ has_owner tables.now block }
 {
-    let task = has_task(tables.tasks.as_slice(), block);
+    let task = is_task_block(tables.tasks.as_slice(), block);
     let isr = has_isr(tables.isrs.as_slice(), block);
     let counter = has_counter(tables.counters.as_slice(), block);
     let routine = isr || counter;
@@ -461,15 +455,10 @@ fn alarm_operands(
 
 /// A call for a task or for events with its operands.
 #[tactic(auto, unfolding(crate::specs::BlockReading::operands_at))]
-fn task_operands(
-    reader: &mut Reader,
-    tables: &Tables,
-    block: u16,
-    kind: Kind,
-) -> Result<Kind, ReadError>
+fn task_operands(reader: &mut Reader, tables: &Tables, kind: Kind) -> Result<Kind, ReadError>
     requires small { AreSmall tables.now }
     requires for_task { IsForTask kind }
-    ensures { Gives (λ x. x) result reader.new (operands_at tables.now block kind reader.old) }
+    ensures { (block : ℕ) → Gives (λ x. x) result reader.new (operands_at tables.now block kind reader.old) }
 {
     match kind {
         Kind::ActivateTask(_) => Ok(Kind::ActivateTask(task_no(reader, tables)?)),
@@ -503,7 +492,7 @@ fn operands(reader: &mut Reader, tables: &Tables, block: u16, kind: Kind) -> Res
         | Kind::SetEvent(_, _)
         | Kind::GetEvent(_)
         | Kind::ClearEvent(_)
-        | Kind::WaitEvent(_) => task_operands(reader, tables, block, kind),
+        | Kind::WaitEvent(_) => task_operands(reader, tables, kind),
         Kind::SetRelAlarm(_, _, _)
         | Kind::SetAbsAlarm(_, _, _)
         | Kind::CancelAlarm(_)

@@ -1,9 +1,7 @@
 //! Sites: which blocks they are, and what the replayer does there.
 ghost use Rattle.std.specs.Prelude.{◌≡◌};
-ghost use Rattle.std.specs.List.{list_any};
 ghost use Rattle.osek_standard.specs.Validity.{is_within};
-ghost use Rattle.osek_standard.specs.Apps.{may_dispatch as may_dispatch_by, is_routine_end as is_end_of_routine};
-ghost use Rattle.image_codec.specs.SiteKinds.{is_site_in as is_site_among};
+ghost use Rattle.osek_standard.specs.Apps.{may_dispatch as may_dispatch_by, is_routine_end as is_end_of_routine, is_task_block_in, is_site_in};
 
 use osek_standard::{Kind, Task};
 use osek_values::{BlockNo, TaskNo};
@@ -75,8 +73,8 @@ pub(crate) fn is_within(block: u16, first: BlockNo, count: u16) -> bool
 }
 
 /// Whether some task has the block.
-fn is_task_block(tasks: &[Task], block: u16) -> bool
-    ensures { result ≡ list_any (λ x. is_within block (x.first.0, x.count)) tasks.now }
+pub(crate) fn is_task_block(tasks: &[Task], block: u16) -> bool
+    ensures { result ≡ is_task_block_in tasks.now block }
 {
     tasks
         .iter()
@@ -85,7 +83,7 @@ fn is_task_block(tasks: &[Task], block: u16) -> bool
 
 /// Whether a block of a kind is a site, where these are the tasks.
 pub(crate) fn is_site(tasks: &[Task], block: u16, kind: Kind) -> bool
-    ensures { result ≡ is_site_among tasks.now block kind }
+    ensures { result ≡ is_site_in tasks.now block kind }
 {
     if is_routine_end(kind) {
         return true;

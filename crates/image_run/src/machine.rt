@@ -3,7 +3,7 @@ ghost use Rattle.std.specs.Prelude.{◌≡◌, ◌+◌, ◌<◌, ◌≤◌, leng
 ghost use Rattle.osek_standard.specs.Dispatch.{stepped};
 ghost use Rattle.osek_standard.specs.Kernel.{start as start_of};
 ghost use Rattle.osek_standard.specs.Well.{Well};
-ghost use Rattle.generic_kernel.specs.Moves.{IsDeclared};
+ghost use Rattle.osek_standard.specs.Apps.{IsDeclared};
 ghost use Rattle.image_run.specs.Machines.{at_work, turn, turned, noted};
 ghost use Rattle.image_run.specs.Scans.{most_scans};
 

@@ -7,6 +7,7 @@ use osek_standard::{Block, Kind, Resource};
 use osek_values::{BlockNo, Memory, Name, Seq};
 use std::alloc::Global;
 
+/// A name of these bytes.
 pub fn name(alloc: Global, bytes: &[u8]) -> Result<Name, Memory>
     requires { IsTrue (is_name bytes.now) }
     ensures { IfOk result (λ n. n ≡ bytes.now) }

@@ -48,12 +48,13 @@ part_all set bytes from end all k low high =
 pub word_first : (bytes : List ℕ) (n : ℕ) → class_of (slice_index bytes 0) ≡ Letter → IsRun NameBytes bytes 1 n → is_word (take n bytes) ≡ true
 word_first bytes n e run = is_word-take bytes n (letter_first (slice_index bytes 0) e) run.begins run.in_range run.all
 
+-- a word that isn't too long
+pub word_is_name : (w : List ℕ) → is_word w ≡ true → length w ≤ MAX_NAME → is_name w ≡ true
+word_is_name w word short = let fits : nat_le (length w) 64 ≡ true = grind arith in rw word fits
+
 pub is_name-take : (bytes : List ℕ) (n : ℕ) → class_of (slice_index bytes 0) ≡ Letter → IsRun NameBytes bytes 1 n → n ≤ MAX_NAME → is_name (take n bytes) ≡ true
 is_name-take bytes n e run le =
-    let word : is_word (take n bytes) ≡ true = word_first bytes n e run in
-    let short : length (take n bytes) ≤ 64 = omega (arith, length-take-le n bytes run.in_range) in
-    let fits : nat_le (length (take n bytes)) 64 ≡ true = grind arith in
-    rw word fits
+    word_is_name (take n bytes) (word_first bytes n e run) (omega (arith, length-take-le n bytes run.in_range))
 
 pub name_longest : (bytes : List ℕ) (n : ℕ) → class_of (slice_index bytes 0) ≡ Letter → IsRun NameBytes bytes 1 n → IsLongest (Whole (Name (take n bytes))) bytes n
 name_longest bytes n e run = record {

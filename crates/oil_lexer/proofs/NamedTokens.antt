@@ -1,8 +1,7 @@
 -- The names among the tokens of a text are names.
-use Rattle.std.proofs.Common.{◌≡◌, ℕ, ◌≤◌, inl, inr, true, List, [], ◌∷◌, length, take, arith, sym, subst}
-use Rattle.std.specs.Prelude.{⊤, IsTrue, nat_le, slice_index}
+use Rattle.std.proofs.Common.{◌≡◌, ℕ, inl, inr, true, List, [], ◌∷◌, take, sym, subst}
+use Rattle.std.specs.Prelude.{⊤, IsTrue, slice_index}
 use Rattle.osek_values.specs.Names.{is_word, is_name}
-use Rattle.osek_values.specs.declared.limits.TheConstants.{MAX_NAME}
 use Rattle.oil_lexer.specs.declared.classes.Class.{Class}
 use Rattle.oil_lexer.specs.declared.classes.Class.TheVariants.{Blank, Letter, Digit, Quote, Slash, Single, Nothing}
 use Rattle.oil_lexer.specs.declared.token.TokenKind.{TokenKind}
@@ -12,6 +11,7 @@ use Rattle.oil_lexer.specs.declared.token.Piece.TheVariants.{Whole}
 use Rattle.oil_lexer.specs.Classes.{class_of}
 use Rattle.oil_lexer.specs.Pieces.{IsOf, IsLongest, Fits}
 use Rattle.oil_lexer.specs.Text.{Parts, none, gap, token, AreTokens}
+use Rattle.oil_lexer.proofs.Longest.{word_is_name}
 
 abbrev pub IsNamed : TokenKind → Type 0
 IsNamed (Name n) = IsTrue (is_name n)
@@ -20,9 +20,6 @@ IsNamed _ = ⊤
 abbrev pub AreNamed : List Token → Type 0
 AreNamed [] = ⊤
 AreNamed (t ∷ tokens) = IsNamed t.kind × AreNamed tokens
-
-short_word : (n : List ℕ) → is_word n ≡ true → length n ≤ MAX_NAME → is_name n ≡ true
-short_word n word short = let fits : nat_le (length n) 64 ≡ true = grind arith in rw word fits
 
 of_class : (class : Class) (n : List ℕ) (bytes : List ℕ) (len : ℕ) → IsOf class (Whole (Name n)) bytes len → is_word n ≡ true
 of_class Blank n bytes len is = let e = is.0 in absurd (cc e)
@@ -35,7 +32,7 @@ of_class (Single mark) n bytes len is = let e = is.0 in absurd (cc e)
 of_class Nothing n bytes len is = absurd is
 
 kind_named : (kind : TokenKind) (bytes : List ℕ) (len : ℕ) → IsLongest (Whole kind) bytes len → Fits (Whole kind) → IsNamed kind
-kind_named (Name n) bytes len longest fits = short_word n (of_class (class_of (slice_index bytes 0)) n bytes len longest.piece_is.is) fits
+kind_named (Name n) bytes len longest fits = word_is_name n (of_class (class_of (slice_index bytes 0)) n bytes len longest.piece_is.is) fits
 kind_named (Number v) bytes len longest fits = tt
 kind_named (Text t) bytes len longest fits = tt
 kind_named (Mark m) bytes len longest fits = tt

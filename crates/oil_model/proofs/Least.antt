@@ -1,5 +1,5 @@
 -- The least pair of a rule and a line: found, and one at most.
-use Rattle.std.proofs.Common.{◌≡◌, ℕ, ◌+◌, ◌<◌, ◌≤◌, min, inl, inr, ⊎_elim, List, [], ◌∷◌, refl, sym, ap, ◌∙◌, subst, arith}
+use Rattle.std.proofs.Common.{◌≡◌, ℕ, suc, zero, ◌+◌, ◌<◌, ◌≤◌, min, inl, inr, ⊎_elim, List, [], ◌∷◌, get_or, refl, sym, ap, ◌∙◌, subst, arith}
 use Rattle.std.proofs.str.Laws.{order as compare}
 use Rattle.std.specs.Prelude.{Option, Some, None, if◌then◌else◌, ◌==◌}
 use Rattle.oil_tree.specs.declared.tree.Tree.{Tree}
@@ -70,6 +70,31 @@ high O15 = omega arith
 
 order-inj : (r s : OilRule) → order r ≡ order s → r ≡ s
 order-inj r s e = rule_is r ∙ ap rule_at e ∙ sym (rule_is s)
+
+-- the rules in their order
+abbrev rules_in_order : List OilRule
+rules_in_order = O1 ∷ O2 ∷ O3 ∷ O4 ∷ O5 ∷ O6 ∷ O7 ∷ O8 ∷ O9 ∷ O10 ∷ O11 ∷ O12 ∷ O13 ∷ O14 ∷ O15 ∷ []
+
+abbrev pub rule_of : ℕ → OilRule
+rule_of i = get_or rules_in_order i O1
+
+pub order_of : (i : ℕ) → i < 15 → order (rule_of i) ≡ i + 1
+order_of zero h = refl
+order_of (suc zero) h = refl
+order_of (suc (suc zero)) h = refl
+order_of (suc (suc (suc zero))) h = refl
+order_of (suc (suc (suc (suc zero)))) h = refl
+order_of (suc (suc (suc (suc (suc zero))))) h = refl
+order_of (suc (suc (suc (suc (suc (suc zero)))))) h = refl
+order_of (suc (suc (suc (suc (suc (suc (suc zero))))))) h = refl
+order_of (suc (suc (suc (suc (suc (suc (suc (suc zero)))))))) h = refl
+order_of (suc (suc (suc (suc (suc (suc (suc (suc (suc zero))))))))) h = refl
+order_of (suc (suc (suc (suc (suc (suc (suc (suc (suc (suc zero)))))))))) h = refl
+order_of (suc (suc (suc (suc (suc (suc (suc (suc (suc (suc (suc zero))))))))))) h = refl
+order_of (suc (suc (suc (suc (suc (suc (suc (suc (suc (suc (suc (suc zero)))))))))))) h = refl
+order_of (suc (suc (suc (suc (suc (suc (suc (suc (suc (suc (suc (suc (suc zero))))))))))))) h = refl
+order_of (suc (suc (suc (suc (suc (suc (suc (suc (suc (suc (suc (suc (suc (suc zero)))))))))))))) h = refl
+order_of (suc (suc (suc (suc (suc (suc (suc (suc (suc (suc (suc (suc (suc (suc (suc n))))))))))))))) h = absurd (omega arith)
 
 -- no rule below the number is violated
 abbrev pub IsCleanBelow : ℕ → Tree → Type 0

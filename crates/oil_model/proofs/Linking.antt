@@ -14,6 +14,7 @@ use Rattle.osek_standard.specs.Validity.{AreNames}
 use Rattle.app_model.specs.declared.system.TaskObject.{TaskObject}
 use Rattle.app_model.specs.declared.system.CounterObject.{CounterObject}
 use Rattle.app_model.specs.declared.system.EventObject.{EventObject}
+use Rattle.oil_model.specs.declared.objects.Category.TheVariants.{One, Two}
 use Rattle.oil_model.specs.Linkable.{no_counter_object, is_cycle_of_object, IsActionAmong, IsAlarmAmong, IsLinkable}
 use Rattle.oil_tree.specs.AttrLists.{attr_list}
 use Rattle.oil_tree.specs.declared.tree.Attr.{Attr}
@@ -89,10 +90,6 @@ names_of_entries {Y} f name objects same h = subst AreNames (sym (map-map name f
 lookup_masks : (used : ℕ) (xs : List Object) → map (λ (e : EventObject). e.name) (events_from used xs) ≡ map name_of xs
 lookup_masks used [] = refl
 lookup_masks used (o ∷ xs) = ap (λ (ns : List (List ℕ)). o.name ∷ ns) (lookup_masks (used_after used o) xs)
-
-length_events : (used : ℕ) (xs : List Object) → length (events_from used xs) ≡ length xs
-length_events used [] = refl
-length_events used (o ∷ xs) = let h = length_events (used_after used o) xs in omega (arith, h)
 
 all_masked : (used : ℕ) (xs : List Object) → empty_masks_from used xs ≡ [] → AllByRecursion (λ (e : EventObject). 0 < e.mask.0) (events_from used xs)
 all_masked used [] h = tt
@@ -200,10 +197,10 @@ has_category c o = number (codes "CATEGORY") (attr_list o.attrs) 0 == c
 two_not_one : (c : ℕ) → (c == 2) ≡ true → (c == 1) ≡ false
 two_not_one c e = grind (arith, nat_tests)
 
-isrs_apart : (xs : List Object) → IsDistinct bytes_eq (map name_of (objects_of (codes "ISR") xs)) → AreApart (filter (is_isr 2) xs) (filter (is_isr 1) xs)
+isrs_apart : (xs : List Object) → IsDistinct bytes_eq (map name_of (objects_of (codes "ISR") xs)) → AreApart (filter (is_isr Two) xs) (filter (is_isr One) xs)
 isrs_apart [] d = tt
 isrs_apart (x ∷ xs) d =
-    isr_step (is_kind (codes "ISR") x) (has_category 2 x) (has_category 1 x) x (objects_of (codes "ISR") xs) (filter (is_isr 2) xs) (filter (is_isr 1) xs) (two_not_one (number (codes "CATEGORY") (attr_list x.attrs) 0)) d
+    isr_step (is_kind (codes "ISR") x) (has_category 2 x) (has_category 1 x) x (objects_of (codes "ISR") xs) (filter (is_isr Two) xs) (filter (is_isr One) xs) (two_not_one (number (codes "CATEGORY") (attr_list x.attrs) 0)) d
     (λ P. all_kept name_of bytes_eq P (is_kind (codes "ISR")) (has_category 2) xs) (λ P. all_kept name_of bytes_eq P (is_kind (codes "ISR")) (has_category 1) xs) (isrs_apart xs)
 
 each_of : {X : Type 0} {P : X → Type 0} → ((x : X) → P x) → (xs : List X) → AllByRecursion P xs
@@ -295,15 +292,13 @@ linkable t each h =
     let the_task : Object → TaskObject = task (modes objects) (events objects) in
     let used : ℕ = explicit_bits 0 (objects_of (codes "EVENT") objects) in
     let len_tasks = length-map the_task tasks in
-    let len_isrs = length-names (filter (is_isr 2) objects) in
+    let len_isrs = length-names (filter (is_isr Two) objects) in
     let len_counters = length-map counter counters in
     let len_alarms = length-map the_alarm alarms in
-    let len_events = length_events used (objects_of (codes "EVENT") objects) in
     let max_tasks = limits.tasks in
     let max_isrs = limits.isrs in
     let max_counters = limits.counters in
     let max_alarms = limits.alarms in
-    let max_events = limits.events in
     let ordinary = names_by_test objects named (codes "RESOURCE") (λ (o : Object). not (has_scheduler objects && is_called (codes "RES_SCHEDULER") o)) same.1.1.1.1.1.1.1.0 in
     record {
       known_hooks = known_hooks objects;
@@ -313,7 +308,6 @@ linkable t each h =
       few_alarms = omega (arith, len_alarms, max_alarms);
       few_resources = few_resources (has_scheduler objects) tasks (filter (is_ordinary (has_scheduler objects)) objects) limits.resources;
       few_modes = few_modes objects room;
-      few_events = omega (arith, len_events, max_events);
       some_mode = some;
       task_names = names_of_entries the_task (λ (x : TaskObject). x.name) tasks (λ o. refl) (names_by_kind objects named (codes "TASK") same.1.1.0);
       isr_names = names_by_test objects named (codes "ISR") (has_category 2) same.1.1.1.0;
@@ -323,7 +317,7 @@ linkable t each h =
       mode_names = mode_names objects named same.1.0;
       event_names = subst AreNames (sym (lookup_masks used (objects_of (codes "EVENT") objects))) (names_by_kind objects named (codes "EVENT") same.1.1.1.1.1.1.0);
       category_1_names = names_by_test objects named (codes "ISR") (has_category 1) same.1.1.1.0;
-      isrs_apart = all (λ (n : List ℕ). list_any (bytes_eq n) (map name_of (filter (is_isr 1) objects)) ≡ false) (map name_of (filter (is_isr 2) objects)) (isrs_apart objects (distinct_names objects named (codes "ISR") same.1.1.1.0));
+      isrs_apart = all (λ (n : List ℕ). list_any (bytes_eq n) (map name_of (filter (is_isr One) objects)) ≡ false) (map name_of (filter (is_isr Two) objects)) (isrs_apart objects (distinct_names objects named (codes "ISR") same.1.1.1.0));
       priorities = subst (λ (ps : List ℕ). IsDistinct nat_eq ps) (sym (map-map (λ (x : TaskObject). x.priority) the_task tasks)) (distinct_from priority nat_eq nat_eq_equiv [] tasks (map_empty (line_at (codes "PRIORITY")) (repeated has_same_priority [] tasks) (no_line (shared_priorities objects) (h O8))) (none_distinct nat_eq));
       task_starts = all _ _ (all_map (λ (x : TaskObject). x.autostart < 2 ^ length (modes objects)) the_task tasks (each_of (λ (o : Object). autostart_below (modes objects) (attr_list o.attrs) some) tasks));
       each_counter = all _ _ (all_map (λ (x : CounterObject). (1 ≤ x.max) × (x.min_cycle ≤ x.max)) counter counters (all_weaker (λ (o : Object). (1 ≤ maximum (attr_list o.attrs)) × (minimum (attr_list o.attrs) ≤ maximum (attr_list o.attrs))) (λ (o : Object). IsMaximum (attr_list o.attrs) × (minimum (attr_list o.attrs) ≤ maximum (attr_list o.attrs))) counters (λ o q. (q.0.0, q.1)) (all_both (λ (o : Object). IsMaximum (attr_list o.attrs)) (λ (o : Object). minimum (attr_list o.attrs) ≤ maximum (attr_list o.attrs)) counters (maxima objects wrong) (minima objects late))));

@@ -3,6 +3,7 @@ use Rattle.std.proofs.Common.{◌≡◌, ℕ, zero, suc, ◌+◌, ◌≤◌, ⊎
 use Rattle.std.specs.Prelude.{if◌then◌else◌, filter, codes, slice_get}
 use Rattle.std.specs.Str.{bytes_eq}
 use Rattle.oil_tree.specs.declared.tree.Object.{Object}
+use Rattle.oil_model.specs.declared.objects.Category.TheVariants.{Two}
 use Rattle.oil_model.specs.Objects.{objects_of, name_of, has_scheduler, is_other_mode, is_ordinary, is_isr}
 use Rattle.oil_model.specs.Rules.{found_line, first_beyond, resource_limit, beyond_limits}
 use Rattle.oil_model.specs.Systems.{modes, number_from, number_in, names_of}
@@ -16,7 +17,7 @@ at_most (x ∷ xs) (suc n) e = let h = at_most xs n e in omega (arith, h)
 
 pub record IsWithinLimits (objects : List Object) : Type 0 where
   pub tasks : length (objects_of (codes "TASK") objects) ≤ 16
-  pub isrs : length (filter (is_isr 2) objects) ≤ 8
+  pub isrs : length (filter (is_isr Two) objects) ≤ 8
   pub counters : length (objects_of (codes "COUNTER") objects) ≤ 8
   pub alarms : length (objects_of (codes "ALARM") objects) ≤ 16
   pub events : length (objects_of (codes "EVENT") objects) ≤ 32
@@ -26,7 +27,7 @@ pub record IsWithinLimits (objects : List Object) : Type 0 where
 pub within_limits : (objects : List Object) → beyond_limits objects ≡ [] → IsWithinLimits objects
 within_limits objects e =
     let a : List ℕ = first_beyond 16 (objects_of (codes "TASK") objects) in
-    let b : List ℕ = first_beyond 8 (filter (is_isr 2) objects) in
+    let b : List ℕ = first_beyond 8 (filter (is_isr Two) objects) in
     let c : List ℕ = first_beyond 8 (objects_of (codes "COUNTER") objects) in
     let d : List ℕ = first_beyond 16 (objects_of (codes "ALARM") objects) in
     let f : List ℕ = first_beyond 32 (objects_of (codes "EVENT") objects) in

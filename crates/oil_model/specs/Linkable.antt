@@ -1,5 +1,5 @@
 -- What linking needs of a system, and resolving gives: all that an application keeps, but for what comes with code.
-use Rattle.std.specs.Prelude.{◌≡◌, ℕ, ◌^◌, ◌<◌, ◌≤◌, ◌++◌, Bool, ◌==◌, nat_le, nat_eq, ◌||◌, ◌&&◌, IsTrue, List, length, map, slice_index_or, All, [], false}
+use Rattle.std.specs.Prelude.{◌≡◌, ℕ, ◌^◌, ◌<◌, ◌≤◌, Bool, ◌==◌, nat_le, nat_eq, ◌||◌, ◌&&◌, IsTrue, List, length, map, slice_index_or, All, [], false}
 use Rattle.std.specs.List.{IsDistinct, list_any}
 use Rattle.std.specs.Str.{bytes_eq}
 use Rattle.osek_standard.specs.declared.objects.Action.{Action}
@@ -39,7 +39,6 @@ pub record IsLinkable (s : System) : Type 0 where
   pub few_alarms : length s.alarms ≤ 16
   pub few_resources : length s.resources ≤ 8
   pub few_modes : length s.modes ≤ 8
-  pub few_events : length s.events ≤ 32
   pub some_mode : 0 < length s.modes
   -- names
   pub task_names : AreNames (map (λ (x : TaskObject). x.name) s.tasks)

@@ -7,6 +7,8 @@ use Rattle.oil_tree.specs.declared.tree.Object.{Object}
 use Rattle.oil_tree.specs.declared.tree.Value.{Value}
 use Rattle.oil_tree.specs.declared.tree.Value.TheVariants.{Numeric}
 use Rattle.oil_tree.specs.AttrLists.{attr_list}
+use Rattle.oil_model.specs.declared.objects.Category.{Category}
+use Rattle.oil_model.specs.declared.objects.Category.TheVariants.{One, Two}
 use Rattle.oil_model.specs.LookUp.{first_named, number, says, inner, line}
 
 abbrev pub is_kind : List ℕ → Object → Bool
@@ -57,8 +59,12 @@ abbrev pub is_ordinary : Bool → Object → Bool
 is_ordinary scheduler o = is_kind (codes "RESOURCE") o && not (scheduler && is_called (codes "RES_SCHEDULER") o)
 
 -- ISR, CATEGORY
-abbrev pub is_isr : ℕ → Object → Bool
-is_isr category o = is_kind (codes "ISR") o && (number (codes "CATEGORY") (attr_list o.attrs) 0 == category)
+abbrev pub category_number : Category → ℕ
+category_number One = 1
+category_number Two = 2
+
+abbrev pub is_isr : Category → Object → Bool
+is_isr category o = is_kind (codes "ISR") o && (number (codes "CATEGORY") (attr_list o.attrs) 0 == category_number category)
 
 -- TASK, PRIORITY
 abbrev pub priority : Object → ℕ

@@ -9,6 +9,7 @@ use Rattle.oil_tree.specs.declared.tree.Object.{Object}
 use Rattle.oil_tree.specs.declared.tree.Tree.{Tree}
 use Rattle.oil_tree.specs.declared.tree.Value.{Value}
 use Rattle.oil_tree.specs.declared.tree.Value.TheVariants.{Word}
+use Rattle.oil_model.specs.declared.objects.Category.TheVariants.{Two}
 use Rattle.oil_model.specs.declared.table.Scope.{Scope}
 use Rattle.oil_model.specs.declared.domain.Domain.{Domain}
 use Rattle.oil_model.specs.declared.domain.Domain.TheVariants as domain
@@ -157,7 +158,7 @@ resource_limit scheduler = if scheduler then 7 else 8
 abbrev pub beyond_limits : List Object → List ℕ
 beyond_limits objects =
     first_beyond 16 (objects_of (codes "TASK") objects)
-    ++ (first_beyond 8 (filter (is_isr 2) objects)
+    ++ (first_beyond 8 (filter (is_isr Two) objects)
     ++ (first_beyond 8 (objects_of (codes "COUNTER") objects)
     ++ (first_beyond 16 (objects_of (codes "ALARM") objects)
     ++ (first_beyond 32 (objects_of (codes "EVENT") objects)
@@ -194,7 +195,7 @@ abbrev pub is_other_category : Object → Bool
 is_other_category o = not (number (codes "CATEGORY") (attr_list o.attrs) 1 == 1) && not (number (codes "CATEGORY") (attr_list o.attrs) 1 == 2)
 
 abbrev pub takes_resource : Object → Bool
-takes_resource o = is_isr 2 o && has (codes "RESOURCE") (attr_list o.attrs)
+takes_resource o = is_isr Two o && has (codes "RESOURCE") (attr_list o.attrs)
 
 abbrev pub faulty_isrs : List Object → List ℕ
 faulty_isrs objects =

@@ -17,6 +17,7 @@ use Rattle.app_model.specs.declared.system.System.{System}
 use Rattle.oil_tree.specs.declared.tree.Attr.{Attr}
 use Rattle.oil_tree.specs.declared.tree.Object.{Object}
 use Rattle.oil_tree.specs.AttrLists.{attr_list}
+use Rattle.oil_model.specs.declared.objects.Category.TheVariants.{One, Two}
 use Rattle.oil_model.specs.LookUp.{is_named, has, number, says, word_of, word, inner}
 use Rattle.oil_model.specs.Objects.{objects_of, name_of, os_attrs, has_scheduler, is_other_mode, is_ordinary, is_isr, priority, maximum, minimum, alarm_time, cycle_time, is_started, start, explicit_bits, mask_of, used_after}
 
@@ -161,8 +162,8 @@ abbrev pub system_of : List Object → System
 system_of objects = record {
   hooks = hook_set (hooks objects);
   tasks = map (task (modes objects) (events objects)) (objects_of (codes "TASK") objects);
-  isrs = map name_of (filter (is_isr 2) objects);
-  category_1_isrs = map name_of (filter (is_isr 1) objects);
+  isrs = map name_of (filter (is_isr Two) objects);
+  category_1_isrs = map name_of (filter (is_isr One) objects);
   counters = map counter (objects_of (codes "COUNTER") objects);
   alarms = map (alarm (names_of (codes "COUNTER") objects) (names_of (codes "TASK") objects) (modes objects) (events objects)) (objects_of (codes "ALARM") objects);
   resources = resources objects;

@@ -9,7 +9,7 @@ ghost use Rattle.oil_model.specs.Systems.{number_in, names_of, counter, action, 
 use crate::events::mask_named;
 use crate::look_up::{inner, number, says, word};
 use crate::modes::autostart;
-use crate::names::copy;
+use crate::names::copied;
 use crate::objects::{is_called, is_kind, maximum, minimum, start};
 use crate::times::{alarm_time, cycle_time};
 use app_model::{Action, Alarm, CounterObject, EventObject};
@@ -31,7 +31,7 @@ fn counter(alloc: Global, object: &Object) -> Result<CounterObject, Memory>
     ensures { IfOk result (λ c. c ≡ counter object.now) }
 {
     let attrs = object.attrs.as_slice();
-    let name = copy(alloc, &object.name)?;
+    let name = copied(alloc, &object.name)?;
     Ok(CounterObject {
         name,
         max: narrow(maximum(attrs)),
@@ -120,7 +120,7 @@ fn alarm(
     ensures { IfOk result (λ a. a ≡ alarm (names_of (codes "COUNTER") objects.now) (names_of (codes "TASK") objects.now) modes.now events.now object.now) }
 {
     let attrs = object.attrs.as_slice();
-    let name = copy(alloc, &object.name)?;
+    let name = copied(alloc, &object.name)?;
     Ok(Alarm {
         name,
         counter: counter_named(word(b"COUNTER", attrs), objects),

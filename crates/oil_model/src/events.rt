@@ -4,7 +4,7 @@ ghost use Rattle.oil_model.specs.Systems.{events, mask_named, own_bits};
 
 use crate::look_up::{is_named, word_of};
 use crate::masks::{explicit_bits, mask_of};
-use crate::names::copy;
+use crate::names::copied;
 use crate::objects::is_kind;
 use app_model::EventObject;
 use oil_tree::{Attr, Object};
@@ -20,7 +20,7 @@ pub fn events(alloc: Global, objects: &[Object]) -> Result<Seq<EventObject>, Mem
     for object in objects {
         if is_kind(b"EVENT", object) {
             let mask = mask_of(used, object);
-            let name = copy(alloc, &object.name)?;
+            let name = copied(alloc, &object.name)?;
             found.push(EventObject {
                 name,
                 mask: Mask(mask),

@@ -1,8 +1,8 @@
 //! The least pair of a rule that is violated and a line.
-ghost use Rattle.std.specs.Prelude.{◌≡◌, ◌<◌, ◌≤◌, IfOk};
+ghost use Rattle.std.specs.Prelude.{◌≡◌, IfOk};
 ghost use Rattle.oil_model.specs.Lines.{least};
 ghost use Rattle.oil_model.specs.Rules.{lines};
-ghost use Rattle.oil_model.specs.Faults.{order, IsLeastOrNone};
+ghost use Rattle.oil_model.specs.Faults.{IsLeastOrNone};
 
 use crate::attribute_rules::{
     dangling_reference, doubled_attribute, missing_attribute, wrong_value,
@@ -19,7 +19,26 @@ use oil_tree::Tree;
 use osek_values::{Memory, OilRule};
 use std::alloc::Global;
 
-// The least line on which a rule is violated.
+/// The rules, in their order.
+const RULES: [OilRule; 15] = [
+    OilRule::O1,
+    OilRule::O2,
+    OilRule::O3,
+    OilRule::O4,
+    OilRule::O5,
+    OilRule::O6,
+    OilRule::O7,
+    OilRule::O8,
+    OilRule::O9,
+    OilRule::O10,
+    OilRule::O11,
+    OilRule::O12,
+    OilRule::O13,
+    OilRule::O14,
+    OilRule::O15,
+];
+
+/// The least line on which a rule is violated.
 fn least_line(alloc: Global, rule: OilRule, tree: &Tree) -> Result<Option<u32>, Memory>
     ensures { IfOk result (λ line. line ≡ least (lines rule tree.now)) }
 {
@@ -43,39 +62,14 @@ fn least_line(alloc: Global, rule: OilRule, tree: &Tree) -> Result<Option<u32>, 
     }
 }
 
-fn rule_at(number: u32) -> OilRule
-    requires first { 1 ≤ number }
-    requires last { number < 16 }
-    ensures { order result ≡ number }
-{
-    match number {
-        1 => OilRule::O1,
-        2 => OilRule::O2,
-        3 => OilRule::O3,
-        4 => OilRule::O4,
-        5 => OilRule::O5,
-        6 => OilRule::O6,
-        7 => OilRule::O7,
-        8 => OilRule::O8,
-        9 => OilRule::O9,
-        10 => OilRule::O10,
-        11 => OilRule::O11,
-        12 => OilRule::O12,
-        13 => OilRule::O13,
-        14 => OilRule::O14,
-        _ => OilRule::O15,
-    }
-}
-
 /// The least fault of a tree, if it has one. A rule is judged only where no lesser rule is violated.
 pub fn least_fault(alloc: Global, tree: &Tree) -> Result<Option<ModelFault>, Memory>
     ensures { IfOk result (λ fault. IsLeastOrNone fault tree.now) }
 {
-    for number in 1..16u32 {
-        let rule = rule_at(number);
-        let least = least_line(alloc, rule, tree)?;
+    for rule in &RULES {
+        let least = least_line(alloc, *rule, tree)?;
         if let Some(line) = least {
-            return Ok(Some(ModelFault { rule, line }));
+            return Ok(Some(ModelFault { rule: *rule, line }));
         }
     }
     Ok(None)

@@ -27,4 +27,6 @@ mod tasks;
 mod times;
 
 pub use fault::{ModelError, ModelFault};
+pub use lines::{line_if, sooner};
+pub use names::copied;
 pub use resolver::{one_answer, resolve};

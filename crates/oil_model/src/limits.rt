@@ -1,11 +1,12 @@
 //! How many objects of a kind there may be.
 ghost use Rattle.std.specs.Prelude.{◌≡◌, ◌++◌, codes, filter};
+ghost use Rattle.oil_model.specs.declared.objects.Category.TheVariants.{Two};
 ghost use Rattle.oil_model.specs.Lines.{least};
 ghost use Rattle.oil_model.specs.Objects.{objects_of, is_isr, is_other_mode, is_ordinary};
 ghost use Rattle.oil_model.specs.Rules.{first_beyond, beyond_limits, resource_limit};
 
 use crate::lines::sooner;
-use crate::objects::{has_scheduler, is_isr, is_kind, is_ordinary, is_other_mode};
+use crate::objects::{Category, has_scheduler, is_isr, is_kind, is_ordinary, is_other_mode};
 use oil_tree::Object;
 use osek_values::limits::{
     MAX_ALARMS, MAX_COUNTERS, MAX_EVENTS, MAX_ISRS, MAX_MODES, MAX_RESOURCES, MAX_TASKS,
@@ -28,11 +29,11 @@ fn beyond(kind: &[u8], limit: usize, objects: &[Object]) -> Option<u32>
 }
 
 fn isr_beyond(limit: usize, objects: &[Object]) -> Option<u32>
-    ensures { result ≡ least (first_beyond limit (filter (is_isr 2) objects.now)) }
+    ensures { result ≡ least (first_beyond limit (filter (is_isr Two) objects.now)) }
 {
     let mut left = limit;
     for object in objects {
-        if is_isr(2, object) {
+        if is_isr(Category::Two, object) {
             if left == 0 {
                 return Some(object.line);
             }

@@ -4,7 +4,7 @@ ghost use Rattle.oil_model.specs.Rules.{beyond_limits};
 ghost use Rattle.oil_model.specs.Systems.{modes, number_in, mode_bits, autostart};
 
 use crate::look_up::{has, is_named, word_of};
-use crate::names::{copy, default_mode};
+use crate::names::{copied, default_mode};
 use crate::objects::{is_other_mode, is_started, start};
 use oil_tree::{Attr, Object};
 use osek_values::{Memory, Name, Seq};
@@ -17,7 +17,7 @@ fn mode_names(alloc: Global, objects: &[Object]) -> Result<Seq<Name>, Memory>
     names.push(default_mode(alloc)?)?;
     for object in objects {
         if is_other_mode(object) {
-            names.push(copy(alloc, &object.name)?)?;
+            names.push(copied(alloc, &object.name)?)?;
         }
     }
     Ok(Seq::of(names))

@@ -17,8 +17,8 @@ pub fn same(a: &[u8], b: &[u8]) -> bool
 }
 
 /// A copy of a name.
-pub fn copy(alloc: Global, name: &Name) -> Result<Name, Memory>
-    ensures { IfOk result (λ copied. copied ≡ name.now) }
+pub fn copied(alloc: Global, name: &Name) -> Result<Name, Memory>
+    ensures { IfOk result (λ copy. copy ≡ name.now) }
 {
     let bytes = name.as_bytes().to_vec(alloc)?;
     Ok(Name::new(bytes))

@@ -7,7 +7,7 @@ ghost use Rattle.oil_model.specs.Rules as rules_of;
 use crate::lines::{line_if, sooner};
 use crate::look_up::{has, number, says};
 use crate::name_set::NameSet;
-use crate::objects::{is_isr, is_kind, line_at, priority};
+use crate::objects::{Category, is_isr, is_kind, line_at, priority};
 use crate::table::scope_of;
 use oil_tree::Object;
 use osek_values::Memory;
@@ -169,7 +169,7 @@ fn is_other_category(object: &Object) -> bool
 fn takes_resource(object: &Object) -> bool
     ensures { result ≡ rules_of.takes_resource object.now }
 {
-    is_isr(2, object) && has(b"RESOURCE", object.attrs.as_slice())
+    is_isr(Category::Two, object) && has(b"RESOURCE", object.attrs.as_slice())
 }
 
 #[tactic(auto, using(crate::proofs::Leasts::least_steps))]

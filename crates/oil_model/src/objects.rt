@@ -1,9 +1,16 @@
 //! What an object declares, of what the rules and the system both read.
 ghost use Rattle.std.specs.Prelude.{◌≡◌, if◌then◌else◌};
-ghost use Rattle.oil_model.specs.Objects.{is_kind, is_called, objects_of, attrs_named, os_attrs, line_at, has_scheduler, is_other_mode, is_ordinary, is_isr, priority, maximum, minimum, is_started, start};
+ghost use Rattle.oil_model.specs.Objects.{is_kind, is_called, objects_of, attrs_named, os_attrs, line_at, has_scheduler, is_other_mode, is_ordinary, category_number, is_isr, priority, maximum, minimum, is_started, start};
 
 use crate::look_up::{inner, line, number, says};
 use oil_tree::{Attr, Object};
+
+/// A category of ISRs.
+#[derive(Clone, Copy)]
+pub enum Category {
+    One,
+    Two,
+}
 
 /// Whether the object is of the kind.
 pub fn is_kind(kind: &[u8], object: &Object) -> bool
@@ -71,11 +78,21 @@ pub fn is_ordinary(scheduler: bool, object: &Object) -> bool
     is_kind(b"RESOURCE", object) && !(scheduler && is_called(b"RES_SCHEDULER", object))
 }
 
+fn category_number(category: Category) -> u64
+    ensures { result ≡ category_number category }
+{
+    match category {
+        Category::One => 1,
+        Category::Two => 2,
+    }
+}
+
 /// Whether it is an ISR of the category.
-pub fn is_isr(category: u64, object: &Object) -> bool
+pub fn is_isr(category: Category, object: &Object) -> bool
     ensures { result ≡ is_isr category object.now }
 {
-    is_kind(b"ISR", object) && number(b"CATEGORY", object.attrs.as_slice(), 0) == category
+    is_kind(b"ISR", object)
+        && number(b"CATEGORY", object.attrs.as_slice(), 0) == category_number(category)
 }
 
 /// PRIORITY of a task.

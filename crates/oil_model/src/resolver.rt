@@ -17,6 +17,7 @@ use crate::hooks::hooks;
 use crate::least_fault::least_fault;
 use crate::modes::modes;
 use crate::names::read_names;
+use crate::objects::Category;
 use crate::resources::resources;
 use crate::tasks::{isrs, tasks};
 use app_model::System;
@@ -34,8 +35,8 @@ fn build(alloc: Global, objects: &[Object]) -> Result<System, Memory>
     let events = events(alloc, objects)?;
     let tasks = tasks(alloc, objects, modes.as_slice(), events.as_slice())?;
     let alarms = alarms(alloc, objects, modes.as_slice(), events.as_slice())?;
-    let category_2_isrs = isrs(alloc, 2, objects)?;
-    let category_1_isrs = isrs(alloc, 1, objects)?;
+    let category_2_isrs = isrs(alloc, Category::Two, objects)?;
+    let category_1_isrs = isrs(alloc, Category::One, objects)?;
     let counters = counters(alloc, objects)?;
     let resources = resources(alloc, objects)?;
     Ok(System {

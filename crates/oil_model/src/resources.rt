@@ -77,7 +77,7 @@ fn ordinary(alloc: Global, scheduler: bool, objects: &[Object]) -> Result<Vec<Re
     let mut found = Vec::new(alloc);
     for object in objects {
         if is_ordinary(scheduler, object) {
-            let name = names::copy(alloc, &object.name)?;
+            let name = names::copied(alloc, &object.name)?;
             let ceiling = ceiling(object.name.as_bytes(), objects);
             found.push(Resource { name, ceiling })?;
         }

@@ -9,8 +9,8 @@ ghost use Rattle.oil_model.specs.Systems.{schedule, task};
 use crate::events::own_bits;
 use crate::look_up::says;
 use crate::modes::autostart;
-use crate::names::copy;
-use crate::objects::{is_isr, is_kind, priority};
+use crate::names::copied;
+use crate::objects::{Category, is_isr, is_kind, priority};
 use app_model::{EventObject, Schedule, TaskObject};
 use oil_tree::{Attr, Object};
 use osek_values::{Mask, Memory, Name, Seq};
@@ -45,7 +45,7 @@ fn task(
     ensures { IfOk result (λ t. t ≡ task modes.now events.now object.now) }
 {
     let attrs = object.attrs.as_slice();
-    let name = copy(alloc, &object.name)?;
+    let name = copied(alloc, &object.name)?;
     Ok(TaskObject {
         name,
         priority: narrow(priority(object)),
@@ -76,13 +76,13 @@ pub fn tasks(
 }
 
 /// The names of the ISRs of a category.
-pub fn isrs(alloc: Global, category: u64, objects: &[Object]) -> Result<Seq<Name>, Memory>
+pub fn isrs(alloc: Global, category: Category, objects: &[Object]) -> Result<Seq<Name>, Memory>
     ensures { IfOk result (λ names. names ≡ map name_of (filter (is_isr category) objects.now)) }
 {
     let mut names = Vec::new(alloc);
     for object in objects {
         if is_isr(category, object) {
-            names.push(copy(alloc, &object.name)?)?;
+            names.push(copied(alloc, &object.name)?)?;
         }
     }
     Ok(Seq::of(names))

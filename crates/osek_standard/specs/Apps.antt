@@ -1,9 +1,11 @@
 -- What an application declares, looked up by number. Past the end of a table stands an entry that declares nothing.
-use Rattle.std.specs.Prelude.{ℕ, ◌-◌, ◌+◌, Bool, true, false, ◌==◌, nat_lt, not, length, slice_index_or, if◌then◌else◌}
+use Rattle.std.specs.Prelude.{⊤, ℕ, ◌-◌, ◌+◌, ◌<◌, Bool, true, false, ◌==◌, nat_lt, not, List, length, slice_index_or, if◌then◌else◌}
 use Rattle.std.specs.List.{list_any}
 pub use Rattle.osek_standard.specs.Validity.{no_task, no_isr, no_counter, no_alarm, no_resource, no_block}
 use Rattle.osek_standard.specs.Validity.{is_cycle_of, is_within}
 use Rattle.osek_values.specs.declared.numbers.BlockNo.{BlockNo}
+use Rattle.osek_values.specs.declared.event.Event.{Event}
+use Rattle.osek_values.specs.declared.event.Event.TheVariants.{Run, Irq, Tick}
 use Rattle.osek_standard.specs.declared.app.App.{App}
 use Rattle.osek_standard.specs.declared.objects.Task.{Task}
 use Rattle.osek_standard.specs.declared.objects.Isr.{Isr}
@@ -52,6 +54,15 @@ abbrev pub is_routine_end : Kind → Bool
 is_routine_end kind.IsrEnd = true
 is_routine_end _ = false
 
+-- one of these tasks has the block
+abbrev pub is_task_block_in : List Task → ℕ → Bool
+is_task_block_in tasks b = list_any (λ (x : Task). is_within b (x.first.0, x.count)) tasks
+
+-- A site, where these are the tasks: a task's call after which the kernel may dispatch, the end of a task, or the end of
+-- a routine.
+abbrev pub is_site_in : List Task → ℕ → Kind → Bool
+is_site_in tasks b k = if is_routine_end k then true else if may_dispatch k then is_task_block_in tasks b else false
+
 module _ (app : App) where
   abbrev pub the_task : ℕ → Task
   the_task t = slice_index_or app.tasks t no_task
@@ -99,8 +110,14 @@ module _ (app : App) where
 
   -- a task has the block
   abbrev pub is_task_block : ℕ → Bool
-  is_task_block b = list_any (λ (x : Task). is_within b (x.first.0, x.count)) app.tasks
+  is_task_block b = is_task_block_in app.tasks b
 
-  -- A site: a task's call after which the kernel may dispatch, the end of a task, or the end of a routine.
+  -- the block is a site
   abbrev pub is_site : ℕ → Bool
-  is_site b = if is_routine_end (the_block b).kind then true else if may_dispatch (the_block b).kind then is_task_block b else false
+  is_site b = is_site_in app.tasks b (the_block b).kind
+
+  -- the source of an event is declared
+  abbrev pub IsDeclared : Event → Type 0
+  IsDeclared (Run choice) = ⊤
+  IsDeclared (Irq i) = i.0 < length app.isrs
+  IsDeclared (Tick c) = c.0 < length app.counters

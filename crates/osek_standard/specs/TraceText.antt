@@ -12,6 +12,7 @@ use Rattle.osek_values.specs.declared.status.Letter.TheVariants.{S, Y, R, W}
 use Rattle.osek_values.specs.declared.notes.Notes.{Notes}
 use Rattle.osek_values.specs.declared.event.Event.{Event}
 use Rattle.osek_values.specs.declared.numbers.ModeNo.{ModeNo}
+use Rattle.osek_values.specs.declared.numbers.ResNo.{ResNo}
 use Rattle.osek_values.specs.declared.hooks.HookSet.{HookSet}
 use Rattle.osek_values.specs.Hooks.{startup, shutdown, error, pre_task, post_task}
 use Rattle.osek_standard.specs.declared.app.App.{App}
@@ -78,13 +79,17 @@ events_text d x =
     else if is_suspended x then []
     else codes ":" ++ hexadecimal x.events.0
 
+-- a resource that a task holds
+abbrev pub resource_text : App → ResNo → List ℕ
+resource_text app r = codes "+" ++ (the_resource app r.0).name
+
 -- a task: its name, its state, its events, and the resources that it holds
 abbrev pub task_text : App → State → ℕ × Task → List ℕ
 task_text app s d =
     codes " " ++ d.1.name ++ codes "="
     ++ letter (letter_of s.processor d.0 (task_state s d.0))
     ++ events_text d.1 (task_state s d.0)
-    ++ flat_map (λ r. codes "+" ++ (the_resource app r.0).name) (held (task_state s d.0))
+    ++ flat_map (resource_text app) (held (task_state s d.0))
 
 abbrev pub status_text : Option Status → List ℕ
 status_text None = []

@@ -37,11 +37,15 @@ IsWaitEvent _ = ⊥
 abbrev pub same_resource : ResNo → ResNo → Bool
 same_resource q r = nat_eq q.0 r.0
 
+-- distinct resources out of so many
+pub record IsStackOutOf (resources : ℕ) (stack : List ResNo) : Type 0 where
+  pub distinct : IsDistinct same_resource stack
+  pub known : All (λ (r : ResNo). r.0 < resources) stack
+
 module _ (app : App) where
   -- a stack names resources, none of them twice
-  pub record IsStack (stack : List ResNo) : Type 0 where
-    pub distinct : IsDistinct same_resource stack
-    pub known : All (λ (r : ResNo). r.0 < length app.resources) stack
+  abbrev pub IsStack : List ResNo → Type 0
+  IsStack stack = IsStackOutOf (length app.resources) stack
 
   -- block b is the task's own
   abbrev pub IsOwn : ℕ → ℕ → Type 0

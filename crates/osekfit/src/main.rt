@@ -16,8 +16,11 @@ fn words_given(rt: &HostRuntime) -> io::Result<Vec<String>> {
 }
 
 fn main(rt: HostRuntime) -> ExitCode {
-    let Ok(words) = words_given(&rt) else {
-        return ExitCode::from(7);
+    let words = match words_given(&rt) {
+        Ok(words) => words,
+        // A word that isn't UTF-8 is no word of a command: the words are of no stated form.
+        Err(error) if error.kind() == io::ErrorKind::InvalidData => Vec::new(rt.alloc()),
+        Err(_) => return ExitCode::from(7),
     };
     let mut shelf = FileShelf::new(&rt);
     let mut out = StdSink::new(rt.stdout());

@@ -1,6 +1,6 @@
 -- Code without a fault can be linked.
 use Rattle.std.proofs.Common.{◌≡◌, ℕ, ◌<◌, ◌≤◌, Bool, true, false, cond, List, [], ◌∷◌, ◌++◌, length, refl, arith}
-use Rattle.std.specs.Prelude.{All, ◌&&◌, nat_le}
+use Rattle.std.specs.Prelude.{All, ◌&&◌, nat_le, IsTrue}
 use Rattle.std.proofs.lemmas.Bool.Decides.{nat_tests}
 use Rattle.std.proofs.lemmas.List.Elements.{All-nil, All-cons, All-head, All-tail}
 use Rattle.oil_lexer.specs.declared.token.Token.{Token}
@@ -76,24 +76,27 @@ both_empty : (a b : List ℕ) → a ++ b ≡ [] → (a ≡ []) × (b ≡ [])
 both_empty [] b e = (refl, e)
 both_empty (x ∷ a) b e = absurd cc
 
-count_range : (a b : Bool) → a && b ≡ true → (a ≡ true) × (b ≡ true)
-count_range true true e = (refl, refl)
-count_range true false e = absurd cc
-count_range false b e = absurd cc
+both_true : (a b : Bool) → a && b ≡ true → (a ≡ true) × (b ≡ true)
+both_true true true e = (refl, refl)
+both_true true false e = absurd cc
+both_true false b e = absurd cc
 
-one_count : (count line : ℕ) (next : List ℕ) (b : Bool) → is_count count ≡ b → cond b next (line ∷ next) ≡ [] → (1 ≤ count) × (count ≤ 65535) × (next ≡ [])
-one_count count line next true is e =
-    let range = count_range (nat_le 1 count) (nat_le count 65535) is in
+pub count_range : (count : ℕ) → IsTrue (is_count count) → (1 ≤ count) × (count ≤ 65535)
+count_range count is =
+    let range = both_true (nat_le 1 count) (nat_le count 65535) is in
     let low = range.0 in
     let high = range.1 in
-    (grind (arith, nat_tests), grind (arith, nat_tests), e)
+    (grind (arith, nat_tests), grind (arith, nat_tests))
+
+one_count : (count line : ℕ) (next : List ℕ) (b : Bool) → is_count count ≡ b → cond b next (line ∷ next) ≡ [] → IsTrue (is_count count) × (next ≡ [])
+one_count count line next true is e = (is, e)
 one_count count line next false is e = absurd cc
 
 has_counts : (s : Statements) → wrong_works s ≡ [] → HasCounts s
 has_counts (closed line) e = tt
 has_counts (work_then line count next) e =
-    let (low, high, none) = one_count count line (wrong_works next) (is_count count) refl e in
-    (low, high, has_counts next none)
+    let (right, none) = one_count count line (wrong_works next) (is_count count) refl e in
+    (right, has_counts next none)
 has_counts (if_then line branch next) e =
     let parts = both_empty (wrong_works branch) (wrong_works next) e in
     (has_counts branch parts.0, has_counts next parts.1)

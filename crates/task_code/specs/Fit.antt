@@ -1,15 +1,16 @@
 -- What holds of each task code text that has no fault (this project's profile), beside its grammar.
-use Rattle.std.specs.Prelude.{ℕ, ◌+◌, ◌≤◌, ◌<◌, max, length, All, ⊤}
+use Rattle.std.specs.Prelude.{ℕ, ◌+◌, ◌≤◌, ◌<◌, max, length, All, IsTrue, ⊤}
 use Rattle.task_code.specs.declared.call.Call.{Call}
 use Rattle.task_code.specs.declared.call.Call.TheVariants.{SetEvent, ClearEvent, WaitEvent}
 use Rattle.task_code.specs.declared.tree.Body.{Body}
 use Rattle.task_code.specs.declared.tree.Code.{Code}
+use Rattle.task_code.specs.Faults.{is_count}
 use Rattle.task_code.specs.Statements.{Statements, closed, work_then, if_then, if_else_then, while_then, call_then}
 
--- each `work` takes 1 to 65,535 instructions
+-- each `work` takes as many instructions as it may
 abbrev pub HasCounts : Statements → Type 0
 HasCounts (closed line) = ⊤
-HasCounts (work_then line count next) = (1 ≤ count) × (count ≤ 65535) × HasCounts next
+HasCounts (work_then line count next) = IsTrue (is_count count) × HasCounts next
 HasCounts (if_then line branch next) = HasCounts branch × HasCounts next
 HasCounts (if_else_then line branch otherwise next) = HasCounts branch × HasCounts otherwise × HasCounts next
 HasCounts (while_then line condition body next) = HasCounts body × HasCounts next

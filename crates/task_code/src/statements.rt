@@ -210,7 +210,7 @@ fn statements(
     }
 }
 
-// { statement* }
+/// Statements in braces, from the opening brace on: { statement* }.
 #[cycle(statements)]
 pub fn block(
     alloc: Global,

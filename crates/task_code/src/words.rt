@@ -90,6 +90,7 @@ pub fn body_kind(name: &[u8]) -> Option<BodyKind>
     found_in(&BODY_KINDS, name)
 }
 
+/// Whether it is the keyword `else`.
 #[tactic(auto, unfolding(crate::specs::Words::is_else))]
 pub fn is_else(name: &[u8]) -> bool
     ensures { result ≡ is_the_else name.now }

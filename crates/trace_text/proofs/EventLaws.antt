@@ -17,17 +17,17 @@ use Rattle.osek_values.specs.Numbers.{isr_no, counter_no}
 use Rattle.osek_standard.specs.declared.app.App.{App}
 use Rattle.osek_standard.specs.declared.objects.Isr.{Isr}
 use Rattle.osek_standard.specs.declared.objects.Counter.{Counter}
-use Rattle.osek_standard.specs.Apps.{the_isr, the_counter, no_isr, no_counter}
+use Rattle.osek_standard.specs.Apps.{the_isr, the_counter, no_isr, no_counter, IsDeclared}
 use Rattle.trace_text.specs.declared.fault.EventFault.{EventFault}
 use Rattle.trace_text.specs.declared.fault.EventFault.TheVariants.{E1, E3}
 use Rattle.trace_text.specs.EventWords.{is_comment, run_by, of_source, isr_named, counter_named, said_with, said, read_line, words}
-use Rattle.trace_text.specs.EventGrammar.{IsEventOf, event_words, Says, HasWords}
+use Rattle.trace_text.specs.EventGrammar.{event_words, Says, HasWords}
 use Rattle.trace_text.proofs.GrammarLaws.{words_hold, no_other_words}
 
 abbrev Answer : Type 0
 Answer = Result (Option Event) EventFault
 
-same_bytes : (xs ys : List ℕ) → bytes_eq xs ys ≡ true → xs ≡ ys
+pub same_bytes : (xs ys : List ℕ) → bytes_eq xs ys ≡ true → xs ≡ ys
 same_bytes xs ys = (bytes_eq-Decides xs ys).0
 
 position_is : {X : Type 0} (p : X → Bool) (xs : List X) (k : ℕ) (d : X) → k < length xs → ((j : ℕ) → j < k → p (get_or xs j d) ≡ false) → p (get_or xs k d) ≡ true → position p xs ≡ Some k
@@ -50,7 +50,7 @@ name_found name xs none k distinct below =
     (λ j before. apart name xs none j k distinct before below)
     ((bytes_eq-Decides (name (get_or xs k none)) (name (get_or xs k none))).1 refl)
 
-said_event : (app : App) (e : Event) → IsEventOf app e → said app (event_words app e) ≡ Ok (Some e)
+said_event : (app : App) (e : Event) → IsDeclared app e → said app (event_words app e) ≡ Ok (Some e)
 said_event app (Run false) h = refl
 said_event app (Run true) h = refl
 said_event app (Irq i) h = ap (of_source (λ n. Irq (isr_no n))) (name_found (λ (x : Isr). x.name) app.isrs no_isr i.0 app.valid.isr_names.distinct h)
@@ -66,7 +66,7 @@ no_comment false r e h = h
 
 -- what the words must be
 abbrev Gives : App → List (List ℕ) → Event → Type 0
-Gives app ws e = IsEventOf app e × (ws ≡ event_words app e)
+Gives app ws e = IsDeclared app e × (ws ≡ event_words app e)
 
 run_gives : (app : App) (choice : List ℕ) (e : Event) (a b : Bool) → bytes_eq choice (codes "0") ≡ a → bytes_eq choice (codes "1") ≡ b →
     cond a (Ok (Some (Run false))) (cond b (Ok (Some (Run true))) (Err E1)) ≡ Ok (Some e) → Gives app (codes "run" ∷ choice ∷ []) e

@@ -7,7 +7,7 @@ use Rattle.trace_text.specs.EventGrammar.{ends_word, BeginsWith, HasWords}
 use Rattle.trace_text.proofs.Parts.{place_found, place_below, none_found, whole_tail}
 use Rattle.trace_text.proofs.WordLaws.{is_visible, no_word, first_word, word_ends, skip, skip_is, skip_visible, one_more}
 
-both : (a b : Bool) → (a && b) ≡ true → (a ≡ true) × (b ≡ true)
+pub both : (a b : Bool) → (a && b) ≡ true → (a ≡ true) × (b ≡ true)
 both true true e = (refl, refl)
 both true false e = absurd (cc)
 both false b e = absurd (cc)

@@ -2,6 +2,7 @@ pub mod EventLaws
 pub mod GrammarLaws
 pub mod HexadecimalLaws
 pub mod LineLaws
+pub mod OtherLines
 pub mod Parts
 pub mod StackLaws
 pub mod TextLaws

@@ -1,5 +1,5 @@
 -- A text of events reads back as these events.
-use Rattle.std.proofs.Common.{◌≡◌, ℕ, ◌+◌, ◌-◌, ◌<◌, ◌≤◌, Bool, true, false, cond, ◌&&◌, ◌||◌, not, eqb, ltb, leb, List, [], ◌∷◌, ◌++◌, map, length, take, get_or, Some, None, Ok, refl, sym, ◌∙◌, ap, subst, arith, append_assoc}
+use Rattle.std.proofs.Common.{◌≡◌, ℕ, ◌+◌, ◌-◌, ◌<◌, ◌≤◌, Bool, true, false, cond, ◌||◌, not, eqb, ltb, leb, List, [], ◌∷◌, ◌++◌, map, length, take, get_or, Some, None, Ok, refl, sym, ◌∙◌, ap, subst, arith, append_assoc}
 use Rattle.std.specs.Prelude.{codes}
 use Rattle.std.specs.List.{All, list_all, slice_split, enumerate_from}
 use Rattle.std.specs.Str.Lines.{strip_carriage_return}
@@ -16,18 +16,14 @@ use Rattle.osek_values.specs.Names.{is_letter, is_digit, is_name_byte, is_word, 
 use Rattle.osek_standard.specs.declared.app.App.{App}
 use Rattle.osek_standard.specs.declared.objects.Isr.{Isr}
 use Rattle.osek_standard.specs.declared.objects.Counter.{Counter}
-use Rattle.osek_standard.specs.Apps.{the_isr, the_counter, no_isr, no_counter}
+use Rattle.osek_standard.specs.Apps.{the_isr, the_counter, no_isr, no_counter, IsDeclared}
 use Rattle.trace_text.specs.EventWords.{is_blank, is_some_word}
 use Rattle.trace_text.specs.declared.fault.EventFault.TheVariants.{E4}
 use Rattle.trace_text.specs.EventText.{Reading, ended_line, lines_in, text_lines, with_line, read_lines, fault_at, numbered_lines, read_text}
-use Rattle.trace_text.specs.EventGrammar.{HasWords, Says, IsEventOf, event_line, event_text}
+use Rattle.trace_text.specs.EventGrammar.{HasWords, Says, event_line, event_text}
 use Rattle.trace_text.proofs.LineLaws.{is_lf, ended_first, some_parts}
 use Rattle.trace_text.proofs.EventLaws.{read_as_said}
-
-both : (a b : Bool) → (a && b) ≡ true → (a ≡ true) × (b ≡ true)
-both true true e = (refl, refl)
-both true false e = absurd (cc)
-both false b e = absurd (cc)
+use Rattle.trace_text.proofs.GrammarLaws.{both}
 
 -- a byte that no name has
 lacks_by : (b : Bool) (c d : ℕ) → is_name_byte d ≡ false → is_name_byte c ≡ true → eqb c d ≡ b → not b ≡ true
@@ -97,7 +93,7 @@ two_words verb operand some whole some_operand whole_operand = (
   (32 ∷ [], [], record { parts = ap (λ t. 32 ∷ t) (sym (append-nil operand)); blanks = refl; some = some_operand; whole = whole_operand; ends = refl }, refl),
 )
 
-says : (app : App) (e : Event) → IsEventOf app e → Says app (event_line app e) e
+says : (app : App) (e : Event) → IsDeclared app e → Says app (event_line app e) e
 says app (Run false) h = record { short = omega arith; known = h; words = two_words (codes "run") (codes "0") refl refl refl refl }
 says app (Run true) h = record { short = omega arith; known = h; words = two_words (codes "run") (codes "1") refl refl refl refl }
 says app (Irq i) h =
@@ -107,13 +103,13 @@ says app (Tick c) h =
     let n = counter_name app c.0 h in
     record { short = omega (arith, n.short); known = h; words = two_words (codes "tick") (the_counter app c.0).name refl refl n.some (no_blanks (the_counter app c.0).name n.bytes) }
 
-no_lf : (app : App) (e : Event) → IsEventOf app e → list_all (λ c. not (eqb c 10)) (event_line app e) ≡ true
+no_lf : (app : App) (e : Event) → IsDeclared app e → list_all (λ c. not (eqb c 10)) (event_line app e) ≡ true
 no_lf app (Run false) h = refl
 no_lf app (Run true) h = refl
 no_lf app (Irq i) h = let n = isr_name app i.0 h in lacks 10 (the_isr app i.0).name refl n.bytes
 no_lf app (Tick c) h = let n = counter_name app c.0 h in lacks 10 (the_counter app c.0).name refl n.bytes
 
-no_cr : (app : App) (e : Event) → IsEventOf app e → list_all (λ c. not (eqb c 13)) (event_line app e) ≡ true
+no_cr : (app : App) (e : Event) → IsDeclared app e → list_all (λ c. not (eqb c 13)) (event_line app e) ≡ true
 no_cr app (Run false) h = refl
 no_cr app (Run true) h = refl
 no_cr app (Irq i) h = let n = isr_name app i.0 h in lacks 13 (the_isr app i.0).name refl n.bytes
@@ -147,23 +143,23 @@ line_then line rest lf cr =
     ap text_lines joined ∙ ap lines_in (slice_split_at is_lf line 10 rest (none_is 10 line lf) refl) ∙ ended_first line (slice_split is_lf rest) (some_parts rest)
     ∙ ap (λ l. l ∷ text_lines rest) (keeps_whole line cr)
 
-lines_are : (app : App) (es : List Event) → All (IsEventOf app) es → text_lines (event_text app es) ≡ map (event_line app) es
+lines_are : (app : App) (es : List Event) → All (IsDeclared app) es → text_lines (event_text app es) ≡ map (event_line app) es
 lines_are app [] h = refl
 lines_are app (e ∷ es) h =
-    let known = All-head (IsEventOf app) e es h in
-    line_then (event_line app e) (event_text app es) (no_lf app e known) (no_cr app e known) ∙ ap (λ ls. event_line app e ∷ ls) (lines_are app es (All-tail (IsEventOf app) e es h))
+    let known = All-head (IsDeclared app) e es h in
+    line_then (event_line app e) (event_text app es) (no_lf app e known) (no_cr app e known) ∙ ap (λ ls. event_line app e ∷ ls) (lines_are app es (All-tail (IsDeclared app) e es h))
 
 abbrev all_read : List Event → Reading
 all_read es = record { events = es; fault = None }
 
-lines_read : (app : App) (es : List Event) (n : ℕ) → All (IsEventOf app) es → read_lines app (enumerate_from n (map (event_line app) es)) ≡ all_read es
+lines_read : (app : App) (es : List Event) (n : ℕ) → All (IsDeclared app) es → read_lines app (enumerate_from n (map (event_line app) es)) ≡ all_read es
 lines_read app [] n h = refl
 lines_read app (e ∷ es) n h =
-    let known = All-head (IsEventOf app) e es h in
+    let known = All-head (IsDeclared app) e es h in
     let rest = read_lines app (enumerate_from (n + 1) (map (event_line app) es)) in
-    ap (λ r. with_line n r rest) (read_as_said app (event_line app e) e (says app e known)) ∙ ap (with_line n (Ok (Some e))) (lines_read app es (n + 1) (All-tail (IsEventOf app) e es h))
+    ap (λ r. with_line n r rest) (read_as_said app (event_line app e) e (says app e known)) ∙ ap (with_line n (Ok (Some e))) (lines_read app es (n + 1) (All-tail (IsDeclared app) e es h))
 
-pub reads_back : (app : App) (es : List Event) → All (IsEventOf app) es → length (event_text app es) ≤ 16777216 → read_text app (event_text app es) ≡ record { events = es; fault = None }
+pub reads_back : (app : App) (es : List Event) → All (IsDeclared app) es → length (event_text app es) ≤ 16777216 → read_text app (event_text app es) ≡ record { events = es; fault = None }
 reads_back app es h size =
     let text = event_text app es in
     ap (λ b. cond b (fault_at 0 E4) (read_lines app (numbered_lines text))) (le-ltb 16777216 (length text) size)

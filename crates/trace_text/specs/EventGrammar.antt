@@ -1,11 +1,11 @@
 -- The grammar of event lines: which words a line has, which words an event has, and the text of a list of events.
-use Rattle.std.specs.Prelude.{◌≡◌, ◌⊎◌, ⊤, ℕ, ◌<◌, ◌≤◌, Bool, true, false, not, List, [], ◌∷◌, ◌++◌, length, IsTrue, codes, None}
+use Rattle.std.specs.Prelude.{◌≡◌, ◌⊎◌, ⊤, ℕ, ◌≤◌, Bool, true, false, not, List, [], ◌∷◌, ◌++◌, length, IsTrue, codes, None}
 use Rattle.std.specs.List.{list_all, flat_map}
 use Rattle.osek_values.specs.declared.event.Event.{Event}
 use Rattle.osek_values.specs.declared.event.Event.TheVariants.{Run, Irq, Tick}
 use Rattle.osek_standard.specs.declared.app.App.{App}
-use Rattle.osek_standard.specs.Apps.{the_isr, the_counter}
-use Rattle.trace_text.specs.EventWords.{is_blank, is_some_word, isr_named, counter_named}
+use Rattle.osek_standard.specs.Apps.{the_isr, the_counter, IsDeclared}
+use Rattle.trace_text.specs.EventWords.{is_blank, is_some_word, is_comment, isr_named, counter_named}
 
 -- nothing, or a blank
 abbrev pub ends_word : List ℕ → Bool
@@ -25,13 +25,12 @@ abbrev pub HasWords : List ℕ → List (List ℕ) → Type 0
 HasWords line [] = IsTrue (list_all is_blank line)
 HasWords line (w ∷ ws) = (gap : List ℕ) × (rest : List ℕ) × BeginsWith line gap w rest × HasWords rest ws
 
-module _ (app : App) where
-  -- the source of the event is declared
-  abbrev pub IsEventOf : Event → Type 0
-  IsEventOf (Run choice) = ⊤
-  IsEventOf (Irq i) = i.0 < length app.isrs
-  IsEventOf (Tick c) = c.0 < length app.counters
+-- no words, or a comment
+abbrev pub SayNothing : List (List ℕ) → Type 0
+SayNothing [] = ⊤
+SayNothing (word ∷ more) = IsTrue (is_comment word)
 
+module _ (app : App) where
   abbrev pub event_words : Event → List (List ℕ)
   event_words (Run false) = codes "run" ∷ codes "0" ∷ []
   event_words (Run true) = codes "run" ∷ codes "1" ∷ []
@@ -41,7 +40,7 @@ module _ (app : App) where
   -- a line says an event of the application
   pub record Says (line : List ℕ) (e : Event) : Type 0 where
     pub short : length line ≤ 256
-    pub known : IsEventOf e
+    pub known : IsDeclared app e
     pub words : HasWords line (event_words e)
 
   -- the words name a category 2 ISR or a counter that isn't declared

@@ -5,8 +5,7 @@ ghost use Rattle.osek_values.specs.declared.numbers.ResNo.{ResNo as AResource};
 ghost use Rattle.osek_standard.specs.Apps.{the_task, source_count};
 ghost use Rattle.osek_standard.specs.Dispatch.{stepped};
 ghost use Rattle.osek_standard.specs.TaskStates.{held};
-ghost use Rattle.osek_standard.specs.TraceText.{source_text, who, events_text, task_text, line_text};
-ghost use Rattle.trace_text.specs.TraceLine.{resource_text};
+ghost use Rattle.osek_standard.specs.TraceText.{source_text, who, events_text, resource_text, task_text, line_text};
 ghost use Rattle.osek_standard.specs.Well.{Well, IsStack};
 
 use crate::pieces::{MAX_DECIMAL, MAX_HEXADECIMAL, put, put_decimal, put_hexadecimal, put_name};

@@ -1,5 +1,5 @@
 -- the line of one body more
-use Rattle.std.proofs.Common.{ℕ, ◌+◌, List, [], ◌∷◌, map, drop, sym, ap, ◌∙◌}
+use Rattle.std.proofs.Common.{◌+◌, List, [], ◌∷◌, map, drop, sym, ap, ◌∙◌}
 use Rattle.task_code.specs.declared.tree.Body.{Body}
 use Rattle.oil_model.specs.Lines.{sooner, least}
 use Rattle.oil_model.proofs.Leasts.{sooner_assoc}

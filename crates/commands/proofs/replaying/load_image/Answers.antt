@@ -1,9 +1,11 @@
 -- the image is spelled by what the file holds
-use Rattle.std.proofs.Common.{List, ℕ, ◌∙◌}
-use Rattle.osek_io.specs.declared.loading.LoadError.TheVariants.{Read}
+use Rattle.std.proofs.Common.{◌≡◌, List, ℕ, Err, inl, inr, refl, subst, ◌∙◌}
+use Rattle.osek_io.specs.declared.loading.LoadError.TheVariants.{Read, TooLong}
+use Rattle.image_codec.specs.declared.fault.ImageError.{ImageError}
+use Rattle.image_codec.specs.ImageReading.{read_image, Answers as DecodeAnswers}
 use Rattle.commands.proofs.Results.{ok_is_no_error, is_this_error}
-use Rattle.commands.specs.Replaying.{SpellImage}
-use Rattle.commands.proofs.InputFiles.{of_loaded}
+use Rattle.commands.specs.Replaying.{SpellImage, IsImageFault}
+use Rattle.commands.proofs.InputFiles.{of_loaded, of_longer}
 use Rattle.commands.proofs.replaying.load_image.Goals as goal
 
 pub returns-in-Ok-decode-clause-image : goal.returns-in-Ok-decode-clause-image
@@ -52,3 +54,12 @@ returns-in-Err-Memory-clause-same_writes g c = c.in-Err-Memory.ensures.same_writ
 
 pub returns-in-Err-Read-clause-stop : goal.returns-in-Err-Read-clause-stop
 returns-in-Err-Read-clause-stop g c = c.in-Err-Read.ensures.read (is_this_error _ _ c.in-Err-Read.field-0-is)
+
+pub returns-in-Err-TooLong-clause-stop : goal.returns-in-Err-TooLong-clause-stop
+returns-in-Err-TooLong-clause-stop g c =
+    of_longer _ _ 1048576 _ (λ b over. inl (over, refl)) (c.in-Err-TooLong.ensures.too_long (is_this_error _ _ c.in-Err-TooLong.field-0-is)) (λ m. let e = c.in-Err-TooLong.ensures.missing m in let is = c.in-Err-TooLong.field-0-is in absurd (cc (e, is)))
+
+pub returns-in-Err-Fault-clause-stop : goal.returns-in-Err-Fault-clause-stop
+returns-in-Err-Fault-clause-stop g c =
+    of_loaded _ _ (λ (b : List ℕ). IsImageFault b c.in-Err-Fault.fault) c.in-Ok.bytes.items c.in-Ok.ensures.bytes (λ m. ok_is_no_error c.in-Ok.bytes Read (c.in-Ok.ensures.missing m))
+    (inr (c.in-Ok.ensures.within, subst (λ (b : List ℕ). read_image b ≡ Err c.in-Err-Fault.fault) c.deref.ensures.value (subst (λ (e : ImageError). DecodeAnswers (Err e) (read_image c.deref.result.now)) c.in-Err-Fault.field-0-is c.in-Err-Fault.ensures.first)))

@@ -14,7 +14,7 @@ use Rattle.osek_standard.specs.States.{task_state}
 use Rattle.osek_standard.specs.Priority.{best}
 use Rattle.osek_standard.specs.Well.{HasProcessor}
 use Rattle.osek_standard.proofs.PriorityLaws.{best_found, best_none, none_live}
-use Rattle.generic_kernel.specs.BestBelow.{IsBestBelow, NoneBelow, scans_at, some_of}
+use Rattle.generic_kernel.specs.BestBelow.{IsBestBelow, scans_at, some_of}
 use Rattle.generic_kernel.proofs.best.pick.Goals as goal
 
 best_of_all : (app : App) (s : State) (n : ℕ) → length s.tasks ≡ n → (found : Option TaskNo) → IsBestBelow app s n found → found ≡ best app s

@@ -2,6 +2,7 @@
 use Rattle.std.proofs.Common.{◌≡◌, ℕ, List, ◌++◌, filter, sym, ap, ◌∙◌}
 use Rattle.std.specs.Prelude.{codes}
 use Rattle.oil_tree.specs.declared.tree.Object.{Object}
+use Rattle.oil_model.specs.declared.objects.Category.TheVariants.{Two}
 use Rattle.oil_model.specs.Lines.{sooner, least}
 use Rattle.oil_model.specs.Objects.{objects_of, has_scheduler, is_isr, is_other_mode, is_ordinary}
 use Rattle.oil_model.specs.Rules.{first_beyond, resource_limit}
@@ -27,7 +28,7 @@ returns c =
     c.sooner-5.ensures ∙ (λ i. sooner (c.beyond-task.ensures i) (behind_task i))
     ∙ sym (least_seven
     (first_beyond 16 (objects_of (codes "TASK") objects))
-    (first_beyond 8 (filter (is_isr 2) objects))
+    (first_beyond 8 (filter (is_isr Two) objects))
     (first_beyond 8 (objects_of (codes "COUNTER") objects))
     (first_beyond 16 (objects_of (codes "ALARM") objects))
     (first_beyond 32 (objects_of (codes "EVENT") objects))

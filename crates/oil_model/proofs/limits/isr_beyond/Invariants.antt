@@ -1,9 +1,10 @@
 use Rattle.std.proofs.Common.{◌≡◌, drop}
 use Rattle.std.specs.Prelude.{filter}
+use Rattle.oil_model.specs.declared.objects.Category.TheVariants.{Two}
 use Rattle.oil_model.specs.Lines.{least}
 use Rattle.oil_model.specs.Objects.{is_isr}
 use Rattle.oil_model.specs.Rules.{first_beyond}
 use Rattle.oil_model.proofs.limits.isr_beyond.Given as goal
 
 abbrev pub invariant-loop-object : goal.invariant-loop-object
-invariant-loop-object l = least (first_beyond l.left (filter (is_isr 2) (drop l.object-index l.objects))) ≡ least (first_beyond l.limit (filter (is_isr 2) l.objects))
+invariant-loop-object l = least (first_beyond l.left (filter (is_isr Two) (drop l.object-index l.objects))) ≡ least (first_beyond l.limit (filter (is_isr Two) l.objects))

@@ -1,7 +1,7 @@
 -- the text so far, and that of the rest, are the whole
 use Rattle.std.proofs.Common.{◌≡◌, ◌+◌, ◌*◌, ◌≤◌, ◌++◌, take, drop}
 use Rattle.std.specs.List.{flat_map}
-use Rattle.trace_text.specs.TraceLine.{resource_text}
+use Rattle.osek_standard.specs.TraceText.{resource_text}
 use Rattle.trace_text.proofs.trace_line.put_resources.Given as goal
 
 abbrev pub invariant-loop-resource : goal.invariant-loop-resource
