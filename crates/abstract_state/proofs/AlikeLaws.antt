@@ -4,8 +4,7 @@ use Rattle.osek_values.specs.Numbers.{block_no}
 use Rattle.osek_values.specs.declared.numbers.BlockNo.{BlockNo}
 use Rattle.osek_values.specs.declared.mask.Mask.{Mask}
 use Rattle.osek_standard.specs.declared.app.App.{App}
-use Rattle.osek_standard.specs.declared.state.State.{State}
-use Rattle.osek_standard.specs.declared.state.Processor.{Processor}
+use Rattle.osek_standard.specs.declared.state.{State.{State}, Processor.{Processor}}
 use Rattle.osek_standard.specs.declared.state.Processor.TheVariants as processor
 use Rattle.osek_standard.specs.declared.task_state.Activity.{Activity}
 use Rattle.osek_standard.specs.declared.task_state.Activity.TheVariants as activity
@@ -13,11 +12,8 @@ use Rattle.osek_standard.specs.States.{task_state, place_in, place_by}
 use Rattle.osek_standard.specs.Kernel.{has_bit}
 use Rattle.osek_standard.specs.Well.{Well}
 use Rattle.osek_standard.specs.declared.point.Point.{Point}
-use Rattle.abstract_state.specs.declared.value.Val.{Val}
-use Rattle.abstract_state.specs.declared.value.Val.TheVariants.{Suspended, Live, Waiting}
-use Rattle.abstract_state.specs.declared.value.Component.{Component}
+use Rattle.abstract_state.specs.declared.value.{Val.{Val}, Val.TheVariants.{Suspended, Live, Waiting}, Component.{Component}, PartValue.TheVariants.{OfTask, OfEvent, OfAlarm}}
 use Rattle.abstract_state.specs.declared.value.Component.TheVariants as component
-use Rattle.abstract_state.specs.declared.value.PartValue.TheVariants.{OfTask, OfEvent, OfAlarm}
 use Rattle.osek_standard.specs.Points.{point_at, point_of}
 use Rattle.abstract_state.specs.Components.{component_at, component_count, value_in, part_of, abstract_of}
 use Rattle.abstract_state.specs.Alike.{IsAlike}
@@ -32,14 +28,13 @@ in_by_components app table s u w p parts h = record {
       (subst (λ (q : Point). IsTrue (table.has q c (abstract_of app s c))) p (h.within c lt));
 }
 
-block_in : Val → BlockNo
+abbrev pub block_in : Val → BlockNo
 block_in Suspended = block_no 0
-block_in (Live b held) = b
+block_in (Live x) = x.block
 block_in (Waiting b) = b
 
 -- a task's block is seen from what a table keeps of it
 block_of_value : (x : Activity) → (place_in x).block ≡ block_in (value_in x)
-unfolding block_in
 block_of_value activity.Suspended = refl
 block_of_value (activity.Live x) = refl
 block_of_value (activity.Waiting b) = refl

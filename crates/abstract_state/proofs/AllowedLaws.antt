@@ -1,13 +1,10 @@
 -- A well-formed state stands at a point of the application, and its components are what they can be there.
 use Rattle.std.proofs.Common.{◌≡◌, ℕ, ◌<◌, true, length, refl, subst, Some, None, IfSome}
 use Rattle.std.specs.declared.option.Option.{Option}
-use Rattle.osek_values.specs.declared.numbers.TaskNo.{TaskNo}
-use Rattle.osek_values.specs.declared.numbers.BlockNo.{BlockNo}
+use Rattle.osek_values.specs.declared.numbers.{TaskNo.{TaskNo}, BlockNo.{BlockNo}}
 use Rattle.osek_standard.specs.declared.app.App.{App}
-use Rattle.osek_standard.specs.declared.state.State.{State}
-use Rattle.osek_standard.specs.declared.state.Source.{Source}
+use Rattle.osek_standard.specs.declared.state.{State.{State}, Source.{Source}, Processor.{Processor}}
 use Rattle.osek_standard.specs.declared.state.Source.TheVariants as source
-use Rattle.osek_standard.specs.declared.state.Processor.{Processor}
 use Rattle.osek_standard.specs.declared.state.Processor.TheVariants as processor
 use Rattle.osek_standard.specs.declared.task_state.Activity.{Activity}
 use Rattle.osek_standard.specs.declared.task_state.Activity.TheVariants as activity
@@ -20,7 +17,7 @@ use Rattle.abstract_state.specs.declared.value.Component.TheVariants as componen
 use Rattle.osek_standard.specs.Points.{point_at, point_of, IsPoint}
 use Rattle.abstract_state.specs.Components.{component_at, component_count, value_in, abstract_of, part_of, IsComponent, IsVal, IsLiveAt, IsLiveSomewhere, FitsPoint, IsPart, IsAllowed}
 use Rattle.abstract_state.proofs.ComponentLaws.{component_known}
-use Rattle.abstract_state.proofs.OwnerLaws.{own_once}
+use Rattle.osek_standard.proofs.OwnerLaws.{own_once}
 
 module _ (app : App) where
   -- the block of a Live task is its own

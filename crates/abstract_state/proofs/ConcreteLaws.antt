@@ -1,5 +1,5 @@
 -- Values that the components can have at a point, one each, make a well-formed state there.
-use Rattle.std.proofs.Common.{◌≡◌, ℕ, ◌<◌, ◌≤◌, Bool, true, false, ◌&&◌, List, length, map, replicate, get_or, refl, sym, ap, subst, ◌∙◌, inl, inr, arith, Some, None, IfSome}
+use Rattle.std.proofs.Common.{◌≡◌, ℕ, ◌<◌, ◌≤◌, Bool, true, false, ◌&&◌, length, map, replicate, get_or, refl, sym, ap, subst, ◌∙◌, inl, inr, arith, Some, None, IfSome}
 use Rattle.std.specs.Prelude.{if◌then◌else◌}
 use Rattle.std.specs.List.{range_with_len}
 use Rattle.std.specs.declared.option.Option.{Option}
@@ -7,15 +7,11 @@ use Rattle.std.proofs.lemmas.Bool.{cases_lt, and_parts, eq-eqb, ne_eqb}
 use Rattle.std.proofs.lemmas.List.{get_or_past, get_or-replicate, length-replicate}
 use Rattle.std.proofs.lemmas.List.FromFn.{length-map-range_with_len, get_or-map-range_with_len}
 use Rattle.osek_values.specs.Numbers.{task_no, source_no, mode_no, event_no, alarm_no}
-use Rattle.osek_values.specs.declared.numbers.TaskNo.{TaskNo}
-use Rattle.osek_values.specs.declared.numbers.BlockNo.{BlockNo}
-use Rattle.osek_values.specs.declared.numbers.ResNo.{ResNo}
-use Rattle.osek_values.specs.declared.numbers.SourceNo.{SourceNo}
+use Rattle.osek_values.specs.declared.numbers.{TaskNo.{TaskNo}, BlockNo.{BlockNo}, SourceNo.{SourceNo}}
 use Rattle.osek_standard.specs.declared.app.App.{App}
 use Rattle.osek_standard.specs.declared.task_state.TaskState.{TaskState}
-use Rattle.osek_standard.specs.declared.state.Source.{Source}
+use Rattle.osek_standard.specs.declared.state.{Source.{Source}, AlarmState.{AlarmState}}
 use Rattle.osek_standard.specs.declared.state.Source.TheVariants as source
-use Rattle.osek_standard.specs.declared.state.AlarmState.{AlarmState}
 use Rattle.osek_standard.specs.declared.state.AlarmState.TheVariants as alarm
 use Rattle.osek_standard.specs.Apps.{the_task, the_counter, the_block, source_count}
 use Rattle.osek_standard.specs.TaskStates.{suspended, is_live, is_live_activity}
@@ -27,12 +23,8 @@ use Rattle.osek_standard.proofs.WellLaws.{own_block, routine_block}
 use Rattle.osek_standard.proofs.Keeps.{offset_0}
 use Rattle.osek_standard.specs.declared.point.Point.{Point}
 use Rattle.osek_standard.specs.declared.point.Point.TheVariants as point
-use Rattle.abstract_state.specs.declared.value.Val.{Val}
-use Rattle.abstract_state.specs.declared.value.Val.TheVariants.{Suspended, Live, Waiting}
-use Rattle.abstract_state.specs.declared.value.Component.{Component}
+use Rattle.abstract_state.specs.declared.value.{Val.{Val}, LiveVal.{LiveVal}, Val.TheVariants.{Suspended, Live, Waiting}, Component.{Component}, PartValue.{PartValue}, PartValue.TheVariants.{OfTask, OfEvent, OfAlarm}}
 use Rattle.abstract_state.specs.declared.value.Component.TheVariants as component
-use Rattle.abstract_state.specs.declared.value.PartValue.{PartValue}
-use Rattle.abstract_state.specs.declared.value.PartValue.TheVariants.{OfTask, OfEvent, OfAlarm}
 use Rattle.osek_standard.specs.Points.{point_of, IsPoint}
 use Rattle.abstract_state.specs.Components.{component_at, component_count, component_number, value_in, is_armed, abstract_of, part_of, IsComponent, IsVal, IsLiveAt, IsLiveSomewhere, FitsPoint, IsPart}
 use Rattle.abstract_state.specs.Concrete.{Free, val_of, flag_of, activity_of, alarm_of, event_chosen, task_chosen, alarm_chosen, source_by, processor_by, state_of, StandsThere, IsFree, AreAllowed, HasParts}
@@ -42,32 +34,32 @@ use Rattle.abstract_state.proofs.BitLaws.{has_bit_of_number, number_within}
 -- values, and what is made of them
 value_of_activity : (v : Val) (o : ℕ) → value_in (activity_of v o) ≡ v
 value_of_activity Suspended o = refl
-value_of_activity (Live b held) o = refl
+value_of_activity (Live x) o = refl
 value_of_activity (Waiting b) o = refl
 
 live_value : (v : Val) (o : ℕ) → IsLiveSomewhere v → is_live_activity (activity_of v o) ≡ true
 live_value Suspended o h = absurd h
-live_value (Live b held) o h = refl
+live_value (Live x) o h = refl
 live_value (Waiting b) o h = absurd h
 
 live_at_value : (b : BlockNo) (v : Val) → IsLiveAt b v → IsLiveSomewhere v
 live_at_value b Suspended h = h
-live_at_value b (Live c held) h = tt
+live_at_value b (Live x) h = tt
 live_at_value b (Waiting c) h = h
 
 place_of_value : (b : BlockNo) (v : Val) (o : ℕ) → IsLiveAt b v → (place_in (activity_of v o)).block ≡ b
 place_of_value b Suspended o h = absurd h
-place_of_value b (Live c held) o h = h
+place_of_value b (Live x) o h = h
 place_of_value b (Waiting c) o h = absurd h
 
 armed_flag : (b : Bool) (at cycle : ℕ) → is_armed (alarm_of b at cycle) ≡ b
 armed_flag true at cycle = refl
 armed_flag false at cycle = refl
 
-live_part : (x : PartValue) (b : BlockNo) (held : List ResNo) → val_of x ≡ Live b held → x ≡ OfTask (Live b held)
-live_part (OfTask v) b held e = ap OfTask e
-live_part (OfEvent f) b held e = absurd (cc)
-live_part (OfAlarm f) b held e = absurd (cc)
+live_part : (x : PartValue) (l : LiveVal) → val_of x ≡ Live l → x ≡ OfTask (Live l)
+live_part (OfTask v) l e = ap OfTask e
+live_part (OfEvent f) l e = absurd (cc)
+live_part (OfAlarm f) l e = absurd (cc)
 
 module _ (app : App) (p : Point) where
   task_part : (t : TaskNo) (x : PartValue) → IsPart app p (component.Task t) x → OfTask (val_of x) ≡ x
@@ -90,9 +82,9 @@ module _ (app : App) (p : Point) where
   val_part t (OfEvent f) h = absurd h
   val_part t (OfAlarm f) h = absurd h
 
-  activity_right : (t : ℕ) (v : Val) (o : ℕ) → IsVal app t v → ((b : BlockNo) (held : List ResNo) → v ≡ Live b held → IsOffsetAt (the_block app b.0).kind o) → IsActivityOf app t (activity_of v o)
+  activity_right : (t : ℕ) (v : Val) (o : ℕ) → IsVal app t v → ((x : LiveVal) → v ≡ Live x → IsOffsetAt (the_block app x.block.0).kind o) → IsActivityOf app t (activity_of v o)
   activity_right t Suspended o h offset = tt
-  activity_right t (Live b held) o h offset = record { own = h.0; offset = offset b held refl; stack = h.1 }
+  activity_right t (Live x) o h offset = record { own = h.0; offset = offset x refl; stack = h.1 }
   activity_right t (Waiting b) o h offset = h
 
   alarm_right : (a : ℕ) (b : Bool) (at cycle : ℕ) → IsArmed app a at cycle → IsAlarmState app a (alarm_of b at cycle)
@@ -130,7 +122,7 @@ module _ (app : App) (p : Point) where
     module _ (allowed : AreAllowed app p value) (chosen : IsFree app p value free) where
       task_right : (t : ℕ) → t < length app.tasks → IsTaskState app t (task_chosen app p value free t)
       task_right t lt = record {
-        activity = activity_right t (val_of (value t)) (free.offset t) (val_right value allowed t lt).0 (λ b held e. chosen.offsets t b held lt (live_part (value t) b held e));
+        activity = activity_right t (val_of (value t)) (free.offset t) (val_right value allowed t lt).0 (λ x e. chosen.offsets t x lt (live_part (value t) x e));
         events = number_within (event_chosen app p value free t) 64 (the_task app t).own.0 (λ k e. (and_parts (has_bit (the_task app t).own.0 k) (flag_of (value (component_number app (component.Event (task_no t) (event_no k))))) e).0);
       }
 
@@ -158,10 +150,14 @@ module _ (app : App) (p : Point) where
           ∙ ap value same
 
 module _ (app : App) (value : ℕ → PartValue) (free : Free) where
-  here_in : (b : BlockNo) (over : Option TaskNo) (known : free.source.0 < source_count app) → source_state (state_of app (point.Routine b over) value free) free.source.0 ≡ source.In (place_at b free.routine_offset)
+  -- the source's routine, at this block
+  abbrev inside : BlockNo → Source
+  inside b = source.In (record { at = place_at b free.routine_offset })
+
+  here_in : (b : BlockNo) (over : Option TaskNo) (known : free.source.0 < source_count app) → source_state (state_of app (point.Routine b over) value free) free.source.0 ≡ inside b
   here_in b over known =
       source_is app (point.Routine b over) value free free.source.0 known
-      ∙ ap (λ (t : Bool). if t then source.In (place_at b free.routine_offset) else source.Out) (eq-eqb free.source.0 free.source.0 refl)
+      ∙ ap (λ (t : Bool). if t then inside b else source.Out) (eq-eqb free.source.0 free.source.0 refl)
 
   interrupted : (b : BlockNo) (over under : Option TaskNo) → IfSome under (λ t. t.0 < length app.tasks) → ((t : ℕ) → t < length app.tasks → FitsPoint app (point.Routine b under) t (val_of (value t))) → IfSome under (HasProcessor app (state_of app (point.Routine b over) value free))
   interrupted b over None known fits = tt
@@ -177,7 +173,7 @@ module _ (app : App) (value : ℕ → PartValue) (free : Free) where
   processor_right (point.Routine b over) stands fits = record {
     known = stands.known;
     runs = subst (IsRunningAt app free.source.0) (sym (here_in b over stands.known)) (record { own = stands.own; offset = stands.offset });
-    others = λ l other. source_out app (point.Routine b over) value free l (ap (λ (t : Bool). if t then source.In (place_at b free.routine_offset) else source.Out) (ne_eqb l free.source.0 other));
+    others = λ l other. source_out app (point.Routine b over) value free l (ap (λ (t : Bool). if t then inside b else source.Out) (ne_eqb l free.source.0 other));
     over = interrupted b over over stands.interrupted fits;
   }
 
@@ -257,9 +253,9 @@ module _ (app : App) where
       counters = λ c lt. at_most_any (length app.counters) c (the_counter app c).max lt;
       latched_len = length-replicate (source_count app) false;
       stands = stands_first p value h;
-      offsets = λ t b held lt e.
-          (let x : IsPart app p (component.Task (task_no t)) (OfTask (Live b held)) = subst (IsPart app p (component.Task (task_no t))) e (allowed_task app p value allowed t lt) in
-          offset_0 app (the_block app b.0).kind (own_block app t b.0 lt x.0.0).operands);
+      offsets = λ t l lt e.
+          (let x : IsPart app p (component.Task (task_no t)) (OfTask (Live l)) = subst (IsPart app p (component.Task (task_no t))) e (allowed_task app p value allowed t lt) in
+          offset_0 app (the_block app l.block.0).kind (own_block app t l.block.0 lt x.0.0).operands);
       alarms = λ a lt. record { at_most = omega arith; round = refl };
     },
   )

@@ -1,28 +1,15 @@
 -- Containment, the meet of two tables, and the least table.
-use Rattle.std.proofs.Common.{◌≡◌, ◌↔◌, ℕ, Bool, true, false, ◌&&◌, refl, IsTrue}
+use Rattle.std.proofs.Common.{◌≡◌, ◌↔◌, Bool, true, false, refl, IsTrue}
+use Rattle.std.proofs.lemmas.Bool.{and_from, and_parts}
 use mathlib.Core.Path.{fun_ext}
 use Rattle.osek_standard.specs.declared.app.App.{App}
 use Rattle.osek_standard.specs.declared.state.State.{State}
 use Rattle.osek_standard.specs.Kernel.{start, step}
-use Rattle.osek_standard.specs.declared.point.Point.{Point}
-use Rattle.abstract_state.specs.declared.value.PartValue.{PartValue}
 use Rattle.osek_standard.specs.Points.{point_of}
 use Rattle.abstract_state.specs.Components.{abstract_of}
 use Rattle.abstract_state.specs.Tables.{Sets, In, Inductive, IsContained, Least, meet, full}
 use Rattle.osek_standard.specs.Well.{Well}
 use Rattle.osek_standard.proofs.StepKeeps.{start_is_well, step_keeps}
-
-both : (a b : Bool) → IsTrue a → IsTrue b → IsTrue (a && b)
-both true b x y = y
-both false b x y = absurd (cc)
-
-first_of_both : (a b : Bool) → IsTrue (a && b) → IsTrue a
-first_of_both true b x = refl
-first_of_both false b x = x
-
-second_of_both : (a b : Bool) → IsTrue (a && b) → IsTrue b
-second_of_both true b x = x
-second_of_both false b x = absurd (cc)
 
 same_truth : (a b : Bool) → (IsTrue a → IsTrue b) → (IsTrue b → IsTrue a) → a ≡ b
 same_truth true true f g = refl
@@ -36,9 +23,6 @@ contained_itself a = record { entry = λ p h. h; has = λ p c v h. h }
 pub contained_onward : (a b c : Sets) → IsContained a b → IsContained b c → IsContained a c
 contained_onward a b c x y = record { entry = λ p h. y.entry p (x.entry p h); has = λ p k v h. y.has p k v (x.has p k v h) }
 
-sets_by : (Point → Bool) → (Point → ℕ → PartValue → Bool) → Sets
-sets_by entry has = record { entry = entry; has = has }
-
 pub contained_equal : (a b : Sets) → IsContained a b → IsContained b a → a ≡ b
 contained_equal a b x y =
     let entries : a.entry ≡ b.entry = fun_ext (λ p. same_truth (a.entry p) (b.entry p) (x.entry p) (y.entry p)) in
@@ -46,15 +30,15 @@ contained_equal a b x y =
     λ i. record { entry = entries i; has = values i }
 
 pub meet_left : (a b : Sets) → IsContained (meet a b) a
-meet_left a b = record { entry = λ p h. first_of_both (a.entry p) (b.entry p) h; has = λ p c v h. first_of_both (a.has p c v) (b.has p c v) h }
+meet_left a b = record { entry = λ p h. (and_parts (a.entry p) (b.entry p) h).0; has = λ p c v h. (and_parts (a.has p c v) (b.has p c v) h).0 }
 
 pub meet_right : (a b : Sets) → IsContained (meet a b) b
-meet_right a b = record { entry = λ p h. second_of_both (a.entry p) (b.entry p) h; has = λ p c v h. second_of_both (a.has p c v) (b.has p c v) h }
+meet_right a b = record { entry = λ p h. (and_parts (a.entry p) (b.entry p) h).1; has = λ p c v h. (and_parts (a.has p c v) (b.has p c v) h).1 }
 
 pub meet_greatest : (a b c : Sets) → IsContained c a → IsContained c b → IsContained c (meet a b)
 meet_greatest a b c x y = record {
-  entry = λ p h. both (a.entry p) (b.entry p) (x.entry p h) (y.entry p h);
-  has = λ p k v h. both (a.has p k v) (b.has p k v) (x.has p k v h) (y.has p k v h);
+  entry = λ p h. and_from (a.entry p) (b.entry p) (x.entry p h) (y.entry p h);
+  has = λ p k v h. and_from (a.has p k v) (b.has p k v) (x.has p k v h) (y.has p k v h);
 }
 
 module _ (app : App) where
@@ -64,8 +48,8 @@ module _ (app : App) where
   pub in_meet : (a b : Sets) (s : State) → In app a s → In app b s → In app (meet a b) s
   in_meet a b s x y = record {
     well = x.well;
-    entry = both (a.entry (point_of s)) (b.entry (point_of s)) x.entry y.entry;
-    within = λ c lt. both (a.has (point_of s) c (abstract_of app s c)) (b.has (point_of s) c (abstract_of app s c)) (x.within c lt) (y.within c lt);
+    entry = and_from (a.entry (point_of s)) (b.entry (point_of s)) x.entry y.entry;
+    within = λ c lt. and_from (a.has (point_of s) c (abstract_of app s c)) (b.has (point_of s) c (abstract_of app s c)) (x.within c lt) (y.within c lt);
   }
 
   pub meet_states : (a b : Sets) (s : State) → In app (meet a b) s ↔ (In app a s × In app b s)

@@ -4,31 +4,26 @@ use Rattle.std.specs.List.{range_with_len}
 use Rattle.std.proofs.lemmas.List.{length-append, length-map}
 use Rattle.std.proofs.lemmas.List.FromFn.{length-map-range_with_len}
 use Rattle.osek_values.specs.Numbers.{block_no}
-use Rattle.osek_values.specs.declared.numbers.BlockNo.{BlockNo}
-use Rattle.osek_values.specs.declared.numbers.ResNo.{ResNo}
+use Rattle.osek_values.specs.declared.numbers.{BlockNo.{BlockNo}, ResNo.{ResNo}}
 use Rattle.osek_standard.specs.declared.app.App.{App}
 use Rattle.osek_standard.specs.declared.point.Point.{Point}
 use Rattle.osek_standard.specs.Counts.{stacks}
 use Rattle.osek_standard.specs.Validity.{IsAmong}
-use Rattle.osek_standard.proofs.Members.{Among}
-use Rattle.abstract_state.specs.declared.value.Val.{Val}
-use Rattle.abstract_state.specs.declared.value.Val.TheVariants.{Suspended, Live, Waiting}
-use Rattle.abstract_state.specs.declared.value.Component.{Component}
+use Rattle.osek_standard.proofs.Members.{Among, among_left, among_right, among_cases, among_map, map_among, among_flat_map, flat_map_among, length_flat_map, among_range, range_among, contained_among, among_contained}
+use Rattle.abstract_state.specs.declared.value.{Val.{Val}, Val.TheVariants.{Suspended, Live, Waiting}, Component.{Component}, Domain.{Domain}, PartValue.{PartValue}, PartValue.TheVariants.{OfTask, OfEvent, OfAlarm}}
 use Rattle.abstract_state.specs.declared.value.Component.TheVariants as component
-use Rattle.abstract_state.specs.declared.value.Domain.{Domain}
 use Rattle.abstract_state.specs.declared.value.Domain.TheVariants as domain
-use Rattle.abstract_state.specs.declared.value.PartValue.{PartValue}
-use Rattle.abstract_state.specs.declared.value.PartValue.TheVariants.{OfTask, OfEvent, OfAlarm}
-use Rattle.abstract_state.specs.Components.{component_at, component_count, IsVal, IsPart, IsAllowed}
+use Rattle.abstract_state.specs.Components.{live_val, component_at, component_count, IsVal, IsPart, IsAllowed}
 use Rattle.abstract_state.specs.Tables.{same_part}
 use Rattle.abstract_state.specs.Domains.{IsValWithin, IsWithin, IsCounted, domain_of, domain_size}
 use Rattle.abstract_state.proofs.EqualityLaws.{part_right}
-use Rattle.abstract_state.proofs.Stacks.{Apart, among_left, among_right, among_cases, among_map, map_among, among_flat_map, flat_map_among, apart_append, apart_map, apart_flat_map, length_flat_map, among_range, range_among, apart_range, contained_among, among_contained, distinct_apart, stacks_out_of, apart_stacks_out_of, length_stacks_out_of, stack_out_of, out_of_stack}
+use Rattle.abstract_state.proofs.AlikeLaws.{block_in}
+use Rattle.abstract_state.proofs.Stacks.{Apart, apart_append, apart_map, apart_flat_map, apart_range, distinct_apart, stacks_out_of, apart_stacks_out_of, length_stacks_out_of, stack_out_of, out_of_stack}
 
 module _ (app : App) (p : Point) where
   val_within : (t : ℕ) (v : Val) → IsVal app t v → IsWithin (domain_of app (component.Task (record { 0 = t }))) (OfTask v)
   val_within t Suspended h = tt
-  val_within t (Live b held) h = (h.0, record { distinct = h.1.distinct; known = h.1.known })
+  val_within t (Live x) h = (h.0, record { distinct = h.1.distinct; known = h.1.known })
   val_within t (Waiting b) h = h.own
 
   part_within : (x : Component) (v : PartValue) → IsPart app p x v → IsWithin (domain_of app x) v
@@ -70,8 +65,13 @@ module _ (first count : ℕ) where
       let same : b.0 ≡ back.0 = ap (λ (c : BlockNo). c.0) back.2 in
       (omega (arith, low.0, same), omega (arith, low.1, same))
 
-one_live : (b : BlockNo) (held kept : List ResNo) → Live b held ≡ Live b kept → held ≡ kept
-one_live b held kept e = cc
+abbrev held_in : Val → List ResNo
+held_in Suspended = []
+held_in (Live x) = x.held
+held_in (Waiting b) = []
+
+one_live : (b : BlockNo) (held kept : List ResNo) → Live (live_val b held) ≡ Live (live_val b kept) → held ≡ kept
+one_live b held kept e = ap held_in e
 
 one_waiting : (b c : BlockNo) → Waiting b ≡ Waiting c → b ≡ c
 one_waiting b c e = cc
@@ -82,20 +82,20 @@ one_value v w e = cc
 module _ (resources : ℕ) where
   -- Live at a block, with each stack
   abbrev live_at : BlockNo → List Val
-  live_at b = map (λ held. Live b held) (stacks_out_of resources)
+  live_at b = map (λ held. Live (live_val b held)) (stacks_out_of resources)
 
   one_block : (b c : BlockNo) (v : Val) → Among v (live_at b) → Among v (live_at c) → b ≡ c
   one_block b c v m k =
-      let at_b = map_among (λ (held : List ResNo). Live b held) v (stacks_out_of resources) m in
-      let at_c = map_among (λ (held : List ResNo). Live c held) v (stacks_out_of resources) k in
-      let same : Live b at_b.0 ≡ Live c at_c.0 = sym at_b.2 ∙ at_c.2 in
-      cc
+      let at_b = map_among (λ (held : List ResNo). Live (live_val b held)) v (stacks_out_of resources) m in
+      let at_c = map_among (λ (held : List ResNo). Live (live_val c held)) v (stacks_out_of resources) k in
+      let same : Live (live_val b at_b.0) ≡ Live (live_val c at_c.0) = sym at_b.2 ∙ at_c.2 in
+      ap block_in same
 
   apart_live_at : (b : BlockNo) → Apart (live_at b)
-  apart_live_at b = apart_map (λ (held : List ResNo). Live b held) (one_live b) (stacks_out_of resources) (apart_stacks_out_of resources)
+  apart_live_at b = apart_map (λ (held : List ResNo). Live (live_val b held)) (one_live b) (stacks_out_of resources) (apart_stacks_out_of resources)
 
   length_live_at : (b : BlockNo) → length (live_at b) ≡ stacks resources
-  length_live_at b = length-map (stacks_out_of resources) (λ (held : List ResNo). Live b held) ∙ length_stacks_out_of resources
+  length_live_at b = length-map (stacks_out_of resources) (λ (held : List ResNo). Live (live_val b held)) ∙ length_stacks_out_of resources
 
   module _ (blocks : List BlockNo) where
     abbrev waiting_vals : List Val
@@ -115,8 +115,8 @@ module _ (resources : ℕ) where
     waiting_or_live v m k =
         let waits = map_among Waiting v blocks m in
         let at = flat_map_among live_at v blocks k in
-        let lives = map_among (λ (held : List ResNo). Live at.0 held) v (stacks_out_of resources) at.2 in
-        let same : Waiting waits.0 ≡ Live at.0 lives.0 = sym waits.2 ∙ lives.2 in
+        let lives = map_among (λ (held : List ResNo). Live (live_val at.0 held)) v (stacks_out_of resources) at.2 in
+        let same : Waiting waits.0 ≡ Live (live_val at.0 lives.0) = sym waits.2 ∙ lives.2 in
         absurd (cc)
 
     never_suspended : Among Suspended (waiting_vals ++ live_vals) → ⊥
@@ -124,7 +124,7 @@ module _ (resources : ℕ) where
       | inl h ↦ (let waits = map_among Waiting Suspended blocks h in let e = waits.2 in absurd (cc))
       | inr h ↦
           (let at = flat_map_among live_at Suspended blocks h in
-          let lives = map_among (λ (held : List ResNo). Live at.0 held) Suspended (stacks_out_of resources) at.2 in
+          let lives = map_among (λ (held : List ResNo). Live (live_val at.0 held)) Suspended (stacks_out_of resources) at.2 in
           let e = lives.2 in
           absurd (cc))
     ]
@@ -147,11 +147,11 @@ module _ (first count resources : ℕ) where
   within_there (Waiting b) h =
       let blocks = own_blocks first count in
       inr (among_left (Waiting b) (waiting_vals resources blocks) (live_vals resources blocks) (among_map Waiting b blocks (among_blocks first count b h)))
-  within_there (Live b held) h =
+  within_there (Live x) h =
       let blocks = own_blocks first count in
-      inr (among_right (Live b held) (waiting_vals resources blocks) (live_vals resources blocks)
-      (among_flat_map (live_at resources) b (Live b held) blocks (among_blocks first count b h.0)
-      (among_map (λ (kept : List ResNo). Live b kept) held (stacks_out_of resources) (out_of_stack resources held h.1))))
+      inr (among_right (Live x) (waiting_vals resources blocks) (live_vals resources blocks)
+      (among_flat_map (live_at resources) x.block (Live x) blocks (among_blocks first count x.block h.0)
+      (among_map (λ (kept : List ResNo). Live (live_val x.block kept)) x.held (stacks_out_of resources) (out_of_stack resources x.held h.1))))
 
   waiting_within : (v : Val) → Among v (waiting_vals resources (own_blocks first count)) → IsValWithin first count resources v
   waiting_within v m =
@@ -161,7 +161,7 @@ module _ (first count resources : ℕ) where
   live_within : (v : Val) → Among v (live_vals resources (own_blocks first count)) → IsValWithin first count resources v
   live_within v m =
       let at = flat_map_among (live_at resources) v (own_blocks first count) m in
-      let lives = map_among (λ (held : List ResNo). Live at.0 held) v (stacks_out_of resources) at.2 in
+      let lives = map_among (λ (held : List ResNo). Live (live_val at.0 held)) v (stacks_out_of resources) at.2 in
       subst (IsValWithin first count resources) (sym lives.2) (blocks_among first count at.0 at.1, stack_out_of resources lives.0 lives.1)
 
   there_within : (v : Val) → Among v vals_within → IsValWithin first count resources v

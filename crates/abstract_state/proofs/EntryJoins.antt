@@ -5,8 +5,7 @@ use Rattle.std.proofs.lemmas.Bool.{cases_eq}
 use Rattle.std.proofs.lemmas.List.{length_push}
 use Rattle.std.proofs.lemmas.List.Sums.{sum_by-set}
 use Rattle.abstract_state.specs.declared.value.PartValue.{PartValue}
-use Rattle.abstract_state.specs.declared.table.ValueSet.{ValueSet}
-use Rattle.abstract_state.specs.declared.table.Entry.{Entry}
+use Rattle.abstract_state.specs.declared.table.{ValueSet.{ValueSet}, Entry.{Entry}}
 use Rattle.abstract_state.specs.Tables.{empty_set, set_at, is_member, with_member, with_members, joined, joined_sets, joined_entry, entry_values, IsPartOfJoin, IsSubset}
 use Rattle.abstract_state.proofs.JoinLaws.{members_keep, join_between}
 

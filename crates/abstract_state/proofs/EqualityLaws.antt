@@ -5,17 +5,11 @@ use Rattle.std.specs.List.{list_any}
 use Rattle.std.specs.declared.option.Option.{Option}
 use Rattle.std.proofs.lemmas.Bool.{eqb-true, eq-eqb, and_parts, and_from, or_cases, or_left, or_right}
 use Rattle.osek_values.specs.Numbers.{task_no, block_no, res_no}
-use Rattle.osek_values.specs.declared.numbers.TaskNo.{TaskNo}
-use Rattle.osek_values.specs.declared.numbers.BlockNo.{BlockNo}
-use Rattle.osek_values.specs.declared.numbers.ResNo.{ResNo}
+use Rattle.osek_values.specs.declared.numbers.{TaskNo.{TaskNo}, BlockNo.{BlockNo}, ResNo.{ResNo}}
 use Rattle.osek_standard.specs.declared.point.Point.{Point}
 use Rattle.osek_standard.specs.declared.point.Point.TheVariants as point
-use Rattle.abstract_state.specs.declared.value.Val.{Val}
-use Rattle.abstract_state.specs.declared.value.Val.TheVariants.{Suspended, Live, Waiting}
-use Rattle.abstract_state.specs.declared.value.PartValue.{PartValue}
-use Rattle.abstract_state.specs.declared.value.PartValue.TheVariants.{OfTask, OfEvent, OfAlarm}
-use Rattle.abstract_state.specs.declared.table.TableRow.{TableRow}
-use Rattle.abstract_state.specs.declared.table.Table.{Table}
+use Rattle.abstract_state.specs.declared.value.{Val.{Val}, Val.TheVariants.{Suspended, Live, Waiting}, PartValue.{PartValue}, PartValue.TheVariants.{OfTask, OfEvent, OfAlarm}}
+use Rattle.abstract_state.specs.declared.table.{TableRow.{TableRow}, Table.{Table}}
 use Rattle.abstract_state.specs.Tables.{same_over, same_point, same_stack, same_val, same_flag, same_part, set_at, is_member, is_row_of, sets_of, HasRow, HasValue}
 
 block_by_number : (b c : BlockNo) → (b.0 == c.0) ≡ true → b ≡ c
@@ -66,15 +60,17 @@ stack_itself (q ∷ xs) = and_from (q.0 == q.0) (same_stack xs xs) (eq-eqb q.0 q
 
 val_right : (v w : Val) → same_val v w ≡ true → v ≡ w
 val_right Suspended Suspended e = refl
-val_right (Live b held) (Live c kept) e =
-    let both = and_parts (b.0 == c.0) (same_stack held kept) e in
-    ap₂ Live (block_by_number b c both.0) (stack_right held kept both.1)
+val_right (Live x) (Live y) e =
+    let both = and_parts (x.block.0 == y.block.0) (same_stack x.held y.held) e in
+    let block = block_by_number x.block y.block both.0 in
+    let held = stack_right x.held y.held both.1 in
+    λ i. Live (record { block = block i; held = held i })
 val_right (Waiting b) (Waiting c) e = ap Waiting (block_by_number b c e)
 val_right _ _ e = absurd (cc)
 
 val_itself : (v : Val) → same_val v v ≡ true
 val_itself Suspended = refl
-val_itself (Live b held) = and_from (b.0 == b.0) (same_stack held held) (eq-eqb b.0 b.0 refl) (stack_itself held)
+val_itself (Live x) = and_from (x.block.0 == x.block.0) (same_stack x.held x.held) (eq-eqb x.block.0 x.block.0 refl) (stack_itself x.held)
 val_itself (Waiting b) = eq-eqb b.0 b.0 refl
 
 flag_right : (a b : Bool) → same_flag a b ≡ true → a ≡ b

@@ -7,8 +7,8 @@ use Rattle.osek_values.specs.declared.status.Status.{Status}
 use Rattle.osek_values.specs.declared.status.Status.TheVariants as status
 use Rattle.osek_standard.specs.declared.app.App.{App}
 use Rattle.osek_standard.specs.Dispatch.{Outcome, Keep, To}
-use Rattle.image_codec.specs.declared.site.Form.{Form}
-use Rattle.image_codec.specs.declared.site.Form.TheVariants as form
+use Rattle.image_model.specs.declared.site.Form.{Form}
+use Rattle.image_model.specs.declared.site.Form.TheVariants as form
 use Rattle.osek_standard.specs.declared.point.Point.{Point}
 use Rattle.abstract_state.specs.Tables.{Sets, Inductive}
 use Rattle.abstract_state.specs.Forms.{Occurs, OccursAlone, OccurTwo, FormOf, Edge, Noted, NotedAlone, NotedTwo, Known, Unknown, Always, KnownOf}

@@ -17,8 +17,7 @@ use Rattle.osek_standard.specs.Kernel.{has_bit}
 use Rattle.osek_standard.proofs.CountLaws.{few_stacks}
 use Rattle.abstract_state.specs.declared.value.Component.{Component}
 use Rattle.abstract_state.specs.declared.value.Component.TheVariants as component
-use Rattle.abstract_state.specs.declared.table.ValueSet.{ValueSet}
-use Rattle.abstract_state.specs.declared.table.Entry.{Entry}
+use Rattle.abstract_state.specs.declared.table.{ValueSet.{ValueSet}, Entry.{Entry}}
 use Rattle.abstract_state.specs.Components.{own_bits, events_of, components}
 use Rattle.abstract_state.specs.Domains.{domain_size, domain_of, domains_of, domains, entry_height, HasMasks}
 

@@ -1,36 +1,26 @@
 -- An image whose sites have the forms that a table dictates runs as the kernel.
-use Rattle.std.proofs.Common.{◌≡◌, ◌<◌, Bool, true, false, List, [], ◌∷◌, ◌++◌, length, Option, Some, None, refl, sym, ap, ◌∙◌}
+use Rattle.std.proofs.Common.{◌≡◌, ◌<◌, Bool, true, false, List, length, Option, Some, None, refl, sym, ap, ◌∙◌}
 use Rattle.std.specs.Prelude.{option_map, if◌then◌else◌, nat_lt}
-use Rattle.std.proofs.lemmas.List.{append-nil}
 use Rattle.osek_values.specs.declared.status.Ask.{Ask}
 use Rattle.osek_values.specs.declared.status.Ask.TheVariants as ask
 use Rattle.osek_values.specs.declared.event.Event.{Event}
-use Rattle.osek_values.specs.declared.event.Event.TheVariants.{Run as RunEvent, Irq, Tick}
-use Rattle.osek_values.specs.declared.numbers.ModeNo.{ModeNo}
-use Rattle.osek_values.specs.declared.numbers.SourceNo.{SourceNo}
-use Rattle.osek_values.specs.declared.numbers.TaskNo.{TaskNo}
+use Rattle.osek_values.specs.declared.numbers.{ModeNo.{ModeNo}, TaskNo.{TaskNo}}
 use Rattle.osek_standard.specs.declared.app.App.{App}
-use Rattle.osek_standard.specs.declared.state.State.{State}
-use Rattle.osek_standard.specs.declared.state.Processor.{Processor}
-use Rattle.osek_standard.specs.declared.state.Processor.TheVariants as processor
-use Rattle.osek_standard.specs.declared.state.Caller.{Caller}
-use Rattle.osek_standard.specs.declared.state.Caller.TheVariants.{Nobody, Task, Routine}
+use Rattle.osek_standard.specs.declared.state.{State.{State}, Caller.{Caller}, Caller.TheVariants.{Nobody, Task, Routine}}
 use Rattle.osek_standard.specs.TaskStates.{is_live}
 use Rattle.osek_standard.specs.States.{here, task_state, caller}
 use Rattle.osek_standard.specs.Priority.{best, current_priority}
 use Rattle.osek_standard.specs.Effects.{effect}
-use Rattle.osek_standard.specs.Dispatch.{Outcome, Keep, To, outcome, outcome_by, if_any, if_above, preempted_by, Stepped, silent, concluded, instruction}
-use Rattle.osek_standard.specs.Arrivals.{arrival}
-use Rattle.osek_standard.specs.Kernel.{entered_or, run_by, step, steps, start, run}
-use Rattle.osek_standard.specs.TraceText.{lines_from, kernel_trace}
+use Rattle.osek_standard.specs.Dispatch.{Outcome, Keep, To, outcome, outcome_by, if_any, if_above, preempted_by, concluded, instruction}
+use Rattle.osek_standard.specs.Kernel.{step}
 use Rattle.osek_standard.specs.Well.{IsActive}
 use Rattle.osek_standard.proofs.PriorityLaws.{best_is_live}
-use Rattle.image_codec.specs.declared.site.Form.{Form}
-use Rattle.image_codec.specs.declared.site.Form.TheVariants as form
-use Rattle.image_codec.specs.declared.image.Image.{Image}
-use Rattle.image_codec.specs.ImageStep.{stays, kept_by, formed, formed_at, form_at, instructed, image_step}
-use Rattle.image_codec.specs.ImageTrace.{Run, run_of, and_then, after, image_steps, image_run, trap_text, image_trace}
-use Rattle.image_codec.specs.Laws.{IsKernelsRun}
+use Rattle.image_model.specs.declared.site.{Form.{Form}, Site.{Site}}
+use Rattle.image_model.specs.declared.site.Form.TheVariants as form
+use Rattle.image_model.specs.declared.image.Image.{Image}
+use Rattle.image_model.specs.ImageStep.{stays, kept_by, formed_at, formed_by, site_at, instructed, image_step}
+use Rattle.image_model.specs.Laws.{IsKernelsRun}
+use Rattle.image_model.proofs.KernelRuns.{runs_as_kernel as runs_inside, same_step as step_inside}
 use Rattle.abstract_state.specs.Tables.{Sets, In, Inductive}
 use Rattle.abstract_state.specs.Forms.{Occurs, FormOf, HasDictatedForms}
 
@@ -92,7 +82,7 @@ module _ (i : Image) (table : Sets) (s : State) (choice : Bool) (inside : In i.a
   occurs_here : Occurs i.app table (here s).block.0 (outcome i.app s choice)
   occurs_here = record { from = s; choice = choice; inside = inside; active = active; stands = refl; is = refl }
 
-  formed_right : (f : Form) → FormOf i.app table (here s).block.0 f → formed i.app (effect i.app s choice) f ≡ Some (outcome i.app s choice)
+  formed_right : (f : Form) → FormOf i.app table (here s).block.0 f → formed_by i.app (effect i.app s choice) f ≡ Some (outcome i.app s choice)
   formed_right form.Never h = absurd (h (outcome i.app s choice) occurs_here)
   formed_right form.Stay h =
       let is : outcome i.app s choice ≡ Keep = h.alone (outcome i.app s choice) occurs_here in
@@ -107,56 +97,20 @@ module _ (i : Image) (table : Sets) (s : State) (choice : Bool) (inside : In i.a
       live_right i.app s (is_live (task_state x.state t.0)) t live ∙ ap (λ (o : Outcome). Some o) (sym is)
   formed_right form.General h = refl
 
-  formed_at_right : HasDictatedForms table i → (f : Option Form) → form_at i (here s).block.0 ≡ f → formed_at i.app (effect i.app s choice) f ≡ Some (outcome i.app s choice)
+  formed_at_right : HasDictatedForms table i → (x : Option Site) → site_at i (here s).block.0 ≡ x → formed_at i.app (effect i.app s choice) x ≡ Some (outcome i.app s choice)
   formed_at_right forms None is = refl
-  formed_at_right forms (Some f) is = formed_right f (forms (here s).block.0 f is)
+  formed_at_right forms (Some x) is = formed_right x.form (forms (here s).block.0 x.form (ap (option_map (λ (y : Site). y.form)) is))
 
   same_instruction : HasDictatedForms table i → instructed i s choice ≡ Some (instruction i.app s choice)
   unfolding instructed instruction
-  same_instruction forms = ap (option_map (concluded i.app (effect i.app s choice))) (formed_at_right forms (form_at i (here s).block.0) refl)
-
-abbrev put_in : Stepped → Option Stepped
-put_in n = Some n
-
-abbrev itself : Stepped → Stepped
-itself n = n
-
-same_idle : (app : App) (s : State) (o : Option SourceNo) → entered_or put_in app s (Some (silent s)) o ≡ Some (entered_or itself app s (silent s) o)
-same_idle app s None = refl
-same_idle app s (Some k) = refl
-
-module _ (app : App) (s : State) (r : Option Stepped) (n : Stepped) where
-  same_entry : (o : Option SourceNo) → r ≡ Some n → entered_or put_in app s r o ≡ Some (entered_or itself app s n o)
-  same_entry None same = same
-  same_entry (Some k) same = refl
-
-  same_turn : (p : Processor) → (IsActive p → r ≡ Some n) → run_by put_in app s r p ≡ Some (run_by itself app s n p)
-  same_turn processor.Halted same = refl
-  same_turn processor.Idle same = same_idle app s (arrival app s)
-  same_turn (processor.Running t) same = same_entry (arrival app s) (same tt)
-  same_turn (processor.Interrupted k over) same = same_entry (arrival app s) (same tt)
+  same_instruction forms = ap (option_map (concluded i.app (effect i.app s choice))) (formed_at_right forms (site_at i (here s).block.0) refl)
 
 module _ (i : Image) (table : Sets) where
   -- from a state in the table, a step of the image is the kernel's
   pub same_step : (s : State) (e : Event) → HasDictatedForms table i → In i.app table s → image_step i s e ≡ Some (step i.app s e)
-  same_step s (RunEvent choice) forms h = same_turn i.app s (instructed i s choice) (instruction i.app s choice) s.processor (λ active. same_instruction i table s choice h active forms)
-  same_step s (Irq k) forms h = refl
-  same_step s (Tick k) forms h = refl
-
-  same_steps : Inductive i.app table → HasDictatedForms table i → (s : State) (es : List Event) → In i.app table s → image_steps i s es ≡ run_of (steps i.app s es) false
-  same_steps ind forms s [] h = refl
-  same_steps ind forms s (e ∷ es) h =
-      ap (λ (o : Option Stepped). after o (λ t. image_steps i t es)) (same_step s e forms h)
-      ∙ ap (and_then (step i.app s e)) (same_steps ind forms (step i.app s e).state es (ind.step s e h))
-
-  same_run : (mode : ModeNo) (es : List Event) → Inductive i.app table → HasDictatedForms table i → mode.0 < length i.app.modes → image_run i mode es ≡ run_of (run i.app mode es) false
-  unfolding image_run run
-  same_run mode es ind forms known = ap (and_then (start i.app mode)) (same_steps ind forms (start i.app mode).state es (ind.start mode known))
+  same_step s e forms h = step_inside i (In i.app table) (λ s choice h active. same_instruction i table s choice h active forms) s e h
 
   -- in each mode over each list of events, the image's trace is the kernel's
   pub runs_as_kernel : (mode : ModeNo) (es : List Event) → Inductive i.app table → HasDictatedForms table i → mode.0 < length i.app.modes → IsKernelsRun i mode es
-  unfolding image_trace kernel_trace
-  runs_as_kernel mode es ind forms known = record {
-    trace = ap (λ (r : Run). lines_from i.app 0 r.steps ++ trap_text r.trapped (length r.steps)) (same_run mode es ind forms known) ∙ append-nil (lines_from i.app 0 (run i.app mode es));
-    no_trap = ap (λ (r : Run). r.trapped) (same_run mode es ind forms known);
-  }
+  runs_as_kernel mode es ind forms known =
+      runs_inside i (In i.app table) (λ s choice h active. same_instruction i table s choice h active forms) ind.step mode es (ind.start mode known)

@@ -7,8 +7,7 @@ use Rattle.std.proofs.lemmas.List.Elements.{All-nil, All-cons, All-head, All-tai
 use Rattle.std.proofs.lemmas.List.Sums.{sum_by-cons}
 use Rattle.osek_values.specs.declared.memory.Memory.{Memory}
 use Rattle.abstract_state.specs.declared.value.Domain.{Domain}
-use Rattle.abstract_state.specs.declared.table.ValueSet.{ValueSet}
-use Rattle.abstract_state.specs.declared.table.Entry.{Entry}
+use Rattle.abstract_state.specs.declared.table.{ValueSet.{ValueSet}, Entry.{Entry}}
 use Rattle.abstract_state.specs.Domains.{domain_size, IsCounted, IsSound, IsSoundEntry, IsBelow, domains, entry_height}
 use Rattle.abstract_state.specs.Tables.{empty_set, set_at, with_members, joined, joined_sets, joined_entry, entry_values, IsPartOfJoin, IsSubset}
 use Rattle.abstract_state.proofs.JoinLaws.{members_keep, members_take, join_least, with_members_grow, none_new}

@@ -1,13 +1,11 @@
 -- A step does what it shows.
 use Rattle.std.proofs.Common.{◌≡◌, Bool, refl, Some, None}
 use Rattle.std.specs.declared.option.Option.{Option}
-use Rattle.osek_values.specs.declared.event.Event.{Event}
-use Rattle.osek_values.specs.declared.event.Event.TheVariants.{Run, Irq, Tick}
+use Rattle.osek_values.specs.declared.event.{Event.{Event}, Event.TheVariants.{Run, Irq, Tick}}
 use Rattle.osek_values.specs.declared.numbers.SourceNo.{SourceNo}
 use Rattle.osek_values.specs.declared.status.Status.{Status}
 use Rattle.osek_standard.specs.declared.app.App.{App}
-use Rattle.osek_standard.specs.declared.state.State.{State}
-use Rattle.osek_standard.specs.declared.state.Processor.{Processor}
+use Rattle.osek_standard.specs.declared.state.{State.{State}, Processor.{Processor}}
 use Rattle.osek_standard.specs.declared.state.Processor.TheVariants as processor
 use Rattle.osek_standard.specs.Effects.{effect}
 use Rattle.osek_standard.specs.Dispatch.{Outcome, outcome, instruction, silent, Stepped}

@@ -1,18 +1,16 @@
 -- Lists without repeats, and all stacks of distinct resources.
-use Rattle.std.proofs.Common.{◌≡◌, ◌⊎◌, ℕ, zero, suc, ◌+◌, ◌*◌, ◌<◌, ◌≤◌, Bool, true, false, List, [], ◌∷◌, ◌++◌, length, map, flat_map, get_or, refl, sym, ap, subst, ◌∙◌, inl, inr, arith, Contains}
-use Rattle.std.proofs.Math.Nat.{add-mul}
-use Rattle.std.specs.Prelude.{if◌then◌else◌, nat_eq}
-use Rattle.std.specs.List.{range_with_len, IsDistinct, AllByRecursion}
+use Rattle.std.proofs.Common.{◌≡◌, ℕ, zero, suc, ◌+◌, ◌*◌, ◌<◌, Bool, true, false, List, [], ◌∷◌, ◌++◌, length, map, flat_map, refl, sym, ap, subst, ◌∙◌, inl, inr, arith}
+use Rattle.std.specs.Prelude.{if◌then◌else◌}
+use Rattle.std.specs.List.{range_with_len, IsDistinct}
 use Rattle.std.proofs.lemmas.Bool.{cases_Bool, eqb-true, eq-eqb}
-use Rattle.std.proofs.lemmas.Bool.Decides.{nat_tests}
-use Rattle.std.proofs.lemmas.List.{length-append, length-map}
+use Rattle.std.proofs.lemmas.List.{length-map}
 use Rattle.std.proofs.lemmas.List.Elements.{recursion_from_All, All-from_recursion}
 use Rattle.std.proofs.lemmas.List.FromFn.{length-map-range_with_len}
 use Rattle.osek_values.specs.Numbers.{res_no}
 use Rattle.osek_values.specs.declared.numbers.ResNo.{ResNo}
 use Rattle.osek_standard.specs.Counts.{stacks}
 use Rattle.osek_standard.specs.Well.{same_resource, IsStackOutOf}
-use Rattle.osek_standard.proofs.Members.{Among}
+use Rattle.osek_standard.proofs.Members.{Among, among_cases, among_each, among_flat_map, among_map, among_range, each_among, flat_map_among, length_flat_map, map_among, range_among}
 
 -- no element stands twice
 abbrev pub Apart : {X : Type 0} → List X → Type 0
@@ -24,48 +22,11 @@ false_by true h = absurd (h refl)
 false_by false h = refl
 
 module _ {X : Type 0} where
-  pub among_left : (x : X) (xs ys : List X) → Among x xs → Among x (xs ++ ys)
-  among_left x [] ys m = absurd m
-  among_left x (y ∷ xs) ys (inl e) = inl e
-  among_left x (y ∷ xs) ys (inr m) = inr (among_left x xs ys m)
-
-  pub among_right : (x : X) (xs ys : List X) → Among x ys → Among x (xs ++ ys)
-  among_right x [] ys m = m
-  among_right x (y ∷ xs) ys m = inr (among_right x xs ys m)
-
-  pub among_cases : (x : X) (xs ys : List X) → Among x (xs ++ ys) → Among x xs ⊎ Among x ys
-  among_cases x [] ys m = inr m
-  among_cases x (y ∷ xs) ys (inl e) = inl (inl e)
-  among_cases x (y ∷ xs) ys (inr m) = elim (among_cases x xs ys m) [ inl h ↦ inl (inr h) | inr h ↦ inr h ]
-
   -- lists without repeats and without a common element, joined
   pub apart_append : (xs ys : List X) → Apart xs → Apart ys → ((x : X) → Among x xs → Among x ys → ⊥) → Apart (xs ++ ys)
   apart_append [] ys h k none = k
   apart_append (x ∷ xs) ys h k none =
       (λ m. elim (among_cases x xs ys m) [ inl a ↦ h.0 a | inr b ↦ none x (inl refl) b ], apart_append xs ys h.1 k (λ y m. none y (inr m)))
-
-  -- `Contains`, by the list
-  at_place : (xs : List X) (k : ℕ) (d x : X) → k < length xs → get_or xs k d ≡ x → Among x xs
-  at_place [] k d x lt e = absurd (omega (arith, lt))
-  at_place (y ∷ xs) zero d x lt e = inl (sym e)
-  at_place (y ∷ xs) (suc k) d x lt e = inr (at_place xs k d x (omega (arith, lt)) e)
-
-  pub contained_among : (xs : List X) (x : X) → Contains xs x → Among x xs
-  contained_among xs x h = at_place xs h.0 x x h.1 h.2
-
-  pub among_contained : (xs : List X) (x : X) → Among x xs → Contains xs x
-  among_contained [] x m = absurd m
-  among_contained (y ∷ xs) x (inl e) = (0, omega arith, sym e)
-  among_contained (y ∷ xs) x (inr m) = let h = among_contained xs x m in (suc h.0, omega (arith, h.1), h.2)
-
-  each_among : (P : X → Type 0) (xs : List X) → ((x : X) → Among x xs → P x) → AllByRecursion P xs
-  each_among P [] h = tt
-  each_among P (x ∷ xs) h = (h x (inl refl), each_among P xs (λ y m. h y (inr m)))
-
-  among_each : (P : X → Type 0) (xs : List X) → AllByRecursion P xs → (x : X) → Among x xs → P x
-  among_each P [] all x m = absurd m
-  among_each P (y ∷ xs) all x (inl e) = subst P (sym e) all.0
-  among_each P (y ∷ xs) all x (inr m) = among_each P xs all.1 x m
 
   -- by a test for equality
   pub distinct_apart : (test : X → X → Bool) → ((x y : X) → test x y ≡ true → x ≡ y) → (xs : List X) → Apart xs → IsDistinct test xs
@@ -81,28 +42,6 @@ module _ {X : Type 0} where
       (λ m. let differs : test x x ≡ false = among_each (λ y. test x y ≡ false) xs d.0 x m in let equal : test x x ≡ true = itself x in absurd (cc), apart_distinct test itself xs d.1)
 
 module _ {X Y : Type 0} where
-  pub among_map : (f : X → Y) (x : X) (xs : List X) → Among x xs → Among (f x) (map f xs)
-  among_map f x [] m = absurd m
-  among_map f x (y ∷ xs) (inl e) = inl (ap f e)
-  among_map f x (y ∷ xs) (inr m) = inr (among_map f x xs m)
-
-  pub map_among : (f : X → Y) (y : Y) (xs : List X) → Among y (map f xs) → (x : X) × Among x xs × (y ≡ f x)
-  map_among f y [] m = absurd m
-  map_among f y (x ∷ xs) (inl e) = (x, inl refl, e)
-  map_among f y (x ∷ xs) (inr m) = let h = map_among f y xs m in (h.0, inr h.1, h.2)
-
-  pub among_flat_map : (f : X → List Y) (x : X) (y : Y) (xs : List X) → Among x xs → Among y (f x) → Among y (flat_map f xs)
-  among_flat_map f x y [] m h = absurd m
-  among_flat_map f x y (z ∷ xs) (inl e) h = among_left y (f z) (flat_map f xs) (subst (λ (w : X). Among y (f w)) e h)
-  among_flat_map f x y (z ∷ xs) (inr m) h = among_right y (f z) (flat_map f xs) (among_flat_map f x y xs m h)
-
-  pub flat_map_among : (f : X → List Y) (y : Y) (xs : List X) → Among y (flat_map f xs) → (x : X) × Among x xs × Among y (f x)
-  flat_map_among f y [] m = absurd m
-  flat_map_among f y (x ∷ xs) m = elim (among_cases y (f x) (flat_map f xs) m) [
-    | inl h ↦ (x, inl refl, h)
-    | inr h ↦ (let back = flat_map_among f y xs h in (back.0, inr back.1, back.2))
-  ]
-
   -- a function that tells elements apart
   pub apart_map : (f : X → Y) → ((x y : X) → f x ≡ f y → x ≡ y) → (xs : List X) → Apart xs → Apart (map f xs)
   apart_map f one [] h = tt
@@ -115,29 +54,6 @@ module _ {X Y : Type 0} where
   apart_flat_map f one (x ∷ xs) each h =
       apart_append (f x) (flat_map f xs) (each x (inl refl)) (apart_flat_map f one xs (λ y m. each y (inr m)) h.1)
       (λ z m n. let back = flat_map_among f z xs n in h.0 (subst (λ (w : X). Among w xs) (sym (one x back.0 z m back.2)) back.1))
-
-  -- as many for each element
-  pub length_flat_map : (f : X → List Y) (m : ℕ) (xs : List X) → ((x : X) → Among x xs → length (f x) ≡ m) → length (flat_map f xs) ≡ length xs * m
-  length_flat_map f m [] each = omega arith
-  length_flat_map f m (x ∷ xs) each =
-      let here = each x (inl refl) in
-      let rest = length_flat_map f m xs (λ y among. each y (inr among)) in
-      let more : (length xs + 1) * m ≡ length xs * m + 1 * m = add-mul (length xs) 1 m in
-      let size : length (x ∷ xs) ≡ length xs + 1 = omega arith in
-      length-append (f x) (flat_map f xs) ∙ omega (arith, here, rest, more) ∙ ap (λ (n : ℕ). n * m) (sym size)
-
--- a range of numbers
-pub among_range : (a n t : ℕ) → a ≤ t → t < a + n → Among t (range_with_len a n)
-among_range a zero t low high = absurd (omega (arith, low, high))
-among_range a (suc n) t low high = elim (cases_Bool (nat_eq t a)) [
-  | inl e ↦ inl (eqb-true t a e)
-  | inr e ↦ inr (among_range (a + 1) n t (grind (arith, nat_tests)) (omega (arith, high)))
-]
-
-pub range_among : (a n t : ℕ) → Among t (range_with_len a n) → (a ≤ t) × (t < a + n)
-range_among a zero t m = absurd m
-range_among a (suc n) t (inl e) = (omega (arith, e), omega (arith, e))
-range_among a (suc n) t (inr m) = let h = range_among (a + 1) n t m in (omega (arith, h.0), omega (arith, h.1))
 
 pub apart_range : (a n : ℕ) → Apart (range_with_len a n)
 apart_range a zero = tt

@@ -2,12 +2,11 @@
 use Rattle.std.specs.Prelude.{◌≡◌, ⊤, ℕ, zero, suc, ◌+◌, ◌<◌, Bool, true, false, List, ◌++◌, length, map, filter, flat_map, slice_index_or, IsTrue, if◌then◌else◌, Some, None}
 use Rattle.std.specs.List.{range_with_len}
 use Rattle.osek_values.specs.Numbers.{task_no, event_no, alarm_no}
-use Rattle.osek_values.specs.declared.numbers.BlockNo.{BlockNo}
+use Rattle.osek_values.specs.declared.numbers.{BlockNo.{BlockNo}, ResNo.{ResNo}}
 use Rattle.osek_standard.specs.declared.app.App.{App}
 use Rattle.osek_standard.specs.declared.task_state.Activity.{Activity}
 use Rattle.osek_standard.specs.declared.task_state.Activity.TheVariants as activity
-use Rattle.osek_standard.specs.declared.state.State.{State}
-use Rattle.osek_standard.specs.declared.state.AlarmState.{AlarmState}
+use Rattle.osek_standard.specs.declared.state.{State.{State}, AlarmState.{AlarmState}}
 use Rattle.osek_standard.specs.declared.state.AlarmState.TheVariants as alarm
 use Rattle.osek_standard.specs.Apps.{the_task}
 use Rattle.osek_standard.specs.States.{task_state, alarm_state}
@@ -15,12 +14,8 @@ use Rattle.osek_standard.specs.Kernel.{has_bit}
 use Rattle.osek_standard.specs.Well.{IsOwn, IsStack, IsWaitingAt}
 use Rattle.osek_standard.specs.declared.point.Point.{Point}
 use Rattle.osek_standard.specs.declared.point.Point.TheVariants as point
-use Rattle.abstract_state.specs.declared.value.Val.{Val}
-use Rattle.abstract_state.specs.declared.value.Val.TheVariants.{Suspended, Live, Waiting}
-use Rattle.abstract_state.specs.declared.value.Component.{Component}
+use Rattle.abstract_state.specs.declared.value.{Val.{Val}, LiveVal.{LiveVal}, Val.TheVariants.{Suspended, Live, Waiting}, Component.{Component}, PartValue.{PartValue}, PartValue.TheVariants.{OfTask, OfEvent, OfAlarm}}
 use Rattle.abstract_state.specs.declared.value.Component.TheVariants as component
-use Rattle.abstract_state.specs.declared.value.PartValue.{PartValue}
-use Rattle.abstract_state.specs.declared.value.PartValue.TheVariants.{OfTask, OfEvent, OfAlarm}
 
 -- how many numbers below k pass a test
 abbrev pub passing_below : (ℕ → Bool) → ℕ → ℕ
@@ -65,10 +60,13 @@ module _ (app : App) where
   component_number (component.Event t k) = length app.tasks + event_start t.0 + passing_below (has_bit (the_task app t.0).own.0) k.0
   component_number (component.Alarm a) = length app.tasks + length (flat_map events_of (range_with_len 0 (length app.tasks))) + a.0
 
+abbrev pub live_val : BlockNo → List ResNo → LiveVal
+live_val b held = record { block = b; held = held }
+
 -- a task's activity without the offset in its block
 abbrev pub value_in : Activity → Val
 value_in activity.Suspended = Suspended
-value_in (activity.Live x) = Live x.at.block x.held
+value_in (activity.Live x) = Live (live_val x.at.block x.held)
 value_in (activity.Waiting b) = Waiting b
 
 abbrev pub is_armed : AlarmState → Bool
@@ -88,19 +86,19 @@ abstract_of app s c = part_of s (component_at app c)
 -- Live at this block
 abbrev pub IsLiveAt : BlockNo → Val → Type 0
 IsLiveAt b Suspended = ⊥
-IsLiveAt b (Live c held) = c ≡ b
+IsLiveAt b (Live x) = x.block ≡ b
 IsLiveAt b (Waiting c) = ⊥
 
 abbrev pub IsLiveSomewhere : Val → Type 0
 IsLiveSomewhere Suspended = ⊥
-IsLiveSomewhere (Live b held) = ⊤
+IsLiveSomewhere (Live x) = ⊤
 IsLiveSomewhere (Waiting b) = ⊥
 
 module _ (app : App) where
   -- what a task can be in a well-formed state
   abbrev pub IsVal : ℕ → Val → Type 0
   IsVal t Suspended = ⊤
-  IsVal t (Live b held) = IsOwn app t b.0 × IsStack app held
+  IsVal t (Live x) = IsOwn app t x.block.0 × IsStack app x.held
   IsVal t (Waiting b) = IsWaitingAt app t b.0
 
   -- the task that has the processor is Live where the point says, and the interrupted one is Live

@@ -3,21 +3,13 @@ use Rattle.std.specs.Prelude.{◌≡◌, ⊤, ℕ, zero, suc, ◌+◌, ◌*◌, 
 use Rattle.std.specs.List.{range_with_len}
 use Rattle.std.specs.declared.option.Option.{Option}
 use Rattle.osek_values.specs.Numbers.{task_no, event_no, alarm_no, mask}
-use Rattle.osek_values.specs.declared.numbers.TaskNo.{TaskNo}
-use Rattle.osek_values.specs.declared.numbers.BlockNo.{BlockNo}
-use Rattle.osek_values.specs.declared.numbers.ModeNo.{ModeNo}
-use Rattle.osek_values.specs.declared.numbers.ResNo.{ResNo}
-use Rattle.osek_values.specs.declared.numbers.SourceNo.{SourceNo}
+use Rattle.osek_values.specs.declared.numbers.{TaskNo.{TaskNo}, BlockNo.{BlockNo}, ModeNo.{ModeNo}, SourceNo.{SourceNo}}
 use Rattle.osek_standard.specs.declared.app.App.{App}
-use Rattle.osek_standard.specs.declared.task_state.TaskState.{TaskState}
-use Rattle.osek_standard.specs.declared.task_state.Activity.{Activity}
+use Rattle.osek_standard.specs.declared.task_state.{TaskState.{TaskState}, Activity.{Activity}}
 use Rattle.osek_standard.specs.declared.task_state.Activity.TheVariants as activity
-use Rattle.osek_standard.specs.declared.state.State.{State}
-use Rattle.osek_standard.specs.declared.state.AlarmState.{AlarmState}
+use Rattle.osek_standard.specs.declared.state.{State.{State}, AlarmState.{AlarmState}, Source.{Source}, Processor.{Processor}}
 use Rattle.osek_standard.specs.declared.state.AlarmState.TheVariants as alarm
-use Rattle.osek_standard.specs.declared.state.Source.{Source}
 use Rattle.osek_standard.specs.declared.state.Source.TheVariants as source
-use Rattle.osek_standard.specs.declared.state.Processor.{Processor}
 use Rattle.osek_standard.specs.declared.state.Processor.TheVariants as processor
 use Rattle.osek_standard.specs.Apps.{the_task, the_counter, the_block, source_count}
 use Rattle.osek_standard.specs.Effects.{place_at}
@@ -25,11 +17,8 @@ use Rattle.osek_standard.specs.Kernel.{has_bit}
 use Rattle.osek_standard.specs.Well.{Well, IsOwn, IsOfRoutine, IsOffsetAt, IsArmed}
 use Rattle.osek_standard.specs.declared.point.Point.{Point}
 use Rattle.osek_standard.specs.declared.point.Point.TheVariants as point
-use Rattle.abstract_state.specs.declared.value.Val.{Val}
-use Rattle.abstract_state.specs.declared.value.Val.TheVariants.{Suspended, Live, Waiting}
+use Rattle.abstract_state.specs.declared.value.{Val.{Val}, LiveVal.{LiveVal}, Val.TheVariants.{Suspended, Live, Waiting}, PartValue.{PartValue}, PartValue.TheVariants.{OfTask, OfEvent, OfAlarm}}
 use Rattle.abstract_state.specs.declared.value.Component.TheVariants as component
-use Rattle.abstract_state.specs.declared.value.PartValue.{PartValue}
-use Rattle.abstract_state.specs.declared.value.PartValue.TheVariants.{OfTask, OfEvent, OfAlarm}
 use Rattle.osek_standard.specs.Points.{point_of}
 use Rattle.abstract_state.specs.Components.{component_count, component_number, abstract_of, IsAllowed}
 
@@ -60,7 +49,7 @@ flag_of (OfAlarm b) = b
 
 abbrev pub activity_of : Val → ℕ → Activity
 activity_of Suspended o = activity.Suspended
-activity_of (Live b held) o = activity.Live (record { at = place_at b o; held = held })
+activity_of (Live x) o = activity.Live (record { at = place_at x.block o; held = x.held })
 activity_of (Waiting b) o = activity.Waiting b
 
 abbrev pub alarm_of : Bool → ℕ → ℕ → AlarmState
@@ -86,7 +75,7 @@ module _ (app : App) (p : Point) (value : ℕ → PartValue) (free : Free) where
   source_by point.Halted k = source.Out
   source_by point.Idle k = source.Out
   source_by (point.Task b) k = source.Out
-  source_by (point.Routine b over) k = if k == free.source.0 then source.In (place_at b free.routine_offset) else source.Out
+  source_by (point.Routine b over) k = if k == free.source.0 then source.In (record { at = place_at b free.routine_offset }) else source.Out
 
   abbrev pub processor_by : Point → Processor
   processor_by point.Halted = processor.Halted
@@ -126,7 +115,7 @@ module _ (app : App) (p : Point) (value : ℕ → PartValue) (free : Free) where
     pub counters : (c : ℕ) → c < length app.counters → slice_index_or free.counters c 0 ≤ (the_counter app c).max
     pub latched_len : length free.latched ≡ source_count app
     pub stands : StandsThere p
-    pub offsets : (t : ℕ) (b : BlockNo) (held : List ResNo) → t < length app.tasks → value t ≡ OfTask (Live b held) → IsOffsetAt (the_block app b.0).kind (free.offset t)
+    pub offsets : (t : ℕ) (x : LiveVal) → t < length app.tasks → value t ≡ OfTask (Live x) → IsOffsetAt (the_block app x.block.0).kind (free.offset t)
     pub alarms : (a : ℕ) → a < length app.alarms → IsArmed app a (free.due a) (free.cycle a)
 
 -- each component's value is one that it can have at the point

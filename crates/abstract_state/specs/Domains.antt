@@ -7,23 +7,17 @@ use Rattle.osek_standard.specs.Apps.{the_task}
 use Rattle.osek_standard.specs.Counts.{stacks}
 use Rattle.osek_standard.specs.Validity.{IsAmong}
 use Rattle.osek_standard.specs.Well.{IsStackOutOf}
-use Rattle.abstract_state.specs.declared.value.Val.{Val}
-use Rattle.abstract_state.specs.declared.value.Val.TheVariants.{Suspended, Live, Waiting}
-use Rattle.abstract_state.specs.declared.value.Component.{Component}
+use Rattle.abstract_state.specs.declared.value.{Val.{Val}, Val.TheVariants.{Suspended, Live, Waiting}, Component.{Component}, Domain.{Domain}, PartValue.{PartValue}, PartValue.TheVariants.{OfTask, OfEvent, OfAlarm}}
 use Rattle.abstract_state.specs.declared.value.Component.TheVariants as component
-use Rattle.abstract_state.specs.declared.value.Domain.{Domain}
 use Rattle.abstract_state.specs.declared.value.Domain.TheVariants as domain
-use Rattle.abstract_state.specs.declared.value.PartValue.{PartValue}
-use Rattle.abstract_state.specs.declared.value.PartValue.TheVariants.{OfTask, OfEvent, OfAlarm}
-use Rattle.abstract_state.specs.declared.table.ValueSet.{ValueSet}
-use Rattle.abstract_state.specs.declared.table.Entry.{Entry}
+use Rattle.abstract_state.specs.declared.table.{ValueSet.{ValueSet}, Entry.{Entry}}
 use Rattle.abstract_state.specs.Components.{components}
 use Rattle.abstract_state.specs.Tables.{same_part, set_at, IsSubset}
 
 -- what a task with these blocks can be: suspended, Live at one of them with a stack of resources, or waiting at one
 abbrev pub IsValWithin : ℕ → ℕ → ℕ → Val → Type 0
 IsValWithin first count resources Suspended = ⊤
-IsValWithin first count resources (Live b held) = IsAmong b.0 first count × IsStackOutOf resources held
+IsValWithin first count resources (Live x) = IsAmong x.block.0 first count × IsStackOutOf resources x.held
 IsValWithin first count resources (Waiting b) = IsAmong b.0 first count
 
 -- A value is one of the domain's.

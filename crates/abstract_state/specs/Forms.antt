@@ -12,10 +12,10 @@ use Rattle.osek_standard.specs.Effects.{effect}
 use Rattle.osek_standard.specs.Dispatch.{Outcome, Keep, To, outcome}
 use Rattle.osek_standard.specs.Kernel.{step}
 use Rattle.osek_standard.specs.Well.{IsActive}
-use Rattle.image_codec.specs.declared.site.Form.{Form}
-use Rattle.image_codec.specs.declared.site.Form.TheVariants as form
-use Rattle.image_codec.specs.declared.image.Image.{Image}
-use Rattle.image_codec.specs.ImageStep.{form_at}
+use Rattle.image_model.specs.declared.site.Form.{Form}
+use Rattle.image_model.specs.declared.site.Form.TheVariants as form
+use Rattle.image_model.specs.declared.image.Image.{Image}
+use Rattle.image_model.specs.ImageStep.{form_at}
 use Rattle.osek_standard.specs.declared.point.Point.{Point}
 use Rattle.osek_standard.specs.Points.{point_of}
 use Rattle.osek_standard.specs.Outcomes.{Did, shows}

@@ -4,4 +4,3 @@ pub mod Concrete
 pub mod Domains
 pub mod Forms
 pub mod Tables
-pub mod WorkedTables

@@ -4,25 +4,16 @@ use Rattle.std.specs.List.{list_any}
 use Rattle.std.specs.Cmp.Lexicographic.{pointwise}
 use Rattle.std.specs.declared.option.Option.{Option}
 use Rattle.osek_values.specs.declared.event.Event.{Event}
-use Rattle.osek_values.specs.declared.numbers.TaskNo.{TaskNo}
-use Rattle.osek_values.specs.declared.numbers.ResNo.{ResNo}
-use Rattle.osek_values.specs.declared.numbers.ModeNo.{ModeNo}
+use Rattle.osek_values.specs.declared.numbers.{TaskNo.{TaskNo}, ResNo.{ResNo}, ModeNo.{ModeNo}}
 use Rattle.osek_standard.specs.declared.app.App.{App}
 use Rattle.osek_standard.specs.declared.state.State.{State}
 use Rattle.osek_standard.specs.Kernel.{start, step}
 use Rattle.osek_standard.specs.Well.{Well}
 use Rattle.osek_standard.specs.declared.point.Point.{Point}
 use Rattle.osek_standard.specs.declared.point.Point.TheVariants as point
-use Rattle.abstract_state.specs.declared.value.Val.{Val}
-use Rattle.abstract_state.specs.declared.value.Val.TheVariants.{Suspended, Live, Waiting}
-use Rattle.abstract_state.specs.declared.value.Domain.{Domain}
+use Rattle.abstract_state.specs.declared.value.{Val.{Val}, Val.TheVariants.{Suspended, Live, Waiting}, Domain.{Domain}, PartValue.{PartValue}, PartValue.TheVariants.{OfTask, OfEvent, OfAlarm}}
 use Rattle.abstract_state.specs.declared.value.Domain.TheVariants as domain
-use Rattle.abstract_state.specs.declared.value.PartValue.{PartValue}
-use Rattle.abstract_state.specs.declared.value.PartValue.TheVariants.{OfTask, OfEvent, OfAlarm}
-use Rattle.abstract_state.specs.declared.table.ValueSet.{ValueSet}
-use Rattle.abstract_state.specs.declared.table.Entry.{Entry}
-use Rattle.abstract_state.specs.declared.table.TableRow.{TableRow}
-use Rattle.abstract_state.specs.declared.table.Table.{Table}
+use Rattle.abstract_state.specs.declared.table.{ValueSet.{ValueSet}, Entry.{Entry}, TableRow.{TableRow}, Table.{Table}}
 use Rattle.osek_standard.specs.Points.{point_of, IsPoint}
 use Rattle.abstract_state.specs.Components.{component_count, abstract_of, IsAllowed}
 
@@ -93,7 +84,7 @@ same_stack = pointwise (λ (q r : ResNo). q.0 == r.0)
 
 abbrev pub same_val : Val → Val → Bool
 same_val Suspended Suspended = true
-same_val (Live b held) (Live c kept) = (b.0 == c.0) && same_stack held kept
+same_val (Live x) (Live y) = (x.block.0 == y.block.0) && same_stack x.held y.held
 same_val (Waiting b) (Waiting c) = b.0 == c.0
 same_val _ _ = false
 

@@ -6,8 +6,7 @@ pub mod bounds;
 pub mod laws;
 mod table;
 mod value;
-pub mod worked;
 
 pub use osek_standard::Point;
 pub use table::{Entry, Table, TableRow, ValueSet};
-pub use value::{Component, Domain, PartValue, Val};
+pub use value::{Component, Domain, LiveVal, PartValue, Val};

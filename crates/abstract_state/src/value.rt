@@ -3,12 +3,19 @@ ghost use Rattle.std.specs.Prelude.{◌≡◌};
 
 use osek_values::{AlarmNo, BlockNo, EventNo, Held, TaskNo};
 
+/// Where a Live task stands, but for the offset, and the resources that it holds.
+#[derive(Drop)]
+pub struct LiveVal {
+    pub block: BlockNo,
+    pub held: Held,
+}
+
 /// What a table keeps of a task: its state with the block at which it stands and the resources that it holds.
 #[derive(Drop)]
 pub enum Val {
     Suspended,
     /// Ready, running or interrupted.
-    Live { block: BlockNo, held: Held },
+    Live(LiveVal),
     /// It waits for events, at a WaitEvent block.
     Waiting(BlockNo),
 }
@@ -56,10 +63,10 @@ impl Val {
     {
         match self {
             Val::Suspended => Val::Suspended,
-            Val::Live { block, held } => Val::Live {
-                block: *block,
-                held: held.copy(),
-            },
+            Val::Live(live) => Val::Live(LiveVal {
+                block: live.block,
+                held: live.held.copy(),
+            }),
             Val::Waiting(block) => Val::Waiting(*block),
         }
     }
@@ -70,13 +77,9 @@ impl Val {
     {
         match (self, other) {
             (Val::Suspended, Val::Suspended) => true,
-            (
-                Val::Live { block, held },
-                Val::Live {
-                    block: at,
-                    held: kept,
-                },
-            ) => block.0 == at.0 && held.as_slice() == kept.as_slice(),
+            (Val::Live(live), Val::Live(kept)) => {
+                live.block.0 == kept.block.0 && live.held.as_slice() == kept.held.as_slice()
+            }
             (Val::Waiting(block), Val::Waiting(at)) => block.0 == at.0,
             _ => false,
         }

@@ -1,12 +1,10 @@
-//! The application and its state, the activation of a task, and the system that an OIL file declares.
+//! The application and its state, the activation of a task, and the system that an OIL file declares: what crates above
+//! find under one name. Each stands in a crate of its own, so that a change of one proves no user of another again.
 #![tactic(auto)]
 
-mod activation;
-mod system;
-
 pub use activation::activate;
+pub use oil_system::{CounterObject, EventObject, System, TaskObject};
 pub use osek_standard::{
-    Action, Activity, Alarm, AlarmState, App, Block, Caller, Counter, Isr, Kind, Lock, Place,
+    Action, Activity, Alarm, AlarmState, App, Block, Call, Caller, Counter, Isr, Kind, Lock, Place,
     Point, Processor, Resource, Schedule, Source, Standing, State, Task, TaskState,
 };
-pub use system::{CounterObject, EventObject, System, TaskObject};

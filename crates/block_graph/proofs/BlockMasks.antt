@@ -5,7 +5,7 @@ use Rattle.std.specs.Int.{bit_at}
 use Rattle.std.proofs.lemmas.List.{nil_from_length}
 use Rattle.std.proofs.lemmas.Nat.Bits.{bit_at_or, same_from_bits}
 use lib.Bits.{or_zero_r}
-use Rattle.app_model.specs.declared.system.System.{System}
+use Rattle.oil_system.specs.declared.system.System.{System}
 use Rattle.task_code.specs.declared.call.Reference.{Reference}
 use Rattle.block_graph.specs.Blocks.{event_bits, mask_bits}
 

@@ -1,15 +1,13 @@
 -- The blocks of a list, one statement after another.
-use Rattle.std.proofs.Common.{◌≡◌, ℕ, ◌+◌, ◌<◌, ◌≤◌, List, [], ◌∷◌, ◌++◌, length, get_or, drop, add-one, drop-cons, append_assoc, refl, sym, ap, subst, ◌∙◌, false, eqb, arith}
+use Rattle.std.proofs.Common.{◌≡◌, ℕ, ◌+◌, ◌<◌, List, [], ◌∷◌, ◌++◌, length, get_or, drop, add-one, drop-cons, append_assoc, refl, sym, ap, subst, ◌∙◌, false, eqb, arith}
 use Rattle.std.specs.Prelude.{Some, None}
 use Rattle.osek_values.specs.Numbers.{block_no}
 use Rattle.osek_standard.specs.declared.block.Block.{Block}
 use Rattle.osek_standard.specs.declared.block.Kind.TheVariants as kind
-use Rattle.app_model.specs.declared.system.System.{System}
-use Rattle.task_code.specs.declared.tree.Condition.TheVariants.{Choice, Always}
-use Rattle.task_code.specs.declared.tree.Statement.{Statement}
-use Rattle.task_code.specs.declared.tree.Statement.TheVariants.{Work, If, While, Call}
+use Rattle.oil_system.specs.declared.system.System.{System}
+use Rattle.task_code.specs.declared.tree.{Condition.TheVariants.{Choice, Always}, Statement.{Statement}, Statement.TheVariants.{Work, If, While, Call}}
 use Rattle.task_code.specs.Fit.{HasCounts}
-use Rattle.task_code.specs.Statements.{Statements, closed, nodes}
+use Rattle.task_code.specs.Statements.{Statements, nodes}
 use Rattle.task_code.specs.StatementLists.{statement_before, list_of}
 use Rattle.block_graph.specs.declared.locks.Opener.{Opener}
 use Rattle.block_graph.specs.Locks.{open_behind}
@@ -22,20 +20,6 @@ nodes_before (If line branch None) next = omega arith
 nodes_before (If line branch (Some otherwise)) next = omega arith
 nodes_before (While line condition body) next = omega arith
 nodes_before (Call line call) next = omega arith
-
-pub some_nodes : (st : Statement) → 1 ≤ statement_nodes st
-some_nodes (Work line count) = omega arith
-some_nodes (If line branch None) = omega arith
-some_nodes (If line branch (Some otherwise)) = omega arith
-some_nodes (While line condition body) = omega arith
-some_nodes (Call line call) = omega arith
-
-pub counts_here : (st : Statement) (next : Statements) → HasCounts (statement_before st next) → HasCounts (statement_before st (closed 0))
-counts_here (Work line count) next h = (h.0, tt)
-counts_here (If line branch None) next h = (h.0, tt)
-counts_here (If line branch (Some otherwise)) next h = (h.0, h.1, tt)
-counts_here (While line condition body) next h = (h.0, tt)
-counts_here (Call line call) next h = tt
 
 pub counts_next : (st : Statement) (next : Statements) → HasCounts (statement_before st next) → HasCounts next
 counts_next (Work line count) next h = h.1
@@ -106,9 +90,6 @@ module _ (s : System) (items : List Statement) (i close n after : ℕ) (st : Sta
 
   pub nodes_left : nodes (list_of (drop i items) close) ≡ statement_nodes st + nodes (list_of (drop (i + 1) items) close)
   nodes_left = ap nodes (list_here items i close st lt item) ∙ nodes_before st (list_of (drop (i + 1) items) close)
-
-  pub counts_of_first : HasCounts (list_of (drop i items) close) → HasCounts (statement_before st (closed 0))
-  counts_of_first h = counts_here st (list_of (drop (i + 1) items) close) (subst HasCounts (list_here items i close st lt item) h)
 
   pub counts_left : HasCounts (list_of (drop i items) close) → HasCounts (list_of (drop (i + 1) items) close)
   counts_left h = counts_next st (list_of (drop (i + 1) items) close) (subst HasCounts (list_here items i close st lt item) h)

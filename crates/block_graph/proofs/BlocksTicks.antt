@@ -2,8 +2,7 @@
 use Rattle.std.proofs.Common.{◌≡◌, ℕ, ◌+◌, ◌<◌, List, ◌∷◌, ◌++◌, length, get_or, drop, add-one, drop-cons, append_assoc, sym, ap, ◌∙◌}
 use Rattle.osek_standard.specs.declared.block.Block.{Block}
 use Rattle.osek_standard.specs.Validity.{due_of}
-use Rattle.app_model.specs.declared.system.CounterObject.{CounterObject}
-use Rattle.app_model.specs.declared.system.System.{System}
+use Rattle.oil_system.specs.declared.system.{CounterObject.{CounterObject}, System.{System}}
 use Rattle.oil_model.specs.Linkable.{no_counter_object}
 use Rattle.block_graph.specs.Blocks.{routine, routine_size, routines}
 

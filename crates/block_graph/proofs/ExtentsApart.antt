@@ -7,19 +7,13 @@ use Rattle.std.proofs.lemmas.Bool.{and_left, and_parts, and_right, cases_Bool, c
 use Rattle.std.proofs.lemmas.List.{map-id}
 use Rattle.std.proofs.lemmas.List.Sums.{sum_by-cons}
 use Rattle.std.proofs.lemmas.Slice.Eq.{bytes_eq-Decides}
-use Rattle.osek_standard.specs.declared.objects.Counter.{Counter}
-use Rattle.osek_standard.specs.declared.objects.Isr.{Isr}
-use Rattle.osek_standard.specs.declared.objects.Task.{Task}
+use Rattle.osek_standard.specs.declared.objects.{Counter.{Counter}, Isr.{Isr}, Task.{Task}}
 use Rattle.osek_standard.specs.Validity.{due_of, meet, owners}
-use Rattle.app_model.specs.declared.system.CounterObject.{CounterObject}
-use Rattle.app_model.specs.declared.system.TaskObject.{TaskObject}
-use Rattle.app_model.specs.declared.system.System.{System}
+use Rattle.oil_system.specs.declared.system.{CounterObject.{CounterObject}, TaskObject.{TaskObject}, System.{System}}
 use Rattle.oil_model.specs.Linkable.{IsLinkable}
 use Rattle.oil_model.proofs.Clean.{all_weaker}
-use Rattle.task_code.specs.declared.tree.Body.{Body}
-use Rattle.task_code.specs.declared.tree.BodyKind.{BodyKind}
+use Rattle.task_code.specs.declared.tree.{Body.{Body}, BodyKind.{BodyKind}, Code.{Code}}
 use Rattle.task_code.specs.declared.tree.BodyKind.TheVariants as body_kind
-use Rattle.task_code.specs.declared.tree.Code.{Code}
 use Rattle.block_graph.specs.Apps.{counters_from, counters_of, extent, isr_with, isrs_of, task_with, tasks_of}
 use Rattle.block_graph.specs.Blocks.{routine_size, size, source_size}
 use Rattle.block_graph.specs.Faults.{HasNoFault}

@@ -8,13 +8,9 @@ use Rattle.std.proofs.lemmas.List.{length-append}
 use Rattle.std.proofs.lemmas.List.Sums.{sum_by-cons}
 use Rattle.std.proofs.lemmas.Slice.Eq.{bytes_eq-Decides}
 use Rattle.osek_standard.specs.Validity.{due_of, is_within, owners}
-use Rattle.app_model.specs.declared.system.CounterObject.{CounterObject}
-use Rattle.app_model.specs.declared.system.TaskObject.{TaskObject}
-use Rattle.app_model.specs.declared.system.System.{System}
-use Rattle.task_code.specs.declared.tree.Body.{Body}
-use Rattle.task_code.specs.declared.tree.BodyKind.{BodyKind}
+use Rattle.oil_system.specs.declared.system.{CounterObject.{CounterObject}, TaskObject.{TaskObject}, System.{System}}
+use Rattle.task_code.specs.declared.tree.{Body.{Body}, BodyKind.{BodyKind}, Code.{Code}}
 use Rattle.task_code.specs.declared.tree.BodyKind.TheVariants as body_kind
-use Rattle.task_code.specs.declared.tree.Code.{Code}
 use Rattle.block_graph.specs.Apps.{counters_from, counters_of, extent, isrs_of, tasks_of}
 use Rattle.block_graph.specs.Blocks.{app_blocks, routine, routine_size, routines, size, source_blocks, source_size}
 use Rattle.block_graph.specs.Faults.{HasNoFault}

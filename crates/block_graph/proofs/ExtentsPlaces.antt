@@ -6,21 +6,15 @@ use Rattle.std.proofs.lemmas.Bool.{and_parts, cases_Bool, cond-false, cond-true,
 use Rattle.std.proofs.lemmas.List.{length-append}
 use Rattle.std.proofs.lemmas.List.Sums.{sum_by-cons}
 use Rattle.osek_standard.specs.declared.block.Block.{Block}
-use Rattle.osek_standard.specs.declared.objects.Counter.{Counter}
-use Rattle.osek_standard.specs.declared.objects.Isr.{Isr}
-use Rattle.osek_standard.specs.declared.objects.Task.{Task}
+use Rattle.osek_standard.specs.declared.objects.{Counter.{Counter}, Isr.{Isr}, Task.{Task}}
 use Rattle.osek_standard.specs.Validity.{IsIsrCode, IsOwner, IsTaskCode, IsTickCode, due_of}
-use Rattle.app_model.specs.declared.system.CounterObject.{CounterObject}
-use Rattle.app_model.specs.declared.system.TaskObject.{TaskObject}
-use Rattle.app_model.specs.declared.system.System.{System}
+use Rattle.oil_system.specs.declared.system.{CounterObject.{CounterObject}, TaskObject.{TaskObject}, System.{System}}
 use Rattle.oil_model.specs.Linkable.{IsLinkable}
 use Rattle.oil_model.proofs.Clean.{all_weaker}
-use Rattle.task_code.specs.declared.tree.Body.{Body}
-use Rattle.task_code.specs.declared.tree.BodyKind.{BodyKind}
+use Rattle.task_code.specs.declared.tree.{Body.{Body}, BodyKind.{BodyKind}, Code.{Code}}
 use Rattle.task_code.specs.declared.tree.BodyKind.TheVariants as body_kind
-use Rattle.task_code.specs.declared.tree.Code.{Code}
 use Rattle.task_code.specs.Fit.{AreFit, IsFit}
-use Rattle.block_graph.specs.Apps.{counters_from, counters_of, extent, isr_with, isrs_of, task_with, tasks_of}
+use Rattle.block_graph.specs.Apps.{counters_from, counters_of, extent, isr_with, isrs_of, tables_over, task_with, tasks_of}
 use Rattle.block_graph.specs.Blocks.{app_blocks, body_blocks, routine, routine_size, routines, size, source_blocks, source_size}
 use Rattle.block_graph.specs.Faults.{HasNoFault}
 use Rattle.block_graph.specs.Rules.{from_calls, is_code_of, is_kind, isr_resources_by, undeclared_in}
@@ -117,7 +111,7 @@ code_kind kind name body e = kind_same kind body.kind (and_parts (is_kind kind b
 
 -- ---- what the code of tasks and ISRs keeps
 
-module _ (s : System) (tasks : List Task) (code : Code) (same_tasks : length tasks ≡ length s.tasks) (linkable : IsLinkable s) (fit : AreFit code) (clean : HasNoFault s code) where
+module _ (s : System) (code : Code) (linkable : IsLinkable s) (fit : AreFit code) (clean : HasNoFault s code) where
   abbrev bodies : List Body
   bodies = code.bodies
 
@@ -134,60 +128,60 @@ module _ (s : System) (tasks : List Task) (code : Code) (same_tasks : length tas
   code_without_resources : (kind : BodyKind) (name : List ℕ) (found : HasCode kind name bodies) → isr_resources_by found.body.kind found.body.statements ≡ []
   code_without_resources = of_code (λ (body : Body). isr_resources_by body.kind body.statements ≡ []) (resources_of_tasks s code clean)
 
-  owner_of : (kind : BodyKind) (name : List ℕ) → list_any (is_code_of kind name) bodies ≡ true → IsOwner tasks s.alarms s.resources (app_blocks s bodies) (extent kind name bodies 0).0 (extent kind name bodies 0).1
+  owner_of : (kind : BodyKind) (name : List ℕ) → list_any (is_code_of kind name) bodies ≡ true → IsOwner (tables_over s bodies (app_blocks s bodies)) (extent kind name bodies 0).0 (extent kind name bodies 0).1
   owner_of kind name e =
       let found = code_of kind name bodies e in
-      code_keeps s (λ blocks first count. IsOwner tasks s.alarms s.resources blocks first count) kind name bodies found
-      (λ pre post n place. body_is_owner s tasks pre post found.body n same_tasks place linkable (code_fit kind name found) (code_declared kind name found))
+      code_keeps s (λ blocks first count. IsOwner (tables_over s bodies blocks) first count) kind name bodies found
+      (λ pre post n place. body_is_owner s bodies pre post found.body n place linkable (code_fit kind name found) (code_declared kind name found))
 
-  pub each_task : All (λ (x : Task). IsOwner tasks s.alarms s.resources (app_blocks s bodies) x.first.0 x.count) (tasks_of s bodies)
+  pub each_task : All (λ (x : Task). IsOwner (tables_over s bodies (app_blocks s bodies)) x.first.0 x.count) (tasks_of s bodies)
   each_task =
-      all_at (λ (x : Task). IsOwner tasks s.alarms s.resources (app_blocks s bodies) x.first.0 x.count) (tasks_of s bodies)
-      (each_map (λ (x : Task). IsOwner tasks s.alarms s.resources (app_blocks s bodies) x.first.0 x.count) (λ (x : TaskObject). task_with x (extent body_kind.Task x.name bodies 0)) s.tasks
+      all_at (λ (x : Task). IsOwner (tables_over s bodies (app_blocks s bodies)) x.first.0 x.count) (tasks_of s bodies)
+      (each_map (λ (x : Task). IsOwner (tables_over s bodies (app_blocks s bodies)) x.first.0 x.count) (λ (x : TaskObject). task_with x (extent body_kind.Task x.name bodies 0)) s.tasks
       (all_weaker
-      (λ (x : TaskObject). IsOwner tasks s.alarms s.resources (app_blocks s bodies) (extent body_kind.Task x.name bodies 0).0 (extent body_kind.Task x.name bodies 0).1)
+      (λ (x : TaskObject). IsOwner (tables_over s bodies (app_blocks s bodies)) (extent body_kind.Task x.name bodies 0).0 (extent body_kind.Task x.name bodies 0).1)
       (λ (x : TaskObject). list_any (is_code_of body_kind.Task x.name) bodies ≡ true) s.tasks (λ x e. owner_of body_kind.Task x.name e) (tasks_have_code s code clean)))
 
-  pub each_isr : All (λ (x : Isr). IsOwner tasks s.alarms s.resources (app_blocks s bodies) x.first.0 x.count) (isrs_of s bodies)
+  pub each_isr : All (λ (x : Isr). IsOwner (tables_over s bodies (app_blocks s bodies)) x.first.0 x.count) (isrs_of s bodies)
   each_isr =
-      all_at (λ (x : Isr). IsOwner tasks s.alarms s.resources (app_blocks s bodies) x.first.0 x.count) (isrs_of s bodies)
-      (each_map (λ (x : Isr). IsOwner tasks s.alarms s.resources (app_blocks s bodies) x.first.0 x.count) (λ (name : List ℕ). isr_with name (extent body_kind.Isr name bodies 0)) s.isrs
+      all_at (λ (x : Isr). IsOwner (tables_over s bodies (app_blocks s bodies)) x.first.0 x.count) (isrs_of s bodies)
+      (each_map (λ (x : Isr). IsOwner (tables_over s bodies (app_blocks s bodies)) x.first.0 x.count) (λ (name : List ℕ). isr_with name (extent body_kind.Isr name bodies 0)) s.isrs
       (all_weaker
-      (λ (name : List ℕ). IsOwner tasks s.alarms s.resources (app_blocks s bodies) (extent body_kind.Isr name bodies 0).0 (extent body_kind.Isr name bodies 0).1)
+      (λ (name : List ℕ). IsOwner (tables_over s bodies (app_blocks s bodies)) (extent body_kind.Isr name bodies 0).0 (extent body_kind.Isr name bodies 0).1)
       (λ (name : List ℕ). list_any (is_code_of body_kind.Isr name) bodies ≡ true) s.isrs (λ name e. owner_of body_kind.Isr name e) (isrs_have_code s code clean)))
 
   task_code_of : (name : List ℕ) → list_any (is_code_of body_kind.Task name) bodies ≡ true
-      → IsTaskCode tasks s.alarms s.resources (app_blocks s bodies) (extent body_kind.Task name bodies 0).0 (extent body_kind.Task name bodies 0).1
+      → IsTaskCode (tables_over s bodies (app_blocks s bodies)) (extent body_kind.Task name bodies 0).0 (extent body_kind.Task name bodies 0).1
   task_code_of name e =
       let found = code_of body_kind.Task name bodies e in
-      code_keeps s (λ blocks first count. IsTaskCode tasks s.alarms s.resources blocks first count) body_kind.Task name bodies found
+      code_keeps s (λ blocks first count. IsTaskCode (tables_over s bodies blocks) first count) body_kind.Task name bodies found
       (λ pre post n place.
-      body_is_task_code s tasks pre post found.body n same_tasks place linkable (code_fit body_kind.Task name found) (code_declared body_kind.Task name found) (code_kind body_kind.Task name found.body found.is))
+      body_is_task_code s bodies pre post found.body n place linkable (code_fit body_kind.Task name found) (code_declared body_kind.Task name found) (code_kind body_kind.Task name found.body found.is))
 
-  pub task_code : All (λ (x : Task). IsTaskCode tasks s.alarms s.resources (app_blocks s bodies) x.first.0 x.count) (tasks_of s bodies)
+  pub task_code : All (λ (x : Task). IsTaskCode (tables_over s bodies (app_blocks s bodies)) x.first.0 x.count) (tasks_of s bodies)
   task_code =
-      all_at (λ (x : Task). IsTaskCode tasks s.alarms s.resources (app_blocks s bodies) x.first.0 x.count) (tasks_of s bodies)
-      (each_map (λ (x : Task). IsTaskCode tasks s.alarms s.resources (app_blocks s bodies) x.first.0 x.count) (λ (x : TaskObject). task_with x (extent body_kind.Task x.name bodies 0)) s.tasks
+      all_at (λ (x : Task). IsTaskCode (tables_over s bodies (app_blocks s bodies)) x.first.0 x.count) (tasks_of s bodies)
+      (each_map (λ (x : Task). IsTaskCode (tables_over s bodies (app_blocks s bodies)) x.first.0 x.count) (λ (x : TaskObject). task_with x (extent body_kind.Task x.name bodies 0)) s.tasks
       (all_weaker
-      (λ (x : TaskObject). IsTaskCode tasks s.alarms s.resources (app_blocks s bodies) (extent body_kind.Task x.name bodies 0).0 (extent body_kind.Task x.name bodies 0).1)
+      (λ (x : TaskObject). IsTaskCode (tables_over s bodies (app_blocks s bodies)) (extent body_kind.Task x.name bodies 0).0 (extent body_kind.Task x.name bodies 0).1)
       (λ (x : TaskObject). list_any (is_code_of body_kind.Task x.name) bodies ≡ true) s.tasks (λ x e. task_code_of x.name e) (tasks_have_code s code clean)))
 
   isr_code_of : (name : List ℕ) → list_any (is_code_of body_kind.Isr name) bodies ≡ true
-      → IsIsrCode tasks s.alarms s.resources (app_blocks s bodies) (extent body_kind.Isr name bodies 0).0 (extent body_kind.Isr name bodies 0).1
+      → IsIsrCode (tables_over s bodies (app_blocks s bodies)) (extent body_kind.Isr name bodies 0).0 (extent body_kind.Isr name bodies 0).1
   isr_code_of name e =
       let found = code_of body_kind.Isr name bodies e in
       let isr = code_kind body_kind.Isr name found.body found.is in
-      code_keeps s (λ blocks first count. IsIsrCode tasks s.alarms s.resources blocks first count) body_kind.Isr name bodies found
+      code_keeps s (λ blocks first count. IsIsrCode (tables_over s bodies blocks) first count) body_kind.Isr name bodies found
       (λ pre post n place.
-      body_is_isr_code s tasks pre post found.body n same_tasks place linkable (code_fit body_kind.Isr name found) (code_declared body_kind.Isr name found) isr
+      body_is_isr_code s bodies pre post found.body n place linkable (code_fit body_kind.Isr name found) (code_declared body_kind.Isr name found) isr
       (isr_takes_none found.body.kind found.body.statements isr (code_without_resources body_kind.Isr name found)))
 
-  pub isr_code : All (λ (x : Isr). IsIsrCode tasks s.alarms s.resources (app_blocks s bodies) x.first.0 x.count) (isrs_of s bodies)
+  pub isr_code : All (λ (x : Isr). IsIsrCode (tables_over s bodies (app_blocks s bodies)) x.first.0 x.count) (isrs_of s bodies)
   isr_code =
-      all_at (λ (x : Isr). IsIsrCode tasks s.alarms s.resources (app_blocks s bodies) x.first.0 x.count) (isrs_of s bodies)
-      (each_map (λ (x : Isr). IsIsrCode tasks s.alarms s.resources (app_blocks s bodies) x.first.0 x.count) (λ (name : List ℕ). isr_with name (extent body_kind.Isr name bodies 0)) s.isrs
+      all_at (λ (x : Isr). IsIsrCode (tables_over s bodies (app_blocks s bodies)) x.first.0 x.count) (isrs_of s bodies)
+      (each_map (λ (x : Isr). IsIsrCode (tables_over s bodies (app_blocks s bodies)) x.first.0 x.count) (λ (name : List ℕ). isr_with name (extent body_kind.Isr name bodies 0)) s.isrs
       (all_weaker
-      (λ (name : List ℕ). IsIsrCode tasks s.alarms s.resources (app_blocks s bodies) (extent body_kind.Isr name bodies 0).0 (extent body_kind.Isr name bodies 0).1)
+      (λ (name : List ℕ). IsIsrCode (tables_over s bodies (app_blocks s bodies)) (extent body_kind.Isr name bodies 0).0 (extent body_kind.Isr name bodies 0).1)
       (λ (name : List ℕ). list_any (is_code_of body_kind.Isr name) bodies ≡ true) s.isrs (λ name e. isr_code_of name e) (isrs_have_code s code clean)))
 
 -- ---- what the tick routines keep
@@ -218,16 +212,16 @@ routines_keep s bodies Keeps keeps i d lt =
     let counter = slice_index_or (counters_of s bodies) i d in
     subst (λ k. Keeps k counter.first.0 counter.count) here (routine_keeps s (app_blocks s bodies) Keeps keeps s.counters 0 (source_size bodies) (source_blocks s bodies 0) (source_length s bodies 0) refl i d lt)
 
-pub counter_is_owner : (s : System) (tasks : List Task) (bodies : List Body) (i : ℕ) (d : Counter) → i < length (counters_of s bodies)
-    → IsOwner tasks s.alarms s.resources (app_blocks s bodies) (slice_index_or (counters_of s bodies) i d).first.0 (slice_index_or (counters_of s bodies) i d).count
-counter_is_owner s tasks bodies =
-    routines_keep s bodies (λ c first count. IsOwner tasks s.alarms s.resources (app_blocks s bodies) first count)
+pub counter_is_owner : (s : System) (bodies : List Body) (i : ℕ) (d : Counter) → i < length (counters_of s bodies)
+    → IsOwner (tables_over s bodies (app_blocks s bodies)) (slice_index_or (counters_of s bodies) i d).first.0 (slice_index_or (counters_of s bodies) i d).count
+counter_is_owner s bodies =
+    routines_keep s bodies (λ c first count. IsOwner (tables_over s bodies (app_blocks s bodies)) first count)
     (λ c n pre post place all.
-    subst (λ blocks. IsOwner tasks s.alarms s.resources blocks n (routine_size (due_of s.alarms c))) all (routine_is_owner s tasks pre post (due_of s.alarms c) n place (due_inside s.alarms c)))
+    subst (λ blocks. IsOwner (tables_over s bodies blocks) n (routine_size (due_of s.alarms c))) all (routine_is_owner s bodies pre post (due_of s.alarms c) n place (due_inside s.alarms c)))
 
-pub tick_code : (s : System) (tasks : List Task) (bodies : List Body) (i : ℕ) (d : Counter) → i < length (counters_of s bodies)
-    → IsTickCode tasks s.alarms s.resources (app_blocks s bodies) (due_of s.alarms i) (slice_index_or (counters_of s bodies) i d).first.0 (slice_index_or (counters_of s bodies) i d).count
-tick_code s tasks bodies =
-    routines_keep s bodies (λ c first count. IsTickCode tasks s.alarms s.resources (app_blocks s bodies) (due_of s.alarms c) first count)
+pub tick_code : (s : System) (bodies : List Body) (i : ℕ) (d : Counter) → i < length (counters_of s bodies)
+    → IsTickCode (tables_over s bodies (app_blocks s bodies)) (due_of s.alarms i) (slice_index_or (counters_of s bodies) i d).first.0 (slice_index_or (counters_of s bodies) i d).count
+tick_code s bodies =
+    routines_keep s bodies (λ c first count. IsTickCode (tables_over s bodies (app_blocks s bodies)) (due_of s.alarms c) first count)
     (λ c n pre post place all.
-    subst (λ blocks. IsTickCode tasks s.alarms s.resources blocks (due_of s.alarms c) n (routine_size (due_of s.alarms c))) all (routine_is_tick_code s tasks pre post (due_of s.alarms c) n place (due_inside s.alarms c)))
+    subst (λ blocks. IsTickCode (tables_over s bodies blocks) (due_of s.alarms c) n (routine_size (due_of s.alarms c))) all (routine_is_tick_code s bodies pre post (due_of s.alarms c) n place (due_inside s.alarms c)))

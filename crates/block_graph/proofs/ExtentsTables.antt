@@ -5,25 +5,19 @@ use Rattle.std.specs.List.{IsDistinct, enumerate_from, filter}
 use Rattle.std.proofs.lemmas.Bool.Decides.{nat_tests}
 use Rattle.std.proofs.lemmas.List.{length-append, length-map, map-id}
 use Rattle.std.proofs.lemmas.List.Sums.{count_by-le-length, sum_by-cons}
-use Rattle.osek_standard.specs.declared.objects.Action.{Action}
+use Rattle.osek_standard.specs.declared.objects.{Action.{Action}, Alarm.{Alarm}, Counter.{Counter}, Isr.{Isr}, Task.{Task}}
 use Rattle.osek_standard.specs.declared.objects.Action.TheVariants as action
-use Rattle.osek_standard.specs.declared.objects.Alarm.{Alarm}
-use Rattle.osek_standard.specs.declared.objects.Counter.{Counter}
-use Rattle.osek_standard.specs.declared.objects.Isr.{Isr}
-use Rattle.osek_standard.specs.declared.objects.Task.{Task}
 use Rattle.osek_standard.specs.declared.block.Block.{Block}
 use Rattle.osek_standard.specs.Validity.{AreNames, IsAction, IsAlarmOf, due_of, is_cycle_of, no_counter}
 use Rattle.osek_standard.specs.Versions.{FitsVersion1}
-use Rattle.app_model.specs.declared.system.CounterObject.{CounterObject}
-use Rattle.app_model.specs.declared.system.TaskObject.{TaskObject}
-use Rattle.app_model.specs.declared.system.System.{System}
+use Rattle.oil_system.specs.declared.system.{CounterObject.{CounterObject}, TaskObject.{TaskObject}, System.{System}}
 use Rattle.oil_model.specs.Linkable.{IsActionAmong, IsAlarmAmong, IsLinkable, is_cycle_of_object, no_counter_object}
-use Rattle.task_code.specs.declared.tree.Body.{Body}
+use Rattle.task_code.specs.declared.tree.{Body.{Body}, Code.{Code}}
 use Rattle.task_code.specs.declared.tree.BodyKind.TheVariants as body_kind
-use Rattle.task_code.specs.declared.tree.Code.{Code}
-use Rattle.block_graph.specs.Apps.{counters_from, counters_of, extent, isr_with, isrs_of, task_with, tasks_of}
+use Rattle.block_graph.specs.Apps.{counters_from, counters_of, extent, isr_with, isrs_of, tables_over, task_with, tasks_of}
 use Rattle.block_graph.specs.Blocks.{app_blocks, routine, routine_size, routines, source_blocks, source_size}
 use Rattle.block_graph.specs.Faults.{HasNoFault}
+use Rattle.block_graph.proofs.OwnersCalls.{task_count}
 use Rattle.block_graph.proofs.OwnersLaws.{routine_length, source_length}
 use Rattle.block_graph.proofs.ExtentsLists.{all_at, each_map, each_of, mapped_twice}
 use Rattle.block_graph.proofs.ExtentsRules.{few_source_blocks}
@@ -49,9 +43,9 @@ counter_bounds s (x ∷ xs) c n (suc i) d e lt = counter_bounds s xs (c + 1) (n 
 
 -- ---- alarms
 
-action_named : (tasks : List Task) (s : System) (x : Action) → length tasks ≡ length s.tasks → IsActionAmong (length s.tasks) x → IsAction tasks s.alarms s.resources x
-action_named tasks s (action.ActivateTask t) same h = omega (arith, same, h)
-action_named tasks s (action.SetEvent t m) same h = (omega (arith, same, h.0), h.1)
+action_named : (s : System) (bodies : List Body) (blocks : List Block) (x : Action) → IsActionAmong (length s.tasks) x → IsAction (tables_over s bodies blocks) x
+action_named s bodies blocks (action.ActivateTask t) h = omega (arith, task_count s bodies, h)
+action_named s bodies blocks (action.SetEvent t m) h = (omega (arith, task_count s bodies, h.0), h.1)
 
 cycle_kept : (x : Counter) (o : CounterObject) (cycle : ℕ) → HasBounds x o → is_cycle_of_object o cycle ≡ true → is_cycle_of x cycle ≡ true
 cycle_kept x o cycle same e = (λ i. (cycle == 0) || (nat_le (same.1 i) cycle && nat_le cycle (same.0 i))) ∙ e
@@ -110,9 +104,6 @@ few_blocks s code linkable clean =
 -- ---- the tables
 
 module _ (s : System) (bodies : List Body) where
-  pub task_count : length (tasks_of s bodies) ≡ length s.tasks
-  task_count = length-map s.tasks (λ (x : TaskObject). task_with x (extent body_kind.Task x.name bodies 0))
-
   pub isr_count : length (isrs_of s bodies) ≡ length s.isrs
   isr_count = length-map s.isrs (λ (name : List ℕ). isr_with name (extent body_kind.Isr name bodies 0))
 
@@ -144,19 +135,19 @@ module _ (s : System) (bodies : List Body) (linkable : IsLinkable s) where
   pub min_cycles : All (λ (x : Counter). x.min_cycle ≤ x.max) (counters_of s bodies)
   min_cycles = λ k d lt. (counter_facts k d lt).1
 
-  alarm_kept : (blocks : List Block) (x : Alarm) → IsAlarmAmong (length s.tasks) s.counters x → IsAlarmOf (tasks_of s bodies) s.alarms s.resources blocks (counters_of s bodies) x
+  alarm_kept : (blocks : List Block) (x : Alarm) → IsAlarmAmong (length s.tasks) s.counters x → IsAlarmOf (tables_over s bodies blocks) x
   alarm_kept blocks x among =
       let same = counter_bounds s s.counters 0 (source_size bodies) x.counter.0 no_counter no_counter_object among.counter in
       let counter = slice_index_or (counters_of s bodies) x.counter.0 no_counter in
       let object = slice_index_or s.counters x.counter.0 no_counter_object in
       record {
         counter = omega (arith, among.counter, counter_count s s.counters 0 (source_size bodies));
-        action = action_named (tasks_of s bodies) s x.action (task_count s bodies) among.action;
+        action = action_named s bodies blocks x.action among.action;
         time = omega (arith, among.time, same.0);
         cycle = cycle_kept counter object x.cycle same among.cycle;
       }
 
-  pub each_alarm : (blocks : List Block) → All (IsAlarmOf (tasks_of s bodies) s.alarms s.resources blocks (counters_of s bodies)) s.alarms
+  pub each_alarm : (blocks : List Block) → All (IsAlarmOf (tables_over s bodies blocks)) s.alarms
   each_alarm blocks = λ k d lt. alarm_kept blocks (slice_index_or s.alarms k d) (linkable.each_alarm k d lt)
 
   pub version_1 : FitsVersion1 (tasks_of s bodies)

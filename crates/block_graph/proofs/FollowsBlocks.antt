@@ -5,16 +5,13 @@ use Rattle.osek_standard.specs.declared.block.Block.{Block}
 use Rattle.osek_standard.specs.declared.block.Kind.TheVariants as kind
 use Rattle.osek_standard.specs.Validity.{no_block}
 use Rattle.osek_values.specs.Numbers.{block_no}
-use Rattle.app_model.specs.declared.system.System.{System}
+use Rattle.oil_system.specs.declared.system.System.{System}
 use Rattle.task_code.specs.declared.call.Call.{Call}
-use Rattle.task_code.specs.declared.call.Call.TheVariants as call
-use Rattle.task_code.specs.declared.tree.Body.{Body}
-use Rattle.task_code.specs.declared.tree.Condition.{Condition}
-use Rattle.task_code.specs.declared.tree.Condition.TheVariants.{Choice, Always}
+use Rattle.task_code.specs.declared.tree.{Body.{Body}, Condition.{Condition}, Condition.TheVariants.{Choice, Always}}
 use Rattle.task_code.specs.Statements.{Statements, while_then, closing_line, nodes}
 use Rattle.block_graph.specs.declared.locks.Opener.{Opener}
 use Rattle.block_graph.specs.Locks.{open_behind, open_behind_call}
-use Rattle.block_graph.specs.Blocks.{block, blocks_of, body_blocks, end_kind, entry, kind_of}
+use Rattle.block_graph.specs.Blocks.{block, blocks_of, body_blocks, end_kind, entry, is_locked, kind_of}
 use Rattle.block_graph.specs.Follows.{Rest, behind_work, behind_if, behind_if_else, behind_while, behind_call, Branch, only, first, other, Way, start, past, into_branch, into_loop, Place, Enters, a_statement, no_more, Ends, of_body, of_branch, of_loop, of_rest, GoesTo, a_work, a_call, a_branch, no_else, a_loop, one_more, enough, passed, passed_into, before, number, statement_line, leads}
 use Rattle.block_graph.proofs.OwnersStatements.{blocks_length}
 
@@ -34,12 +31,19 @@ in_part xs ys size i d long low = get_or_append_left xs ys d i (omega arith)
 -- ---- the parts of a list of statements
 
 -- the locks behind its first
-abbrev locks_past : {xs next : Statements} → Rest xs next → List Opener → List Opener
+abbrev pub locks_past : {xs next : Statements} → Rest xs next → List Opener → List Opener
 locks_past behind_work locks = locks
 locks_past behind_if locks = locks
 locks_past (behind_if_else {branch = branch}) locks = open_behind branch locks
 locks_past behind_while locks = locks
 locks_past (behind_call {call = call}) locks = open_behind_call locks call
+
+-- the locks at the end of a way
+abbrev pub locks_at : {body xs : Statements} → Way body xs → List Opener
+locks_at start = []
+locks_at (past r w) = locks_past r (locks_at w)
+locks_at (into_branch b w) = locks_at w
+locks_at (into_loop w) = locks_at w
 
 rest_nodes : {xs next : Statements} (r : Rest xs next) → nodes xs ≡ passed r + nodes next
 rest_nodes behind_work = omega arith
@@ -185,25 +189,7 @@ module _ (s : System) where
 
   -- the block of a call leads to what follows it by each choice
   call_leads : (call : Call) (locks : List Opener) (line next : ℕ) (choice : Bool) → leads (block locks (kind_of s call) line next) choice ≡ next
-  call_leads (call.ActivateTask task) locks line next choice = refl
-  call_leads call.TerminateTask locks line next choice = refl
-  call_leads (call.ChainTask task) locks line next choice = refl
-  call_leads call.Schedule locks line next choice = refl
-  call_leads (call.GetResource resource) locks line next choice = refl
-  call_leads (call.ReleaseResource resource) locks line next choice = refl
-  call_leads (call.SetEvent task events) locks line next choice = refl
-  call_leads (call.ClearEvent events) locks line next choice = refl
-  call_leads (call.GetEvent task) locks line next choice = refl
-  call_leads (call.WaitEvent events) locks line next choice = refl
-  call_leads (call.SetRelAlarm alarm increment cycle) locks line next choice = refl
-  call_leads (call.SetAbsAlarm alarm begin cycle) locks line next choice = refl
-  call_leads (call.CancelAlarm alarm) locks line next choice = refl
-  call_leads (call.GetAlarm alarm) locks line next choice = refl
-  call_leads call.GetTaskId locks line next choice = refl
-  call_leads (call.GetTaskState task) locks line next choice = refl
-  call_leads call.GetActiveApplicationMode locks line next choice = refl
-  call_leads (call.ShutdownOs _) locks line next choice = refl
-  call_leads (call.LockCall lock) locks line next choice = refl
+  call_leads c locks line next choice = refl
 
   -- ---- ways
 
@@ -214,13 +200,6 @@ module _ (s : System) where
     list_end (past r w) = list_end w
     list_end (into_branch b w) = branch_end b (n + before w) (list_end w)
     list_end (into_loop w) = n + before w
-
-    -- the locks at the end of a way
-    abbrev locks_at : {xs : Statements} → Way body.statements xs → List Opener
-    locks_at start = []
-    locks_at (past r w) = locks_past r (locks_at w)
-    locks_at (into_branch b w) = locks_at w
-    locks_at (into_loop w) = locks_at w
 
     -- block i of the body
     abbrev body_at : ℕ → Block
@@ -309,6 +288,17 @@ module _ (s : System) where
 
     pub line_at : {xs next : Statements} (r : Rest xs next) (w : Way body.statements xs) → (body_at (before w)).line ≡ statement_line r
     line_at r w = ap (λ x. x.line) (head_at w (rest_some r)) ∙ head_line r (n + before w) (list_end w) (locks_at w)
+
+    head_locked : {xs next : Statements} (r : Rest xs next) (m after : ℕ) (locks : List Opener) → (at xs m after locks 0).locked ≡ is_locked locks
+    head_locked behind_work m after locks = refl
+    head_locked behind_if m after locks = refl
+    head_locked behind_if_else m after locks = refl
+    head_locked (behind_while {condition = Choice}) m after locks = refl
+    head_locked (behind_while {condition = Always}) m after locks = refl
+    head_locked behind_call m after locks = refl
+
+    pub locked_at : {xs next : Statements} (r : Rest xs next) (w : Way body.statements xs) → (body_at (before w)).locked ≡ is_locked (locks_at w)
+    locked_at r w = ap (λ x. x.locked) (head_at w (rest_some r)) ∙ head_locked r (n + before w) (list_end w) (locks_at w)
 
     pub brace_at : body_at (nodes body.statements) ≡ block [] (end_kind body.kind) (closing_line body.statements) (n + nodes body.statements)
     brace_at =

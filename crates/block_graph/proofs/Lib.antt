@@ -9,8 +9,10 @@ pub mod ExtentsPlaces
 pub mod ExtentsRules
 pub mod ExtentsTables
 pub mod FollowsBlocks
+pub mod FollowsLocks
 pub mod FollowsPlaces
 pub mod LeastFaults
+pub mod Numbered
 pub mod OneAnswer
 pub mod Openers
 pub mod OwnersCalls

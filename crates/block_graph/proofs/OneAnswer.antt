@@ -1,65 +1,39 @@
 -- A system and its code have one answer and no other.
-use Rattle.std.proofs.Common.{◌≡◌, ℕ, List, sym, ap, ◌∙◌, subst}
-use Rattle.std.specs.Prelude.{Result, Ok, Err}
-use Rattle.osek_values.specs.declared.hooks.HookSet.{HookSet}
+use Rattle.std.proofs.Common.{◌≡◌, sym, ap, ◌∙◌, subst}
+use Rattle.std.specs.Prelude.{IfOk, Result, Ok, Err}
 use Rattle.osek_standard.specs.declared.app.App.{App}
-use Rattle.osek_standard.specs.declared.block.Block.{Block}
-use Rattle.osek_standard.specs.declared.objects.Alarm.{Alarm}
-use Rattle.osek_standard.specs.declared.objects.Counter.{Counter}
-use Rattle.osek_standard.specs.declared.objects.Isr.{Isr}
-use Rattle.osek_standard.specs.declared.objects.Resource.{Resource}
-use Rattle.osek_standard.specs.declared.objects.Task.{Task}
+use Rattle.osek_standard.specs.Apps.{tables}
+use Rattle.osek_standard.specs.Tables.{Tables, tabled}
 use Rattle.osek_standard.specs.Validity.{IsValid, IsValid-prop}
-use Rattle.osek_standard.specs.Versions.{FitsVersion1, FitsVersion1-prop}
-use Rattle.app_model.specs.declared.system.System.{System}
+use Rattle.osek_standard.specs.Versions.{FitsVersion1}
+use Rattle.oil_system.specs.declared.system.System.{System}
+use Rattle.oil_model.specs.Linkable.{IsLinkable}
 use Rattle.task_code.specs.declared.tree.Code.{Code}
-use Rattle.block_graph.specs.declared.fault.LinkFault.{LinkFault}
-use Rattle.block_graph.specs.declared.fault.LinkError.{LinkError}
-use Rattle.block_graph.specs.declared.fault.LinkError.TheVariants.{Memory, Fault}
-use Rattle.block_graph.specs.Answers.{IsAnswer, IsRight, Answers}
+use Rattle.osek_values.specs.declared.refused.{LineFault.{LineFault}, Refused.{Refused}}
+use Rattle.osek_values.specs.declared.refusal.{CodeRule.{CodeRule}, CodeRule.TheVariants.{C1}}
+use Rattle.osek_values.specs.Answers.{IsRight}
+use Rattle.block_graph.specs.Answers.{IsAnswer}
 use Rattle.block_graph.specs.Apps.{HasApp}
-use Rattle.block_graph.specs.Faults.{IsLeastFault}
-use Rattle.block_graph.proofs.LeastFaults.{same_fault, no_fault}
+use Rattle.osek_values.proofs.LeastFaults.{same_fault, no_fault}
+use Rattle.block_graph.specs.Faults.{order}
+use Rattle.block_graph.proofs.LeastFaults.{rules, lines_in, all}
+use Rattle.block_graph.proofs.Valid.{fits_version_1}
 
--- an application without what is proved of it
-record Parts : Type 0 where
-  hooks : HookSet
-  tasks : List Task
-  isrs : List Isr
-  counters : List Counter
-  alarms : List Alarm
-  resources : List Resource
-  modes : List (List ℕ)
-  blocks : List Block
-
-abbrev parts_of : App → Parts
-parts_of a = record { hooks = a.hooks; tasks = a.tasks; isrs = a.isrs; counters = a.counters; alarms = a.alarms; resources = a.resources; modes = a.modes; blocks = a.blocks }
-
-abbrev IsValidOf : Parts → Type 0
-IsValidOf p = IsValid p.tasks p.alarms p.resources p.blocks p.isrs p.counters p.hooks p.modes
-
-abbrev app_with : (p : Parts) → IsValidOf p → FitsVersion1 p.tasks → App
-app_with p v w = record {
-  hooks = p.hooks;
-  tasks = p.tasks;
-  isrs = p.isrs;
-  counters = p.counters;
-  alarms = p.alarms;
-  resources = p.resources;
-  modes = p.modes;
-  blocks = p.blocks;
+abbrev app_with : (t : Tables) → IsValid t → App
+app_with t v = record {
+  hooks = t.hooks;
+  tasks = t.tasks;
+  isrs = t.isrs;
+  counters = t.counters;
+  alarms = t.alarms;
+  resources = t.resources;
+  modes = t.modes;
+  blocks = t.blocks;
   valid = v;
-  version_1 = w;
 }
 
-same_facts : (p : Parts) (v : IsValidOf p) (w : FitsVersion1 p.tasks) (v' : IsValidOf p) (w' : FitsVersion1 p.tasks) → app_with p v w ≡ app_with p v' w'
-same_facts p v w v' =
-    subst (λ (u : IsValidOf p). (w' : FitsVersion1 p.tasks) → app_with p v w ≡ app_with p u w')
-    (IsValid-prop p.tasks p.alarms p.resources p.blocks p.isrs p.counters p.hooks p.modes v v')
-    (λ w'. ap (app_with p v) (FitsVersion1-prop p.tasks w w'))
-
-same_parts : (p q : Parts) → p ≡ q → (v : IsValidOf p) (w : FitsVersion1 p.tasks) (v' : IsValidOf q) (w' : FitsVersion1 q.tasks) → app_with p v w ≡ app_with q v' w'
-same_parts p q e v w = subst (λ (r : Parts). (v' : IsValidOf r) (w' : FitsVersion1 r.tasks) → app_with p v w ≡ app_with r v' w') e (same_facts p v w)
+same_tables : (t u : Tables) → t ≡ u → (v : IsValid t) (w : IsValid u) → app_with t v ≡ app_with u w
+same_tables t u e v = subst (λ (r : Tables). (w : IsValid r) → app_with t v ≡ app_with r w) e (λ w. ap (app_with t) (IsValid-prop t v w))
 
 -- one application at most
 pub same_app : (s : System) (code : Code) (a b : App) → HasApp s code a → HasApp s code b → a ≡ b
@@ -72,21 +46,15 @@ same_app s code a b x y =
     let resources : a.resources ≡ b.resources = x.resources ∙ sym y.resources in
     let modes : a.modes ≡ b.modes = x.modes ∙ sym y.modes in
     let blocks : a.blocks ≡ b.blocks = x.blocks ∙ sym y.blocks in
-    let parts : parts_of a ≡ parts_of b = (λ i. record { hooks = hooks i; tasks = tasks i; isrs = isrs i; counters = counters i; alarms = alarms i; resources = resources i; modes = modes i; blocks = blocks i }) in
-    same_parts (parts_of a) (parts_of b) parts a.valid a.version_1 b.valid b.version_1
+    let same : tables a ≡ tables b = (λ i. tabled (hooks i) (tasks i) (isrs i) (counters i) (alarms i) (resources i) (modes i) (blocks i)) in
+    same_tables (tables a) (tables b) same a.valid b.valid
 
-pub one : (s : System) (code : Code) (a b : Result App LinkFault) → IsAnswer a s code → IsAnswer b s code → a ≡ b
+pub one : (s : System) (code : Code) (a b : Result App (LineFault CodeRule)) → IsAnswer a s code → IsAnswer b s code → a ≡ b
 one s code (Ok a) (Ok b) x y = ap (λ (v : App). Ok v) (same_app s code a b x y)
-one s code (Ok a) (Err f) x y = absurd (no_fault s code f y x.no_fault)
-one s code (Err f) (Ok a) x y = absurd (no_fault s code f x y.no_fault)
-one s code (Err f) (Err g) x y = ap (λ (e : LinkFault). Err e) (same_fault s code f g x y)
+one s code (Ok a) (Err f) x y = absurd (no_fault order (lines_in s code) f y x.no_fault)
+one s code (Err f) (Ok a) x y = absurd (no_fault order (lines_in s code) f x y.no_fault)
+one s code (Err f) (Err g) x y = ap (λ (e : LineFault CodeRule). Err e) (same_fault order (lines_in s code) rules C1 (all s code) f g x y)
 
-pub gives_app : (result : Result App LinkError) (s : System) (code : Code) (app : App) → IsRight result s code → HasApp s code app → Answers result (Ok app)
-gives_app (Ok a) s code app r h = ap (λ (v : App). Ok v) (same_app s code app a h r)
-gives_app (Err Memory) s code app r h = tt
-gives_app (Err (Fault f)) s code app r h = absurd (no_fault s code f r h.no_fault)
-
-pub gives_fault : (result : Result App LinkError) (s : System) (code : Code) (fault : LinkFault) → IsRight result s code → IsLeastFault s code fault.rule fault.line → Answers result (Err fault)
-gives_fault (Ok a) s code fault r x = absurd (no_fault s code fault x r.no_fault)
-gives_fault (Err Memory) s code fault r x = tt
-gives_fault (Err (Fault f)) s code fault r x = ap (λ (e : LinkFault). Err e) (same_fault s code fault f x r)
+pub gives_version_1 : (result : Result App (Refused (LineFault CodeRule))) (s : System) (code : Code) → IsLinkable s → IsRight (λ r. IsAnswer r s code) result → IfOk result (λ app. FitsVersion1 app.tasks)
+gives_version_1 (Ok app) s code linkable r = subst FitsVersion1 (sym r.tasks) (fits_version_1 s code linkable)
+gives_version_1 (Err e) s code linkable r = tt

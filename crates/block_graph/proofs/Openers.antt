@@ -1,7 +1,7 @@
 -- Whether two lists of openers are the same, step by step.
 use Rattle.std.proofs.Common.{◌≡◌, ◌≢◌, ℕ, ◌+◌, ◌<◌, List, [], ◌∷◌, length, get_or, drop, Bool, true, false, ◌&&◌, refl, arith}
 use Rattle.std.proofs.lemmas.List.{drop_more}
-use Rattle.block_graph.specs.declared.locks.Opener.{Opener}
+use Rattle.block_graph.specs.declared.locks.{Opener.{Opener}, Opener.TheVariants.{SuspendAll, SuspendOs, DisableAll}}
 use Rattle.block_graph.specs.Locks.{is_opener, are_same}
 
 and_false : (a b : Bool) → b ≡ false → (a && b) ≡ false
@@ -17,3 +17,23 @@ different (x ∷ a) (y ∷ b) h = let shorter : length a ≢ length b = λ e. h 
 module _ (a b : List Opener) (i : ℕ) (x y : Opener) (in_a : i < length a) (in_b : i < length b) where
   pub split : are_same (drop i a) (drop i b) ≡ (is_opener (get_or a i x) (get_or b i y) && are_same (drop (i + 1) a) (drop (i + 1) b))
   split = (λ k. are_same (drop_more a i x in_a k) (drop_more b i y in_b k))
+
+is_same : (x y : Opener) → is_opener x y ≡ true → x ≡ y
+is_same SuspendAll SuspendAll e = refl
+is_same SuspendOs SuspendOs e = refl
+is_same DisableAll DisableAll e = refl
+is_same _ _ e = absurd cc
+
+and_true : (a b : Bool) → (a && b) ≡ true → (a ≡ true) × (b ≡ true)
+and_true true b e = (refl, e)
+and_true false b e = absurd cc
+
+pub equal : (a b : List Opener) → are_same a b ≡ true → a ≡ b
+equal [] [] e = refl
+equal [] (y ∷ b) e = absurd cc
+equal (x ∷ a) [] e = absurd cc
+equal (x ∷ a) (y ∷ b) e =
+    let both = and_true (is_opener x y) (are_same a b) e in
+    let first : x ≡ y = is_same x y both.0 in
+    let others : a ≡ b = equal a b both.1 in
+    cc

@@ -3,18 +3,18 @@ use Rattle.std.proofs.Common.{◌≡◌, ℕ, ◌<◌, ◌≤◌, Bool, true, fa
 use Rattle.std.specs.Prelude.{All, Some, None, unwrap_or}
 use Rattle.std.specs.List.{position, position_or_len, flat_map}
 use Rattle.std.proofs.lemmas.Bool.{ltb-true}
+use Rattle.std.proofs.lemmas.List.{length-map}
 use Rattle.std.proofs.lemmas.Nat.{le_or_l}
 use Rattle.osek_standard.specs.declared.block.Block.{Block}
-use Rattle.osek_standard.specs.declared.objects.Alarm.{Alarm}
-use Rattle.osek_standard.specs.declared.objects.Resource.{Resource}
-use Rattle.osek_standard.specs.declared.objects.Task.{Task}
+use Rattle.osek_standard.specs.Tables.{Tables}
 use Rattle.osek_standard.specs.Validity.{IsOtherWay, NamesEntries, isr_may, is_own_next, task_may}
-use Rattle.app_model.specs.declared.system.EventObject.{EventObject}
-use Rattle.app_model.specs.declared.system.System.{System}
-use Rattle.task_code.specs.declared.call.Reference.{Reference}
-use Rattle.task_code.specs.declared.call.Call.{Call}
+use Rattle.oil_system.specs.declared.system.{EventObject.{EventObject}, TaskObject.{TaskObject}, System.{System}}
+use Rattle.task_code.specs.declared.call.{Reference.{Reference}, Call.{Call}}
 use Rattle.task_code.specs.declared.call.Call.TheVariants as call
+use Rattle.task_code.specs.declared.tree.Body.{Body}
+use Rattle.task_code.specs.declared.tree.BodyKind.TheVariants as body_kind
 use Rattle.task_code.specs.Fit.{NamesEvents}
+use Rattle.block_graph.specs.Apps.{extent, tables_over, task_with, tasks_of}
 use Rattle.block_graph.specs.Blocks.{event_bits, kind_of, mask_bits}
 use Rattle.block_graph.specs.Blocks as graph
 use Rattle.block_graph.specs.Names.{alarm_of, event_of, resource_of, task_of}
@@ -33,10 +33,13 @@ number_inside : {X : Type 0} (test : X → Bool) (table : List X) (line : ℕ) �
 number_inside test table line e = below (ltb (position_or_len test table) (length table)) (position_or_len test table) (length table) line refl e
 
 module _ (s : System) where
-  task_inside : (r : Reference) (tasks : List Task) → length tasks ≡ length s.tasks → no_task s r ≡ [] → unwrap_or (task_of s r.name) 0 < length tasks
-  task_inside r tasks same e =
+  pub task_count : (bodies : List Body) → length (tasks_of s bodies) ≡ length s.tasks
+  task_count bodies = length-map s.tasks (λ (x : TaskObject). task_with x (extent body_kind.Task x.name bodies 0))
+
+  task_inside : (r : Reference) (bodies : List Body) → no_task s r ≡ [] → unwrap_or (task_of s r.name) 0 < length (tasks_of s bodies)
+  task_inside r bodies e =
       let inside : unwrap_or (task_of s r.name) 0 < length s.tasks = number_inside _ s.tasks r.line e in
-      subst (λ (n : ℕ). unwrap_or (task_of s r.name) 0 < n) (sym same) inside
+      subst (λ (n : ℕ). unwrap_or (task_of s r.name) 0 < n) (sym (task_count bodies)) inside
 
   alarm_inside : (r : Reference) → no_alarm s r ≡ [] → unwrap_or (alarm_of s r.name) 0 < length s.alarms
   alarm_inside r e = number_inside _ s.alarms r.line e
@@ -55,51 +58,33 @@ module _ (s : System) where
       let bit : 0 < event_bits s r = some_bit r events (both_empty (no_event s r) (flat_map (no_event s) more) e).0 in
       omega (arith, bit, le_or_l (event_bits s r) (mask_bits s more))
 
-  pub call_names_entries : (tasks : List Task) → length tasks ≡ length s.tasks → All (λ (x : EventObject). 0 < x.mask.0) s.events
-      → (line : ℕ) (c : Call) → NamesEvents c → undeclared_in s line c ≡ [] → NamesEntries tasks s.alarms s.resources (kind_of s c)
-  call_names_entries tasks same events line (call.ActivateTask task) m e = task_inside task tasks same e
-  call_names_entries tasks same events line call.TerminateTask m e = tt
-  call_names_entries tasks same events line (call.ChainTask task) m e = task_inside task tasks same e
-  call_names_entries tasks same events line call.Schedule m e = tt
-  call_names_entries tasks same events line (call.GetResource resource) m e = resource_inside resource e
-  call_names_entries tasks same events line (call.ReleaseResource resource) m e = resource_inside resource e
-  call_names_entries tasks same events line (call.SetEvent task mask) m e =
+  pub call_names_entries : (bodies : List Body) (blocks : List Block) → All (λ (x : EventObject). 0 < x.mask.0) s.events
+      → (line : ℕ) (c : Call) → NamesEvents c → undeclared_in s line c ≡ [] → NamesEntries (tables_over s bodies blocks) (kind_of s c)
+  call_names_entries bodies blocks events line (call.ActivateTask task) m e = task_inside task bodies e
+  call_names_entries bodies blocks events line call.TerminateTask m e = tt
+  call_names_entries bodies blocks events line (call.ChainTask task) m e = task_inside task bodies e
+  call_names_entries bodies blocks events line call.Schedule m e = tt
+  call_names_entries bodies blocks events line (call.GetResource resource) m e = resource_inside resource e
+  call_names_entries bodies blocks events line (call.ReleaseResource resource) m e = resource_inside resource e
+  call_names_entries bodies blocks events line (call.SetEvent task mask) m e =
       let parts = both_empty (no_task s task) (flat_map (no_event s) mask) e in
-      (task_inside task tasks same parts.0, some_bits mask events m parts.1)
-  call_names_entries tasks same events line (call.ClearEvent mask) m e = some_bits mask events m e
-  call_names_entries tasks same events line (call.GetEvent task) m e = task_inside task tasks same e
-  call_names_entries tasks same events line (call.WaitEvent mask) m e = some_bits mask events m e
-  call_names_entries tasks same events line (call.SetRelAlarm alarm increment cycle) m e = alarm_inside alarm e
-  call_names_entries tasks same events line (call.SetAbsAlarm alarm start cycle) m e = alarm_inside alarm e
-  call_names_entries tasks same events line (call.CancelAlarm alarm) m e = alarm_inside alarm e
-  call_names_entries tasks same events line (call.GetAlarm alarm) m e = alarm_inside alarm e
-  call_names_entries tasks same events line call.GetTaskId m e = tt
-  call_names_entries tasks same events line (call.GetTaskState task) m e = task_inside task tasks same e
-  call_names_entries tasks same events line call.GetActiveApplicationMode m e = tt
-  call_names_entries tasks same events line (call.ShutdownOs _) m e = tt
-  call_names_entries tasks same events line (call.LockCall lock) m e = tt
+      (task_inside task bodies parts.0, some_bits mask events m parts.1)
+  call_names_entries bodies blocks events line (call.ClearEvent mask) m e = some_bits mask events m e
+  call_names_entries bodies blocks events line (call.GetEvent task) m e = task_inside task bodies e
+  call_names_entries bodies blocks events line (call.WaitEvent mask) m e = some_bits mask events m e
+  call_names_entries bodies blocks events line (call.SetRelAlarm alarm increment cycle) m e = alarm_inside alarm e
+  call_names_entries bodies blocks events line (call.SetAbsAlarm alarm start cycle) m e = alarm_inside alarm e
+  call_names_entries bodies blocks events line (call.CancelAlarm alarm) m e = alarm_inside alarm e
+  call_names_entries bodies blocks events line (call.GetAlarm alarm) m e = alarm_inside alarm e
+  call_names_entries bodies blocks events line call.GetTaskId m e = tt
+  call_names_entries bodies blocks events line (call.GetTaskState task) m e = task_inside task bodies e
+  call_names_entries bodies blocks events line call.GetActiveApplicationMode m e = tt
+  call_names_entries bodies blocks events line (call.ShutdownOs _) m e = tt
+  call_names_entries bodies blocks events line (call.LockCall lock) m e = tt
 
   -- a call is no end, and has one way on
   pub call_in_task : (c : Call) → IsTrue (task_may false (kind_of s c))
-  call_in_task (call.ActivateTask task) = refl
-  call_in_task call.TerminateTask = refl
-  call_in_task (call.ChainTask task) = refl
-  call_in_task call.Schedule = refl
-  call_in_task (call.GetResource resource) = refl
-  call_in_task (call.ReleaseResource resource) = refl
-  call_in_task (call.SetEvent task mask) = refl
-  call_in_task (call.ClearEvent mask) = refl
-  call_in_task (call.GetEvent task) = refl
-  call_in_task (call.WaitEvent mask) = refl
-  call_in_task (call.SetRelAlarm alarm increment cycle) = refl
-  call_in_task (call.SetAbsAlarm alarm start cycle) = refl
-  call_in_task (call.CancelAlarm alarm) = refl
-  call_in_task (call.GetAlarm alarm) = refl
-  call_in_task call.GetTaskId = refl
-  call_in_task (call.GetTaskState task) = refl
-  call_in_task call.GetActiveApplicationMode = refl
-  call_in_task (call.ShutdownOs _) = refl
-  call_in_task (call.LockCall lock) = refl
+  call_in_task c = refl
 
   pub call_in_isr : (line : ℕ) (c : Call) → of_resource line c ≡ [] → IsTrue (isr_may false (kind_of s c))
   call_in_isr line (call.ActivateTask task) e = refl
@@ -123,43 +108,7 @@ module _ (s : System) where
   call_in_isr line (call.LockCall lock) e = refl
 
   pub call_goes_on : (b next : ℕ) (c : Call) → IsTrue (is_own_next b (kind_of s c) next)
-  call_goes_on b next (call.ActivateTask task) = refl
-  call_goes_on b next call.TerminateTask = refl
-  call_goes_on b next (call.ChainTask task) = refl
-  call_goes_on b next call.Schedule = refl
-  call_goes_on b next (call.GetResource resource) = refl
-  call_goes_on b next (call.ReleaseResource resource) = refl
-  call_goes_on b next (call.SetEvent task mask) = refl
-  call_goes_on b next (call.ClearEvent mask) = refl
-  call_goes_on b next (call.GetEvent task) = refl
-  call_goes_on b next (call.WaitEvent mask) = refl
-  call_goes_on b next (call.SetRelAlarm alarm increment cycle) = refl
-  call_goes_on b next (call.SetAbsAlarm alarm start cycle) = refl
-  call_goes_on b next (call.CancelAlarm alarm) = refl
-  call_goes_on b next (call.GetAlarm alarm) = refl
-  call_goes_on b next call.GetTaskId = refl
-  call_goes_on b next (call.GetTaskState task) = refl
-  call_goes_on b next call.GetActiveApplicationMode = refl
-  call_goes_on b next (call.ShutdownOs _) = refl
-  call_goes_on b next (call.LockCall lock) = refl
+  call_goes_on b next c = refl
 
-  pub call_has_one_way : (tasks : List Task) (alarms : List Alarm) (resources : List Resource) (blocks : List Block) (first count : ℕ) (c : Call) → IsOtherWay tasks alarms resources blocks first count (kind_of s c)
-  call_has_one_way tasks alarms resources blocks first count (call.ActivateTask task) = tt
-  call_has_one_way tasks alarms resources blocks first count call.TerminateTask = tt
-  call_has_one_way tasks alarms resources blocks first count (call.ChainTask task) = tt
-  call_has_one_way tasks alarms resources blocks first count call.Schedule = tt
-  call_has_one_way tasks alarms resources blocks first count (call.GetResource resource) = tt
-  call_has_one_way tasks alarms resources blocks first count (call.ReleaseResource resource) = tt
-  call_has_one_way tasks alarms resources blocks first count (call.SetEvent task mask) = tt
-  call_has_one_way tasks alarms resources blocks first count (call.ClearEvent mask) = tt
-  call_has_one_way tasks alarms resources blocks first count (call.GetEvent task) = tt
-  call_has_one_way tasks alarms resources blocks first count (call.WaitEvent mask) = tt
-  call_has_one_way tasks alarms resources blocks first count (call.SetRelAlarm alarm increment cycle) = tt
-  call_has_one_way tasks alarms resources blocks first count (call.SetAbsAlarm alarm start cycle) = tt
-  call_has_one_way tasks alarms resources blocks first count (call.CancelAlarm alarm) = tt
-  call_has_one_way tasks alarms resources blocks first count (call.GetAlarm alarm) = tt
-  call_has_one_way tasks alarms resources blocks first count call.GetTaskId = tt
-  call_has_one_way tasks alarms resources blocks first count (call.GetTaskState task) = tt
-  call_has_one_way tasks alarms resources blocks first count call.GetActiveApplicationMode = tt
-  call_has_one_way tasks alarms resources blocks first count (call.ShutdownOs _) = tt
-  call_has_one_way tasks alarms resources blocks first count (call.LockCall lock) = tt
+  pub call_has_one_way : (t : Tables) (first count : ℕ) (c : Call) → IsOtherWay t first count (kind_of s c)
+  call_has_one_way t first count c = tt

@@ -5,15 +5,14 @@ use Rattle.std.proofs.lemmas.Bool.{eq-eqb, ne_eqb}
 use Rattle.std.proofs.lemmas.List.Sums.{sum_by-cons}
 use Rattle.osek_standard.specs.declared.block.Block.{Block}
 use Rattle.osek_standard.specs.declared.objects.Alarm.{Alarm}
-use Rattle.osek_standard.specs.declared.objects.Task.{Task}
 use Rattle.osek_standard.specs.Validity.{IsIsrCode, IsOwner, IsTaskCode, IsTickCode, due_of, isr_may, no_block, task_may}
-use Rattle.app_model.specs.declared.system.System.{System}
+use Rattle.oil_system.specs.declared.system.System.{System}
 use Rattle.oil_model.specs.Linkable.{IsLinkable}
-use Rattle.task_code.specs.declared.tree.Body.{Body}
-use Rattle.task_code.specs.declared.tree.BodyKind.{BodyKind}
+use Rattle.task_code.specs.declared.tree.{Body.{Body}, BodyKind.{BodyKind}}
 use Rattle.task_code.specs.declared.tree.BodyKind.TheVariants as body_kind
 use Rattle.task_code.specs.Fit.{IsFit}
 use Rattle.task_code.specs.Statements.{closing_line, nodes}
+use Rattle.block_graph.specs.Apps.{tables_over}
 use Rattle.block_graph.specs.Blocks.{block, blocks_of, body_blocks, end_kind, routine, routine_size, size, source_blocks, source_size}
 use Rattle.block_graph.specs.Rules.{from_calls, of_resource, undeclared_in}
 use Rattle.block_graph.proofs.OwnersEach.{AllFrom, all_from_append, all_from_at, all_from_weaker}
@@ -43,11 +42,11 @@ due_inside alarms c = due_below alarms c
 -- ---- the blocks of an owner at their place
 
 -- any blocks each of which is good
-owner_at : (s : System) (tasks : List Task) (pre xs post : List Block) (n count : ℕ) → length pre ≡ n → length xs ≡ count → 0 < count
-    → AllFrom (Good s tasks (pre ++ (xs ++ post)) n count) n xs → IsOwner tasks s.alarms s.resources (pre ++ (xs ++ post)) n count
-owner_at s tasks pre xs post n count place size some good =
+owner_at : (s : System) (bodies : List Body) (pre xs post : List Block) (n count : ℕ) → length pre ≡ n → length xs ≡ count → 0 < count
+    → AllFrom (Good s bodies (pre ++ (xs ++ post)) n count) n xs → IsOwner (tables_over s bodies (pre ++ (xs ++ post))) n count
+owner_at s bodies pre xs post n count place size some good =
     let blocks = pre ++ (xs ++ post) in
-    let at : (b : ℕ) (d : Block) → n ≤ b → b < n + count → IsGood s tasks blocks n count b (get_or blocks b d) = λ b d low high. all_from_at (Good s tasks blocks n count) n pre xs post place good b d low (omega arith) in
+    let at : (b : ℕ) (d : Block) → n ≤ b → b < n + count → IsGood s bodies blocks n count b (get_or blocks b d) = λ b d low high. all_from_at (Good s bodies blocks n count) n pre xs post place good b d low (omega arith) in
     record {
       some = some;
       inside = omega (arith, length-append pre (xs ++ post), length-append xs post);
@@ -56,8 +55,8 @@ owner_at s tasks pre xs post n count place size some good =
     }
 
 -- a closing brace
-module _ (s : System) (tasks : List Task) (blocks : List Block) (first count : ℕ) where
-  end_is_good : (kind : BodyKind) (line b : ℕ) → first ≤ b → b < first + count → IsGood s tasks blocks first count b (block [] (end_kind kind) line b)
+module _ (s : System) (bodies : List Body) (blocks : List Block) (first count : ℕ) where
+  end_is_good : (kind : BodyKind) (line b : ℕ) → first ≤ b → b < first + count → IsGood s bodies blocks first count b (block [] (end_kind kind) line b)
   end_is_good body_kind.Task line b low high = record { own_next = eq-eqb b b refl; is_block = record { operands = tt; next = (low, high); other = tt } }
   end_is_good body_kind.Isr line b low high = record { own_next = eq-eqb b b refl; is_block = record { operands = tt; next = (low, high); other = tt } }
 
@@ -69,18 +68,18 @@ body_each P s body n each last =
     all_from_append P n (nodes body.statements) (blocks_of s body.statements n end []) (block [] (end_kind body.kind) (closing_line body.statements) end ∷ [])
     (blocks_length s body.statements n end []) each (last, tt)
 
--- A body at its place. Of the tasks only how many there are counts.
-pub body_is_owner : (s : System) (tasks : List Task) (pre post : List Block) (body : Body) (n : ℕ) → length tasks ≡ length s.tasks → length pre ≡ n
+-- a body at its place
+pub body_is_owner : (s : System) (bodies : List Body) (pre post : List Block) (body : Body) (n : ℕ) → length pre ≡ n
     → IsLinkable s → IsFit body → from_calls (undeclared_in s) body.statements ≡ []
-    → IsOwner tasks s.alarms s.resources (pre ++ (body_blocks s body n ++ post)) n (size body)
-body_is_owner s tasks pre post body n same_tasks place linkable fit declared =
+    → IsOwner (tables_over s bodies (pre ++ (body_blocks s body n ++ post))) n (size body)
+body_is_owner s bodies pre post body n place linkable fit declared =
     let blocks = pre ++ (body_blocks s body n ++ post) in
     let end = n + nodes body.statements in
-    let lie : Lie s tasks blocks n (size body) body.statements n end = (omega arith, omega arith, (omega arith, omega arith)) in
-    owner_at s tasks pre (body_blocks s body n) post n (size body) place (body_size s body n) (omega arith)
-    (body_each (Good s tasks blocks n (size body)) s body n
-    (blocks_are_good s tasks blocks n (size body) same_tasks linkable.each_event body.statements n end [] lie fit.counts fit.masks declared)
-    (end_is_good s tasks blocks n (size body) body.kind (closing_line body.statements) end (omega arith) (omega arith)))
+    let lie : Lie s bodies blocks n (size body) body.statements n end = (omega arith, omega arith, (omega arith, omega arith)) in
+    owner_at s bodies pre (body_blocks s body n) post n (size body) place (body_size s body n) (omega arith)
+    (body_each (Good s bodies blocks n (size body)) s body n
+    (blocks_are_good s bodies blocks n (size body) linkable.each_event body.statements n end [] lie fit.counts fit.masks declared)
+    (end_is_good s bodies blocks n (size body) body.kind (closing_line body.statements) end (omega arith) (omega arith)))
 
 -- Of a body only its closing brace stands last.
 abbrev TaskAt : ℕ → ℕ → Block → Type 0
@@ -115,30 +114,30 @@ isr_each s body n isr no_resources =
     (blocks_in_isr s body.statements n end [] no_resources))
     (subst (λ (k : BodyKind). IsTrue (isr_may (eqb (end + 1) (n + size body)) (end_kind k))) (sym isr) last)
 
-pub body_is_task_code : (s : System) (tasks : List Task) (pre post : List Block) (body : Body) (n : ℕ) → length tasks ≡ length s.tasks → length pre ≡ n
+pub body_is_task_code : (s : System) (bodies : List Body) (pre post : List Block) (body : Body) (n : ℕ) → length pre ≡ n
     → IsLinkable s → IsFit body → from_calls (undeclared_in s) body.statements ≡ [] → body.kind ≡ body_kind.Task
-    → IsTaskCode tasks s.alarms s.resources (pre ++ (body_blocks s body n ++ post)) n (size body)
-body_is_task_code s tasks pre post body n same_tasks place linkable fit declared task = record {
+    → IsTaskCode (tables_over s bodies (pre ++ (body_blocks s body n ++ post))) n (size body)
+body_is_task_code s bodies pre post body n place linkable fit declared task = record {
   each = λ b m. all_from_at (TaskAt (n + size body)) n pre (body_blocks s body n) post place (task_each s body n task) b no_block m.0 (omega (arith, m.1, body_size s body n));
 }
 
-pub body_is_isr_code : (s : System) (tasks : List Task) (pre post : List Block) (body : Body) (n : ℕ) → length tasks ≡ length s.tasks → length pre ≡ n
+pub body_is_isr_code : (s : System) (bodies : List Body) (pre post : List Block) (body : Body) (n : ℕ) → length pre ≡ n
     → IsLinkable s → IsFit body → from_calls (undeclared_in s) body.statements ≡ [] → body.kind ≡ body_kind.Isr → from_calls of_resource body.statements ≡ []
-    → IsIsrCode tasks s.alarms s.resources (pre ++ (body_blocks s body n ++ post)) n (size body)
-body_is_isr_code s tasks pre post body n same_tasks place linkable fit declared isr no_resources = record {
+    → IsIsrCode (tables_over s bodies (pre ++ (body_blocks s body n ++ post))) n (size body)
+body_is_isr_code s bodies pre post body n place linkable fit declared isr no_resources = record {
   each = λ b m. all_from_at (IsrAt (n + size body)) n pre (body_blocks s body n) post place (isr_each s body n isr no_resources) b no_block m.0 (omega (arith, m.1, body_size s body n));
 }
 
 -- a tick routine at its place
-pub routine_is_owner : (s : System) (tasks : List Task) (pre post : List Block) (due : List ℕ) (n : ℕ) → length pre ≡ n → All (λ (a : ℕ). a < length s.alarms) due
-    → IsOwner tasks s.alarms s.resources (pre ++ (routine due n ++ post)) n (routine_size due)
-routine_is_owner s tasks pre post due n place inside =
-    owner_at s tasks pre (routine due n) post n (routine_size due) place (routine_length due n) (omega arith)
-    (routine_is_good s tasks (pre ++ (routine due n ++ post)) n (routine_size due) due (omega arith) inside)
+pub routine_is_owner : (s : System) (bodies : List Body) (pre post : List Block) (due : List ℕ) (n : ℕ) → length pre ≡ n → All (λ (a : ℕ). a < length s.alarms) due
+    → IsOwner (tables_over s bodies (pre ++ (routine due n ++ post))) n (routine_size due)
+routine_is_owner s bodies pre post due n place inside =
+    owner_at s bodies pre (routine due n) post n (routine_size due) place (routine_length due n) (omega arith)
+    (routine_is_good s bodies (pre ++ (routine due n ++ post)) n (routine_size due) due (omega arith) inside)
 
-pub routine_is_tick_code : (s : System) (tasks : List Task) (pre post : List Block) (due : List ℕ) (n : ℕ) → length pre ≡ n → All (λ (a : ℕ). a < length s.alarms) due
-    → IsTickCode tasks s.alarms s.resources (pre ++ (routine due n ++ post)) due n (routine_size due)
-routine_is_tick_code s tasks pre post due n place inside =
+pub routine_is_tick_code : (s : System) (bodies : List Body) (pre post : List Block) (due : List ℕ) (n : ℕ) → length pre ≡ n → All (λ (a : ℕ). a < length s.alarms) due
+    → IsTickCode (tables_over s bodies (pre ++ (routine due n ++ post))) due n (routine_size due)
+routine_is_tick_code s bodies pre post due n place inside =
     let long = routine_length due n in
     record {
       size = refl;

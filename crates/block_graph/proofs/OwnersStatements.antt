@@ -2,15 +2,14 @@
 use Rattle.std.proofs.Common.{◌≡◌, ℕ, ◌+◌, ◌<◌, ◌≤◌, false, List, [], ◌++◌, length, refl, arith, IsTrue, length-append}
 use Rattle.std.specs.Prelude.{All}
 use Rattle.osek_standard.specs.declared.block.Block.{Block}
-use Rattle.osek_standard.specs.declared.objects.Task.{Task}
 use Rattle.osek_standard.specs.Validity.{IsAmong, IsBlock, isr_may, is_own_next, task_may}
-use Rattle.app_model.specs.declared.system.EventObject.{EventObject}
-use Rattle.app_model.specs.declared.system.System.{System}
-use Rattle.task_code.specs.declared.tree.Condition.TheVariants.{Choice, Always}
+use Rattle.oil_system.specs.declared.system.{EventObject.{EventObject}, System.{System}}
+use Rattle.task_code.specs.declared.tree.{Body.{Body}, Condition.TheVariants.{Choice, Always}}
 use Rattle.task_code.specs.Fit.{HasCounts, HasMasks}
 use Rattle.task_code.proofs.FitLaws.{count_range}
 use Rattle.task_code.specs.Statements.{Statements, closed, work_then, if_then, if_else_then, while_then, call_then, nodes}
 use Rattle.block_graph.specs.declared.locks.Opener.{Opener}
+use Rattle.block_graph.specs.Apps.{tables_over}
 use Rattle.block_graph.specs.Blocks.{blocks_of, entry}
 use Rattle.block_graph.specs.Locks.{open_behind, open_behind_call}
 use Rattle.block_graph.specs.Rules.{from_calls, of_resource, undeclared_in}
@@ -44,11 +43,11 @@ blocks_length s (while_then line Always body next) n after locks =
 blocks_length s (call_then line call next) n after locks = omega (arith, blocks_length s next (n + 1) after (open_behind_call locks call))
 
 -- of a block of an owner, by its number
-pub record IsGood (s : System) (tasks : List Task) (blocks : List Block) (first count b : ℕ) (x : Block) : Type 0 where
+pub record IsGood (s : System) (bodies : List Body) (blocks : List Block) (first count b : ℕ) (x : Block) : Type 0 where
   pub own_next : IsTrue (is_own_next b x.kind x.next.0)
-  pub is_block : IsBlock tasks s.alarms s.resources blocks first count x
+  pub is_block : IsBlock (tables_over s bodies blocks) first count x
 
-module _ (s : System) (tasks : List Task) (blocks : List Block) (first count : ℕ) where
+module _ (s : System) (bodies : List Body) (blocks : List Block) (first count : ℕ) where
   -- statements lie among the owner's blocks, and so does what follows them
   abbrev pub Lie : Statements → ℕ → ℕ → Type 0
   Lie xs n after = (first ≤ n) × (n + nodes xs < first + count) × IsAmong after first count
@@ -62,9 +61,9 @@ module _ (s : System) (tasks : List Task) (blocks : List Block) (first count : �
   entry_among (call_then line call next) n after lie = (lie.0, omega arith)
 
   abbrev pub Good : ℕ → Block → Type 0
-  Good b x = IsGood s tasks blocks first count b x
+  Good b x = IsGood s bodies blocks first count b x
 
-  module _ (same_tasks : length tasks ≡ length s.tasks) (events : All (λ (x : EventObject). 0 < x.mask.0) s.events) where
+  module _ (events : All (λ (x : EventObject). 0 < x.mask.0) s.events) where
     pub blocks_are_good : (xs : Statements) (n after : ℕ) (locks : List Opener) → Lie xs n after → HasCounts xs → HasMasks xs → from_calls (undeclared_in s) xs ≡ []
         → AllFrom Good n (blocks_of s xs n after locks)
     blocks_are_good (closed line) n after locks lie counts masks declared = tt
@@ -126,9 +125,9 @@ module _ (s : System) (tasks : List Task) (blocks : List Block) (first count : �
           record {
             own_next = call_goes_on s n (entry next (n + 1) after) call;
             is_block = record {
-              operands = call_names_entries s tasks same_tasks events line call masks.0 names.0;
+              operands = call_names_entries s bodies blocks events line call masks.0 names.0;
               next = entry_among next (n + 1) after rest;
-              other = call_has_one_way s tasks s.alarms s.resources blocks first count call;
+              other = call_has_one_way s (tables_over s bodies blocks) first count call;
             };
           },
           blocks_are_good next (n + 1) after (open_behind_call locks call) rest counts masks.1 names.1,

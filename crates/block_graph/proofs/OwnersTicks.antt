@@ -9,9 +9,9 @@ use Rattle.std.proofs.lemmas.List.Elements.{All-filter, All-head, All-map, All-t
 use Rattle.std.proofs.lemmas.List.FromFn.{get_or-enumerate_from, length-enumerate_from}
 use Rattle.osek_standard.specs.declared.block.Block.{Block}
 use Rattle.osek_standard.specs.declared.objects.Alarm.{Alarm}
-use Rattle.osek_standard.specs.declared.objects.Task.{Task}
 use Rattle.osek_standard.specs.Validity.{due_of, tick_may}
-use Rattle.app_model.specs.declared.system.System.{System}
+use Rattle.oil_system.specs.declared.system.System.{System}
+use Rattle.task_code.specs.declared.tree.Body.{Body}
 use Rattle.block_graph.specs.Blocks.{expiries, routine}
 use Rattle.block_graph.proofs.OwnersEach.{AllFrom}
 use Rattle.block_graph.proofs.OwnersStatements.{Good}
@@ -20,15 +20,15 @@ pub expiries_length : (due : List ℕ) (n : ℕ) → length (expiries due n) ≡
 expiries_length [] n = refl
 expiries_length (alarm ∷ due) n = omega (arith, expiries_length due (n + 1))
 
-module _ (s : System) (tasks : List Task) (blocks : List Block) (first count : ℕ) where
-  pub expiries_are_good : (due : List ℕ) (n : ℕ) → first ≤ n → n + length due < first + count → All (λ (a : ℕ). a < length s.alarms) due → AllFrom (Good s tasks blocks first count) n (expiries due n)
+module _ (s : System) (bodies : List Body) (blocks : List Block) (first count : ℕ) where
+  pub expiries_are_good : (due : List ℕ) (n : ℕ) → first ≤ n → n + length due < first + count → All (λ (a : ℕ). a < length s.alarms) due → AllFrom (Good s bodies blocks first count) n (expiries due n)
   expiries_are_good [] n low high inside = (record { own_next = eq-eqb n n refl; is_block = record { operands = tt; next = (low, omega arith); other = tt } }, tt)
   expiries_are_good (alarm ∷ due) n low high inside = (
     record { own_next = refl; is_block = record { operands = All-head (λ (a : ℕ). a < length s.alarms) alarm due inside; next = (omega arith, omega arith); other = tt } },
     expiries_are_good due (n + 1) (omega arith) (omega arith) (All-tail (λ (a : ℕ). a < length s.alarms) alarm due inside),
   )
 
-  pub routine_is_good : (due : List ℕ) → length due + 2 ≤ count → All (λ (a : ℕ). a < length s.alarms) due → AllFrom (Good s tasks blocks first count) first (routine due first)
+  pub routine_is_good : (due : List ℕ) → length due + 2 ≤ count → All (λ (a : ℕ). a < length s.alarms) due → AllFrom (Good s bodies blocks first count) first (routine due first)
   routine_is_good due room inside = (
     record { own_next = refl; is_block = record { operands = tt; next = (omega arith, omega arith); other = tt } },
     expiries_are_good due (first + 1) (omega arith) (omega arith) inside,

@@ -2,27 +2,26 @@
 use Rattle.std.proofs.Common.{arith}
 use Rattle.osek_standard.specs.Validity.{IsValid, no_counter}
 use Rattle.osek_standard.specs.Versions.{FitsVersion1}
-use Rattle.app_model.specs.declared.system.System.{System}
+use Rattle.oil_system.specs.declared.system.System.{System}
 use Rattle.oil_model.specs.Linkable.{IsLinkable}
 use Rattle.task_code.specs.declared.tree.Code.{Code}
 use Rattle.task_code.specs.Fit.{AreFit}
-use Rattle.block_graph.specs.Apps.{counters_of, isrs_of, tasks_of}
+use Rattle.block_graph.specs.Apps.{tables_over, tasks_of}
 use Rattle.block_graph.specs.Blocks.{app_blocks, source_size}
 use Rattle.block_graph.specs.Faults.{HasNoFault}
 use Rattle.block_graph.proofs.ExtentsApart.{apart as owners_apart}
 use Rattle.block_graph.proofs.ExtentsOwned.{owned as each_owned}
 use Rattle.block_graph.proofs.ExtentsPlaces as places
+use Rattle.block_graph.proofs.OwnersCalls.{task_count}
 use Rattle.block_graph.proofs.ExtentsTables as tables
 
 pub valid : (s : System) (code : Code) → IsLinkable s → AreFit code → HasNoFault s code
-    → IsValid (tasks_of s code.bodies) s.alarms s.resources (app_blocks s code.bodies) (isrs_of s code.bodies) (counters_of s code.bodies) s.hooks s.modes
+    → IsValid (tables_over s code.bodies (app_blocks s code.bodies))
 valid s code linkable fit clean =
     let bodies = code.bodies in
-    let tasks = tasks_of s bodies in
-    let same_tasks = tables.task_count s bodies in
     record {
       known_hooks = linkable.known_hooks;
-      few_tasks = omega (arith, linkable.few_tasks, same_tasks);
+      few_tasks = omega (arith, linkable.few_tasks, task_count s bodies);
       few_isrs = omega (arith, linkable.few_isrs, tables.isr_count s bodies);
       few_counters = omega (arith, linkable.few_counters, tables.counter_count s s.counters 0 (source_size bodies));
       few_alarms = linkable.few_alarms;
@@ -36,14 +35,14 @@ valid s code linkable fit clean =
       alarm_names = linkable.alarm_names;
       resource_names = linkable.resource_names;
       mode_names = linkable.mode_names;
-      each_task = places.each_task s tasks code same_tasks linkable fit clean;
-      task_code = places.task_code s tasks code same_tasks linkable fit clean;
+      each_task = places.each_task s code linkable fit clean;
+      task_code = places.task_code s code linkable fit clean;
       task_starts = tables.task_starts s bodies linkable;
-      each_isr = places.each_isr s tasks code same_tasks linkable fit clean;
-      isr_code = places.isr_code s tasks code same_tasks linkable fit clean;
-      each_counter = λ k d lt. (tables.some_maximum s bodies linkable k d lt, places.counter_is_owner s tasks bodies k d lt);
+      each_isr = places.each_isr s code linkable fit clean;
+      isr_code = places.isr_code s code linkable fit clean;
+      each_counter = λ k d lt. (tables.some_maximum s bodies linkable k d lt, places.counter_is_owner s bodies k d lt);
       min_cycles = tables.min_cycles s bodies linkable;
-      tick_code = λ c lt. places.tick_code s tasks bodies c no_counter lt;
+      tick_code = λ c lt. places.tick_code s bodies c no_counter lt;
       each_alarm = tables.each_alarm s bodies linkable (app_blocks s bodies);
       alarm_starts = linkable.alarm_starts;
       no_starts = linkable.no_starts;

@@ -2,17 +2,13 @@
 use Rattle.std.specs.Prelude.{◌≡◌, ℕ, ◌+◌, if◌then◌else◌, List, [], ◌∷◌, map}
 use Rattle.osek_values.specs.Numbers.{block_no}
 use Rattle.osek_standard.specs.declared.app.App.{App}
-use Rattle.osek_standard.specs.declared.objects.Counter.{Counter}
-use Rattle.osek_standard.specs.declared.objects.Isr.{Isr}
-use Rattle.osek_standard.specs.declared.objects.Task.{Task}
+use Rattle.osek_standard.specs.declared.objects.{Counter.{Counter}, Isr.{Isr}, Task.{Task}}
+use Rattle.osek_standard.specs.declared.block.Block.{Block}
+use Rattle.osek_standard.specs.Tables.{Tables, tabled}
 use Rattle.osek_standard.specs.Validity.{due_of}
-use Rattle.app_model.specs.declared.system.CounterObject.{CounterObject}
-use Rattle.app_model.specs.declared.system.TaskObject.{TaskObject}
-use Rattle.app_model.specs.declared.system.System.{System}
-use Rattle.task_code.specs.declared.tree.BodyKind.{BodyKind}
+use Rattle.oil_system.specs.declared.system.{CounterObject.{CounterObject}, TaskObject.{TaskObject}, System.{System}}
+use Rattle.task_code.specs.declared.tree.{BodyKind.{BodyKind}, Body.{Body}, Code.{Code}}
 use Rattle.task_code.specs.declared.tree.BodyKind.TheVariants as body_kind
-use Rattle.task_code.specs.declared.tree.Body.{Body}
-use Rattle.task_code.specs.declared.tree.Code.{Code}
 use Rattle.block_graph.specs.Blocks.{size, source_size, routine_size, app_blocks}
 use Rattle.block_graph.specs.Rules.{is_code_of}
 use Rattle.block_graph.specs.Faults.{HasNoFault}
@@ -49,6 +45,10 @@ module _ (s : System) where
 
   abbrev pub counters_of : List Body → List Counter
   counters_of bodies = counters_from s.counters 0 (source_size bodies)
+
+  -- the tables of the application, over some blocks
+  abbrev pub tables_over : List Body → List Block → Tables
+  tables_over bodies blocks = tabled s.hooks (tasks_of bodies) (isrs_of bodies) (counters_of bodies) s.alarms s.resources s.modes blocks
 
 -- The application of a system and its code, where they have no fault. Names of events and category 1 ISRs end here too.
 pub record HasApp (s : System) (code : Code) (app : App) : Type 0 where

@@ -3,24 +3,23 @@
 use Rattle.std.specs.Prelude.{ℕ, ◌+◌, Bool, true, false, List, [], ◌∷◌, ◌++◌, length, slice_index_or, bit_or, unwrap_or}
 use Rattle.std.specs.List.{sum_by}
 use Rattle.osek_values.specs.Numbers.{task_no, res_no, alarm_no, block_no, mask}
-use Rattle.osek_values.specs.declared.numbers.TaskNo.{TaskNo}
-use Rattle.osek_values.specs.declared.numbers.ResNo.{ResNo}
-use Rattle.osek_values.specs.declared.numbers.AlarmNo.{AlarmNo}
+use Rattle.osek_values.specs.declared.numbers.{TaskNo.{TaskNo}, ResNo.{ResNo}, AlarmNo.{AlarmNo}}
 use Rattle.osek_values.specs.declared.mask.Mask.{Mask}
-use Rattle.osek_standard.specs.declared.block.Block.{Block}
-use Rattle.osek_standard.specs.declared.block.Kind.{Kind}
+use Rattle.osek_standard.specs.declared.block.{Block.{Block}, Kind.{Kind}}
 use Rattle.osek_standard.specs.declared.block.Kind.TheVariants as kind
+use Rattle.osek_standard.specs.declared.call.Call.{Call as Service}
+use Rattle.osek_standard.specs.declared.call.Call.TheVariants as service
+use Rattle.osek_standard.specs.declared.call.PlainService.TheVariants as plain
+use Rattle.osek_standard.specs.declared.call.TaskService.TheVariants as of_task
+use Rattle.osek_standard.specs.declared.call.ResourceService.TheVariants as of_resource
+use Rattle.osek_standard.specs.declared.call.MaskService.TheVariants as of_mask
+use Rattle.osek_standard.specs.declared.call.AlarmService.TheVariants as of_alarm
+use Rattle.osek_standard.specs.declared.call.ArmService.TheVariants as arm
 use Rattle.osek_standard.specs.Validity.{due_of}
-use Rattle.app_model.specs.declared.system.CounterObject.{CounterObject}
-use Rattle.app_model.specs.declared.system.EventObject.{EventObject}
-use Rattle.app_model.specs.declared.system.System.{System}
-use Rattle.task_code.specs.declared.call.Reference.{Reference}
-use Rattle.task_code.specs.declared.call.Call.{Call}
+use Rattle.oil_system.specs.declared.system.{CounterObject.{CounterObject}, EventObject.{EventObject}, System.{System}}
+use Rattle.task_code.specs.declared.call.{Reference.{Reference}, Call.{Call}}
 use Rattle.task_code.specs.declared.call.Call.TheVariants as call
-use Rattle.task_code.specs.declared.tree.BodyKind.{BodyKind}
-use Rattle.task_code.specs.declared.tree.BodyKind.TheVariants.{Task, Isr}
-use Rattle.task_code.specs.declared.tree.Body.{Body}
-use Rattle.task_code.specs.declared.tree.Condition.TheVariants.{Choice, Always}
+use Rattle.task_code.specs.declared.tree.{BodyKind.{BodyKind}, BodyKind.TheVariants.{Task, Isr}, Body.{Body}, Condition.TheVariants.{Choice, Always}}
 use Rattle.task_code.specs.Statements.{Statements, closed, work_then, if_then, if_else_then, while_then, call_then, closing_line, nodes}
 use Rattle.block_graph.specs.Names.{task_of, alarm_of, resource_of, event_of}
 use Rattle.block_graph.specs.declared.locks.Opener.{Opener}
@@ -96,27 +95,31 @@ module _ (s : System) where
   abbrev pub the_mask : List Reference → Mask
   the_mask events = mask (mask_bits events)
 
+  -- the service that a call calls
+  abbrev pub service_of : Call → Service
+  service_of (call.ActivateTask task) = service.Task of_task.ActivateTask (the_task task)
+  service_of call.TerminateTask = service.Plain plain.TerminateTask
+  service_of (call.ChainTask task) = service.Task of_task.ChainTask (the_task task)
+  service_of call.Schedule = service.Plain plain.Schedule
+  service_of (call.GetResource resource) = service.Resource of_resource.GetResource (the_resource resource)
+  service_of (call.ReleaseResource resource) = service.Resource of_resource.ReleaseResource (the_resource resource)
+  service_of (call.SetEvent task events) = service.SetEvent (the_task task) (the_mask events)
+  service_of (call.ClearEvent events) = service.Mask of_mask.ClearEvent (the_mask events)
+  service_of (call.GetEvent task) = service.Task of_task.GetEvent (the_task task)
+  service_of (call.WaitEvent events) = service.Mask of_mask.WaitEvent (the_mask events)
+  service_of (call.SetRelAlarm alarm increment cycle) = service.Arm arm.SetRelAlarm (the_alarm alarm) increment cycle
+  service_of (call.SetAbsAlarm alarm start cycle) = service.Arm arm.SetAbsAlarm (the_alarm alarm) start cycle
+  service_of (call.CancelAlarm alarm) = service.Alarm of_alarm.CancelAlarm (the_alarm alarm)
+  service_of (call.GetAlarm alarm) = service.Alarm of_alarm.GetAlarm (the_alarm alarm)
+  service_of call.GetTaskId = service.Plain plain.GetTaskId
+  service_of (call.GetTaskState task) = service.Task of_task.GetTaskState (the_task task)
+  service_of call.GetActiveApplicationMode = service.Plain plain.GetActiveApplicationMode
+  service_of (call.ShutdownOs _) = service.ShutdownOs
+  service_of (call.LockCall lock) = service.Lock lock
+
   -- what the block of a call does
   abbrev pub kind_of : Call → Kind
-  kind_of (call.ActivateTask task) = kind.ActivateTask (the_task task)
-  kind_of call.TerminateTask = kind.TerminateTask
-  kind_of (call.ChainTask task) = kind.ChainTask (the_task task)
-  kind_of call.Schedule = kind.Schedule
-  kind_of (call.GetResource resource) = kind.GetResource (the_resource resource)
-  kind_of (call.ReleaseResource resource) = kind.ReleaseResource (the_resource resource)
-  kind_of (call.SetEvent task events) = kind.SetEvent (the_task task) (the_mask events)
-  kind_of (call.ClearEvent events) = kind.ClearEvent (the_mask events)
-  kind_of (call.GetEvent task) = kind.GetEvent (the_task task)
-  kind_of (call.WaitEvent events) = kind.WaitEvent (the_mask events)
-  kind_of (call.SetRelAlarm alarm increment cycle) = kind.SetRelAlarm (the_alarm alarm) increment cycle
-  kind_of (call.SetAbsAlarm alarm start cycle) = kind.SetAbsAlarm (the_alarm alarm) start cycle
-  kind_of (call.CancelAlarm alarm) = kind.CancelAlarm (the_alarm alarm)
-  kind_of (call.GetAlarm alarm) = kind.GetAlarm (the_alarm alarm)
-  kind_of call.GetTaskId = kind.GetTaskId
-  kind_of (call.GetTaskState task) = kind.GetTaskState (the_task task)
-  kind_of call.GetActiveApplicationMode = kind.GetActiveApplicationMode
-  kind_of (call.ShutdownOs _) = kind.ShutdownOs
-  kind_of (call.LockCall lock) = kind.LockCall lock
+  kind_of c = kind.Call (service_of c)
 
   -- The blocks of statements that begin at block n and behind which block `after` follows, with the locks that are open
   -- before them. What follows a statement is the next of its list, and what follows the last is what follows the list:

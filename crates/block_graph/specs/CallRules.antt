@@ -1,9 +1,8 @@
 -- What is asked of each call, by rule.
 use Rattle.std.specs.Prelude.{ℕ, List}
-use Rattle.app_model.specs.declared.system.System.{System}
+use Rattle.oil_system.specs.declared.system.System.{System}
 use Rattle.task_code.specs.declared.call.Call.{Call}
-use Rattle.block_graph.specs.declared.calls.CallRule.{CallRule}
-use Rattle.block_graph.specs.declared.calls.CallRule.TheVariants.{Declared, Resourceless}
+use Rattle.block_graph.specs.declared.calls.{CallRule.{CallRule}, CallRule.TheVariants.{Declared, Resourceless}}
 use Rattle.block_graph.specs.Rules.{undeclared_in, of_resource}
 
 -- the lines on which a call violates the rule

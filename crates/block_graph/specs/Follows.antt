@@ -1,17 +1,15 @@
--- What follows a statement of a body, in the words of control flow: where each goes by a choice.
-use Rattle.std.specs.Prelude.{ℕ, ◌+◌, Bool, true, false, List, [], ◌∷◌, map, slice_index_or}
-use Rattle.osek_standard.specs.declared.block.Block.{Block}
-use Rattle.osek_standard.specs.declared.block.Kind.{Kind}
+-- What follows a statement of a body, in the words of control flow: where each goes by a choice, and with which locks open.
+use Rattle.std.specs.Prelude.{◌≡◌, ℕ, ◌+◌, ◌-◌, Bool, true, false, List, [], ◌∷◌, ◌++◌, length, map, take, Some, slice_index_or}
+use Rattle.osek_standard.specs.declared.block.{Block.{Block}, Kind.{Kind}}
 use Rattle.osek_standard.specs.declared.block.Kind.TheVariants as kind
 use Rattle.osek_standard.specs.Validity.{no_block}
-use Rattle.app_model.specs.declared.system.System.{System}
-use Rattle.task_code.specs.declared.call.Call.{Call}
-use Rattle.task_code.specs.declared.tree.Body.{Body}
-use Rattle.task_code.specs.declared.tree.BodyKind.TheVariants.{Task}
-use Rattle.task_code.specs.declared.tree.Condition.{Condition}
-use Rattle.task_code.specs.declared.tree.Condition.TheVariants.{Choice, Always}
+use Rattle.oil_system.specs.declared.system.System.{System}
+use Rattle.task_code.specs.declared.call.{Call.{Call}, Call.TheVariants.{LockCall}}
+use Rattle.task_code.specs.declared.tree.{Body.{Body}, BodyKind.TheVariants.{Task}, Condition.{Condition}, Condition.TheVariants.{Choice, Always}}
 use Rattle.task_code.specs.Statements.{Statements, closed, work_then, if_then, if_else_then, while_then, call_then, nodes}
-use Rattle.block_graph.specs.Blocks.{body_blocks}
+use Rattle.block_graph.specs.declared.locks.{Opener.{Opener}, Role.{Role}, Role.TheVariants.{Opens, Closes}}
+use Rattle.block_graph.specs.Locks.{behind_call as behind_the_call, role_of}
+use Rattle.block_graph.specs.Blocks.{body_blocks, is_locked}
 
 -- ---- places
 
@@ -84,6 +82,24 @@ pub data GoesTo {body : Statements} : (xs : Statements) → Way body xs → Bool
   -- `while (?)`, by choice 0, to what follows it
   enough : {line : ℕ} {inner next : Statements} {w : Way body (while_then line Choice inner next)} {q : Place body} → Enters next (past behind_while w) q → GoesTo (while_then line Choice inner next) w false q
 
+-- ---- open locks
+
+-- the open locks behind a lock call, be it allowed or not: an opener opens its own, and a closer closes the last
+abbrev pub after_role : List Opener → Role → List Opener
+after_role locks (Opens opener) = locks ++ opener ∷ []
+after_role locks (Closes opener) = take (length locks - 1) locks
+
+-- those behind the first of a list; any other call or statement leaves them
+abbrev pub after_first : List Opener → Statements → List Opener
+after_first locks (call_then line (LockCall lock) next) = after_role locks (role_of lock)
+after_first locks _ = locks
+
+-- Control flow comes to a place of a body with these locks open, the last opened last: from the start with none, and from
+-- a statement to where it goes.
+pub data Comes {body : Statements} : Place body → List Opener → Type 0 where
+  from_start : {q : Place body} → Enters body start q → Comes q []
+  from_statement : {xs : Statements} {w : Way body xs} {choice : Bool} {q : Place body} {locks : List Opener} → Comes (statement w) locks → GoesTo xs w choice q → Comes q (after_first locks xs)
+
 -- ---- the order of the text
 
 -- how many statements a way passes with the first of a list: it, and those in it
@@ -137,6 +153,14 @@ leads block choice = leads_by block.kind block.next.0 choice
 -- where each block of a list leads, by choice 1 and by choice 0
 abbrev pub exits_of : List Block → List (ℕ × ℕ)
 exits_of blocks = map (λ (b : Block). (leads b true, leads b false)) blocks
+
+-- By whatever way control flow comes to a place of a body that begins at block n, the same locks are open. Its block is
+-- locked where there is one, a call is allowed with them, and at the closing brace there is none.
+pub record LocksFollow (s : System) (body : Body) (n : ℕ) : Type 0 where
+  pub same : (p : Place body.statements) (locks others : List Opener) → Comes p locks → Comes p others → locks ≡ others
+  pub locked : (p : Place body.statements) (locks : List Opener) → Comes p locks → (block_at s body n p).locked ≡ is_locked locks
+  pub allowed : (line : ℕ) (call : Call) (next : Statements) (w : Way body.statements (call_then line call next)) (locks : List Opener) → Comes (statement w) locks → behind_the_call locks call ≡ Some (after_first locks (call_then line call next))
+  pub at_brace : (locks : List Opener) → Comes {body = body.statements} brace locks → locks ≡ []
 
 -- ---- a worked case
 

@@ -1,6 +1,6 @@
 -- What is generated for a system from the bodies of its task code.
 use Rattle.std.specs.Prelude.{◌≡◌, List}
-use Rattle.app_model.specs.declared.system.System.{System}
+use Rattle.oil_system.specs.declared.system.System.{System}
 use Rattle.task_code.specs.declared.tree.Body.{Body}
 use Rattle.block_graph.specs.declared.linker.Generated.{Generated}
 use Rattle.block_graph.specs.Apps.{tasks_of, isrs_of, counters_of}

@@ -1,12 +1,10 @@
 -- What the names in task code stand for: an object of the needed kind, by its number.
-use Rattle.std.specs.Prelude.{ℕ, List, Option}
+use Rattle.std.specs.Prelude.{◌≡◌, ℕ, List, Option, map}
+use Rattle.std.specs.Borrow.{Bor}
 use Rattle.std.specs.List.{position}
 use Rattle.std.specs.Str.{bytes_eq}
-use Rattle.osek_standard.specs.declared.objects.Alarm.{Alarm}
-use Rattle.osek_standard.specs.declared.objects.Resource.{Resource}
-use Rattle.app_model.specs.declared.system.TaskObject.{TaskObject}
-use Rattle.app_model.specs.declared.system.EventObject.{EventObject}
-use Rattle.app_model.specs.declared.system.System.{System}
+use Rattle.osek_standard.specs.declared.objects.{Alarm.{Alarm}, Resource.{Resource}}
+use Rattle.oil_system.specs.declared.system.{TaskObject.{TaskObject}, EventObject.{EventObject}, System.{System}}
 
 module _ (s : System) where
   abbrev pub task_of : List ℕ → Option ℕ
@@ -25,3 +23,15 @@ module _ (s : System) where
 
   abbrev pub event_of : List ℕ → Option ℕ
   event_of name = position (λ (x : EventObject). bytes_eq name x.name) s.events
+
+-- names that stand behind references
+abbrev pub plain : List (Bor (List ℕ)) → List (List ℕ)
+plain names = map (λ (n : Bor (List ℕ)). n.now) names
+
+-- these are the names of a system's tasks, category 2 ISRs, alarms, resources and events, each at its number
+pub record AreNumbered (s : System) (of_tasks of_isrs of_alarms of_resources of_events : List (Bor (List ℕ))) : Type 0 where
+  pub tasks : plain of_tasks ≡ map (λ (x : TaskObject). x.name) s.tasks
+  pub isrs : plain of_isrs ≡ s.isrs
+  pub alarms : plain of_alarms ≡ map (λ (x : Alarm). x.name) s.alarms
+  pub resources : plain of_resources ≡ map (λ (x : Resource). x.name) s.resources
+  pub events : plain of_events ≡ map (λ (x : EventObject). x.name) s.events

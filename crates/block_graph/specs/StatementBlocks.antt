@@ -1,14 +1,10 @@
 -- The blocks of one statement, as the walk over a list makes them.
 use Rattle.std.specs.Prelude.{ℕ, ◌+◌, List, [], ◌∷◌, ◌++◌, Some, None}
 use Rattle.osek_values.specs.Numbers.{block_no}
-use Rattle.osek_standard.specs.declared.block.Block.{Block}
-use Rattle.osek_standard.specs.declared.block.Kind.{Kind}
+use Rattle.osek_standard.specs.declared.block.{Block.{Block}, Kind.{Kind}}
 use Rattle.osek_standard.specs.declared.block.Kind.TheVariants as kind
-use Rattle.app_model.specs.declared.system.System.{System}
-use Rattle.task_code.specs.declared.tree.Condition.{Condition}
-use Rattle.task_code.specs.declared.tree.Condition.TheVariants.{Choice, Always}
-use Rattle.task_code.specs.declared.tree.Statement.{Statement}
-use Rattle.task_code.specs.declared.tree.Statement.TheVariants.{Work, If, While, Call}
+use Rattle.oil_system.specs.declared.system.System.{System}
+use Rattle.task_code.specs.declared.tree.{Condition.{Condition}, Condition.TheVariants.{Choice, Always}, Statement.{Statement}, Statement.TheVariants.{Work, If, While, Call}}
 use Rattle.task_code.specs.Statements.{nodes}
 use Rattle.block_graph.specs.declared.locks.Opener.{Opener}
 use Rattle.block_graph.specs.Locks.{open_behind, open_behind_call}

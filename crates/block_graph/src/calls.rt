@@ -7,8 +7,7 @@ ghost use Rattle.task_code.specs.StatementLists.{statement_before};
 ghost use Rattle.block_graph.specs.Rules as rules_of;
 ghost use Rattle.block_graph.specs.CallRules.{lines_of};
 
-use crate::names::{alarm_of, event_of, resource_of, task_of};
-use app_model::System;
+use crate::names::Declared;
 use oil_model::{line_if, sooner};
 use task_code::{Body, BodyKind, Call, Reference, Statement, StatementList};
 
@@ -30,32 +29,32 @@ fn undeclared(number: Option<usize>, line: u32) -> Option<u32>
     }
 }
 
-fn no_task(system: &System, task: &Reference) -> Option<u32>
+fn no_task(system: &Declared, task: &Reference) -> Option<u32>
     ensures { result ≡ least (rules_of.no_task system.now task.now) }
 {
-    undeclared(task_of(system, &task.name), task.line)
+    undeclared(system.task_of(&task.name), task.line)
 }
 
-fn no_alarm(system: &System, alarm: &Reference) -> Option<u32>
+fn no_alarm(system: &Declared, alarm: &Reference) -> Option<u32>
     ensures { result ≡ least (rules_of.no_alarm system.now alarm.now) }
 {
-    undeclared(alarm_of(system, &alarm.name), alarm.line)
+    undeclared(system.alarm_of(&alarm.name), alarm.line)
 }
 
-fn no_resource(system: &System, resource: &Reference) -> Option<u32>
+fn no_resource(system: &Declared, resource: &Reference) -> Option<u32>
     ensures { result ≡ least (rules_of.no_resource system.now resource.now) }
 {
-    undeclared(resource_of(system, &resource.name), resource.line)
+    undeclared(system.resource_of(&resource.name), resource.line)
 }
 
-fn no_event(system: &System, event: &Reference) -> Option<u32>
+fn no_event(system: &Declared, event: &Reference) -> Option<u32>
     ensures { result ≡ least (rules_of.no_event system.now event.now) }
 {
-    undeclared(event_of(system, &event.name), event.line)
+    undeclared(system.event_of(&event.name), event.line)
 }
 
 /// The least line of an event of a mask that isn't declared.
-fn no_events(system: &System, events: &[Reference]) -> Option<u32>
+fn no_events(system: &Declared, events: &[Reference]) -> Option<u32>
     ensures { result ≡ least (flat_map (rules_of.no_event system.now) events.now) }
 {
     let mut best = None;
@@ -67,7 +66,7 @@ fn no_events(system: &System, events: &[Reference]) -> Option<u32>
 
 /// The least line of a name that isn't declared as the needed kind.
 #[tactic(auto, using(oil_model::proofs::Leasts::least_steps))]
-fn undeclared_in(system: &System, call: &Call) -> Option<u32>
+fn undeclared_in(system: &Declared, call: &Call) -> Option<u32>
     ensures { (line : ℕ) → result ≡ least (rules_of.undeclared_in system.now line call.now) }
 {
     match call {
@@ -107,7 +106,7 @@ fn takes_or_gives(call: &Call) -> bool
 }
 
 /// The least line on which a call violates the rule.
-fn least_of_call(rule: CallRule, system: &System, line: u32, call: &Call) -> Option<u32>
+fn least_of_call(rule: CallRule, system: &Declared, line: u32, call: &Call) -> Option<u32>
     ensures { result ≡ least (lines_of rule system.now line call.now) }
 {
     match rule {
@@ -119,7 +118,7 @@ fn least_of_call(rule: CallRule, system: &System, line: u32, call: &Call) -> Opt
 /// The least line on which a call in a statement violates the rule.
 #[cycle(calls_of)]
 #[tactic(auto, using(oil_model::proofs::Leasts::least_steps))]
-fn least_of_statement(rule: CallRule, system: &System, statement: &Statement) -> Option<u32>
+fn least_of_statement(rule: CallRule, system: &Declared, statement: &Statement) -> Option<u32>
     ensures { (next : Statements) → least (rules_of.from_calls (lines_of rule system.now) (statement_before statement.now next)) ≡ sooner result (least (rules_of.from_calls (lines_of rule system.now) next)) }
 {
     match statement {
@@ -149,7 +148,7 @@ fn least_of_statement(rule: CallRule, system: &System, statement: &Statement) ->
 /// The least line on which a call in a list of statements violates the rule.
 #[cycle(calls_of)]
 #[tactic(auto, using(oil_model::proofs::Leasts::least_steps))]
-fn least_of_list(rule: CallRule, system: &System, list: &StatementList) -> Option<u32>
+fn least_of_list(rule: CallRule, system: &Declared, list: &StatementList) -> Option<u32>
     ensures { result ≡ least (rules_of.from_calls (lines_of rule system.now) list.now) }
 {
     let mut best = None;
@@ -160,7 +159,7 @@ fn least_of_list(rule: CallRule, system: &System, list: &StatementList) -> Optio
 }
 
 /// The least line of a name in a call that isn't declared as the needed kind.
-pub fn undeclared_name(system: &System, bodies: &[Body]) -> Option<u32>
+pub fn undeclared_name(system: &Declared, bodies: &[Body]) -> Option<u32>
     ensures { result ≡ least (rules_of.undeclared_names system.now bodies.now) }
 {
     let mut best = None;
@@ -173,7 +172,7 @@ pub fn undeclared_name(system: &System, bodies: &[Body]) -> Option<u32>
     best
 }
 
-fn isr_resource_of(system: &System, body: &Body) -> Option<u32>
+fn isr_resource_of(system: &Declared, body: &Body) -> Option<u32>
     ensures { result ≡ least (rules_of.isr_resources_by body.now.kind body.now.statements) }
 {
     match body.kind {
@@ -183,7 +182,7 @@ fn isr_resource_of(system: &System, body: &Body) -> Option<u32>
 }
 
 /// The least line of a GetResource or ReleaseResource in an ISR.
-pub fn isr_resource(system: &System, bodies: &[Body]) -> Option<u32>
+pub fn isr_resource(system: &Declared, bodies: &[Body]) -> Option<u32>
     ensures { result ≡ least (rules_of.isr_resources bodies.now) }
 {
     let mut best = None;

@@ -1,11 +1,13 @@
 //! What the block of a call does.
 ghost use Rattle.std.specs.Prelude.{◌≡◌, ◌≤◌};
 ghost use Rattle.oil_model.specs.Linkable.{IsLinkable};
-ghost use Rattle.block_graph.specs.Blocks.{the_task, the_alarm, the_resource, the_mask, event_bits as the_bits, kind_of as the_kind_of};
+ghost use Rattle.block_graph.specs.Blocks.{the_task, the_alarm, the_resource, the_mask, event_bits as the_bits, kind_of as the_kind_of, service_of as the_service_of};
 
-use crate::names::{alarm_of, event_of, resource_of, task_of};
-use app_model::System;
-use osek_standard::Kind;
+use crate::names::Declared;
+use osek_standard::{
+    AlarmService, ArmService, Call as Service, Kind, MaskService, PlainService, ResourceService,
+    TaskService,
+};
 use osek_values::{AlarmNo, Mask, ResNo, TaskNo};
 use task_code::{Call, Reference};
 
@@ -17,32 +19,32 @@ fn narrow(number: usize) -> u8
     number as u8
 }
 
-fn task(system: &System, reference: &Reference) -> TaskNo
+fn task(system: &Declared, reference: &Reference) -> TaskNo
     requires { IsLinkable system.now }
     ensures { result ≡ the_task system.now reference.now }
 {
-    TaskNo(narrow(task_of(system, &reference.name).unwrap_or(0)))
+    TaskNo(narrow(system.task_of(&reference.name).unwrap_or(0)))
 }
 
-fn alarm(system: &System, reference: &Reference) -> AlarmNo
+fn alarm(system: &Declared, reference: &Reference) -> AlarmNo
     requires { IsLinkable system.now }
     ensures { result ≡ the_alarm system.now reference.now }
 {
-    AlarmNo(narrow(alarm_of(system, &reference.name).unwrap_or(0)))
+    AlarmNo(narrow(system.alarm_of(&reference.name).unwrap_or(0)))
 }
 
-fn resource(system: &System, reference: &Reference) -> ResNo
+fn resource(system: &Declared, reference: &Reference) -> ResNo
     requires { IsLinkable system.now }
     ensures { result ≡ the_resource system.now reference.now }
 {
-    ResNo(narrow(resource_of(system, &reference.name).unwrap_or(0)))
+    ResNo(narrow(system.resource_of(&reference.name).unwrap_or(0)))
 }
 
-fn event_bits(system: &System, reference: &Reference) -> u64
+fn event_bits(system: &Declared, reference: &Reference) -> u64
     ensures { result ≡ the_bits system.now reference.now }
 {
-    let events = system.events.as_slice();
-    let number = event_of(system, &reference.name).unwrap_or(0);
+    let events = system.system().events.as_slice();
+    let number = system.event_of(&reference.name).unwrap_or(0);
     if number < events.len() {
         events[number].mask.0
     } else {
@@ -51,7 +53,7 @@ fn event_bits(system: &System, reference: &Reference) -> u64
 }
 
 /// The events of a mask.
-fn mask(system: &System, events: &[Reference]) -> Mask
+fn mask(system: &Declared, events: &[Reference]) -> Mask
     ensures { result ≡ the_mask system.now events.now }
 {
     let mut bits = 0;
@@ -61,36 +63,66 @@ fn mask(system: &System, events: &[Reference]) -> Mask
     Mask(bits)
 }
 
-/// What the block of a call does. A name that isn't declared stands for the first object.
-pub fn kind_of(system: &System, call: &Call) -> Kind
+/// The service that a call calls. A name that isn't declared stands for the first object.
+fn service_of(system: &Declared, call: &Call) -> Service
+    requires { IsLinkable system.now }
+    ensures { result ≡ the_service_of system.now call.now }
+{
+    match call {
+        Call::ActivateTask(named) => Service::Task(TaskService::ActivateTask, task(system, named)),
+        Call::TerminateTask => Service::Plain(PlainService::TerminateTask),
+        Call::ChainTask(named) => Service::Task(TaskService::ChainTask, task(system, named)),
+        Call::Schedule => Service::Plain(PlainService::Schedule),
+        Call::GetResource(named) => Service::Resource(
+            ResourceService::GetResource,
+            resource(system, named),
+        ),
+        Call::ReleaseResource(named) => Service::Resource(
+            ResourceService::ReleaseResource,
+            resource(system, named),
+        ),
+        Call::SetEvent(named, events) => {
+            Service::SetEvent(task(system, named), mask(system, events.as_slice()))
+        }
+        Call::ClearEvent(events) => Service::Mask(
+            MaskService::ClearEvent,
+            mask(system, events.as_slice()),
+        ),
+        Call::GetEvent(named) => Service::Task(TaskService::GetEvent, task(system, named)),
+        Call::WaitEvent(events) => Service::Mask(
+            MaskService::WaitEvent,
+            mask(system, events.as_slice()),
+        ),
+        Call::SetRelAlarm(named, increment, cycle) => {
+            Service::Arm(
+                ArmService::SetRelAlarm,
+                alarm(system, named),
+                *increment,
+                *cycle,
+            )
+        }
+        Call::SetAbsAlarm(named, start, cycle) => {
+            Service::Arm(
+                ArmService::SetAbsAlarm,
+                alarm(system, named),
+                *start,
+                *cycle,
+            )
+        }
+        Call::CancelAlarm(named) => Service::Alarm(AlarmService::CancelAlarm, alarm(system, named)),
+        Call::GetAlarm(named) => Service::Alarm(AlarmService::GetAlarm, alarm(system, named)),
+        Call::GetTaskId => Service::Plain(PlainService::GetTaskId),
+        Call::GetTaskState(named) => Service::Task(TaskService::GetTaskState, task(system, named)),
+        Call::GetActiveApplicationMode => Service::Plain(PlainService::GetActiveApplicationMode),
+        Call::ShutdownOs(_) => Service::ShutdownOs,
+        Call::LockCall(lock) => Service::Lock(*lock),
+    }
+}
+
+/// What the block of a call does.
+pub fn kind_of(system: &Declared, call: &Call) -> Kind
     requires { IsLinkable system.now }
     ensures { result ≡ the_kind_of system.now call.now }
 {
-    match call {
-        Call::ActivateTask(named) => Kind::ActivateTask(task(system, named)),
-        Call::TerminateTask => Kind::TerminateTask,
-        Call::ChainTask(named) => Kind::ChainTask(task(system, named)),
-        Call::Schedule => Kind::Schedule,
-        Call::GetResource(named) => Kind::GetResource(resource(system, named)),
-        Call::ReleaseResource(named) => Kind::ReleaseResource(resource(system, named)),
-        Call::SetEvent(named, events) => {
-            Kind::SetEvent(task(system, named), mask(system, events.as_slice()))
-        }
-        Call::ClearEvent(events) => Kind::ClearEvent(mask(system, events.as_slice())),
-        Call::GetEvent(named) => Kind::GetEvent(task(system, named)),
-        Call::WaitEvent(events) => Kind::WaitEvent(mask(system, events.as_slice())),
-        Call::SetRelAlarm(named, increment, cycle) => {
-            Kind::SetRelAlarm(alarm(system, named), *increment, *cycle)
-        }
-        Call::SetAbsAlarm(named, start, cycle) => {
-            Kind::SetAbsAlarm(alarm(system, named), *start, *cycle)
-        }
-        Call::CancelAlarm(named) => Kind::CancelAlarm(alarm(system, named)),
-        Call::GetAlarm(named) => Kind::GetAlarm(alarm(system, named)),
-        Call::GetTaskId => Kind::GetTaskId,
-        Call::GetTaskState(named) => Kind::GetTaskState(task(system, named)),
-        Call::GetActiveApplicationMode => Kind::GetActiveApplicationMode,
-        Call::ShutdownOs(_) => Kind::ShutdownOs,
-        Call::LockCall(lock) => Kind::LockCall(*lock),
-    }
+    Kind::Call(service_of(system, call))
 }

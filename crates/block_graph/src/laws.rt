@@ -1,10 +1,11 @@
 //! What the blocks of a body keep of its control flow.
-ghost use Rattle.std.specs.Prelude.{◌≡◌, ℕ, ◌+◌, ◌<◌, Bool};
-ghost use Rattle.app_model.specs.declared.system.System.{System};
+ghost use Rattle.std.specs.Prelude.{◌≡◌, ℕ, ◌+◌, ◌<◌, Bool, []};
+ghost use Rattle.oil_system.specs.declared.system.System.{System};
 ghost use Rattle.task_code.specs.declared.tree.Body.{Body};
 ghost use Rattle.task_code.specs.Statements.{Statements, closing_line, nodes};
 ghost use Rattle.block_graph.specs.Blocks.{body_blocks, end_kind};
-ghost use Rattle.block_graph.specs.Follows.{Rest, Way, Place, statement, brace, GoesTo, number, statement_line, block_at, leads, exits_of, worked, worked_exits};
+ghost use Rattle.block_graph.specs.Follows.{Rest, Way, Place, statement, brace, GoesTo, number, statement_line, block_at, leads, LocksFollow, exits_of, worked, worked_exits};
+ghost use Rattle.block_graph.specs.Locks.{unpaired};
 
 /// A law: the block of each statement of a body leads, by each choice, to the block of what follows it. It does nothing.
 pub fn blocks_follow()
@@ -29,4 +30,10 @@ pub fn blocks_follow()
 
     // A worked case.
     ensures worked_case { (s : System) → exits_of (body_blocks s worked 10) ≡ worked_exits }
+{}
+
+/// A law: in a body whose locks pair, the same locks are open at a place by whatever way control flow comes to it, and its
+/// block is locked where there is one. It does nothing.
+pub fn locks_follow()
+    ensures { (s : System) (body : Body) (n : ℕ) → unpaired body ≡ [] → LocksFollow s body n }
 {}

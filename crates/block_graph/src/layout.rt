@@ -11,8 +11,8 @@ ghost use Rattle.block_graph.specs.StatementBlocks.{statement_nodes as the_state
 
 use crate::kinds::kind_of;
 use crate::locks::Locks;
+use crate::names::Declared;
 use crate::walk::open_behind;
-use app_model::System;
 use osek_standard::{Block, Kind};
 use osek_values::{BlockNo, Memory};
 use task_code::{Body, BodyKind, Condition, Statement, StatementList};
@@ -131,7 +131,7 @@ fn follower(rest: &[Statement], behind: usize, after: usize) -> usize
 /// Adds the blocks of a statement that begins at block `number` and behind which block `out` follows.
 #[cycle(layout)]
 fn lay_out_statement(
-    system: &System,
+    system: &Declared,
     statement: &Statement,
     number: usize,
     out: usize,
@@ -193,7 +193,7 @@ fn lay_out_statement(
 /// Adds the blocks of a list that begins at block `first` and behind which block `after` follows.
 #[cycle(layout)]
 pub fn lay_out(
-    system: &System,
+    system: &Declared,
     list: &StatementList,
     first: usize,
     after: usize,
@@ -251,7 +251,7 @@ pub fn source_size(bodies: &[Body]) -> usize
 
 /// Adds the blocks of a body that begins at block `number`. Its end goes nowhere.
 fn lay_out_body(
-    system: &System,
+    system: &Declared,
     body: &Body,
     number: usize,
     blocks: &mut Vec<Block>,
@@ -271,7 +271,7 @@ fn lay_out_body(
 
 /// Adds the blocks of the bodies, the first of them block 0.
 pub fn lay_out_bodies(
-    system: &System,
+    system: &Declared,
     bodies: &[Body],
     blocks: &mut Vec<Block>,
 ) -> Result<(), Memory>

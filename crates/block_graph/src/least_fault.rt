@@ -6,10 +6,10 @@ ghost use Rattle.block_graph.specs.Faults.{IsLeastOrNone};
 
 use crate::calls::{isr_resource, undeclared_name};
 use crate::fault::LinkFault;
+use crate::names::Declared;
 use crate::owners::{missing_code, repeated_code, stray_code};
 use crate::pairs::unpaired_lock;
 use crate::sizes::beyond_limit;
-use app_model::System;
 use osek_values::CodeRule;
 use task_code::Code;
 
@@ -25,7 +25,7 @@ const RULES: [CodeRule; 7] = [
 ];
 
 /// The least line on which a rule is violated.
-fn least_line(rule: CodeRule, system: &System, code: &Code) -> Option<u32>
+fn least_line(rule: CodeRule, system: &Declared, code: &Code) -> Option<u32>
     ensures { result ≡ least (lines rule system.now code.now) }
 {
     let bodies = code.bodies.as_slice();
@@ -43,7 +43,7 @@ fn least_line(rule: CodeRule, system: &System, code: &Code) -> Option<u32>
 
 /// The least fault of a system and its task code, if they have one. A rule is judged only where no lesser rule is
 /// violated.
-pub fn least_fault(system: &System, code: &Code) -> Option<LinkFault>
+pub fn least_fault(system: &Declared, code: &Code) -> Option<LinkFault>
     ensures { IsLeastOrNone result system.now code.now }
 {
     for rule in &RULES {

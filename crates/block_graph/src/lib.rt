@@ -19,5 +19,5 @@ mod ticks;
 mod walk;
 
 pub use fault::{LinkError, LinkFault};
-pub use laws::blocks_follow;
+pub use laws::{blocks_follow, locks_follow};
 pub use linker::{link, one_answer};

@@ -1,23 +1,27 @@
 //! The application of a system and its code, or their least fault.
 ghost use Rattle.std.specs.Prelude.{◌≡◌, ◌≤◌, All, IfOk, Result, Ok, Err};
 ghost use Rattle.osek_standard.specs.declared.app.App.{App};
-ghost use Rattle.app_model.specs.declared.system.System.{System};
+ghost use Rattle.osek_standard.specs.Versions.{FitsVersion1};
+ghost use Rattle.oil_system.specs.declared.system.System.{System};
 ghost use Rattle.oil_model.specs.Linkable.{IsLinkable};
 ghost use Rattle.task_code.specs.declared.tree.Code.{Code};
 ghost use Rattle.task_code.specs.Fit.{IsFit, AreFit};
-ghost use Rattle.block_graph.specs.declared.fault.LinkFault.{LinkFault};
-ghost use Rattle.block_graph.specs.Answers.{IsAnswer, IsRight, Answers};
+ghost use Rattle.osek_values.specs.declared.refused.LineFault.{LineFault};
+ghost use Rattle.osek_values.specs.declared.refusal.CodeRule.{CodeRule};
+ghost use Rattle.osek_values.specs.Answers.{IsRight, Answers};
+ghost use Rattle.block_graph.specs.Answers.{IsAnswer};
 ghost use Rattle.block_graph.specs.Apps.{HasApp};
 ghost use Rattle.block_graph.specs.Generated.{IsGenerated};
 ghost use Rattle.block_graph.specs.Blocks.{source_size as the_source_size, app_blocks as the_app_blocks};
-ghost use Rattle.block_graph.specs.Faults.{HasNoFault, IsLeastFault};
+ghost use Rattle.block_graph.specs.Faults.{HasNoFault, IsLeastOrNone};
 
-use crate::fault::LinkError;
+use crate::fault::{LinkError, LinkFault};
 use crate::layout::{lay_out_bodies, source_size};
 use crate::least_fault::least_fault;
+use crate::names::Declared;
 use crate::tables::{counters, isrs, tasks};
 use crate::ticks::lay_out_routines;
-use app_model::System;
+use oil_system::System;
 use osek_standard::{App, Block, Counter, Isr, Task};
 use osek_values::{Memory, Seq};
 use std::alloc::Global;
@@ -31,7 +35,8 @@ fn app_blocks(alloc: Global, system: &System, bodies: &[Body]) -> Result<Seq<Blo
     ensures { IfOk result (λ blocks. blocks ≡ the_app_blocks system.now bodies.now) }
 {
     let mut blocks = Vec::new(alloc);
-    lay_out_bodies(system, bodies, &mut blocks)?;
+    let declared = Declared::of(alloc, system)?;
+    lay_out_bodies(&declared, bodies, &mut blocks)?;
     lay_out_routines(system, source_size(bodies), &mut blocks)?;
     Ok(Seq::of(blocks))
 }
@@ -84,12 +89,21 @@ fn app(alloc: Global, system: System, code: &Code) -> Result<App, Memory>
     })
 }
 
+/// The least fault of a system and its task code, if they have one.
+fn fault(alloc: Global, system: &System, code: &Code) -> Result<Option<LinkFault>, Memory>
+    requires { IsLinkable system.now }
+    ensures { IfOk result (λ fault. IsLeastOrNone fault system.now code.now) }
+{
+    let declared = Declared::of(alloc, system)?;
+    Ok(least_fault(&declared, code))
+}
+
 fn answer(alloc: Global, system: System, code: &Code) -> Result<App, LinkError>
     requires linkable { IsLinkable system }
     requires fit { AreFit code.now }
-    ensures { IsRight result system code.now }
+    ensures { IsRight (λ r. IsAnswer r system code.now) result }
 {
-    match least_fault(&system, code) {
+    match fault(alloc, &system, code)? {
         Some(fault) => {
             drop(system);
             Err(LinkError::Fault(fault))
@@ -108,11 +122,13 @@ pub fn link(alloc: Global, system: System, code: &Code) -> Result<App, LinkError
     requires fit { AreFit code.now }
 
     // What is answered is right,
-    ensures right { IsRight result system code.now }
+    ensures right { IsRight (λ r. IsAnswer r system code.now) result }
 
     // and what is right is answered, unless memory runs out.
-    ensures complete { (app : App) → HasApp system code.now app → Answers result (Ok app) }
-    ensures least_fault { (fault : LinkFault) → IsLeastFault system code.now fault.rule fault.line → Answers result (Err fault) }
+    ensures exact { (expected : Result App (LineFault CodeRule)) → IsAnswer expected system code.now → Answers result expected }
+
+    // An image of version 1 asks for no more.
+    ensures version_1 { IfOk result (λ app. FitsVersion1 app.tasks) }
 {
     answer(alloc, system, code)
 }
@@ -120,6 +136,6 @@ pub fn link(alloc: Global, system: System, code: &Code) -> Result<App, LinkError
 /// A law: each linkable system and fit code have an application or a least fault, and none has another answer. It does
 /// nothing.
 pub fn one_answer()
-    ensures some { (s : System) (code : Code) → IsLinkable s → AreFit code → (answer : Result App LinkFault) × IsAnswer answer s code }
-    ensures one { (s : System) (code : Code) (a b : Result App LinkFault) → IsAnswer a s code → IsAnswer b s code → a ≡ b }
+    ensures some { (s : System) (code : Code) → IsLinkable s → AreFit code → (answer : Result App (LineFault CodeRule)) × IsAnswer answer s code }
+    ensures one { (s : System) (code : Code) (a b : Result App (LineFault CodeRule)) → IsAnswer a s code → IsAnswer b s code → a ≡ b }
 {}

@@ -1,14 +1,14 @@
 //! The rules on whose code there is: that each task and ISR has some, and none has it twice.
 ghost use Rattle.std.specs.Prelude.{◌≡◌, ◌∷◌, [], if◌then◌else◌};
 ghost use Rattle.std.specs.List.{list_any};
-ghost use Rattle.app_model.specs.declared.system.TaskObject.{TaskObject};
+ghost use Rattle.oil_system.specs.declared.system.TaskObject.{TaskObject};
 ghost use Rattle.oil_model.specs.Lines.{sooner, least};
 ghost use Rattle.task_code.specs.declared.tree.BodyKind.TheVariants.{Task as of_task, Isr as of_isr};
 ghost use Rattle.block_graph.specs.Rules as rules_of;
 
-use crate::names::{isr_of, task_of};
-use app_model::{System, TaskObject};
+use crate::names::Declared;
 use oil_model::{line_if, sooner};
+use oil_system::TaskObject;
 use osek_values::Name;
 use task_code::{Body, BodyKind};
 
@@ -68,24 +68,25 @@ fn has_bare_isr(isrs: &[Name], bodies: &[Body]) -> bool
 }
 
 /// Line 0, where a declared task or category 2 ISR has no code.
-pub fn missing_code(system: &System, bodies: &[Body]) -> Option<u32>
+pub fn missing_code(system: &Declared, bodies: &[Body]) -> Option<u32>
     ensures { result ≡ least (rules_of.missing_code system.now bodies.now) }
 {
-    let is_missing = has_bare_task(system.tasks.as_slice(), bodies)
-        || has_bare_isr(system.isrs.as_slice(), bodies);
+    let declared = system.system();
+    let is_missing = has_bare_task(declared.tasks.as_slice(), bodies)
+        || has_bare_isr(declared.isrs.as_slice(), bodies);
     line_if(is_missing, 0)
 }
 
-fn has_owner(system: &System, kind: BodyKind, name: &Name) -> bool
+fn has_owner(system: &Declared, kind: BodyKind, name: &Name) -> bool
     ensures { result ≡ rules_of.has_owner system.now kind name.now }
 {
     match kind {
-        BodyKind::Task => task_of(system, name).is_some(),
-        BodyKind::Isr => isr_of(system, name).is_some(),
+        BodyKind::Task => system.task_of(name).is_some(),
+        BodyKind::Isr => system.isr_of(name).is_some(),
     }
 }
 
-fn is_stray(system: &System, body: &Body) -> bool
+fn is_stray(system: &Declared, body: &Body) -> bool
     ensures { result ≡ rules_of.is_stray system.now body.now }
 {
     !has_owner(system, body.kind, &body.owner.name)
@@ -93,7 +94,7 @@ fn is_stray(system: &System, body: &Body) -> bool
 
 /// The least line of code for nothing declared, or for a category 1 ISR.
 #[tactic(auto, using(oil_model::proofs::Leasts::least_steps))]
-pub fn stray_code(system: &System, bodies: &[Body]) -> Option<u32>
+pub fn stray_code(system: &Declared, bodies: &[Body]) -> Option<u32>
     ensures { result ≡ least (rules_of.stray_code system.now bodies.now) }
 {
     let mut best = None;

@@ -8,10 +8,9 @@ ghost use Rattle.block_graph.specs.Blocks.{source_size};
 use crate::layout::{block_no, size};
 use crate::owners::is_code_of;
 use crate::ticks::routine_size;
-use app_model::{CounterObject, System, TaskObject};
-use oil_model::copied;
+use oil_system::{CounterObject, System, TaskObject};
 use osek_standard::{Counter, Isr, Task};
-use osek_values::{Memory, Name, Seq};
+use osek_values::{Memory, Name, Seq, copied};
 use std::alloc::Global;
 use task_code::{Body, BodyKind};
 

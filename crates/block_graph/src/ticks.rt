@@ -5,7 +5,7 @@ ghost use Rattle.oil_model.specs.Linkable.{IsLinkable};
 ghost use Rattle.block_graph.specs.Blocks.{tick_block as the_tick_block, expiries, routine, routine_size as the_routine_size, routines};
 
 use crate::layout::block_no;
-use app_model::System;
+use oil_system::System;
 use osek_standard::{Alarm, Block, Kind};
 use osek_values::{AlarmNo, Memory};
 

@@ -2,9 +2,7 @@
 use Rattle.std.proofs.Common.{◌≡◌, ℕ, List, ap}
 use Rattle.osek_values.specs.declared.numbers.ResNo.{ResNo}
 use Rattle.osek_standard.specs.declared.state.State.{State}
-use Rattle.osek_standard.specs.declared.task_state.Activity.TheVariants.{Live}
-use Rattle.osek_standard.specs.declared.task_state.Standing.{Standing}
-use Rattle.osek_standard.specs.declared.task_state.TaskState.{TaskState}
+use Rattle.osek_standard.specs.declared.task_state.{Activity.TheVariants.{Live}, Standing.{Standing}, TaskState.{TaskState}}
 use Rattle.osek_standard.specs.States.{task_state, with_task}
 use Rattle.osek_standard.specs.TaskStates.{held}
 use Rattle.osek_standard.specs.Services.{with_held}

@@ -367,6 +367,59 @@ const ENGINE_TRACE: &str = "\
 49 - Injection=S IdleControl=S Diagnosis=S ^PostTask
 ";
 
+/// `examples/lamp/lamp.oil`.
+const LAMP_OIL: &str = "\
+/* A lamp that a button switches: the button's interrupt wakes the task that waits for it. */
+CPU lamp {
+  OS os;
+  EVENT Pressed;
+  TASK Lamp { PRIORITY = 2; AUTOSTART = TRUE; EVENT = Pressed; };
+  TASK Rest { PRIORITY = 1; AUTOSTART = TRUE; };
+  ISR Button { CATEGORY = 2; };
+};
+";
+
+/// `examples/lamp/lamp.code`.
+const LAMP_CODE: &str = "\
+TASK(Lamp) {
+  while (1) {
+    WaitEvent(Pressed);
+    ClearEvent(Pressed);
+    work 2;               // the lamp is switched
+  }
+}
+TASK(Rest) {
+  while (1) { work 1; }
+}
+ISR(Button) {
+  SetEvent(Lamp, Pressed);
+}
+";
+
+/// `examples/lamp/lamp.events`.
+const LAMP_EVENTS: &str = "\
+# Lamp enters its loop, and waits; then the button is pressed.
+run 0
+run 0
+irq Button
+run 0
+run 0
+run 0
+run 0
+";
+
+/// Worked out by hand from what the services and the interrupts are defined to do.
+const LAMP_TRACE: &str = "\
+0 Lamp Lamp=R:0 Rest=Y
+1 Lamp Lamp=R:0 Rest=Y
+2 Rest Lamp=W:0 Rest=R !E_OK
+3 Rest Lamp=W:0 Rest=R
+4 @Button Lamp=W:0 Rest=R
+5 @Button Lamp=Y:1 Rest=R !E_OK
+6 Lamp Lamp=R:1 Rest=Y
+7 Lamp Lamp=R:0 Rest=Y !E_OK
+";
+
 const BUILD: Act = Act::Run(&["build", "a.oil", "a.c", "a.img"], 0, "", "");
 
 const REPLAY_WORDS: &[&str] = &["replay", "a.img", "OSDEFAULTAPPMODE", "e"];
@@ -374,7 +427,16 @@ const REPLAY_WORDS: &[&str] = &["replay", "a.img", "OSDEFAULTAPPMODE", "e"];
 const TRACE_WORDS: &[&str] = &["trace", "a.oil", "a.c", "OSDEFAULTAPPMODE", "e"];
 
 /// Each by way of its image and from its texts.
-pub const EXAMPLE_ROWS: [Row; 2] = [
+pub const EXAMPLE_ROWS: [Row; 3] = [
+    Row {
+        name: "a lamp and its button",
+        files: &[("a.oil", LAMP_OIL), ("a.c", LAMP_CODE), ("e", LAMP_EVENTS)],
+        acts: &[
+            BUILD,
+            Act::Run(REPLAY_WORDS, 0, LAMP_TRACE, ""),
+            Act::Run(TRACE_WORDS, 0, LAMP_TRACE, ""),
+        ],
+    },
     Row {
         name: "a body controller",
         files: &[("a.oil", BODY_OIL), ("a.c", BODY_CODE), ("e", BODY_EVENTS)],

@@ -6,6 +6,8 @@ mod example_rows;
 #[cfg(test)]
 mod long_rows;
 #[cfg(test)]
+mod real_files;
+#[cfg(test)]
 mod rows;
 #[cfg(test)]
 mod runs;

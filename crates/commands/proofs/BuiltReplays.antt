@@ -4,10 +4,11 @@ use Rattle.std.specs.declared.option.Option.{Option}
 use Rattle.osek_values.specs.declared.event.Event.{Event}
 use Rattle.osek_standard.specs.declared.app.App.{App}
 use Rattle.image_codec.specs.Spelling.{spelling}
-use Rattle.image_codec.specs.ImageTrace.{has_trap}
+use Rattle.image_model.specs.ImageTrace.{has_trap}
 use Rattle.trace_text.specs.EventText.{read_text}
 use Rattle.trace_text.specs.declared.fault.FaultyLine.{FaultyLine}
-use Rattle.commands.specs.Due.{end_of, RunDue, ends, runs}
+use Rattle.commands.specs.Due.{RunDue, ends, runs}
+use Rattle.commands.specs.Running.{end_of}
 use Rattle.commands.specs.Laws.{WhatIsBuiltReplays}
 
 pub built_replays : WhatIsBuiltReplays

@@ -7,22 +7,22 @@ use Rattle.osek_io.specs.Counts.{Rose}
 use Rattle.osek_io.specs.Files.{Files}
 use Rattle.commands.specs.Answering.{CommandAnswers, Does, Tells}
 use Rattle.commands.specs.Due.{IsCalm, IsDue}
-use Rattle.commands.specs.Outside.{Outside, outside}
+use Rattle.commands.specs.Outside.{Outside, beside}
 use Rattle.commands.specs.Statuses.{status_of}
 use Rattle.commands.specs.Words.{Command}
 use Rattle.commands.specs.declared.stop.Stop.{Stop}
 use Rattle.commands.proofs.Dues.{command_due}
 use Rattle.commands.proofs.OneDue.{one_due}
 
-module _ (files : Files) (after : Outside) (reads writes faults : ℕ) (printed : Option (List ℕ)) (quiet loud : ℕ) (told told_after : Option (List ℕ)) (command : Option Command) (status : ℕ) where
-  due_of : IsCalm (outside (Some files) reads writes faults printed) after → (Rose quiet loud → ⊥) → (due : Result (Unit {0}) Stop) → IsDue files command due →
-      Does command (CommandAnswers (outside (Some files) reads writes faults printed) after command) (λ text s. Tells quiet loud told told_after text s status) → (status ≡ status_of due) ⊎ (status ≡ 7)
+module _ (files : Files) (tells : Option Files) (told_files : tells ≡ Some files) (after : Outside) (reads : List ℕ → ℕ) (writes faults : ℕ) (printed : Option (List ℕ)) (quiet loud : ℕ) (told told_after : Option (List ℕ)) (command : Option Command) (status : ℕ) where
+  abbrev from : Option Files → Outside
+  from f = beside (record { files = f; reads = reads; writes = writes }) faults printed
+
+  abbrev Answered : Option Files → Type 0
+  Answered f = Does command (CommandAnswers (from f) after command) (λ text s. Tells quiet loud told told_after text s status)
+
+  due_of : IsCalm (from (Some files)) after → (Rose quiet loud → ⊥) → (due : Result (Unit {0}) Stop) → IsDue files command due → Answered (Some files) → (status ≡ status_of due) ⊎ (status ≡ 7)
   due_of calm still due is d = ⊎_elim (λ says. ⊎_elim (λ memory. inr (says.0 ∙ ap status_of memory)) (λ same. inl (says.0 ∙ ap status_of (one_due files command d.answer due same is))) (command_due files after reads writes faults printed calm command d.answer d.does)) (λ fails. absurd (still fails.1)) d.told
 
-pub exact_of : (files : Files) (tells : Option Files) → tells ≡ Some files → (after : Outside) (reads writes faults : ℕ) (printed : Option (List ℕ)) (quiet loud : ℕ) (told told_after : Option (List ℕ)) (command : Option Command) (status : ℕ) →
-    IsCalm (outside tells reads writes faults printed) after → (Rose quiet loud → ⊥) → (due : Result (Unit {0}) Stop) → IsDue files command due →
-    Does command (CommandAnswers (outside tells reads writes faults printed) after command) (λ text s. Tells quiet loud told told_after text s status) → (status ≡ status_of due) ⊎ (status ≡ 7)
-exact_of files tells is after reads writes faults printed quiet loud told told_after command status calm still due d does =
-    due_of files after reads writes faults printed quiet loud told told_after command status
-    (subst (λ (f : Option Files). IsCalm (outside f reads writes faults printed) after) is calm) still due d
-    (subst (λ (f : Option Files). Does command (CommandAnswers (outside f reads writes faults printed) after command) (λ text s. Tells quiet loud told told_after text s status)) is does)
+  pub exact_of : IsCalm (from tells) after → (Rose quiet loud → ⊥) → (due : Result (Unit {0}) Stop) → IsDue files command due → Answered tells → (status ≡ status_of due) ⊎ (status ≡ 7)
+  exact_of calm still due is does = due_of (subst (λ (f : Option Files). IsCalm (from f) after) told_files calm) still due is (subst Answered told_files does)

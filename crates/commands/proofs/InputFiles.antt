@@ -35,3 +35,7 @@ of_longer (Some files) name most P p longer_file there = found (get files name) 
 
 pub of_map : (files : Option Files) (name : List ℕ) (P Q : List ℕ → Type 0) → ((bytes : List ℕ) → P bytes → Q bytes) → OfFile files name P → OfFile files name Q
 of_map files name P Q f h = (h.0, h.1, f h.0 h.2)
+
+-- what is true of the bytes that are known is true of the file's
+pub of_bytes : (files : Option Files) (name : List ℕ) (P : List ℕ → Type 0) (loaded : List ℕ) → OfFile files name (λ b. b ≡ loaded) → P loaded → OfFile files name P
+of_bytes files name P loaded holds p = (holds.0, holds.1, subst P (sym holds.2) p)

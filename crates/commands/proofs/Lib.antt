@@ -9,6 +9,7 @@ pub mod InputFiles
 pub mod OneDue
 pub mod PlayedTrace
 pub mod Plays
+pub mod FaultlessReads
 pub mod Results
 pub mod Runs
 pub mod Unloaded

@@ -3,23 +3,25 @@ use Rattle.std.proofs.Common.{◌≡◌, ℕ, ◌≤◌, List, [], ◌++◌, Boo
 use Rattle.std.specs.declared.option.Option.{Option}
 use Rattle.std.specs.declared.result.Result.{Result}
 use Rattle.osek_values.specs.declared.event.Event.{Event}
+use Rattle.osek_values.specs.declared.limits.TheConstants.{MAX_FILE}
 use Rattle.osek_values.specs.declared.numbers.ModeNo.{ModeNo}
 use Rattle.osek_values.specs.declared.refusal.Refusal.{Refusal}
 use Rattle.osek_standard.specs.declared.app.App.{App}
-use Rattle.app_model.specs.declared.system.System.{System}
+use Rattle.oil_system.specs.declared.system.System.{System}
 use Rattle.front_end.specs.Texts.{DeclaresSystem, GivesApp}
 use Rattle.front_end.specs.Answers.{IsOilRefusal, IsCodeRefusal}
 use Rattle.front_end.proofs.OneAnswer.{one_oil, one_code}
-use Rattle.image_codec.specs.declared.image.Image.{Image}
+use Rattle.image_model.specs.declared.image.Image.{Image}
 use Rattle.image_codec.specs.declared.fault.ImageFault.{ImageFault}
 use Rattle.image_codec.specs.Spelling.{spelling}
 use Rattle.image_codec.specs.ImageReading.{read_image, parts_of}
-use Rattle.image_codec.specs.ImageTrace.{has_trap}
+use Rattle.image_model.specs.ImageTrace.{has_trap}
 use Rattle.image_codec.proofs.DecodeLaws.{its_reading}
 use Rattle.image_codec.proofs.GoodOfValid.{one_spelling_holds, read_again}
 use Rattle.trace_text.specs.EventText.{read_text}
 use Rattle.osek_io.specs.Files.{Files}
-use Rattle.commands.specs.Due.{end_of, RunDue, no_mode, no_events, ends, ReplayDue, no_image, bad_image, runs, TextsDue, no_oil, bad_oil, no_code, bad_code, goes_on, IsBuilt, IsDue}
+use Rattle.commands.specs.Running.{end_of}
+use Rattle.commands.specs.Due.{RunDue, no_mode, no_events, ends, ReplayDue, no_image, bad_image, runs, TextsDue, no_oil, bad_oil, no_code, bad_code, goes_on, IsBuilt, IsDue}
 use Rattle.commands.specs.Replaying.{SpellImage, IsImageFault}
 use Rattle.commands.specs.Tracing.{never}
 use Rattle.commands.specs.Words.{Command, Build, Replay, Trace}
@@ -53,7 +55,7 @@ module _ (files : Files) where
 
   -- bytes that spell an image have no fault
   no_image_fault : (b c : List ℕ) (i : Image) (f : ImageFault) → b ≡ c → SpellImage b i → IsImageFault c f → ⊥
-  no_image_fault b c i f e x (inl (over, is)) = let within = subst (λ (l : List ℕ). length l ≤ 1048576) e x.within in omega (arith, over, within)
+  no_image_fault b c i f e x (inl (over, is)) = let within = subst (λ (l : List ℕ). length l ≤ MAX_FILE) e x.within in omega (arith, over, within)
   no_image_fault b c i f e x (inr (within, fault)) =
       let reads : read_image (spelling i) ≡ Ok (parts_of i) = its_reading (spelling i) (parts_of i) [] (read_again i x.fits) in
       let faulty : read_image (spelling i) ≡ Err f = ap read_image (x.spelled ∙ e) ∙ fault in

@@ -3,6 +3,7 @@ use Rattle.std.proofs.Common.{◌≡◌, ℕ, ◌+◌, ◌≤◌, List, [], ◌�
 use Rattle.std.proofs.lemmas.Bool.Decides.{nat_tests}
 use Rattle.std.specs.declared.option.Option.{Option}
 use Rattle.std.specs.declared.result.Result.{Result}
+use Rattle.osek_values.specs.declared.limits.TheConstants.{MAX_EVENT_TEXT}
 use Rattle.osek_values.specs.declared.event.Event.{Event}
 use Rattle.osek_values.specs.declared.numbers.ModeNo.{ModeNo}
 use Rattle.osek_standard.specs.declared.app.App.{App}
@@ -10,14 +11,13 @@ use Rattle.osek_standard.specs.declared.state.State.{State}
 use Rattle.osek_standard.specs.Dispatch.{Stepped}
 use Rattle.osek_standard.specs.Kernel.{start}
 use Rattle.osek_standard.specs.TraceText.{lines_from, line_text}
-use Rattle.image_codec.specs.declared.image.Image.{Image}
-use Rattle.image_codec.specs.ImageStep.{image_step}
-use Rattle.image_codec.specs.ImageTrace.{Run, image_steps, image_run, image_trace, has_trap, after, trap_text, trap_line}
+use Rattle.image_model.specs.declared.image.Image.{Image}
+use Rattle.image_model.specs.ImageStep.{image_step}
+use Rattle.image_model.specs.ImageTrace.{Run, image_steps, image_run, image_trace, has_trap, after, trap_text, trap_line}
 use Rattle.trace_text.specs.EventWords.{read_line}
 use Rattle.trace_text.specs.EventText.{Reading, read_lines, read_text, with_line, numbered_lines}
-use Rattle.trace_text.specs.declared.fault.EventFault.{EventFault}
-use Rattle.trace_text.specs.declared.fault.FaultyLine.{FaultyLine}
-use Rattle.commands.specs.Due.{end_of}
+use Rattle.trace_text.specs.declared.fault.{EventFault.{EventFault}, FaultyLine.{FaultyLine}}
+use Rattle.commands.specs.Running.{end_of}
 use Rattle.commands.specs.Playing.{Played, played, printing, plays, played_line, played_after, line_of, whole_play}
 use Rattle.commands.specs.declared.stop.Stop.TheVariants as stop
 
@@ -27,9 +27,6 @@ run_text i n r = lines_from i.app n r.steps ++ trap_text r.trapped (n + length r
 
 abbrev pub run_played : Image → ℕ → Run → Option FaultyLine → Played
 run_played i n r fault = played (run_text i n r) (end_of r.trapped fault)
-
-reading_run : Image → ℕ → State → Reading → Played
-reading_run i n s r = run_played i n (image_steps i s r.events) r.fault
 
 -- one line more in front of a run
 run_then : (i : Image) (n : ℕ) (x : Stepped) (r : Run) (fault : Option FaultyLine) →
@@ -63,11 +60,11 @@ pub plays_run : (i : Image) (lines : List (ℕ × List ℕ)) (n : ℕ) (s : Stat
 plays_run i [] n s = refl
 plays_run i (line ∷ more) n s = line_is i n s line.0 (read_line i.app line.1) (read_lines i.app more) (plays i more) (λ m t. plays_run i more m t)
 
-read_within : (app : App) (text : List ℕ) → length text ≤ 16777216 → read_text app text ≡ read_lines app (numbered_lines text)
-read_within app text h = let low : nat_lt 16777216 (length text) ≡ false = grind (arith, nat_tests) in rw low
+read_within : (app : App) (text : List ℕ) → length text ≤ MAX_EVENT_TEXT → read_text app text ≡ read_lines app (numbered_lines text)
+read_within app text h = let low : nat_lt MAX_EVENT_TEXT (length text) ≡ false = grind (arith, nat_tests) in rw low
 
 -- the whole play prints the trace, and ends at a trap, at a fault, or with the text
-pub whole_is : (i : Image) (m : ModeNo) (text : List ℕ) → length text ≤ 16777216 →
+pub whole_is : (i : Image) (m : ModeNo) (text : List ℕ) → length text ≤ MAX_EVENT_TEXT →
     whole_play i m text ≡ played (image_trace i m (read_text i.app text).events) (end_of (has_trap i m (read_text i.app text).events) (read_text i.app text).fault)
 unfolding image_trace image_run
 whole_is i m text h =

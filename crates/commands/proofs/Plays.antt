@@ -6,8 +6,8 @@ use Rattle.std.specs.declared.result.Result.{Result}
 use Rattle.osek_values.specs.declared.event.Event.{Event}
 use Rattle.osek_standard.specs.declared.state.State.{State}
 use Rattle.osek_standard.specs.Dispatch.{Stepped}
-use Rattle.image_codec.specs.declared.image.Image.{Image}
-use Rattle.image_codec.specs.ImageStep.{image_step}
+use Rattle.image_model.specs.declared.image.Image.{Image}
+use Rattle.image_model.specs.ImageStep.{image_step}
 use Rattle.trace_text.specs.EventWords.{read_line}
 use Rattle.trace_text.specs.declared.fault.EventFault.{EventFault}
 use Rattle.osek_io.specs.Counts.{Rose}
@@ -114,13 +114,6 @@ pub turn_ends : (faults between faults_after : ℕ) → faults ≤ between → (
     Came first now play i lines n s → PlayAnswers faults faults_after first next play (Err end)
 turn_ends faults between faults_after later first now next play i lines p more n s end e a c =
     came_to_end faults between faults_after later first now next play i (p ∷ more) n s (Err end) (a (plays i more)) (subst (λ (l : List (ℕ × List ℕ)). Came first now play i l n s) e c)
-
--- no line is ahead
-pub play_done : (faults faults_after : ℕ) (first now : Option (List ℕ)) (play : Played) (i : Image) (lines : List (ℕ × List ℕ)) (n : ℕ) (s : State) →
-    lines ≡ [] → Came first now play i lines n s → PlayAnswers faults faults_after first now play (Ok tt)
-play_done faults faults_after first now play i lines n s e c =
-    let d = subst (λ (l : List (ℕ × List ℕ)). Came first now play i l n s) e c in
-    inl (sym (ap (λ (p : Played). p.end) d.rest), d.prints ∙ ap (grown first) (sym (append-nil d.text) ∙ sym (ap (λ (p : Played). p.text) d.rest)))
 
 -- a front of what a buffer holds is a front of the line
 pub line_front : (old new : Option (List ℕ)) (app seen : App) (n : ℕ) (s t : State) (notes : Notes) (text : List ℕ) →

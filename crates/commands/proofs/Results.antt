@@ -1,5 +1,4 @@
 -- Facts about one variant of a result.
-use Rattle.std.proofs.Common.{◌≡◌, refl, subst}
 use Rattle.std.specs.Prelude.{OnErr, Ok, Err}
 use Rattle.std.specs.Result.{IsErrOf}
 use Rattle.std.specs.declared.result.Result.{Result}
@@ -9,13 +8,6 @@ pub on_err : {T E : Type 0} (r : Result T E) (P : Type 0) → P → OnErr r P
 on_err (Ok x) P p = tt
 on_err (Err e) P p = p
 
-pub map_err : {T E : Type 0} (r : Result T E) (P Q : Type 0) → (P → Q) → OnErr r P → OnErr r Q
-map_err (Ok x) P Q f h = tt
-map_err (Err e) P Q f h = f h
-
 -- what is well is no error
 pub ok_is_no_error : {T E : Type 0} (x : T) (e : E) → IsErrOf (Ok x) e → ⊥
 ok_is_no_error x e h = cc h
-
-pub is_this_error : {T E : Type 0} (e f : E) → e ≡ f → IsErrOf {T = T} (Err e) f
-is_this_error {T} {E} e f is = subst (λ (x : E). IsErrOf {T = T} (Err e) x) is refl

@@ -9,72 +9,59 @@ use Rattle.std.proofs.lemmas.List.Concat.{length-flat_map}
 use Rattle.std.proofs.lemmas.List.Elements.{All-nil, All-cons, All-head, All-tail}
 use Rattle.std.proofs.lemmas.List.Sums.{sum_by-le}
 use Rattle.osek_values.specs.Names.{is_word, is_name}
+use Rattle.osek_values.specs.declared.limits.TheConstants.{MAX_BLOCKS, MAX_FILE, MAX_NAME, MAX_TASKS}
 use Rattle.osek_values.specs.declared.numbers.BlockNo.{BlockNo}
-use Rattle.osek_standard.specs.declared.objects.Task.{Task}
-use Rattle.osek_standard.specs.declared.objects.Isr.{Isr}
-use Rattle.osek_standard.specs.declared.objects.Counter.{Counter}
-use Rattle.osek_standard.specs.declared.objects.Alarm.{Alarm}
-use Rattle.osek_standard.specs.declared.objects.Resource.{Resource}
-use Rattle.osek_standard.specs.declared.objects.Action.{Action}
+use Rattle.osek_standard.specs.declared.objects.{Task.{Task}, Isr.{Isr}, Counter.{Counter}, Alarm.{Alarm}, Resource.{Resource}, Action.{Action}}
 use Rattle.osek_standard.specs.declared.objects.Action.TheVariants as action
-use Rattle.osek_standard.specs.declared.block.Block.{Block}
-use Rattle.osek_standard.specs.declared.block.Kind.{Kind}
+use Rattle.osek_standard.specs.declared.block.{Block.{Block}, Kind.{Kind}}
 use Rattle.osek_standard.specs.declared.block.Kind.TheVariants as kind
+use Rattle.osek_standard.specs.Apps.{tables}
 use Rattle.osek_standard.specs.Validity.{IsValid}
-use Rattle.image_codec.specs.declared.site.Site.{Site}
-use Rattle.image_codec.specs.declared.image.Image.{Image}
+use Rattle.image_model.specs.CallNames as call
+use Rattle.image_model.specs.declared.site.Site.{Site}
+use Rattle.image_model.specs.declared.image.Image.{Image}
 use Rattle.image_codec.specs.Spelling.{four, name_bytes, range_bytes, task_bytes, isr_bytes, counter_bytes, action_bytes, alarm_bytes, resource_bytes, operand_bytes, way_bytes, site_bytes, block_bytes, spelling}
 
 -- ---- fields
 
-name_within : (name : List ℕ) → is_name name ≡ true → length name ≤ 64
-name_within name e = leb-true _ _ (and_parts (is_word name) (nat_le (length name) 64) e).1
+name_within : (name : List ℕ) → is_name name ≡ true → length name ≤ MAX_NAME
+name_within name e = leb-true _ _ (and_parts (is_word name) (nat_le (length name) MAX_NAME) e).1
 
-task_within : (x : Task) → length x.name ≤ 64 → length (task_bytes x) ≤ 100
+task_within : (x : Task) → length x.name ≤ MAX_NAME → length (task_bytes x) ≤ 100
 task_within x le = grind (arith, le, length-append)
 
-isr_within : (x : Isr) → length x.name ≤ 64 → length (isr_bytes x) ≤ 100
+isr_within : (x : Isr) → length x.name ≤ MAX_NAME → length (isr_bytes x) ≤ 100
 isr_within x le = omega (arith, le, length-append (name_bytes x.name) (range_bytes x.first x.count))
 
-counter_within : (x : Counter) → length x.name ≤ 64 → length (counter_bytes x) ≤ 100
+counter_within : (x : Counter) → length x.name ≤ MAX_NAME → length (counter_bytes x) ≤ 100
 counter_within x le = grind (arith, le, length-append)
 
 action_len : (x : Action) → length (action_bytes x) ≡ 10
 action_len (action.ActivateTask t) = refl
 action_len (action.SetEvent t m) = refl
 
-alarm_within : (x : Alarm) → length x.name ≤ 64 → length (alarm_bytes x) ≤ 100
+alarm_within : (x : Alarm) → length x.name ≤ MAX_NAME → length (alarm_bytes x) ≤ 100
 alarm_within x le = grind (arith, le, action_len x.action, length-append)
 
-resource_within : (x : Resource) → length x.name ≤ 64 → length (resource_bytes x) ≤ 100
+resource_within : (x : Resource) → length x.name ≤ MAX_NAME → length (resource_bytes x) ≤ 100
 resource_within x le = omega (arith, le, length-append x.name (four x.ceiling))
 
-mode_within : (name : List ℕ) → length name ≤ 64 → length (name_bytes name) ≤ 100
+mode_within : (name : List ℕ) → length name ≤ MAX_NAME → length (name_bytes name) ≤ 100
 mode_within name le = omega (arith, le)
 
 operands_within : (k : Kind) → length (operand_bytes k) ≤ 17
 operands_within (kind.Work n) = omega arith
 operands_within (kind.Choice o) = omega arith
 operands_within kind.Loop = omega arith
-operands_within (kind.ActivateTask t) = omega arith
-operands_within kind.TerminateTask = omega arith
-operands_within (kind.ChainTask t) = omega arith
-operands_within kind.Schedule = omega arith
-operands_within (kind.GetResource r) = omega arith
-operands_within (kind.ReleaseResource r) = omega arith
-operands_within (kind.SetEvent t m) = omega arith
-operands_within (kind.ClearEvent m) = omega arith
-operands_within (kind.GetEvent t) = omega arith
-operands_within (kind.WaitEvent m) = omega arith
-operands_within (kind.SetRelAlarm a i c) = omega arith
-operands_within (kind.SetAbsAlarm a s c) = omega arith
-operands_within (kind.CancelAlarm a) = omega arith
-operands_within (kind.GetAlarm a) = omega arith
-operands_within kind.GetTaskId = omega arith
-operands_within (kind.GetTaskState t) = omega arith
-operands_within kind.GetActiveApplicationMode = omega arith
-operands_within kind.ShutdownOs = omega arith
-operands_within (kind.LockCall l) = omega arith
+operands_within (kind.Call (call.Plain k)) = omega arith
+operands_within (kind.Call (call.Task k t)) = omega arith
+operands_within (kind.Call (call.Resource k r)) = omega arith
+operands_within (kind.Call (call.SetEvent t m)) = omega arith
+operands_within (kind.Call (call.Mask k m)) = omega arith
+operands_within (kind.Call (call.Alarm k a)) = omega arith
+operands_within (kind.Call (call.Arm k a i c)) = omega arith
+operands_within (kind.Call (call.Lock l)) = omega arith
+operands_within (kind.Call call.ShutdownOs) = omega arith
 operands_within kind.TaskEnd = omega arith
 operands_within kind.IsrEnd = omega arith
 operands_within kind.CountUp = omega arith
@@ -100,7 +87,7 @@ module _ {X : Type 0} (spell : X → List ℕ) where
   entries_within : (m : ℕ) (xs : List X) → All (λ x. length (spell x) ≤ m) xs → length (flat_map spell xs) ≤ length xs * m
   entries_within m xs h = subst (λ (n : ℕ). n ≤ length xs * m) (sym (length-flat_map spell xs)) (sum_by-le (λ x. length (spell x)) m xs h)
 
-  module _ (name : X → List ℕ) (one_within : (x : X) → length (name x) ≤ 64 → length (spell x) ≤ 100) where
+  module _ (name : X → List ℕ) (one_within : (x : X) → length (name x) ≤ MAX_NAME → length (spell x) ≤ 100) where
     each_within : (xs : List X) → All (λ (n : List ℕ). IsTrue (is_name n)) (map name xs) → All (λ x. length (spell x) ≤ 100) xs
     each_within [] h = All-nil (λ (x : X). length (spell x) ≤ 100)
     each_within (x ∷ xs) h =
@@ -108,8 +95,8 @@ module _ {X : Type 0} (spell : X → List ℕ) where
         let rest = each_within xs (All-tail (λ (n : List ℕ). IsTrue (is_name n)) (name x) (map name xs) h) in
         All-cons (λ (y : X). length (spell y) ≤ 100) x xs (one_within x first) rest
 
-    -- a table of 16 entries at most, each with its name
-    table_within : (xs : List X) → length xs ≤ 16 → All (λ (n : List ℕ). IsTrue (is_name n)) (map name xs) → length (flat_map spell xs) ≤ 1600
+    -- a table of as many entries as there are tasks at most, each with its name
+    table_within : (xs : List X) → length xs ≤ MAX_TASKS → All (λ (n : List ℕ). IsTrue (is_name n)) (map name xs) → length (flat_map spell xs) ≤ 1600
     table_within xs few h = omega (arith, few, entries_within 100 xs (each_within xs h))
 
 modes_within : (names : List (List ℕ)) → All (λ (n : List ℕ). IsTrue (is_name n)) names → All (λ n. length (name_bytes n) ≤ 100) names
@@ -120,16 +107,16 @@ zip_within [] xs = omega arith
 zip_within (k ∷ ks) [] = omega arith
 zip_within (k ∷ ks) (x ∷ xs) = omega (arith, zip_within ks xs)
 
-blocks_within : (xs : List (Block × Option Site)) → length xs ≤ 1056 → length (flat_map block_bytes xs) ≤ 30624
+blocks_within : (xs : List (Block × Option Site)) → length xs ≤ MAX_BLOCKS → length (flat_map block_bytes xs) ≤ 30624
 blocks_within xs few = omega (arith, few, entries_within block_bytes 29 xs (λ k d lt. block_within (get_or xs k d)))
 
 -- ---- the whole
 
-pub small : (i : Image) → length (spelling i) ≤ 1048576
+pub small : (i : Image) → length (spelling i) ≤ MAX_FILE
 unfolding spelling
 small i =
     let a = i.app in
-    let v : IsValid a.tasks a.alarms a.resources a.blocks a.isrs a.counters a.hooks a.modes = a.valid in
+    let v : IsValid (tables a) = a.valid in
     let tasks = flat_map task_bytes a.tasks in
     let isrs = flat_map isr_bytes a.isrs in
     let counters = flat_map counter_bytes a.counters in

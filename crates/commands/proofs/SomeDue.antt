@@ -9,15 +9,15 @@ use Rattle.osek_values.specs.declared.limits.TheConstants.{MAX_FILE}
 use Rattle.osek_values.specs.declared.numbers.ModeNo.{ModeNo}
 use Rattle.osek_values.specs.declared.refusal.Refusal.{Refusal}
 use Rattle.osek_standard.specs.declared.app.App.{App}
-use Rattle.app_model.specs.declared.system.System.{System}
+use Rattle.oil_system.specs.declared.system.System.{System}
 use Rattle.front_end.specs.Answers.{IsOilAnswer, IsCodeAnswer}
 use Rattle.front_end.specs.Texts.{DeclaresSystem}
 use Rattle.front_end.proofs.SomeAnswer.{some_oil, declared_is_linkable, some_code}
-use Rattle.image_codec.specs.declared.image.Image.{Image}
+use Rattle.image_model.specs.declared.image.Image.{Image}
 use Rattle.image_codec.specs.declared.fault.ImageFault.{ImageFault}
 use Rattle.image_codec.specs.Fits.{FitsFormat}
 use Rattle.image_codec.specs.ImageReading.{read_image}
-use Rattle.image_codec.specs.ImageTrace.{has_trap}
+use Rattle.image_model.specs.ImageTrace.{has_trap}
 use Rattle.image_codec.specs.Spelling.{spelling}
 use Rattle.image_codec.proofs.SomeImage.{spell_or_fail}
 use Rattle.osek_io.specs.Files.{Files}

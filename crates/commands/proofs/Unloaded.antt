@@ -1,37 +1,32 @@
--- Why a text that isn't loaded stops the command.
-use Rattle.std.proofs.Common.{◌≡◌, ◌<◌, ◌⊎◌, ℕ, List, length, refl, sym, subst, inl, Vec, Global, Err}
-use Rattle.std.specs.declared.option.Option.{Option}
+-- Why an input stops a command, from why it isn't loaded.
+use Rattle.std.proofs.Common.{◌≡◌, ◌<◌, ◌⊎◌, ℕ, List, length, refl, sym, subst, Vec, Global, Err}
 use Rattle.std.specs.Result.{IsErrOf}
-use Rattle.osek_values.specs.declared.limits.TheConstants.{MAX_FILE}
-use Rattle.osek_values.specs.declared.refusal.TextFile.TheVariants as file
-use Rattle.app_model.specs.declared.system.System.{System}
-use Rattle.osek_io.specs.declared.loading.LoadError.{LoadError}
-use Rattle.osek_io.specs.declared.loading.LoadError.TheVariants.{Read, TooLong, Memory}
+use Rattle.osek_io.specs.declared.loading.{LoadError.{LoadError}, LoadError.TheVariants.{Read, TooLong, Memory}}
 use Rattle.osek_io.specs.Counts.{Rose}
-use Rattle.osek_io.specs.Files.{Files, Holds, IsMissing}
-use Rattle.commands.specs.declared.stop.Stop.{Stop}
-use Rattle.commands.specs.Compiling.{unloaded, SystemStops, CodeStops}
-use Rattle.commands.proofs.InputFiles.{of_longer}
+use Rattle.osek_io.specs.Files.{Holds, IsMissing}
+use Rattle.commands.specs.Outside.{Told}
+use Rattle.commands.specs.declared.stop.{Input.{Input}, Stop.{Stop}}
+use Rattle.commands.specs.Inputs.{limit_of, over_limit, unloaded, InputStops, unread, faulty, no_memory, NotLoaded}
+use Rattle.commands.proofs.InputFiles.{of_longer, of_map}
 
-module _ (files : Option Files) (reads reads_after : ℕ) (name : List ℕ) where
+module _ (before after : Told) (i : Input) (name : List ℕ) where
   -- what is known of the error
   pub record Cause (e : LoadError) : Type 0 where
-    pub read : IsErrOf {T = Vec ℕ Global} (Err e) Read → Rose reads reads_after ⊎ IsMissing files name
-    pub too_long : IsErrOf {T = Vec ℕ Global} (Err e) TooLong → (bytes : List ℕ) → Holds files name bytes → MAX_FILE < length bytes
-    pub missing : IsMissing files name → IsErrOf {T = Vec ℕ Global} (Err e) Read
+    pub read : IsErrOf {T = Vec ℕ Global} (Err e) Read → Rose (before.reads name) (after.reads name) ⊎ IsMissing before.files name
+    pub too_long : IsErrOf {T = Vec ℕ Global} (Err e) TooLong → (bytes : List ℕ) → Holds before.files name bytes → limit_of i < length bytes
+    pub missing : IsMissing before.files name → IsErrOf {T = Vec ℕ Global} (Err e) Read
 
-  pub system_stops : (e : LoadError) → Cause e → SystemStops files reads reads_after name (unloaded file.Oil e)
-  system_stops Read h = h.read refl
-  system_stops TooLong h = of_longer files name MAX_FILE _ (λ b over. (refl, inl (over, refl))) (h.too_long refl) (λ m. let e = h.missing m in absurd (cc e))
-  system_stops Memory h = tt
+  stops : (e : LoadError) → Cause e → NotLoaded before after i name (unloaded i e)
+  stops Read h = unread (h.read refl)
+  stops TooLong h = faulty tt (of_longer before.files name (limit_of i) _ (λ b over. over) (h.too_long refl) (λ m. let e = h.missing m in absurd (cc e)))
+  stops Memory h = no_memory
 
-  pub code_stops : (s : System) (e : LoadError) → Cause e → CodeStops files reads reads_after s name (unloaded file.Code e)
-  code_stops s Read h = h.read refl
-  code_stops s TooLong h = of_longer files name MAX_FILE _ (λ b over. (refl, inl (over, refl))) (h.too_long refl) (λ m. let e = h.missing m in absurd (cc e))
-  code_stops s Memory h = tt
+  pub not_loaded : (e : LoadError) (s : Stop) → s ≡ unloaded i e → Cause e → NotLoaded before after i name s
+  not_loaded e s is h = subst (NotLoaded before after i name) (sym is) (stops e h)
 
-  pub system_stopped : (e : LoadError) (s : Stop) → s ≡ unloaded file.Oil e → Cause e → SystemStops files reads reads_after name s
-  system_stopped e s is h = subst (SystemStops files reads reads_after name) (sym is) (system_stops e h)
-
-  pub code_stopped : (system : System) (e : LoadError) (s : Stop) → s ≡ unloaded file.Code e → Cause e → CodeStops files reads reads_after system name s
-  code_stopped system e s is h = subst (CodeStops files reads reads_after system name) (sym is) (code_stops system e h)
+  -- what isn't loaded has the fault of what is too long
+  pub too_long : {Fault : Type 0} (stop_at : Fault → Stop) (IsFirst : List ℕ → Fault → Type 0) (fault : Fault) → over_limit i ≡ stop_at fault → ((bytes : List ℕ) → limit_of i < length bytes → IsFirst bytes fault) →
+      (s : Stop) → NotLoaded before after i name s → InputStops before after i name stop_at IsFirst s
+  too_long stop_at IsFirst fault is over _ (unread h) = unread h
+  too_long stop_at IsFirst fault is over _ (faulty u h) = subst (InputStops before after i name stop_at IsFirst) (sym is) (faulty fault (of_map before.files name _ _ over h))
+  too_long stop_at IsFirst fault is over _ no_memory = no_memory

@@ -5,7 +5,7 @@ use Rattle.osek_io.specs.Pieces.{grown}
 use Rattle.commands.specs.declared.stop.Stop.{Stop}
 use Rattle.commands.specs.declared.stop.Stop.TheVariants as stop
 use Rattle.commands.specs.Building.{BuildAnswers}
-use Rattle.commands.specs.Outside.{Outside}
+use Rattle.commands.specs.Outside.{Outside, SameFiles}
 use Rattle.commands.specs.Replaying.{ReplayAnswers}
 use Rattle.commands.specs.Statuses.{status_of, text_due}
 use Rattle.commands.specs.Telling.{WritesFront}
@@ -18,16 +18,12 @@ Tells faults faults_after told told_after text status answered =
     ((answered ≡ status) × (told_after ≡ grown told text))
     ⊎ ((answered ≡ 6) × Rose faults faults_after × WritesFront told told_after text)
 
--- no file changed, and none failed to be written
-abbrev pub SameFiles : Outside → Outside → Type 0
-SameFiles before after = (after.files ≡ before.files) × (after.writes ≡ before.writes)
-
 -- Words of no stated form leave all as it was; `build` prints nothing; the others write no file.
 abbrev pub CommandAnswers : (before after : Outside) → Option Command → Result (Unit {0}) Stop → Type 0
 CommandAnswers before after None r = (r ≡ Err stop.Usage) × (after ≡ before)
 CommandAnswers before after (Some (Build oil code image)) r = BuildAnswers before after oil code image r × (after.printed ≡ before.printed) × (after.faults ≡ before.faults)
-CommandAnswers before after (Some (Replay image mode events)) r = ReplayAnswers before after image mode events r × SameFiles before after
-CommandAnswers before after (Some (Trace oil code mode events)) r = TraceAnswers before after oil code mode events r × SameFiles before after
+CommandAnswers before after (Some (Replay image mode events)) r = ReplayAnswers before after image mode events r × SameFiles before.shelf after.shelf
+CommandAnswers before after (Some (Trace oil code mode events)) r = TraceAnswers before after oil code mode events r × SameFiles before.shelf after.shelf
 
 -- The command of the words answers r, of which err has the text and the call the status.
 pub record Does (command : Option Command) (answers : Result (Unit {0}) Stop → Type 0) (tells : List ℕ → ℕ → Type 0) : Type 0 where

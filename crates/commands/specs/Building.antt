@@ -3,15 +3,15 @@ use Rattle.std.specs.Prelude.{◌≡◌, ℕ, List, Result, Ok, Err}
 use Rattle.osek_values.specs.declared.event.Event.{Event}
 use Rattle.osek_values.specs.declared.numbers.ModeNo.{ModeNo}
 use Rattle.osek_standard.specs.declared.app.App.{App}
-use Rattle.image_codec.specs.declared.image.Image.{Image}
+use Rattle.image_model.specs.declared.image.Image.{Image}
 use Rattle.image_codec.specs.Spelling.{spelling}
-use Rattle.image_codec.specs.ImageTrace.{AreGeneral}
-use Rattle.image_codec.specs.Laws.{IsKernelsRun}
+use Rattle.image_model.specs.ImageTrace.{AreGeneral}
+use Rattle.image_model.specs.Laws.{IsKernelsRun}
 use Rattle.osek_io.specs.Counts.{Rose}
 use Rattle.osek_io.specs.Files.{with_file}
 use Rattle.osek_io.specs.Stored.{StoresPart}
 use Rattle.commands.specs.Compiling.{OfApp, CompileStops}
-use Rattle.commands.specs.Outside.{Outside}
+use Rattle.commands.specs.Outside.{Outside, SameFiles}
 use Rattle.commands.specs.Replaying.{SpellImage}
 use Rattle.commands.specs.declared.stop.Stop.{Stop}
 use Rattle.commands.specs.declared.stop.Stop.TheVariants as stop
@@ -30,16 +30,17 @@ pub record SpellsKernelImage (app : App) (bytes : List ℕ) : Type 0 where
   pub kernel : IsKernelImage app image
   pub are : bytes ≡ spelling image
 
-module _ (before after : Outside) (oil code image : List ℕ) where
+module _ (before after : Outside) (image : List ℕ) where
   -- the image's bytes were stored, all of them
   abbrev pub Stores : App → Type 0
-  Stores app = (i : Image) × IsKernelImage app i × (after.files ≡ with_file before.files image (spelling i))
+  Stores app = (i : Image) × IsKernelImage app i × (after.shelf.files ≡ with_file before.shelf.files image (spelling i))
 
   -- The files are as they were, or the image's holds a front of the bytes.
   abbrev pub StoresFront : App → Type 0
-  StoresFront app = (i : Image) × IsKernelImage app i × StoresPart before.files after.files image (spelling i)
+  StoresFront app = (i : Image) × IsKernelImage app i × StoresPart before.shelf.files after.shelf.files image (spelling i)
 
-  abbrev pub BuildAnswers : Result (Unit {0}) Stop → Type 0
-  BuildAnswers (Ok done) = OfApp before.files oil code Stores
-  BuildAnswers (Err stop.Unstored) = Rose before.writes after.writes × OfApp before.files oil code StoresFront
-  BuildAnswers (Err s) = CompileStops before.files before.reads after.reads oil code s × (after.files ≡ before.files)
+-- `build` stops at the texts and writes no file; a write fails; or it is done.
+pub data BuildAnswers (before after : Outside) (oil code image : List ℕ) : Result (Unit {0}) Stop → Type 0 where
+  stops : (s : Stop) → CompileStops before.shelf after.shelf oil code s → SameFiles before.shelf after.shelf → BuildAnswers before after oil code image (Err s)
+  fails : Rose before.shelf.writes after.shelf.writes → OfApp before.shelf.files oil code (StoresFront before after image) → BuildAnswers before after oil code image (Err stop.Unstored)
+  stores : OfApp before.shelf.files oil code (Stores before after image) → BuildAnswers before after oil code image (Ok tt)

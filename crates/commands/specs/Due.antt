@@ -1,41 +1,33 @@
 -- Which answer is due over files that the shelf tells, where no read or write fails and memory suffices: the first cause
 -- in the order in which a command reads and judges its inputs.
-use Rattle.std.specs.Prelude.{◌≡◌, ℕ, Bool, true, false, List, Option, Some, None, Result, Ok, Err}
+use Rattle.std.specs.Prelude.{◌≡◌, ℕ, Bool, List, Option, Some, None, Result, Ok, Err}
 use Rattle.std.specs.FinMap.{get}
 use Rattle.osek_values.specs.declared.event.Event.{Event}
 use Rattle.osek_values.specs.declared.numbers.ModeNo.{ModeNo}
 use Rattle.osek_values.specs.declared.refusal.Refusal.{Refusal}
 use Rattle.osek_standard.specs.declared.app.App.{App}
-use Rattle.app_model.specs.declared.system.System.{System}
+use Rattle.oil_system.specs.declared.system.System.{System}
 use Rattle.front_end.specs.Texts.{DeclaresSystem, GivesApp}
 use Rattle.front_end.specs.Answers.{IsOilRefusal, IsCodeRefusal}
-use Rattle.image_codec.specs.declared.image.Image.{Image}
+use Rattle.image_model.specs.declared.image.Image.{Image}
 use Rattle.image_codec.specs.declared.fault.ImageFault.{ImageFault}
-use Rattle.image_codec.specs.ImageTrace.{has_trap}
+use Rattle.image_model.specs.ImageTrace.{has_trap}
 use Rattle.trace_text.specs.EventText.{read_text}
-use Rattle.trace_text.specs.declared.fault.FaultyLine.{FaultyLine}
 use Rattle.osek_io.specs.Counts.{Rose}
 use Rattle.osek_io.specs.Files.{Files}
 use Rattle.commands.specs.Outside.{Outside}
 use Rattle.commands.specs.Replaying.{SpellImage, IsImageFault}
-use Rattle.commands.specs.Running.{mode_named}
+use Rattle.commands.specs.Running.{mode_named, end_of}
 use Rattle.commands.specs.Tracing.{never}
 use Rattle.commands.specs.Words.{Command, Build, Replay, Trace}
-use Rattle.commands.specs.declared.stop.Input.TheVariants.{Oil, Code, Image as image_file, Events}
-use Rattle.commands.specs.declared.stop.Stop.{Stop}
+use Rattle.commands.specs.declared.stop.{Input.TheVariants.{Oil, Code, Image as image_file, Events}, Stop.{Stop}}
 use Rattle.commands.specs.declared.stop.Stop.TheVariants as stop
 
 -- no count of faults rose
 pub record IsCalm (before after : Outside) : Type 0 where
-  pub reads : Rose before.reads after.reads → ⊥
-  pub writes : Rose before.writes after.writes → ⊥
+  pub reads : (name : List ℕ) → Rose (before.shelf.reads name) (after.shelf.reads name) → ⊥
+  pub writes : Rose before.shelf.writes after.shelf.writes → ⊥
   pub faults : Rose before.faults after.faults → ⊥
-
--- how a run ends: at a trap, at a faulty line of the event text, or with the text
-abbrev pub end_of : Bool → Option FaultyLine → Result (Unit {0}) Stop
-end_of true fault = Err stop.Trapped
-end_of false None = Ok tt
-end_of false (Some f) = Err (stop.Events f)
 
 -- a run: the mode, the event text, and then its lines
 pub data RunDue (files : Files) (app : App) (traps : ModeNo → List Event → Bool) (mode events : List ℕ) : Result (Unit {0}) Stop → Type 0 where

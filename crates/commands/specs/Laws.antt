@@ -4,9 +4,9 @@ use Rattle.std.specs.FinMap.{get}
 use Rattle.osek_values.specs.declared.numbers.ModeNo.{ModeNo}
 use Rattle.osek_standard.specs.declared.app.App.{App}
 use Rattle.osek_standard.specs.TraceText.{kernel_trace}
-use Rattle.image_codec.specs.declared.image.Image.{Image}
+use Rattle.image_model.specs.declared.image.Image.{Image}
 use Rattle.image_codec.specs.Spelling.{spelling}
-use Rattle.image_codec.specs.ImageTrace.{image_trace}
+use Rattle.image_model.specs.ImageTrace.{image_trace}
 use Rattle.image_codec.specs.Reading.{AreBytes}
 use Rattle.trace_text.specs.EventText.{read_text}
 use Rattle.osek_io.specs.Files.{Files}

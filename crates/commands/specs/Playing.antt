@@ -6,9 +6,9 @@ use Rattle.osek_standard.specs.declared.state.State.{State}
 use Rattle.osek_standard.specs.Dispatch.{Stepped}
 use Rattle.osek_standard.specs.Kernel.{start}
 use Rattle.osek_standard.specs.TraceText.{line_text}
-use Rattle.image_codec.specs.declared.image.Image.{Image}
-use Rattle.image_codec.specs.ImageStep.{image_step}
-use Rattle.image_codec.specs.ImageTrace.{trap_line}
+use Rattle.image_model.specs.declared.image.Image.{Image}
+use Rattle.image_model.specs.ImageStep.{image_step}
+use Rattle.image_model.specs.ImageTrace.{trap_line}
 use Rattle.trace_text.specs.EventText.{numbered_lines}
 use Rattle.trace_text.specs.EventWords.{read_line}
 use Rattle.trace_text.specs.declared.fault.EventFault.{EventFault}
@@ -78,7 +78,7 @@ AnswersLine faults faults_after printed printed_after line s (Err e) = (more : �
 abbrev pub whole_play : Image → ModeNo → List ℕ → Played
 whole_play i m text = printing (line_of i 0 (start i.app m)) (plays i (numbered_lines text) 1 (start i.app m).state)
 
--- All of it was played, or nothing for want of memory.
+-- All of it was played, or nothing as memory ran out.
 abbrev pub PlaysWhole : (faults faults_after : ℕ) → Option (List ℕ) → Option (List ℕ) → Image → ModeNo → List ℕ → Result (Unit {0}) Stop → Type 0
 PlaysWhole faults faults_after printed printed_after i m text r =
     ((r ≡ Err stop.Memory) × (printed_after ≡ printed)) ⊎ PlayAnswers faults faults_after printed printed_after (whole_play i m text) r

@@ -5,9 +5,8 @@ use Rattle.osek_values.specs.declared.refusal.TextFile.TheVariants as file
 use Rattle.osek_values.specs.Rules.{rule_name}
 use Rattle.image_codec.specs.Rules.{image_rule_name}
 use Rattle.trace_text.specs.EventFaults.{event_fault_name}
-use Rattle.commands.specs.declared.stop.Input.{Input}
+use Rattle.commands.specs.declared.stop.{Input.{Input}, Stop.{Stop}}
 use Rattle.commands.specs.declared.stop.Input.TheVariants as input
-use Rattle.commands.specs.declared.stop.Stop.{Stop}
 use Rattle.commands.specs.declared.stop.Stop.TheVariants as stop
 use Rattle.commands.specs.Telling.{fault_text}
 use Rattle.commands.specs.Words.{Command, input_name, mode_name}

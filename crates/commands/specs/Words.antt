@@ -1,8 +1,7 @@
 -- The stated forms of the words (this project's profile).
 use Rattle.std.specs.Prelude.{ℕ, ◌==◌, ◌&&◌, Bool, false, not, List, [], ◌∷◌, Option, Some, None, if◌then◌else◌, codes}
 use Rattle.std.specs.Str.{bytes_eq}
-use Rattle.commands.specs.declared.stop.Input.{Input}
-use Rattle.commands.specs.declared.stop.Input.TheVariants.{Oil, Code, Image, Events}
+use Rattle.commands.specs.declared.stop.{Input.{Input}, Input.TheVariants.{Oil, Code, Image, Events}}
 
 pub data Command : Type 0 where
   Build : (oil code image : List ℕ) → Command

@@ -1,12 +1,14 @@
 //! The command `build`: the image of an application.
 ghost use Rattle.std.specs.Prelude.{ℕ, List, Option, IfOk};
+ghost use Rattle.osek_standard.specs.Versions.{FitsVersion1};
 ghost use Rattle.commands.specs.Building.{BuildAnswers, IsKernelImage, SpellsKernelImage};
-ghost use Rattle.commands.specs.Outside.{outside};
+ghost use Rattle.commands.specs.Outside.{beside, told};
 
 use crate::compiling::compile;
 use crate::ranges::read_numbers;
 use crate::stop::Stop;
-use image_codec::{Image, encode, general};
+use image_codec::encode;
+use image_model::{Image, general};
 use osek_io::{PutError, Shelf, store};
 use osek_standard::App;
 use osek_values::Memory;
@@ -14,6 +16,7 @@ use std::alloc::Global;
 
 /// The image of an application, each of whose sites is General.
 pub fn image_of(alloc: Global, app: App) -> Result<Image, Memory>
+    requires { FitsVersion1 app.tasks }
     ensures { IfOk result (IsKernelImage app) }
 {
     let image = general(alloc, app)?;
@@ -23,6 +26,7 @@ pub fn image_of(alloc: Global, app: App) -> Result<Image, Memory>
 
 /// The bytes of that image.
 fn image_bytes(alloc: Global, app: App) -> Result<Vec<u8>, Memory>
+    requires { FitsVersion1 app.tasks }
     ensures { IfOk result (λ v. SpellsKernelImage app v.items) }
 {
     let image = image_of(alloc, app)?;
@@ -39,10 +43,7 @@ pub fn build<F: Shelf>(
     code: &str,
     image: &str,
 ) -> Result<(), Stop>
-    ensures answer { (faults : ℕ) (printed : Option (List ℕ)) → BuildAnswers
-        (outside (F.contents shelf.old) (F.read_faults shelf.old) (F.write_faults shelf.old) faults printed)
-        (outside (F.contents shelf.new) (F.read_faults shelf.new) (F.write_faults shelf.new) faults printed)
-        oil.now code.now image.now result }
+    ensures answer { (faults : ℕ) (printed : Option (List ℕ)) → BuildAnswers (beside (told F.Shelf shelf.old) faults printed) (beside (told F.Shelf shelf.new) faults printed) oil.now code.now image.now result }
 {
     let bytes = match compile(alloc, shelf, oil, code) {
         Ok(app) => image_bytes(alloc, app),

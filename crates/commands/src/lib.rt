@@ -3,6 +3,7 @@
 
 mod building;
 mod compiling;
+mod inputs;
 mod laws;
 mod playing;
 mod ranges;

@@ -4,7 +4,7 @@ ghost use Rattle.osek_standard.specs.declared.objects.Alarm.{Alarm};
 ghost use Rattle.osek_standard.specs.declared.objects.Counter.{Counter};
 ghost use Rattle.image_codec.specs.Fits.{FitsAction, FitsBlock, FitsFormat, FitsKind, FitsTask};
 
-use image_codec::Image;
+use image_model::Image;
 use osek_standard::{Action, Alarm, Block, Counter, Kind, Task};
 
 // A number by value keeps the range of its type in a contract.

@@ -1,34 +1,29 @@
 //! The command `replay`: the trace of an image under an event text.
-ghost use Rattle.std.specs.Prelude.{◌≡◌, ◌≤◌, IfOk, IfErr};
+ghost use Rattle.std.specs.Prelude.{IfOk, IfErr, OnOk};
+ghost use Rattle.osek_io.specs.Counts.{Same};
+ghost use Rattle.osek_io.specs.Reads.{OnlyReads};
 ghost use Rattle.commands.specs.Inputs.{OfFile};
-ghost use Rattle.commands.specs.Outside.{outside};
+ghost use Rattle.commands.specs.Outside.{outside, told};
 ghost use Rattle.commands.specs.Replaying.{SpellImage, ImageStops, ReplayAnswers};
 
+use crate::inputs::load_input;
 use crate::running::run;
 use crate::stop::{Input, Stop};
-use image_codec::{Image, ImageError, ImageFault, ImageRule, decode};
-use osek_io::{LoadError, Shelf, Sink, load};
-use osek_values::limits::MAX_FILE;
+use image_codec::{ImageError, decode};
+use image_model::Image;
+use osek_io::{Shelf, Sink};
 use std::alloc::Global;
 
 /// The image that a file's bytes spell.
 fn load_image<F: Shelf>(alloc: Global, shelf: &mut F, image: &str) -> Result<Image, Stop>
     ensures image { IfOk result (λ i. OfFile (F.contents shelf.old) image.now (λ b. SpellImage b i)) }
-    ensures stop { IfErr result (ImageStops (F.contents shelf.old) (F.read_faults shelf.old) (F.read_faults shelf.new) image.now) }
-    ensures same_files { F.contents shelf.new ≡ F.contents shelf.old }
-    ensures same_writes { F.write_faults shelf.new ≡ F.write_faults shelf.old }
-    ensures never_falls { F.read_faults shelf.old ≤ F.read_faults shelf.new }
+    ensures stop { IfErr result (ImageStops (told F.Shelf shelf.old) (told F.Shelf shelf.new) image.now) }
+    ensures same { OnlyReads F.Shelf shelf.old shelf.new }
+    ensures no_fault { OnOk result (Same (F.read_faults shelf.old) (F.read_faults shelf.new)) }
 {
-    let bytes = match load(alloc, shelf, image, MAX_FILE as u64) {
+    let bytes = match load_input(alloc, shelf, Input::Image, image) {
         Ok(bytes) => bytes,
-        Err(LoadError::Read) => return Err(Stop::Unread(Input::Image)),
-        Err(LoadError::TooLong) => {
-            return Err(Stop::Image(ImageFault {
-                rule: ImageRule::I7,
-                offset: MAX_FILE,
-            }));
-        }
-        Err(LoadError::Memory) => return Err(Stop::Memory),
+        Err(stop) => return Err(stop),
     };
     match decode(alloc, &bytes) {
         Ok(image) => Ok(image),
@@ -46,19 +41,12 @@ pub fn replay<F: Shelf, O: Sink>(
     mode: &str,
     events: &str,
 ) -> Result<(), Stop>
-    ensures answer { ReplayAnswers
-        (outside (F.contents shelf.old) (F.read_faults shelf.old) (F.write_faults shelf.old) (O.faults out.old) (O.written out.old))
-        (outside (F.contents shelf.new) (F.read_faults shelf.new) (F.write_faults shelf.new) (O.faults out.new) (O.written out.new))
-        image.now mode.now events.now result }
-    ensures same_files { F.contents shelf.new ≡ F.contents shelf.old }
-    ensures same_writes { F.write_faults shelf.new ≡ F.write_faults shelf.old }
+    ensures answer { ReplayAnswers (outside F.Shelf O.Sink shelf.old out.old) (outside F.Shelf O.Sink shelf.new out.new) image.now mode.now events.now result }
+    ensures same { OnlyReads F.Shelf shelf.old shelf.new }
 {
     let image = match load_image(alloc, shelf, image) {
         Ok(image) => image,
         Err(stop) => return Err(stop),
     };
-    match run(alloc, shelf, out, image, mode, events) {
-        Ok(()) => Ok(()),
-        Err(stop) => Err(stop),
-    }
+    run(alloc, shelf, out, image, mode, events)
 }

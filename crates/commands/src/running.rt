@@ -1,47 +1,27 @@
 //! An image that runs in a mode under an event text, and its trace that is printed.
-ghost use Rattle.std.specs.Prelude.{◌≡◌, ◌≤◌, ◌<◌, length, false, IfOk, IfErr, IfSome};
+ghost use Rattle.std.specs.Prelude.{◌≡◌, ◌≤◌, ◌<◌, length, false, IfOk, IfSome};
 ghost use Rattle.std.specs.List.{position};
 ghost use Rattle.std.specs.Str.{bytes_eq};
+ghost use Rattle.osek_io.specs.Reads.{OnlyReads};
 ghost use Rattle.trace_text.specs.EventText.{numbered_lines};
 ghost use Rattle.osek_standard.specs.Dispatch.{stepped};
-ghost use Rattle.image_codec.specs.ImageTrace.{image_trace, has_trap};
-ghost use Rattle.commands.specs.Inputs.{OfFile};
+ghost use Rattle.image_model.specs.ImageTrace.{image_trace, has_trap};
 ghost use Rattle.commands.specs.Outside.{outside};
 ghost use Rattle.commands.specs.Playing.{PlayAnswers, PlaysWhole, plays, printing, line_of};
-ghost use Rattle.commands.specs.Running.{mode_named as mode_of_name, EventsStop, RunAnswers};
+ghost use Rattle.commands.specs.Running.{mode_named as mode_of_name, RunAnswers};
 
+use crate::inputs::load_input;
 use crate::playing::{play, print_line};
 use crate::stop::{Input, Stop};
-use image_codec::Image;
+use image_model::Image;
 use image_run::Machine;
-use osek_io::{LoadError, Shelf, Sink, load};
+use osek_io::{Shelf, Sink};
 use osek_standard::App;
 use osek_values::limits::{LINE_MAX, MAX_EVENT_TEXT};
 use osek_values::{Memory, ModeNo, Name, Notes, Steps};
 use std::alloc::Global;
 use std::marker::Brand;
 use std::sync::ledger::{Blank, Ledger};
-use trace_text::{EventFault, FaultyLine};
-
-/// The event text, within its limit.
-fn load_events<F: Shelf>(alloc: Global, shelf: &mut F, events: &str) -> Result<Vec<u8>, Stop>
-    ensures text { IfOk result (λ v. OfFile (F.contents shelf.old) events.now (λ b. b ≡ v.items)) }
-    ensures within { IfOk result (λ v. length v.items ≤ MAX_EVENT_TEXT) }
-    ensures stop { IfErr result (EventsStop (F.contents shelf.old) (F.read_faults shelf.old) (F.read_faults shelf.new) events.now) }
-    ensures same_files { F.contents shelf.new ≡ F.contents shelf.old }
-    ensures same_writes { F.write_faults shelf.new ≡ F.write_faults shelf.old }
-    ensures never_falls { F.read_faults shelf.old ≤ F.read_faults shelf.new }
-{
-    match load(alloc, shelf, events, MAX_EVENT_TEXT as u64) {
-        Ok(bytes) => Ok(bytes),
-        Err(LoadError::Read) => Err(Stop::Unread(Input::Events)),
-        Err(LoadError::TooLong) => Err(Stop::Events(FaultyLine {
-            line: 0,
-            rule: EventFault::E4,
-        })),
-        Err(LoadError::Memory) => Err(Stop::Memory),
-    }
-}
 
 /// The place of a name.
 fn place_of(names: &[Name], name: &[u8]) -> Option<usize>
@@ -160,19 +140,14 @@ pub fn run<F: Shelf, O: Sink>(
     mode: &str,
     events: &str,
 ) -> Result<(), Stop>
-    ensures answer { RunAnswers
-        (outside (F.contents shelf.old) (F.read_faults shelf.old) (F.write_faults shelf.old) (O.faults out.old) (O.written out.old))
-        (outside (F.contents shelf.new) (F.read_faults shelf.new) (F.write_faults shelf.new) (O.faults out.new) (O.written out.new))
-        image.app (image_trace image) (has_trap image) mode.now events.now result }
-    ensures same_files { F.contents shelf.new ≡ F.contents shelf.old }
-    ensures same_writes { F.write_faults shelf.new ≡ F.write_faults shelf.old }
-    ensures never_falls { F.read_faults shelf.old ≤ F.read_faults shelf.new }
+    ensures answer { RunAnswers (outside F.Shelf O.Sink shelf.old out.old) (outside F.Shelf O.Sink shelf.new out.new) image.app (image_trace image) (has_trap image) mode.now events.now result }
+    ensures same { OnlyReads F.Shelf shelf.old shelf.new }
 {
     let Some(mode) = mode_named(&image.app, mode) else {
         drop(image);
         return Err(Stop::NoMode);
     };
-    match load_events(alloc, shelf, events) {
+    match load_input(alloc, shelf, Input::Events, events) {
         Ok(text) => play_image(alloc, out, image, mode, &text),
         Err(stop) => {
             drop(image);

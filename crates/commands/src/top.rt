@@ -27,10 +27,7 @@ fn carry_out<F: Shelf, O: Sink>(
     shelf: &mut F,
     out: &mut O,
 ) -> Result<(), Stop>
-    ensures { CommandAnswers
-        (outside (F.contents shelf.old) (F.read_faults shelf.old) (F.write_faults shelf.old) (O.faults out.old) (O.written out.old))
-        (outside (F.contents shelf.new) (F.read_faults shelf.new) (F.write_faults shelf.new) (O.faults out.new) (O.written out.new))
-        (Some (seen command.now)) result }
+    ensures { CommandAnswers (outside F.Shelf O.Sink shelf.old out.old) (outside F.Shelf O.Sink shelf.new out.new) (Some (seen command.now)) result }
 {
     match command {
         Command::Build { oil, code, image } => build(alloc, shelf, oil, code, image),
@@ -55,16 +52,10 @@ fn carry_out_words<F: Shelf, O: Sink>(
     shelf: &mut F,
     out: &mut O,
 ) -> Result<(), Stop>
-    ensures { CommandAnswers
-        (outside (F.contents shelf.old) (F.read_faults shelf.old) (F.write_faults shelf.old) (O.faults out.old) (O.written out.old))
-        (outside (F.contents shelf.new) (F.read_faults shelf.new) (F.write_faults shelf.new) (O.faults out.new) (O.written out.new))
-        (option_map seen command.now) result }
+    ensures { CommandAnswers (outside F.Shelf O.Sink shelf.old out.old) (outside F.Shelf O.Sink shelf.new out.new) (option_map seen command.now) result }
 {
     match command {
-        Some(command) => match carry_out(alloc, command, shelf, out) {
-            Ok(()) => Ok(()),
-            Err(stop) => Err(stop),
-        },
+        Some(command) => carry_out(alloc, command, shelf, out),
         None => Err(Stop::Usage),
     }
 }
@@ -82,18 +73,12 @@ pub fn osekfit<F: Shelf, O: Sink, E: Sink>(
     err: &mut E,
 ) -> u8
     ensures does { Does (command_of (map string_bytes words.now))
-        (CommandAnswers
-        (outside (F.contents shelf.old) (F.read_faults shelf.old) (F.write_faults shelf.old) (O.faults out.old) (O.written out.old))
-        (outside (F.contents shelf.new) (F.read_faults shelf.new) (F.write_faults shelf.new) (O.faults out.new) (O.written out.new))
-        (command_of (map string_bytes words.now)))
+        (CommandAnswers (outside F.Shelf O.Sink shelf.old out.old) (outside F.Shelf O.Sink shelf.new out.new) (command_of (map string_bytes words.now)))
         (λ text status. Tells (E.faults err.old) (E.faults err.new) (E.written err.old) (E.written err.new) text status result) }
 
     // Over files that are told, where no count of faults rose, the answer is the one that is due, or memory ran out.
     ensures exact { (files : Files) (due : Result (Unit {0}) Stop) → F.contents shelf.old ≡ Some files
-        → IsCalm
-        (outside (F.contents shelf.old) (F.read_faults shelf.old) (F.write_faults shelf.old) (O.faults out.old) (O.written out.old))
-        (outside (F.contents shelf.new) (F.read_faults shelf.new) (F.write_faults shelf.new) (O.faults out.new) (O.written out.new))
-        → (Rose (E.faults err.old) (E.faults err.new) → ⊥)
+        → IsCalm (outside F.Shelf O.Sink shelf.old out.old) (outside F.Shelf O.Sink shelf.new out.new) → (Rose (E.faults err.old) (E.faults err.new) → ⊥)
         → IsDue files (command_of (map string_bytes words.now)) due
         → (result ≡ status_of due) ⊎ (result ≡ 7) }
 {

@@ -1,5 +1,5 @@
 //! The command `trace`: the kernel's trace of an application under an event text.
-ghost use Rattle.std.specs.Prelude.{◌≡◌};
+ghost use Rattle.osek_io.specs.Reads.{OnlyReads};
 ghost use Rattle.commands.specs.Outside.{outside};
 ghost use Rattle.commands.specs.Tracing.{TraceAnswers};
 
@@ -20,12 +20,8 @@ pub fn trace<F: Shelf, O: Sink>(
     mode: &str,
     events: &str,
 ) -> Result<(), Stop>
-    ensures answer { TraceAnswers
-        (outside (F.contents shelf.old) (F.read_faults shelf.old) (F.write_faults shelf.old) (O.faults out.old) (O.written out.old))
-        (outside (F.contents shelf.new) (F.read_faults shelf.new) (F.write_faults shelf.new) (O.faults out.new) (O.written out.new))
-        oil.now code.now mode.now events.now result }
-    ensures same_files { F.contents shelf.new ≡ F.contents shelf.old }
-    ensures same_writes { F.write_faults shelf.new ≡ F.write_faults shelf.old }
+    ensures answer { TraceAnswers (outside F.Shelf O.Sink shelf.old out.old) (outside F.Shelf O.Sink shelf.new out.new) oil.now code.now mode.now events.now result }
+    ensures same { OnlyReads F.Shelf shelf.old shelf.new }
 {
     let app = match compile(alloc, shelf, oil, code) {
         Ok(app) => app,
@@ -34,8 +30,5 @@ pub fn trace<F: Shelf, O: Sink>(
     let Ok(image) = image_of(alloc, app) else {
         return Err(Stop::Memory);
     };
-    match run(alloc, shelf, out, image, mode, events) {
-        Ok(()) => Ok(()),
-        Err(stop) => Err(stop),
-    }
+    run(alloc, shelf, out, image, mode, events)
 }

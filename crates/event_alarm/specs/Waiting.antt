@@ -1,9 +1,7 @@
 -- Where a task calls WaitEvent.
 use Rattle.std.specs.Prelude.{⊤}
 use Rattle.osek_standard.specs.declared.app.App.{App}
-use Rattle.osek_standard.specs.declared.state.State.{State}
-use Rattle.osek_standard.specs.declared.state.Caller.{Caller}
-use Rattle.osek_standard.specs.declared.state.Caller.TheVariants.{Nobody, Task, Routine}
+use Rattle.osek_standard.specs.declared.state.{State.{State}, Caller.{Caller}, Caller.TheVariants.{Nobody, Task, Routine}}
 use Rattle.osek_standard.specs.Apps.{the_block}
 use Rattle.osek_standard.specs.States.{here}
 use Rattle.osek_standard.specs.Well.{IsWaitEvent}

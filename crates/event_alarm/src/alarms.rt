@@ -6,7 +6,7 @@ ghost use Rattle.osek_standard.specs.Well.{Well};
 ghost use Rattle.event_alarm.specs.Answers.{status_of, number_of};
 
 use crate::events::set_event;
-use app_model::activate;
+use activation::activate;
 use osek_standard::{Action, AlarmState, App, State};
 use osek_values::{AlarmNo, Ask, CounterNo, Status};
 

@@ -7,14 +7,16 @@ ghost use Rattle.osek_standard.specs.Well.{Well, IsActive};
 ghost use Rattle.event_alarm.specs.Answers.{status_of, mask_of};
 ghost use Rattle.event_alarm.specs.Waiting.{StandsAtWaitEvent};
 
-use osek_standard::{Activity, App, Caller, Kind, Place, Processor, Standing, State};
+use osek_standard::{
+    Activity, App, Call, Caller, Kind, MaskService, Place, Processor, Standing, State,
+};
 use osek_values::{Ask, Held, Mask, Status, TaskNo};
 
 /// The events that a task waits for at a block of this kind.
 fn awaited(kind: Kind) -> Mask
     ensures { result.0 ≡ awaited_at kind }
 {
-    if let Kind::WaitEvent(mask) = kind {
+    if let Kind::Call(Call::Mask(MaskService::WaitEvent, mask)) = kind {
         mask
     } else {
         Mask(0)

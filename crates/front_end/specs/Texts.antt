@@ -3,7 +3,7 @@ use Rattle.std.specs.Prelude.{◌⊎◌, ℕ, List}
 use Rattle.osek_values.specs.declared.refusal.Rule.{Rule}
 use Rattle.osek_values.specs.declared.refusal.Rule.TheVariants as rule
 use Rattle.osek_standard.specs.declared.app.App.{App}
-use Rattle.app_model.specs.declared.system.System.{System}
+use Rattle.oil_system.specs.declared.system.System.{System}
 use Rattle.oil_lexer.specs.declared.token.Token.{Token}
 use Rattle.oil_lexer.specs.Text as lexer
 use Rattle.oil_lexer.specs.Text.{AreTokens}

@@ -1,25 +1,27 @@
 //! The application that a task code text gives.
-ghost use Rattle.std.specs.Prelude.{◌≡◌, Result};
+ghost use Rattle.std.specs.Prelude.{◌≡◌, IfOk, Result};
 ghost use Rattle.osek_values.specs.declared.refusal.Refusal.{Refusal};
 ghost use Rattle.osek_standard.specs.declared.app.App.{App};
+ghost use Rattle.osek_standard.specs.Versions.{FitsVersion1};
 ghost use Rattle.oil_model.specs.Linkable.{IsLinkable};
 ghost use Rattle.osek_values.specs.declared.refusal.TextFile.TheVariants as file;
-ghost use Rattle.front_end.specs.declared.error.TextError.TheVariants as errors;
-ghost use Rattle.front_end.specs.Answers.{IsCodeAnswer, IsRight, Answers};
+ghost use Rattle.osek_values.specs.declared.refused.Refused.TheVariants as errors;
+ghost use Rattle.osek_values.specs.Answers.{IsRight, Answers};
+ghost use Rattle.front_end.specs.Answers.{IsCodeAnswer};
 
 use crate::error::TextError;
-use app_model::System;
 use block_graph::{LinkError, link};
 use oil_lexer::{LexError, tokens};
+use oil_system::System;
 use osek_standard::App;
 use osek_values::{Refusal, Rule, TextFile};
 use std::alloc::Global;
 use task_code::{CodeError, parse_code};
 
 fn refused(line: u32, rule: Rule) -> TextError
-    ensures { result ≡ errors.Refused (record { file = file.Code; line = line; rule = rule }) }
+    ensures { result ≡ errors.Fault (record { file = file.Code; line = line; rule = rule }) }
 {
-    TextError::Refused(Refusal {
+    TextError::Fault(Refusal {
         file: TextFile::Code,
         line,
         rule,
@@ -28,7 +30,8 @@ fn refused(line: u32, rule: Rule) -> TextError
 
 fn read(alloc: Global, system: System, text: &[u8]) -> Result<App, TextError>
     requires { IsLinkable system }
-    ensures { IsRight (λ r. IsCodeAnswer r system text.now) result }
+    ensures right { IsRight (λ r. IsCodeAnswer r system text.now) result }
+    ensures version_1 { IfOk result (λ app. FitsVersion1 app.tasks) }
 {
     let tokens = match tokens(alloc, text) {
         Ok(tokens) => tokens,
@@ -63,8 +66,9 @@ fn read(alloc: Global, system: System, text: &[u8]) -> Result<App, TextError>
 pub fn read_app(alloc: Global, system: System, text: &[u8]) -> Result<App, TextError>
     requires linkable { IsLinkable system }
 
-    // What is answered is right,
+    // What is answered is right, and fits an image of version 1,
     ensures right { IsRight (λ r. IsCodeAnswer r system text.now) result }
+    ensures version_1 { IfOk result (λ app. FitsVersion1 app.tasks) }
 
     // and what is right is answered, unless memory runs out.
     ensures exact { (expected : Result App Refusal) → IsCodeAnswer expected system text.now → Answers result expected }

@@ -2,7 +2,7 @@
 ghost use Rattle.std.specs.Prelude.{◌≡◌, ℕ, List, Result};
 ghost use Rattle.osek_values.specs.declared.refusal.Refusal.{Refusal};
 ghost use Rattle.osek_standard.specs.declared.app.App.{App};
-ghost use Rattle.app_model.specs.declared.system.System.{System};
+ghost use Rattle.oil_system.specs.declared.system.System.{System};
 ghost use Rattle.oil_model.specs.Linkable.{IsLinkable};
 ghost use Rattle.front_end.specs.Texts.{DeclaresSystem};
 ghost use Rattle.front_end.specs.Answers.{IsOilAnswer, IsCodeAnswer};

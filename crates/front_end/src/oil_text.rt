@@ -1,24 +1,25 @@
 //! The system that an OIL text declares.
 ghost use Rattle.std.specs.Prelude.{◌≡◌, IfOk, Result};
 ghost use Rattle.osek_values.specs.declared.refusal.Refusal.{Refusal};
-ghost use Rattle.app_model.specs.declared.system.System.{System};
+ghost use Rattle.oil_system.specs.declared.system.System.{System};
 ghost use Rattle.oil_model.specs.Linkable.{IsLinkable};
 ghost use Rattle.osek_values.specs.declared.refusal.TextFile.TheVariants as file;
-ghost use Rattle.front_end.specs.declared.error.TextError.TheVariants as errors;
-ghost use Rattle.front_end.specs.Answers.{IsOilAnswer, IsRight, Answers};
+ghost use Rattle.osek_values.specs.declared.refused.Refused.TheVariants as errors;
+ghost use Rattle.osek_values.specs.Answers.{IsRight, Answers};
+ghost use Rattle.front_end.specs.Answers.{IsOilAnswer};
 
 use crate::error::TextError;
-use app_model::System;
 use oil_lexer::{LexError, tokens};
 use oil_model::{ModelError, resolve};
+use oil_system::System;
 use oil_tree::{ParseError, parse};
 use osek_values::{Refusal, Rule, TextFile};
 use std::alloc::Global;
 
 fn refused(line: u32, rule: Rule) -> TextError
-    ensures { result ≡ errors.Refused (record { file = file.Oil; line = line; rule = rule }) }
+    ensures { result ≡ errors.Fault (record { file = file.Oil; line = line; rule = rule }) }
 {
-    TextError::Refused(Refusal {
+    TextError::Fault(Refusal {
         file: TextFile::Oil,
         line,
         rule,

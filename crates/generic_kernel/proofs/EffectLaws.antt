@@ -4,10 +4,7 @@ use Rattle.osek_values.specs.declared.status.Ask.{Ask}
 use Rattle.osek_values.specs.declared.status.Ask.TheVariants as ask
 use Rattle.osek_standard.specs.declared.app.App.{App}
 use Rattle.osek_standard.specs.declared.task_state.Place.{Place}
-use Rattle.osek_standard.specs.declared.state.State.{State}
-use Rattle.osek_standard.specs.declared.state.Caller.{Caller}
-use Rattle.osek_standard.specs.declared.state.Caller.TheVariants.{Nobody, Task, Routine}
-use Rattle.osek_standard.specs.declared.state.Processor.{Processor}
+use Rattle.osek_standard.specs.declared.state.{State.{State}, Caller.{Caller}, Caller.TheVariants.{Nobody, Task, Routine}, Processor.{Processor}}
 use Rattle.osek_standard.specs.declared.state.Processor.TheVariants as processor
 use Rattle.osek_standard.specs.Apps.{the_block, is_extended}
 use Rattle.osek_standard.specs.States.{here, task_state}

@@ -1,2 +1,1 @@
 pub mod EffectLaws
-pub mod StepParts

@@ -1,3 +1,2 @@
 pub mod BestBelow
-pub mod CallKinds
 pub mod Moves

@@ -4,14 +4,10 @@ use Rattle.std.specs.declared.option.Option.{Option}
 use Rattle.osek_values.specs.declared.numbers.SourceNo.{SourceNo}
 use Rattle.osek_values.specs.declared.status.Ask.{Ask}
 use Rattle.osek_values.specs.declared.status.Ask.TheVariants as ask
-use Rattle.osek_values.specs.declared.event.Event.{Event}
-use Rattle.osek_values.specs.declared.event.Event.TheVariants.{Run, Irq, Tick}
+use Rattle.osek_values.specs.declared.event.{Event.{Event}, Event.TheVariants.{Run, Irq, Tick}}
 use Rattle.osek_standard.specs.declared.app.App.{App}
-use Rattle.osek_standard.specs.declared.state.State.{State}
-use Rattle.osek_standard.specs.declared.state.Processor.{Processor}
+use Rattle.osek_standard.specs.declared.state.{State.{State}, Processor.{Processor}, Caller.{Caller}, Caller.TheVariants.{Nobody, Task, Routine}}
 use Rattle.osek_standard.specs.declared.state.Processor.TheVariants as processor
-use Rattle.osek_standard.specs.declared.state.Caller.{Caller}
-use Rattle.osek_standard.specs.declared.state.Caller.TheVariants.{Nobody, Task, Routine}
 use Rattle.osek_standard.specs.States.{with_latch}
 use Rattle.osek_standard.specs.Arrivals.{arrival, entered}
 use Rattle.osek_standard.specs.Well.{AreOut}

@@ -7,7 +7,7 @@ ghost use Rattle.osek_standard.specs.Well.{Well};
 ghost use Rattle.generic_kernel.specs.Moves.{entered_if};
 
 use crate::places::here;
-use osek_standard::{App, Place, Processor, Source, State};
+use osek_standard::{App, Place, Processor, RoutineStanding, Source, State};
 use osek_values::SourceNo;
 
 /// Whether no routine begins where the processor stands.
@@ -54,9 +54,11 @@ fn enter(app: &App, state: &mut State, source: SourceNo)
     state.latched.put(source.index(), false);
     state.sources.put(
         source.index(),
-        Source::In(Place {
-            block: app.routine_start(source),
-            offset: 0,
+        Source::In(RoutineStanding {
+            at: Place {
+                block: app.routine_start(source),
+                offset: 0,
+            },
         }),
     );
     state.processor = Processor::Interrupted {

@@ -1,21 +1,26 @@
 //! The calls: each kind of block with the row of its service.
 ghost use Rattle.std.specs.Prelude.{◌≡◌, ◌<◌, length, Some, None};
-ghost use Rattle.osek_standard.specs.Validity.{NamesEntries};
+ghost use Rattle.osek_standard.specs.Apps.{tables};
+ghost use Rattle.osek_standard.specs.Validity.{NamesEntries, HasOperands};
+ghost use Rattle.osek_standard.specs.declared.block.Kind.TheVariants as kind;
+ghost use Rattle.osek_standard.specs.declared.call.Call.TheVariants as call;
 ghost use Rattle.osek_standard.specs.States.{caller};
 ghost use Rattle.osek_standard.specs.Services.{answer, maybe_if, get_resource_by, release_resource_by, counted_by};
-ghost use Rattle.osek_standard.specs.Effects.{called};
+ghost use Rattle.osek_standard.specs.Effects.{called, row};
 ghost use Rattle.osek_standard.specs.Well.{Well, IsActive, IsWaitEvent};
-ghost use Rattle.generic_kernel.specs.CallKinds.{IsForEventOrAlarm};
 
 use crate::replies::Reply;
 use crate::services::{chain_task, schedule, terminate_task};
-use app_model::activate;
+use activation::activate;
 use event_alarm::{
     cancel_alarm, clear_event, count_up, expire, get_alarm, get_event, set_abs_alarm, set_event,
     set_rel_alarm,
 };
-use osek_standard::{App, Caller, Kind, State};
-use osek_values::{Ask, CounterNo, ResNo, Status, Value};
+use osek_standard::{
+    AlarmService, App, ArmService, Call, Caller, Kind, MaskService, PlainService, ResourceService,
+    State, TaskService,
+};
+use osek_values::{AlarmNo, Ask, CounterNo, ResNo, Status, TaskNo, Value};
 
 /// What a service asks that may ask for rescheduling: it does so where it is accepted.
 fn maybe_where_accepted(status: Status) -> Ask
@@ -79,121 +84,131 @@ fn count(app: &App, state: &mut State)
     }
 }
 
-/// The row of a call for an event or an alarm, or of an alarm's expiry.
-fn call_for_event_or_alarm(app: &App, state: &mut State, kind: Kind) -> Reply
-    requires operands { NamesEntries app.now.tasks app.now.alarms app.now.resources kind }
-    requires group { IsForEventOrAlarm kind }
+/// The row of a service without operands.
+fn plain_row(app: &App, state: &mut State, service: PlainService) -> Reply
     requires well { Well app.now state.old }
     requires active { IsActive state.old.processor }
-    ensures { called app.now state.old (caller state.old.processor) kind ≡ answer state.new result.status result.value result.ask }
+    ensures { row app.now state.old (caller state.old.processor) (call.Plain service) ≡ answer state.new result.status result.value result.ask }
 {
-    match kind {
-        Kind::SetEvent(task, mask) => {
-            let (status, ask) = set_event(app, state, task, mask);
+    match service {
+        PlainService::TerminateTask => {
+            let (status, ask) = terminate_task(app, state);
+            Reply::of(status, ask)
+        }
+        PlainService::Schedule => {
+            let (status, ask) = schedule(app, state);
             Reply::of(Some(status), ask)
         }
-        Kind::ClearEvent(mask) => {
-            let status = clear_event(app, state, mask);
-            Reply::of(Some(status), Ask::No)
+        PlainService::GetTaskId => Reply::value(Value::Task(state.current())),
+        PlainService::GetActiveApplicationMode => Reply {
+            status: None,
+            value: Some(Value::Mode(state.mode)),
+            ask: Ask::No,
+        },
+    }
+}
+
+/// The row of a service of a task.
+fn task_row(app: &App, state: &mut State, service: TaskService, task: TaskNo) -> Reply
+    requires known { task.0 < length app.now.tasks }
+    requires well { Well app.now state.old }
+    requires active { IsActive state.old.processor }
+    ensures { row app.now state.old (caller state.old.processor) (call.Task service task) ≡ answer state.new result.status result.value result.ask }
+{
+    match service {
+        TaskService::ActivateTask => {
+            let status = activate(app, state, task);
+            Reply::of(Some(status), maybe_where_accepted(status))
         }
-        Kind::GetEvent(task) => match get_event(app, state, task) {
+        TaskService::ChainTask => {
+            let (status, ask) = chain_task(app, state, task);
+            Reply::of(status, ask)
+        }
+        TaskService::GetEvent => match get_event(app, state, task) {
             Ok(events) => Reply::value(Value::Mask(events)),
             Err(status) => Reply::of(Some(status), Ask::No),
         },
-        Kind::SetRelAlarm(alarm, increment, cycle) => {
-            let status = set_rel_alarm(app, state, alarm, increment, cycle);
-            Reply::of(Some(status), Ask::No)
-        }
-        Kind::SetAbsAlarm(alarm, start, cycle) => {
-            let status = set_abs_alarm(app, state, alarm, start, cycle);
-            Reply::of(Some(status), Ask::No)
-        }
-        Kind::CancelAlarm(alarm) => {
+        TaskService::GetTaskState => Reply::value(Value::State(state.letter(task))),
+    }
+}
+
+/// The row of a service of an alarm.
+fn alarm_row(app: &App, state: &mut State, service: AlarmService, alarm: AlarmNo) -> Reply
+    requires known { alarm.0 < length app.now.alarms }
+    requires well { Well app.now state.old }
+    ensures { row app.now state.old (caller state.old.processor) (call.Alarm service alarm) ≡ answer state.new result.status result.value result.ask }
+{
+    match service {
+        AlarmService::CancelAlarm => {
             let status = cancel_alarm(app, state, alarm);
             Reply::of(Some(status), Ask::No)
         }
-        Kind::GetAlarm(alarm) => match get_alarm(app, state, alarm) {
+        AlarmService::GetAlarm => match get_alarm(app, state, alarm) {
             Ok(ticks) => Reply::value(Value::Number(ticks)),
             Err(status) => Reply::of(Some(status), Ask::No),
         },
-        Kind::Expire(alarm) => {
-            let status = expire(app, state, alarm);
-            Reply::of(status, Ask::No)
+    }
+}
+
+/// The row of a service whose caller went on before. The lock calls do nothing here.
+fn service_row(app: &App, state: &mut State, call: Call) -> Reply
+    requires operands { HasOperands (tables app.now) call }
+    requires goes_on { IsWaitEvent (kind.Call call) → ⊥ }
+    requires well { Well app.now state.old }
+    requires active { IsActive state.old.processor }
+    ensures { row app.now state.old (caller state.old.processor) call ≡ answer state.new result.status result.value result.ask }
+{
+    match call {
+        Call::Plain(service) => plain_row(app, state, service),
+        Call::Task(service, task) => task_row(app, state, service, task),
+        Call::Resource(ResourceService::GetResource, resource) => {
+            get_resource(app, state, resource)
         }
-        Kind::Work(_)
-        | Kind::Choice(_)
-        | Kind::Loop
-        | Kind::ActivateTask(_)
-        | Kind::TerminateTask
-        | Kind::ChainTask(_)
-        | Kind::Schedule
-        | Kind::GetResource(_)
-        | Kind::ReleaseResource(_)
-        | Kind::WaitEvent(_)
-        | Kind::GetTaskId
-        | Kind::GetTaskState(_)
-        | Kind::GetActiveApplicationMode
-        | Kind::ShutdownOs
-        | Kind::LockCall(_)
-        | Kind::TaskEnd
-        | Kind::IsrEnd
-        | Kind::CountUp => unreachable!(),
+        Call::Resource(ResourceService::ReleaseResource, resource) => {
+            release_resource(app, state, resource)
+        }
+        Call::SetEvent(task, mask) => {
+            let (status, ask) = set_event(app, state, task, mask);
+            Reply::of(Some(status), ask)
+        }
+        Call::Mask(MaskService::ClearEvent, mask) => {
+            let status = clear_event(app, state, mask);
+            Reply::of(Some(status), Ask::No)
+        }
+        Call::Mask(MaskService::WaitEvent, _) => unreachable!(),
+        Call::Alarm(service, alarm) => alarm_row(app, state, service, alarm),
+        Call::Arm(ArmService::SetRelAlarm, alarm, increment, cycle) => {
+            let status = set_rel_alarm(app, state, alarm, increment, cycle);
+            Reply::of(Some(status), Ask::No)
+        }
+        Call::Arm(ArmService::SetAbsAlarm, alarm, start, cycle) => {
+            let status = set_abs_alarm(app, state, alarm, start, cycle);
+            Reply::of(Some(status), Ask::No)
+        }
+        Call::Lock(_) | Call::ShutdownOs => Reply::unnoted(Ask::No),
     }
 }
 
 /// The row of a call whose caller went on before. The kinds that are no calls do nothing here.
 pub fn call(app: &App, state: &mut State, kind: Kind) -> Reply
-    requires operands { NamesEntries app.now.tasks app.now.alarms app.now.resources kind }
+    requires operands { NamesEntries (tables app.now) kind }
     requires goes_on { IsWaitEvent kind → ⊥ }
     requires well { Well app.now state.old }
     requires active { IsActive state.old.processor }
     ensures { called app.now state.old (caller state.old.processor) kind ≡ answer state.new result.status result.value result.ask }
 {
     match kind {
-        Kind::ActivateTask(task) => {
-            let status = activate(app, state, task);
-            Reply::of(Some(status), maybe_where_accepted(status))
-        }
-        Kind::TerminateTask => {
-            let (status, ask) = terminate_task(app, state);
-            Reply::of(status, ask)
-        }
-        Kind::ChainTask(task) => {
-            let (status, ask) = chain_task(app, state, task);
-            Reply::of(status, ask)
-        }
-        Kind::Schedule => {
-            let (status, ask) = schedule(app, state);
-            Reply::of(Some(status), ask)
-        }
-        Kind::GetResource(resource) => get_resource(app, state, resource),
-        Kind::ReleaseResource(resource) => release_resource(app, state, resource),
-        Kind::SetEvent(_, _)
-        | Kind::ClearEvent(_)
-        | Kind::GetEvent(_)
-        | Kind::SetRelAlarm(_, _, _)
-        | Kind::SetAbsAlarm(_, _, _)
-        | Kind::CancelAlarm(_)
-        | Kind::GetAlarm(_)
-        | Kind::Expire(_) => call_for_event_or_alarm(app, state, kind),
-        Kind::WaitEvent(_) => unreachable!(),
-        Kind::GetTaskId => Reply::value(Value::Task(state.current())),
-        Kind::GetTaskState(task) => Reply::value(Value::State(state.letter(task))),
-        Kind::GetActiveApplicationMode => Reply {
-            status: None,
-            value: Some(Value::Mode(state.mode)),
-            ask: Ask::No,
-        },
+        Kind::Call(service) => service_row(app, state, service),
         Kind::CountUp => {
             count(app, state);
             Reply::unnoted(Ask::No)
         }
-        Kind::Work(_)
-        | Kind::Choice(_)
-        | Kind::Loop
-        | Kind::ShutdownOs
-        | Kind::LockCall(_)
-        | Kind::TaskEnd
-        | Kind::IsrEnd => Reply::unnoted(Ask::No),
+        Kind::Expire(alarm) => {
+            let status = expire(app, state, alarm);
+            Reply::of(status, Ask::No)
+        }
+        Kind::Work(_) | Kind::Choice(_) | Kind::Loop | Kind::TaskEnd | Kind::IsrEnd => {
+            Reply::unnoted(Ask::No)
+        }
     }
 }

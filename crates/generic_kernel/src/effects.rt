@@ -1,7 +1,7 @@
 //! The effect of an instruction.
-ghost use Rattle.std.specs.Prelude.{◌≡◌, ◌+◌, ◌<◌, length, Some, None, nat_lt, if◌then◌else◌};
+ghost use Rattle.std.specs.Prelude.{◌≡◌, ◌+◌, ◌<◌, Some, None, if◌then◌else◌};
 ghost use Rattle.osek_standard.specs.Validity.{NamesEntries};
-ghost use Rattle.osek_standard.specs.Apps.{the_block};
+ghost use Rattle.osek_standard.specs.Apps.{tables, the_block};
 ghost use Rattle.osek_standard.specs.States.{caller, here as here_of};
 ghost use Rattle.osek_standard.specs.Services.{answer, wait_event as wait_event_row};
 ghost use Rattle.osek_standard.specs.Effects.{effected, moved_to, asked_by as asked_by_row, called, asks_as, goes_on_unless_left, returned as returned_row, shut_down as shut_down_row, effect_at as effect_at_row, effect as effect_row};
@@ -14,7 +14,9 @@ use crate::places::{here, move_to};
 use crate::replies::{Effect, Reply, noted};
 use crate::services::end_task;
 use event_alarm::wait_event;
-use osek_standard::{App, Caller, Kind, Place, Processor, Schedule, Source, State};
+use osek_standard::{
+    App, Call, Caller, Kind, MaskService, Place, PlainService, Processor, Schedule, Source, State,
+};
 use osek_values::{Ask, BlockNo, HookSet, Mask, Notes};
 
 /// The caller goes on to the first instruction of a block.
@@ -41,7 +43,7 @@ fn asked_by(app: &App, caller: Caller, kind: Kind, ask: Ask) -> Ask
             Ask::Maybe => match app.task(task).schedule {
                 Schedule::Full => Ask::Maybe,
                 Schedule::Non => {
-                    if kind == Kind::Schedule {
+                    if kind == Kind::Call(Call::Plain(PlainService::Schedule)) {
                         Ask::Maybe
                     } else {
                         Ask::No
@@ -54,7 +56,7 @@ fn asked_by(app: &App, caller: Caller, kind: Kind, ask: Ask) -> Ask
 
 /// A call: the caller goes on, and then the row of its service applies.
 fn go_and_call(app: &App, state: &mut State, next: BlockNo, kind: Kind) -> Reply
-    requires operands { NamesEntries app.now.tasks app.now.alarms app.now.resources kind }
+    requires operands { NamesEntries (tables app.now) kind }
     requires goes_on { IsWaitEvent kind → ⊥ }
     requires well { Well app.now state.old }
     requires active { IsActive state.old.processor }
@@ -157,11 +159,11 @@ fn effect_at(app: &App, state: &mut State, choice: bool, place: Place) -> Effect
             go_to(app, state, if choice { block.next } else { other });
             noted(app, Reply::unnoted(Ask::No))
         }
-        Kind::WaitEvent(mask) => {
+        Kind::Call(Call::Mask(MaskService::WaitEvent, mask)) => {
             let reply = wait_or_go(app, state, block.next, mask);
             noted(app, reply)
         }
-        Kind::ShutdownOs => {
+        Kind::Call(Call::ShutdownOs) => {
             go_to(app, state, block.next);
             shut_down(app, state)
         }

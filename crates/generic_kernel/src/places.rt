@@ -5,7 +5,7 @@ ghost use Rattle.osek_standard.specs.States.{here as here_of};
 ghost use Rattle.osek_standard.specs.Effects.{moved as moved_of};
 ghost use Rattle.osek_standard.specs.Well.{Well, IsActive, InOwner, IsOffsetAt};
 
-use osek_standard::{Activity, App, Place, Processor, Source, State};
+use osek_standard::{Activity, App, Place, Processor, RoutineStanding, Source, State};
 
 /// Where the task or the routine stands that has the processor.
 pub fn here(app: &App, state: &State) -> Place
@@ -22,7 +22,7 @@ pub fn here(app: &App, state: &State) -> Place
         },
         Processor::Interrupted { source, .. } => match *state.sources.at(source.index()) {
             Source::Out => unreachable!(),
-            Source::In(place) => place,
+            Source::In(standing) => standing.at,
         },
     }
 }
@@ -44,7 +44,16 @@ pub fn move_to(app: &App, state: &mut State, place: Place)
             }
         }
         Processor::Interrupted { source, .. } => {
-            state.sources.put(source.index(), Source::In(place));
+            match *state.sources.at(source.index()) {
+                Source::Out => unreachable!(),
+                Source::In(standing) => {
+                    let moved = RoutineStanding {
+                        at: place,
+                        ..standing
+                    };
+                    state.sources.put(source.index(), Source::In(moved));
+                }
+            }
         }
     }
 }

@@ -1,7 +1,6 @@
 //! The start of the kernel in an application mode.
-ghost use Rattle.std.specs.Prelude.{◌≡◌, ◌<◌, ◌≤◌, length, map, replicate, IfOk, false};
+ghost use Rattle.std.specs.Prelude.{◌≡◌, ◌+◌, ◌<◌, ◌≤◌, length, map, replicate, IfOk, false};
 ghost use Rattle.osek_standard.specs.declared.state.Source.TheVariants as source;
-ghost use Rattle.osek_standard.specs.Apps.{source_count};
 ghost use Rattle.osek_standard.specs.Dispatch.{stepped};
 ghost use Rattle.osek_standard.specs.Kernel.{has_bit, started_task as started_task_of, started_alarm as started_alarm_of, initial, start as start_of};
 ghost use Rattle.osek_standard.specs.Well.{Well};
@@ -11,6 +10,7 @@ use crate::dispatch::switch_to;
 use osek_standard::{
     Activity, Alarm, AlarmState, App, Place, Processor, Source, Standing, State, Task, TaskState,
 };
+use osek_values::limits::{MAX_COUNTERS, MAX_ISRS, MAX_MODES};
 use osek_values::{Ask, Held, HookSet, Mask, Memory, ModeNo, Notes, Seq, Steps};
 use std::alloc::Global;
 use std::marker::Brand;
@@ -18,14 +18,14 @@ use std::sync::ledger::{Blank, Ledger};
 
 /// Whether the bit of a mode is set.
 fn is_started(autostart: u8, mode: ModeNo) -> bool
-    requires { mode.0 < 8 }
+    requires { mode.0 < MAX_MODES }
     ensures { result ≡ has_bit autostart mode.0 }
 {
     (autostart >> mode.0) % 2 == 1
 }
 
 fn started_task(task: &Task, mode: ModeNo) -> TaskState
-    requires { mode.0 < 8 }
+    requires { mode.0 < MAX_MODES }
     ensures { result ≡ started_task_of mode.0 task.now }
 {
     let activity = if is_started(task.autostart, mode) {
@@ -46,7 +46,7 @@ fn started_task(task: &Task, mode: ModeNo) -> TaskState
 }
 
 fn started_alarm(alarm: &Alarm, mode: ModeNo) -> AlarmState
-    requires { mode.0 < 8 }
+    requires { mode.0 < MAX_MODES }
     ensures { result ≡ started_alarm_of mode.0 alarm.now }
 {
     if is_started(alarm.autostart, mode) {
@@ -60,7 +60,7 @@ fn started_alarm(alarm: &Alarm, mode: ModeNo) -> AlarmState
 }
 
 fn started_tasks(alloc: Global, app: &App, mode: ModeNo) -> Result<Seq<TaskState>, Memory>
-    requires { mode.0 < 8 }
+    requires { mode.0 < MAX_MODES }
     ensures { IfOk result (λ tasks. tasks ≡ map (started_task_of mode.0) app.now.tasks) }
 {
     let mut tasks = Vec::new(alloc);
@@ -71,7 +71,7 @@ fn started_tasks(alloc: Global, app: &App, mode: ModeNo) -> Result<Seq<TaskState
 }
 
 fn started_alarms(alloc: Global, app: &App, mode: ModeNo) -> Result<Seq<AlarmState>, Memory>
-    requires { mode.0 < 8 }
+    requires { mode.0 < MAX_MODES }
     ensures { IfOk result (λ alarms. alarms ≡ map (started_alarm_of mode.0) app.now.alarms) }
 {
     let mut alarms = Vec::new(alloc);
@@ -92,14 +92,14 @@ fn zeros(alloc: Global, app: &App) -> Result<Seq<u32>, Memory>
 }
 
 fn all_out(alloc: Global, count: usize) -> Result<Seq<Source>, Memory>
-    requires { count < 32 }
+    requires { count ≤ MAX_COUNTERS + MAX_ISRS }
     ensures { IfOk result (λ sources. sources ≡ replicate count source.Out) }
 {
     Ok(Seq::of(vec![in alloc; Source::Out; count]?))
 }
 
 fn unlatched(alloc: Global, count: usize) -> Result<Seq<bool>, Memory>
-    requires { count < 32 }
+    requires { count ≤ MAX_COUNTERS + MAX_ISRS }
     ensures { IfOk result (λ latched. latched ≡ replicate count false) }
 {
     Ok(Seq::of(vec![in alloc; false; count]?))

@@ -4,18 +4,17 @@ use Rattle.std.specs.Prelude.{slice_index_or}
 use Rattle.std.specs.List.{list_all, list_any}
 use Rattle.std.proofs.lemmas.Bool.{and_parts, and_from, eqb-true, eq-eqb, leb-true, ltb-true}
 use Rattle.std.proofs.lemmas.List.Sums.{AllPass-from_list_all}
-use Rattle.osek_standard.specs.declared.objects.Task.{Task}
-use Rattle.osek_standard.specs.declared.objects.Isr.{Isr}
-use Rattle.osek_standard.specs.declared.objects.Counter.{Counter}
-use Rattle.osek_standard.specs.declared.block.Block.{Block}
-use Rattle.osek_standard.specs.declared.block.Kind.{Kind}
+use Rattle.osek_standard.specs.declared.objects.{Task.{Task}, Isr.{Isr}, Counter.{Counter}}
+use Rattle.osek_standard.specs.declared.block.{Block.{Block}, Kind.{Kind}}
 use Rattle.osek_standard.specs.declared.block.Kind.TheVariants as kind
+use Rattle.image_model.specs.CallNames as call
 use Rattle.osek_standard.specs.Validity.{no_block, IsAmong, is_within, owners, is_own_next, task_may, isr_may, due_of, tick_may, NamesEntries, IsOtherWay, IsOwner, IsTaskCode, IsIsrCode, IsTickCode}
-use Rattle.image_codec.specs.declared.site.Site.{Site}
-use Rattle.image_codec.specs.declared.parts.Tables.{Tables}
+use Rattle.image_model.specs.declared.site.Site.{Site}
+use Rattle.image_codec.specs.declared.parts.{Tables.{Tables}, Parts.{Parts}}
 use Rattle.image_codec.specs.BlockReading.{tick_order, where_has, task_range, isr_range, counter_range, tasks_allow, isrs_allow, counter_allows, counters_allow, is_owned, is_due_in, is_due}
 use Rattle.image_codec.proofs.KindLaws.{GoodOperands}
 use Rattle.image_codec.proofs.BlockLaws.{unwayed, blank_of, GoodWay, LeadsWell, GoodBlock}
+use Rattle.image_codec.proofs.WholeTables.{tables_of_parts}
 use Rattle.image_codec.proofs.Places.{numbered_at, within_among, where_among}
 
 pub same_within : {X : Type 0} (xs : List X) (i : ℕ) (d e : X) → i < length xs → get_or xs i d ≡ get_or xs i e
@@ -29,7 +28,7 @@ task_may_blank last (kind.Choice o) = refl
 task_may_blank last k = refl
 
 pub isr_may_blank : (last : Bool) (k : Kind) → isr_may last (blank_of k) ≡ isr_may last k
-isr_may_blank last (kind.Choice o) = refl
+isr_may_blank last (kind.Call (call.Resource k r)) = refl
 isr_may_blank last k = refl
 
 pub tick_order_blank : (n place : ℕ) (k : Kind) → tick_order n place (blank_of k) ≡ tick_order n place k
@@ -54,73 +53,69 @@ tick_end n place (kind.Expire a) order e = absurd cc
 tick_end n place kind.IsrEnd order e = eqb-true place (n + 1) order
 tick_end n place k order e = absurd cc
 
-module _ (t : Tables) (b : ℕ) where
-  names_entries : (k : Kind) → GoodOperands t b (unwayed k) → NamesEntries t.tasks t.alarms t.resources k
+module _ (p : Parts) (b : ℕ) where
+  names_entries : (k : Kind) → GoodOperands p.tables b (unwayed k) → NamesEntries (tables_of_parts p) k
   names_entries (kind.Work n) g = ltb-true _ _ g.1
   names_entries (kind.Choice o) g = tt
   names_entries kind.Loop g = tt
-  names_entries (kind.ActivateTask x) g = ltb-true _ _ g.1
-  names_entries kind.TerminateTask g = tt
-  names_entries (kind.ChainTask x) g = ltb-true _ _ g.1
-  names_entries kind.Schedule g = tt
-  names_entries (kind.GetResource r) g = ltb-true _ _ g.1
-  names_entries (kind.ReleaseResource r) g = ltb-true _ _ g.1
-  names_entries (kind.SetEvent x m) g = (ltb-true _ _ g.0.1, ltb-true _ _ g.1.1)
-  names_entries (kind.ClearEvent m) g = ltb-true _ _ g.1
-  names_entries (kind.GetEvent x) g = ltb-true _ _ g.1
-  names_entries (kind.WaitEvent m) g = ltb-true _ _ g.1
-  names_entries (kind.SetRelAlarm a i c) g = ltb-true _ _ g.0.1
-  names_entries (kind.SetAbsAlarm a s c) g = ltb-true _ _ g.0.1
-  names_entries (kind.CancelAlarm a) g = ltb-true _ _ g.1
-  names_entries (kind.GetAlarm a) g = ltb-true _ _ g.1
-  names_entries kind.GetTaskId g = tt
-  names_entries (kind.GetTaskState x) g = ltb-true _ _ g.1
-  names_entries kind.GetActiveApplicationMode g = tt
-  names_entries kind.ShutdownOs g = tt
-  names_entries (kind.LockCall l) g = tt
+  names_entries (kind.Call (call.Task k x)) g = ltb-true _ _ g.1
+  names_entries (kind.Call (call.Plain k)) g = tt
+  names_entries (kind.Call (call.Resource k r)) g = ltb-true _ _ g.1
+  names_entries (kind.Call (call.SetEvent x m)) g = (ltb-true _ _ g.0.1, ltb-true _ _ g.1.1)
+  names_entries (kind.Call (call.Mask k m)) g = ltb-true _ _ g.1
+  names_entries (kind.Call (call.Arm k a i c)) g = ltb-true _ _ g.0.1
+  names_entries (kind.Call (call.Alarm k a)) g = ltb-true _ _ g.1
+  names_entries (kind.Call (call.Lock l)) g = tt
+  names_entries (kind.Call call.ShutdownOs) g = tt
   names_entries kind.TaskEnd g = tt
   names_entries kind.IsrEnd g = tt
   names_entries kind.CountUp g = tt
   names_entries (kind.Expire a) g = ltb-true _ _ g.0.1
 
-  own_next : (k : Kind) (n : ℕ) → LeadsWell t b k n → is_own_next b k n ≡ true
+  own_next : (k : Kind) (n : ℕ) → LeadsWell p.tables (length p.blocks) b k n → is_own_next b k n ≡ true
   own_next kind.TaskEnd n leads = eq-eqb n b leads
   own_next kind.IsrEnd n leads = eq-eqb n b leads
   own_next k n leads = refl
 
   module _ (first count : ℕ) (among : IsAmong b first count) where
-    next_among : (k : Kind) (n : ℕ) → ((m : ℕ) → is_end k ≡ false → GoodWay t b m → IsAmong m first count) → LeadsWell t b k n → IsAmong n first count
+    next_among : (k : Kind) (n : ℕ) → ((m : ℕ) → is_end k ≡ false → GoodWay p.tables (length p.blocks) b m → IsAmong m first count) → LeadsWell p.tables (length p.blocks) b k n → IsAmong n first count
     next_among kind.TaskEnd n way leads = subst (λ m. IsAmong m first count) (sym leads) among
     next_among kind.IsrEnd n way leads = subst (λ m. IsAmong m first count) (sym leads) among
     next_among (kind.Choice o) n way leads = way n refl leads.0
     next_among k n way leads = way n refl leads
 
-    other_among : (blocks : List Block) (k : Kind) (n : ℕ) → ((m : ℕ) → is_end k ≡ false → GoodWay t b m → IsAmong m first count) → LeadsWell t b k n → IsOtherWay t.tasks t.alarms t.resources blocks first count k
-    other_among blocks (kind.Choice o) n way leads = way o.0 refl leads.1
-    other_among blocks k n way leads = tt
+    other_among : (k : Kind) (n : ℕ) → ((m : ℕ) → is_end k ≡ false → GoodWay p.tables (length p.blocks) b m → IsAmong m first count) → LeadsWell p.tables (length p.blocks) b k n → IsOtherWay (tables_of_parts p) first count k
+    other_among (kind.Choice o) n way leads = way o.0 refl leads.1
+    other_among k n way leads = tt
 
   -- what each way of a kind is, which isn't an end
-  way_of : (k : Kind) (n : ℕ) → is_end k ≡ false → LeadsWell t b k n → GoodWay t b n
+  way_of : (k : Kind) (n : ℕ) → is_end k ≡ false → LeadsWell p.tables (length p.blocks) b k n → GoodWay p.tables (length p.blocks) b n
   way_of kind.TaskEnd n e leads = absurd cc
   way_of kind.IsrEnd n e leads = absurd cc
   way_of (kind.Choice o) n e leads = leads.0
   way_of k n e leads = leads
 
-  tick_may_from : (due : List ℕ) (place : ℕ) (k : Kind) → ((a : ℕ) → is_due t b a ≡ true → eqb (slice_index_or due (place - 1) 256) a ≡ true) → GoodOperands t b (unwayed k) → tick_order (length due) place k ≡ true → tick_may due place k ≡ true
+  tick_may_from : (due : List ℕ) (place : ℕ) (k : Kind) → ((a : ℕ) → is_due p.tables b a ≡ true → eqb (slice_index_or due (place - 1) 256) a ≡ true) → GoodOperands p.tables b (unwayed k) → tick_order (length due) place k ≡ true → tick_may due place k ≡ true
   tick_may_from due place kind.CountUp dues g order = order
   tick_may_from due place (kind.Expire a) dues g order = and_from (ltb 0 place) _ (and_parts (ltb 0 place) (leb place (length due)) order).0 (dues a.0 g.1)
   tick_may_from due place kind.IsrEnd dues g order = order
   tick_may_from due place k dues g order = absurd cc
 
-module _ (t : Tables) (blocks : List Block) (sites : List (Option Site)) (same : length blocks ≡ length sites)
-    (fact : (b : ℕ) (d : Block) (e : Option Site) → b < length blocks → GoodBlock t b (get_or blocks b d, get_or sites b e)) where
+module _ (p : Parts) (same : length p.blocks ≡ length p.sites)
+    (fact : (b : ℕ) (d : Block) (e : Option Site) → b < length p.blocks → GoodBlock p.tables (length p.blocks) b (get_or p.blocks b d, get_or p.sites b e)) where
+  abbrev t : Tables
+  t = p.tables
+
+  abbrev blocks : List Block
+  blocks = p.blocks
+
   abbrev kind_of : ℕ → Kind
   kind_of b = (get_or blocks b no_block).kind
 
   abbrev next_of : ℕ → ℕ
   next_of b = (get_or blocks b no_block).next.0
 
-  abbrev the_fact : (b : ℕ) → b < length blocks → GoodBlock t b (get_or blocks b no_block, get_or sites b None)
+  abbrev the_fact : (b : ℕ) → b < length blocks → GoodBlock t (length blocks) b (get_or blocks b no_block, get_or p.sites b None)
   the_fact b lt = fact b no_block None lt
 
   allowed_parts : (b : ℕ) → b < length blocks → (is_owned t b ≡ true) × (tasks_allow t b (blank_of (kind_of b)) ≡ true) × (isrs_allow t b (blank_of (kind_of b)) ≡ true) × (counters_allow t b (blank_of (kind_of b)) ≡ true)
@@ -136,22 +131,22 @@ module _ (t : Tables) (blocks : List Block) (sites : List (Option Site)) (same :
   block_owned b lt = (allowed_parts b lt).0
 
   -- blocks of an owner whose ways stay in it
-  owner_is : (first count : ℕ) → 0 < count → first + count ≤ length blocks → ((b : ℕ) → IsAmong b first count → (m : ℕ) → is_end (kind_of b) ≡ false → GoodWay t b m → IsAmong m first count)
-      → IsOwner t.tasks t.alarms t.resources blocks first count
+  owner_is : (first count : ℕ) → 0 < count → first + count ≤ length blocks → ((b : ℕ) → IsAmong b first count → (m : ℕ) → is_end (kind_of b) ≡ false → GoodWay t (length blocks) b m → IsAmong m first count)
+      → IsOwner (tables_of_parts p) first count
   owner_is first count some inside ways = record {
     some = some;
     inside = inside;
-    ends = λ b a. own_next t b (kind_of b) (next_of b) (the_fact b (omega (arith, a.1, inside))).leads;
+    ends = λ b a. own_next p b (kind_of b) (next_of b) (the_fact b (omega (arith, a.1, inside))).leads;
     each = λ b none a.
         let lt : b < length blocks = omega (arith, a.1, inside) in
         let f = fact b none None lt in
         let alike : get_or blocks b none ≡ get_or blocks b no_block = same_within blocks b none no_block lt in
-        let way : (m : ℕ) → is_end (get_or blocks b none).kind ≡ false → GoodWay t b m → IsAmong m first count =
+        let way : (m : ℕ) → is_end (get_or blocks b none).kind ≡ false → GoodWay t (length blocks) b m → IsAmong m first count =
         λ m e g. ways b a m (ap (λ (x : Block). is_end x.kind) (sym alike) ∙ e) g in
         record {
-          operands = names_entries t b (get_or blocks b none).kind f.filled.operands;
-          next = next_among t b first count a (get_or blocks b none).kind (get_or blocks b none).next.0 way f.leads;
-          other = other_among t b first count a blocks (get_or blocks b none).kind (get_or blocks b none).next.0 way f.leads;
+          operands = names_entries p b (get_or blocks b none).kind f.filled.operands;
+          next = next_among p b first count a (get_or blocks b none).kind (get_or blocks b none).next.0 way f.leads;
+          other = other_among p b first count a (get_or blocks b none).kind (get_or blocks b none).next.0 way f.leads;
         };
   }
 
@@ -161,7 +156,7 @@ module _ (t : Tables) (blocks : List Block) (sites : List (Option Site)) (same :
     abbrev x : Task
     x = get_or t.tasks k d
 
-    task_ways : x.first.0 + x.count ≤ length blocks → (b : ℕ) → IsAmong b x.first.0 x.count → (m : ℕ) → is_end (kind_of b) ≡ false → GoodWay t b m → IsAmong m x.first.0 x.count
+    task_ways : x.first.0 + x.count ≤ length blocks → (b : ℕ) → IsAmong b x.first.0 x.count → (m : ℕ) → is_end (kind_of b) ≡ false → GoodWay t (length blocks) b m → IsAmong m x.first.0 x.count
     task_ways inside b a m _ way =
         let stays_t = list_all (λ (y : Task). where_has b (task_range y) (is_within m (task_range y))) t.tasks in
         let stays_i = list_all (λ (y : Isr). where_has b (isr_range y) (is_within m (isr_range y))) t.isrs in
@@ -171,10 +166,10 @@ module _ (t : Tables) (blocks : List Block) (sites : List (Option Site)) (same :
         within_among m x.first.0 x.count
         (where_among b x.first.0 x.count (is_within m (task_range x)) (AllPass-from_list_all (λ (y : Task). where_has b (task_range y) (is_within m (task_range y))) t.tasks q.0 k d lt) a)
 
-    pub task_owner : 0 < x.count → x.first.0 + x.count ≤ length blocks → IsOwner t.tasks t.alarms t.resources blocks x.first.0 x.count
+    pub task_owner : 0 < x.count → x.first.0 + x.count ≤ length blocks → IsOwner (tables_of_parts p) x.first.0 x.count
     task_owner some inside = owner_is x.first.0 x.count some inside (task_ways inside)
 
-    pub task_code : x.first.0 + x.count ≤ length blocks → IsTaskCode t.tasks t.alarms t.resources blocks x.first.0 x.count
+    pub task_code : x.first.0 + x.count ≤ length blocks → IsTaskCode (tables_of_parts p) x.first.0 x.count
     task_code inside = record {
       each = λ b a.
           let below : b < length blocks = omega (arith, a.1, inside) in
@@ -189,7 +184,7 @@ module _ (t : Tables) (blocks : List Block) (sites : List (Option Site)) (same :
     abbrev y : Isr
     y = get_or t.isrs k d
 
-    isr_ways : y.first.0 + y.count ≤ length blocks → (b : ℕ) → IsAmong b y.first.0 y.count → (m : ℕ) → is_end (kind_of b) ≡ false → GoodWay t b m → IsAmong m y.first.0 y.count
+    isr_ways : y.first.0 + y.count ≤ length blocks → (b : ℕ) → IsAmong b y.first.0 y.count → (m : ℕ) → is_end (kind_of b) ≡ false → GoodWay t (length blocks) b m → IsAmong m y.first.0 y.count
     isr_ways inside b a m _ way =
         let stays_t = list_all (λ (z : Task). where_has b (task_range z) (is_within m (task_range z))) t.tasks in
         let stays_i = list_all (λ (z : Isr). where_has b (isr_range z) (is_within m (isr_range z))) t.isrs in
@@ -199,10 +194,10 @@ module _ (t : Tables) (blocks : List Block) (sites : List (Option Site)) (same :
         within_among m y.first.0 y.count
         (where_among b y.first.0 y.count (is_within m (isr_range y)) (AllPass-from_list_all (λ (z : Isr). where_has b (isr_range z) (is_within m (isr_range z))) t.isrs q.1 k d lt) a)
 
-    pub isr_owner : 0 < y.count → y.first.0 + y.count ≤ length blocks → IsOwner t.tasks t.alarms t.resources blocks y.first.0 y.count
+    pub isr_owner : 0 < y.count → y.first.0 + y.count ≤ length blocks → IsOwner (tables_of_parts p) y.first.0 y.count
     isr_owner some inside = owner_is y.first.0 y.count some inside (isr_ways inside)
 
-    pub isr_code : y.first.0 + y.count ≤ length blocks → IsIsrCode t.tasks t.alarms t.resources blocks y.first.0 y.count
+    pub isr_code : y.first.0 + y.count ≤ length blocks → IsIsrCode (tables_of_parts p) y.first.0 y.count
     isr_code inside = record {
       each = λ b a.
           let below : b < length blocks = omega (arith, a.1, inside) in
@@ -228,7 +223,7 @@ module _ (t : Tables) (blocks : List Block) (sites : List (Option Site)) (same :
         let p = and_parts (eqb z.count (length due + 2)) (tick_order (length due) (b - z.first.0) (blank_of (kind_of b))) here in
         (eqb-true _ _ p.0, sym (tick_order_blank (length due) (b - z.first.0) (kind_of b)) ∙ p.1)
 
-    follows_in : (b : ℕ) → IsAmong b z.first.0 z.count → (m : ℕ) → GoodWay t b m → m ≡ b + 1
+    follows_in : (b : ℕ) → IsAmong b z.first.0 z.count → (m : ℕ) → GoodWay t (length blocks) b m → m ≡ b + 1
     follows_in b a m way =
         let stays_t = list_all (λ (w : Task). where_has b (task_range w) (is_within m (task_range w))) t.tasks in
         let stays_i = list_all (λ (w : Isr). where_has b (isr_range w) (is_within m (isr_range w))) t.isrs in
@@ -236,14 +231,14 @@ module _ (t : Tables) (blocks : List Block) (sites : List (Option Site)) (same :
         let p = and_parts (stays_t && stays_i) follows way.1 in
         eqb-true m (b + 1) (where_among b z.first.0 z.count (eqb m (b + 1)) (AllPass-from_list_all (λ (w : Counter). where_has b (counter_range w) (eqb m (b + 1))) t.counters p.1 c d lt) a)
 
-    counter_ways : z.first.0 + z.count ≤ length blocks → (b : ℕ) → IsAmong b z.first.0 z.count → (m : ℕ) → is_end (kind_of b) ≡ false → GoodWay t b m → IsAmong m z.first.0 z.count
+    counter_ways : z.first.0 + z.count ≤ length blocks → (b : ℕ) → IsAmong b z.first.0 z.count → (m : ℕ) → is_end (kind_of b) ≡ false → GoodWay t (length blocks) b m → IsAmong m z.first.0 z.count
     counter_ways inside b a m e way =
         let f = ticks b a (omega (arith, a.1, inside)) in
         let place = tick_place (length due) (b - z.first.0) (kind_of b) f.1 e in
         let next = follows_in b a m way in
         (omega (arith, a.0, next), omega (arith, a.0, next, place, f.0))
 
-    pub counter_owner : 0 < z.count → z.first.0 + z.count ≤ length blocks → IsOwner t.tasks t.alarms t.resources blocks z.first.0 z.count
+    pub counter_owner : 0 < z.count → z.first.0 + z.count ≤ length blocks → IsOwner (tables_of_parts p) z.first.0 z.count
     counter_owner some inside = owner_is z.first.0 z.count some inside (counter_ways inside)
 
     dues_in : (b : ℕ) → IsAmong b z.first.0 z.count → (a : ℕ) → is_due t b a ≡ true → eqb (slice_index_or due (b - z.first.0 - 1) 256) a ≡ true
@@ -256,13 +251,13 @@ module _ (t : Tables) (blocks : List Block) (sites : List (Option Site)) (same :
         absurd (omega (arith, a.0, more, place, f.0))
     tick_next inside b a more false e =
         let below : b < length blocks = omega (arith, a.1, inside) in
-        follows_in b a (next_of b) (way_of t b (kind_of b) (next_of b) e (the_fact b below).leads)
+        follows_in b a (next_of b) (way_of p b (kind_of b) (next_of b) e (the_fact b below).leads)
 
-    pub tick_code : 0 < z.count → z.first.0 + z.count ≤ length blocks → IsTickCode t.tasks t.alarms t.resources blocks due z.first.0 z.count
+    pub tick_code : 0 < z.count → z.first.0 + z.count ≤ length blocks → IsTickCode (tables_of_parts p) due z.first.0 z.count
     tick_code some inside = record {
       size = (ticks z.first.0 (omega arith, omega (arith, some)) (omega (arith, some, inside))).0;
       each = λ b a.
           let below : b < length blocks = omega (arith, a.1, inside) in
-          tick_may_from t b due (b - z.first.0) (kind_of b) (dues_in b a) (the_fact b below).filled.operands (ticks b a below).1;
+          tick_may_from p b due (b - z.first.0) (kind_of b) (dues_in b a) (the_fact b below).filled.operands (ticks b a below).1;
       next = λ b a more. tick_next inside b a more (is_end (kind_of b)) refl;
     }

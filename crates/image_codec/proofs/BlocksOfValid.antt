@@ -1,29 +1,26 @@
 -- The blocks of a valid application pass the tests of reading.
-use Rattle.std.proofs.Common.{◌≡◌, ℕ, suc, ◌+◌, ◌-◌, ◌^◌, ◌<◌, ◌≤◌, Bool, true, false, not, ◌&&◌, eqb, leb, ltb, List, [], ◌∷◌, length, get_or, Option, Some, None, refl, sym, subst, ◌∙◌, arith, inl, inr}
+use Rattle.std.proofs.Common.{◌≡◌, ℕ, suc, ◌+◌, ◌-◌, ◌^◌, ◌<◌, ◌≤◌, Bool, true, false, not, ◌&&◌, eqb, leb, ltb, List, [], ◌∷◌, length, get_or, Option, Some, None, refl, sym, ap, subst, ◌∙◌, arith, inl, inr}
 use Rattle.std.specs.Prelude.{slice_index_or, slice_get, IsTrue, ⊤}
 use Rattle.std.specs.List.{list_any}
 use Rattle.std.proofs.lemmas.Bool.{and_parts, and_from, or_cases, eqb-true, eq-eqb, ne_eqb, le-leb, ltb-true, lt-ltb, not-true, cases_lt}
 use Rattle.std.proofs.lemmas.List.{get_or_past}
 use Rattle.std.proofs.lemmas.List.Sums.{list_all-from_AllPass}
-use Rattle.osek_standard.specs.declared.objects.Task.{Task}
-use Rattle.osek_standard.specs.declared.objects.Isr.{Isr}
-use Rattle.osek_standard.specs.declared.objects.Counter.{Counter}
-use Rattle.osek_standard.specs.declared.block.Block.{Block}
-use Rattle.osek_standard.specs.declared.block.Kind.{Kind}
+use Rattle.osek_standard.specs.declared.objects.{Task.{Task}, Isr.{Isr}, Counter.{Counter}}
+use Rattle.osek_standard.specs.declared.block.{Block.{Block}, Kind.{Kind}}
 use Rattle.osek_standard.specs.declared.block.Kind.TheVariants as kind
+use Rattle.image_model.specs.CallNames as call
 use Rattle.osek_standard.specs.Validity.{no_block, no_counter, no_task, no_isr, IsAmong, is_within, is_own_next, due_of, tick_may, NamesEntries, IsOtherWay, IsBlock, IsOwner, IsTickCode, IsValid}
-use Rattle.image_codec.specs.declared.site.Form.{Form}
-use Rattle.image_codec.specs.declared.site.Form.TheVariants as form
-use Rattle.image_codec.specs.declared.site.Site.{Site}
-use Rattle.image_codec.specs.declared.parts.Tables.{Tables}
-use Rattle.image_codec.specs.declared.parts.Parts.{Parts}
-use Rattle.image_codec.specs.Sites.{IsForm}
+use Rattle.image_model.specs.declared.site.{Form.{Form}, Site.{Site}}
+use Rattle.image_model.specs.declared.site.Form.TheVariants as form
+use Rattle.image_codec.specs.declared.parts.{Tables.{Tables}, Parts.{Parts}}
+use Rattle.image_model.specs.Sites.{IsForm}
 use Rattle.image_codec.specs.Spelling.{kind_number, form_number}
 use Rattle.image_codec.specs.Fits.{FitsKind}
 use Rattle.image_codec.specs.BlockReading.{blank_kinds, tick_order, where_has, task_range, isr_range, counter_range, tasks_allow, isrs_allow, counter_allows, counters_allow, is_owned, is_allowed, is_due_in, is_due, form_of}
 use Rattle.image_codec.proofs.KindLaws.{other_of, GoodOperands, GoodNo, GoodBlank, GoodFilled}
-use Rattle.image_codec.proofs.BlockLaws.{unwayed, blank_of, number_unwayed, number_blank, GoodWay, LeadsWell, GoodSite}
+use Rattle.image_codec.proofs.BlockLaws.{unwayed, blank_of, listed_blank, number_unwayed, number_blank, GoodWay, LeadsWell, GoodSite}
 use Rattle.image_codec.proofs.OwnerTests.{any_of_owners}
+use Rattle.image_codec.proofs.WholeTables.{tables_of_parts}
 use Rattle.image_codec.proofs.Places.{all_numbered, among_within, within_among, among_where}
 use Rattle.image_codec.proofs.BlocksOfGood.{same_within, task_may_blank, isr_may_blank, tick_order_blank, is_end, tick_place}
 
@@ -54,8 +51,7 @@ form_small tasks (form.Direct (Some x)) few fits = omega (arith, few, fits)
 -- ---- kinds
 
 blank_again : (k : Kind) → slice_get blank_kinds (kind_number (blank_of k)) ≡ Some (blank_of k)
-blank_again (kind.Choice o) = refl
-blank_again k = refl
+blank_again k = ap (slice_get blank_kinds) (number_blank k) ∙ listed_blank k
 
 other_unwayed : (k : Kind) → other_of (unwayed k) ≡ other_of (blank_of k)
 other_unwayed (kind.Choice o) = refl
@@ -97,43 +93,33 @@ abbrev IsDueHere : Tables → ℕ → Kind → Type 0
 IsDueHere t b (kind.Expire a) = is_due t b a.0 ≡ true
 IsDueHere t b _ = ⊤
 
-module _ (t : Tables) (b : ℕ) (few_tasks : length t.tasks ≤ 16) (few_alarms : length t.alarms ≤ 16) (few_resources : length t.resources ≤ 16) where
+module _ (p : Parts) (b : ℕ) (few_tasks : length p.tables.tasks ≤ 16) (few_alarms : length p.tables.alarms ≤ 16) (few_resources : length p.tables.resources ≤ 16) where
   -- the operands of a kind that names entries
-  good_operands : (k : Kind) → NamesEntries t.tasks t.alarms t.resources k → FitsKind k → IsDueHere t b k → GoodOperands t b (unwayed k)
+  good_operands : (k : Kind) → NamesEntries (tables_of_parts p) k → FitsKind k → IsDueHere p.tables b k → GoodOperands p.tables b (unwayed k)
   good_operands (kind.Work n) names fits due = (fits, lt-ltb 0 n names)
   good_operands (kind.Choice o) names fits due = tt
   good_operands kind.Loop names fits due = tt
-  good_operands (kind.ActivateTask x) names fits due = good_no _ x.0 few_tasks names
-  good_operands kind.TerminateTask names fits due = tt
-  good_operands (kind.ChainTask x) names fits due = good_no _ x.0 few_tasks names
-  good_operands kind.Schedule names fits due = tt
-  good_operands (kind.GetResource r) names fits due = good_no _ r.0 few_resources names
-  good_operands (kind.ReleaseResource r) names fits due = good_no _ r.0 few_resources names
-  good_operands (kind.SetEvent x m) names fits due = (good_no _ x.0 few_tasks names.0, (fits, lt-ltb 0 m.0 names.1))
-  good_operands (kind.ClearEvent m) names fits due = (fits, lt-ltb 0 m.0 names)
-  good_operands (kind.GetEvent x) names fits due = good_no _ x.0 few_tasks names
-  good_operands (kind.WaitEvent m) names fits due = (fits, lt-ltb 0 m.0 names)
-  good_operands (kind.SetRelAlarm a i c) names fits due = (good_no _ a.0 few_alarms names, fits)
-  good_operands (kind.SetAbsAlarm a s c) names fits due = (good_no _ a.0 few_alarms names, fits)
-  good_operands (kind.CancelAlarm a) names fits due = good_no _ a.0 few_alarms names
-  good_operands (kind.GetAlarm a) names fits due = good_no _ a.0 few_alarms names
-  good_operands kind.GetTaskId names fits due = tt
-  good_operands (kind.GetTaskState x) names fits due = good_no _ x.0 few_tasks names
-  good_operands kind.GetActiveApplicationMode names fits due = tt
-  good_operands kind.ShutdownOs names fits due = tt
-  good_operands (kind.LockCall l) names fits due = tt
+  good_operands (kind.Call (call.Task k x)) names fits due = good_no _ x.0 few_tasks names
+  good_operands (kind.Call (call.Plain k)) names fits due = tt
+  good_operands (kind.Call (call.Resource k r)) names fits due = good_no _ r.0 few_resources names
+  good_operands (kind.Call (call.SetEvent x m)) names fits due = (good_no _ x.0 few_tasks names.0, (fits, lt-ltb 0 m.0 names.1))
+  good_operands (kind.Call (call.Mask k m)) names fits due = (fits, lt-ltb 0 m.0 names)
+  good_operands (kind.Call (call.Arm k a i c)) names fits due = (good_no _ a.0 few_alarms names, fits)
+  good_operands (kind.Call (call.Alarm k a)) names fits due = good_no _ a.0 few_alarms names
+  good_operands (kind.Call (call.Lock l)) names fits due = tt
+  good_operands (kind.Call call.ShutdownOs) names fits due = tt
   good_operands kind.TaskEnd names fits due = tt
   good_operands kind.IsrEnd names fits due = tt
   good_operands kind.CountUp names fits due = tt
   good_operands (kind.Expire a) names fits due = (good_no _ a.0 few_alarms names, due)
 
-  has_byte : (k : Kind) → NamesEntries t.tasks t.alarms t.resources k → HasByte k
+  has_byte : (k : Kind) → NamesEntries (tables_of_parts p) k → HasByte k
   has_byte (kind.Expire a) names = omega (arith, few_alarms, names)
   has_byte k names = tt
 
   -- an Expire is due, if it is due in each counter whose routine has the block
-  due_here : (k : Kind) → ((c : ℕ) (d : Counter) → c < length t.counters → IsAmong b (get_or t.counters c d).first.0 (get_or t.counters c d).count → IsDueAt (due_of t.alarms c) (b - (get_or t.counters c d).first.0) k) → IsDueHere t b k
-  due_here (kind.Expire a) each = all_numbered (is_due_in t.alarms b a.0) t.counters (λ c d lt. among_where b (get_or t.counters c d).first.0 (get_or t.counters c d).count _ (each c d lt))
+  due_here : (k : Kind) → ((c : ℕ) (d : Counter) → c < length p.tables.counters → IsAmong b (get_or p.tables.counters c d).first.0 (get_or p.tables.counters c d).count → IsDueAt (due_of p.tables.alarms c) (b - (get_or p.tables.counters c d).first.0) k) → IsDueHere p.tables b k
+  due_here (kind.Expire a) each = all_numbered (is_due_in p.tables.alarms b a.0) p.tables.counters (λ c d lt. among_where b (get_or p.tables.counters c d).first.0 (get_or p.tables.counters c d).count _ (each c d lt))
   due_here k each = tt
 
 -- where a way of a kind leads, if it isn't an end
@@ -143,11 +129,11 @@ Ways P kind.IsrEnd n = ⊤
 Ways P (kind.Choice o) n = P n × P o.0
 Ways P _ n = P n
 
-leads_from : (t : Tables) (b : ℕ) (k : Kind) (n : ℕ) → is_own_next b k n ≡ true → Ways (GoodWay t b) k n → LeadsWell t b k n
-leads_from t b kind.TaskEnd n own ways = eqb-true n b own
-leads_from t b kind.IsrEnd n own ways = eqb-true n b own
-leads_from t b (kind.Choice o) n own ways = ways
-leads_from t b k n own ways = ways
+leads_from : (t : Tables) (blocks b : ℕ) (k : Kind) (n : ℕ) → is_own_next b k n ≡ true → Ways (GoodWay t blocks b) k n → LeadsWell t blocks b k n
+leads_from t blocks b kind.TaskEnd n own ways = eqb-true n b own
+leads_from t blocks b kind.IsrEnd n own ways = eqb-true n b own
+leads_from t blocks b (kind.Choice o) n own ways = ways
+leads_from t blocks b k n own ways = ways
 
 ways_both : (P Q : ℕ → Type 0) (k : Kind) (n : ℕ) → Ways P k n → Ways Q k n → Ways (λ m. P m × Q m) k n
 ways_both P Q kind.TaskEnd n p q = tt
@@ -168,11 +154,11 @@ ways_all P kind.IsrEnd n each = tt
 ways_all P (kind.Choice o) n each = (λ i. (each i).0, λ i. (each i).1)
 ways_all P k n each = each
 
-ways_among : (t : Tables) (blocks : List Block) (first count : ℕ) (k : Kind) (n : ℕ) → IsAmong n first count → IsOtherWay t.tasks t.alarms t.resources blocks first count k → Ways (λ m. IsAmong m first count) k n
-ways_among t blocks first count kind.TaskEnd n next other = tt
-ways_among t blocks first count kind.IsrEnd n next other = tt
-ways_among t blocks first count (kind.Choice o) n next other = (next, other)
-ways_among t blocks first count k n next other = next
+ways_among : (p : Parts) (first count : ℕ) (k : Kind) (n : ℕ) → IsAmong n first count → IsOtherWay (tables_of_parts p) first count k → Ways (λ m. IsAmong m first count) k n
+ways_among p first count kind.TaskEnd n next other = tt
+ways_among p first count kind.IsrEnd n next other = tt
+ways_among p first count (kind.Choice o) n next other = (next, other)
+ways_among p first count k n next other = next
 
 -- in a tick routine each way leads to the following block
 ways_follow : (due : List ℕ) (place b : ℕ) (k : Kind) (n : ℕ) → tick_may due place k ≡ true → (is_end k ≡ false → n ≡ b + 1) → Ways (λ m. m ≡ b + 1) k n
@@ -190,7 +176,7 @@ found_at p (x ∷ xs) e =
       | inr h ↦ let f = found_at p xs h in (suc f.0, omega (arith, f.1), f.2)
     ]
 
-module _ (p : Parts) (v : IsValid p.tables.tasks p.tables.alarms p.tables.resources p.blocks p.tables.isrs p.tables.counters p.hooks p.tables.modes) where
+module _ (p : Parts) (v : IsValid (tables_of_parts p)) where
   abbrev t : Tables
   t = p.tables
 
@@ -208,7 +194,7 @@ module _ (p : Parts) (v : IsValid p.tables.tasks p.tables.alarms p.tables.resour
     pub first : ℕ
     pub count : ℕ
     pub among : IsAmong b first count
-    pub owner : IsOwner t.tasks t.alarms t.resources blocks first count
+    pub owner : IsOwner (tables_of_parts p) first count
 
   owner_of : (b : ℕ) → b < length blocks → HasOwner b
   owner_of b lt =
@@ -231,10 +217,10 @@ module _ (p : Parts) (v : IsValid p.tables.tasks p.tables.alarms p.tables.resour
     abbrev here : HasOwner b
     here = owner_of b lt
 
-    abbrev its_block : IsBlock t.tasks t.alarms t.resources blocks here.first here.count (get_or blocks b no_block)
+    abbrev its_block : IsBlock (tables_of_parts p) here.first here.count (get_or blocks b no_block)
     its_block = here.owner.each b no_block here.among
 
-    names : NamesEntries t.tasks t.alarms t.resources (kind_of b)
+    names : NamesEntries (tables_of_parts p) (kind_of b)
     names = its_block.operands
 
     by_tasks : tasks_allow t b (blank_of (kind_of b)) ≡ true
@@ -254,11 +240,11 @@ module _ (p : Parts) (v : IsValid p.tables.tasks p.tables.alarms p.tables.resour
       abbrev due : List ℕ
       due = due_of t.alarms c
 
-      ticks : IsTickCode t.tasks t.alarms t.resources blocks due z.first.0 z.count
-      ticks = subst (λ (x : Counter). IsTickCode t.tasks t.alarms t.resources blocks due x.first.0 x.count) (same_within t.counters c no_counter d below) (v.tick_code c below)
+      ticks : IsTickCode (tables_of_parts p) due z.first.0 z.count
+      ticks = subst (λ (x : Counter). IsTickCode (tables_of_parts p) due x.first.0 x.count) (same_within t.counters c no_counter d below) (v.tick_code c below)
 
       order : IsAmong b z.first.0 z.count → tick_order (length due) (b - z.first.0) (kind_of b) ≡ true
-      order a = order_of_may due (b - z.first.0) (kind_of b) (has_byte t b (v.few_tasks) (v.few_alarms) (omega (arith, v.few_resources)) (kind_of b) names) (ticks.each b a)
+      order a = order_of_may due (b - z.first.0) (kind_of b) (has_byte p b (v.few_tasks) (v.few_alarms) (omega (arith, v.few_resources)) (kind_of b) names) (ticks.each b a)
 
       by_counter : counter_allows t b (blank_of (kind_of b)) (c, z) ≡ true
       by_counter = among_where b z.first.0 z.count _ (λ a.
@@ -283,12 +269,12 @@ module _ (p : Parts) (v : IsValid p.tables.tasks p.tables.alarms p.tables.resour
     good_filled fits = record {
       number = number_unwayed (kind_of b) ∙ sym (number_blank (kind_of b));
       other = other_unwayed (kind_of b);
-      operands = good_operands t b v.few_tasks v.few_alarms (omega (arith, v.few_resources)) (kind_of b) names fits
-          (due_here t b v.few_tasks v.few_alarms (omega (arith, v.few_resources)) (kind_of b) (λ c d below a. due_of_may (due c d below) (b - (z c d below).first.0) (kind_of b) ((ticks c d below).each b a)));
+      operands = good_operands p b v.few_tasks v.few_alarms (omega (arith, v.few_resources)) (kind_of b) names fits
+          (due_here p b v.few_tasks v.few_alarms (omega (arith, v.few_resources)) (kind_of b) (λ c d below a. due_of_may (due c d below) (b - (z c d below).first.0) (kind_of b) ((ticks c d below).each b a)));
     }
 
-    stays : (first count : ℕ) → IsOwner t.tasks t.alarms t.resources blocks first count → IsAmong b first count → Ways (λ m. IsAmong m first count) (kind_of b) (next_of b)
-    stays first count owner a = let x = owner.each b no_block a in ways_among t blocks first count (kind_of b) (next_of b) x.next x.other
+    stays : (first count : ℕ) → IsOwner (tables_of_parts p) first count → IsAmong b first count → Ways (λ m. IsAmong m first count) (kind_of b) (next_of b)
+    stays first count owner a = let x = owner.each b no_block a in ways_among p first count (kind_of b) (next_of b) x.next x.other
 
     abbrev StaysInTask : ℕ → Type 0
     StaysInTask m = (k : ℕ) (d : Task) (below : k < length t.tasks) (a : IsAmong b (get_or t.tasks k d).first.0 (get_or t.tasks k d).count) → IsAmong m (get_or t.tasks k d).first.0 (get_or t.tasks k d).count
@@ -299,7 +285,7 @@ module _ (p : Parts) (v : IsValid p.tables.tasks p.tables.alarms p.tables.resour
     abbrev Follows : ℕ → Type 0
     Follows m = (k : ℕ) (d : Counter) (below : k < length t.counters) (a : IsAmong b (get_or t.counters k d).first.0 (get_or t.counters k d).count) → m ≡ b + 1
 
-    way_from : (m : ℕ) → (IsAmong m here.first here.count × StaysInTask m) × (StaysInIsr m × Follows m) → GoodWay t b m
+    way_from : (m : ℕ) → (IsAmong m here.first here.count × StaysInTask m) × (StaysInIsr m × Follows m) → GoodWay t (length blocks) b m
     way_from m f =
         let in_tasks = list_all-from_AllPass (λ (y : Task). where_has b (task_range y) (is_within m (task_range y))) t.tasks (λ k d below.
         let x = get_or t.tasks k d in among_where b x.first.0 x.count _ (λ a. among_within m x.first.0 x.count (f.0.1 k d below a))) in
@@ -307,9 +293,9 @@ module _ (p : Parts) (v : IsValid p.tables.tasks p.tables.alarms p.tables.resour
         let x = get_or t.isrs k d in among_where b x.first.0 x.count _ (λ a. among_within m x.first.0 x.count (f.1.0 k d below a))) in
         let in_order = list_all-from_AllPass (λ (y : Counter). where_has b (counter_range y) (eqb m (b + 1))) t.counters (λ k d below.
         let x = get_or t.counters k d in among_where b x.first.0 x.count _ (λ a. eq-eqb m (b + 1) (f.1.1 k d below a))) in
-        (omega (arith, f.0.0.1, here.owner.inside, v.few_blocks), and_from _ _ (and_from _ _ in_tasks in_isrs) in_order)
+        ((omega (arith, f.0.0.1, here.owner.inside, v.few_blocks), lt-ltb m (length blocks) (omega (arith, f.0.0.1, here.owner.inside))), and_from _ _ (and_from _ _ in_tasks in_isrs) in_order)
 
-    pub good_leads : LeadsWell t b (kind_of b) (next_of b)
+    pub good_leads : LeadsWell t (length blocks) b (kind_of b) (next_of b)
     good_leads =
         let k = kind_of b in
         let n = next_of b in
@@ -329,8 +315,8 @@ module _ (p : Parts) (v : IsValid p.tables.tasks p.tables.alarms p.tables.resour
         ways_all (λ below m. (a : IsAmong b (get_or t.counters i d).first.0 (get_or t.counters i d).count) → m ≡ b + 1) k n (λ below.
         ways_all (λ a m. m ≡ b + 1) k n (λ a. follows i d below a)))) in
         let within = stays here.first here.count here.owner here.among in
-        leads_from t b k n (here.owner.ends b here.among)
-        (ways_weaker _ (GoodWay t b) way_from k n (ways_both _ _ k n (ways_both (λ m. IsAmong m here.first here.count) StaysInTask k n within in_task) (ways_both StaysInIsr Follows k n in_isr in_order)))
+        leads_from t (length blocks) b k n (here.owner.ends b here.among)
+        (ways_weaker _ (GoodWay t (length blocks) b) way_from k n (ways_both _ _ k n (ways_both (λ m. IsAmong m here.first here.count) StaysInTask k n within in_task) (ways_both StaysInIsr Follows k n in_isr in_order)))
 
 -- a site that is there exactly where it is one
 abbrev pub FitsSite : ℕ → Bool → Option Site → Type 0

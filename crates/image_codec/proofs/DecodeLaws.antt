@@ -5,14 +5,11 @@ use Rattle.osek_standard.specs.declared.app.App.{App}
 use Rattle.osek_standard.specs.declared.block.Block.{Block}
 use Rattle.osek_standard.specs.Validity.{IsValid, IsValid-prop}
 use Rattle.osek_standard.specs.Versions.{FitsVersion1, FitsVersion1-prop}
-use Rattle.image_codec.specs.declared.fault.Fault.{Fault}
-use Rattle.image_codec.specs.declared.fault.ImageFault.{ImageFault}
-use Rattle.image_codec.specs.declared.site.Site.{Site}
-use Rattle.image_codec.specs.declared.image.Image.{Image}
-use Rattle.image_codec.specs.declared.parts.Header.{Header}
-use Rattle.image_codec.specs.declared.parts.Tables.{Tables}
-use Rattle.image_codec.specs.declared.parts.Parts.{Parts}
-use Rattle.image_codec.specs.Sites.{AreSites, AreSites-prop}
+use Rattle.image_codec.specs.declared.fault.{Fault.{Fault}, ImageFault.{ImageFault}}
+use Rattle.image_model.specs.declared.site.Site.{Site}
+use Rattle.image_model.specs.declared.image.Image.{Image}
+use Rattle.image_codec.specs.declared.parts.{Header.{Header}, Tables.{Tables}, Parts.{Parts}}
+use Rattle.image_model.specs.Sites.{AreSites, AreSites-prop}
 use Rattle.image_codec.specs.Spelling.{spelling}
 use Rattle.image_codec.specs.Reading.{AreBytes, Read, ◌>>=◌}
 use Rattle.image_codec.specs.TableReading.{header_at, tables_at}
@@ -21,6 +18,7 @@ use Rattle.image_codec.specs.ImageReading.{placed, read_image, parts_of}
 use Rattle.image_codec.proofs.BlockLaws.{Entry}
 use Rattle.image_codec.proofs.BlockLoop.{zip_firsts, zip_seconds}
 use Rattle.image_codec.proofs.PartsLaws.{spelling_is, all_takes}
+use Rattle.image_codec.proofs.WholeTables.{tables_of_parts}
 
 abbrev some_parts : Header → Tables → List Block → List (Option Site) → List ℕ → Read Parts
 some_parts h t bs ss rest = Ok (record { hooks = h.hooks; tables = t; blocks = bs; sites = ss }, rest)
@@ -55,10 +53,10 @@ its_fault bytes f offset e same = ap (placed (length bytes)) e ∙ ap (λ (k : �
 -- ---- images with the same parts are the same
 
 abbrev pub IsValidOf : Parts → Type 0
-IsValidOf p = IsValid p.tables.tasks p.tables.alarms p.tables.resources p.blocks p.tables.isrs p.tables.counters p.hooks p.tables.modes
+IsValidOf p = IsValid (tables_of_parts p)
 
-abbrev pub app_of : (p : Parts) → IsValidOf p → FitsVersion1 p.tables.tasks → App
-app_of p v w = record {
+abbrev pub app_of : (p : Parts) → IsValidOf p → App
+app_of p v = record {
   hooks = p.hooks;
   tasks = p.tables.tasks;
   isrs = p.tables.isrs;
@@ -68,22 +66,19 @@ app_of p v w = record {
   modes = p.tables.modes;
   blocks = p.blocks;
   valid = v;
-  version_1 = w;
 }
 
-abbrev pub image_of : (p : Parts) (v : IsValidOf p) (w : FitsVersion1 p.tables.tasks) → AreSites (app_of p v w) p.sites → Image
-image_of p v w s = record { app = app_of p v w; sites = p.sites; valid = s }
+abbrev pub image_of : (p : Parts) (v : IsValidOf p) (w : FitsVersion1 p.tables.tasks) → AreSites (app_of p v) p.sites → Image
+image_of p v w s = record { app = app_of p v; sites = p.sites; version_1 = w; valid = s }
 
-module _ (p : Parts) (v : IsValidOf p) (w : FitsVersion1 p.tables.tasks) (s : AreSites (app_of p v w) p.sites) where
-  same_facts : (v' : IsValidOf p) (w' : FitsVersion1 p.tables.tasks) (s' : AreSites (app_of p v' w') p.sites) → image_of p v w s ≡ image_of p v' w' s'
-  same_facts v' =
-      subst (λ (u : IsValidOf p). (w' : FitsVersion1 p.tables.tasks) (s' : AreSites (app_of p u w') p.sites) → image_of p v w s ≡ image_of p u w' s')
-      (IsValid-prop p.tables.tasks p.tables.alarms p.tables.resources p.blocks p.tables.isrs p.tables.counters p.hooks p.tables.modes v v')
-      (λ w'. subst (λ (u : FitsVersion1 p.tables.tasks). (s' : AreSites (app_of p v u) p.sites) → image_of p v w s ≡ image_of p v u s') (FitsVersion1-prop p.tables.tasks w w')
-      (λ s'. ap (image_of p v w) (AreSites-prop (app_of p v w) p.sites s s')))
+module _ (p : Parts) (v : IsValidOf p) (w : FitsVersion1 p.tables.tasks) (s : AreSites (app_of p v) p.sites) where
+  same_facts : (v' : IsValidOf p) (w' : FitsVersion1 p.tables.tasks) (s' : AreSites (app_of p v') p.sites) → image_of p v w s ≡ image_of p v' w' s'
+  same_facts v' w' =
+      subst (λ (u : IsValidOf p). (s' : AreSites (app_of p u) p.sites) → image_of p v w s ≡ image_of p u w' s') (IsValid-prop (tables_of_parts p) v v')
+      (λ s'. ap (λ (u : FitsVersion1 p.tables.tasks). image_of p v u s) (FitsVersion1-prop p.tables.tasks w w') ∙ ap (image_of p v w') (AreSites-prop (app_of p v) p.sites s s'))
 
-  same_image : (q : Parts) → p ≡ q → (v' : IsValidOf q) (w' : FitsVersion1 q.tables.tasks) (s' : AreSites (app_of q v' w') q.sites) → image_of p v w s ≡ image_of q v' w' s'
-  same_image q e = subst (λ (r : Parts). (v' : IsValidOf r) (w' : FitsVersion1 r.tables.tasks) (s' : AreSites (app_of r v' w') r.sites) → image_of p v w s ≡ image_of r v' w' s') e same_facts
+  same_image : (q : Parts) → p ≡ q → (v' : IsValidOf q) (w' : FitsVersion1 q.tables.tasks) (s' : AreSites (app_of q v') q.sites) → image_of p v w s ≡ image_of q v' w' s'
+  same_image q e = subst (λ (r : Parts). (v' : IsValidOf r) (w' : FitsVersion1 r.tables.tasks) (s' : AreSites (app_of r v') r.sites) → image_of p v w s ≡ image_of r v' w' s') e same_facts
 
 pub image_ext : (i j : Image) → parts_of i ≡ parts_of j → i ≡ j
-image_ext i j e = same_image (parts_of i) i.app.valid i.app.version_1 i.valid (parts_of j) e j.app.valid j.app.version_1 j.valid
+image_ext i j e = same_image (parts_of i) i.app.valid i.version_1 i.valid (parts_of j) e j.app.valid j.version_1 j.valid

@@ -9,12 +9,9 @@ use Rattle.std.proofs.lemmas.Slice.Eq.{bytes_eq-Decides}
 use Rattle.std.proofs.lemmas.List.{take_at, drop_at, take-append-drop, length-append, length-take}
 use Rattle.osek_values.specs.Names.{is_word, is_name}
 use Rattle.osek_values.specs.Numbers.{block_no}
-use Rattle.osek_standard.specs.declared.objects.Schedule.{Schedule}
-use Rattle.osek_standard.specs.declared.objects.Schedule.TheVariants.{Non, Full}
+use Rattle.osek_standard.specs.declared.objects.{Schedule.{Schedule}, Schedule.TheVariants.{Non, Full}}
 use Rattle.osek_standard.specs.Validity.{meet}
-use Rattle.image_codec.specs.declared.fault.ImageRule.{ImageRule}
-use Rattle.image_codec.specs.declared.fault.ImageRule.TheVariants.{I1, I3, I4, I5}
-use Rattle.image_codec.specs.declared.fault.Fault.{Fault}
+use Rattle.image_codec.specs.declared.fault.{ImageRule.{ImageRule}, ImageRule.TheVariants.{I1, I3, I4, I5}, Fault.{Fault}}
 use Rattle.image_codec.specs.declared.parts.Range.{Range}
 use Rattle.image_codec.specs.Spelling.{one, two, name_bytes, range_bytes, schedule_number, flag_number}
 use Rattle.image_codec.specs.Reading.{Read, ◌>>=◌, fault_at, kept, tested_byte_at, tested_at, byte_below_at, exactly_at, text_at, name_at, count_at, range_at, flag_at}

@@ -6,23 +6,15 @@ use Rattle.std.proofs.lemmas.Bool.{and_parts, and_from, or_cases, eqb-true, eq-e
 use Rattle.std.proofs.lemmas.List.{append-nil, length-append}
 use Rattle.std.proofs.lemmas.List.Elements.{All-get_or}
 use Rattle.std.proofs.Math.Seq.{get_or-append_seam}
-use Rattle.osek_standard.specs.declared.objects.Task.{Task}
-use Rattle.osek_standard.specs.declared.objects.Isr.{Isr}
-use Rattle.osek_standard.specs.declared.objects.Counter.{Counter}
-use Rattle.osek_standard.specs.declared.objects.Alarm.{Alarm}
-use Rattle.osek_standard.specs.declared.objects.Resource.{Resource}
-use Rattle.osek_standard.specs.declared.objects.Action.{Action}
+use Rattle.osek_standard.specs.declared.objects.{Task.{Task}, Isr.{Isr}, Counter.{Counter}, Alarm.{Alarm}, Resource.{Resource}, Action.{Action}}
 use Rattle.osek_standard.specs.declared.objects.Action.TheVariants as action
 use Rattle.osek_standard.specs.declared.app.App.{App}
 use Rattle.osek_standard.specs.Validity.{no_block, no_counter, AreNames, meet, owners, is_cycle_of, IsAction, IsAlarmOf, IsOwner, IsValid}
-use Rattle.image_codec.specs.declared.site.Site.{Site}
-use Rattle.image_codec.specs.declared.image.Image.{Image}
-use Rattle.image_codec.specs.declared.parts.Header.{Header}
-use Rattle.image_codec.specs.declared.parts.Range.{Range}
-use Rattle.image_codec.specs.declared.parts.Tables.{Tables}
-use Rattle.image_codec.specs.declared.parts.Parts.{Parts}
+use Rattle.image_model.specs.declared.site.Site.{Site}
+use Rattle.image_model.specs.declared.image.Image.{Image}
+use Rattle.image_codec.specs.declared.parts.{Header.{Header}, Range.{Range}, Tables.{Tables}, Parts.{Parts}}
 use Rattle.osek_standard.specs.Apps.{is_site_in}
-use Rattle.image_codec.specs.Sites.{IsSiteAt}
+use Rattle.image_model.specs.Sites.{IsSiteAt}
 use Rattle.image_codec.specs.Spelling.{spelling}
 use Rattle.image_codec.specs.Fits.{FitsTask, FitsAction, FitsBlock, FitsFormat}
 use Rattle.image_codec.specs.BlockReading.{parts_at, all_at}
@@ -36,6 +28,7 @@ use Rattle.image_codec.proofs.BlockLaws.{Entry, GoodBlock}
 use Rattle.image_codec.proofs.PartsLaws.{header_of, parts_law, GoodHeader, GoodParts, spelling_is, all_again}
 use Rattle.image_codec.proofs.EachLaws.{each_of, here_of_all, here_distinct, here_fresh}
 use Rattle.image_codec.proofs.OwnerTests.{any_of_map, map_same}
+use Rattle.image_codec.proofs.WholeTables.{tables_of_parts}
 use Rattle.image_codec.proofs.Places.{get_or-zip}
 use Rattle.image_codec.proofs.BlockLoop.{length-zip}
 use Rattle.image_codec.proofs.BlocksOfValid.{good_blank, good_filled, good_leads, FitsSite, good_site}
@@ -71,9 +64,9 @@ cycle_fits c cycle small e =
       | inr h ↦ let le = leb-true cycle c.max (and_parts (leb c.min_cycle cycle) (leb cycle c.max) h).1 in omega (arith, le, small)
     ]
 
-good_action : (n : Header) (t : Tables) (x : Action) → n.tasks ≡ length t.tasks → length t.tasks ≤ 16 → IsAction t.tasks t.alarms t.resources x → FitsAction x → GoodAction n x
-good_action n t (action.ActivateTask x) e few names fits = record { task_fits = omega (arith, few, names); task = lt-ltb x.0 n.tasks (omega (arith, names, e)); events_fit = omega arith; events = refl }
-good_action n t (action.SetEvent x m) e few names fits = record { task_fits = omega (arith, few, names.0); task = lt-ltb x.0 n.tasks (omega (arith, names.0, e)); events_fit = fits; events = lt-ltb 0 m.0 names.1 }
+good_action : (n : Header) (p : Parts) (x : Action) → n.tasks ≡ length p.tables.tasks → length p.tables.tasks ≤ 16 → IsAction (tables_of_parts p) x → FitsAction x → GoodAction n x
+good_action n p (action.ActivateTask x) e few names fits = record { task_fits = omega (arith, few, names); task = lt-ltb x.0 n.tasks (omega (arith, names, e)); events_fit = omega arith; events = refl }
+good_action n p (action.SetEvent x m) e few names fits = record { task_fits = omega (arith, few, names.0); task = lt-ltb x.0 n.tasks (omega (arith, names.0, e)); events_fit = fits; events = lt-ltb 0 m.0 names.1 }
 
 good_range : (blocks first count : ℕ) (earlier : List (ℕ × ℕ)) (x : Range) → x.first.0 ≡ first → x.count ≡ count → 0 < count → first + count ≤ blocks → blocks ≤ 1056 → list_any (λ o. meet o (x.first.0, x.count)) earlier ≡ false → GoodRange blocks earlier x
 good_range blocks first count earlier x is_first is_count some inside few apart = record {
@@ -98,7 +91,7 @@ module _ (i : Image) (fits : FitsFormat i) where
   abbrev n : Header
   n = header_of p
 
-  abbrev v : IsValid t.tasks t.alarms t.resources p.blocks t.isrs t.counters p.hooks t.modes
+  abbrev v : IsValid (tables_of_parts p)
   v = i.app.valid
 
   abbrev ranges_t : List Task → List (ℕ × ℕ)
@@ -129,11 +122,11 @@ module _ (i : Image) (fits : FitsFormat i) where
   task_here e x l same =
       let f = here_of_all FitsTask t.tasks e x l same fits.each_task in
       let starts = here_of_all (λ (y : Task). y.autostart < 2 ^ length t.modes) t.tasks e x l same v.task_starts in
-      let o = here_of_all (λ (y : Task). IsOwner t.tasks t.alarms t.resources p.blocks y.first.0 y.count) t.tasks e x l same v.each_task in
+      let o = here_of_all (λ (y : Task). IsOwner (tables_of_parts p) y.first.0 y.count) t.tasks e x l same v.each_task in
       let all : IsDistinct meet (([] ++ ranges_t t.tasks) ++ (ranges_i t.isrs ++ ranges_c t.counters)) = subst (IsDistinct meet) (append_assoc (ranges_t t.tasks) (ranges_i t.isrs) (ranges_c t.counters)) v.apart in
       let apart = here_distinct meet (λ (y : Task). (y.first.0, y.count)) [] (ranges_i t.isrs ++ ranges_c t.counters) t.tasks e x l same all in
       let earlier : owners e [] [] ≡ ranges_t e = append-nil (ranges_t e ++ []) ∙ append-nil (ranges_t e) in
-      let priorities : IsDistinct nat_eq (([] ++ map (λ (y : Task). y.priority) t.tasks) ++ []) = subst (IsDistinct nat_eq) (sym (append-nil (map (λ (y : Task). y.priority) t.tasks))) i.app.version_1.priorities in
+      let priorities : IsDistinct nat_eq (([] ++ map (λ (y : Task). y.priority) t.tasks) ++ []) = subst (IsDistinct nat_eq) (sym (append-nil (map (λ (y : Task). y.priority) t.tasks))) i.version_1.priorities in
       let own = here_distinct nat_eq (λ (y : Task). y.priority) [] [] t.tasks e x l same priorities in
       record {
         fresh = here_fresh (λ (y : Task). y.name) t.tasks e x l same v.task_names;
@@ -147,7 +140,7 @@ module _ (i : Image) (fits : FitsFormat i) where
 
   isr_here : (e : List Isr) (x : Isr) (l : List Isr) → e ++ x ∷ l ≡ t.isrs → GoodIsr n t.tasks e x
   isr_here e x l same =
-      let o = here_of_all (λ (y : Isr). IsOwner t.tasks t.alarms t.resources p.blocks y.first.0 y.count) t.isrs e x l same v.each_isr in
+      let o = here_of_all (λ (y : Isr). IsOwner (tables_of_parts p) y.first.0 y.count) t.isrs e x l same v.each_isr in
       let apart = here_distinct meet (λ (y : Isr). (y.first.0, y.count)) (ranges_t t.tasks) (ranges_c t.counters) t.isrs e x l same v.apart in
       let earlier : owners t.tasks e [] ≡ ranges_t t.tasks ++ ranges_i e = append-nil (ranges_t t.tasks ++ ranges_i e) in
       record {
@@ -157,7 +150,7 @@ module _ (i : Image) (fits : FitsFormat i) where
 
   counter_here : (e : List Counter) (x : Counter) (l : List Counter) → e ++ x ∷ l ≡ t.counters → GoodCounter n t.tasks t.isrs e x
   counter_here e x l same =
-      let o = here_of_all (λ (y : Counter). (1 ≤ y.max) × IsOwner t.tasks t.alarms t.resources p.blocks y.first.0 y.count) t.counters e x l same v.each_counter in
+      let o = here_of_all (λ (y : Counter). (1 ≤ y.max) × IsOwner (tables_of_parts p) y.first.0 y.count) t.counters e x l same v.each_counter in
       let small = here_of_all (λ (y : Counter). y.max < 2 ^ 32) t.counters e x l same fits.each_counter in
       let min = here_of_all (λ (y : Counter). y.min_cycle ≤ y.max) t.counters e x l same v.min_cycles in
       let all : IsDistinct meet (((ranges_t t.tasks ++ ranges_i t.isrs) ++ ranges_c t.counters) ++ []) = subst (IsDistinct meet) (sym (append-nil (owners t.tasks t.isrs t.counters))) v.apart in
@@ -173,7 +166,7 @@ module _ (i : Image) (fits : FitsFormat i) where
 
   alarm_here : (e : List Alarm) (x : Alarm) (l : List Alarm) → e ++ x ∷ l ≡ t.alarms → GoodAlarm n t.counters e x
   alarm_here e x l same =
-      let o = here_of_all (IsAlarmOf t.tasks t.alarms t.resources p.blocks t.counters) t.alarms e x l same v.each_alarm in
+      let o = here_of_all (IsAlarmOf (tables_of_parts p)) t.alarms e x l same v.each_alarm in
       let starts = here_of_all (λ (y : Alarm). y.autostart < 2 ^ length t.modes) t.alarms e x l same v.alarm_starts in
       let none = here_of_all (λ (y : Alarm). y.autostart ≡ 0 → (y.time ≡ 0) × (y.cycle ≡ 0)) t.alarms e x l same v.no_starts in
       let acts = here_of_all (λ (y : Alarm). FitsAction y.action) t.alarms e x l same fits.each_alarm in
@@ -183,7 +176,7 @@ module _ (i : Image) (fits : FitsFormat i) where
         fresh = here_fresh (λ (y : Alarm). y.name) t.alarms e x l same v.alarm_names;
         counter_fits = omega (arith, o.counter, v.few_counters);
         counter = lt-ltb _ _ o.counter;
-        acts = good_action n t x.action refl v.few_tasks o.action acts;
+        acts = good_action n p x.action refl v.few_tasks o.action acts;
         autostart_fits = byte_of_modes x.autostart starts;
         autostart = lt-ltb _ _ starts;
         time_fits = omega (arith, o.time, small);
@@ -215,7 +208,7 @@ module _ (i : Image) (fits : FitsFormat i) where
     modes = (refl, each_of GoodMode t.modes mode_here);
   }
 
-  good_block : (b : ℕ) → b < length p.blocks → GoodBlock t b (get_or p.blocks b no_block, get_or p.sites b None)
+  good_block : (b : ℕ) → b < length p.blocks → GoodBlock t (length p.blocks) b (get_or p.blocks b no_block, get_or p.sites b None)
   good_block b lt =
       let f = All-get_or FitsBlock p.blocks b no_block lt fits.each_block in
       record {
@@ -229,17 +222,17 @@ module _ (i : Image) (fits : FitsFormat i) where
   same_lengths : length p.blocks ≡ length p.sites
   same_lengths = sym i.valid.count
 
-  block_here : (e : List Entry) (y : Entry) (l : List Entry) → e ++ y ∷ l ≡ zip p.blocks p.sites → GoodBlock t (length e) y
+  block_here : (e : List Entry) (y : Entry) (l : List Entry) → e ++ y ∷ l ≡ zip p.blocks p.sites → GoodBlock t (length p.blocks) (length e) y
   block_here e y l same =
       let within : length e < length p.blocks = omega (arith, length-append e (y ∷ l), ap length same, length-zip p.blocks p.sites same_lengths) in
       let item : get_or (zip p.blocks p.sites) (length e) (no_block, None) ≡ y = ap (λ ys. get_or ys (length e) (no_block, None)) (sym same) ∙ get_or-append_seam e y l (no_block, None) in
-      subst (GoodBlock t (length e)) (sym (get_or-zip p.blocks p.sites (length e) no_block None same_lengths within) ∙ item) (good_block (length e) within)
+      subst (GoodBlock t (length p.blocks) (length e)) (sym (get_or-zip p.blocks p.sites (length e) no_block None same_lengths within) ∙ item) (good_block (length e) within)
 
   pub good_of_valid : GoodParts p
   good_of_valid = record {
     header = good_header;
     tables = good_tables;
-    blocks = (length-zip p.blocks p.sites same_lengths, each_of (λ (e : List Entry). GoodBlock t (length e)) (zip p.blocks p.sites) block_here);
+    blocks = (length-zip p.blocks p.sites same_lengths, each_of (λ (e : List Entry). GoodBlock t (length p.blocks) (length e)) (zip p.blocks p.sites) block_here);
     same = same_lengths;
   }
 

@@ -6,10 +6,11 @@ use Rattle.std.specs.List.{range_with_len}
 use Rattle.std.proofs.lemmas.Option.{slice_get-map, slice_get_within, get_or_from_slice_get}
 use Rattle.std.proofs.lemmas.List.FromFn.{get_or-range_with_len}
 use Rattle.osek_values.specs.Numbers.{task_no, alarm_no, res_no, mask}
-use Rattle.osek_standard.specs.declared.block.Lock.{Lock}
-use Rattle.osek_standard.specs.declared.block.Lock.TheVariants as lock
+use Rattle.osek_standard.specs.declared.call.Lock.{Lock}
+use Rattle.osek_standard.specs.declared.call.Lock.TheVariants as lock
 use Rattle.osek_standard.specs.declared.block.Kind.{Kind}
 use Rattle.osek_standard.specs.declared.block.Kind.TheVariants as kind
+use Rattle.image_model.specs.CallNames as call
 use Rattle.image_codec.specs.declared.fault.ImageRule.TheVariants.{I3, I5}
 use Rattle.image_codec.specs.declared.parts.Tables.{Tables}
 use Rattle.image_codec.specs.Spelling.{one, two, eight, kind_number, lock_number, operand_bytes}
@@ -90,35 +91,26 @@ lock_law = record {
 abbrev pub first_of : Kind → ℕ
 first_of (kind.Work n) = n
 first_of (kind.Choice o) = o.0
-first_of (kind.ActivateTask x) = x.0
-first_of (kind.ChainTask x) = x.0
-first_of (kind.GetResource r) = r.0
-first_of (kind.ReleaseResource r) = r.0
-first_of (kind.SetEvent x m) = x.0
-first_of (kind.ClearEvent m) = m.0
-first_of (kind.GetEvent x) = x.0
-first_of (kind.WaitEvent m) = m.0
-first_of (kind.SetRelAlarm a i c) = a.0
-first_of (kind.SetAbsAlarm a s c) = a.0
-first_of (kind.CancelAlarm a) = a.0
-first_of (kind.GetAlarm a) = a.0
-first_of (kind.GetTaskState x) = x.0
+first_of (kind.Call (call.Task k x)) = x.0
+first_of (kind.Call (call.Resource k r)) = r.0
+first_of (kind.Call (call.SetEvent x m)) = x.0
+first_of (kind.Call (call.Mask k m)) = m.0
+first_of (kind.Call (call.Arm k a i c)) = a.0
+first_of (kind.Call (call.Alarm k a)) = a.0
 first_of (kind.Expire a) = a.0
 first_of _ = 0
 
 abbrev pub second_of : Kind → ℕ
-second_of (kind.SetEvent x m) = m.0
-second_of (kind.SetRelAlarm a i c) = i
-second_of (kind.SetAbsAlarm a s c) = s
+second_of (kind.Call (call.SetEvent x m)) = m.0
+second_of (kind.Call (call.Arm k a i c)) = i
 second_of _ = 0
 
 abbrev pub third_of : Kind → ℕ
-third_of (kind.SetRelAlarm a i c) = c
-third_of (kind.SetAbsAlarm a s c) = c
+third_of (kind.Call (call.Arm k a i c)) = c
 third_of _ = 0
 
 abbrev lock_in : Kind → Lock
-lock_in (kind.LockCall l) = l
+lock_in (kind.Call (call.Lock l)) = l
 lock_in _ = lock.SuspendAll
 
 -- where choice 0 leads
@@ -164,25 +156,15 @@ module _ (tables : Tables) (b : ℕ) where
   GoodOperands (kind.Work n) = Tested is_some (λ k. k < 2 ^ 16) n
   GoodOperands (kind.Choice o) = ⊤
   GoodOperands kind.Loop = ⊤
-  GoodOperands (kind.ActivateTask x) = GoodNo tasks x.0
-  GoodOperands kind.TerminateTask = ⊤
-  GoodOperands (kind.ChainTask x) = GoodNo tasks x.0
-  GoodOperands kind.Schedule = ⊤
-  GoodOperands (kind.GetResource r) = GoodNo resources r.0
-  GoodOperands (kind.ReleaseResource r) = GoodNo resources r.0
-  GoodOperands (kind.SetEvent x m) = GoodNo tasks x.0 × GoodEvents m.0
-  GoodOperands (kind.ClearEvent m) = GoodEvents m.0
-  GoodOperands (kind.GetEvent x) = GoodNo tasks x.0
-  GoodOperands (kind.WaitEvent m) = GoodEvents m.0
-  GoodOperands (kind.SetRelAlarm a i c) = GoodNo alarms a.0 × ((i < 2 ^ 64) × (c < 2 ^ 64))
-  GoodOperands (kind.SetAbsAlarm a s c) = GoodNo alarms a.0 × ((s < 2 ^ 64) × (c < 2 ^ 64))
-  GoodOperands (kind.CancelAlarm a) = GoodNo alarms a.0
-  GoodOperands (kind.GetAlarm a) = GoodNo alarms a.0
-  GoodOperands kind.GetTaskId = ⊤
-  GoodOperands (kind.GetTaskState x) = GoodNo tasks x.0
-  GoodOperands kind.GetActiveApplicationMode = ⊤
-  GoodOperands kind.ShutdownOs = ⊤
-  GoodOperands (kind.LockCall l) = ⊤
+  GoodOperands (kind.Call (call.Task k x)) = GoodNo tasks x.0
+  GoodOperands (kind.Call (call.Plain k)) = ⊤
+  GoodOperands (kind.Call (call.Resource k r)) = GoodNo resources r.0
+  GoodOperands (kind.Call (call.SetEvent x m)) = GoodNo tasks x.0 × GoodEvents m.0
+  GoodOperands (kind.Call (call.Mask k m)) = GoodEvents m.0
+  GoodOperands (kind.Call (call.Arm k a i c)) = GoodNo alarms a.0 × ((i < 2 ^ 64) × (c < 2 ^ 64))
+  GoodOperands (kind.Call (call.Alarm k a)) = GoodNo alarms a.0
+  GoodOperands (kind.Call (call.Lock l)) = ⊤
+  GoodOperands (kind.Call call.ShutdownOs) = ⊤
   GoodOperands kind.TaskEnd = ⊤
   GoodOperands kind.IsrEnd = ⊤
   GoodOperands kind.CountUp = ⊤
@@ -217,11 +199,11 @@ module _ (tables : Tables) (b : ℕ) where
         (λ i k _ good. ap second_of good.1 ∙ two_back a i (third_of k)))
         (λ a k _ good. ap first_of good.1.1 ∙ one_back a (second_of k) (third_of k))
 
-  pub set_event_law : Spells (λ bytes. task_no_at tables b bytes >>= λ x. events_at x.1 >>= λ m. Ok (kind.SetEvent (task_no x.0) (mask m.0), m.1))
-      (λ k. one (first_of k) ++ (eight (second_of k) ++ [])) (λ k. GoodNo tasks (first_of k) × (GoodEvents (second_of k) × (k ≡ kind.SetEvent (task_no (first_of k)) (mask (second_of k)))))
+  pub set_event_law : Spells (λ bytes. task_no_at tables b bytes >>= λ x. events_at x.1 >>= λ m. Ok ((kind.Call (call.SetEvent (task_no x.0) (mask m.0))), m.1))
+      (λ k. one (first_of k) ++ (eight (second_of k) ++ [])) (λ k. GoodNo tasks (first_of k) × (GoodEvents (second_of k) × (k ≡ (kind.Call (call.SetEvent (task_no (first_of k)) (mask (second_of k)))))))
   set_event_law =
       and_then (task_no_at tables b) one (GoodNo tasks) first_of _ _ _ task_no_law (λ x _.
-      and_then events_at eight GoodEvents second_of (λ m rest. Ok (kind.SetEvent (task_no x) (mask m), rest)) (λ _. []) (λ m k. k ≡ kind.SetEvent (task_no x) (mask m)) events_law (λ m _. nothing_more (kind.SetEvent (task_no x) (mask m)))
+      and_then events_at eight GoodEvents second_of (λ m rest. Ok ((kind.Call (call.SetEvent (task_no x) (mask m))), rest)) (λ _. []) (λ m k. k ≡ (kind.Call (call.SetEvent (task_no x) (mask m)))) events_law (λ m _. nothing_more (kind.Call (call.SetEvent (task_no x) (mask m))))
       (λ m k _ is. ap second_of is))
       (λ x k _ good. ap first_of good.1)
 
@@ -256,28 +238,17 @@ module _ (tables : Tables) (b : ℕ) where
   operands_take (kind.Work w) = took_one (tested_at w16 is_some I3) two (Tested is_some (λ n. n < 2 ^ 16)) (tested_number_law w16 (2 ^ 16) wide16 is_some I3) (λ n. kind.Work n) first_of (λ n. refl) (kind.Work w) (λ n. refl) (λ n g. record { number = refl; other = refl; operands = g })
   operands_take (kind.Choice o) = took_none (kind.Choice o) refl tt
   operands_take kind.Loop = took_none kind.Loop refl tt
-  operands_take (kind.ActivateTask x) = took_one (task_no_at tables b) one (GoodNo tasks) task_no_law (λ n. kind.ActivateTask (task_no n)) first_of (λ n. refl) (kind.ActivateTask x) (λ n. refl) (λ n g. record { number = refl; other = refl; operands = g })
-  operands_take kind.TerminateTask = took_none kind.TerminateTask refl tt
-  operands_take (kind.ChainTask x) = took_one (task_no_at tables b) one (GoodNo tasks) task_no_law (λ n. kind.ChainTask (task_no n)) first_of (λ n. refl) (kind.ChainTask x) (λ n. refl) (λ n g. record { number = refl; other = refl; operands = g })
-  operands_take kind.Schedule = took_none kind.Schedule refl tt
-  operands_take (kind.GetResource r) = took_one (resource_no_at tables b) one (GoodNo resources) resource_no_law (λ n. kind.GetResource (res_no n)) first_of (λ n. refl) (kind.GetResource r) (λ n. refl) (λ n g. record { number = refl; other = refl; operands = g })
-  operands_take (kind.ReleaseResource r) = took_one (resource_no_at tables b) one (GoodNo resources) resource_no_law (λ n. kind.ReleaseResource (res_no n)) first_of (λ n. refl) (kind.ReleaseResource r) (λ n. refl) (λ n g. record { number = refl; other = refl; operands = g })
-  operands_take (kind.SetEvent x m) = taken _ _ _ set_event_law (kind.SetEvent x m)
-      (λ k g. (ap operand_bytes (sym g.1.1), subst (GoodFilled (kind.SetEvent x m)) (sym g.1.1) (record { number = refl; other = refl; operands = (g.0, g.1.0) })))
-  operands_take (kind.ClearEvent m) = took_one events_at eight GoodEvents events_law (λ n. kind.ClearEvent (mask n)) first_of (λ n. refl) (kind.ClearEvent m) (λ n. refl) (λ n g. record { number = refl; other = refl; operands = g })
-  operands_take (kind.GetEvent x) = took_one (task_no_at tables b) one (GoodNo tasks) task_no_law (λ n. kind.GetEvent (task_no n)) first_of (λ n. refl) (kind.GetEvent x) (λ n. refl) (λ n g. record { number = refl; other = refl; operands = g })
-  operands_take (kind.WaitEvent m) = took_one events_at eight GoodEvents events_law (λ n. kind.WaitEvent (mask n)) first_of (λ n. refl) (kind.WaitEvent m) (λ n. refl) (λ n g. record { number = refl; other = refl; operands = g })
-  operands_take (kind.SetRelAlarm a i c) = taken _ _ _ (ticks_law (λ n j d. kind.SetRelAlarm (alarm_no n) j d) (λ n j d. refl) (λ n j d. refl) (λ n j d. refl)) (kind.SetRelAlarm a i c)
-      (λ k g. (ap operand_bytes (sym g.1.1.1), subst (GoodFilled (kind.SetRelAlarm a i c)) (sym g.1.1.1) (record { number = refl; other = refl; operands = (g.0, (g.1.0, g.1.1.0)) })))
-  operands_take (kind.SetAbsAlarm a i c) = taken _ _ _ (ticks_law (λ n j d. kind.SetAbsAlarm (alarm_no n) j d) (λ n j d. refl) (λ n j d. refl) (λ n j d. refl)) (kind.SetAbsAlarm a i c)
-      (λ k g. (ap operand_bytes (sym g.1.1.1), subst (GoodFilled (kind.SetAbsAlarm a i c)) (sym g.1.1.1) (record { number = refl; other = refl; operands = (g.0, (g.1.0, g.1.1.0)) })))
-  operands_take (kind.CancelAlarm a) = took_one (alarm_no_at tables b) one (GoodNo alarms) alarm_no_law (λ n. kind.CancelAlarm (alarm_no n)) first_of (λ n. refl) (kind.CancelAlarm a) (λ n. refl) (λ n g. record { number = refl; other = refl; operands = g })
-  operands_take (kind.GetAlarm a) = took_one (alarm_no_at tables b) one (GoodNo alarms) alarm_no_law (λ n. kind.GetAlarm (alarm_no n)) first_of (λ n. refl) (kind.GetAlarm a) (λ n. refl) (λ n g. record { number = refl; other = refl; operands = g })
-  operands_take kind.GetTaskId = took_none kind.GetTaskId refl tt
-  operands_take (kind.GetTaskState x) = took_one (task_no_at tables b) one (GoodNo tasks) task_no_law (λ n. kind.GetTaskState (task_no n)) first_of (λ n. refl) (kind.GetTaskState x) (λ n. refl) (λ n g. record { number = refl; other = refl; operands = g })
-  operands_take kind.GetActiveApplicationMode = took_none kind.GetActiveApplicationMode refl tt
-  operands_take kind.ShutdownOs = took_none kind.ShutdownOs refl tt
-  operands_take (kind.LockCall l) = took_one lock_at (λ y. one (lock_number y)) (λ _. Unit {0}) lock_law (λ y. kind.LockCall y) lock_in (λ y. refl) (kind.LockCall l) (λ y. refl) (λ y g. record { number = refl; other = refl; operands = tt })
+  operands_take (kind.Call (call.Task k x)) = took_one (task_no_at tables b) one (GoodNo tasks) task_no_law (λ n. (kind.Call (call.Task k (task_no n)))) first_of (λ n. refl) (kind.Call (call.Task k x)) (λ n. refl) (λ n g. record { number = refl; other = refl; operands = g })
+  operands_take (kind.Call (call.Plain k)) = took_none (kind.Call (call.Plain k)) refl tt
+  operands_take (kind.Call (call.Resource k r)) = took_one (resource_no_at tables b) one (GoodNo resources) resource_no_law (λ n. (kind.Call (call.Resource k (res_no n)))) first_of (λ n. refl) (kind.Call (call.Resource k r)) (λ n. refl) (λ n g. record { number = refl; other = refl; operands = g })
+  operands_take (kind.Call (call.SetEvent x m)) = taken _ _ _ set_event_law (kind.Call (call.SetEvent x m))
+      (λ k g. (ap operand_bytes (sym g.1.1), subst (GoodFilled (kind.Call (call.SetEvent x m))) (sym g.1.1) (record { number = refl; other = refl; operands = (g.0, g.1.0) })))
+  operands_take (kind.Call (call.Mask k m)) = took_one events_at eight GoodEvents events_law (λ n. (kind.Call (call.Mask k (mask n)))) first_of (λ n. refl) (kind.Call (call.Mask k m)) (λ n. refl) (λ n g. record { number = refl; other = refl; operands = g })
+  operands_take (kind.Call (call.Arm k a i c)) = taken _ _ _ (ticks_law (λ n j d. (kind.Call (call.Arm k (alarm_no n) j d))) (λ n j d. refl) (λ n j d. refl) (λ n j d. refl)) (kind.Call (call.Arm k a i c))
+      (λ z g. (ap operand_bytes (sym g.1.1.1), subst (GoodFilled (kind.Call (call.Arm k a i c))) (sym g.1.1.1) (record { number = refl; other = refl; operands = (g.0, (g.1.0, g.1.1.0)) })))
+  operands_take (kind.Call (call.Alarm k a)) = took_one (alarm_no_at tables b) one (GoodNo alarms) alarm_no_law (λ n. (kind.Call (call.Alarm k (alarm_no n)))) first_of (λ n. refl) (kind.Call (call.Alarm k a)) (λ n. refl) (λ n g. record { number = refl; other = refl; operands = g })
+  operands_take (kind.Call (call.Lock l)) = took_one lock_at (λ y. one (lock_number y)) (λ _. Unit {0}) lock_law (λ y. (kind.Call (call.Lock y))) lock_in (λ y. refl) (kind.Call (call.Lock l)) (λ y. refl) (λ y g. record { number = refl; other = refl; operands = tt })
+  operands_take (kind.Call call.ShutdownOs) = took_none (kind.Call call.ShutdownOs) refl tt
   operands_take kind.TaskEnd = took_none kind.TaskEnd refl tt
   operands_take kind.IsrEnd = took_none kind.IsrEnd refl tt
   operands_take kind.CountUp = took_none kind.CountUp refl tt

@@ -1,3 +1,4 @@
+pub mod BlockFaults
 pub mod BlockLaws
 pub mod BlockLoop
 pub mod BlocksOfGood
@@ -5,9 +6,9 @@ pub mod BlocksOfValid
 pub mod DecodeLaws
 pub mod Due
 pub mod EachLaws
+pub mod EntryFaults
+pub mod FieldFaults
 pub mod FieldLaws
-pub mod GeneralRuns
-pub mod GeneralSites
 pub mod GoodOfValid
 pub mod KindLaws
 pub mod Loop
@@ -19,3 +20,4 @@ pub mod SomeImage
 pub mod Spells
 pub mod TableLaws
 pub mod ValidOfGood
+pub mod WholeTables

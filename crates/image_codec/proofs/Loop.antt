@@ -1,7 +1,8 @@
 -- Reading one entry after the other, as a loop does.
 use Rattle.std.proofs.Common.{◌≡◌, ℕ, zero, suc, ◌-◌, ◌+◌, ◌≤◌, ◌<◌, List, [], ◌∷◌, ◌++◌, Ok, Err, length, refl, sym, ap, ◌∙◌, arith}
-use Rattle.image_codec.specs.declared.fault.ReadError.{ReadError}
-use Rattle.image_codec.specs.declared.fault.ReadError.TheVariants as errors
+use Rattle.osek_values.specs.declared.refused.Refused.{Refused}
+use Rattle.image_codec.specs.declared.fault.Fault.{Fault}
+use Rattle.osek_values.specs.declared.refused.Refused.TheVariants as errors
 use Rattle.image_codec.specs.Reading.{Read, Fails, entries_at}
 use Rattle.std.proofs.lemmas.List.{length_push}
 use Rattle.image_codec.proofs.Spells.{bind_ok, ok_is}
@@ -15,7 +16,7 @@ module _ {X : Type 0} (one : List X → List ℕ → Read X) (earlier : List X) 
       let step : entries_at one earlier (count - i) bytes ≡ entries_at one (earlier ++ x ∷ []) (count - (i + 1)) after = rw (k, read) refl in
       sym step ∙ so_far
 
-  pub ends : (e : ReadError) (count i : ℕ) (bytes : List ℕ) → i < count → Fails e (one earlier bytes)
+  pub ends : (e : Refused Fault) (count i : ℕ) (bytes : List ℕ) → i < count → Fails e (one earlier bytes)
       → entries_at one earlier (count - i) bytes ≡ total → Fails e total
   unfolding entries_at
   ends errors.Memory count i bytes lt failed so_far = tt

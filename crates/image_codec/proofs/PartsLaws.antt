@@ -9,11 +9,9 @@ use Rattle.osek_values.specs.declared.hooks.HookSet.{HookSet}
 use Rattle.osek_values.specs.Hooks.{hook_set}
 use Rattle.osek_standard.specs.declared.block.Block.{Block}
 use Rattle.image_codec.specs.declared.fault.ImageRule.TheVariants.{I2, I3, I6}
-use Rattle.image_codec.specs.declared.site.Site.{Site}
-use Rattle.image_codec.specs.declared.parts.Header.{Header}
-use Rattle.image_codec.specs.declared.parts.Tables.{Tables}
-use Rattle.image_codec.specs.declared.parts.Parts.{Parts}
-use Rattle.image_codec.specs.declared.image.Image.{Image}
+use Rattle.image_model.specs.declared.site.Site.{Site}
+use Rattle.image_codec.specs.declared.parts.{Header.{Header}, Tables.{Tables}, Parts.{Parts}}
+use Rattle.image_model.specs.declared.image.Image.{Image}
 use Rattle.image_codec.specs.Spelling.{one, two, magic, block_bytes, spelling, task_bytes, isr_bytes, counter_bytes, alarm_bytes, resource_bytes, name_bytes}
 use Rattle.image_codec.specs.Reading.{AreBytes, Read, ◌>>=◌, kept, byte_below_at, tested_byte_at, tested_at, exactly_at}
 use Rattle.image_codec.specs.TableReading.{header_at, tables_at}
@@ -103,10 +101,10 @@ header_is : (h g : HookSet) (a b c d e f i j k l m n o q : ℕ) → h ≡ g → 
 header_is h g a b c d e f i j k l m n o q e0 e1 e2 e3 e4 e5 e6 e7 = cc
 
 abbrev pub GoodBlocks : Tables → ℕ → List Entry → Type 0
-GoodBlocks t count = GoodEntries (λ (earlier : List Entry). GoodBlock t (length earlier)) count
+GoodBlocks t count = GoodEntries (λ (earlier : List Entry). GoodBlock t count (length earlier)) count
 
 blocks_law : (t : Tables) (count : ℕ) → Spells (blocks_at t count) (flat_map block_bytes) (GoodBlocks t count)
-blocks_law t count = entries_law (read_block t) block_bytes (λ (earlier : List Entry). GoodBlock t (length earlier)) (λ earlier. block_law t (length earlier)) count
+blocks_law t count = entries_law (read_block t count) block_bytes (λ (earlier : List Entry). GoodBlock t count (length earlier)) (λ earlier. block_law t count (length earlier)) count
 
 pub record GoodParts (p : Parts) : Type 0 where
   pub header : GoodHeader (header_of p)

@@ -1,7 +1,7 @@
 -- Bytes spell an image, or have a first fault.
 use Rattle.std.proofs.Common.{◌≡◌, ℕ, ◌-◌, ◌⊎◌, inl, inr, List, length, refl, Ok, Err}
 use Rattle.image_codec.specs.declared.fault.ImageFault.{ImageFault}
-use Rattle.image_codec.specs.declared.image.Image.{Image}
+use Rattle.image_model.specs.declared.image.Image.{Image}
 use Rattle.image_codec.specs.declared.parts.Parts.{Parts}
 use Rattle.image_codec.specs.Fits.{FitsFormat}
 use Rattle.image_codec.specs.Laws.{SpellOrFail, SpellingIsRead}

@@ -6,9 +6,7 @@ use Rattle.std.specs.List.{flat_map}
 use Rattle.std.proofs.lemmas.Bool.{cases_lt, ltb-false, le-ltb}
 use Rattle.std.proofs.lemmas.List.{append-nil, take_at, drop_at, take-append-drop, length-append, length-take, get_or-drop, get_or-take, get_or_past}
 use Rattle.std.proofs.lemmas.Nat.{be_bytes_2, be_bytes_4, be_bytes_8, from_be_bytes-to_be_bytes_2, from_be_bytes-to_be_bytes_4, from_be_bytes-to_be_bytes_8}
-use Rattle.image_codec.specs.declared.fault.ImageRule.{ImageRule}
-use Rattle.image_codec.specs.declared.fault.ImageRule.TheVariants.{I1}
-use Rattle.image_codec.specs.declared.fault.Fault.{Fault}
+use Rattle.image_codec.specs.declared.fault.{ImageRule.{ImageRule}, ImageRule.TheVariants.{I1}, Fault.{Fault}}
 use Rattle.image_codec.specs.Spelling.{one}
 use Rattle.image_codec.specs.Reading.{AreBytes, Read, ◌>>=◌, fault_at, kept, byte_at, number_at, tested_byte_at, tested_at, entries_at}
 

@@ -6,19 +6,11 @@ use Rattle.std.specs.List.{list_any, flat_map}
 use Rattle.std.proofs.lemmas.Bool.{ltb-true, lt-ltb, eqb-true}
 use Rattle.std.proofs.lemmas.List.{append-nil}
 use Rattle.osek_values.specs.Numbers.{task_no, counter_no, mask}
-use Rattle.osek_standard.specs.declared.objects.Task.{Task}
-use Rattle.osek_standard.specs.declared.objects.Isr.{Isr}
-use Rattle.osek_standard.specs.declared.objects.Counter.{Counter}
-use Rattle.osek_standard.specs.declared.objects.Alarm.{Alarm}
-use Rattle.osek_standard.specs.declared.objects.Resource.{Resource}
-use Rattle.osek_standard.specs.declared.objects.Action.{Action}
+use Rattle.osek_standard.specs.declared.objects.{Task.{Task}, Isr.{Isr}, Counter.{Counter}, Alarm.{Alarm}, Resource.{Resource}, Action.{Action}, Schedule.{Schedule}}
 use Rattle.osek_standard.specs.declared.objects.Action.TheVariants as action
-use Rattle.osek_standard.specs.declared.objects.Schedule.{Schedule}
 use Rattle.osek_standard.specs.Validity.{no_counter, owners}
 use Rattle.image_codec.specs.declared.fault.ImageRule.TheVariants.{I3, I5}
-use Rattle.image_codec.specs.declared.parts.Header.{Header}
-use Rattle.image_codec.specs.declared.parts.Range.{Range}
-use Rattle.image_codec.specs.declared.parts.Tables.{Tables}
+use Rattle.image_codec.specs.declared.parts.{Header.{Header}, Range.{Range}, Tables.{Tables}}
 use Rattle.image_codec.specs.Spelling.{one, two, four, eight, name_bytes, range_bytes, schedule_number, task_bytes, isr_bytes, counter_bytes, action_bytes, alarm_bytes, resource_bytes}
 use Rattle.image_codec.specs.Reading.{number_at, tested_at, byte_below_at, name_at, modes_at, range_at, entries_at}
 use Rattle.image_codec.specs.TableReading.{schedule_at, task_at, isr_at, counter_at, is_action_mask, action_of, action_at, is_start_time, is_start_cycle, alarm_at, resource_at, tables_at}

@@ -4,27 +4,19 @@ use Rattle.std.specs.Prelude.{slice_index_or, nat_eq}
 use Rattle.std.specs.List.{list_any, zip, IsDistinct}
 use Rattle.std.proofs.lemmas.Bool.{and_parts, eqb-true, eq-eqb, leb-true, ltb-true, not-true, or_left}
 use Rattle.std.proofs.lemmas.List.{append-nil}
-use Rattle.osek_standard.specs.declared.objects.Task.{Task}
-use Rattle.osek_standard.specs.declared.objects.Isr.{Isr}
-use Rattle.osek_standard.specs.declared.objects.Counter.{Counter}
-use Rattle.osek_standard.specs.declared.objects.Alarm.{Alarm}
-use Rattle.osek_standard.specs.declared.objects.Resource.{Resource}
-use Rattle.osek_standard.specs.declared.objects.Action.{Action}
+use Rattle.osek_standard.specs.declared.objects.{Task.{Task}, Isr.{Isr}, Counter.{Counter}, Alarm.{Alarm}, Resource.{Resource}, Action.{Action}}
 use Rattle.osek_standard.specs.declared.objects.Action.TheVariants as action
-use Rattle.osek_standard.specs.declared.block.Block.{Block}
-use Rattle.osek_standard.specs.declared.block.Kind.{Kind}
+use Rattle.osek_standard.specs.declared.block.{Block.{Block}, Kind.{Kind}}
 use Rattle.osek_standard.specs.declared.block.Kind.TheVariants as kind
+use Rattle.image_model.specs.CallNames as call
 use Rattle.osek_standard.specs.declared.app.App.{App}
 use Rattle.osek_standard.specs.Validity.{no_block, no_counter, AreNames, meet, owners, is_cycle_of, IsAction, IsAlarmOf, IsValid}
 use Rattle.osek_standard.specs.Versions.{FitsVersion1}
 use Rattle.osek_standard.specs.Apps.{is_site, is_site_in}
-use Rattle.image_codec.specs.declared.site.Form.{Form}
-use Rattle.image_codec.specs.declared.site.Form.TheVariants as form
-use Rattle.image_codec.specs.declared.site.Site.{Site}
-use Rattle.image_codec.specs.declared.parts.Header.{Header}
-use Rattle.image_codec.specs.declared.parts.Tables.{Tables}
-use Rattle.image_codec.specs.declared.parts.Parts.{Parts}
-use Rattle.image_codec.specs.Sites.{IsForm, IsSiteAt, AreSites}
+use Rattle.image_model.specs.declared.site.{Form.{Form}, Site.{Site}}
+use Rattle.image_model.specs.declared.site.Form.TheVariants as form
+use Rattle.image_codec.specs.declared.parts.{Header.{Header}, Tables.{Tables}, Parts.{Parts}}
+use Rattle.image_model.specs.Sites.{IsForm, IsSiteAt, AreSites}
 use Rattle.image_codec.specs.Spelling.{form_number}
 use Rattle.image_codec.specs.Fits.{FitsTask, FitsAction, FitsKind, FitsParts}
 use Rattle.image_codec.specs.BlockReading.{form_of}
@@ -35,6 +27,7 @@ use Rattle.image_codec.proofs.BlockLaws.{unwayed, GoodBlock, GoodSite, first_cho
 use Rattle.image_codec.proofs.PartsLaws.{header_of, GoodParts}
 use Rattle.image_codec.proofs.EachLaws.{each_all, each_distinct, each_named, distinct_nil}
 use Rattle.image_codec.proofs.OwnerTests.{any_of_map, map_same}
+use Rattle.image_codec.proofs.WholeTables.{tables_of_parts}
 use Rattle.image_codec.proofs.Places.{each_at, get_or-zip}
 use Rattle.image_codec.proofs.BlockLoop.{length-zip}
 use Rattle.image_codec.proofs.BlocksOfGood.{block_owned, task_owner, task_code, isr_owner, isr_code, counter_owner, tick_code}
@@ -85,16 +78,14 @@ start_none false test n e h = absurd cc
 
 fits_kind : (t : Tables) (b : ℕ) (k : Kind) → GoodOperands t b (unwayed k) → FitsKind k
 fits_kind t b (kind.Work n) g = g.0
-fits_kind t b (kind.SetEvent x m) g = g.1.0
-fits_kind t b (kind.ClearEvent m) g = g.0
-fits_kind t b (kind.WaitEvent m) g = g.0
-fits_kind t b (kind.SetRelAlarm a i c) g = (g.1.0, g.1.1)
-fits_kind t b (kind.SetAbsAlarm a s c) g = (g.1.0, g.1.1)
+fits_kind t b (kind.Call (call.SetEvent x m)) g = g.1.0
+fits_kind t b (kind.Call (call.Mask k m)) g = g.0
+fits_kind t b (kind.Call (call.Arm k a i c)) g = (g.1.0, g.1.1)
 fits_kind t b k g = tt
 
-action_named : (n : Header) (t : Tables) (x : Action) → n.tasks ≡ length t.tasks → GoodAction n x → IsAction t.tasks t.alarms t.resources x
-action_named n t (action.ActivateTask x) e g = let below = ltb-true _ _ g.task in omega (arith, below, e)
-action_named n t (action.SetEvent x m) e g = let below = ltb-true _ _ g.task in (omega (arith, below, e), ltb-true _ _ g.events)
+action_named : (n : Header) (p : Parts) (x : Action) → n.tasks ≡ length p.tables.tasks → GoodAction n x → IsAction (tables_of_parts p) x
+action_named n p (action.ActivateTask x) e g = let below = ltb-true _ _ g.task in omega (arith, below, e)
+action_named n p (action.SetEvent x m) e g = let below = ltb-true _ _ g.task in (omega (arith, below, e), ltb-true _ _ g.events)
 
 action_fits : (n : Header) (x : Action) → GoodAction n x → FitsAction x
 action_fits n (action.ActivateTask x) g = tt
@@ -122,10 +113,10 @@ module _ (p : Parts) (good : GoodParts p) where
   abbrev blocks : List Block
   blocks = p.blocks
 
-  block_fact : (b : ℕ) (d : Block) (e : Option Site) → b < length blocks → GoodBlock t b (get_or blocks b d, get_or p.sites b e)
+  block_fact : (b : ℕ) (d : Block) (e : Option Site) → b < length blocks → GoodBlock t (length blocks) b (get_or blocks b d, get_or p.sites b e)
   block_fact b d e lt =
-      subst (GoodBlock t b) (get_or-zip blocks p.sites b d e good.same lt)
-      (each_at (GoodBlock t) (zip blocks p.sites) good.blocks.1 b (d, e) (omega (arith, lt, length-zip blocks p.sites good.same)))
+      subst (GoodBlock t (length blocks) b) (get_or-zip blocks p.sites b d e good.same lt)
+      (each_at (GoodBlock t (length blocks)) (zip blocks p.sites) good.blocks.1 b (d, e) (omega (arith, lt, length-zip blocks p.sites good.same)))
 
   tasks_inside : All (λ (x : Task). GoodCode (length blocks) x.first.0 x.count) t.tasks
   tasks_inside = each_all (GoodTask n) (λ (x : Task). GoodCode (length blocks) x.first.0 x.count) (λ e x g. g.code.inside) t.tasks good.tables.tasks.1
@@ -161,15 +152,15 @@ module _ (p : Parts) (good : GoodParts p) where
   apart_c = each_distinct (GoodCounter n t.tasks t.isrs) meet (λ (x : Counter). (x.first.0, x.count)) (ranges_t ++ ranges_i)
       (λ e x g. not-true _ g.code.apart) t.counters apart_i good.tables.counters.1
 
-  alarm_is : (x : Alarm) (e : List Alarm) → GoodAlarm n t.counters e x → IsAlarmOf t.tasks t.alarms t.resources blocks t.counters x
+  alarm_is : (x : Alarm) (e : List Alarm) → GoodAlarm n t.counters e x → IsAlarmOf (tables_of_parts p) x
   alarm_is x e g = record {
     counter = ltb-true _ _ g.counter;
-    action = action_named n t x.action refl g.acts;
+    action = action_named n p x.action refl g.acts;
     time = start_time_within (slice_index_or t.counters x.counter.0 no_counter) x.autostart x.time (eqb x.autostart 0) g.time;
     cycle = start_cycle_fits (slice_index_or t.counters x.counter.0 no_counter) x.cycle (eqb x.autostart 0) g.cycle;
   }
 
-  pub valid_parts : IsValid t.tasks t.alarms t.resources blocks t.isrs t.counters p.hooks t.modes
+  pub valid_parts : IsValid (tables_of_parts p)
   valid_parts = record {
     known_hooks = ltb-true _ _ good.header.hooks.1;
     few_tasks = few_below 16 _ good.header.tasks.1;
@@ -187,25 +178,25 @@ module _ (p : Parts) (good : GoodParts p) where
     resource_names = each_named GoodResource (λ (x : Resource). x.name) (λ e x g. g.fresh) t.resources good.tables.resources.1;
     mode_names = subst AreNames (map_same t.modes)
         (each_named GoodMode (λ (x : List ℕ). x) (λ e x g. subst (λ ms. is_fresh ms x ≡ true) (sym (map_same e)) g) t.modes good.tables.modes.1);
-    each_task = λ k d lt. let code = tasks_inside k d lt in task_owner t blocks p.sites good.same block_fact k d lt (some_of _ _ _ code) (inside_of _ _ _ code);
-    task_code = λ k d lt. let code = tasks_inside k d lt in task_code t blocks p.sites good.same block_fact k d lt (inside_of _ _ _ code);
+    each_task = λ k d lt. let code = tasks_inside k d lt in task_owner p good.same block_fact k d lt (some_of _ _ _ code) (inside_of _ _ _ code);
+    task_code = λ k d lt. let code = tasks_inside k d lt in task_code p good.same block_fact k d lt (inside_of _ _ _ code);
     task_starts = each_all (GoodTask n) (λ (x : Task). x.autostart < 2 ^ length t.modes) (λ e x g. ltb-true _ _ g.autostart) t.tasks good.tables.tasks.1;
-    each_isr = λ k d lt. let code = isrs_inside k d lt in isr_owner t blocks p.sites good.same block_fact k d lt (some_of _ _ _ code) (inside_of _ _ _ code);
-    isr_code = λ k d lt. let code = isrs_inside k d lt in isr_code t blocks p.sites good.same block_fact k d lt (inside_of _ _ _ code);
+    each_isr = λ k d lt. let code = isrs_inside k d lt in isr_owner p good.same block_fact k d lt (some_of _ _ _ code) (inside_of _ _ _ code);
+    isr_code = λ k d lt. let code = isrs_inside k d lt in isr_code p good.same block_fact k d lt (inside_of _ _ _ code);
     each_counter = λ k d lt.
         let code = counters_inside k d lt in (
           each_all (GoodCounter n t.tasks t.isrs) (λ (x : Counter). 1 ≤ x.max) (λ e x g. ltb-true _ _ g.max_some) t.counters good.tables.counters.1 k d lt,
-          counter_owner t blocks p.sites good.same block_fact k d lt (some_of _ _ _ code) (inside_of _ _ _ code),
+          counter_owner p good.same block_fact k d lt (some_of _ _ _ code) (inside_of _ _ _ code),
         );
     min_cycles = each_all (GoodCounter n t.tasks t.isrs) (λ (x : Counter). x.min_cycle ≤ x.max) (λ e x g. leb-true _ _ g.min_within) t.counters good.tables.counters.1;
-    tick_code = λ c lt. let code = counters_inside c no_counter lt in tick_code t blocks p.sites good.same block_fact c no_counter lt (some_of _ _ _ code) (inside_of _ _ _ code);
-    each_alarm = each_all (GoodAlarm n t.counters) (IsAlarmOf t.tasks t.alarms t.resources blocks t.counters) (λ e x g. alarm_is x e g) t.alarms good.tables.alarms.1;
+    tick_code = λ c lt. let code = counters_inside c no_counter lt in tick_code p good.same block_fact c no_counter lt (some_of _ _ _ code) (inside_of _ _ _ code);
+    each_alarm = each_all (GoodAlarm n t.counters) (IsAlarmOf (tables_of_parts p)) (λ e x g. alarm_is x e g) t.alarms good.tables.alarms.1;
     alarm_starts = each_all (GoodAlarm n t.counters) (λ (x : Alarm). x.autostart < 2 ^ length t.modes) (λ e x g. ltb-true _ _ g.autostart) t.alarms good.tables.alarms.1;
     no_starts = each_all (GoodAlarm n t.counters) (λ (x : Alarm). x.autostart ≡ 0 → (x.time ≡ 0) × (x.cycle ≡ 0))
         (λ e x g none. (start_none (eqb x.autostart 0) _ x.time (eq-eqb x.autostart 0 none) g.time, start_none (eqb x.autostart 0) _ x.cycle (eq-eqb x.autostart 0 none) g.cycle)) t.alarms good.tables.alarms.1;
     ceilings = each_all GoodResource (λ (x : Resource). x.ceiling ≤ 131071) (λ e x g. leb-true _ _ g.ceiling) t.resources good.tables.resources.1;
     apart = apart_c;
-    owned = block_owned t blocks p.sites good.same block_fact;
+    owned = block_owned p good.same block_fact;
   }
 
   pub version_1_parts : FitsVersion1 t.tasks

@@ -1,47 +1,22 @@
 -- Reading the blocks of an image, and its end.
-use Rattle.std.specs.Prelude.{⊤, ℕ, ◌+◌, ◌-◌, ◌≤◌, Bool, true, false, ◌&&◌, nat_lt, nat_le, ◌==◌, List, [], ◌∷◌, length, map, slice_get, slice_index_or, Option, Some, None, Ok, Err, if◌then◌else◌}
+use Rattle.std.specs.Prelude.{ℕ, ◌+◌, ◌-◌, ◌≤◌, Bool, true, false, ◌&&◌, nat_lt, nat_le, ◌==◌, List, [], ◌∷◌, length, map, slice_get, slice_index_or, Option, Some, None, Ok, Err, if◌then◌else◌}
 use Rattle.std.specs.Int.{w16, w32, w64}
 use Rattle.std.specs.List.{list_any, list_all, enumerate_from}
 use Rattle.osek_values.specs.Numbers.{task_no, alarm_no, res_no, block_no, mask}
-use Rattle.osek_standard.specs.declared.objects.Task.{Task}
-use Rattle.osek_standard.specs.declared.objects.Isr.{Isr}
-use Rattle.osek_standard.specs.declared.objects.Counter.{Counter}
-use Rattle.osek_standard.specs.declared.objects.Alarm.{Alarm}
-use Rattle.osek_standard.specs.declared.block.Block.{Block}
-use Rattle.osek_standard.specs.declared.block.Lock.{Lock}
-use Rattle.osek_standard.specs.declared.block.Lock.TheVariants as lock
-use Rattle.osek_standard.specs.declared.block.Kind.{Kind}
+use Rattle.osek_standard.specs.declared.objects.{Task.{Task}, Isr.{Isr}, Counter.{Counter}, Alarm.{Alarm}}
+use Rattle.osek_standard.specs.declared.block.{Block.{Block}, Kind.{Kind}}
+use Rattle.osek_standard.specs.declared.call.Lock.{Lock}
+use Rattle.osek_standard.specs.declared.call.Lock.TheVariants as lock
 use Rattle.osek_standard.specs.declared.block.Kind.TheVariants as kind
+use Rattle.image_model.specs.CallNames as call
 use Rattle.osek_standard.specs.Validity.{owners, is_within, task_may, isr_may, due_of}
 use Rattle.image_codec.specs.declared.fault.ImageRule.TheVariants.{I3, I5, I6}
-use Rattle.image_codec.specs.declared.site.Form.{Form}
-use Rattle.image_codec.specs.declared.site.Form.TheVariants as form
-use Rattle.image_codec.specs.declared.site.Site.{Site}
-use Rattle.image_codec.specs.declared.parts.Tables.{Tables}
-use Rattle.image_codec.specs.declared.parts.Parts.{Parts}
+use Rattle.image_model.specs.declared.site.{Form.{Form}, Site.{Site}}
+use Rattle.image_model.specs.declared.site.Form.TheVariants as form
+use Rattle.image_codec.specs.declared.parts.{Tables.{Tables}, Parts.{Parts}}
 use Rattle.image_codec.specs.Reading.{Read, ◌>>=◌, fault_at, kept, byte_at, number_at, tested_at, byte_below_at, flag_at, entries_at}
 use Rattle.osek_standard.specs.Apps.{is_site_in}
 use Rattle.image_codec.specs.TableReading.{header_at, tables_at}
-
--- a call for an alarm, or its expiry
-abbrev pub IsForAlarm : Kind → Type 0
-IsForAlarm (kind.SetRelAlarm _ _ _) = ⊤
-IsForAlarm (kind.SetAbsAlarm _ _ _) = ⊤
-IsForAlarm (kind.CancelAlarm _) = ⊤
-IsForAlarm (kind.GetAlarm _) = ⊤
-IsForAlarm (kind.Expire _) = ⊤
-IsForAlarm k = ⊥
-
--- a call for a task or for events
-abbrev pub IsForTask : Kind → Type 0
-IsForTask (kind.ActivateTask _) = ⊤
-IsForTask (kind.ChainTask _) = ⊤
-IsForTask (kind.GetTaskState _) = ⊤
-IsForTask (kind.SetEvent _ _) = ⊤
-IsForTask (kind.GetEvent _) = ⊤
-IsForTask (kind.ClearEvent _) = ⊤
-IsForTask (kind.WaitEvent _) = ⊤
-IsForTask k = ⊥
 
 -- the numbers of the entries fit a byte
 pub record AreSmall (t : Tables) : Type 0 where
@@ -52,12 +27,12 @@ pub record AreSmall (t : Tables) : Type 0 where
 -- each kind at the place of its number, its operands still blank
 abbrev pub blank_kinds : List Kind
 blank_kinds =
-    kind.Work 0 ∷ kind.Choice (block_no 0) ∷ kind.Loop ∷ kind.ActivateTask (task_no 0) ∷ kind.TerminateTask
-    ∷ kind.ChainTask (task_no 0) ∷ kind.Schedule ∷ kind.GetResource (res_no 0) ∷ kind.ReleaseResource (res_no 0)
-    ∷ kind.SetEvent (task_no 0) (mask 0) ∷ kind.ClearEvent (mask 0) ∷ kind.GetEvent (task_no 0) ∷ kind.WaitEvent (mask 0)
-    ∷ kind.SetRelAlarm (alarm_no 0) 0 0 ∷ kind.SetAbsAlarm (alarm_no 0) 0 0 ∷ kind.CancelAlarm (alarm_no 0)
-    ∷ kind.GetAlarm (alarm_no 0) ∷ kind.GetTaskId ∷ kind.GetTaskState (task_no 0) ∷ kind.GetActiveApplicationMode
-    ∷ kind.ShutdownOs ∷ kind.LockCall lock.SuspendAll ∷ kind.TaskEnd ∷ kind.IsrEnd ∷ kind.CountUp
+    kind.Work 0 ∷ kind.Choice (block_no 0) ∷ kind.Loop ∷ (kind.Call (call.Task call.ActivateTask (task_no 0))) ∷ (kind.Call (call.Plain call.TerminateTask))
+    ∷ (kind.Call (call.Task call.ChainTask (task_no 0))) ∷ (kind.Call (call.Plain call.Schedule)) ∷ (kind.Call (call.Resource call.GetResource (res_no 0))) ∷ (kind.Call (call.Resource call.ReleaseResource (res_no 0)))
+    ∷ (kind.Call (call.SetEvent (task_no 0) (mask 0))) ∷ (kind.Call (call.Mask call.ClearEvent (mask 0))) ∷ (kind.Call (call.Task call.GetEvent (task_no 0))) ∷ (kind.Call (call.Mask call.WaitEvent (mask 0)))
+    ∷ (kind.Call (call.Arm call.SetRelAlarm (alarm_no 0) 0 0)) ∷ (kind.Call (call.Arm call.SetAbsAlarm (alarm_no 0) 0 0)) ∷ (kind.Call (call.Alarm call.CancelAlarm (alarm_no 0)))
+    ∷ (kind.Call (call.Alarm call.GetAlarm (alarm_no 0))) ∷ (kind.Call (call.Plain call.GetTaskId)) ∷ (kind.Call (call.Task call.GetTaskState (task_no 0))) ∷ (kind.Call (call.Plain call.GetActiveApplicationMode))
+    ∷ kind.Call call.ShutdownOs ∷ (kind.Call (call.Lock lock.SuspendAll)) ∷ kind.TaskEnd ∷ kind.IsrEnd ∷ kind.CountUp
     ∷ kind.Expire (alarm_no 0) ∷ []
 
 -- in a tick routine of so many alarms: CountUp, an Expire for each alarm, IsrEnd
@@ -182,58 +157,32 @@ module _ (t : Tables) (b : ℕ) where
     Ok (kind.Work n.0, n.1)
   operands_at (kind.Choice o) bytes = Ok (kind.Choice o, bytes)
   operands_at kind.Loop bytes = Ok (kind.Loop, bytes)
-  operands_at (kind.ActivateTask _) bytes = do
+  operands_at (kind.Call (call.Task k _)) bytes = do
     x ← task_no_at bytes
-    Ok (kind.ActivateTask (task_no x.0), x.1)
-  operands_at kind.TerminateTask bytes = Ok (kind.TerminateTask, bytes)
-  operands_at (kind.ChainTask _) bytes = do
-    x ← task_no_at bytes
-    Ok (kind.ChainTask (task_no x.0), x.1)
-  operands_at kind.Schedule bytes = Ok (kind.Schedule, bytes)
-  operands_at (kind.GetResource _) bytes = do
+    Ok ((kind.Call (call.Task k (task_no x.0))), x.1)
+  operands_at (kind.Call (call.Plain k)) bytes = Ok (kind.Call (call.Plain k), bytes)
+  operands_at (kind.Call (call.Resource k _)) bytes = do
     r ← resource_no_at bytes
-    Ok (kind.GetResource (res_no r.0), r.1)
-  operands_at (kind.ReleaseResource _) bytes = do
-    r ← resource_no_at bytes
-    Ok (kind.ReleaseResource (res_no r.0), r.1)
-  operands_at (kind.SetEvent _ _) bytes = do
+    Ok ((kind.Call (call.Resource k (res_no r.0))), r.1)
+  operands_at (kind.Call (call.SetEvent _ _)) bytes = do
     x ← task_no_at bytes
     m ← events_at x.1
-    Ok (kind.SetEvent (task_no x.0) (mask m.0), m.1)
-  operands_at (kind.ClearEvent _) bytes = do
+    Ok ((kind.Call (call.SetEvent (task_no x.0) (mask m.0))), m.1)
+  operands_at (kind.Call (call.Mask k _)) bytes = do
     m ← events_at bytes
-    Ok (kind.ClearEvent (mask m.0), m.1)
-  operands_at (kind.GetEvent _) bytes = do
-    x ← task_no_at bytes
-    Ok (kind.GetEvent (task_no x.0), x.1)
-  operands_at (kind.WaitEvent _) bytes = do
-    m ← events_at bytes
-    Ok (kind.WaitEvent (mask m.0), m.1)
-  operands_at (kind.SetRelAlarm _ _ _) bytes = do
+    Ok ((kind.Call (call.Mask k (mask m.0))), m.1)
+  operands_at (kind.Call (call.Arm k _ _ _)) bytes = do
     a ← alarm_no_at bytes
     i ← number_at w64 a.1
     c ← number_at w64 i.1
-    Ok (kind.SetRelAlarm (alarm_no a.0) i.0 c.0, c.1)
-  operands_at (kind.SetAbsAlarm _ _ _) bytes = do
+    Ok ((kind.Call (call.Arm k (alarm_no a.0) i.0 c.0)), c.1)
+  operands_at (kind.Call (call.Alarm k _)) bytes = do
     a ← alarm_no_at bytes
-    s ← number_at w64 a.1
-    c ← number_at w64 s.1
-    Ok (kind.SetAbsAlarm (alarm_no a.0) s.0 c.0, c.1)
-  operands_at (kind.CancelAlarm _) bytes = do
-    a ← alarm_no_at bytes
-    Ok (kind.CancelAlarm (alarm_no a.0), a.1)
-  operands_at (kind.GetAlarm _) bytes = do
-    a ← alarm_no_at bytes
-    Ok (kind.GetAlarm (alarm_no a.0), a.1)
-  operands_at kind.GetTaskId bytes = Ok (kind.GetTaskId, bytes)
-  operands_at (kind.GetTaskState _) bytes = do
-    x ← task_no_at bytes
-    Ok (kind.GetTaskState (task_no x.0), x.1)
-  operands_at kind.GetActiveApplicationMode bytes = Ok (kind.GetActiveApplicationMode, bytes)
-  operands_at kind.ShutdownOs bytes = Ok (kind.ShutdownOs, bytes)
-  operands_at (kind.LockCall _) bytes = do
+    Ok ((kind.Call (call.Alarm k (alarm_no a.0))), a.1)
+  operands_at (kind.Call (call.Lock _)) bytes = do
     l ← lock_at bytes
-    Ok (kind.LockCall l.0, l.1)
+    Ok ((kind.Call (call.Lock l.0)), l.1)
+  operands_at (kind.Call call.ShutdownOs) bytes = Ok (kind.Call call.ShutdownOs, bytes)
   operands_at kind.TaskEnd bytes = Ok (kind.TaskEnd, bytes)
   operands_at kind.IsrEnd bytes = Ok (kind.IsrEnd, bytes)
   operands_at kind.CountUp bytes = Ok (kind.CountUp, bytes)
@@ -241,8 +190,16 @@ module _ (t : Tables) (b : ℕ) where
     a ← due_at bytes
     Ok (kind.Expire (alarm_no a.0), a.1)
 
-  abbrev pub way_at : List ℕ → Read ℕ
-  way_at bytes = tested_at w16 is_way I5 bytes
+  -- the form, where the block is a site
+  unfoldable pub site_at : Kind → List ℕ → Read (Option Site)
+  site_at k bytes = if is_site_in t.tasks b k then number_at w16 bytes >>= (λ n. formed_site bytes n.1 (form_of (length t.tasks) n.0)) else Ok (None, bytes)
+
+module _ (t : Tables) (blocks b : ℕ) where
+  -- the number of one of the blocks, where block b may lead
+  unfoldable pub way_at : List ℕ → Read ℕ
+  way_at bytes = do
+    n ← tested_at w16 (λ n. nat_lt n blocks) I3 bytes
+    kept (is_way t b n.0) I5 bytes n
 
   -- where the block leads: an end nowhere, which stands as its own number, and a choice to two blocks
   unfoldable pub ways_at : Kind → List ℕ → Read (Kind × ℕ)
@@ -256,23 +213,19 @@ module _ (t : Tables) (b : ℕ) where
     next ← way_at bytes
     Ok ((k, next.0), next.1)
 
-  -- the form, where the block is a site
-  unfoldable pub site_at : Kind → List ℕ → Read (Option Site)
-  site_at k bytes = if is_site_in t.tasks b k then number_at w16 bytes >>= (λ n. formed_site bytes n.1 (form_of (length t.tasks) n.0)) else Ok (None, bytes)
-
   unfoldable pub block_at : List ℕ → Read (Block × Option Site)
   block_at bytes = do
-    blank ← kind_at bytes
+    blank ← kind_at t b bytes
     locked ← flag_at blank.1
     line ← number_at w32 locked.1
-    filled ← operands_at blank.0 line.1
+    filled ← operands_at t b blank.0 line.1
     ways ← ways_at filled.0 filled.1
-    site ← site_at ways.0.0 ways.1
+    site ← site_at t b ways.0.0 ways.1
     Ok ((record { kind = ways.0.0; locked = locked.0; line = line.0; next = block_no ways.0.1 }, site.0), site.1)
 
 -- the blocks in order, with their sites
 abbrev pub blocks_at : Tables → ℕ → List ℕ → Read (List (Block × Option Site))
-blocks_at t count bytes = entries_at (λ earlier. block_at t (length earlier)) [] count bytes
+blocks_at t count bytes = entries_at (λ earlier. block_at t count (length earlier)) [] count bytes
 
 -- an image at the front of bytes
 unfoldable pub parts_at : List ℕ → Read Parts

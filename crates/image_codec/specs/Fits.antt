@@ -1,15 +1,12 @@
 -- The ranges of the format's fields, where no condition on an application keeps them: what is spelled has one
 -- spelling within these alone.
 use Rattle.std.specs.Prelude.{⊤, ◌^◌, ◌<◌, List, All}
-use Rattle.osek_standard.specs.declared.objects.Task.{Task}
-use Rattle.osek_standard.specs.declared.objects.Counter.{Counter}
-use Rattle.osek_standard.specs.declared.objects.Alarm.{Alarm}
-use Rattle.osek_standard.specs.declared.objects.Action.{Action}
+use Rattle.osek_standard.specs.declared.objects.{Task.{Task}, Counter.{Counter}, Alarm.{Alarm}, Action.{Action}}
 use Rattle.osek_standard.specs.declared.objects.Action.TheVariants as action
-use Rattle.osek_standard.specs.declared.block.Block.{Block}
-use Rattle.osek_standard.specs.declared.block.Kind.{Kind}
+use Rattle.osek_standard.specs.declared.block.{Block.{Block}, Kind.{Kind}}
 use Rattle.osek_standard.specs.declared.block.Kind.TheVariants as kind
-use Rattle.image_codec.specs.declared.image.Image.{Image}
+use Rattle.image_model.specs.CallNames as call
+use Rattle.image_model.specs.declared.image.Image.{Image}
 
 pub record FitsTask (x : Task) : Type 0 where
   pub priority : x.priority < 2 ^ 16
@@ -21,27 +18,17 @@ FitsAction (action.SetEvent t m) = m.0 < 2 ^ 64
 
 abbrev pub FitsKind : Kind → Type 0
 FitsKind (kind.Work n) = n < 2 ^ 16
-FitsKind (kind.SetEvent t m) = m.0 < 2 ^ 64
-FitsKind (kind.ClearEvent m) = m.0 < 2 ^ 64
-FitsKind (kind.WaitEvent m) = m.0 < 2 ^ 64
-FitsKind (kind.SetRelAlarm a i c) = (i < 2 ^ 64) × (c < 2 ^ 64)
-FitsKind (kind.SetAbsAlarm a s c) = (s < 2 ^ 64) × (c < 2 ^ 64)
+FitsKind (kind.Call (call.SetEvent t m)) = m.0 < 2 ^ 64
+FitsKind (kind.Call (call.Mask k m)) = m.0 < 2 ^ 64
+FitsKind (kind.Call (call.Arm k a i c)) = (i < 2 ^ 64) × (c < 2 ^ 64)
 FitsKind (kind.Choice o) = ⊤
 FitsKind kind.Loop = ⊤
-FitsKind (kind.ActivateTask t) = ⊤
-FitsKind kind.TerminateTask = ⊤
-FitsKind (kind.ChainTask t) = ⊤
-FitsKind kind.Schedule = ⊤
-FitsKind (kind.GetResource r) = ⊤
-FitsKind (kind.ReleaseResource r) = ⊤
-FitsKind (kind.GetEvent t) = ⊤
-FitsKind (kind.CancelAlarm a) = ⊤
-FitsKind (kind.GetAlarm a) = ⊤
-FitsKind kind.GetTaskId = ⊤
-FitsKind (kind.GetTaskState t) = ⊤
-FitsKind kind.GetActiveApplicationMode = ⊤
-FitsKind kind.ShutdownOs = ⊤
-FitsKind (kind.LockCall l) = ⊤
+FitsKind (kind.Call (call.Task k t)) = ⊤
+FitsKind (kind.Call (call.Plain k)) = ⊤
+FitsKind (kind.Call (call.Resource k r)) = ⊤
+FitsKind (kind.Call (call.Alarm k a)) = ⊤
+FitsKind (kind.Call (call.Lock l)) = ⊤
+FitsKind (kind.Call call.ShutdownOs) = ⊤
 FitsKind kind.TaskEnd = ⊤
 FitsKind kind.IsrEnd = ⊤
 FitsKind kind.CountUp = ⊤

@@ -1,10 +1,9 @@
 -- What bytes are: the parts of an image, or the first fault with its offset.
 use Rattle.std.specs.Prelude.{◌≡◌, ℕ, ◌-◌, List, length, Result, Ok, Err}
-use Rattle.image_codec.specs.declared.fault.Fault.{Fault}
-use Rattle.image_codec.specs.declared.fault.ImageFault.{ImageFault}
-use Rattle.image_codec.specs.declared.fault.ImageError.{ImageError}
-use Rattle.image_codec.specs.declared.fault.ImageError.TheVariants as errors
-use Rattle.image_codec.specs.declared.image.Image.{Image}
+use Rattle.image_codec.specs.declared.fault.{Fault.{Fault}, ImageFault.{ImageFault}}
+use Rattle.osek_values.specs.declared.refused.Refused.{Refused}
+use Rattle.osek_values.specs.declared.refused.Refused.TheVariants as errors
+use Rattle.image_model.specs.declared.image.Image.{Image}
 use Rattle.image_codec.specs.declared.parts.Parts.{Parts}
 use Rattle.image_codec.specs.Reading.{Read}
 use Rattle.image_codec.specs.BlockReading.{all_at}
@@ -30,13 +29,13 @@ parts_of i = record {
 }
 
 -- An answer for bytes is what reading gives, unless memory ran out.
-abbrev pub Answers : Result Image ImageError → Result Parts ImageFault → Type 0
+abbrev pub Answers : Result Image (Refused ImageFault) → Result Parts ImageFault → Type 0
 Answers (Ok i) read = read ≡ Ok (parts_of i)
 Answers (Err errors.Memory) read = Unit {0}
 Answers (Err (errors.Fault f)) read = read ≡ Err f
 
 -- the image is answered, unless memory ran out
-abbrev pub IsAnswered : Image → Result Image ImageError → Type 0
+abbrev pub IsAnswered : Image → Result Image (Refused ImageFault) → Type 0
 IsAnswered i (Ok j) = j ≡ i
 IsAnswered i (Err errors.Memory) = Unit {0}
 IsAnswered i (Err (errors.Fault f)) = ⊥

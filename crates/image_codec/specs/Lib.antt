@@ -1,11 +1,9 @@
 pub mod BlockReading
+pub mod FieldTable
 pub mod Fits
 pub mod ImageReading
-pub mod ImageStep
-pub mod ImageTrace
 pub mod Laws
 pub mod Reading
 pub mod Rules
-pub mod Sites
 pub mod Spelling
 pub mod TableReading

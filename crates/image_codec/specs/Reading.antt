@@ -3,14 +3,13 @@ use Rattle.std.specs.Prelude.{◌≡◌, ℕ, zero, suc, ◌+◌, ◌^◌, ◌<�
 use Rattle.std.specs.Int.{Width, w16, byte_len, from_be_bytes}
 use Rattle.std.specs.List.{list_any}
 use Rattle.std.specs.Str.{bytes_eq}
+use Rattle.osek_values.specs.declared.limits.TheConstants.{MAX_NAME}
 use Rattle.osek_values.specs.Names.{is_name}
 use Rattle.osek_values.specs.Numbers.{block_no}
 use Rattle.osek_standard.specs.Validity.{meet}
-use Rattle.image_codec.specs.declared.fault.ImageRule.{ImageRule}
-use Rattle.image_codec.specs.declared.fault.ImageRule.TheVariants.{I1, I3, I4, I5}
-use Rattle.image_codec.specs.declared.fault.Fault.{Fault}
-use Rattle.image_codec.specs.declared.fault.ReadError.{ReadError}
-use Rattle.image_codec.specs.declared.fault.ReadError.TheVariants as errors
+use Rattle.image_codec.specs.declared.fault.{ImageRule.{ImageRule}, ImageRule.TheVariants.{I1, I3, I4, I5}, Fault.{Fault}}
+use Rattle.osek_values.specs.declared.refused.Refused.{Refused}
+use Rattle.osek_values.specs.declared.refused.Refused.TheVariants as errors
 use Rattle.image_codec.specs.declared.parts.Range.{Range}
 
 -- each is a byte
@@ -27,11 +26,11 @@ abbrev pub ◌>>=◌ : {A B : Type 0} → Result A Fault → (A → Result B Fau
 (Err e) >>= f = Err e
 
 -- What a function returned and left, seen by view, is what reading gives, unless memory ran out.
-abbrev pub Fails : {Y : Type 0} → ReadError → Result Y Fault → Type 0
+abbrev pub Fails : {Y : Type 0} → Refused Fault → Result Y Fault → Type 0
 Fails errors.Memory read = Unit {0}
 Fails (errors.Fault f) read = read ≡ Err f
 
-abbrev pub Gives : {X Y : Type 0} → (X → Y) → Result X ReadError → List ℕ → Read Y → Type 0
+abbrev pub Gives : {X Y : Type 0} → (X → Y) → Result X (Refused Fault) → List ℕ → Read Y → Type 0
 Gives view (Ok x) rest read = read ≡ Ok (view x, rest)
 Gives view (Err e) rest read = Fails e read
 
@@ -81,7 +80,7 @@ text_at len left bytes = if nat_lt (length bytes) len then Err (record { rule = 
 -- a length, and so many bytes that form a name which no earlier entry of the table has
 unfoldable pub name_at : List (List ℕ) → List ℕ → Read (List ℕ)
 name_at earlier bytes = do
-  len ← tested_byte_at (λ n. nat_lt 0 n && nat_le n 64) I4 bytes
+  len ← tested_byte_at (λ n. nat_lt 0 n && nat_le n MAX_NAME) I4 bytes
   name ← text_at len.0 (length bytes) len.1
   kept (is_name name.0 && not (list_any (λ m. bytes_eq m name.0) earlier)) I4 bytes name
 

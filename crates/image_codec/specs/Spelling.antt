@@ -5,24 +5,16 @@ use Rattle.std.specs.List.{flat_map, zip}
 use Rattle.std.specs.Int.{to_be_bytes, w16, w32, w64}
 use Rattle.osek_values.specs.declared.numbers.BlockNo.{BlockNo}
 use Rattle.osek_standard.specs.declared.app.App.{App}
-use Rattle.osek_standard.specs.declared.objects.Task.{Task}
-use Rattle.osek_standard.specs.declared.objects.Isr.{Isr}
-use Rattle.osek_standard.specs.declared.objects.Counter.{Counter}
-use Rattle.osek_standard.specs.declared.objects.Alarm.{Alarm}
-use Rattle.osek_standard.specs.declared.objects.Resource.{Resource}
-use Rattle.osek_standard.specs.declared.objects.Schedule.{Schedule}
-use Rattle.osek_standard.specs.declared.objects.Schedule.TheVariants.{Non, Full}
-use Rattle.osek_standard.specs.declared.objects.Action.{Action}
+use Rattle.osek_standard.specs.declared.objects.{Task.{Task}, Isr.{Isr}, Counter.{Counter}, Alarm.{Alarm}, Resource.{Resource}, Schedule.{Schedule}, Schedule.TheVariants.{Non, Full}, Action.{Action}}
 use Rattle.osek_standard.specs.declared.objects.Action.TheVariants as action
-use Rattle.osek_standard.specs.declared.block.Block.{Block}
-use Rattle.osek_standard.specs.declared.block.Lock.{Lock}
-use Rattle.osek_standard.specs.declared.block.Lock.TheVariants as lock
-use Rattle.osek_standard.specs.declared.block.Kind.{Kind}
+use Rattle.osek_standard.specs.declared.block.{Block.{Block}, Kind.{Kind}}
+use Rattle.osek_standard.specs.declared.call.{Lock.{Lock}, PlainService.{PlainService}, TaskService.{TaskService}, ResourceService.{ResourceService}, MaskService.{MaskService}, AlarmService.{AlarmService}, ArmService.{ArmService}}
+use Rattle.osek_standard.specs.declared.call.Lock.TheVariants as lock
 use Rattle.osek_standard.specs.declared.block.Kind.TheVariants as kind
-use Rattle.image_codec.specs.declared.site.Form.{Form}
-use Rattle.image_codec.specs.declared.site.Form.TheVariants as form
-use Rattle.image_codec.specs.declared.site.Site.{Site}
-use Rattle.image_codec.specs.declared.image.Image.{Image}
+use Rattle.image_model.specs.CallNames as call
+use Rattle.image_model.specs.declared.site.{Form.{Form}, Site.{Site}}
+use Rattle.image_model.specs.declared.site.Form.TheVariants as form
+use Rattle.image_model.specs.declared.image.Image.{Image}
 
 abbrev pub one : ℕ → List ℕ
 one n = n ∷ []
@@ -82,29 +74,47 @@ lock_number lock.ResumeOs = 3
 lock_number lock.DisableAll = 4
 lock_number lock.EnableAll = 5
 
+abbrev pub plain_number : PlainService → ℕ
+plain_number call.TerminateTask = 4
+plain_number call.Schedule = 6
+plain_number call.GetTaskId = 17
+plain_number call.GetActiveApplicationMode = 19
+
+abbrev pub task_service_number : TaskService → ℕ
+task_service_number call.ActivateTask = 3
+task_service_number call.ChainTask = 5
+task_service_number call.GetEvent = 11
+task_service_number call.GetTaskState = 18
+
+abbrev pub resource_service_number : ResourceService → ℕ
+resource_service_number call.GetResource = 7
+resource_service_number call.ReleaseResource = 8
+
+abbrev pub mask_service_number : MaskService → ℕ
+mask_service_number call.ClearEvent = 10
+mask_service_number call.WaitEvent = 12
+
+abbrev pub alarm_service_number : AlarmService → ℕ
+alarm_service_number call.CancelAlarm = 15
+alarm_service_number call.GetAlarm = 16
+
+abbrev pub arm_number : ArmService → ℕ
+arm_number call.SetRelAlarm = 13
+arm_number call.SetAbsAlarm = 14
+
 abbrev pub kind_number : Kind → ℕ
 kind_number (kind.Work n) = 0
 kind_number (kind.Choice o) = 1
 kind_number kind.Loop = 2
-kind_number (kind.ActivateTask t) = 3
-kind_number kind.TerminateTask = 4
-kind_number (kind.ChainTask t) = 5
-kind_number kind.Schedule = 6
-kind_number (kind.GetResource r) = 7
-kind_number (kind.ReleaseResource r) = 8
-kind_number (kind.SetEvent t m) = 9
-kind_number (kind.ClearEvent m) = 10
-kind_number (kind.GetEvent t) = 11
-kind_number (kind.WaitEvent m) = 12
-kind_number (kind.SetRelAlarm a i c) = 13
-kind_number (kind.SetAbsAlarm a s c) = 14
-kind_number (kind.CancelAlarm a) = 15
-kind_number (kind.GetAlarm a) = 16
-kind_number kind.GetTaskId = 17
-kind_number (kind.GetTaskState t) = 18
-kind_number kind.GetActiveApplicationMode = 19
-kind_number kind.ShutdownOs = 20
-kind_number (kind.LockCall l) = 21
+kind_number (kind.Call (call.Plain k)) = plain_number k
+kind_number (kind.Call (call.Task k t)) = task_service_number k
+kind_number (kind.Call (call.Resource k r)) = resource_service_number k
+kind_number (kind.Call (call.SetEvent t m)) = 9
+kind_number (kind.Call (call.Mask k m)) = mask_service_number k
+kind_number (kind.Call (call.Alarm k a)) = alarm_service_number k
+kind_number (kind.Call (call.Arm k a i c)) = arm_number k
+kind_number (kind.Call call.ShutdownOs) = 20
+kind_number (kind.Call (call.Lock l)) = 21
 kind_number kind.TaskEnd = 22
 kind_number kind.IsrEnd = 23
 kind_number kind.CountUp = 24
@@ -114,25 +124,15 @@ abbrev pub operand_bytes : Kind → List ℕ
 operand_bytes (kind.Work n) = two n
 operand_bytes (kind.Choice o) = []
 operand_bytes kind.Loop = []
-operand_bytes (kind.ActivateTask t) = one t.0
-operand_bytes kind.TerminateTask = []
-operand_bytes (kind.ChainTask t) = one t.0
-operand_bytes kind.Schedule = []
-operand_bytes (kind.GetResource r) = one r.0
-operand_bytes (kind.ReleaseResource r) = one r.0
-operand_bytes (kind.SetEvent t m) = one t.0 ++ eight m.0
-operand_bytes (kind.ClearEvent m) = eight m.0
-operand_bytes (kind.GetEvent t) = one t.0
-operand_bytes (kind.WaitEvent m) = eight m.0
-operand_bytes (kind.SetRelAlarm a i c) = one a.0 ++ eight i ++ eight c
-operand_bytes (kind.SetAbsAlarm a s c) = one a.0 ++ eight s ++ eight c
-operand_bytes (kind.CancelAlarm a) = one a.0
-operand_bytes (kind.GetAlarm a) = one a.0
-operand_bytes kind.GetTaskId = []
-operand_bytes (kind.GetTaskState t) = one t.0
-operand_bytes kind.GetActiveApplicationMode = []
-operand_bytes kind.ShutdownOs = []
-operand_bytes (kind.LockCall l) = one (lock_number l)
+operand_bytes (kind.Call (call.Task k t)) = one t.0
+operand_bytes (kind.Call (call.Plain k)) = []
+operand_bytes (kind.Call (call.Resource k r)) = one r.0
+operand_bytes (kind.Call (call.SetEvent t m)) = one t.0 ++ eight m.0
+operand_bytes (kind.Call (call.Mask k m)) = eight m.0
+operand_bytes (kind.Call (call.Arm k a i c)) = one a.0 ++ eight i ++ eight c
+operand_bytes (kind.Call (call.Alarm k a)) = one a.0
+operand_bytes (kind.Call (call.Lock l)) = one (lock_number l)
+operand_bytes (kind.Call call.ShutdownOs) = []
 operand_bytes kind.TaskEnd = []
 operand_bytes kind.IsrEnd = []
 operand_bytes kind.CountUp = []

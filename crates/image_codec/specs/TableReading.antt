@@ -1,43 +1,36 @@
 -- Reading the header and the tables of an image.
-use Rattle.std.specs.Prelude.{ℕ, ◌≤◌, Bool, not, ◌&&◌, nat_lt, nat_le, nat_eq, ◌==◌, List, [], map, Ok, slice_index_or, if◌then◌else◌}
+use Rattle.std.specs.Prelude.{ℕ, ◌+◌, ◌≤◌, Bool, not, ◌&&◌, nat_lt, nat_le, nat_eq, ◌==◌, List, [], map, Ok, slice_index_or, if◌then◌else◌}
 use Rattle.std.specs.Int.{w16, w32, w64}
 use Rattle.std.specs.List.{list_any}
+use Rattle.osek_values.specs.declared.limits.TheConstants.{MAX_TASKS, MAX_ISRS, MAX_COUNTERS, MAX_ALARMS, MAX_RESOURCES, MAX_MODES, MAX_BLOCKS}
 use Rattle.osek_values.specs.Hooks.{hook_set}
 use Rattle.osek_values.specs.Numbers.{task_no, counter_no, mask}
-use Rattle.osek_standard.specs.declared.objects.Task.{Task}
-use Rattle.osek_standard.specs.declared.objects.Isr.{Isr}
-use Rattle.osek_standard.specs.declared.objects.Counter.{Counter}
-use Rattle.osek_standard.specs.declared.objects.Alarm.{Alarm}
-use Rattle.osek_standard.specs.declared.objects.Resource.{Resource}
-use Rattle.osek_standard.specs.declared.objects.Schedule.{Schedule}
-use Rattle.osek_standard.specs.declared.objects.Schedule.TheVariants.{Non, Full}
-use Rattle.osek_standard.specs.declared.objects.Action.{Action}
+use Rattle.osek_standard.specs.declared.objects.{Task.{Task}, Isr.{Isr}, Counter.{Counter}, Alarm.{Alarm}, Resource.{Resource}, Schedule.{Schedule}, Schedule.TheVariants.{Non, Full}, Action.{Action}}
 use Rattle.osek_standard.specs.declared.objects.Action.TheVariants as action
-use Rattle.osek_standard.specs.Validity.{no_counter, is_cycle_of, owners}
+use Rattle.osek_standard.specs.Validity.{no_counter, greatest_ceiling, is_cycle_of, owners}
 use Rattle.image_codec.specs.declared.fault.ImageRule.TheVariants.{I2, I3, I5}
-use Rattle.image_codec.specs.declared.parts.Header.{Header}
-use Rattle.image_codec.specs.declared.parts.Tables.{Tables}
+use Rattle.image_codec.specs.declared.parts.{Header.{Header}, Tables.{Tables}}
 use Rattle.image_codec.specs.Spelling.{magic}
 use Rattle.image_codec.specs.Reading.{Read, ◌>>=◌, number_at, tested_byte_at, tested_at, byte_below_at, exactly_at, name_at, modes_at, range_at, entries_at}
 
 -- the numbers of entries are within their limits
 pub record HasFew (n : Header) : Type 0 where
-  pub tasks : n.tasks ≤ 16
-  pub alarms : n.alarms ≤ 16
-  pub resources : n.resources ≤ 8
-  pub modes : n.modes ≤ 8
+  pub tasks : n.tasks ≤ MAX_TASKS
+  pub alarms : n.alarms ≤ MAX_ALARMS
+  pub resources : n.resources ≤ MAX_RESOURCES
+  pub modes : n.modes ≤ MAX_MODES
 
 unfoldable pub header_at : List ℕ → Read Header
 header_at bytes = do
   start ← exactly_at magic I2 bytes
   hooks ← byte_below_at 32 start.1
-  tasks ← byte_below_at 17 hooks.1
-  isrs ← byte_below_at 9 tasks.1
-  counters ← byte_below_at 9 isrs.1
-  alarms ← byte_below_at 17 counters.1
-  resources ← byte_below_at 9 alarms.1
-  modes ← tested_byte_at (λ n. nat_lt 0 n && nat_le n 8) I3 resources.1
-  blocks ← tested_at w16 (λ n. nat_le n 1056) I3 modes.1
+  tasks ← byte_below_at (MAX_TASKS + 1) hooks.1
+  isrs ← byte_below_at (MAX_ISRS + 1) tasks.1
+  counters ← byte_below_at (MAX_COUNTERS + 1) isrs.1
+  alarms ← byte_below_at (MAX_ALARMS + 1) counters.1
+  resources ← byte_below_at (MAX_RESOURCES + 1) alarms.1
+  modes ← tested_byte_at (λ n. nat_lt 0 n && nat_le n MAX_MODES) I3 resources.1
+  blocks ← tested_at w16 (λ n. nat_le n MAX_BLOCKS) I3 modes.1
   Ok (record { hooks = hook_set hooks.0; tasks = tasks.0; isrs = isrs.0; counters = counters.0; alarms = alarms.0; resources = resources.0; modes = modes.0; blocks = blocks.0 }, blocks.1)
 
 abbrev pub schedule_of : ℕ → Schedule
@@ -107,7 +100,7 @@ alarm_at n counters earlier bytes = do
 unfoldable pub resource_at : List Resource → List ℕ → Read Resource
 resource_at earlier bytes = do
   name ← name_at (map (λ (x : Resource). x.name) earlier) bytes
-  ceiling ← tested_at w32 (λ c. nat_le c 131071) I3 name.1
+  ceiling ← tested_at w32 (λ c. nat_le c greatest_ceiling) I3 name.1
   Ok (record { name = name.0; ceiling = ceiling.0 }, ceiling.1)
 
 -- the tables in order

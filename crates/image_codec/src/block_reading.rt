@@ -1,17 +1,21 @@
 //! Reading the blocks of an image.
-ghost use Rattle.std.specs.Prelude.{◌≡◌, ℕ, ◌+◌, ◌-◌, ◌≤◌, ◌<◌, ◌^◌, ◌&&◌, ◌==◌, [], not, nat_lt, nat_le, length, slice_index_or, slice_get, true, IfOk, if◌then◌else◌};
-ghost use Rattle.std.specs.Int.{w16, w32, w64};
-ghost use Rattle.std.specs.List.{list_any, list_all, enumerate_from, zip};
-ghost use Rattle.osek_standard.specs.Validity.{owners, is_within as is_among, task_may as may_in_task, isr_may as may_in_isr, due_of};
-ghost use Rattle.image_codec.specs.Reading.{Gives, byte_below_at, tested_at, tested_byte_at, entries_at};
-ghost use Rattle.image_codec.specs.BlockReading.{blank_kinds, AreSmall, IsForAlarm, IsForTask, tick_order as order_of_ticks, where_has, task_range, isr_range, counter_range, tasks_allow as do_tasks_allow, isrs_allow as do_isrs_allow, counter_allows as does_counter_allow, counters_allow as do_counters_allow, is_owned as has_owner, is_allowed as may_stand, is_due_in as is_due_in_counter, is_due as is_the_due, is_way as may_lead_to, kind_at, events_at, lock_at, locks, due_at, operands_at, way_at, ways_at, direct_form, form_of as form_of_number, site_at, block_at, blocks_at};
+ghost use Rattle.std.specs.Prelude.{◌≡◌, ℕ, ◌+◌, ◌-◌, ◌≤◌, ◌<◌, ◌^◌, ◌&&◌, ◌==◌, [], nat_lt, length, slice_index_or, slice_get, true, IfOk, if◌then◌else◌};
+ghost use Rattle.std.specs.Int.{w16, w64};
+ghost use Rattle.std.specs.List.{list_any, list_all, zip};
+ghost use Rattle.osek_standard.specs.Validity.{is_within as is_among, task_may as may_in_task, isr_may as may_in_isr, due_of};
+ghost use Rattle.image_codec.specs.Reading.{Gives, byte_below_at, tested_at};
+ghost use Rattle.image_codec.specs.BlockReading.{blank_kinds, AreSmall, tick_order as order_of_ticks, where_has, task_range, isr_range, counter_range, tasks_allow as do_tasks_allow, isrs_allow as do_isrs_allow, counter_allows as does_counter_allow, counters_allow as do_counters_allow, is_owned as has_owner, is_allowed as may_stand, is_due_in as is_due_in_counter, is_due as is_the_due, is_way as may_lead_to, kind_at, lock_at, locks, due_at, operands_at, way_at, ways_at, direct_form, form_of as form_of_number, site_at, block_at, blocks_at};
 ghost use Rattle.image_codec.specs.declared.fault.ImageRule.TheVariants.{I3, I5};
+ghost use Rattle.osek_standard.specs.declared.block.Kind.TheVariants as kind;
 
 use crate::fault::{ImageRule, ReadError};
 use crate::parts::Tables;
 use crate::reader::{Reader, fault};
-use crate::site::{Form, Site, is_site, is_task_block, is_within};
-use osek_standard::{Alarm, Block, Counter, Isr, Kind, Lock, Task};
+use image_model::{Form, Site, is_site, is_task_block, is_within};
+use osek_standard::{
+    Alarm, AlarmService, ArmService, Block, Call, Counter, Isr, Kind, Lock, MaskService,
+    PlainService, ResourceService, Task, TaskService,
+};
 use osek_values::{AlarmNo, BlockNo, Mask, ResNo, Seq, TaskNo};
 use std::alloc::Global;
 
@@ -20,25 +24,25 @@ const BLANK_KINDS: [Kind; 26] = [
     Kind::Work(0),
     Kind::Choice(BlockNo(0)),
     Kind::Loop,
-    Kind::ActivateTask(TaskNo(0)),
-    Kind::TerminateTask,
-    Kind::ChainTask(TaskNo(0)),
-    Kind::Schedule,
-    Kind::GetResource(ResNo(0)),
-    Kind::ReleaseResource(ResNo(0)),
-    Kind::SetEvent(TaskNo(0), Mask(0)),
-    Kind::ClearEvent(Mask(0)),
-    Kind::GetEvent(TaskNo(0)),
-    Kind::WaitEvent(Mask(0)),
-    Kind::SetRelAlarm(AlarmNo(0), 0, 0),
-    Kind::SetAbsAlarm(AlarmNo(0), 0, 0),
-    Kind::CancelAlarm(AlarmNo(0)),
-    Kind::GetAlarm(AlarmNo(0)),
-    Kind::GetTaskId,
-    Kind::GetTaskState(TaskNo(0)),
-    Kind::GetActiveApplicationMode,
-    Kind::ShutdownOs,
-    Kind::LockCall(Lock::SuspendAll),
+    Kind::Call(Call::Task(TaskService::ActivateTask, TaskNo(0))),
+    Kind::Call(Call::Plain(PlainService::TerminateTask)),
+    Kind::Call(Call::Task(TaskService::ChainTask, TaskNo(0))),
+    Kind::Call(Call::Plain(PlainService::Schedule)),
+    Kind::Call(Call::Resource(ResourceService::GetResource, ResNo(0))),
+    Kind::Call(Call::Resource(ResourceService::ReleaseResource, ResNo(0))),
+    Kind::Call(Call::SetEvent(TaskNo(0), Mask(0))),
+    Kind::Call(Call::Mask(MaskService::ClearEvent, Mask(0))),
+    Kind::Call(Call::Task(TaskService::GetEvent, TaskNo(0))),
+    Kind::Call(Call::Mask(MaskService::WaitEvent, Mask(0))),
+    Kind::Call(Call::Arm(ArmService::SetRelAlarm, AlarmNo(0), 0, 0)),
+    Kind::Call(Call::Arm(ArmService::SetAbsAlarm, AlarmNo(0), 0, 0)),
+    Kind::Call(Call::Alarm(AlarmService::CancelAlarm, AlarmNo(0))),
+    Kind::Call(Call::Alarm(AlarmService::GetAlarm, AlarmNo(0))),
+    Kind::Call(Call::Plain(PlainService::GetTaskId)),
+    Kind::Call(Call::Task(TaskService::GetTaskState, TaskNo(0))),
+    Kind::Call(Call::Plain(PlainService::GetActiveApplicationMode)),
+    Kind::Call(Call::ShutdownOs),
+    Kind::Call(Call::Lock(Lock::SuspendAll)),
     Kind::TaskEnd,
     Kind::IsrEnd,
     Kind::CountUp,
@@ -75,28 +79,7 @@ fn task_may(last: bool, kind: Kind) -> bool
     match kind {
         Kind::TaskEnd => last,
         Kind::IsrEnd | Kind::CountUp | Kind::Expire(_) => false,
-        Kind::Work(_)
-        | Kind::Choice(_)
-        | Kind::Loop
-        | Kind::ActivateTask(_)
-        | Kind::TerminateTask
-        | Kind::ChainTask(_)
-        | Kind::Schedule
-        | Kind::GetResource(_)
-        | Kind::ReleaseResource(_)
-        | Kind::SetEvent(_, _)
-        | Kind::ClearEvent(_)
-        | Kind::GetEvent(_)
-        | Kind::WaitEvent(_)
-        | Kind::SetRelAlarm(_, _, _)
-        | Kind::SetAbsAlarm(_, _, _)
-        | Kind::CancelAlarm(_)
-        | Kind::GetAlarm(_)
-        | Kind::GetTaskId
-        | Kind::GetTaskState(_)
-        | Kind::GetActiveApplicationMode
-        | Kind::ShutdownOs
-        | Kind::LockCall(_) => !last,
+        Kind::Work(_) | Kind::Choice(_) | Kind::Loop | Kind::Call(_) => !last,
     }
 }
 
@@ -106,31 +89,8 @@ fn isr_may(last: bool, kind: Kind) -> bool
 {
     match kind {
         Kind::IsrEnd => last,
-        Kind::GetResource(_)
-        | Kind::ReleaseResource(_)
-        | Kind::TaskEnd
-        | Kind::CountUp
-        | Kind::Expire(_) => false,
-        Kind::Work(_)
-        | Kind::Choice(_)
-        | Kind::Loop
-        | Kind::ActivateTask(_)
-        | Kind::TerminateTask
-        | Kind::ChainTask(_)
-        | Kind::Schedule
-        | Kind::SetEvent(_, _)
-        | Kind::ClearEvent(_)
-        | Kind::GetEvent(_)
-        | Kind::WaitEvent(_)
-        | Kind::SetRelAlarm(_, _, _)
-        | Kind::SetAbsAlarm(_, _, _)
-        | Kind::CancelAlarm(_)
-        | Kind::GetAlarm(_)
-        | Kind::GetTaskId
-        | Kind::GetTaskState(_)
-        | Kind::GetActiveApplicationMode
-        | Kind::ShutdownOs
-        | Kind::LockCall(_) => !last,
+        Kind::Call(Call::Resource(_, _)) | Kind::TaskEnd | Kind::CountUp | Kind::Expire(_) => false,
+        Kind::Work(_) | Kind::Choice(_) | Kind::Loop | Kind::Call(_) => !last,
     }
 }
 
@@ -421,58 +381,30 @@ fn due(reader: &mut Reader, tables: &Tables, block: u16) -> Result<AlarmNo, Read
     Ok(alarm)
 }
 
-/// A call for an alarm with its operands, or its expiry.
+/// A call with its operands.
 #[tactic(auto, unfolding(crate::specs::BlockReading::operands_at))]
-fn alarm_operands(
-    reader: &mut Reader,
-    tables: &Tables,
-    block: u16,
-    kind: Kind,
-) -> Result<Kind, ReadError>
-    requires small { AreSmall tables.now }
-    requires for_alarm { IsForAlarm kind }
-    ensures { Gives (λ x. x) result reader.new (operands_at tables.now block kind reader.old) }
+fn call_operands(reader: &mut Reader, tables: &Tables, call: Call) -> Result<Kind, ReadError>
+    requires { AreSmall tables.now }
+    ensures { (block : ℕ) → Gives (λ x. x) result reader.new (operands_at tables.now block (kind.Call call) reader.old) }
 {
-    match kind {
-        Kind::SetRelAlarm(_, _, _) => {
-            let alarm = alarm_no(reader, tables)?;
-            let increment = reader.number_64()?;
-            let cycle = reader.number_64()?;
-            Ok(Kind::SetRelAlarm(alarm, increment, cycle))
-        }
-        Kind::SetAbsAlarm(_, _, _) => {
-            let alarm = alarm_no(reader, tables)?;
-            let start = reader.number_64()?;
-            let cycle = reader.number_64()?;
-            Ok(Kind::SetAbsAlarm(alarm, start, cycle))
-        }
-        Kind::CancelAlarm(_) => Ok(Kind::CancelAlarm(alarm_no(reader, tables)?)),
-        Kind::GetAlarm(_) => Ok(Kind::GetAlarm(alarm_no(reader, tables)?)),
-        Kind::Expire(_) => Ok(Kind::Expire(due(reader, tables, block)?)),
-        other => Ok(other),
-    }
-}
-
-/// A call for a task or for events with its operands.
-#[tactic(auto, unfolding(crate::specs::BlockReading::operands_at))]
-fn task_operands(reader: &mut Reader, tables: &Tables, kind: Kind) -> Result<Kind, ReadError>
-    requires small { AreSmall tables.now }
-    requires for_task { IsForTask kind }
-    ensures { (block : ℕ) → Gives (λ x. x) result reader.new (operands_at tables.now block kind reader.old) }
-{
-    match kind {
-        Kind::ActivateTask(_) => Ok(Kind::ActivateTask(task_no(reader, tables)?)),
-        Kind::ChainTask(_) => Ok(Kind::ChainTask(task_no(reader, tables)?)),
-        Kind::GetTaskState(_) => Ok(Kind::GetTaskState(task_no(reader, tables)?)),
-        Kind::SetEvent(_, _) => {
+    let filled = match call {
+        Call::Plain(_) | Call::ShutdownOs => call,
+        Call::Task(service, _) => Call::Task(service, task_no(reader, tables)?),
+        Call::Resource(service, _) => Call::Resource(service, resource_no(reader, tables)?),
+        Call::SetEvent(_, _) => {
             let task = task_no(reader, tables)?;
-            Ok(Kind::SetEvent(task, events(reader)?))
+            Call::SetEvent(task, events(reader)?)
         }
-        Kind::GetEvent(_) => Ok(Kind::GetEvent(task_no(reader, tables)?)),
-        Kind::ClearEvent(_) => Ok(Kind::ClearEvent(events(reader)?)),
-        Kind::WaitEvent(_) => Ok(Kind::WaitEvent(events(reader)?)),
-        other => Ok(other),
-    }
+        Call::Mask(service, _) => Call::Mask(service, events(reader)?),
+        Call::Alarm(service, _) => Call::Alarm(service, alarm_no(reader, tables)?),
+        Call::Arm(service, _, _, _) => {
+            let alarm = alarm_no(reader, tables)?;
+            let first = reader.number_64()?;
+            Call::Arm(service, alarm, first, reader.number_64()?)
+        }
+        Call::Lock(_) => Call::Lock(lock(reader)?),
+    };
+    Ok(Kind::Call(filled))
 }
 
 /// A kind with its operands.
@@ -483,31 +415,9 @@ fn operands(reader: &mut Reader, tables: &Tables, block: u16, kind: Kind) -> Res
 {
     match kind {
         Kind::Work(_) => Ok(Kind::Work(instructions(reader)?)),
-        Kind::GetResource(_) => Ok(Kind::GetResource(resource_no(reader, tables)?)),
-        Kind::ReleaseResource(_) => Ok(Kind::ReleaseResource(resource_no(reader, tables)?)),
-        Kind::LockCall(_) => Ok(Kind::LockCall(lock(reader)?)),
-        Kind::ActivateTask(_)
-        | Kind::ChainTask(_)
-        | Kind::GetTaskState(_)
-        | Kind::SetEvent(_, _)
-        | Kind::GetEvent(_)
-        | Kind::ClearEvent(_)
-        | Kind::WaitEvent(_) => task_operands(reader, tables, kind),
-        Kind::SetRelAlarm(_, _, _)
-        | Kind::SetAbsAlarm(_, _, _)
-        | Kind::CancelAlarm(_)
-        | Kind::GetAlarm(_)
-        | Kind::Expire(_) => alarm_operands(reader, tables, block, kind),
-        Kind::Choice(_)
-        | Kind::Loop
-        | Kind::TerminateTask
-        | Kind::Schedule
-        | Kind::GetTaskId
-        | Kind::GetActiveApplicationMode
-        | Kind::ShutdownOs
-        | Kind::TaskEnd
-        | Kind::IsrEnd
-        | Kind::CountUp => Ok(kind),
+        Kind::Call(call) => call_operands(reader, tables, call),
+        Kind::Expire(_) => Ok(Kind::Expire(due(reader, tables, block)?)),
+        Kind::Choice(_) | Kind::Loop | Kind::TaskEnd | Kind::IsrEnd | Kind::CountUp => Ok(kind),
     }
 }
 
@@ -581,13 +491,13 @@ fn is_way(tables: &Tables, block: u16, way: u16) -> bool
     in_code && in_order
 }
 
-/// A block where a block leads.
-#[tactic(auto, unfolding(crate::specs::Reading::tested_at))]
-fn way(reader: &mut Reader, tables: &Tables, block: u16) -> Result<u16, ReadError>
-    ensures { Gives (λ x. x) result reader.new (way_at tables.now block reader.old) }
+/// A block where a block leads, one of so many.
+#[tactic(auto, unfolding(crate::specs::BlockReading::way_at))]
+fn way(reader: &mut Reader, tables: &Tables, blocks: u16, block: u16) -> Result<u16, ReadError>
+    ensures { Gives (λ x. x) result reader.new (way_at tables.now blocks block reader.old) }
 {
     let left = reader.left();
-    let way = reader.number_16()?;
+    let way = reader.block_no(blocks)?;
     if !is_way(tables, block, way) {
         return Err(fault(ImageRule::I5, left));
     }
@@ -599,19 +509,20 @@ fn way(reader: &mut Reader, tables: &Tables, block: u16) -> Result<u16, ReadErro
 fn ways(
     reader: &mut Reader,
     tables: &Tables,
+    blocks: u16,
     block: u16,
     kind: Kind,
 ) -> Result<(Kind, u16), ReadError>
-    ensures { Gives (λ x. x) result reader.new (ways_at tables.now block kind reader.old) }
+    ensures { Gives (λ x. x) result reader.new (ways_at tables.now blocks block kind reader.old) }
 {
     match kind {
         Kind::TaskEnd | Kind::IsrEnd => Ok((kind, block)),
         Kind::Choice(_) => {
-            let next = way(reader, tables, block)?;
-            let other = way(reader, tables, block)?;
+            let next = way(reader, tables, blocks, block)?;
+            let other = way(reader, tables, blocks, block)?;
             Ok((Kind::Choice(BlockNo(other)), next))
         }
-        _ => Ok((kind, way(reader, tables, block)?)),
+        _ => Ok((kind, way(reader, tables, blocks, block)?)),
     }
 }
 
@@ -665,16 +576,17 @@ fn site(
 fn block(
     reader: &mut Reader,
     tables: &Tables,
+    blocks: u16,
     block: u16,
 ) -> Result<(Block, Option<Site>), ReadError>
     requires { AreSmall tables.now }
-    ensures { Gives (λ x. x) result reader.new (block_at tables.now block reader.old) }
+    ensures { Gives (λ x. x) result reader.new (block_at tables.now blocks block reader.old) }
 {
     let blank = kind(reader, tables, block)?;
     let locked = reader.flag()?;
     let line = reader.number_32()?;
     let filled = operands(reader, tables, block, blank)?;
-    let (kind, next) = ways(reader, tables, block, filled)?;
+    let (kind, next) = ways(reader, tables, blocks, block, filled)?;
     let site = site(reader, tables, block, kind)?;
     let block = Block {
         kind,
@@ -699,7 +611,7 @@ pub(crate) fn blocks(
     let mut blocks = Seq::new(alloc);
     let mut sites = Seq::new(alloc);
     for number in 0..count {
-        let (block, site) = block(reader, tables, number)?;
+        let (block, site) = block(reader, tables, count, number)?;
         blocks.push(block)?;
         sites.push(site)?;
     }

@@ -5,14 +5,14 @@ ghost use Rattle.image_codec.specs.Fits.{FitsFormat};
 ghost use Rattle.image_codec.specs.Reading.{Gives};
 ghost use Rattle.image_codec.specs.BlockReading.{parts_at, all_at};
 ghost use Rattle.image_codec.specs.ImageReading.{Answers, IsAnswered, read_image};
-ghost use Rattle.image_codec.specs.declared.image.Image.{Image as AnImage};
+ghost use Rattle.image_model.specs.declared.image.Image.{Image as AnImage};
 
 use crate::block_reading::blocks;
 use crate::fault::{ImageError, ImageFault, ImageRule, ReadError};
-use crate::image::Image;
 use crate::parts::Parts;
 use crate::reader::{Reader, fault};
 use crate::table_reading::{header, tables};
+use image_model::Image;
 use osek_standard::App;
 use std::alloc::Global;
 

@@ -2,11 +2,12 @@
 ghost use Rattle.std.specs.Prelude.{◌≡◌, ◌++◌, ◌<◌, length, OnOk, IfOk};
 ghost use Rattle.std.specs.List.{flat_map, zip};
 ghost use Rattle.image_codec.specs.Spelling.{one, eight, spelling, header_bytes, name_bytes, range_bytes, schedule_number as number_of_schedule, task_bytes, isr_bytes, counter_bytes, action_bytes, alarm_bytes, resource_bytes, lock_number as number_of_lock, kind_number as number_of_kind, operand_bytes, way_bytes, form_number as number_of_form, site_bytes, block_bytes};
+ghost use Rattle.osek_standard.specs.declared.block.Kind.TheVariants as kind;
 
-use crate::image::Image;
-use crate::site::{Form, Site};
+use image_model::{Form, Image, Site};
 use osek_standard::{
-    Action, Alarm, App, Block, Counter, Isr, Kind, Lock, Resource, Schedule, Task,
+    Action, Alarm, AlarmService, App, ArmService, Block, Call, Counter, Isr, Kind, Lock,
+    MaskService, PlainService, Resource, ResourceService, Schedule, Task, TaskService,
 };
 use osek_values::{AlarmNo, BlockNo, Memory, Name};
 use std::alloc::{AllocError, Global};
@@ -113,6 +114,32 @@ fn lock_number(lock: Lock) -> u8
     }
 }
 
+fn call_number(call: Call) -> u8
+    ensures { result ≡ number_of_kind (kind.Call call) }
+{
+    match call {
+        Call::Plain(PlainService::TerminateTask) => 4,
+        Call::Plain(PlainService::Schedule) => 6,
+        Call::Plain(PlainService::GetTaskId) => 17,
+        Call::Plain(PlainService::GetActiveApplicationMode) => 19,
+        Call::ShutdownOs => 20,
+        Call::Task(TaskService::ActivateTask, _) => 3,
+        Call::Task(TaskService::ChainTask, _) => 5,
+        Call::Task(TaskService::GetEvent, _) => 11,
+        Call::Task(TaskService::GetTaskState, _) => 18,
+        Call::Resource(ResourceService::GetResource, _) => 7,
+        Call::Resource(ResourceService::ReleaseResource, _) => 8,
+        Call::SetEvent(_, _) => 9,
+        Call::Mask(MaskService::ClearEvent, _) => 10,
+        Call::Mask(MaskService::WaitEvent, _) => 12,
+        Call::Alarm(AlarmService::CancelAlarm, _) => 15,
+        Call::Alarm(AlarmService::GetAlarm, _) => 16,
+        Call::Arm(ArmService::SetRelAlarm, _, _, _) => 13,
+        Call::Arm(ArmService::SetAbsAlarm, _, _, _) => 14,
+        Call::Lock(_) => 21,
+    }
+}
+
 fn kind_number(kind: Kind) -> u8
     ensures { result ≡ number_of_kind kind }
 {
@@ -120,25 +147,7 @@ fn kind_number(kind: Kind) -> u8
         Kind::Work(_) => 0,
         Kind::Choice(_) => 1,
         Kind::Loop => 2,
-        Kind::ActivateTask(_) => 3,
-        Kind::TerminateTask => 4,
-        Kind::ChainTask(_) => 5,
-        Kind::Schedule => 6,
-        Kind::GetResource(_) => 7,
-        Kind::ReleaseResource(_) => 8,
-        Kind::SetEvent(_, _) => 9,
-        Kind::ClearEvent(_) => 10,
-        Kind::GetEvent(_) => 11,
-        Kind::WaitEvent(_) => 12,
-        Kind::SetRelAlarm(_, _, _) => 13,
-        Kind::SetAbsAlarm(_, _, _) => 14,
-        Kind::CancelAlarm(_) => 15,
-        Kind::GetAlarm(_) => 16,
-        Kind::GetTaskId => 17,
-        Kind::GetTaskState(_) => 18,
-        Kind::GetActiveApplicationMode => 19,
-        Kind::ShutdownOs => 20,
-        Kind::LockCall(_) => 21,
+        Kind::Call(call) => call_number(call),
         Kind::TaskEnd => 22,
         Kind::IsrEnd => 23,
         Kind::CountUp => 24,
@@ -159,31 +168,19 @@ fn put_operands(out: &mut Vec<u8>, kind: Kind) -> Result<(), AllocError>
 {
     match kind {
         Kind::Work(count) => out.extend_from_slice(&count.to_be_bytes()),
-        Kind::ActivateTask(task)
-        | Kind::ChainTask(task)
-        | Kind::GetEvent(task)
-        | Kind::GetTaskState(task) => Ok(out.push(task.0)?),
-        Kind::GetResource(resource) | Kind::ReleaseResource(resource) => Ok(out.push(resource.0)?),
-        Kind::SetEvent(task, events) => {
+        Kind::Call(Call::Task(_, task)) => Ok(out.push(task.0)?),
+        Kind::Call(Call::Resource(_, resource)) => Ok(out.push(resource.0)?),
+        Kind::Call(Call::SetEvent(task, events)) => {
             out.push(task.0)?;
             out.extend_from_slice(&events.0.to_be_bytes())
         }
-        Kind::ClearEvent(events) | Kind::WaitEvent(events) => {
-            out.extend_from_slice(&events.0.to_be_bytes())
-        }
-        Kind::SetRelAlarm(alarm, increment, cycle) => put_ticks(out, alarm, increment, cycle),
-        Kind::SetAbsAlarm(alarm, start, cycle) => put_ticks(out, alarm, start, cycle),
-        Kind::CancelAlarm(alarm) | Kind::GetAlarm(alarm) | Kind::Expire(alarm) => {
-            Ok(out.push(alarm.0)?)
-        }
-        Kind::LockCall(lock) => Ok(out.push(lock_number(lock))?),
+        Kind::Call(Call::Mask(_, events)) => out.extend_from_slice(&events.0.to_be_bytes()),
+        Kind::Call(Call::Arm(_, alarm, first, cycle)) => put_ticks(out, alarm, first, cycle),
+        Kind::Call(Call::Alarm(_, alarm)) | Kind::Expire(alarm) => Ok(out.push(alarm.0)?),
+        Kind::Call(Call::Lock(lock)) => Ok(out.push(lock_number(lock))?),
         Kind::Choice(_)
         | Kind::Loop
-        | Kind::TerminateTask
-        | Kind::Schedule
-        | Kind::GetTaskId
-        | Kind::GetActiveApplicationMode
-        | Kind::ShutdownOs
+        | Kind::Call(Call::Plain(_) | Call::ShutdownOs)
         | Kind::TaskEnd
         | Kind::IsrEnd
         | Kind::CountUp => Ok(()),

@@ -1,10 +1,8 @@
 //! Why bytes are no image.
 ghost use Rattle.std.specs.Prelude.{◌≡◌};
 ghost use Rattle.image_codec.specs.Rules.{image_rule_name};
-ghost use Rattle.image_codec.specs.declared.fault.ReadError.TheVariants.{Memory as no_memory};
 
-use osek_values::Memory;
-use std::alloc::{AllocError, AllocFailed};
+use osek_values::Refused;
 use thiserror::Error;
 
 /// The rules of the image format.
@@ -44,22 +42,15 @@ impl ImageRule {
 }
 
 /// The first fault of the bytes: the rule, and the offset of the field's first byte.
-#[derive(Clone, Copy, PartialEq, Eq, Debug)]
+#[derive(Clone, Copy, PartialEq, Eq, Debug, Error)]
+#[error("{offset}: {rule:?}")]
 pub struct ImageFault {
     pub rule: ImageRule,
     pub offset: usize,
 }
 
 /// Why no image was read.
-#[derive(Clone, Copy, PartialEq, Eq, Debug, Error)]
-pub enum ImageError {
-    /// The first fault of the bytes.
-    #[error("{}: {:?}", .0.offset, .0.rule)]
-    Fault(ImageFault),
-    /// Want of memory.
-    #[error("memory")]
-    Memory,
-}
+pub type ImageError = Refused<ImageFault>;
 
 /// A fault as a reader finds it: the rule, and how many bytes are left where the field begins.
 #[derive(Clone, Copy, PartialEq, Eq, Debug)]
@@ -69,32 +60,4 @@ pub(crate) struct Fault {
 }
 
 /// Why a field was not read.
-#[derive(Clone, Copy, PartialEq, Eq, Debug)]
-pub(crate) enum ReadError {
-    Fault(Fault),
-    Memory,
-}
-
-impl From<AllocError> for ReadError {
-    ghost from_gives = { λ _ e. e ≡ no_memory };
-
-    fn from(_e: AllocError) -> ReadError {
-        ReadError::Memory
-    }
-}
-
-impl<T: Drop> From<AllocFailed<T>> for ReadError {
-    ghost from_gives = { λ _ e. e ≡ no_memory };
-
-    fn from(_e: AllocFailed<T>) -> ReadError {
-        ReadError::Memory
-    }
-}
-
-impl From<Memory> for ReadError {
-    ghost from_gives = { λ _ e. e ≡ no_memory };
-
-    fn from(_e: Memory) -> ReadError {
-        ReadError::Memory
-    }
-}
+pub(crate) type ReadError = Refused<Fault>;

@@ -1,5 +1,5 @@
 //! Laws over the definitions.
-ghost use Rattle.image_codec.specs.Laws.{OneSpelling, SpellOrFail, SpellingIsRead, GeneralIsTheKernel};
+ghost use Rattle.image_codec.specs.Laws.{OneSpelling, SpellOrFail, SpellingIsRead, HeaderFaults, EntryFaults, BlocksFaults, ImageFaults};
 
 /// Equal bytes mean equal images, whatever follows them; so no spelling begins another.
 pub fn one_spelling()
@@ -12,8 +12,11 @@ pub fn one_answer()
     ensures one { SpellingIsRead }
 {}
 
-/// An image whose sites all have the general form is the kernel: for each mode and list of events its trace is the
-/// kernel's, and it never traps.
-pub fn general_is_the_kernel()
-    ensures { GeneralIsTheKernel }
+/// The first fault of the header, of an entry and of all blocks is that of the first field that breaks a rule, as the
+/// table of fields says, and the rule of the lowest number that the field breaks.
+pub fn first_fault_by_fields()
+    ensures header { HeaderFaults }
+    ensures entries { EntryFaults }
+    ensures blocks { BlocksFaults }
+    ensures image { ImageFaults }
 {}

@@ -104,7 +104,7 @@ impl<'a> Reader<'a> {
     /// The length byte of a name.
     #[tactic(auto, unfolding(crate::specs::Reading::tested_byte_at))]
     fn name_len(&mut self) -> Result<u8, ReadError>
-        ensures { Gives (λ x. x) result self.new (tested_byte_at (λ n. nat_lt 0 n && nat_le n 64) I4 self.old) }
+        ensures { Gives (λ x. x) result self.new (tested_byte_at (λ n. nat_lt 0 n && nat_le n MAX_NAME) I4 self.old) }
     {
         let left = self.left();
         let len = self.byte()?;

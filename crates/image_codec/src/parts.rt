@@ -1,5 +1,5 @@
 //! The parts of an image while it is read.
-use crate::site::Site;
+use image_model::Site;
 use osek_standard::{Alarm, Block, Counter, Isr, Resource, Task};
 use osek_values::{BlockNo, HookSet, Name, Seq};
 

@@ -1,8 +1,8 @@
 //! Reading fields from the front of bytes.
-ghost use Rattle.std.specs.Prelude.{◌≡◌, ◌≤◌, ◌<◌, ◌+◌, ◌^◌, ◌==◌, ◌&&◌, IfOk, List, ℕ, length, take, drop, not, nat_lt, nat_le};
+ghost use Rattle.std.specs.Prelude.{◌≡◌, ◌≤◌, ◌<◌, ◌+◌, ◌^◌, ◌==◌, ◌&&◌, IfOk, List, ℕ, length, nat_lt};
 ghost use Rattle.std.specs.Int.{w16, w32, w64};
-ghost use Rattle.std.specs.List.{list_any};
-ghost use Rattle.std.specs.Str.{bytes_eq};
+ghost use Rattle.image_codec.specs.declared.fault.ImageRule.TheVariants.{I3};
+ghost use Rattle.osek_values.specs.declared.refused.Refused.TheVariants as refused;
 
 use crate::fault::{Fault, ImageRule, ReadError};
 use std::marker::Model;
@@ -23,13 +23,13 @@ impl<'a> Model for Reader<'a> {
 
 /// A fault of a rule, at a field before which so many bytes are left.
 pub(crate) fn fault(rule: ImageRule, left: usize) -> ReadError
-    ensures { result ≡ ReadError.Fault (record { rule = rule; left = left }) }
+    ensures { result ≡ refused.Fault (record { rule = rule; left = left }) }
 {
     ReadError::Fault(Fault { rule, left })
 }
 
 impl<'a> Reader<'a> {
-    ghost use Rattle.image_codec.specs.Reading.{Gives, byte_at, number_at, text_at, exactly_at, byte_below_at, flag_at, modes_at};
+    ghost use Rattle.image_codec.specs.Reading.{Gives, byte_at, number_at, text_at, exactly_at, byte_below_at, tested_at, flag_at, modes_at};
 
     /// Reads these bytes.
     pub fn new(bytes: &'a [u8]) -> Reader<'a>
@@ -137,6 +137,19 @@ impl<'a> Reader<'a> {
             return Err(fault(ImageRule::I3, left));
         }
         Ok(byte)
+    }
+
+    /// The number of one of so many blocks.
+    #[tactic(auto, unfolding(crate::specs::Reading::tested_at))]
+    pub fn block_no(&mut self, blocks: u16) -> Result<u16, ReadError>
+        ensures { Gives (λ x. x) result self.new (tested_at w16 (λ n. nat_lt n blocks) I3 self.old) }
+    {
+        let left = self.left();
+        let number = self.number_16()?;
+        if number >= blocks {
+            return Err(fault(ImageRule::I3, left));
+        }
+        Ok(number)
     }
 
     /// A byte that is 0 or 1.

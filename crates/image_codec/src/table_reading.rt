@@ -3,7 +3,7 @@ ghost use Rattle.std.specs.Prelude.{◌≡◌, ◌+◌, ◌≤◌, ◌<◌, ◌|
 ghost use Rattle.std.specs.Int.{w16, w32, w64};
 ghost use Rattle.std.specs.List.{list_any};
 ghost use Rattle.osek_standard.specs.Validity.{meet, owners, no_counter, is_cycle_of};
-ghost use Rattle.image_codec.specs.Reading.{Gives, tested_at, tested_byte_at, count_at, range_at, entries_at, name_at};
+ghost use Rattle.image_codec.specs.Reading.{Gives, byte_below_at, tested_at, tested_byte_at, count_at, range_at, entries_at, name_at};
 ghost use Rattle.image_codec.specs.TableReading.{HasFew, header_at, schedule_of as schedule_of_number, schedule_at, task_at, isr_at, counter_at, is_action_mask as is_mask_of_action, action_of as action_of_numbers, action_at, is_start_time as is_time_of_start, is_start_cycle as is_cycle_of_start, alarm_at, resource_at, tables_at};
 ghost use Rattle.image_codec.specs.BlockReading.{AreSmall};
 ghost use Rattle.image_codec.specs.declared.fault.ImageRule.TheVariants.{I3, I5};
@@ -13,18 +13,33 @@ use crate::fault::{ImageRule, ReadError};
 use crate::parts::{Header, Range, Tables};
 use crate::reader::{Reader, fault};
 use osek_standard::{Action, Alarm, Counter, Isr, Resource, Schedule, Task};
+use osek_values::limits::{
+    MAX_ALARMS, MAX_BLOCKS, MAX_COUNTERS, MAX_ISRS, MAX_MODES, MAX_RESOURCES, MAX_TASKS,
+};
 use osek_values::{BlockNo, CounterNo, HookSet, Mask, Name, Seq, TaskNo};
 use std::alloc::Global;
+
+/// Above the greatest base priority, which is twice a number of 16 bits.
+const GREATEST_CEILING: u32 = 131_071;
+
+/// How many entries a table has, at most so many.
+fn entry_count(reader: &mut Reader, most: usize) -> Result<u8, ReadError>
+    requires { most < 255 }
+    ensures gives { Gives (λ x. x) result reader.new (byte_below_at (most + 1) reader.old) }
+    ensures few { IfOk result (λ n. n ≤ most) }
+{
+    reader.byte_below(most as u8 + 1)
+}
 
 /// How many modes there are.
 #[tactic(auto, unfolding(crate::specs::Reading::tested_byte_at))]
 fn mode_count(reader: &mut Reader) -> Result<u8, ReadError>
-    ensures gives { Gives (λ x. x) result reader.new (tested_byte_at (λ n. nat_lt 0 n && nat_le n 8) I3 reader.old) }
-    ensures few { IfOk result (λ n. n ≤ 8) }
+    ensures gives { Gives (λ x. x) result reader.new (tested_byte_at (λ n. nat_lt 0 n && nat_le n MAX_MODES) I3 reader.old) }
+    ensures few { IfOk result (λ n. n ≤ MAX_MODES) }
 {
     let left = reader.left();
     let modes = reader.byte()?;
-    if modes == 0 || modes > 8 {
+    if modes == 0 || modes as usize > MAX_MODES {
         return Err(fault(ImageRule::I3, left));
     }
     Ok(modes)
@@ -33,11 +48,11 @@ fn mode_count(reader: &mut Reader) -> Result<u8, ReadError>
 /// How many blocks there are.
 #[tactic(auto, unfolding(crate::specs::Reading::tested_at))]
 fn block_count(reader: &mut Reader) -> Result<u16, ReadError>
-    ensures { Gives (λ x. x) result reader.new (tested_at w16 (λ n. nat_le n 1056) I3 reader.old) }
+    ensures { Gives (λ x. x) result reader.new (tested_at w16 (λ n. nat_le n MAX_BLOCKS) I3 reader.old) }
 {
     let left = reader.left();
     let blocks = reader.number_16()?;
-    if blocks > 1056 {
+    if blocks as usize > MAX_BLOCKS {
         return Err(fault(ImageRule::I3, left));
     }
     Ok(blocks)
@@ -50,11 +65,11 @@ pub(crate) fn header(reader: &mut Reader) -> Result<Header, ReadError>
 {
     reader.exactly(&MAGIC, ImageRule::I2)?;
     let hooks = HookSet(reader.byte_below(32)?);
-    let tasks = reader.byte_below(17)?;
-    let isrs = reader.byte_below(9)?;
-    let counters = reader.byte_below(9)?;
-    let alarms = reader.byte_below(17)?;
-    let resources = reader.byte_below(9)?;
+    let tasks = entry_count(reader, MAX_TASKS)?;
+    let isrs = entry_count(reader, MAX_ISRS)?;
+    let counters = entry_count(reader, MAX_COUNTERS)?;
+    let alarms = entry_count(reader, MAX_ALARMS)?;
+    let resources = entry_count(reader, MAX_RESOURCES)?;
     let modes = mode_count(reader)?;
     let blocks = block_count(reader)?;
     Ok(Header {
@@ -109,19 +124,6 @@ fn meets_owner(tasks: &[Task], isrs: &[Isr], counters: &[Counter], first: u16, c
     task || routine
 }
 
-/// The first block of an owner.
-#[tactic(auto, unfolding(crate::specs::Reading::tested_at))]
-fn first_block(reader: &mut Reader, blocks: u16) -> Result<u16, ReadError>
-    ensures { Gives (λ x. x) result reader.new (tested_at w16 (λ n. nat_lt n blocks) I3 reader.old) }
-{
-    let left = reader.left();
-    let first = reader.number_16()?;
-    if first >= blocks {
-        return Err(fault(ImageRule::I3, left));
-    }
-    Ok(first)
-}
-
 /// How many blocks an owner has from its first on, all of them within the blocks.
 #[tactic(auto, unfolding(crate::specs::Reading::tested_at))]
 fn inner_count(reader: &mut Reader, blocks: u16, first: u16) -> Result<u16, ReadError>
@@ -166,7 +168,7 @@ fn range(
 ) -> Result<Range, ReadError>
     ensures { Gives (λ x. x) result reader.new (range_at blocks (owners tasks.now isrs.now counters.now) reader.old) }
 {
-    let first = first_block(reader, blocks)?;
+    let first = reader.block_no(blocks)?;
     let count = own_count(reader, blocks, first, tasks, isrs, counters)?;
     Ok(Range {
         first: BlockNo(first),
@@ -217,7 +219,7 @@ fn task(
     header: Header,
     earlier: &[Task],
 ) -> Result<Task, ReadError>
-    requires { header.modes ≤ 8 }
+    requires { header.modes ≤ MAX_MODES }
     ensures { Gives (λ x. x) result reader.new (task_at header earlier.now reader.old) }
 {
     let name = reader.name(alloc, earlier)?;
@@ -412,7 +414,7 @@ fn alarm(
     counters: &[Counter],
     earlier: &[Alarm],
 ) -> Result<Alarm, ReadError>
-    requires modes { header.modes ≤ 8 }
+    requires modes { header.modes ≤ MAX_MODES }
     requires counters { length counters.now ≡ header.counters }
     ensures { Gives (λ x. x) result reader.new (alarm_at header counters.now earlier.now reader.old) }
 {
@@ -438,12 +440,12 @@ fn resource(alloc: Global, reader: &mut Reader, earlier: &[Resource]) -> Result<
     ensures { Gives (λ x. x) result reader.new (resource_at earlier.now reader.old) }
 {
     let name = reader.name(alloc, earlier)?;
-    let ceiling = at_most(reader, 131_071)?;
+    let ceiling = at_most(reader, GREATEST_CEILING)?;
     Ok(Resource { name, ceiling })
 }
 
 fn read_tasks(alloc: Global, reader: &mut Reader, header: Header) -> Result<Seq<Task>, ReadError>
-    requires { header.modes ≤ 8 }
+    requires { header.modes ≤ MAX_MODES }
     ensures { Gives (λ x. x) result reader.new (entries_at (task_at header) [] header.tasks reader.old) }
 {
     let mut tasks = Seq::new(alloc);
@@ -494,7 +496,7 @@ fn read_alarms(
     header: Header,
     counters: &[Counter],
 ) -> Result<Seq<Alarm>, ReadError>
-    requires modes { header.modes ≤ 8 }
+    requires modes { header.modes ≤ MAX_MODES }
     requires counters { length counters.now ≡ header.counters }
     ensures { Gives (λ x. x) result reader.new (entries_at (alarm_at header counters.now) [] header.alarms reader.old) }
 {

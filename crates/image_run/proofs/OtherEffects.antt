@@ -2,20 +2,15 @@
 use Rattle.std.proofs.Common.{◌≡◌, ℕ, ◌+◌, Bool, true, false, refl, sym, ◌∙◌, ap, subst, Some, None, not, ◌||◌, nat_lt, nat_eq}
 use Rattle.std.specs.Prelude.{if◌then◌else◌}
 use Rattle.std.specs.declared.option.Option.{Option}
-use Rattle.osek_values.specs.declared.numbers.ResNo.{ResNo}
-use Rattle.osek_values.specs.declared.numbers.BlockNo.{BlockNo}
-use Rattle.osek_values.specs.declared.numbers.SourceNo.{SourceNo}
+use Rattle.osek_values.specs.declared.numbers.{ResNo.{ResNo}, BlockNo.{BlockNo}, SourceNo.{SourceNo}}
 use Rattle.osek_values.specs.declared.status.Ask.{Ask}
 use Rattle.osek_values.specs.declared.status.Ask.TheVariants as ask
 use Rattle.osek_standard.specs.declared.app.App.{App}
-use Rattle.osek_standard.specs.declared.block.Block.{Block}
-use Rattle.osek_standard.specs.declared.block.Kind.{Kind}
+use Rattle.osek_standard.specs.declared.block.{Block.{Block}, Kind.{Kind}}
 use Rattle.osek_standard.specs.declared.block.Kind.TheVariants as kind
-use Rattle.osek_standard.specs.declared.state.State.{State}
-use Rattle.osek_standard.specs.declared.state.Processor.{Processor}
+use Rattle.image_model.specs.CallNames as call
+use Rattle.osek_standard.specs.declared.state.{State.{State}, Processor.{Processor}, Caller.{Caller}, Caller.TheVariants.{Nobody, Task, Routine}}
 use Rattle.osek_standard.specs.declared.state.Processor.TheVariants as processor
-use Rattle.osek_standard.specs.declared.state.Caller.{Caller}
-use Rattle.osek_standard.specs.declared.state.Caller.TheVariants.{Nobody, Task, Routine}
 use Rattle.osek_standard.specs.declared.task_state.Place.{Place}
 use Rattle.osek_standard.specs.Apps.{the_block, is_cycle, is_extended, is_routine_end, is_site, is_task_block, max_of, may_dispatch}
 use Rattle.osek_standard.specs.TaskStates.{is_suspended}
@@ -86,25 +81,25 @@ other_no : (app : App) (s : State) (choice : Bool) (p : Place) (b : Block) (k : 
 other_no app s choice p b (kind.Work n) e f = either_way AsksNo (nat_lt (p.offset + 1) n) _ _ refl refl
 other_no app s choice p b (kind.Choice other) e f = refl
 other_no app s choice p b kind.Loop e f = asked_no app (caller s.processor) kind.Loop
-other_no app s choice p b (kind.ActivateTask t) e f = absurd (cc)
-other_no app s choice p b kind.TerminateTask e f = absurd (cc)
-other_no app s choice p b (kind.ChainTask t) e f = absurd (cc)
-other_no app s choice p b kind.Schedule e f = absurd (cc)
-other_no app s choice p b (kind.GetResource r) e f = asks_as_no app (caller s.processor) _ _ (get_resource_no app (moved_to s b.next) (caller s.processor) r)
-other_no app s choice p b (kind.ReleaseResource r) e f = absurd (cc)
-other_no app s choice p b (kind.SetEvent t m) e f = absurd (cc)
-other_no app s choice p b (kind.ClearEvent m) e f = asks_as_no app (caller s.processor) _ _ (clear_event_no app (moved_to s b.next) (caller s.processor) m.0)
-other_no app s choice p b (kind.GetEvent t) e f = asks_as_no app (caller s.processor) _ _ (get_event_no app (moved_to s b.next) t.0)
-other_no app s choice p b (kind.WaitEvent m) e f = absurd (cc)
-other_no app s choice p b (kind.SetRelAlarm a i y) e f = asks_as_no app (caller s.processor) _ _ (set_rel_alarm_no app (moved_to s b.next) a.0 i y)
-other_no app s choice p b (kind.SetAbsAlarm a i y) e f = asks_as_no app (caller s.processor) _ _ (set_abs_alarm_no app (moved_to s b.next) a.0 i y)
-other_no app s choice p b (kind.CancelAlarm a) e f = asks_as_no app (caller s.processor) _ _ (cancel_alarm_no app (moved_to s b.next) a.0)
-other_no app s choice p b (kind.GetAlarm a) e f = asks_as_no app (caller s.processor) _ _ (get_alarm_no app (moved_to s b.next) a.0)
-other_no app s choice p b kind.GetTaskId e f = asked_no app (caller s.processor) kind.GetTaskId
-other_no app s choice p b (kind.GetTaskState t) e f = asked_no app (caller s.processor) (kind.GetTaskState t)
-other_no app s choice p b kind.GetActiveApplicationMode e f = asked_no app (caller s.processor) kind.GetActiveApplicationMode
-other_no app s choice p b kind.ShutdownOs e f = refl
-other_no app s choice p b (kind.LockCall l) e f = asked_no app (caller s.processor) (kind.LockCall l)
+other_no app s choice p b (kind.Call (call.Task call.ActivateTask t)) e f = absurd (cc)
+other_no app s choice p b (kind.Call (call.Plain call.TerminateTask)) e f = absurd (cc)
+other_no app s choice p b (kind.Call (call.Task call.ChainTask t)) e f = absurd (cc)
+other_no app s choice p b (kind.Call (call.Plain call.Schedule)) e f = absurd (cc)
+other_no app s choice p b (kind.Call (call.Resource call.GetResource r)) e f = asks_as_no app (caller s.processor) _ _ (get_resource_no app (moved_to s b.next) (caller s.processor) r)
+other_no app s choice p b (kind.Call (call.Resource call.ReleaseResource r)) e f = absurd (cc)
+other_no app s choice p b (kind.Call (call.SetEvent t m)) e f = absurd (cc)
+other_no app s choice p b (kind.Call (call.Mask call.ClearEvent m)) e f = asks_as_no app (caller s.processor) _ _ (clear_event_no app (moved_to s b.next) (caller s.processor) m.0)
+other_no app s choice p b (kind.Call (call.Task call.GetEvent t)) e f = asks_as_no app (caller s.processor) _ _ (get_event_no app (moved_to s b.next) t.0)
+other_no app s choice p b (kind.Call (call.Mask call.WaitEvent m)) e f = absurd (cc)
+other_no app s choice p b (kind.Call (call.Arm call.SetRelAlarm a i y)) e f = asks_as_no app (caller s.processor) _ _ (set_rel_alarm_no app (moved_to s b.next) a.0 i y)
+other_no app s choice p b (kind.Call (call.Arm call.SetAbsAlarm a i y)) e f = asks_as_no app (caller s.processor) _ _ (set_abs_alarm_no app (moved_to s b.next) a.0 i y)
+other_no app s choice p b (kind.Call (call.Alarm call.CancelAlarm a)) e f = asks_as_no app (caller s.processor) _ _ (cancel_alarm_no app (moved_to s b.next) a.0)
+other_no app s choice p b (kind.Call (call.Alarm call.GetAlarm a)) e f = asks_as_no app (caller s.processor) _ _ (get_alarm_no app (moved_to s b.next) a.0)
+other_no app s choice p b (kind.Call (call.Plain call.GetTaskId)) e f = asked_no app (caller s.processor) (kind.Call (call.Plain call.GetTaskId))
+other_no app s choice p b (kind.Call (call.Task call.GetTaskState t)) e f = asked_no app (caller s.processor) (kind.Call (call.Task call.GetTaskState t))
+other_no app s choice p b (kind.Call (call.Plain call.GetActiveApplicationMode)) e f = asked_no app (caller s.processor) (kind.Call (call.Plain call.GetActiveApplicationMode))
+other_no app s choice p b (kind.Call call.ShutdownOs) e f = refl
+other_no app s choice p b (kind.Call (call.Lock l)) e f = asked_no app (caller s.processor) (kind.Call (call.Lock l))
 other_no app s choice p b kind.TaskEnd e f = absurd (cc)
 other_no app s choice p b kind.IsrEnd e f = absurd (cc)
 other_no app s choice p b kind.CountUp e f = asked_no app (caller s.processor) kind.CountUp
@@ -118,8 +113,8 @@ waits_not app s r m next = refl
 routine_no : (app : App) (s : State) (r : SourceNo) → caller s.processor ≡ Routine r → (choice : Bool) (p : Place) (b : Block) (k : Kind) → is_routine_end k ≡ false → (effect_at app s choice p b k).ask ≡ ask.No
 routine_no app s r c choice p b (kind.Work n) e = either_way AsksNo (nat_lt (p.offset + 1) n) _ _ refl refl
 routine_no app s r c choice p b (kind.Choice other) e = refl
-routine_no app s r c choice p b (kind.WaitEvent m) e = ap (λ (x : Caller). (goes_on_unless_left b.next (wait_event app s x m.0)).ask) c ∙ waits_not app s r m.0 b.next
-routine_no app s r c choice p b kind.ShutdownOs e = refl
+routine_no app s r c choice p b (kind.Call (call.Mask call.WaitEvent m)) e = ap (λ (x : Caller). (goes_on_unless_left b.next (wait_event app s x m.0)).ask) c ∙ waits_not app s r m.0 b.next
+routine_no app s r c choice p b (kind.Call call.ShutdownOs) e = refl
 routine_no app s r c choice p b kind.TaskEnd e = ap (λ (x : Caller). (end_task app s x).ask) c
 routine_no app s r c choice p b kind.IsrEnd e = absurd (cc)
 routine_no app s r c choice p b k e = ap (λ (x : Caller). asked_by app x k (called app (moved_to s b.next) (caller s.processor) k).ask) c

@@ -3,19 +3,14 @@ use Rattle.std.proofs.Common.{◌≡◌, ℕ, ◌+◌, ◌<◌, Bool, true, fals
 use Rattle.std.specs.Prelude.{⊤, if◌then◌else◌}
 use Rattle.std.specs.declared.option.Option.{Option}
 use Rattle.std.proofs.lemmas.Bool.{cases_Bool}
-use Rattle.osek_values.specs.declared.numbers.TaskNo.{TaskNo}
-use Rattle.osek_values.specs.declared.numbers.BlockNo.{BlockNo}
+use Rattle.osek_values.specs.declared.numbers.{TaskNo.{TaskNo}, BlockNo.{BlockNo}}
 use Rattle.osek_standard.specs.declared.app.App.{App}
-use Rattle.osek_standard.specs.declared.block.Block.{Block}
-use Rattle.osek_standard.specs.declared.block.Kind.{Kind}
+use Rattle.osek_standard.specs.declared.block.{Block.{Block}, Kind.{Kind}}
 use Rattle.osek_standard.specs.declared.block.Kind.TheVariants as kind
-use Rattle.osek_standard.specs.declared.state.State.{State}
-use Rattle.osek_standard.specs.declared.state.Source.{Source}
+use Rattle.image_model.specs.CallNames as call
+use Rattle.osek_standard.specs.declared.state.{State.{State}, Source.{Source}, Processor.{Processor}, Caller.{Caller}, Caller.TheVariants.{Nobody, Task, Routine}}
 use Rattle.osek_standard.specs.declared.state.Source.TheVariants as source
-use Rattle.osek_standard.specs.declared.state.Processor.{Processor}
 use Rattle.osek_standard.specs.declared.state.Processor.TheVariants as processor
-use Rattle.osek_standard.specs.declared.state.Caller.{Caller}
-use Rattle.osek_standard.specs.declared.state.Caller.TheVariants.{Nobody, Task, Routine}
 use Rattle.osek_standard.specs.declared.task_state.Place.{Place}
 use Rattle.osek_standard.specs.Apps.{the_block, is_extended, is_routine_end, is_site, is_task_block, may_dispatch, source_count}
 use Rattle.osek_standard.specs.States.{caller, here, task_state, with_source}
@@ -72,8 +67,8 @@ task_leaves : (app : App) (s : State) → TaskRuns s.processor → (choice : Boo
 task_leaves app s r choice p b (kind.Work n) =
     either_way (λ (a : Answer). a.state.sources ≡ s.sources) (nat_lt (p.offset + 1) n) _ _ (moved_leaves s (place_at p.block (p.offset + 1)) s.processor r) (moved_leaves s (place_at b.next 0) s.processor r)
 task_leaves app s r choice p b (kind.Choice other) = moved_leaves s (place_at (if choice then b.next else other) 0) s.processor r
-task_leaves app s r choice p b (kind.WaitEvent m) = wait_leaves app s (caller s.processor) m.0 b.next (moved_leaves s (place_at b.next 0) s.processor r)
-task_leaves app s r choice p b kind.ShutdownOs =
+task_leaves app s r choice p b (kind.Call (call.Mask call.WaitEvent m)) = wait_leaves app s (caller s.processor) m.0 b.next (moved_leaves s (place_at b.next 0) s.processor r)
+task_leaves app s r choice p b (kind.Call call.ShutdownOs) =
     let moved = moved_to s b.next in
     halted_leaves moved moved.processor (subst TaskRuns (sym (moved_processor s (place_at b.next 0) s.processor)) r) ∙ moved_leaves s (place_at b.next 0) s.processor r
 task_leaves app s r choice p b kind.TaskEnd = end_leaves app s (caller s.processor)

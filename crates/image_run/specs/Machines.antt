@@ -7,10 +7,10 @@ use Rattle.osek_values.specs.declared.notes.Notes.{Notes}
 use Rattle.osek_standard.specs.declared.state.State.{State}
 use Rattle.osek_standard.specs.Dispatch.{Stepped}
 use Rattle.osek_standard.specs.Well.{Well}
-use Rattle.image_codec.specs.declared.image.Image.{Image}
-use Rattle.image_codec.specs.contracts.image.Image.{the_row as image_row}
+use Rattle.image_model.specs.declared.image.Image.{Image}
+use Rattle.image_model.specs.contracts.image.Image.{the_row as image_row}
 use Rattle.osek_standard.specs.contracts.state.State.{the_row as state_row}
-use Rattle.image_codec.specs.ImageStep.{image_step}
+use Rattle.image_model.specs.ImageStep.{image_step}
 
 -- the image that it replays, the state, and whether it trapped
 pub record AtWork : Type 0 where

@@ -4,10 +4,10 @@ use Rattle.osek_values.specs.declared.event.Event.{Event}
 use Rattle.osek_standard.specs.declared.state.State.{State}
 use Rattle.osek_standard.specs.States.{here}
 use Rattle.generic_kernel.specs.Moves.{instruction_due}
-use Rattle.image_codec.specs.declared.site.Form.{Form}
-use Rattle.image_codec.specs.declared.site.Form.TheVariants as form
-use Rattle.image_codec.specs.declared.image.Image.{Image}
-use Rattle.image_codec.specs.ImageStep.{form_at}
+use Rattle.image_model.specs.declared.site.Form.{Form}
+use Rattle.image_model.specs.declared.site.Form.TheVariants as form
+use Rattle.image_model.specs.declared.image.Image.{Image}
+use Rattle.image_model.specs.ImageStep.{form_at}
 use Rattle.image_run.specs.Machines.{AtWork}
 
 -- at a site of the general form at most one comparison for each task, and elsewhere none

@@ -1,18 +1,17 @@
 //! One instruction of an image.
 ghost use Rattle.std.specs.Prelude.{◌≡◌, ◌+◌, ◌≤◌, length, Option, Some, None, IfSome, option_map};
-ghost use Rattle.osek_values.specs.declared.status.Ask.TheVariants as ask_is;
 ghost use Rattle.osek_standard.specs.States.{here as here_of};
 ghost use Rattle.osek_standard.specs.Effects.{effected};
 ghost use Rattle.osek_standard.specs.Dispatch.{concluded, stepped, with_hooks as with_hooks_of};
 ghost use Rattle.osek_standard.specs.Well.{Well, AreOut, IsActive};
 ghost use Rattle.osek_standard.specs.Apps.{IsDeclared};
 ghost use Rattle.generic_kernel.specs.Moves.{MayDispatch, instruction_due};
-ghost use Rattle.image_codec.specs.Sites.{IsForm};
-ghost use Rattle.image_codec.specs.ImageStep.{form_at, formed_at, instructed, image_step as image_step_of};
+ghost use Rattle.image_model.specs.Sites.{IsForm};
+ghost use Rattle.image_model.specs.ImageStep.{form_at, formed_at, instructed, image_step as image_step_of};
 ghost use Rattle.image_run.specs.Scans.{scans_at, scans_due};
 
 use generic_kernel::{Effect, conclude, effect, here, nothing, switch_to, take_event};
-use image_codec::{Form, Image, form};
+use image_model::{Form, Image, Site, site_at};
 use osek_standard::{App, State};
 use osek_values::{Ask, Event, HookSet, Notes, Steps};
 use std::sync::ledger::Ledger;
@@ -27,46 +26,58 @@ fn with_hooks(notes: Notes, hooks: HookSet) -> Notes
     }
 }
 
-/// The outcome that the form of the block gives after the effect of its instruction. `None` is a trap.
+/// The outcome that the site at the block gives after the effect of its instruction. `None` is a trap.
 fn conclude_by<L: Ledger>(
     app: &App,
     state: &mut State,
     done: Effect,
-    form: Option<Form>,
+    site: Option<Site>,
     scans: &mut Steps<L>,
 ) -> Option<Notes>
     requires well { Well app.now state.old }
     requires dispatch { MayDispatch app.now state.old done.ask }
-    requires site { IfSome form (λ f. AreOut app.now state.old) }
-    requires names { IfSome form (λ f. IsForm (length app.now.tasks) f) }
-    requires other { form ≡ None → done.ask ≡ Ask.No }
-    ensures step { option_map (concluded app.now (effected state.old done.notes done.ask)) (formed_at app.now (effected state.old done.notes done.ask) form) ≡ option_map (stepped state.new) result }
+    requires site { IfSome site (λ x. AreOut app.now state.old) }
+    requires names { IfSome site (λ x. IsForm (length app.now.tasks) x.form) }
+    requires other { site ≡ None → done.ask ≡ Ask.No }
+    ensures step { option_map (concluded app.now (effected state.old done.notes done.ask)) (formed_at app.now (effected state.old done.notes done.ask) site) ≡ option_map (stepped state.new) result }
     ensures well { Well app.now state.new }
-    ensures scans { scans.new ≤ scans.old + scans_at form (length app.now.tasks) }
+    ensures scans { scans.new ≤ scans.old + scans_at (option_map (λ x. x.form) site) (length app.now.tasks) }
 {
     let none = app.hooks.among(HookSet::none());
-    match form {
+    match site {
         None => Some(with_hooks(done.notes, none)),
-        Some(Form::Never) => None,
-        Some(Form::Stay) => match done.ask {
+        Some(Site { form: Form::Never }) => None,
+        Some(Site { form: Form::Stay }) => match done.ask {
             Ask::No | Ask::Maybe | Ask::Free => Some(with_hooks(done.notes, none)),
             Ask::Left => None,
         },
-        Some(Form::Direct(None)) => match done.ask {
+        Some(
+            Site {
+                form: Form::Direct(None),
+            },
+        ) => match done.ask {
             Ask::No | Ask::Maybe => None,
             Ask::Left | Ask::Free => {
                 let hooks = switch_to(app, state, None, done.ask);
                 Some(with_hooks(done.notes, hooks))
             }
         },
-        Some(Form::Direct(Some(task))) => {
+        Some(
+            Site {
+                form: Form::Direct(Some(task)),
+            },
+        ) => {
             if !state.task(task).is_live() {
                 return None;
             }
             let hooks = switch_to(app, state, Some(task), done.ask);
             Some(with_hooks(done.notes, hooks))
         }
-        Some(Form::General) => {
+        Some(
+            Site {
+                form: Form::General,
+            },
+        ) => {
             let hooks = conclude(app, state, done.ask, scans);
             Some(with_hooks(done.notes, hooks))
         }
@@ -87,7 +98,7 @@ fn instruct<L: Ledger>(
     ensures scans { scans.new ≤ scans.old + scans_at (form_at image.now (here_of state.old).block.0) (length image.now.app.tasks) }
 {
     let place = here(&image.app, state);
-    let site = form(image, place.block);
+    let site = site_at(image, place.block);
     let done = effect(&image.app, state, choice);
     conclude_by(&image.app, state, done, site, scans)
 }

@@ -10,7 +10,7 @@ ghost use Rattle.image_run.specs.Scans.{most_scans};
 use crate::instruction::image_step;
 use crate::trap::Trap;
 use generic_kernel::start;
-use image_codec::Image;
+use image_model::Image;
 use osek_standard::{App, State};
 use osek_values::{Event, Memory, ModeNo, Notes, Steps};
 use std::alloc::Global;

@@ -1,6 +1,6 @@
 //! Worked images as bytes, and what hostile bytes are.
 use image_codec::{Form, Image, ImageError, ImageRule, decode, encode, form, general};
-use osek_standard::{Kind, Schedule, Task};
+use osek_standard::{Call, Kind, PlainService, Schedule, Task, TaskService};
 use osek_values::{BlockNo, TaskNo};
 use std::alloc::Global;
 use std::test::*;
@@ -111,10 +111,10 @@ fn one_task(rt: HostRuntime) {
 
 /// What the blocks of two tasks do.
 const KINDS: [Kind; 5] = [
-    Kind::ActivateTask(TaskNo(1)),
-    Kind::TerminateTask,
+    Kind::Call(Call::Task(TaskService::ActivateTask, TaskNo(1))),
+    Kind::Call(Call::Plain(PlainService::TerminateTask)),
     Kind::TaskEnd,
-    Kind::TerminateTask,
+    Kind::Call(Call::Plain(PlainService::TerminateTask)),
     Kind::TaskEnd,
 ];
 
@@ -216,7 +216,7 @@ fn a_byte_after_the_end(rt: HostRuntime) {
 }
 
 /// A byte of the two tasks' image at an offset, and the fault with it: its rule and its offset.
-const HOSTILE: [(&str, usize, u8, ImageRule, usize); 18] = [
+const HOSTILE: [(&str, usize, u8, ImageRule, usize); 19] = [
     ("no magic", 0, 0x4e, ImageRule::I2, 0),
     ("another version", 7, 2, ImageRule::I2, 0),
     ("a sixth hook", 8, 32, ImageRule::I3, 8),
@@ -251,6 +251,7 @@ const HOSTILE: [(&str, usize, u8, ImageRule, usize); 18] = [
     ("IsrEnd in a task", 90, 23, ImageRule::I5, 90),
     ("a task beyond the tasks", 96, 2, ImageRule::I3, 96),
     ("a way out of the owner", 98, 3, ImageRule::I5, 97),
+    ("a way beyond the blocks", 98, 5, ImageRule::I3, 97),
     (
         "a form for a task beyond the tasks",
         100,
@@ -260,6 +261,13 @@ const HOSTILE: [(&str, usize, u8, ImageRule, usize); 18] = [
     ),
     ("a form above General", 99, 4, ImageRule::I3, 99),
 ];
+
+#[test]
+fn a_way_beyond_the_blocks(rt: HostRuntime) {
+    let mut bytes = ONE_TASK;
+    bytes[78] = 2;
+    assert!(rt; is_fault(rt.alloc(), &bytes, ImageRule::I3, 77));
+}
 
 /// The name of the first that gives another fault, or none.
 fn first_wrong_byte(alloc: Global) -> Option<&'static str> {

@@ -2,7 +2,7 @@
 ghost use Rattle.std.specs.Prelude.{◌≡◌, length, IfOk};
 ghost use Rattle.abstract_state.specs.Tables.{entry_values};
 
-use abstract_state::{Domain, Entry, PartValue, Val, ValueSet};
+use abstract_state::{Domain, Entry, LiveVal, PartValue, Val, ValueSet};
 use entry_lattice::Lattice;
 use osek_values::{BlockNo, Held, Memory, ResNo, Seq};
 use std::alloc::Global;
@@ -21,10 +21,10 @@ fn live(block: u16, resource: Option<ResNo>) -> PartValue {
         Some(taken) => held.push(taken),
         None => {}
     }
-    PartValue::OfTask(Val::Live {
+    PartValue::OfTask(Val::Live(LiveVal {
         block: BlockNo(block),
         held,
-    })
+    }))
 }
 
 /// The set of these blocks at which a task is Live.

@@ -2,7 +2,7 @@
 ghost use Rattle.std.specs.Prelude.{◌≡◌, ◌<◌, length};
 ghost use Rattle.osek_standard.specs.Well.{Well};
 
-use crate::activation::activation;
+use crate::two_tasks::activation;
 use generic_kernel::{nothing, start, step};
 use osek_standard::{App, Processor, State};
 use osek_values::{Event, ModeNo, Notes, Status, Steps, TaskNo};

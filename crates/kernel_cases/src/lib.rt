@@ -3,8 +3,6 @@
 #![tactic(auto)]
 
 #[cfg(test)]
-mod activation;
-#[cfg(test)]
 mod image_bytes;
 #[cfg(test)]
 mod joins;
@@ -20,3 +18,5 @@ mod points;
 mod shelves_and_sinks;
 #[cfg(test)]
 mod trace_lines;
+#[cfg(test)]
+mod two_tasks;

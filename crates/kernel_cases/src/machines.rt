@@ -1,8 +1,8 @@
 //! Two tasks, of which one activates the other: as the kernel runs them, and with a form that traps.
 ghost use Rattle.std.specs.Prelude.{◌≡◌, ◌<◌, length, IfOk};
 
-use crate::activation::activation;
-use image_codec::{Form, Image, Site, form, general};
+use crate::two_tasks::activation;
+use image_model::{Form, Image, Site, general, site_at};
 use image_run::{Machine, Trap};
 use osek_standard::Processor;
 use osek_values::{BlockNo, Event, HookSet, Memory, ModeNo, Notes, Status, Steps, TaskNo};
@@ -22,7 +22,7 @@ fn image_that_traps(alloc: Global) -> Result<Image, Memory>
     ensures { IfOk result (λ i. (length i.app.modes ≡ 1) × (0 < length i.app.blocks)) }
 {
     let mut image = image(alloc)?;
-    let Some(_form) = form(&image, BlockNo(0)) else {
+    let Some(_site) = site_at(&image, BlockNo(0)) else {
         return Ok(image);
     };
     image.sites.put(0, Some(Site { form: Form::Never }));

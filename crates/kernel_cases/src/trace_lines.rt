@@ -1,17 +1,14 @@
 //! Lines of a small application: an extended task, an ISR and a counter.
-ghost use Rattle.std.specs.Prelude.{◌≡◌, ◌≤◌, false, [], ◌∷◌, length, IfOk, codes};
-ghost use Rattle.osek_values.specs.Numbers.{block_no, mask};
+ghost use Rattle.std.specs.Prelude.{◌≡◌, ◌≤◌, length, IfOk};
 ghost use Rattle.osek_standard.specs.Well.{Well};
 ghost use Rattle.trace_text.specs.EventText.{read_text};
-ghost use Rattle.kernel_cases.specs.Sample.{IsOfSampleSize, sample_state};
-ghost use Rattle.osek_standard.specs.declared.block.Kind.TheVariants as kind;
-ghost use Rattle.osek_standard.specs.declared.objects.Schedule.TheVariants as schedule;
+ghost use Rattle.kernel_cases.specs.Sample.{IsOfSampleSize, sample, sample_state};
 
 use crate::lists::{block, default_mode, listed, name, one, scheduler};
 use osek_standard::{
     Activity, App, Block, Counter, Isr, Kind, Processor, Schedule, Source, State, Task, TaskState,
 };
-use osek_values::limits::LINE_MAX;
+use osek_values::limits::{LINE_MAX, MAX_EVENT_TEXT};
 use osek_values::{
     BlockNo, CounterNo, Event, HookSet, IsrNo, Mask, Memory, ModeNo, Notes, Seq, Status, TaskNo,
     Value,
@@ -20,7 +17,7 @@ use std::alloc::Global;
 use trace_text::{EventFault, EventLine, EventLines, FaultyLine, read_event, write_line};
 
 fn tasks(alloc: Global) -> Result<Seq<Task>, Memory>
-    ensures { IfOk result (λ x. x ≡ record { name = codes "T1"; priority = 1; schedule = schedule.Full; own = mask 1; autostart = 1; first = block_no 0; count = 1 } ∷ []) }
+    ensures { IfOk result (λ x. x ≡ sample.tasks) }
 {
     let name = name(alloc, b"T1")?;
     let task = Task {
@@ -36,7 +33,7 @@ fn tasks(alloc: Global) -> Result<Seq<Task>, Memory>
 }
 
 fn isrs(alloc: Global) -> Result<Seq<Isr>, Memory>
-    ensures { IfOk result (λ x. x ≡ record { name = codes "I"; first = block_no 1; count = 1 } ∷ []) }
+    ensures { IfOk result (λ x. x ≡ sample.isrs) }
 {
     let name = name(alloc, b"I")?;
     let isr = Isr {
@@ -48,7 +45,7 @@ fn isrs(alloc: Global) -> Result<Seq<Isr>, Memory>
 }
 
 fn counters(alloc: Global) -> Result<Seq<Counter>, Memory>
-    ensures { IfOk result (λ x. x ≡ record { name = codes "C"; max = 9; min_cycle = 1; first = block_no 2; count = 2 } ∷ []) }
+    ensures { IfOk result (λ x. x ≡ sample.counters) }
 {
     let name = name(alloc, b"C")?;
     let counter = Counter {
@@ -62,11 +59,7 @@ fn counters(alloc: Global) -> Result<Seq<Counter>, Memory>
 }
 
 fn blocks(alloc: Global) -> Result<Seq<Block>, Memory>
-    ensures { IfOk result (λ x. x
-        ≡ record { kind = kind.TaskEnd; locked = false; line = 1; next = block_no 0 }
-        ∷ record { kind = kind.IsrEnd; locked = false; line = 2; next = block_no 1 }
-        ∷ record { kind = kind.CountUp; locked = false; line = 0; next = block_no 3 }
-        ∷ record { kind = kind.IsrEnd; locked = false; line = 0; next = block_no 3 } ∷ []) }
+    ensures { IfOk result (λ x. x ≡ sample.blocks) }
 {
     listed(
         alloc,
@@ -142,7 +135,7 @@ fn reads_event_lines(rt: HostRuntime) {
 }
 
 fn lines_are(text: &[u8], want: &[&[u8]]) -> bool
-    requires { length text.now ≤ 16777216 }
+    requires { length text.now ≤ MAX_EVENT_TEXT }
 {
     let mut lines = EventLines::new(text);
     for (index, bytes) in want.iter().enumerate() {
@@ -172,7 +165,7 @@ fn parts_a_text_into_lines(rt: HostRuntime) {
 
 // The first fault of a text, as a caller finds it.
 fn first_fault(app: &App, text: &[u8]) -> Option<FaultyLine>
-    requires { length text.now ≤ 16777216 }
+    requires { length text.now ≤ MAX_EVENT_TEXT }
     ensures { result ≡ (read_text app.now text.now).fault }
 {
     let mut lines = EventLines::new(text);

@@ -2,10 +2,7 @@
 use Rattle.std.proofs.Common.{◌≡◌, ℕ, ◌<◌, ◌≤◌, true, false, cond, List, ◌∷◌, refl, ◌∙◌, arith}
 use Rattle.std.specs.Prelude.{Option, nat_le}
 use Rattle.std.proofs.lemmas.Bool.Decides.{nat_tests}
-use Rattle.oil_lexer.specs.declared.token.TokenKind.{TokenKind}
-use Rattle.oil_lexer.specs.declared.token.TokenKind.TheVariants.{Name, Number, Text, Mark}
-use Rattle.oil_lexer.specs.declared.token.Mark.TheVariants.{OpenBrace, CloseBrace}
-use Rattle.oil_lexer.specs.declared.token.Token.{Token}
+use Rattle.oil_lexer.specs.declared.token.{TokenKind.{TokenKind}, TokenKind.TheVariants.{Name, Number, Text, Mark}, Mark.TheVariants.{OpenBrace, CloseBrace}, Token.{Token}}
 use Rattle.oil_grammar.specs.declared.fault.Stop.{Stop}
 use Rattle.oil_grammar.specs.Tokens.{is_open, is_close}
 

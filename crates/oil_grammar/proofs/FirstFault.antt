@@ -3,11 +3,10 @@ use Rattle.std.proofs.Common.{◌≡◌, ℕ, ◌≤◌, ◌⊎◌, inl, inr, �
 use Rattle.std.specs.Prelude.{Option, Some, None, option_and_then, ◌&&◌, nat_le}
 use Rattle.std.proofs.lemmas.List.{append-nil}
 use Rattle.std.proofs.lemmas.Bool.Decides.{nat_tests}
-use Rattle.oil_lexer.specs.declared.token.TokenKind.{TokenKind}
-use Rattle.oil_lexer.specs.declared.token.Token.{Token}
-use Rattle.oil_grammar.specs.declared.fault.Stop.{Stop}
-use Rattle.oil_grammar.specs.declared.fault.SyntaxFault.{SyntaxFault}
-use Rattle.oil_grammar.specs.declared.fault.Stop.TheVariants.{NotAllowed, TooDeep, Ends}
+use Rattle.oil_lexer.specs.declared.token.{TokenKind.{TokenKind}, Token.{Token}}
+use Rattle.oil_grammar.specs.declared.fault.{Stop.{Stop}, Stop.TheVariants.{NotAllowed, TooDeep, Ends}}
+use Rattle.osek_values.specs.declared.refused.LineFault.{LineFault}
+use Rattle.osek_values.specs.declared.refusal.SyntaxRule.{SyntaxRule}
 use Rattle.oil_grammar.specs.Faults as faults
 use Rattle.oil_grammar.specs.Tokens.{is_open}
 use Rattle.oil_grammar.specs.Depth.{deeper, depth_from}
@@ -168,10 +167,10 @@ module _ (Tree : Type 0) (IsSentence : List Token → Tree → Type 0) (limit : 
   scan_run (t ∷ ts) d stack e = token_run t ts d (step_all stack t.kind) (λ n h. scan_run ts (deeper d t.kind) n h) e
 
   -- the tokens have a tree or a first fault
-  pub some_answer : (tokens : List Token) → ((tree : Tree) × faults.HasTree Tree IsSentence limit tokens tree) ⊎ ((fault : SyntaxFault) × faults.IsFirstFault Tree IsSentence limit tokens fault.rule fault.line)
+  pub some_answer : (tokens : List Token) → ((tree : Tree) × faults.HasTree Tree IsSentence limit tokens tree) ⊎ ((fault : LineFault SyntaxRule) × faults.IsFirstFault Tree IsSentence limit tokens fault.rule fault.line)
   some_answer tokens = by_scan (scan 0 start tokens) refl
     where
-      by_scan : (stop : Option Stop) → scan 0 start tokens ≡ stop → ((tree : Tree) × faults.HasTree Tree IsSentence limit tokens tree) ⊎ ((fault : SyntaxFault) × faults.IsFirstFault Tree IsSentence limit tokens fault.rule fault.line)
+      by_scan : (stop : Option Stop) → scan 0 start tokens ≡ stop → ((tree : Tree) × faults.HasTree Tree IsSentence limit tokens tree) ⊎ ((fault : LineFault SyntaxRule) × faults.IsFirstFault Tree IsSentence limit tokens fault.rule fault.line)
       by_scan None e =
           let (tree, is) = right tokens (scan_run tokens 0 start e) in
           inl (tree, record { sentence = is; clear = subst (Answers tokens) e (first_fault tokens) })

@@ -2,5 +2,4 @@ pub mod Braces
 pub mod FirstFault
 pub mod LastLine
 pub mod OneFault
-pub mod Refusals
 pub mod Splits

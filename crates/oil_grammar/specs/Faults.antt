@@ -1,8 +1,7 @@
 -- The first fault of a list of tokens, by a grammar and a limit of depth (this project's profile). A grammar is the set
 -- of its sentences with their trees, without any limit.
 use Rattle.std.specs.Prelude.{◌≡◌, ℕ, ◌≤◌, List, [], ◌∷◌, ◌++◌, IsTrue}
-use Rattle.osek_values.specs.declared.refusal.SyntaxRule.{SyntaxRule}
-use Rattle.osek_values.specs.declared.refusal.SyntaxRule.TheVariants.{S1, S2, S3}
+use Rattle.osek_values.specs.declared.refusal.{SyntaxRule.{SyntaxRule}, SyntaxRule.TheVariants.{S1, S2, S3}}
 use Rattle.oil_lexer.specs.declared.token.Token.{Token}
 use Rattle.oil_grammar.specs.Tokens.{is_open, last_line}
 use Rattle.oil_grammar.specs.Depth.{depth_from}

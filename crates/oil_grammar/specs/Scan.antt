@@ -1,11 +1,9 @@
 -- What may still come behind tokens, as a stack of phrases, and the place where reading stops.
 use Rattle.std.specs.Prelude.{ℕ, List, [], ◌∷◌, nat_le, ◌&&◌, if◌then◌else◌, Option, Some, None, option_and_then}
-use Rattle.osek_values.specs.declared.refusal.SyntaxRule.TheVariants.{S1, S2, S3}
-use Rattle.oil_lexer.specs.declared.token.TokenKind.{TokenKind}
-use Rattle.oil_lexer.specs.declared.token.Token.{Token}
-use Rattle.oil_grammar.specs.declared.fault.Stop.{Stop}
-use Rattle.oil_grammar.specs.declared.fault.Stop.TheVariants.{NotAllowed, TooDeep, Ends}
-use Rattle.oil_grammar.specs.declared.fault.SyntaxFault.{SyntaxFault}
+use Rattle.osek_values.specs.declared.refusal.{SyntaxRule.TheVariants.{S1, S2, S3}, SyntaxRule.{SyntaxRule}}
+use Rattle.oil_lexer.specs.declared.token.{TokenKind.{TokenKind}, Token.{Token}}
+use Rattle.oil_grammar.specs.declared.fault.{Stop.{Stop}, Stop.TheVariants.{NotAllowed, TooDeep, Ends}}
+use Rattle.osek_values.specs.declared.refused.LineFault.{LineFault}
 use Rattle.oil_grammar.specs.Tokens.{is_open, last_line}
 use Rattle.oil_grammar.specs.Depth.{deeper}
 
@@ -32,7 +30,7 @@ module _ (Phrase : Type 0) (step_all : List Phrase → TokenKind → Option (Lis
     scan d stack (t ∷ ts) = at_token d t (step_all stack t.kind) (λ next. scan (deeper d t.kind) next ts)
 
 -- the fault of the place where reading stops
-abbrev pub fault_of : Stop → List Token → SyntaxFault
+abbrev pub fault_of : Stop → List Token → (LineFault SyntaxRule)
 fault_of (NotAllowed line) tokens = record { line = line; rule = S1 }
 fault_of (TooDeep line) tokens = record { line = line; rule = S3 }
 fault_of Ends tokens = record { line = last_line 1 tokens; rule = S2 }

@@ -2,18 +2,13 @@
 ghost use Rattle.std.specs.Prelude.{◌≡◌};
 ghost use Rattle.oil_grammar.specs.Tokens.{last_line};
 ghost use Rattle.oil_grammar.specs.Scan.{fault_of};
-ghost use Rattle.oil_grammar.specs.declared.fault.PhraseError.TheVariants.{Memory, Stopped};
+ghost use Rattle.osek_values.specs.declared.refused.Refused.TheVariants.{Fault};
 
 use oil_lexer::Token;
-use osek_values::SyntaxRule;
-use std::alloc::{AllocError, AllocFailed};
+use osek_values::{LineFault, Refused, SyntaxRule};
 
 /// A fault of grammar, and its line.
-#[derive(Clone, Copy, Debug, PartialEq, Eq)]
-pub struct SyntaxFault {
-    pub line: u32,
-    pub rule: SyntaxRule,
-}
+pub type SyntaxFault = LineFault<SyntaxRule>;
 
 /// Where reading stops.
 #[derive(Clone, Copy, Debug, PartialEq, Eq)]
@@ -26,34 +21,14 @@ pub enum Stop {
     Ends,
 }
 
-/// Why a phrase isn't read.
-#[derive(Clone, Copy, Debug, PartialEq, Eq)]
-pub enum PhraseError {
-    Stopped(Stop),
-    Memory,
-}
+/// Why a phrase isn't read: reading stops there, or memory ran out.
+pub type PhraseError = Refused<Stop>;
 
-impl From<AllocError> for PhraseError {
-    ghost from_gives = { λ _ e. e ≡ Memory };
+impl From<Stop> for Refused<Stop> {
+    ghost from_gives = { λ stop e. e ≡ Fault stop };
 
-    fn from(_e: AllocError) -> PhraseError {
-        PhraseError::Memory
-    }
-}
-
-impl<T: Drop> From<AllocFailed<T>> for PhraseError {
-    ghost from_gives = { λ _ e. e ≡ Memory };
-
-    fn from(_e: AllocFailed<T>) -> PhraseError {
-        PhraseError::Memory
-    }
-}
-
-impl From<Stop> for PhraseError {
-    ghost from_gives = { λ stop e. e ≡ Stopped stop };
-
-    fn from(stop: Stop) -> PhraseError {
-        PhraseError::Stopped(stop)
+    fn from(stop: Stop) -> Refused<Stop> {
+        Refused::Fault(stop)
     }
 }
 

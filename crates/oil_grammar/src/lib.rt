@@ -6,4 +6,4 @@ mod fault;
 mod front;
 
 pub use fault::{PhraseError, Stop, SyntaxFault, fault_of};
-pub use front::{copied, first, is_close, is_open};
+pub use front::{first, is_close, is_open};

@@ -4,11 +4,9 @@ use Rattle.std.proofs.lemmas.List.{length-drop}
 use Rattle.std.proofs.str.Laws.{order}
 use Rattle.std.specs.Prelude.{◌≢◌, Result, Ok, Err}
 use Rattle.osek_values.specs.declared.limits.TheConstants.{MAX_FILE}
-use Rattle.osek_values.specs.declared.refusal.LexRule.{LexRule}
-use Rattle.osek_values.specs.declared.refusal.LexRule.TheVariants.{L6}
-use Rattle.oil_lexer.specs.declared.token.Piece.TheVariants.{Gap, Whole}
-use Rattle.oil_lexer.specs.declared.token.Token.{Token}
-use Rattle.oil_lexer.specs.declared.error.LexFault.{LexFault}
+use Rattle.osek_values.specs.declared.refusal.{LexRule.{LexRule}, LexRule.TheVariants.{L6}}
+use Rattle.oil_lexer.specs.declared.token.{Piece.TheVariants.{Gap, Whole}, Token.{Token}}
+use Rattle.osek_values.specs.declared.refused.LineFault.{LineFault}
 use Rattle.oil_lexer.specs.Pieces.{IsLongest, Fits, Breaks}
 use Rattle.oil_lexer.specs.Text.{Parts, none, gap, token, token_of, line_ends}
 use Rattle.oil_lexer.specs.Answers.{IsAnswer}
@@ -39,11 +37,11 @@ ends (suc most) line (b ∷ bytes) le =
     at_front line (b ∷ bytes) (λ e. absurd (cc e)) (each_front (b ∷ bytes) (omega arith))
     (λ n some inside. ends most (line + line_ends (take n (b ∷ bytes))) (drop n (b ∷ bytes)) (omega (arith, le, some, length-drop n (b ∷ bytes))))
 
-answer_of : (bytes : List ℕ) → length bytes ≤ MAX_FILE → Ends 1 bytes → (answer : Result (List Token) LexFault) × IsAnswer answer bytes
+answer_of : (bytes : List ℕ) → length bytes ≤ MAX_FILE → Ends 1 bytes → (answer : Result (List Token) (LineFault LexRule)) × IsAnswer answer bytes
 answer_of bytes within (whole last tokens parts) = (Ok tokens, record { within = within; parts = (last, parts) })
 answer_of bytes within (broken last rest tokens rule parts some is) = (Err (record { line = last; rule = rule }), inr (record { within = within; found = (rest, tokens, parts, some, is) }))
 
-pub some_answer : (bytes : List ℕ) → (answer : Result (List Token) LexFault) × IsAnswer answer bytes
+pub some_answer : (bytes : List ℕ) → (answer : Result (List Token) (LineFault LexRule)) × IsAnswer answer bytes
 some_answer bytes = ⊎_elim
     (λ over. (Err (record { line = 0; rule = L6 }), inl (over, refl)))
     (λ within. answer_of bytes within (ends (length bytes) 1 bytes (omega arith)))

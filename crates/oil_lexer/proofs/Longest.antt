@@ -5,13 +5,8 @@ use Rattle.std.specs.Prelude.{IsTrue, nat_le, slice_index}
 use Rattle.std.specs.Char.{is_ascii_hexdigit}
 use Rattle.osek_values.specs.Names.{is_digit, is_word, is_name}
 use Rattle.osek_values.specs.declared.limits.TheConstants.{MAX_NAME}
-use Rattle.oil_lexer.specs.declared.classes.Class.{Class}
-use Rattle.oil_lexer.specs.declared.classes.Class.TheVariants.{Letter, Digit}
-use Rattle.oil_lexer.specs.declared.classes.ByteSet.{ByteSet}
-use Rattle.oil_lexer.specs.declared.classes.ByteSet.TheVariants.{NameBytes, Digits, HexDigits}
-use Rattle.oil_lexer.specs.declared.token.TokenKind.TheVariants.{Name, Number}
-use Rattle.oil_lexer.specs.declared.token.Piece.{Piece}
-use Rattle.oil_lexer.specs.declared.token.Piece.TheVariants.{Whole}
+use Rattle.oil_lexer.specs.declared.classes.{Class.{Class}, Class.TheVariants.{Letter, Digit}, ByteSet.{ByteSet}, ByteSet.TheVariants.{NameBytes, Digits, HexDigits}}
+use Rattle.oil_lexer.specs.declared.token.{TokenKind.TheVariants.{Name, Number}, Piece.{Piece}, Piece.TheVariants.{Whole}}
 use Rattle.oil_lexer.specs.Classes.{class_of, is_in, AllIn}
 use Rattle.oil_lexer.specs.Fronts.{IsRun, IsLongestHex}
 use Rattle.oil_lexer.specs.Numbers.{value_of}

@@ -1,8 +1,6 @@
 -- One more piece behind those before it.
 use Rattle.std.proofs.Common.{ℕ, ◌+◌, List, ◌++◌, take, drop}
-use Rattle.oil_lexer.specs.declared.token.Piece.{Piece}
-use Rattle.oil_lexer.specs.declared.token.Piece.TheVariants.{Gap, Whole}
-use Rattle.oil_lexer.specs.declared.token.Token.{Token}
+use Rattle.oil_lexer.specs.declared.token.{Piece.{Piece}, Piece.TheVariants.{Gap, Whole}, Token.{Token}}
 use Rattle.oil_lexer.specs.Pieces.{IsLongest, Fits}
 use Rattle.oil_lexer.specs.Text.{Parts, none, gap, token, tokens_of, line_ends}
 

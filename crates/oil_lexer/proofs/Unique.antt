@@ -4,23 +4,14 @@ use Rattle.std.specs.Prelude.{slice_index, Result, Ok, Err}
 use Rattle.osek_values.specs.Names.{is_digit}
 use Rattle.osek_values.specs.declared.limits.TheConstants.{MAX_NAME}
 use Rattle.std.proofs.str.Laws.{order}
-use Rattle.oil_lexer.specs.declared.classes.Class.{Class}
-use Rattle.oil_lexer.specs.declared.classes.Class.TheVariants.{Blank, Letter, Digit, Quote, Slash, Single, Nothing}
-use Rattle.oil_lexer.specs.declared.classes.ByteSet.TheVariants.{Digits}
-use Rattle.oil_lexer.specs.declared.token.TokenKind.{TokenKind}
-use Rattle.oil_lexer.specs.declared.token.TokenKind.TheVariants.{Name, Number}
-use Rattle.oil_lexer.specs.declared.token.Piece.{Piece}
-use Rattle.oil_lexer.specs.declared.token.Piece.TheVariants.{Gap, Whole}
-use Rattle.oil_lexer.specs.declared.token.Token.{Token}
-use Rattle.osek_values.specs.declared.refusal.LexRule.{LexRule}
-use Rattle.osek_values.specs.declared.refusal.LexRule.TheVariants.{L1, L2, L3, L4, L5, L6}
-use Rattle.oil_lexer.specs.declared.error.LexFault.{LexFault}
-use Rattle.oil_lexer.specs.declared.error.LexError.{LexError}
-use Rattle.oil_lexer.specs.declared.error.LexError.TheVariants.{Memory, Fault}
+use Rattle.oil_lexer.specs.declared.classes.{Class.{Class}, Class.TheVariants.{Blank, Letter, Digit, Quote, Slash, Single, Nothing}, ByteSet.TheVariants.{Digits}}
+use Rattle.oil_lexer.specs.declared.token.{TokenKind.{TokenKind}, TokenKind.TheVariants.{Name, Number}, Piece.{Piece}, Piece.TheVariants.{Gap, Whole}, Token.{Token}}
+use Rattle.osek_values.specs.declared.refusal.{LexRule.{LexRule}, LexRule.TheVariants.{L1, L2, L3, L4, L5, L6}}
+use Rattle.osek_values.specs.declared.refused.LineFault.{LineFault}
 use Rattle.oil_lexer.specs.Classes.{class_of, AllIn}
 use Rattle.oil_lexer.specs.Pieces.{IsOf, IsLongest, IsHex, is_x, Fits, Breaks}
 use Rattle.oil_lexer.specs.Text.{Parts, none, gap, token, line_ends, token_of, AreTokens, IsFirstFault}
-use Rattle.oil_lexer.specs.Answers.{IsAnswer, IsRight, Answers}
+use Rattle.oil_lexer.specs.Answers.{IsAnswer}
 
 x_no_digit : (b : ℕ) → is_x b ≡ true → is_digit b ≡ true → ⊥
 x_no_digit b x d = grind arith
@@ -125,13 +116,13 @@ same_rule r L6 rest a b = absurd b
 same_tokens : (bytes : List ℕ) (a b : List Token) → AreTokens bytes a → AreTokens bytes b → a ≡ b
 same_tokens bytes a b x y = (unique stops_end stops_end x.parts.1 y.parts.1).all
 
-no_fault : (bytes : List ℕ) (a : List Token) (fault : LexFault) → AreTokens bytes a → IsFirstFault bytes fault → ⊥
+no_fault : (bytes : List ℕ) (a : List Token) (fault : LineFault LexRule) → AreTokens bytes a → IsFirstFault bytes fault → ⊥
 no_fault bytes a fault x (inl over) = omega (arith, over.0, x.within)
 no_fault bytes a fault x (inr f) =
     let found = f.found in
     found.3 (sym (unique stops_end (stops_broken fault.rule found.0 found.4) x.parts.1 found.2).rests)
 
-same_fault : (bytes : List ℕ) (f g : LexFault) → IsFirstFault bytes f → IsFirstFault bytes g → f ≡ g
+same_fault : (bytes : List ℕ) (f g : LineFault LexRule) → IsFirstFault bytes f → IsFirstFault bytes g → f ≡ g
 same_fault bytes f g (inl a) (inl b) = a.1 ∙ sym b.1
 same_fault bytes f g (inl a) (inr b) = absurd (omega (arith, a.0, b.within))
 same_fault bytes f g (inr a) (inl b) = absurd (omega (arith, b.0, a.within))
@@ -143,18 +134,8 @@ same_fault bytes f g (inr a) (inr b) =
     let rules : f.rule ≡ g.rule = same_rule f.rule g.rule y.0 (subst (Breaks f.rule) same.rests x.4) y.4 in
     (λ i. record { rule = rules i; line = lines i })
 
-pub one_answer : (bytes : List ℕ) (a b : Result (List Token) LexFault) → IsAnswer a bytes → IsAnswer b bytes → a ≡ b
+pub one_answer : (bytes : List ℕ) (a b : Result (List Token) (LineFault LexRule)) → IsAnswer a bytes → IsAnswer b bytes → a ≡ b
 one_answer bytes (Ok x) (Ok y) a b = ap Ok (same_tokens bytes x y a b)
 one_answer bytes (Ok x) (Err f) a b = absurd (no_fault bytes x f a b)
 one_answer bytes (Err f) (Ok y) a b = absurd (no_fault bytes y f b a)
 one_answer bytes (Err f) (Err g) a b = ap Err (same_fault bytes f g a b)
-
-pub answers_tokens : {X : Type 0} (view : X → List Token) (result : Result X LexError) (bytes : List ℕ) (tokens : List Token) → IsRight view result bytes → AreTokens bytes tokens → Answers view result (Ok tokens)
-answers_tokens view (Ok v) bytes tokens r a = ap Ok (same_tokens bytes tokens (view v) a r)
-answers_tokens view (Err Memory) bytes tokens r a = tt
-answers_tokens view (Err (Fault f)) bytes tokens r a = absurd (no_fault bytes tokens f a r)
-
-pub answers_fault : {X : Type 0} (view : X → List Token) (result : Result X LexError) (bytes : List ℕ) (fault : LexFault) → IsRight view result bytes → IsFirstFault bytes fault → Answers view result (Err fault)
-answers_fault view (Ok v) bytes fault r a = absurd (no_fault bytes (view v) fault r a)
-answers_fault view (Err Memory) bytes fault r a = tt
-answers_fault view (Err (Fault f)) bytes fault r a = ap Err (same_fault bytes fault f a r)

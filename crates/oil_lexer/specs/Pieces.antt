@@ -3,14 +3,9 @@
 use Rattle.std.specs.Prelude.{◌≡◌, ℕ, ◌-◌, ◌<◌, ◌≤◌, ◌^◌, ◌⊎◌, ⊤, Bool, ◌||◌, ◌==◌, List, length, take, drop, IsTrue, slice_index}
 use Rattle.osek_values.specs.Names.{is_word}
 use Rattle.osek_values.specs.declared.limits.TheConstants.{MAX_NAME}
-use Rattle.osek_values.specs.declared.refusal.LexRule.{LexRule}
-use Rattle.osek_values.specs.declared.refusal.LexRule.TheVariants.{L1, L2, L3, L4, L5, L6}
-use Rattle.oil_lexer.specs.declared.classes.Class.{Class}
-use Rattle.oil_lexer.specs.declared.classes.Class.TheVariants.{Blank, Letter, Digit, Quote, Slash, Single, Nothing}
-use Rattle.oil_lexer.specs.declared.classes.ByteSet.TheVariants.{Digits, HexDigits, TextBytes, LineBytes}
-use Rattle.oil_lexer.specs.declared.token.TokenKind.TheVariants.{Name, Number, Text, Mark}
-use Rattle.oil_lexer.specs.declared.token.Piece.{Piece}
-use Rattle.oil_lexer.specs.declared.token.Piece.TheVariants.{Gap, Whole}
+use Rattle.osek_values.specs.declared.refusal.{LexRule.{LexRule}, LexRule.TheVariants.{L1, L2, L3, L4, L5, L6}}
+use Rattle.oil_lexer.specs.declared.classes.{Class.{Class}, Class.TheVariants.{Blank, Letter, Digit, Quote, Slash, Single, Nothing}, ByteSet.TheVariants.{Digits, HexDigits, TextBytes, LineBytes}}
+use Rattle.oil_lexer.specs.declared.token.{TokenKind.TheVariants.{Name, Number, Text, Mark}, Piece.{Piece}, Piece.TheVariants.{Gap, Whole}}
 use Rattle.oil_lexer.specs.Classes.{class_of, AllIn}
 use Rattle.oil_lexer.specs.Numbers.{value_of}
 

@@ -2,12 +2,9 @@
 -- limit are this project's profile).
 use Rattle.std.specs.Prelude.{◌≡◌, ◌≢◌, ℕ, ◌+◌, ◌<◌, ◌≤◌, ◌==◌, ◌⊎◌, List, [], ◌∷◌, length, take, drop, count_by}
 use Rattle.osek_values.specs.declared.limits.TheConstants.{MAX_FILE}
-use Rattle.osek_values.specs.declared.refusal.LexRule.TheVariants.{L6}
-use Rattle.oil_lexer.specs.declared.token.TokenKind.{TokenKind}
-use Rattle.oil_lexer.specs.declared.token.Piece.{Piece}
-use Rattle.oil_lexer.specs.declared.token.Piece.TheVariants.{Gap, Whole}
-use Rattle.oil_lexer.specs.declared.token.Token.{Token}
-use Rattle.oil_lexer.specs.declared.error.LexFault.{LexFault}
+use Rattle.osek_values.specs.declared.refused.LineFault.{LineFault}
+use Rattle.osek_values.specs.declared.refusal.{LexRule.{LexRule}, LexRule.TheVariants.{L6}}
+use Rattle.oil_lexer.specs.declared.token.{TokenKind.{TokenKind}, Piece.{Piece}, Piece.TheVariants.{Gap, Whole}, Token.{Token}}
 use Rattle.oil_lexer.specs.Pieces.{IsLongest, Fits, Breaks}
 
 -- how many lines end in these bytes: each LF ends one
@@ -35,10 +32,10 @@ pub record AreTokens (bytes : List ℕ) (tokens : List Token) : Type 0 where
   pub parts : (last : ℕ) × Parts last [] 1 bytes tokens
 
 -- behind whole tokens, blanks and comments the rest of the text breaks the rule, on its line
-pub record FaultsAt (bytes : List ℕ) (fault : LexFault) : Type 0 where
+pub record FaultsAt (bytes : List ℕ) (fault : LineFault LexRule) : Type 0 where
   pub within : length bytes ≤ MAX_FILE
   pub found : (rest : List ℕ) × (tokens : List Token) × Parts fault.line rest 1 bytes tokens × (rest ≢ []) × Breaks fault.rule rest
 
 -- the first fault of a text: that it is over the limit, before all else
-abbrev pub IsFirstFault : List ℕ → LexFault → Type 0
+abbrev pub IsFirstFault : List ℕ → LineFault LexRule → Type 0
 IsFirstFault bytes fault = ((MAX_FILE < length bytes) × (fault ≡ record { line = 0; rule = L6 })) ⊎ FaultsAt bytes fault

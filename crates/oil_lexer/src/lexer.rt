@@ -1,15 +1,17 @@
 //! The tokens of a text.
 ghost use Rattle.std.specs.Prelude.{◌≡◌, ◌≤◌, ◌++◌, ℕ, OnOk, List, length, Result, Ok, Err};
+ghost use Rattle.osek_values.specs.declared.refused.LineFault.{LineFault};
+ghost use Rattle.osek_values.specs.declared.refusal.LexRule.{LexRule};
+ghost use Rattle.osek_values.specs.Answers.{IsRight, Answers, viewed};
 ghost use Rattle.oil_lexer.specs.declared.token.Token.{Token};
-ghost use Rattle.oil_lexer.specs.declared.error.LexFault.{LexFault};
-ghost use Rattle.oil_lexer.specs.Text.{tokens_of, line_ends, AreTokens, IsFirstFault};
-ghost use Rattle.oil_lexer.specs.Answers.{IsAnswer, IsRight, Answers};
+ghost use Rattle.oil_lexer.specs.Text.{tokens_of, line_ends};
+ghost use Rattle.oil_lexer.specs.Answers.{IsAnswer};
 
 use crate::error::{LexError, LexFault};
-use crate::piece::{PieceError, piece};
+use crate::piece::piece;
 use crate::token::{Piece, Token};
-use osek_values::LexRule;
 use osek_values::limits::MAX_FILE;
+use osek_values::{LexRule, Refused};
 use std::alloc::{AllocError, Global};
 
 // How many lines end in the bytes.
@@ -35,7 +37,7 @@ fn keep(tokens: &mut Vec<Token>, piece: Piece, line: u32) -> Result<(), AllocErr
 }
 
 fn lex(alloc: Global, bytes: &[u8]) -> Result<Vec<Token>, LexError>
-    ensures { IsRight (λ v. v.items) result bytes.now }
+    ensures { IsRight (λ r. IsAnswer r bytes.now) (viewed (λ v. v.items) result) }
 {
     if bytes.len() > MAX_FILE {
         return Err(LexError::Fault(LexFault {
@@ -54,10 +56,10 @@ fn lex(alloc: Global, bytes: &[u8]) -> Result<Vec<Token>, LexError>
                 line += line_ends(front);
                 rest = after;
             }
-            Err(PieceError::Broken(rule)) => {
+            Err(Refused::Fault(rule)) => {
                 return Err(LexError::Fault(LexFault { line, rule }));
             }
-            Err(PieceError::Memory) => return Err(LexError::Memory),
+            Err(Refused::Memory) => return Err(LexError::Memory),
         }
     }
     Ok(tokens)
@@ -67,17 +69,16 @@ fn lex(alloc: Global, bytes: &[u8]) -> Result<Vec<Token>, LexError>
 /// project's profile), or the first fault of the text.
 pub fn tokens(alloc: Global, bytes: &[u8]) -> Result<Vec<Token>, LexError>
     // What is answered is right,
-    ensures right { IsRight (λ v. v.items) result bytes.now }
+    ensures right { IsRight (λ r. IsAnswer r bytes.now) (viewed (λ v. v.items) result) }
 
     // and what is right is answered, unless memory runs out.
-    ensures complete { (tokens : List Token) → AreTokens bytes.now tokens → Answers (λ v. v.items) result (Ok tokens) }
-    ensures first_fault { (fault : LexFault) → IsFirstFault bytes.now fault → Answers (λ v. v.items) result (Err fault) }
+    ensures exact { (expected : Result (List Token) (LineFault LexRule)) → IsAnswer expected bytes.now → Answers (viewed (λ v. v.items) result) expected }
 {
     lex(alloc, bytes)
 }
 
 /// A law: each text has tokens or a first fault, and no other. It does nothing.
 pub fn one_answer()
-    ensures some { (text : List ℕ) → (answer : Result (List Token) LexFault) × IsAnswer answer text }
-    ensures one { (text : List ℕ) (a b : Result (List Token) LexFault) → IsAnswer a text → IsAnswer b text → a ≡ b }
+    ensures some { (text : List ℕ) → (answer : Result (List Token) (LineFault LexRule)) × IsAnswer answer text }
+    ensures one { (text : List ℕ) (a b : Result (List Token) (LineFault LexRule)) → IsAnswer a text → IsAnswer b text → a ≡ b }
 {}

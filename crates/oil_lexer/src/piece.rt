@@ -12,25 +12,8 @@ ghost use Rattle.oil_lexer.specs.Fronts.{IsFirstClose, IsLongestHex, IsNumber, I
 use crate::classes::{ByteSet, Class, class_of, run_end};
 use crate::token::{Piece, TokenKind};
 use osek_values::limits::MAX_NAME;
-use osek_values::{LexRule, Name, Seq};
-use std::alloc::{AllocError, Global};
-
-/// Why no piece that fits stands at the front of a text.
-#[derive(Clone, Copy, Debug, PartialEq, Eq)]
-pub enum PieceError {
-    Broken(LexRule),
-    Memory,
-}
-
-impl From<AllocError> for PieceError {
-    ghost use Rattle.oil_lexer.specs.declared.piece.PieceError.TheVariants.{Memory};
-
-    ghost from_gives = { λ _ e. e ≡ Memory };
-
-    fn from(_e: AllocError) -> PieceError {
-        PieceError::Memory
-    }
-}
+use osek_values::{LexRule, Name, Refused, Seq};
+use std::alloc::Global;
 
 fn digit_value(digit: u8) -> u8
     requires { IsTrue (is_in HexDigits digit) }
@@ -134,7 +117,7 @@ fn comment_end(bytes: &[u8]) -> Result<usize, LexRule>
 }
 
 /// The piece at the front of a text that isn't empty, and its length.
-pub fn piece(alloc: Global, bytes: &[u8]) -> Result<(Piece, usize), PieceError>
+pub fn piece(alloc: Global, bytes: &[u8]) -> Result<(Piece, usize), Refused<LexRule>>
     requires { 0 < length bytes.now }
     ensures { IsFront result bytes.now }
 {
@@ -143,7 +126,7 @@ pub fn piece(alloc: Global, bytes: &[u8]) -> Result<(Piece, usize), PieceError>
         Class::Letter => {
             let end = run_end(ByteSet::NameBytes, bytes, 1);
             if end > MAX_NAME {
-                return Err(PieceError::Broken(LexRule::L5));
+                return Err(Refused::Fault(LexRule::L5));
             }
             let word = Vec::from_slice(alloc, &bytes[..end])?;
             Ok((Piece::Whole(TokenKind::Name(Name::new(word))), end))
@@ -152,7 +135,7 @@ pub fn piece(alloc: Global, bytes: &[u8]) -> Result<(Piece, usize), PieceError>
             let (end, value) = number(bytes);
             match value {
                 Some(value) => Ok((Piece::Whole(TokenKind::Number(value)), end)),
-                None => Err(PieceError::Broken(LexRule::L4)),
+                None => Err(Refused::Fault(LexRule::L4)),
             }
         }
         Class::Quote => match text_end(bytes) {
@@ -160,13 +143,13 @@ pub fn piece(alloc: Global, bytes: &[u8]) -> Result<(Piece, usize), PieceError>
                 let text = Vec::from_slice(alloc, &bytes[1..end - 1])?;
                 Ok((Piece::Whole(TokenKind::Text(Seq::of(text))), end))
             }
-            None => Err(PieceError::Broken(LexRule::L3)),
+            None => Err(Refused::Fault(LexRule::L3)),
         },
         Class::Slash => match comment_end(bytes) {
             Ok(end) => Ok((Piece::Gap, end)),
-            Err(rule) => Err(PieceError::Broken(rule)),
+            Err(rule) => Err(Refused::Fault(rule)),
         },
         Class::Single(mark) => Ok((Piece::Whole(TokenKind::Mark(mark)), 1)),
-        Class::Nothing => Err(PieceError::Broken(LexRule::L1)),
+        Class::Nothing => Err(Refused::Fault(LexRule::L1)),
     }
 }

@@ -6,8 +6,7 @@ use Rattle.std.specs.Str.{bytes_eq}
 use Rattle.std.proofs.Math.Pow.{pow-lt, pow-sub-lt}
 use Rattle.std.proofs.lemmas.Nat.{or_lt, le_or_l, le_or_r, pow_pos}
 use Rattle.osek_values.specs.Hooks.{when, startup, shutdown, error, pre_task, post_task}
-use Rattle.oil_tree.specs.declared.tree.Attr.{Attr}
-use Rattle.oil_tree.specs.declared.tree.Object.{Object}
+use Rattle.oil_tree.specs.declared.tree.{Attr.{Attr}, Object.{Object}}
 use Rattle.oil_model.specs.LookUp.{is_named, has, word_of, inner}
 use Rattle.oil_model.specs.Objects.{priority, is_started, start, alarm_time, cycle_time}
 use Rattle.oil_model.specs.Systems.{hook, hooks, number_from, number_in, mode_bits, start_bits, autostart, above_all}

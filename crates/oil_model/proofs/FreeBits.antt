@@ -13,10 +13,10 @@ free_step : (used k n : ℕ) → free_from used k (suc n) ≡ (if bit_and used (
 unfolding free_from
 free_step used k n = refl
 
-here : (used k n : ℕ) → bit_and used (2 ^ k) ≡ 0 → free_from used k (suc n) ≡ 2 ^ k
+pub here : (used k n : ℕ) → bit_and used (2 ^ k) ≡ 0 → free_from used k (suc n) ≡ 2 ^ k
 here used k n e = free_step used k n ∙ ap (λ (t : Bool). if t then 2 ^ k else free_from used (k + 1) n) (eq-eqb _ _ e)
 
-next : (used k n : ℕ) → (bit_and used (2 ^ k) ≡ 0 → ⊥) → free_from used k (suc n) ≡ free_from used (k + 1) n
+pub next : (used k n : ℕ) → (bit_and used (2 ^ k) ≡ 0 → ⊥) → free_from used k (suc n) ≡ free_from used (k + 1) n
 next used k n e = free_step used k n ∙ ap (λ (t : Bool). if t then 2 ^ k else free_from used (k + 1) n) (ne_eqb _ _ e)
 
 pub free_here : (used k : ℕ) → k < 64 → bit_and used (1 * 2 ^ k % 18446744073709551616) ≡ 0 → free_from used k (64 - k) ≡ 1 * 2 ^ k % 18446744073709551616

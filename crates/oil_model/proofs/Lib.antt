@@ -14,3 +14,4 @@ pub mod OneAnswer
 pub mod Bits
 pub mod Numbers
 pub mod Linking
+pub mod AutoLaws

@@ -8,18 +8,13 @@ use Rattle.std.proofs.lemmas.Cmp.{nat_list_eq_equiv, nat_eq_equiv}
 use Rattle.std.proofs.lemmas.Map.Keys.{IsDistinct-push, IsDistinct-cons, IsDistinct-head, IsDistinct-tail}
 use Rattle.osek_values.specs.Names.{is_name}
 use Rattle.osek_values.specs.declared.refusal.OilRule.TheVariants.{O2, O4, O6, O7, O8, O11, O12, O13, O14}
-use Rattle.osek_standard.specs.declared.objects.Alarm.{Alarm}
-use Rattle.osek_standard.specs.declared.objects.Resource.{Resource}
+use Rattle.osek_standard.specs.declared.objects.{Alarm.{Alarm}, Resource.{Resource}}
 use Rattle.osek_standard.specs.Validity.{AreNames}
-use Rattle.app_model.specs.declared.system.TaskObject.{TaskObject}
-use Rattle.app_model.specs.declared.system.CounterObject.{CounterObject}
-use Rattle.app_model.specs.declared.system.EventObject.{EventObject}
+use Rattle.oil_system.specs.declared.system.{TaskObject.{TaskObject}, CounterObject.{CounterObject}, EventObject.{EventObject}}
 use Rattle.oil_model.specs.declared.objects.Category.TheVariants.{One, Two}
 use Rattle.oil_model.specs.Linkable.{no_counter_object, is_cycle_of_object, IsActionAmong, IsAlarmAmong, IsLinkable}
 use Rattle.oil_tree.specs.AttrLists.{attr_list}
-use Rattle.oil_tree.specs.declared.tree.Attr.{Attr}
-use Rattle.oil_tree.specs.declared.tree.Object.{Object}
-use Rattle.oil_tree.specs.declared.tree.Tree.{Tree}
+use Rattle.oil_tree.specs.declared.tree.{Attr.{Attr}, Object.{Object}, Tree.{Tree}}
 use Rattle.oil_model.specs.declared.table.Scope.TheVariants as scope
 use Rattle.oil_model.specs.Table.{scope_of}
 use Rattle.oil_model.specs.Lists.{found_of, found_in}

@@ -5,17 +5,9 @@ use Rattle.std.specs.List.{AllByRecursion}
 use Rattle.std.specs.Str.{bytes_eq}
 use Rattle.std.proofs.lemmas.Slice.Eq.{bytes_eq-Decides}
 use Rattle.oil_tree.specs.AttrLists.{attr_list}
-use Rattle.oil_tree.specs.declared.tree.Attr.{Attr}
-use Rattle.oil_tree.specs.declared.tree.Object.{Object}
-use Rattle.oil_tree.specs.declared.tree.Value.{Value}
-use Rattle.oil_tree.specs.declared.tree.Value.TheVariants.{Word, Quoted, Numeric}
-use Rattle.oil_tree.specs.declared.tree.Sign.{Sign}
-use Rattle.oil_tree.specs.declared.tree.Sign.TheVariants.{Bare, Plus, Minus}
-use Rattle.oil_model.specs.declared.table.Scope.{Scope}
+use Rattle.oil_tree.specs.declared.tree.{Attr.{Attr}, Object.{Object}, Value.{Value}, Value.TheVariants.{Word, Quoted, Numeric}, Sign.{Sign}, Sign.TheVariants.{Bare, Plus, Minus}}
+use Rattle.oil_model.specs.declared.table.{Scope.{Scope}, Presence.{Presence}, Presence.TheVariants.{Required}, Entry.{Entry}}
 use Rattle.oil_model.specs.declared.table.Scope.TheVariants as scope
-use Rattle.oil_model.specs.declared.table.Presence.{Presence}
-use Rattle.oil_model.specs.declared.table.Presence.TheVariants.{Required}
-use Rattle.oil_model.specs.declared.table.Entry.{Entry}
 use Rattle.oil_model.specs.declared.domain.Domain.{Domain}
 use Rattle.oil_model.specs.declared.domain.Domain.TheVariants as domain
 use Rattle.oil_model.specs.Table.{inner_scope, entry_of, allows}

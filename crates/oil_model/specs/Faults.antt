@@ -1,18 +1,10 @@
 -- The faults of a tree, and the least of them.
-use Rattle.std.specs.Prelude.{ℕ, ◌<◌, ◌≤◌, Option, Some, None}
-use Rattle.osek_values.specs.declared.refusal.OilRule.{OilRule}
-use Rattle.osek_values.specs.declared.refusal.OilRule.TheVariants.{O1, O2, O3, O4, O5, O6, O7, O8, O9, O10, O11, O12, O13, O14, O15}
+use Rattle.std.specs.Prelude.{ℕ, Option}
+use Rattle.osek_values.specs.declared.refusal.{OilRule.{OilRule}, OilRule.TheVariants.{O1, O2, O3, O4, O5, O6, O7, O8, O9, O10, O11, O12, O13, O14, O15}}
 use Rattle.oil_tree.specs.declared.tree.Tree.{Tree}
-use Rattle.oil_model.specs.declared.fault.ModelFault.{ModelFault}
-use Rattle.oil_model.specs.Lines.{IsIn}
+use Rattle.osek_values.specs.declared.refused.LineFault.{LineFault}
+use Rattle.osek_values.specs.LeastFaults as faults
 use Rattle.oil_model.specs.Rules.{lines}
-
--- the rule is violated on the line
-abbrev pub Violates : OilRule → Tree → ℕ → Type 0
-Violates rule t line = IsIn line (lines rule t)
-
-abbrev pub HasNoFault : Tree → Type 0
-HasNoFault t = (rule : OilRule) (line : ℕ) → Violates rule t line → ⊥
 
 -- the number of a rule
 abbrev pub order : OilRule → ℕ
@@ -32,13 +24,13 @@ order O13 = 13
 order O14 = 14
 order O15 = 15
 
--- the least pair of a rule and a line: no lesser rule is violated anywhere, and this one on no lesser line
-pub record IsLeastFault (t : Tree) (rule : OilRule) (line : ℕ) : Type 0 where
-  pub violated : Violates rule t line
-  pub least_rule : (other : OilRule) (l : ℕ) → order other < order rule → Violates other t l → ⊥
-  pub least_line : (l : ℕ) → Violates rule t l → line ≤ l
+abbrev pub HasNoFault : Tree → Type 0
+HasNoFault t = faults.HasNoFault order (λ (rule : OilRule). lines rule t)
+
+-- the least pair of a rule and a line
+abbrev pub IsLeastFault : Tree → OilRule → ℕ → Type 0
+IsLeastFault t = faults.IsLeastFault order (λ (rule : OilRule). lines rule t)
 
 -- the least fault of a tree, or none where it has no fault
-abbrev pub IsLeastOrNone : Option ModelFault → Tree → Type 0
-IsLeastOrNone None t = HasNoFault t
-IsLeastOrNone (Some fault) t = IsLeastFault t fault.rule fault.line
+abbrev pub IsLeastOrNone : Option (LineFault OilRule) → Tree → Type 0
+IsLeastOrNone fault t = faults.IsLeastOrNone order (λ (rule : OilRule). lines rule t) fault

@@ -1,12 +1,15 @@
-pub mod Lines
+pub use Rattle.osek_values.specs.Lines
 pub mod Table
 pub mod Lists
 pub mod LookUp
 pub mod Objects
+pub mod Counted
 pub mod NameSets
 pub mod References
 pub mod Systems
 pub mod Rules
+pub mod KindRules
 pub mod Faults
 pub mod Answers
 pub mod Linkable
+pub mod AutoBits

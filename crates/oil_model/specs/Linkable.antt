@@ -2,15 +2,10 @@
 use Rattle.std.specs.Prelude.{◌≡◌, ℕ, ◌^◌, ◌<◌, ◌≤◌, Bool, ◌==◌, nat_le, nat_eq, ◌||◌, ◌&&◌, IsTrue, List, length, map, slice_index_or, All, [], false}
 use Rattle.std.specs.List.{IsDistinct, list_any}
 use Rattle.std.specs.Str.{bytes_eq}
-use Rattle.osek_standard.specs.declared.objects.Action.{Action}
-use Rattle.osek_standard.specs.declared.objects.Action.TheVariants.{ActivateTask, SetEvent}
-use Rattle.osek_standard.specs.declared.objects.Alarm.{Alarm}
-use Rattle.osek_standard.specs.declared.objects.Resource.{Resource}
-use Rattle.osek_standard.specs.Validity.{AreNames}
-use Rattle.app_model.specs.declared.system.TaskObject.{TaskObject}
-use Rattle.app_model.specs.declared.system.CounterObject.{CounterObject}
-use Rattle.app_model.specs.declared.system.EventObject.{EventObject}
-use Rattle.app_model.specs.declared.system.System.{System}
+use Rattle.osek_values.specs.declared.limits.TheConstants.{MAX_TASKS, MAX_ISRS, MAX_COUNTERS, MAX_ALARMS, MAX_RESOURCES, MAX_MODES}
+use Rattle.osek_standard.specs.declared.objects.{Action.{Action}, Action.TheVariants.{ActivateTask, SetEvent}, Alarm.{Alarm}, Resource.{Resource}}
+use Rattle.osek_standard.specs.Validity.{AreNames, greatest_ceiling}
+use Rattle.oil_system.specs.declared.system.{TaskObject.{TaskObject}, CounterObject.{CounterObject}, EventObject.{EventObject}, System.{System}}
 
 -- past the end of the table stands a counter that declares nothing
 abbrev pub no_counter_object : CounterObject
@@ -33,12 +28,12 @@ pub record IsAlarmAmong (tasks : ℕ) (counters : List CounterObject) (x : Alarm
 
 pub record IsLinkable (s : System) : Type 0 where
   pub known_hooks : s.hooks.0 < 32
-  pub few_tasks : length s.tasks ≤ 16
-  pub few_isrs : length s.isrs ≤ 8
-  pub few_counters : length s.counters ≤ 8
-  pub few_alarms : length s.alarms ≤ 16
-  pub few_resources : length s.resources ≤ 8
-  pub few_modes : length s.modes ≤ 8
+  pub few_tasks : length s.tasks ≤ MAX_TASKS
+  pub few_isrs : length s.isrs ≤ MAX_ISRS
+  pub few_counters : length s.counters ≤ MAX_COUNTERS
+  pub few_alarms : length s.alarms ≤ MAX_ALARMS
+  pub few_resources : length s.resources ≤ MAX_RESOURCES
+  pub few_modes : length s.modes ≤ MAX_MODES
   pub some_mode : 0 < length s.modes
   -- names
   pub task_names : AreNames (map (λ (x : TaskObject). x.name) s.tasks)
@@ -58,5 +53,5 @@ pub record IsLinkable (s : System) : Type 0 where
   pub each_alarm : All (IsAlarmAmong (length s.tasks) s.counters) s.alarms
   pub alarm_starts : All (λ (x : Alarm). x.autostart < 2 ^ length s.modes) s.alarms
   pub no_starts : All (λ (x : Alarm). x.autostart ≡ 0 → (x.time ≡ 0) × (x.cycle ≡ 0)) s.alarms
-  pub ceilings : All (λ (x : Resource). x.ceiling ≤ 131071) s.resources
+  pub ceilings : All (λ (x : Resource). x.ceiling ≤ greatest_ceiling) s.resources
   pub each_event : All (λ (x : EventObject). 0 < x.mask.0) s.events

@@ -3,8 +3,7 @@
 use Rattle.std.specs.Prelude.{ℕ, List, [], ◌++◌, Option, Some, None}
 use Rattle.std.specs.List.{flat_map}
 use Rattle.oil_tree.specs.AttrLists.{attr_list}
-use Rattle.oil_tree.specs.declared.tree.Attr.{Attr}
-use Rattle.oil_tree.specs.declared.tree.Object.{Object}
+use Rattle.oil_tree.specs.declared.tree.{Attr.{Attr}, Object.{Object}}
 use Rattle.oil_model.specs.declared.table.Scope.{Scope}
 use Rattle.oil_model.specs.Table.{scope_of, inner_scope}
 

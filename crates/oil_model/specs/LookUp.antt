@@ -2,9 +2,7 @@
 use Rattle.std.specs.Prelude.{ℕ, List, [], Bool, Option, Some, None, find, filter}
 use Rattle.std.specs.List.{list_any}
 use Rattle.std.specs.Str.{bytes_eq}
-use Rattle.oil_tree.specs.declared.tree.Attr.{Attr}
-use Rattle.oil_tree.specs.declared.tree.Value.{Value}
-use Rattle.oil_tree.specs.declared.tree.Value.TheVariants.{Word, Numeric}
+use Rattle.oil_tree.specs.declared.tree.{Attr.{Attr}, Value.{Value}, Value.TheVariants.{Word, Numeric}}
 use Rattle.oil_tree.specs.AttrLists.{attr_list}
 
 abbrev pub is_named : List ℕ → Attr → Bool

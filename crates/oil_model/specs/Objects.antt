@@ -2,13 +2,9 @@
 use Rattle.std.specs.Prelude.{ℕ, ◌+◌, List, [], ◌∷◌, Bool, not, ◌&&◌, if◌then◌else◌, Option, Some, None, codes, find, filter, bit_or, bit_and, ◌==◌, ◌^◌, zero, suc, unwrap_or}
 use Rattle.std.specs.List.{list_any}
 use Rattle.std.specs.Str.{bytes_eq}
-use Rattle.oil_tree.specs.declared.tree.Attr.{Attr}
-use Rattle.oil_tree.specs.declared.tree.Object.{Object}
-use Rattle.oil_tree.specs.declared.tree.Value.{Value}
-use Rattle.oil_tree.specs.declared.tree.Value.TheVariants.{Numeric}
+use Rattle.oil_tree.specs.declared.tree.{Attr.{Attr}, Object.{Object}, Value.{Value}, Value.TheVariants.{Numeric}}
 use Rattle.oil_tree.specs.AttrLists.{attr_list}
-use Rattle.oil_model.specs.declared.objects.Category.{Category}
-use Rattle.oil_model.specs.declared.objects.Category.TheVariants.{One, Two}
+use Rattle.oil_model.specs.declared.objects.{Category.{Category}, Category.TheVariants.{One, Two}}
 use Rattle.oil_model.specs.LookUp.{first_named, number, says, inner, line}
 
 abbrev pub is_kind : List ℕ → Object → Bool

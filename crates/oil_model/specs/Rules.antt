@@ -1,19 +1,14 @@
 -- The rules on a tree: on which lines each is violated.
-use Rattle.std.specs.Prelude.{ℕ, List, [], ◌∷◌, ◌++◌, Bool, true, false, not, ◌&&◌, ◌||◌, if◌then◌else◌, nat_lt, ◌==◌, Option, Some, None, codes, filter, map, drop, slice_get}
+use Rattle.std.specs.Prelude.{ℕ, ◌-◌, List, [], ◌∷◌, ◌++◌, Bool, true, false, not, ◌&&◌, ◌||◌, if◌then◌else◌, nat_lt, ◌==◌, Option, Some, None, codes, filter, map, drop, slice_get}
 use Rattle.std.specs.List.{list_any, flat_map}
 use Rattle.std.specs.Str.{bytes_eq}
-use Rattle.osek_values.specs.declared.refusal.OilRule.{OilRule}
-use Rattle.osek_values.specs.declared.refusal.OilRule.TheVariants.{O1, O2, O3, O4, O5, O6, O7, O8, O9, O10, O11, O12, O13, O14, O15}
-use Rattle.oil_tree.specs.declared.tree.Attr.{Attr}
-use Rattle.oil_tree.specs.declared.tree.Object.{Object}
-use Rattle.oil_tree.specs.declared.tree.Tree.{Tree}
-use Rattle.oil_tree.specs.declared.tree.Value.{Value}
-use Rattle.oil_tree.specs.declared.tree.Value.TheVariants.{Word}
+use Rattle.osek_values.specs.declared.limits.TheConstants.{MAX_TASKS, MAX_ISRS, MAX_COUNTERS, MAX_ALARMS, MAX_EVENTS, MAX_RESOURCES, MAX_MODES}
+use Rattle.osek_values.specs.declared.refusal.{OilRule.{OilRule}, OilRule.TheVariants.{O1, O2, O3, O4, O5, O6, O7, O8, O9, O10, O11, O12, O13, O14, O15}}
+use Rattle.oil_tree.specs.declared.tree.{Attr.{Attr}, Object.{Object}, Tree.{Tree}, Value.{Value}, Value.TheVariants.{Word}}
 use Rattle.oil_model.specs.declared.objects.Category.TheVariants.{Two}
-use Rattle.oil_model.specs.declared.table.Scope.{Scope}
+use Rattle.oil_model.specs.declared.table.{Scope.{Scope}, Entry.{Entry}}
 use Rattle.oil_model.specs.declared.domain.Domain.{Domain}
 use Rattle.oil_model.specs.declared.domain.Domain.TheVariants as domain
-use Rattle.oil_model.specs.declared.table.Entry.{Entry}
 use Rattle.oil_model.specs.Table.{Row, scope_of, rows, entry_of, allows, is_many, is_required}
 use Rattle.oil_tree.specs.AttrLists.{attr_list}
 use Rattle.oil_model.specs.Lists.{found_in}
@@ -143,8 +138,8 @@ empty_masks_from used (e ∷ events) =
 abbrev pub empty_masks : List Object → List ℕ
 empty_masks objects = empty_masks_from (explicit_bits 0 (objects_of (codes "EVENT") objects)) (objects_of (codes "EVENT") objects)
 
--- O13: the first object beyond the limit of its kind. RES_SCHEDULER, where it exists, takes one of the eight places of
--- resources, and OSDEFAULTAPPMODE one of the eight modes.
+-- O13: the first object beyond the limit of its kind. RES_SCHEDULER, where it exists, takes one of the places of
+-- resources, and OSDEFAULTAPPMODE one of the modes.
 abbrev pub found_line : Option Object → List ℕ
 found_line None = []
 found_line (Some o) = o.line ∷ []
@@ -153,17 +148,17 @@ abbrev pub first_beyond : ℕ → List Object → List ℕ
 first_beyond limit objects = found_line (slice_get objects limit)
 
 abbrev pub resource_limit : Bool → ℕ
-resource_limit scheduler = if scheduler then 7 else 8
+resource_limit scheduler = if scheduler then MAX_RESOURCES - 1 else MAX_RESOURCES
 
 abbrev pub beyond_limits : List Object → List ℕ
 beyond_limits objects =
-    first_beyond 16 (objects_of (codes "TASK") objects)
-    ++ (first_beyond 8 (filter (is_isr Two) objects)
-    ++ (first_beyond 8 (objects_of (codes "COUNTER") objects)
-    ++ (first_beyond 16 (objects_of (codes "ALARM") objects)
-    ++ (first_beyond 32 (objects_of (codes "EVENT") objects)
+    first_beyond MAX_TASKS (objects_of (codes "TASK") objects)
+    ++ (first_beyond MAX_ISRS (filter (is_isr Two) objects)
+    ++ (first_beyond MAX_COUNTERS (objects_of (codes "COUNTER") objects)
+    ++ (first_beyond MAX_ALARMS (objects_of (codes "ALARM") objects)
+    ++ (first_beyond MAX_EVENTS (objects_of (codes "EVENT") objects)
     ++ (first_beyond (resource_limit (has_scheduler objects)) (filter (is_ordinary (has_scheduler objects)) objects)
-    ++ first_beyond 7 (filter is_other_mode objects))))))
+    ++ first_beyond (MAX_MODES - 1) (filter is_other_mode objects))))))
 
 -- O14: MINCYCLE above MAXALLOWEDVALUE; ALARMTIME above MAXALLOWEDVALUE; CYCLETIME other than 0 and outside MINCYCLE to
 -- MAXALLOWEDVALUE

@@ -4,18 +4,9 @@ use Rattle.std.specs.List.{list_any}
 use Rattle.std.specs.Str.{bytes_eq}
 use Rattle.osek_values.specs.Hooks.{hook_set, when, startup, shutdown, error, pre_task, post_task}
 use Rattle.osek_values.specs.Numbers.{mask, task_no, counter_no}
-use Rattle.osek_standard.specs.declared.objects.Schedule.{Schedule}
-use Rattle.osek_standard.specs.declared.objects.Schedule.TheVariants.{Non, Full}
-use Rattle.osek_standard.specs.declared.objects.Action.{Action}
-use Rattle.osek_standard.specs.declared.objects.Action.TheVariants.{ActivateTask, SetEvent}
-use Rattle.osek_standard.specs.declared.objects.Alarm.{Alarm}
-use Rattle.osek_standard.specs.declared.objects.Resource.{Resource}
-use Rattle.app_model.specs.declared.system.TaskObject.{TaskObject}
-use Rattle.app_model.specs.declared.system.CounterObject.{CounterObject}
-use Rattle.app_model.specs.declared.system.EventObject.{EventObject}
-use Rattle.app_model.specs.declared.system.System.{System}
-use Rattle.oil_tree.specs.declared.tree.Attr.{Attr}
-use Rattle.oil_tree.specs.declared.tree.Object.{Object}
+use Rattle.osek_standard.specs.declared.objects.{Schedule.{Schedule}, Schedule.TheVariants.{Non, Full}, Action.{Action}, Action.TheVariants.{ActivateTask, SetEvent}, Alarm.{Alarm}, Resource.{Resource}}
+use Rattle.oil_system.specs.declared.system.{TaskObject.{TaskObject}, CounterObject.{CounterObject}, EventObject.{EventObject}, System.{System}}
+use Rattle.oil_tree.specs.declared.tree.{Attr.{Attr}, Object.{Object}}
 use Rattle.oil_tree.specs.AttrLists.{attr_list}
 use Rattle.oil_model.specs.declared.objects.Category.TheVariants.{One, Two}
 use Rattle.oil_model.specs.LookUp.{is_named, has, number, says, word_of, word, inner}

@@ -2,16 +2,12 @@
 -- the table holds, which are required, their ranges and their defaults are this project's profile).
 use Rattle.std.specs.Prelude.{ℕ, List, [], ◌∷◌, Bool, true, false, ◌&&◌, ◌||◌, if◌then◌else◌, nat_le, Option, Some, None, codes}
 use Rattle.std.specs.Str.{bytes_eq}
-use Rattle.oil_tree.specs.declared.tree.Value.{Value}
-use Rattle.oil_tree.specs.declared.tree.Value.TheVariants.{Word, Numeric}
-use Rattle.oil_tree.specs.declared.tree.Sign.TheVariants.{Bare}
-use Rattle.oil_model.specs.declared.table.Scope.{Scope}
+use Rattle.oil_tree.specs.declared.tree.{Value.{Value}, Value.TheVariants.{Word, Numeric}, Sign.TheVariants.{Bare}}
+use Rattle.oil_model.specs.declared.table.{Scope.{Scope}, Presence.{Presence}, Entry.{Entry}}
 use Rattle.oil_model.specs.declared.table.Scope.TheVariants as scope
 use Rattle.oil_model.specs.declared.domain.Domain.{Domain}
 use Rattle.oil_model.specs.declared.domain.Domain.TheVariants as domain
-use Rattle.oil_model.specs.declared.table.Presence.{Presence}
 use Rattle.oil_model.specs.declared.table.Presence.TheVariants as presence
-use Rattle.oil_model.specs.declared.table.Entry.{Entry}
 
 -- the scope of an object's own attributes, by its kind
 abbrev pub scope_of : List ℕ → Option Scope

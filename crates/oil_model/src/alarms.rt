@@ -9,12 +9,12 @@ ghost use Rattle.oil_model.specs.Systems.{number_in, names_of, counter, action, 
 use crate::events::mask_named;
 use crate::look_up::{inner, number, says, word};
 use crate::modes::autostart;
-use crate::names::copied;
 use crate::objects::{is_called, is_kind, maximum, minimum, start};
 use crate::times::{alarm_time, cycle_time};
-use app_model::{Action, Alarm, CounterObject, EventObject};
+use oil_system::{CounterObject, EventObject};
 use oil_tree::{Attr, Object};
-use osek_values::{CounterNo, Mask, Memory, Name, Seq, TaskNo};
+use osek_standard::{Action, Alarm};
+use osek_values::{CounterNo, Mask, Memory, Name, Seq, TaskNo, copied};
 use std::alloc::Global;
 
 // A number of ticks as a number of 32 bits.

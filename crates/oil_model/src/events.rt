@@ -4,11 +4,10 @@ ghost use Rattle.oil_model.specs.Systems.{events, mask_named, own_bits};
 
 use crate::look_up::{is_named, word_of};
 use crate::masks::{explicit_bits, mask_of};
-use crate::names::copied;
 use crate::objects::is_kind;
-use app_model::EventObject;
+use oil_system::EventObject;
 use oil_tree::{Attr, Object};
-use osek_values::{Mask, Memory, Seq};
+use osek_values::{Mask, Memory, Seq, copied};
 use std::alloc::Global;
 
 /// The events, each with its mask.

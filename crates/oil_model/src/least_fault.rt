@@ -8,12 +8,10 @@ use crate::attribute_rules::{
     dangling_reference, doubled_attribute, missing_attribute, wrong_value,
 };
 use crate::fault::ModelFault;
+use crate::kind_rules::{KindRule, least_violation};
 use crate::limits::beyond_limit;
 use crate::masks::empty_mask;
-use crate::object_rules::{
-    callback, faulty_isr, os_fault, repeated_name, several_activations, shared_priority,
-    special_resource, unknown_kind,
-};
+use crate::object_rules::{faulty_isr, os_fault, repeated_name, shared_priority, unknown_kind};
 use crate::times::late_time;
 use oil_tree::Tree;
 use osek_values::{Memory, OilRule};
@@ -52,9 +50,9 @@ fn least_line(alloc: Global, rule: OilRule, tree: &Tree) -> Result<Option<u32>, 
         OilRule::O6 => Ok(wrong_value(objects)),
         OilRule::O7 => dangling_reference(alloc, objects),
         OilRule::O8 => shared_priority(alloc, objects),
-        OilRule::O9 => Ok(several_activations(objects)),
-        OilRule::O10 => Ok(special_resource(objects)),
-        OilRule::O11 => Ok(callback(objects)),
+        OilRule::O9 => Ok(least_violation(KindRule::SeveralActivations, objects)),
+        OilRule::O10 => Ok(least_violation(KindRule::SpecialResource, objects)),
+        OilRule::O11 => Ok(least_violation(KindRule::Callback, objects)),
         OilRule::O12 => Ok(empty_mask(objects)),
         OilRule::O13 => Ok(beyond_limit(objects)),
         OilRule::O14 => Ok(late_time(objects)),

@@ -8,6 +8,8 @@ mod domain;
 mod events;
 mod fault;
 mod hooks;
+mod kind_rules;
+mod laws;
 mod least_fault;
 mod limits;
 mod lines;
@@ -27,6 +29,6 @@ mod tasks;
 mod times;
 
 pub use fault::{ModelError, ModelFault};
+pub use laws::auto_chooses_lowest_free_bit;
 pub use lines::{line_if, sooner};
-pub use names::copied;
 pub use resolver::{one_answer, resolve};

@@ -1,8 +1,7 @@
 //! How many objects of a kind there may be.
-ghost use Rattle.std.specs.Prelude.{◌≡◌, ◌++◌, codes, filter};
-ghost use Rattle.oil_model.specs.declared.objects.Category.TheVariants.{Two};
+ghost use Rattle.std.specs.Prelude.{◌≡◌, filter};
 ghost use Rattle.oil_model.specs.Lines.{least};
-ghost use Rattle.oil_model.specs.Objects.{objects_of, is_isr, is_other_mode, is_ordinary};
+ghost use Rattle.oil_model.specs.Counted.{is_counted};
 ghost use Rattle.oil_model.specs.Rules.{first_beyond, beyond_limits, resource_limit};
 
 use crate::lines::sooner;
@@ -12,58 +11,42 @@ use osek_values::limits::{
     MAX_ALARMS, MAX_COUNTERS, MAX_EVENTS, MAX_ISRS, MAX_MODES, MAX_RESOURCES, MAX_TASKS,
 };
 
-// The line of the first object of a kind beyond the limit.
-fn beyond(kind: &[u8], limit: usize, objects: &[Object]) -> Option<u32>
-    ensures { result ≡ least (first_beyond limit (objects_of kind.now objects.now)) }
-{
-    let mut left = limit;
-    for object in objects {
-        if is_kind(kind, object) {
-            if left == 0 {
-                return Some(object.line);
-            }
-            left -= 1;
-        }
-    }
-    None
+/// Objects that are counted against a limit.
+#[derive(Clone, Copy)]
+enum Counted {
+    Tasks,
+    /// Those of category 2.
+    Isrs,
+    Counters,
+    Alarms,
+    Events,
+    /// But for the RES_SCHEDULER that exists, if it does.
+    Resources(bool),
+    /// But for OSDEFAULTAPPMODE.
+    Modes,
 }
 
-fn isr_beyond(limit: usize, objects: &[Object]) -> Option<u32>
-    ensures { result ≡ least (first_beyond limit (filter (is_isr Two) objects.now)) }
+fn is_counted(counted: Counted, object: &Object) -> bool
+    ensures { result ≡ is_counted counted object.now }
 {
-    let mut left = limit;
-    for object in objects {
-        if is_isr(Category::Two, object) {
-            if left == 0 {
-                return Some(object.line);
-            }
-            left -= 1;
-        }
+    match counted {
+        Counted::Tasks => is_kind(b"TASK", object),
+        Counted::Isrs => is_isr(Category::Two, object),
+        Counted::Counters => is_kind(b"COUNTER", object),
+        Counted::Alarms => is_kind(b"ALARM", object),
+        Counted::Events => is_kind(b"EVENT", object),
+        Counted::Resources(scheduler) => is_ordinary(scheduler, object),
+        Counted::Modes => is_other_mode(object),
     }
-    None
 }
 
-fn resource_beyond(scheduler: bool, limit: usize, objects: &[Object]) -> Option<u32>
-    ensures { result ≡ least (first_beyond limit (filter (is_ordinary scheduler) objects.now)) }
+/// The line of the first object beyond the limit.
+fn beyond(counted: Counted, limit: usize, objects: &[Object]) -> Option<u32>
+    ensures { result ≡ least (first_beyond limit (filter (is_counted counted) objects.now)) }
 {
     let mut left = limit;
     for object in objects {
-        if is_ordinary(scheduler, object) {
-            if left == 0 {
-                return Some(object.line);
-            }
-            left -= 1;
-        }
-    }
-    None
-}
-
-fn mode_beyond(limit: usize, objects: &[Object]) -> Option<u32>
-    ensures { result ≡ least (first_beyond limit (filter is_other_mode objects.now)) }
-{
-    let mut left = limit;
-    for object in objects {
-        if is_other_mode(object) {
+        if is_counted(counted, object) {
             if left == 0 {
                 return Some(object.line);
             }
@@ -90,13 +73,17 @@ pub fn beyond_limit(objects: &[Object]) -> Option<u32>
     ensures { result ≡ least (beyond_limits objects.now) }
 {
     let scheduler = has_scheduler(objects);
-    let task = beyond(b"TASK", MAX_TASKS, objects);
-    let isr = isr_beyond(MAX_ISRS, objects);
-    let counter = beyond(b"COUNTER", MAX_COUNTERS, objects);
-    let alarm = beyond(b"ALARM", MAX_ALARMS, objects);
-    let event = beyond(b"EVENT", MAX_EVENTS, objects);
-    let resource = resource_beyond(scheduler, resource_limit(scheduler), objects);
-    let mode = mode_beyond(MAX_MODES - 1, objects);
+    let task = beyond(Counted::Tasks, MAX_TASKS, objects);
+    let isr = beyond(Counted::Isrs, MAX_ISRS, objects);
+    let counter = beyond(Counted::Counters, MAX_COUNTERS, objects);
+    let alarm = beyond(Counted::Alarms, MAX_ALARMS, objects);
+    let event = beyond(Counted::Events, MAX_EVENTS, objects);
+    let resource = beyond(
+        Counted::Resources(scheduler),
+        resource_limit(scheduler),
+        objects,
+    );
+    let mode = beyond(Counted::Modes, MAX_MODES - 1, objects);
     let behind_alarm = sooner(event, sooner(resource, mode));
     sooner(
         task,

@@ -1,6 +1,6 @@
 //! What stands in a list of attributes. Where a name stands several times, the first counts.
 ghost use Rattle.std.specs.Prelude.{◌≡◌};
-ghost use Rattle.oil_model.specs.LookUp.{is_named, has, first_named, number_or, number, word_of, word, says, inner, line};
+ghost use Rattle.oil_model.specs.LookUp.{is_named, has, number_or, number, word_of, word, says, inner, line};
 
 use oil_tree::{Attr, Value};
 

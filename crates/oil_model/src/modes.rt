@@ -4,10 +4,10 @@ ghost use Rattle.oil_model.specs.Rules.{beyond_limits};
 ghost use Rattle.oil_model.specs.Systems.{modes, number_in, mode_bits, autostart};
 
 use crate::look_up::{has, is_named, word_of};
-use crate::names::{copied, default_mode};
+use crate::names::default_mode;
 use crate::objects::{is_other_mode, is_started, start};
 use oil_tree::{Attr, Object};
-use osek_values::{Memory, Name, Seq};
+use osek_values::{Memory, Name, Seq, copied};
 use std::alloc::Global;
 
 fn mode_names(alloc: Global, objects: &[Object]) -> Result<Seq<Name>, Memory>

@@ -2,7 +2,6 @@
 ghost use Rattle.std.specs.Prelude.{◌≡◌, IsTrue, All, IfOk, codes};
 ghost use Rattle.std.specs.Str.{bytes_eq};
 ghost use Rattle.osek_values.specs.Names.{is_name};
-ghost use Rattle.oil_model.specs.Objects.{name_of};
 ghost use Rattle.oil_tree.specs.declared.tree.Object.{Object};
 
 use oil_tree::Object;
@@ -14,14 +13,6 @@ pub fn same(a: &[u8], b: &[u8]) -> bool
     ensures { result ≡ bytes_eq a.now b.now }
 {
     a == b
-}
-
-/// A copy of a name.
-pub fn copied(alloc: Global, name: &Name) -> Result<Name, Memory>
-    ensures { IfOk result (λ copy. copy ≡ name.now) }
-{
-    let bytes = name.as_bytes().to_vec(alloc)?;
-    Ok(Name::new(bytes))
 }
 
 /// The name of the mode that always exists.

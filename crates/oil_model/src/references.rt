@@ -1,5 +1,5 @@
 //! What attributes may refer to.
-ghost use Rattle.std.specs.Prelude.{◌≡◌, OnOk, IfOk};
+ghost use Rattle.std.specs.Prelude.{◌≡◌, IfOk};
 ghost use Rattle.oil_model.specs.NameSets.{KnowsNames};
 ghost use Rattle.oil_model.specs.References.{KnowsObjects};
 ghost use Rattle.oil_model.specs.Rules as rules_of;

@@ -1,11 +1,13 @@
 //! The system of a tree, or its least fault.
 ghost use Rattle.std.specs.Prelude.{◌≡◌, [], IfOk, Result, Ok, Err};
-ghost use Rattle.app_model.specs.declared.system.System.{System};
+ghost use Rattle.oil_system.specs.declared.system.System.{System};
 ghost use Rattle.oil_model.specs.Linkable.{IsLinkable};
 ghost use Rattle.oil_tree.specs.declared.tree.Tree.{Tree};
-ghost use Rattle.oil_model.specs.declared.fault.ModelFault.{ModelFault};
-ghost use Rattle.oil_model.specs.Faults.{HasNoFault, IsLeastFault};
-ghost use Rattle.oil_model.specs.Answers.{IsAnswer, IsRight, Answers};
+ghost use Rattle.osek_values.specs.declared.refused.LineFault.{LineFault};
+ghost use Rattle.osek_values.specs.declared.refusal.OilRule.{OilRule};
+ghost use Rattle.oil_model.specs.Faults.{HasNoFault};
+ghost use Rattle.osek_values.specs.Answers.{IsRight, Answers};
+ghost use Rattle.oil_model.specs.Answers.{IsAnswer};
 ghost use Rattle.oil_model.specs.Lists.{found_in};
 ghost use Rattle.oil_model.specs.Rules.{wrong_in, late_times, beyond_limits};
 ghost use Rattle.oil_model.specs.Systems.{system_of};
@@ -20,7 +22,7 @@ use crate::names::read_names;
 use crate::objects::Category;
 use crate::resources::resources;
 use crate::tasks::{isrs, tasks};
-use app_model::System;
+use oil_system::System;
 use oil_tree::{Object, Tree};
 use osek_values::Memory;
 use std::alloc::Global;
@@ -64,7 +66,7 @@ fn system(alloc: Global, tree: &Tree) -> Result<System, Memory>
 }
 
 fn answer(alloc: Global, tree: &Tree) -> Result<System, ModelError>
-    ensures right { IsRight result tree.now }
+    ensures right { IsRight (λ r. IsAnswer r tree.now) result }
     ensures linkable { IfOk result IsLinkable }
 {
     match least_fault(alloc, tree)? {
@@ -80,11 +82,10 @@ fn answer(alloc: Global, tree: &Tree) -> Result<System, ModelError>
 /// least fault. What the tree declares besides is passed over.
 pub fn resolve(alloc: Global, tree: &Tree) -> Result<System, ModelError>
     // What is answered is right,
-    ensures right { IsRight result tree.now }
+    ensures right { IsRight (λ r. IsAnswer r tree.now) result }
 
     // and what is right is answered, unless memory runs out.
-    ensures complete { HasNoFault tree.now → Answers result (Ok (system_of tree.now.objects)) }
-    ensures least_fault { (fault : ModelFault) → IsLeastFault tree.now fault.rule fault.line → Answers result (Err fault) }
+    ensures exact { (expected : Result System (LineFault OilRule)) → IsAnswer expected tree.now → Answers result expected }
 
     // Linking needs no more of it.
     ensures linkable { IfOk result IsLinkable }
@@ -94,6 +95,6 @@ pub fn resolve(alloc: Global, tree: &Tree) -> Result<System, ModelError>
 
 /// A law: each tree has a system or a least fault, and no other. It does nothing.
 pub fn one_answer()
-    ensures some { (tree : Tree) → (answer : Result System ModelFault) × IsAnswer answer tree }
-    ensures one { (tree : Tree) (a b : Result System ModelFault) → IsAnswer a tree → IsAnswer b tree → a ≡ b }
+    ensures some { (tree : Tree) → (answer : Result System (LineFault OilRule)) × IsAnswer answer tree }
+    ensures one { (tree : Tree) (a b : Result System (LineFault OilRule)) → IsAnswer a tree → IsAnswer b tree → a ≡ b }
 {}

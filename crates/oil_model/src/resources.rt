@@ -9,9 +9,9 @@ use crate::look_up::{is_named, word_of};
 use crate::names;
 use crate::objects::{has_scheduler, is_kind, is_ordinary, priority};
 use crate::tasks::narrow;
-use app_model::Resource;
 use oil_tree::{Attr, Object};
-use osek_values::{Memory, Seq};
+use osek_standard::Resource;
+use osek_values::{Memory, Seq, copied};
 use std::alloc::Global;
 
 fn is_naming(name: &[u8], attr: &Attr) -> bool
@@ -77,7 +77,7 @@ fn ordinary(alloc: Global, scheduler: bool, objects: &[Object]) -> Result<Vec<Re
     let mut found = Vec::new(alloc);
     for object in objects {
         if is_ordinary(scheduler, object) {
-            let name = names::copied(alloc, &object.name)?;
+            let name = copied(alloc, &object.name)?;
             let ceiling = ceiling(object.name.as_bytes(), objects);
             found.push(Resource { name, ceiling })?;
         }

@@ -1,6 +1,5 @@
 //! Tasks and ISRs.
 ghost use Rattle.std.specs.Prelude.{◌≡◌, ◌≤◌, [], length, IfOk, map, filter, codes};
-ghost use Rattle.oil_tree.specs.AttrLists.{attr_list};
 ghost use Rattle.oil_model.specs.Lists.{found_in};
 ghost use Rattle.oil_model.specs.Objects.{objects_of, is_isr, name_of, priority};
 ghost use Rattle.oil_model.specs.Rules.{wrong_in};
@@ -9,11 +8,11 @@ ghost use Rattle.oil_model.specs.Systems.{schedule, task};
 use crate::events::own_bits;
 use crate::look_up::says;
 use crate::modes::autostart;
-use crate::names::copied;
 use crate::objects::{Category, is_isr, is_kind, priority};
-use app_model::{EventObject, Schedule, TaskObject};
+use oil_system::{EventObject, TaskObject};
 use oil_tree::{Attr, Object};
-use osek_values::{Mask, Memory, Name, Seq};
+use osek_standard::Schedule;
+use osek_values::{Mask, Memory, Name, Seq, copied};
 use std::alloc::Global;
 
 fn schedule(attrs: &[Attr]) -> Schedule

@@ -1,10 +1,11 @@
 //! The times of counters and alarms.
-ghost use Rattle.std.specs.Prelude.{◌≡◌, codes, map, filter};
+ghost use Rattle.std.specs.Prelude.{◌≡◌, codes};
 ghost use Rattle.std.specs.List.{flat_map};
 ghost use Rattle.oil_model.specs.Lines.{least};
 ghost use Rattle.oil_model.specs.Objects.{objects_of, line_at, alarm_time, cycle_time};
 ghost use Rattle.oil_model.specs.Rules as rules_of;
 
+use crate::kind_rules::{KindRule, least_violation};
 use crate::lines::{line_if, sooner};
 use crate::look_up::{line, number, word};
 use crate::objects::{attrs_named, is_kind, line_at, maximum, minimum, start};
@@ -22,26 +23,6 @@ pub fn cycle_time(start: &[Attr]) -> u64
     ensures { result ≡ cycle_time start.now }
 {
     number(b"CYCLETIME", start, 0)
-}
-
-fn is_reversed(counter: &Object) -> bool
-    ensures { result ≡ rules_of.is_reversed counter.now }
-{
-    let attrs = counter.attrs.as_slice();
-    maximum(attrs) < minimum(attrs)
-}
-
-#[tactic(auto, using(crate::proofs::Leasts::least_steps))]
-fn reversed_counter(objects: &[Object]) -> Option<u32>
-    ensures { result ≡ least (map (line_at (codes "MINCYCLE")) (filter rules_of.is_reversed (objects_of (codes "COUNTER") objects.now))) }
-{
-    let mut best = None;
-    for object in objects {
-        if is_kind(b"COUNTER", object) && is_reversed(object) {
-            best = sooner(best, Some(line_at(b"MINCYCLE", object)));
-        }
-    }
-    best
 }
 
 fn is_off_cycle(counter: &[Attr], cycle: u64) -> bool
@@ -89,5 +70,8 @@ fn late_alarm(objects: &[Object]) -> Option<u32>
 pub fn late_time(objects: &[Object]) -> Option<u32>
     ensures { result ≡ least (rules_of.late_times objects.now) }
 {
-    sooner(reversed_counter(objects), late_alarm(objects))
+    sooner(
+        least_violation(KindRule::ReversedCounter, objects),
+        late_alarm(objects),
+    )
 }

@@ -1,14 +1,9 @@
 -- What the scan does at attributes that were read.
 use Rattle.std.proofs.Common.{◌≡◌, ℕ, ◌+◌, ◌-◌, ◌<◌, ◌≤◌, true, false, List, [], ◌∷◌, ◌++◌, length, refl, sym, ap, ◌∙◌, subst, arith}
 use Rattle.std.specs.Prelude.{Some}
-use Rattle.oil_lexer.specs.declared.token.TokenKind.{TokenKind}
-use Rattle.oil_lexer.specs.declared.token.TokenKind.TheVariants.{Name, Number, Text, Mark}
-use Rattle.oil_lexer.specs.declared.token.Mark.TheVariants.{OpenBrace, CloseBrace, Equals}
-use Rattle.oil_lexer.specs.declared.token.Token.{Token}
-use Rattle.oil_tree.specs.declared.tree.Value.{Value}
-use Rattle.oil_tree.specs.declared.tree.Attr.{Attr}
+use Rattle.oil_lexer.specs.declared.token.{TokenKind.{TokenKind}, TokenKind.TheVariants.{Name, Number, Text, Mark}, Mark.TheVariants.{OpenBrace, CloseBrace, Equals}, Token.{Token}}
+use Rattle.oil_tree.specs.declared.tree.{Value.{Value}, Attr.{Attr}}
 use Rattle.oil_grammar.specs.declared.fault.Stop.{Stop}
-use Rattle.oil_grammar.specs.declared.fault.Stop.TheVariants.{TooDeep}
 use Rattle.oil_tree.specs.Attrs.{Attrs, no_attrs, attr_then}
 use Rattle.oil_tree.specs.AttrLists.{list_before}
 use Rattle.oil_grammar.specs.Tokens.{name, mark, is_open, is_close}
@@ -16,7 +11,7 @@ use Rattle.oil_tree.specs.Grammar.{IsValue, IsEnd, IsAttrs, no_more, one_more, I
 use Rattle.oil_tree.specs.Expect.{an_end, a_body, some_attrs, Stack, scan}
 use Rattle.oil_tree.specs.Phrases.{attr_phrases, ReadsAttr, ReadsBody, ReadsAttrs}
 use Rattle.osek_values.specs.declared.limits.TheConstants.{MAX_OIL_DEPTH}
-use Rattle.oil_grammar.proofs.Braces.{open_kind, close_kind, front_is, shallow, deep}
+use Rattle.oil_grammar.proofs.Braces.{open_kind, close_kind, front_is, shallow}
 use Rattle.oil_tree.proofs.Ends.{takes_value, takes_end, shorter_value, shorter_body}
 
 -- no closing brace: one more attribute
@@ -46,9 +41,6 @@ reads_bare t d ts tokens rest e c end = record { is_body = bare end; takes = λ 
 
 pub open_body : (d l : ℕ) (stack : Stack) (ts : List Token) → d < MAX_OIL_DEPTH → scan d (a_body ∷ stack) (mark OpenBrace l ∷ ts) ≡ scan (d + 1) (some_attrs ∷ (an_end ∷ stack)) ts
 open_body d l stack ts h = shallow MAX_OIL_DEPTH d _ _ h
-
-pub deep_body : (d l : ℕ) (stack : Stack) (ts : List Token) → MAX_OIL_DEPTH ≤ d → scan d (a_body ∷ stack) (mark OpenBrace l ∷ ts) ≡ Some (TooDeep l)
-deep_body d l stack ts h = deep MAX_OIL_DEPTH d _ _ h
 
 -- reading stops in the braces of a body, or behind them
 pub stops_within : (t : Token) (d : ℕ) (stack : Stack) (ts tokens : List Token) (stop : Stop) → tokens ≡ t ∷ ts → is_open t.kind ≡ true → d < MAX_OIL_DEPTH → scan (d + 1) (some_attrs ∷ (an_end ∷ stack)) ts ≡ Some stop → scan d (a_body ∷ stack) tokens ≡ Some stop

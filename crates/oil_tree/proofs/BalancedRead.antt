@@ -1,11 +1,6 @@
 -- What the scan does at tokens whose braces balance.
 use Rattle.std.proofs.Common.{◌≡◌, ℕ, ◌+◌, ◌-◌, ◌<◌, true, false, List, ◌∷◌, length, refl, sym, ap, ◌∙◌, subst, arith}
-use Rattle.std.specs.Prelude.{Some}
-use Rattle.oil_lexer.specs.declared.token.TokenKind.{TokenKind}
-use Rattle.oil_lexer.specs.declared.token.TokenKind.TheVariants.{Name, Number, Text, Mark}
-use Rattle.oil_lexer.specs.declared.token.Mark.TheVariants.{OpenBrace, CloseBrace}
-use Rattle.oil_lexer.specs.declared.token.Token.{Token}
-use Rattle.oil_grammar.specs.declared.fault.Stop.{Stop}
+use Rattle.oil_lexer.specs.declared.token.{TokenKind.{TokenKind}, TokenKind.TheVariants.{Name, Number, Text, Mark}, Mark.TheVariants.{OpenBrace, CloseBrace}, Token.{Token}}
 use Rattle.oil_grammar.specs.Tokens.{mark, is_open, is_close}
 use Rattle.oil_tree.specs.Grammar.{IsBalanced, closed, braces, other}
 use Rattle.osek_values.specs.declared.limits.TheConstants.{MAX_OIL_DEPTH}
@@ -57,8 +52,3 @@ pub braces_join : (t : Token) (d : ℕ) (ts tokens rest last : List Token) → t
 braces_join t d ts tokens rest last e o r more =
     let front : tokens ≡ mark OpenBrace t.line ∷ ts = front_is t (Mark OpenBrace) tokens ts e (open_kind t.kind o) in
     subst (λ (x : List Token). IsBalanced x last) (sym front) (braces r.is_balanced more)
-
-pub braces_stop : (t : Token) (d : ℕ) (stack : Stack) (ts tokens : List Token) (stop : Stop) → tokens ≡ t ∷ ts → is_open t.kind ≡ true → d < MAX_OIL_DEPTH → ((s : Stack) → scan (d + 1) (some_balanced ∷ s) ts ≡ Some stop) → scan d (some_balanced ∷ stack) tokens ≡ Some stop
-braces_stop t d stack ts tokens stop e o h stops =
-    let front : tokens ≡ mark OpenBrace t.line ∷ ts = front_is t (Mark OpenBrace) tokens ts e (open_kind t.kind o) in
-    ap (scan d (some_balanced ∷ stack)) front ∙ open_taken d t.line stack ts h ∙ stops (some_balanced ∷ stack)

@@ -1,13 +1,10 @@
 -- What the scan does at the parts of a file that were read.
 use Rattle.std.proofs.Common.{◌≡◌, ℕ, List, [], ◌∷◌, refl, sym, ap, ◌∙◌, subst}
-use Rattle.std.specs.Prelude.{Option, Some, None}
-use Rattle.oil_lexer.specs.declared.token.Mark.TheVariants.{OpenBrace, Equals}
-use Rattle.oil_lexer.specs.declared.token.Token.{Token}
-use Rattle.oil_tree.specs.declared.words.Word.{Word}
-use Rattle.oil_tree.specs.declared.words.Word.TheVariants.{Version, Implementation, Cpu, Other}
+use Rattle.std.specs.Prelude.{Option}
+use Rattle.oil_lexer.specs.declared.token.{Mark.TheVariants.{OpenBrace, Equals}, Token.{Token}}
+use Rattle.oil_tree.specs.declared.words.{Word.{Word}, Word.TheVariants.{Version, Implementation, Cpu, Other}}
 use Rattle.oil_tree.specs.declared.tree.Object.{Object}
 use Rattle.oil_grammar.specs.declared.fault.Stop.{Stop}
-use Rattle.oil_grammar.specs.declared.fault.Stop.TheVariants.{NotAllowed}
 use Rattle.oil_grammar.specs.Tokens.{name, text, mark}
 use Rattle.oil_tree.specs.Words.{word_of}
 use Rattle.oil_tree.specs.Grammar.{IsEnd, IsCpu, cpu, IsUnversioned, no_impl, impl, IsFile, no_version, version}
@@ -75,15 +72,6 @@ reads_impl n m l l' l'' tokens r1 r2 r3 r4 rest e is e2 e3 b end =
 
 pub cpu_taken : (n : List ℕ) (l : ℕ) (tokens ts : List Token) (stack : Stack) → tokens ≡ name n l ∷ ts → word_of n ≡ Cpu → scan 0 (a_cpu ∷ stack) tokens ≡ behind stack l ts (cpu_word Cpu)
 cpu_taken n l tokens ts stack e is = ap (scan 0 (a_cpu ∷ stack)) e ∙ ap (λ (w : Word). behind stack l ts (cpu_word w)) is
-
-no_cpu : (w : Word) → (w ≡ Cpu → ⊥) → cpu_word w ≡ None
-no_cpu Version h = refl
-no_cpu Implementation h = refl
-no_cpu Cpu h = absurd (h refl)
-no_cpu Other h = refl
-
-pub no_cpu_stops : (n : List ℕ) (l : ℕ) (w : Word) (tokens ts : List Token) (stack : Stack) → tokens ≡ name n l ∷ ts → word_of n ≡ w → (w ≡ Cpu → ⊥) → scan 0 (a_cpu ∷ stack) tokens ≡ Some (NotAllowed l)
-no_cpu_stops n l w tokens ts stack e is differs = ap (scan 0 (a_cpu ∷ stack)) e ∙ ap (behind stack l ts) (ap cpu_word is ∙ no_cpu w differs)
 
 pub reads_cpu : (n m : List ℕ) (l l' l'' : ℕ) (objects : List Object) (tokens r1 r2 r3 r4 rest : List Token) → tokens ≡ name n l ∷ r1 → word_of n ≡ Cpu → r1 ≡ name m l' ∷ r2 → r2 ≡ mark OpenBrace l'' ∷ r3 → ReadsObjects r3 objects r4 → IsEnd r4 rest → ReadsCpu tokens (record { line = l; objects = objects }) rest
 reads_cpu n m l l' l'' objects tokens r1 r2 r3 r4 rest e is e2 e3 o end =

@@ -1,10 +1,7 @@
 -- What the scan does at objects that were read.
 use Rattle.std.proofs.Common.{◌≡◌, ℕ, true, false, List, [], ◌∷◌, ◌++◌, length, refl, sym, ap, ◌∙◌, subst, arith}
 use Rattle.std.proofs.lemmas.List.{append-nil}
-use Rattle.oil_lexer.specs.declared.token.TokenKind.{TokenKind}
-use Rattle.oil_lexer.specs.declared.token.TokenKind.TheVariants.{Name, Number, Text, Mark}
-use Rattle.oil_lexer.specs.declared.token.Mark.TheVariants.{CloseBrace}
-use Rattle.oil_lexer.specs.declared.token.Token.{Token}
+use Rattle.oil_lexer.specs.declared.token.{TokenKind.{TokenKind}, TokenKind.TheVariants.{Name, Number, Text, Mark}, Mark.TheVariants.{CloseBrace}, Token.{Token}}
 use Rattle.oil_tree.specs.declared.tree.Object.{Object}
 use Rattle.oil_tree.specs.Attrs.{Attrs}
 use Rattle.oil_grammar.specs.Tokens.{name, mark, is_close}

@@ -1,21 +1,16 @@
 -- A list of tokens has at most one tree or first fault.
 use Rattle.std.proofs.Common.{◌≡◌, ℕ, List, ◌∷◌, refl, sym, ap, subst}
 use Rattle.std.specs.Prelude.{Result, Ok, Err}
-use Rattle.oil_lexer.specs.declared.token.Token.{Token}
-use Rattle.oil_tree.specs.declared.tree.Value.{Value}
-use Rattle.oil_grammar.specs.declared.fault.SyntaxFault.{SyntaxFault}
-use Rattle.oil_tree.specs.declared.error.ParseError.{ParseError}
-use Rattle.oil_tree.specs.declared.error.ParseError.TheVariants.{Memory, Fault}
+use Rattle.oil_lexer.specs.declared.token.{Token.{Token}, Mark.TheVariants.{OpenBrace, Equals}}
+use Rattle.oil_tree.specs.declared.tree.{Value.{Value}, Object.{Object}, Tree.{Tree}}
+use Rattle.osek_values.specs.declared.refused.LineFault.{LineFault}
+use Rattle.osek_values.specs.declared.refusal.SyntaxRule.{SyntaxRule}
 use Rattle.oil_tree.specs.Attrs.{Attrs, attr_then}
-use Rattle.oil_tree.specs.declared.tree.Object.{Object}
-use Rattle.oil_tree.specs.declared.tree.Tree.{Tree}
 use Rattle.oil_grammar.specs.Tokens.{name, mark}
-use Rattle.oil_lexer.specs.declared.token.Mark.TheVariants.{OpenBrace, Equals}
 use Rattle.oil_tree.specs.Grammar.{IsValue, is_name, is_text, is_number, is_plus, is_minus, IsEnd, plain, described, IsAttrs, no_more, one_more, IsBody, bare, nested, IsObjects, no_objects, one_object, IsBalanced, closed, braces, other, IsCpu, cpu, IsUnversioned, no_impl, impl, IsFile, no_version, version, IsSentence}
 use Rattle.oil_grammar.proofs.OneFault.{same_fault, no_fault}
 use Rattle.osek_values.specs.declared.limits.TheConstants.{MAX_OIL_DEPTH}
-use Rattle.oil_tree.specs.Faults.{IsFirstFault, HasTree}
-use Rattle.oil_tree.specs.Answers.{IsAnswer, IsRight, Answers}
+use Rattle.oil_tree.specs.Answers.{IsAnswer}
 
 same_value : {v w : Value} {a b c : List Token} → IsValue v a b → IsValue w a c → (v ≡ w) × (b ≡ c)
 same_value is_name is_name = (refl, refl)
@@ -90,20 +85,10 @@ same_file (no_version p) (version w' e' q) = absurd (no_equals p)
 same_file (version w e p) (no_version q) = absurd (no_equals q)
 same_file (version w e p) (version {file = file'} {rest = rest'} w' e' q) = same_unversioned p (subst (λ (z : List Token). IsUnversioned file' z rest') (sym (same_end e e')) q)
 
-pub one_answer : (tokens : List Token) (a b : Result Tree SyntaxFault) → IsAnswer a tokens → IsAnswer b tokens → a ≡ b
+pub one_answer : (tokens : List Token) (a b : Result Tree (LineFault SyntaxRule)) → IsAnswer a tokens → IsAnswer b tokens → a ≡ b
 one_answer tokens (Ok x) (Ok y) a b = ap Ok (same_file a.sentence b.sentence).0
 one_answer tokens (Ok x) (Err f) a b = absurd (no_fault Tree IsSentence MAX_OIL_DEPTH tokens x f.rule f.line a b)
 one_answer tokens (Err f) (Ok y) a b = absurd (no_fault Tree IsSentence MAX_OIL_DEPTH tokens y f.rule f.line b a)
 one_answer tokens (Err f) (Err g) a b =
     let s = same_fault Tree IsSentence MAX_OIL_DEPTH tokens f.rule g.rule f.line g.line a b in
     (λ i. Err (record { line = s.1 i; rule = s.0 i }))
-
-pub answers_tree : (result : Result Tree ParseError) (tokens : List Token) (tree : Tree) → IsRight result tokens → HasTree tokens tree → Answers result (Ok tree)
-answers_tree (Ok t) tokens tree r h = one_answer tokens (Ok tree) (Ok t) h r
-answers_tree (Err Memory) tokens tree r h = tt
-answers_tree (Err (Fault f)) tokens tree r h = one_answer tokens (Ok tree) (Err f) h r
-
-pub answers_fault : (result : Result Tree ParseError) (tokens : List Token) (fault : SyntaxFault) → IsRight result tokens → IsFirstFault tokens fault.rule fault.line → Answers result (Err fault)
-answers_fault (Ok t) tokens fault r h = one_answer tokens (Err fault) (Ok t) h r
-answers_fault (Err Memory) tokens fault r h = tt
-answers_fault (Err (Fault f)) tokens fault r h = one_answer tokens (Err fault) (Err f) h r

@@ -1,12 +1,7 @@
 -- Phrases from the tokens that were read.
 use Rattle.std.proofs.Common.{◌≡◌, ℕ, List, ◌∷◌, sym, ap, ◌∙◌, subst}
-use Rattle.oil_lexer.specs.declared.token.TokenKind.{TokenKind}
-use Rattle.oil_lexer.specs.declared.token.TokenKind.TheVariants.{Name, Number, Text, Mark}
-use Rattle.oil_lexer.specs.declared.token.Mark.{Mark as MarkType}
-use Rattle.oil_lexer.specs.declared.token.Mark.TheVariants.{Semicolon, Colon, Plus as plus_mark, Minus as minus_mark}
-use Rattle.oil_lexer.specs.declared.token.Token.{Token}
-use Rattle.oil_tree.specs.declared.tree.Value.TheVariants.{Word, Quoted, Numeric}
-use Rattle.oil_tree.specs.declared.tree.Sign.TheVariants.{Bare, Plus, Minus}
+use Rattle.oil_lexer.specs.declared.token.{TokenKind.{TokenKind}, TokenKind.TheVariants.{Name, Number, Text, Mark}, Mark.{Mark as MarkType}, Mark.TheVariants.{Semicolon, Colon, Plus as plus_mark, Minus as minus_mark}, Token.{Token}}
+use Rattle.oil_tree.specs.declared.tree.{Value.TheVariants.{Word, Quoted, Numeric}, Sign.TheVariants.{Bare, Plus, Minus}}
 use Rattle.oil_grammar.specs.Tokens.{number, text, mark}
 use Rattle.oil_tree.specs.Grammar.{IsValue, is_name, is_text, is_number, is_plus, is_minus, IsEnd, plain, described}
 

@@ -3,10 +3,7 @@ use Rattle.std.specs.Prelude.{◌≡◌, ℕ, List, [], ◌∷◌, refl}
 use Rattle.std.specs.Coded.{Coded, coded_ℕ, coded_list}
 use Rattle.std.proofs.Common.{arith}
 use base.Stored.{coded_via}
-use Rattle.oil_tree.specs.declared.tree.Sign.{Sign}
-use Rattle.oil_tree.specs.declared.tree.Sign.TheVariants.{Bare, Plus, Minus}
-use Rattle.oil_tree.specs.declared.tree.Value.{Value}
-use Rattle.oil_tree.specs.declared.tree.Value.TheVariants.{Word, Quoted, Numeric}
+use Rattle.oil_tree.specs.declared.tree.{Sign.{Sign}, Sign.TheVariants.{Bare, Plus, Minus}, Value.{Value}, Value.TheVariants.{Word, Quoted, Numeric}}
 use Rattle.oil_tree.specs.Attrs.{Attrs, no_attrs, attr_then}
 
 abbrev pub sign_number : Sign → ℕ

@@ -14,14 +14,9 @@
 -- A relation with two lists of tokens says that the first list begins with such a phrase, and that the second is what
 -- is left behind it. A repetition is told with its closing brace, and an optional part with what follows it.
 use Rattle.std.specs.Prelude.{◌≡◌, ℕ, false, List, [], ◌∷◌}
-use Rattle.oil_lexer.specs.declared.token.Mark.TheVariants.{OpenBrace, CloseBrace, Equals, Semicolon, Colon, Plus as plus_mark, Minus as minus_mark}
-use Rattle.oil_lexer.specs.declared.token.Token.{Token}
+use Rattle.oil_lexer.specs.declared.token.{Mark.TheVariants.{OpenBrace, CloseBrace, Equals, Semicolon, Colon, Plus as plus_mark, Minus as minus_mark}, Token.{Token}}
 use Rattle.oil_tree.specs.Attrs.{Attrs, no_attrs, attr_then}
-use Rattle.oil_tree.specs.declared.tree.Object.{Object}
-use Rattle.oil_tree.specs.declared.tree.Tree.{Tree}
-use Rattle.oil_tree.specs.declared.tree.Value.{Value}
-use Rattle.oil_tree.specs.declared.tree.Value.TheVariants.{Word, Quoted, Numeric}
-use Rattle.oil_tree.specs.declared.tree.Sign.TheVariants.{Bare, Plus, Minus}
+use Rattle.oil_tree.specs.declared.tree.{Object.{Object}, Tree.{Tree}, Value.{Value}, Value.TheVariants.{Word, Quoted, Numeric}, Sign.TheVariants.{Bare, Plus, Minus}}
 use Rattle.oil_tree.specs.declared.words.Word.TheVariants.{Version, Implementation, Cpu}
 use Rattle.oil_grammar.specs.Tokens.{name, number, text, mark, is_open, is_close}
 use Rattle.oil_tree.specs.Words.{word_of}

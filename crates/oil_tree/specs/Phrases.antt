@@ -3,11 +3,9 @@ use Rattle.std.specs.Prelude.{◌≡◌, ℕ, ◌-◌, List, [], ◌∷◌, ◌+
 use Rattle.oil_lexer.specs.declared.token.Token.{Token}
 use Rattle.oil_grammar.specs.declared.fault.Stop.{Stop}
 use Rattle.oil_tree.specs.Expect.{Phrase, Stack, scan, a_name, an_equals, a_value, a_body, some_attrs, some_objects, some_balanced, a_file, an_unversioned, a_cpu}
-use Rattle.oil_tree.specs.declared.tree.Attr.{Attr}
+use Rattle.oil_tree.specs.declared.tree.{Attr.{Attr}, Object.{Object}, Tree.{Tree}}
 use Rattle.oil_tree.specs.Attrs.{Attrs, attr_then}
 use Rattle.oil_tree.specs.Grammar.{IsAttrs, IsBody, IsObjects, IsBalanced, IsCpu, IsUnversioned, IsFile, IsSentence}
-use Rattle.oil_tree.specs.declared.tree.Object.{Object}
-use Rattle.oil_tree.specs.declared.tree.Tree.{Tree}
 
 -- reading went on behind the phrase, from a depth to a depth
 abbrev pub Takes : Phrase → ℕ → ℕ → List Token → List Token → Type 0

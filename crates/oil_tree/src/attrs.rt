@@ -1,13 +1,14 @@
 //! Attributes, within attributes.
-ghost use Rattle.std.specs.Prelude.{◌≡◌, ℕ, ◌≤◌, List, [], ◌∷◌, MatchResult};
-ghost use Rattle.oil_grammar.specs.Refusals.{Refuses};
+ghost use Rattle.std.specs.Prelude.{◌≡◌, ℕ, ◌≤◌, [], ◌∷◌, MatchResult};
+ghost use Rattle.osek_values.specs.Answers.{Refuses};
 ghost use Rattle.oil_tree.specs.Expect.{a_body, some_attrs};
 ghost use Rattle.oil_tree.specs.Phrases.{StopsIn, attr_phrases, ReadsAttr, ReadsBody, ReadsAttrs};
 
 use crate::phrases::{end, equals, name_of, value};
 use crate::tree::{Attr, AttrList};
-use oil_grammar::{PhraseError, Stop, copied, first, is_close, is_open};
+use oil_grammar::{PhraseError, Stop, first, is_close, is_open};
 use oil_lexer::Token;
+use osek_values::copied;
 use osek_values::limits::MAX_OIL_DEPTH;
 use std::alloc::Global;
 
@@ -74,7 +75,7 @@ pub fn body(
         return Ok((AttrList::from_vec(Vec::new(alloc)), rest));
     }
     if depth >= MAX_OIL_DEPTH {
-        return Err(PhraseError::Stopped(Stop::TooDeep(token.line)));
+        return Err(PhraseError::Fault(Stop::TooDeep(token.line)));
     }
     let (found, rest) = attrs(alloc, depth + 1, rest)?;
     let rest = end(rest)?;

@@ -1,14 +1,6 @@
 //! Why tokens have no tree.
 use oil_grammar::SyntaxFault;
-use thiserror::Error;
+use osek_values::Refused;
 
 /// Why tokens have no tree.
-#[derive(Clone, Copy, Debug, PartialEq, Eq, Error)]
-pub enum ParseError {
-    /// The first fault of the tokens.
-    #[error("line {}: {:?}", .0.line, .0.rule)]
-    Fault(SyntaxFault),
-    /// A growth was refused.
-    #[error("memory")]
-    Memory,
-}
+pub type ParseError = Refused<SyntaxFault>;

@@ -1,7 +1,7 @@
 //! Objects, and the parts of a file.
 ghost use Rattle.std.specs.Prelude.{◌≡◌, ◌≤◌, ℕ, List, [], ◌∷◌, Some, MatchResult};
 ghost use Rattle.oil_grammar.specs.Tokens.{name};
-ghost use Rattle.oil_grammar.specs.Refusals.{Refuses};
+ghost use Rattle.osek_values.specs.Answers.{Refuses};
 ghost use Rattle.oil_tree.specs.Words.{word_of};
 ghost use Rattle.oil_tree.specs.Expect.{scan, a_file, an_unversioned, a_cpu, some_objects, some_balanced};
 ghost use Rattle.oil_tree.specs.Phrases.{StopsIn, StopsAtWord, object_phrases, ReadsObject, ReadsObjects, ReadsBalanced, ReadsVersion, ReadsImpl, ReadsCpu, ReadsFile, ReadsAll};
@@ -10,8 +10,9 @@ use crate::attrs::body;
 use crate::phrases::{end, equals, name_of, open_brace, text};
 use crate::tree::{Object, ObjectList, Tree};
 use crate::words::{Word, word_of};
-use oil_grammar::{PhraseError, Stop, copied, first, is_close, is_open};
+use oil_grammar::{PhraseError, Stop, first, is_close, is_open};
 use oil_lexer::{Token, TokenKind};
+use osek_values::copied;
 use osek_values::limits::MAX_OIL_DEPTH;
 use std::alloc::Global;
 
@@ -145,7 +146,7 @@ fn cpu(alloc: Global, tokens: &[Token]) -> Result<(Tree, &[Token]), PhraseError>
             let rest = end(rest)?;
             Ok((Tree { line, objects }, rest))
         }
-        _ => Err(PhraseError::Stopped(Stop::NotAllowed(line))),
+        _ => Err(PhraseError::Fault(Stop::NotAllowed(line))),
     }
 }
 
@@ -169,7 +170,7 @@ pub fn whole(alloc: Global, tokens: &[Token]) -> Result<Tree, PhraseError>
 {
     let (tree, rest) = file(alloc, tokens)?;
     match first(rest) {
-        Ok((token, _)) => Err(PhraseError::Stopped(Stop::NotAllowed(token.line))),
+        Ok((token, _)) => Err(PhraseError::Fault(Stop::NotAllowed(token.line))),
         Err(_) => Ok(tree),
     }
 }

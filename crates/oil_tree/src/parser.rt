@@ -1,10 +1,11 @@
 //! The tree of an OIL file, or its first fault.
 ghost use Rattle.std.specs.Prelude.{◌≡◌, ◌⊎◌, List, Result, Ok, Err};
 ghost use Rattle.oil_lexer.specs.declared.token.Token.{Token};
-ghost use Rattle.oil_grammar.specs.declared.fault.SyntaxFault.{SyntaxFault};
+ghost use Rattle.osek_values.specs.declared.refused.LineFault.{LineFault};
+ghost use Rattle.osek_values.specs.declared.refusal.SyntaxRule.{SyntaxRule};
 ghost use Rattle.oil_tree.specs.declared.tree.Tree.{Tree};
-ghost use Rattle.oil_tree.specs.Faults.{HasTree, IsFirstFault};
-ghost use Rattle.oil_tree.specs.Answers.{IsAnswer, IsRight, Answers};
+ghost use Rattle.osek_values.specs.Answers.{IsRight, Answers};
+ghost use Rattle.oil_tree.specs.Answers.{IsAnswer};
 
 use crate::error::ParseError;
 use crate::file::whole;
@@ -14,11 +15,11 @@ use oil_lexer::Token;
 use std::alloc::Global;
 
 fn read(alloc: Global, tokens: &[Token]) -> Result<Tree, ParseError>
-    ensures { IsRight result tokens.now }
+    ensures { IsRight (λ r. IsAnswer r tokens.now) result }
 {
     match whole(alloc, tokens) {
         Ok(tree) => Ok(tree),
-        Err(PhraseError::Stopped(stop)) => Err(ParseError::Fault(fault_of(stop, tokens))),
+        Err(PhraseError::Fault(stop)) => Err(ParseError::Fault(fault_of(stop, tokens))),
         Err(PhraseError::Memory) => Err(ParseError::Memory),
     }
 }
@@ -27,19 +28,17 @@ fn read(alloc: Global, tokens: &[Token]) -> Result<Tree, ParseError>
 /// fault of its tokens.
 pub fn parse(alloc: Global, tokens: &[Token]) -> Result<Tree, ParseError>
     // What is answered is right,
-    ensures right { IsRight result tokens.now }
+    ensures right { IsRight (λ r. IsAnswer r tokens.now) result }
 
     // and what is right is answered, unless memory runs out.
-    ensures complete { (tree : Tree) → HasTree tokens.now tree → Answers result (Ok tree) }
-    ensures first_fault { (fault : SyntaxFault) → IsFirstFault tokens.now fault.rule fault.line
-        → Answers result (Err fault) }
+    ensures exact { (expected : Result Tree (LineFault SyntaxRule)) → IsAnswer expected tokens.now → Answers result expected }
 {
     read(alloc, tokens)
 }
 
 /// A law: each list of tokens has one tree or first fault, and no other. It does nothing.
 pub fn one_answer()
-    ensures some { (tokens : List Token) → (answer : Result Tree SyntaxFault) × IsAnswer answer tokens }
-    ensures one { (tokens : List Token) (a b : Result Tree SyntaxFault)
+    ensures some { (tokens : List Token) → (answer : Result Tree (LineFault SyntaxRule)) × IsAnswer answer tokens }
+    ensures one { (tokens : List Token) (a b : Result Tree (LineFault SyntaxRule))
         → IsAnswer a tokens → IsAnswer b tokens → a ≡ b }
 {}

@@ -3,14 +3,14 @@ ghost use Rattle.std.specs.Prelude.{◌≡◌, ℕ, List, [], ◌∷◌, IfOk, M
 ghost use Rattle.oil_grammar.specs.Tokens.{name, number, text, mark};
 ghost use Rattle.oil_tree.specs.Grammar.{IsValue, IsEnd};
 ghost use Rattle.oil_tree.specs.Expect.{a_value, an_end, a_name, a_text, a_number, an_equals, an_open, a_semicolon};
-ghost use Rattle.oil_grammar.specs.Refusals.{Refuses};
+ghost use Rattle.osek_values.specs.Answers.{Refuses};
 ghost use Rattle.oil_tree.specs.Phrases.{StopsIn};
 ghost use Rattle.oil_lexer.specs.declared.token.Mark.TheVariants.{Equals, OpenBrace, Semicolon};
 
 use crate::tree::{Sign, Value};
-use oil_grammar::{PhraseError, Stop, copied, first};
+use oil_grammar::{PhraseError, Stop, first};
 use oil_lexer::{Mark, Token, TokenKind};
-use osek_values::{Name, Seq};
+use osek_values::{Name, Seq, copied};
 use std::alloc::{AllocError, Global};
 
 /// A name, and its line.
@@ -116,7 +116,7 @@ pub fn value(alloc: Global, tokens: &[Token]) -> Result<(Value, &[Token]), Phras
             let (value, rest) = number(rest)?;
             Ok((Value::Numeric(Sign::Minus, value), rest))
         }
-        TokenKind::Mark(_) => Err(PhraseError::Stopped(Stop::NotAllowed(token.line))),
+        TokenKind::Mark(_) => Err(PhraseError::Fault(Stop::NotAllowed(token.line))),
     }
 }
 

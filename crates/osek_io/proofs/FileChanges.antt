@@ -54,12 +54,5 @@ with_file-others (Some files) name bytes = λ other apart.
     get-insert nat_list_cmp_total files name bytes other
     ∙ ap (λ b. cond b (Some bytes) (get files other)) (is_eq-slice_cmp other name ∙ other_name other name apart)
 
-same-others : (c : Option Files) (name : List ℕ) → KeepsOthers c c name
-same-others None name = tt
-same-others (Some files) name = λ other apart. refl
-
-pub equal-others : (c d : Option Files) (name : List ℕ) → d ≡ c → KeepsOthers c d name
-equal-others c d name e = subst (λ (x : Option Files). KeepsOthers c x name) (sym e) (same-others c name)
-
 pub stored-others : (c d : Option Files) (name bytes : List ℕ) → d ≡ with_file c name bytes → KeepsOthers c d name
 stored-others c d name bytes e = subst (λ (x : Option Files). KeepsOthers c x name) (sym e) (with_file-others c name bytes)

@@ -35,21 +35,22 @@ pub record CanMiss (before now : ℕ) (missing : Type 0) (result : Result ℕ Fa
   pub cause : OnErr result (Rose before now ⊎ missing)
   pub refused : missing → IsErr result
   pub uncounted : missing → now ≡ before
+  pub no_fault : OnOk result (now ≡ before)
 
 pub read_cause : (s t : ShelfState) (o : Option (List ℕ)) (at len : ℕ) (r : Result ℕ Failed) → s.read_faults < 2 ^ 64 → r ≡ read_answer s o at len → t ≡ after_read s o
     → CanMiss s.read_faults t.read_faults (o ≡ None) r
 read_cause s t None at len r range a f =
     let same = ap (λ (x : ShelfState). x.read_faults) f in
-    subst (λ (x : Result ℕ Failed). CanMiss s.read_faults t.read_faults (nothing ≡ None) x) (sym a) (record { cause = inr refl; refused = λ _. refl; uncounted = λ _. same })
+    subst (λ (x : Result ℕ Failed). CanMiss s.read_faults t.read_faults (nothing ≡ None) x) (sym a) (record { cause = inr refl; refused = λ _. refl; uncounted = λ _. same; no_fault = tt })
 read_cause s t (Some bytes) at len r range a f =
     elim (is_listed s.fails s.calls) as (λ b. r ≡ cond b bad (good (min len (length bytes - at))) → t ≡ cond b (after_failed_read s) (after_call s) → CanMiss s.read_faults t.read_faults (something bytes ≡ None) r) [
       | true ↦ λ a' f'.
           let count = ap (λ (x : ShelfState). x.read_faults) f' in
           subst (λ (x : Result ℕ Failed). CanMiss s.read_faults t.read_faults (something bytes ≡ None) x) (sym a')
-          (record { cause = inl (omega arith); refused = λ h. absurd (none_some bytes (sym h)); uncounted = λ h. absurd (none_some bytes (sym h)) })
+          (record { cause = inl (omega arith); refused = λ h. absurd (none_some bytes (sym h)); uncounted = λ h. absurd (none_some bytes (sym h)); no_fault = tt })
       | false ↦ λ a' f'.
           subst (λ (x : Result ℕ Failed). CanMiss s.read_faults t.read_faults (something bytes ≡ None) x) (sym a')
-          (record { cause = tt; refused = λ h. absurd (none_some bytes (sym h)); uncounted = λ h. absurd (none_some bytes (sym h)) })
+          (record { cause = tt; refused = λ h. absurd (none_some bytes (sym h)); uncounted = λ h. absurd (none_some bytes (sym h)); no_fault = ap (λ (x : ShelfState). x.read_faults) f' })
     ] a f
 
 read_meets : (s : ShelfState) (at : ℕ) (into bytes : List ℕ) (o : Option (List ℕ)) (n : ℕ) → o ≡ Some bytes → good n ≡ read_answer s o at (length into)
@@ -101,17 +102,17 @@ pub append_meets : (s t : ShelfState) (name : List ℕ) (o : Option (List ℕ)) 
     → r ≡ append_answer s o room piece → t ≡ after_append s name o room piece → Appends s t name piece r
 append_meets s t name None room piece r range here a f =
     let same = ap (λ (x : ShelfState). x.write_faults) f in
-    subst (λ (x : Result ℕ Failed). Appends s t name piece x) (sym a) (tt, record { cause = inr here; refused = λ _. refl; uncounted = λ _. same })
+    subst (λ (x : Result ℕ Failed). Appends s t name piece x) (sym a) (tt, record { cause = inr here; refused = λ _. refl; uncounted = λ _. same; no_fault = tt })
 append_meets s t name (Some bytes) room piece r range here a f =
     let there : IsMissing (Some s.files) name → ⊥ = λ h. none_some bytes (sym h ∙ here) in
     elim (is_listed s.fails s.calls || is_full room bytes piece) as (λ b. r ≡ cond b bad (good (fitting_count room bytes piece)) → t ≡ cond b (after_failed_write s) (after_write s name (bytes ++ take (fitting_count room bytes piece) piece)) → Appends s t name piece r) [
       | true ↦ λ a' f'.
           let count = ap (λ (x : ShelfState). x.write_faults) f' in
           subst (λ (x : Result ℕ Failed). Appends s t name piece x) (sym a')
-          (tt, record { cause = inl (omega arith); refused = λ h. absurd (there h); uncounted = λ h. absurd (there h) })
+          (tt, record { cause = inl (omega arith); refused = λ h. absurd (there h); uncounted = λ h. absurd (there h); no_fault = tt })
       | false ↦ λ a' f'.
           subst (λ (x : Result ℕ Failed). Appends s t name piece x) (sym a') (
             ap (λ (x : ShelfState). Some x.files) f' ∙ ap (λ (o : Option (List ℕ)). Some (insert s.files name (unwrap_or o [] ++ take (fitting_count room bytes piece) piece))) (sym here),
-            record { cause = tt; refused = λ h. absurd (there h); uncounted = λ h. absurd (there h) },
+            record { cause = tt; refused = λ h. absurd (there h); uncounted = λ h. absurd (there h); no_fault = ap (λ (x : ShelfState). x.write_faults) f' },
           )
     ] a f

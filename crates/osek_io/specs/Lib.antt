@@ -1,6 +1,7 @@
 pub mod Counts
 pub mod Files
 pub mod Pieces
+pub mod Reads
 pub mod Stored
 pub mod MemSink
 pub mod Place

@@ -10,8 +10,9 @@ use std::fs::OpenOptions;
 use std::io::{Seek, SeekFrom};
 use std::rt::Files;
 
-/// The files of the system by their paths. It tells no contents. What the system refuses, want of memory
-/// included, is a fault.
+/// The files of the system by their paths. It tells no contents. What the system refuses, out of memory
+/// included, is a fault, and so is a read of what is no regular file: a pipe or a terminal would be waited
+/// for, and has no places to seek.
 ///
 /// Each call opens its file anew, and a read seeks to its place: nothing is kept between two calls, and a
 /// file that is read piece by piece costs one opening a piece, wherever the piece is.
@@ -36,10 +37,21 @@ impl<R: Files> FileShelf<R> {
     }
 }
 
-/// Reads from a place of a file.
+/// Whether a path leads to a regular file.
+fn is_regular<R: Files>(files: &R, name: &str) -> bool {
+    match fs::metadata(files, name) {
+        Ok(data) => data.is_file(),
+        Err(_) => false,
+    }
+}
+
+/// Reads from a place of a regular file.
 fn read_at<R: Files>(files: &R, name: &str, at: u64, into: &mut [u8]) -> Result<usize, Failed>
     ensures bound { IfOk result (λ n. n ≤ length into.new) }
 {
+    if !is_regular(files, name) {
+        return Err(Failed);
+    }
     let Ok(mut file) = fs::open(files, name) else {
         return Err(Failed);
     };
@@ -63,7 +75,9 @@ fn append_to<R: Files>(files: &R, name: &str, piece: &[u8]) -> Result<usize, Fai
 impl<R: Files> Shelf for FileShelf<R> {
     ghost contents = { λ _. None };
 
-    ghost read_faults = { λ s. s.read_faults };
+    ghost read_faults = { λ s _. s.read_faults };
+
+    ghost asked = { λ _. 0 };
 
     ghost write_faults = { λ s. s.write_faults };
 

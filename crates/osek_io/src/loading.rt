@@ -1,8 +1,8 @@
 //! Whole files.
-ghost use Rattle.std.specs.Prelude.{◌≡◌, ◌≤◌, ◌<◌, ◌+◌, ◌⊎◌, ℕ, List, length, IfOk, OnErr, IsErrOf};
-ghost use Rattle.osek_io.specs.Counts.{Rose};
+ghost use Rattle.std.specs.Prelude.{◌≡◌, ◌≤◌, ◌<◌, ◌+◌, ◌⊎◌, ℕ, List, length, max, IfOk, OnOk, IsErrOf};
+ghost use Rattle.osek_io.specs.Counts.{Rose, Same};
 ghost use Rattle.osek_io.specs.Files.{Holds, IsMissing};
-ghost use Rattle.osek_io.specs.Pieces.{ReadsPiece};
+ghost use Rattle.osek_io.specs.Reads.{OnlyReads};
 ghost use Rattle.osek_io.specs.declared.loading.LoadError.TheVariants.{Memory};
 
 use crate::shelf::Shelf;
@@ -55,7 +55,7 @@ fn bytes_to_ask(taken: u64, most: u64) -> usize
     (most - taken).saturating_add(1).min(PIECE as u64) as usize
 }
 
-/// Loads all the bytes of a file that has at most `most`. It never asks for more than one byte beyond them.
+/// Loads all the bytes of a file that has at most `most`.
 pub fn load<F: Shelf>(
     alloc: Global,
     shelf: &mut F,
@@ -65,14 +65,15 @@ pub fn load<F: Shelf>(
     ensures bytes { IfOk result (λ v. (bytes : List ℕ) → Holds (F.contents shelf.old) name.now bytes → v.items ≡ bytes) }
     ensures within { IfOk result (λ v. length v.items ≤ most) }
 
-    ensures read { IsErrOf result LoadError.Read → Rose (F.read_faults shelf.old) (F.read_faults shelf.new) ⊎ IsMissing (F.contents shelf.old) name.now }
+    ensures read { IsErrOf result LoadError.Read → Rose (F.read_faults shelf.old name.now) (F.read_faults shelf.new name.now) ⊎ IsMissing (F.contents shelf.old) name.now }
     ensures missing { IsMissing (F.contents shelf.old) name.now → IsErrOf result LoadError.Read }
-    ensures uncounted { IsMissing (F.contents shelf.old) name.now → F.read_faults shelf.new ≡ F.read_faults shelf.old }
-    ensures too_long { IsErrOf result LoadError.TooLong → (bytes : List ℕ) → Holds (F.contents shelf.old) name.now bytes → most < length bytes }
+    ensures uncounted { IsMissing (F.contents shelf.old) name.now → Same (F.read_faults shelf.old) (F.read_faults shelf.new) }
+    ensures too_long { IsErrOf result LoadError.TooLong → ((bytes : List ℕ) → Holds (F.contents shelf.old) name.now bytes → most < length bytes) × Same (F.read_faults shelf.old) (F.read_faults shelf.new) }
+    ensures no_fault { OnOk result (Same (F.read_faults shelf.old) (F.read_faults shelf.new)) }
 
-    ensures never_falls { F.read_faults shelf.old ≤ F.read_faults shelf.new }
-    ensures same_files { F.contents shelf.new ≡ F.contents shelf.old }
-    ensures same_writes { F.write_faults shelf.new ≡ F.write_faults shelf.old }
+    // It asks for one byte beyond the limit at most.
+    ensures asked { F.asked shelf.new ≤ max (F.asked shelf.old) (most + 1) }
+    ensures same { OnlyReads F.Shelf shelf.old shelf.new }
 {
     let mut bytes: Vec<u8> = Vec::new(alloc);
     let mut piece = [0u8; PIECE];

@@ -1,7 +1,7 @@
 //! A shelf in memory, whose failing calls are listed.
-ghost use Rattle.std.specs.Prelude.{◌≡◌, ◌≤◌, ◌<◌, ◌^◌, ◌-◌, ◌⊎◌, ℕ, List, [], length, take, drop, min, max, Option, Some, IfOk, OnOk, OnErr, IsErr, IfSome, option_map, unwrap_or};
+ghost use Rattle.std.specs.Prelude.{◌≡◌, ◌≤◌, ◌<◌, ◌^◌, ◌+◌, ◌-◌, ◌⊎◌, ℕ, List, [], length, take, drop, min, max, Option, Some, IfOk, OnOk, OnErr, IsErr, IfSome, option_map, unwrap_or};
 ghost use Rattle.std.specs.FinMap.{get, insert, empty};
-ghost use Rattle.osek_io.specs.Counts.{Rose};
+ghost use Rattle.osek_io.specs.Counts.{Rose, Same, NeverFall};
 ghost use Rattle.osek_io.specs.Files.{Holds, IsMissing, with_file, with_more, with_or_without};
 ghost use Rattle.osek_io.specs.Pieces.{ReadsPiece};
 
@@ -165,7 +165,9 @@ impl Shelf for MemShelf {
 
     ghost contents = { λ s. Some s.files };
 
-    ghost read_faults = { λ s. s.read_faults };
+    ghost read_faults = { λ s _. s.read_faults };
+
+    ghost asked = { λ _. 0 };
 
     ghost write_faults = { λ s. s.write_faults };
 
@@ -174,8 +176,10 @@ impl Shelf for MemShelf {
         ensures piece { IfOk result (λ n. (bytes : List ℕ) → Holds (Some self.old.files) name.now bytes → ReadsPiece bytes at into.new n) }
         ensures cause { OnErr result (Rose self.old.read_faults self.new.read_faults ⊎ IsMissing (Some self.old.files) name.now) }
         ensures missing { IsMissing (Some self.old.files) name.now → IsErr result }
-        ensures uncounted { IsMissing (Some self.old.files) name.now → self.new.read_faults ≡ self.old.read_faults }
-        ensures never_falls { self.old.read_faults ≤ self.new.read_faults }
+        ensures uncounted { IsMissing (Some self.old.files) name.now → Same (λ _. self.old.read_faults) (λ _. self.new.read_faults) }
+        ensures no_fault { OnOk result (Same (λ _. self.old.read_faults) (λ _. self.new.read_faults)) }
+        ensures never_falls { NeverFall (λ _. self.old.read_faults) (λ _. self.new.read_faults) }
+        ensures asked { 0 ≤ max 0 (at + length into.old) }
         ensures same_files { Some self.new.files ≡ Some self.old.files }
         ensures same_writes { self.new.write_faults ≡ self.old.write_faults }
         ensures answer { result ≡ read_answer self.old (get self.old.files name.now) at (length into.old) }
@@ -189,7 +193,7 @@ impl Shelf for MemShelf {
         ensures err { OnErr result (Some self.new.files ≡ Some self.old.files) }
         ensures cause { OnErr result (Rose self.old.write_faults self.new.write_faults) }
         ensures never_falls { self.old.write_faults ≤ self.new.write_faults }
-        ensures same_reads { self.new.read_faults ≡ self.old.read_faults }
+        ensures same_reads { Same (λ _. self.old.read_faults) (λ _. self.new.read_faults) }
         ensures answer { result ≡ create_answer self.old (get self.old.rooms name.now) }
         ensures after { self.new ≡ after_create self.old name.now (get self.old.rooms name.now) }
     {
@@ -205,7 +209,7 @@ impl Shelf for MemShelf {
         ensures missing { IsMissing (Some self.old.files) name.now → IsErr result }
         ensures uncounted { IsMissing (Some self.old.files) name.now → self.new.write_faults ≡ self.old.write_faults }
         ensures never_falls { self.old.write_faults ≤ self.new.write_faults }
-        ensures same_reads { self.new.read_faults ≡ self.old.read_faults }
+        ensures same_reads { Same (λ _. self.old.read_faults) (λ _. self.new.read_faults) }
         ensures answer { result ≡ append_answer self.old (get self.old.files name.now) (unwrap_or (get self.old.rooms name.now) 0) piece.now }
         ensures after { self.new ≡ after_append self.old name.now (get self.old.files name.now) (unwrap_or (get self.old.rooms name.now) 0) piece.now }
     {

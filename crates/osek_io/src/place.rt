@@ -1,6 +1,5 @@
 //! A place for a file in memory.
-ghost use Rattle.std.specs.Prelude.{◌≡◌, ◌≤◌, ◌+◌, ◌++◌, List, ℕ, [], length, Option, Some, None, IsSome, IfSome, option_map, unwrap_or, OnErr, IfOk, max};
-ghost use Rattle.std.specs.Str.{bytes_eq};
+ghost use Rattle.std.specs.Prelude.{◌≡◌, ◌≤◌, ◌+◌, ◌++◌, ℕ, [], length, Option, Some, None, IfSome, option_map, unwrap_or, IfOk, max};
 
 use osek_values::Memory;
 use std::alloc::Global;

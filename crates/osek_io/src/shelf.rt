@@ -1,20 +1,24 @@
 //! Files by their names, as the project asks for them.
-ghost use Rattle.std.specs.Prelude.{◌≡◌, ◌≤◌, ◌⊎◌, ℕ, List, [], length, take, Option, IfOk, OnOk, OnErr, IsErr};
-ghost use Rattle.osek_io.specs.Counts.{Rose};
+ghost use Rattle.std.specs.Prelude.{◌≡◌, ◌≤◌, ◌+◌, ◌⊎◌, ℕ, List, [], length, take, max, Option, IfOk, OnOk, OnErr, IsErr};
+ghost use Rattle.osek_io.specs.Counts.{Rose, Same, NeverFall};
 ghost use Rattle.osek_io.specs.Files.{Files, Holds, IsMissing, with_file, with_more};
 ghost use Rattle.osek_io.specs.Pieces.{ReadsPiece};
 
 use crate::failed::Failed;
 
-/// A map from names to bytes, where it tells it, with a count of failed reads and one of failed writes.
+/// A map from names to bytes, where it tells it, with counts of failed reads and one of failed writes.
 ///
-/// A count that stands at 2^64-1 has risen as far as it can. Every shelf of this project begins at 0.
+/// A shelf may keep one count of reads for all names: who knows it as a `Shelf` alone still knows no more than that the
+/// count of a name that it read rose, and so which file it is that can't be read. A count that stands at 2^64-1 has risen as far as it can. Every shelf of this project begins at 0.
 pub trait Shelf {
     /// The files, where the shelf tells them.
     ghost contents: { Self → Option Files };
 
-    /// How often `read` has failed, but for reads of what isn't there.
-    ghost read_faults: { Self → ℕ };
+    /// How often `read` of a name has failed, but for reads of what isn't there.
+    ghost read_faults: { Self → List ℕ → ℕ };
+
+    /// How far reads have asked: the end of the farthest piece. A shelf that doesn't keep it says 0.
+    ghost asked: { Self → ℕ };
 
     /// How often `create` or `append` has failed, but for an `append` to what isn't there.
     ghost write_faults: { Self → ℕ };
@@ -26,10 +30,12 @@ pub trait Shelf {
         ensures piece { IfOk result (λ n. (bytes : List ℕ) → Holds (contents self.old) name.now bytes → ReadsPiece bytes at into.new n) }
 
         // It fails only by a fault, or where the file isn't there, which counts nowhere.
-        ensures cause { OnErr result (Rose (read_faults self.old) (read_faults self.new) ⊎ IsMissing (contents self.old) name.now) }
+        ensures cause { OnErr result (Rose (read_faults self.old name.now) (read_faults self.new name.now) ⊎ IsMissing (contents self.old) name.now) }
         ensures missing { IsMissing (contents self.old) name.now → IsErr result }
-        ensures uncounted { IsMissing (contents self.old) name.now → read_faults self.new ≡ read_faults self.old }
-        ensures never_falls { read_faults self.old ≤ read_faults self.new }
+        ensures uncounted { IsMissing (contents self.old) name.now → Same (read_faults self.old) (read_faults self.new) }
+        ensures no_fault { OnOk result (Same (read_faults self.old) (read_faults self.new)) }
+        ensures never_falls { NeverFall (read_faults self.old) (read_faults self.new) }
+        ensures asked { asked self.new ≤ max (asked self.old) (at + length into.old) }
 
         ensures same_files { contents self.new ≡ contents self.old }
         ensures same_writes { write_faults self.new ≡ write_faults self.old };
@@ -42,7 +48,7 @@ pub trait Shelf {
         ensures cause { OnErr result (Rose (write_faults self.old) (write_faults self.new)) }
         ensures never_falls { write_faults self.old ≤ write_faults self.new }
 
-        ensures same_reads { read_faults self.new ≡ read_faults self.old };
+        ensures same_reads { Same (read_faults self.old) (read_faults self.new) };
 
     /// Adds a front of the piece at the end of the file, which is empty only where the piece is.
     /// It answers how many bytes.
@@ -58,5 +64,5 @@ pub trait Shelf {
         ensures uncounted { IsMissing (contents self.old) name.now → write_faults self.new ≡ write_faults self.old }
         ensures never_falls { write_faults self.old ≤ write_faults self.new }
 
-        ensures same_reads { read_faults self.new ≡ read_faults self.old };
+        ensures same_reads { Same (read_faults self.old) (read_faults self.new) };
 }

@@ -1,6 +1,6 @@
 //! Whole texts, to a sink or a file.
 ghost use Rattle.std.specs.Prelude.{◌≡◌, ◌≤◌, OnOk, OnErr};
-ghost use Rattle.osek_io.specs.Counts.{Rose};
+ghost use Rattle.osek_io.specs.Counts.{Rose, Same};
 ghost use Rattle.osek_io.specs.Files.{with_file, KeepsOthers};
 ghost use Rattle.osek_io.specs.Pieces.{grown};
 ghost use Rattle.osek_io.specs.Stored.{WritesPart, StoresPart};
@@ -54,7 +54,7 @@ pub fn store<F: Shelf>(shelf: &mut F, name: &str, bytes: &[u8]) -> Result<(), Pu
 
     ensures cause { OnErr result (Rose (F.write_faults shelf.old) (F.write_faults shelf.new)) }
     ensures never_falls { F.write_faults shelf.old ≤ F.write_faults shelf.new }
-    ensures same_reads { F.read_faults shelf.new ≡ F.read_faults shelf.old }
+    ensures same_reads { Same (F.read_faults shelf.old) (F.read_faults shelf.new) }
 {
     if shelf.create(name).is_err() {
         return Err(PutError::Write);

@@ -1,6 +1,6 @@
 -- The alarm services, an alarm that expires and a counter that goes on keep a state well-formed (ISO 17356-3, alarms).
 use Rattle.std.proofs.Common.{◌≡◌, ℕ, ◌+◌, ◌%◌, ◌<◌, ◌≤◌, false, length, refl, sym, ◌∙◌, subst, inl, inr, arith, Some, None, not, ◌||◌, nat_lt, nat_eq, slice_set, slice_index_or, get_or-set_same, get_or-set_other}
-use Rattle.std.proofs.lemmas.Bool.{cases_Bool, cases_eq}
+use Rattle.std.proofs.lemmas.Bool.{cases_Bool, cases_eq, or_parts, not-false}
 use Rattle.std.proofs.Math.ListN.{length-set}
 use Rattle.std.proofs.lemmas.Bool.Decides.{nat_tests}
 use Rattle.std.specs.Prelude.{if◌then◌else◌}
@@ -8,17 +8,12 @@ use Rattle.std.specs.declared.option.Option.{Option}
 use Rattle.osek_standard.specs.declared.app.App.{App}
 use Rattle.osek_standard.specs.declared.objects.Action.{Action}
 use Rattle.osek_standard.specs.declared.objects.Action.TheVariants as action
-use Rattle.osek_standard.specs.declared.state.State.{State}
-use Rattle.osek_standard.specs.declared.state.AlarmState.{AlarmState}
-use Rattle.osek_standard.specs.declared.state.AlarmState.TheVariants.{Idle, Armed}
-use Rattle.osek_standard.specs.declared.state.Caller.{Caller}
-use Rattle.osek_standard.specs.declared.state.Caller.TheVariants.{Nobody, Task, Routine}
+use Rattle.osek_standard.specs.declared.state.{State.{State}, AlarmState.{AlarmState}, AlarmState.TheVariants.{Idle, Armed}, Caller.{Caller}, Caller.TheVariants.{Nobody, Task, Routine}}
 use Rattle.osek_standard.specs.Validity.{IsAction}
-use Rattle.osek_standard.specs.Apps.{the_alarm, the_counter, max_of, is_cycle, is_counter, no_alarm}
+use Rattle.osek_standard.specs.Apps.{tables, the_alarm, the_counter, max_of, is_cycle, is_counter, no_alarm}
 use Rattle.osek_standard.specs.States.{with_alarm, alarm_state, counter_value}
 use Rattle.osek_standard.specs.Services.{set_rel_alarm, set_abs_alarm, cancel_alarm, get_alarm, time_left, count_up, counted_by, expire, acted, rearmed, value_of, due, is_due_at, is_idle}
 use Rattle.osek_standard.specs.Well.{Well, IsAlarmState}
-use Rattle.osek_standard.proofs.BoolLaws.{neither, not_false}
 use Rattle.osek_standard.proofs.Keeps.{processor_keeps, activate_keeps}
 use Rattle.osek_standard.proofs.EventKeeps.{set_event_keeps}
 
@@ -67,7 +62,7 @@ module _ (app : App) (s : State) where
       | inl f ↦ (rw (e, f) w)
       | inr f ↦ (rw (e, f) (with_alarm_keeps a _ w known (record {
         at_most = below_round (value_of app s a + i) (max_of app a);
-        round = not_false (is_cycle app a c) (neither (nat_eq i 0 || nat_lt (max_of app a) i) (not (is_cycle app a c)) f).1;
+        round = not-false (is_cycle app a c) (or_parts (nat_eq i 0 || nat_lt (max_of app a) i) (not (is_cycle app a c)) f).1;
       })))
     ]
   ]
@@ -78,9 +73,9 @@ module _ (app : App) (s : State) where
     | inl e ↦ (rw e w)
     | inr e ↦ elim (cases_Bool (nat_lt (max_of app a) i || not (is_cycle app a c))) [
       | inl f ↦ (rw (e, f) w)
-      | inr f ↦ (let p = neither (nat_lt (max_of app a) i) (not (is_cycle app a c)) f in
+      | inr f ↦ (let p = or_parts (nat_lt (max_of app a) i) (not (is_cycle app a c)) f in
           let low : nat_lt (max_of app a) i ≡ false = p.0 in
-          rw (e, f) (with_alarm_keeps a _ w known (record { at_most = grind (arith, nat_tests); round = not_false (is_cycle app a c) p.1 })))
+          rw (e, f) (with_alarm_keeps a _ w known (record { at_most = grind (arith, nat_tests); round = not-false (is_cycle app a c) p.1 })))
     ]
   ]
 
@@ -132,7 +127,7 @@ module _ (app : App) (s : State) where
     | inr e ↦ (rw e w)
   ]
 
-acted_keeps : (app : App) (s : State) (x : Action) → Well app s → IsAction app.tasks app.alarms app.resources x → Well app (acted app s x).state
+acted_keeps : (app : App) (s : State) (x : Action) → Well app s → IsAction (tables app) x → Well app (acted app s x).state
 acted_keeps app s (action.ActivateTask t) w h = activate_keeps app s t.0 w h
 acted_keeps app s (action.SetEvent t m) w h = set_event_keeps app s t.0 m.0 w h.0
 

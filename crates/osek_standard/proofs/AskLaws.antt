@@ -2,19 +2,14 @@
 use Rattle.std.proofs.Common.{◌≡◌, ℕ, ◌+◌, Bool, List, refl, ◌∙◌, ap, ◌⊎◌, inl, inr, Some, None, not, nat_lt, slice_index_or}
 use Rattle.std.specs.declared.option.Option.{Option}
 use Rattle.osek_values.specs.declared.status.Ask.TheVariants as ask
-use Rattle.osek_values.specs.declared.numbers.TaskNo.{TaskNo}
-use Rattle.osek_values.specs.declared.numbers.BlockNo.{BlockNo}
+use Rattle.osek_values.specs.declared.numbers.{TaskNo.{TaskNo}, BlockNo.{BlockNo}}
 use Rattle.osek_standard.specs.declared.app.App.{App}
-use Rattle.osek_standard.specs.declared.block.Block.{Block}
-use Rattle.osek_standard.specs.declared.block.Kind.{Kind}
+use Rattle.osek_standard.specs.declared.block.{Block.{Block}, Kind.{Kind}}
 use Rattle.osek_standard.specs.declared.block.Kind.TheVariants as kind
-use Rattle.osek_standard.specs.declared.state.State.{State}
-use Rattle.osek_standard.specs.declared.state.Source.{Source}
+use Rattle.osek_standard.specs.CallNames as call
+use Rattle.osek_standard.specs.declared.state.{State.{State}, Source.{Source}, Processor.{Processor}, Caller.{Caller}, Caller.TheVariants.{Nobody, Task, Routine}}
 use Rattle.osek_standard.specs.declared.state.Source.TheVariants as source
-use Rattle.osek_standard.specs.declared.state.Processor.{Processor}
 use Rattle.osek_standard.specs.declared.state.Processor.TheVariants as processor
-use Rattle.osek_standard.specs.declared.state.Caller.{Caller}
-use Rattle.osek_standard.specs.declared.state.Caller.TheVariants.{Nobody, Task, Routine}
 use Rattle.osek_standard.specs.declared.task_state.Place.{Place}
 use Rattle.osek_standard.specs.Apps.{the_block, is_extended}
 use Rattle.osek_standard.specs.States.{caller, here, task_state, with_source}
@@ -79,8 +74,8 @@ module _ (app : App) where
     effect_at_may : (choice : Bool) (p : Place) (b : Block) (k : Kind) → MayDispatch app (effect_at app s choice p b k)
     effect_at_may choice p b (kind.Work n) = either_way (λ (a : Answer). MayDispatch app (noted app a)) (nat_lt (p.offset + 1) n) _ _ (inl refl) (inl refl)
     effect_at_may choice p b (kind.Choice other) = inl refl
-    effect_at_may choice p b (kind.WaitEvent m) = wait_may s (caller s.processor) m.0 b.next task_out
-    effect_at_may choice p b kind.ShutdownOs = inl refl
+    effect_at_may choice p b (kind.Call (call.Mask call.WaitEvent m)) = wait_may s (caller s.processor) m.0 b.next task_out
+    effect_at_may choice p b (kind.Call call.ShutdownOs) = inl refl
     effect_at_may choice p b kind.TaskEnd = end_may s (caller s.processor) task_out
     effect_at_may choice p b kind.IsrEnd = returned_may s s.processor w w.processor
     effect_at_may choice p b k = row_after b k

@@ -1,19 +1,15 @@
 -- Who calls a service in a well-formed state, and what is known of the block where the processor stands.
 use Rattle.std.proofs.Common.{◌≡◌, ℕ, ◌<◌, length, refl, subst}
 use Rattle.std.specs.Prelude.{⊤}
-use Rattle.osek_values.specs.declared.numbers.TaskNo.{TaskNo}
-use Rattle.osek_values.specs.declared.numbers.BlockNo.{BlockNo}
+use Rattle.osek_values.specs.declared.numbers.{TaskNo.{TaskNo}, BlockNo.{BlockNo}}
 use Rattle.osek_standard.specs.declared.app.App.{App}
 use Rattle.osek_standard.specs.declared.block.Kind.{Kind}
 use Rattle.osek_standard.specs.declared.block.Kind.TheVariants as kind
-use Rattle.osek_standard.specs.declared.state.State.{State}
-use Rattle.osek_standard.specs.declared.state.Processor.{Processor}
+use Rattle.osek_standard.specs.declared.state.{State.{State}, Processor.{Processor}, Caller.{Caller}, Caller.TheVariants.{Nobody, Task, Routine}}
 use Rattle.osek_standard.specs.declared.state.Processor.TheVariants as processor
-use Rattle.osek_standard.specs.declared.state.Caller.{Caller}
-use Rattle.osek_standard.specs.declared.state.Caller.TheVariants.{Nobody, Task, Routine}
 use Rattle.osek_standard.specs.declared.task_state.Place.{Place}
 use Rattle.osek_standard.specs.Validity.{IsAmong, IsOtherWay, NamesEntries}
-use Rattle.osek_standard.specs.Apps.{the_block}
+use Rattle.osek_standard.specs.Apps.{tables, the_block}
 use Rattle.osek_standard.specs.States.{caller}
 use Rattle.osek_standard.specs.Effects.{moved_by}
 use Rattle.osek_standard.specs.Well.{Well, InOwner, IsOffsetAt, IsOwn, IsProcessor, IsTaskLevel}
@@ -61,12 +57,12 @@ module _ (app : App) where
 
   -- what is known of a block of the caller's owner
   pub record BlockHere (p : Processor) (b : ℕ) : Type 0 where
-    pub operands : NamesEntries app.tasks app.alarms app.resources (the_block app b).kind
+    pub operands : NamesEntries (tables app) (the_block app b).kind
     pub next : InOwner app p (the_block app b).next.0
     pub other : (o : BlockNo) → (the_block app b).kind ≡ kind.Choice o → InOwner app p o.0
 
-  other_way : (first count : ℕ) (k : Kind) → IsOtherWay app.tasks app.alarms app.resources app.blocks first count k → (o : BlockNo) → k ≡ kind.Choice o → IsAmong o.0 first count
-  other_way first count k h o e = subst (IsOtherWay app.tasks app.alarms app.resources app.blocks first count) e h
+  other_way : (first count : ℕ) (k : Kind) → IsOtherWay (tables app) first count k → (o : BlockNo) → k ≡ kind.Choice o → IsAmong o.0 first count
+  other_way first count k h o e = subst (IsOtherWay (tables app) first count) e h
 
   pub block_here : (s : State) (p : Processor) (b : ℕ) → IsProcessor app s p → InOwner app p b → BlockHere p b
   block_here s processor.Halted b h own = absurd own

@@ -7,13 +7,12 @@ use Rattle.osek_values.specs.declared.mask.Mask.{Mask}
 use Rattle.osek_standard.specs.declared.app.App.{App}
 use Rattle.osek_standard.specs.declared.block.Kind.{Kind}
 use Rattle.osek_standard.specs.declared.block.Kind.TheVariants as kind
-use Rattle.osek_standard.specs.declared.state.State.{State}
-use Rattle.osek_standard.specs.declared.state.Processor.{Processor}
+use Rattle.osek_standard.specs.CallNames as call
+use Rattle.osek_standard.specs.declared.state.{State.{State}, Processor.{Processor}, Caller.{Caller}}
 use Rattle.osek_standard.specs.declared.state.Processor.TheVariants as processor
-use Rattle.osek_standard.specs.declared.state.Caller.{Caller}
 use Rattle.osek_standard.specs.declared.task_state.Place.{Place}
 use Rattle.osek_standard.specs.Validity.{NamesEntries}
-use Rattle.osek_standard.specs.Apps.{the_block}
+use Rattle.osek_standard.specs.Apps.{tables, the_block}
 use Rattle.osek_standard.specs.States.{caller, here}
 use Rattle.osek_standard.specs.Effects.{effect, effect_by, effect_at, moved_to, place_at}
 use Rattle.osek_standard.specs.Well.{Well, InOwner, IsActive, IsOffsetAt, IsTaskLevel, IsWaitEvent}
@@ -33,7 +32,7 @@ module _ (app : App) (s : State) (w : Well app s) where
   offset_at : (b o n : ℕ) → (the_block app b).kind ≡ kind.Work n → o < n → IsOffsetAt (the_block app b).kind o
   offset_at b o n e h = subst (λ (k : Kind). IsOffsetAt k o) (sym e) h
 
-  wait_at : (b : ℕ) (m : Mask) → (the_block app b).kind ≡ kind.WaitEvent m → IsWaitEvent (the_block app b).kind
+  wait_at : (b : ℕ) (m : Mask) → (the_block app b).kind ≡ kind.Call (call.Mask call.WaitEvent m) → IsWaitEvent (the_block app b).kind
   wait_at b m e = subst IsWaitEvent (sym e) tt
 
   module _ (active : IsActive s.processor) where
@@ -62,8 +61,8 @@ module _ (app : App) (s : State) (w : Well app s) where
     after_calls : IfTask by (IsTaskLevel app after)
     after_calls = subst (λ (c : Caller). IfTask c (IsTaskLevel app after)) same_caller (calls app after after_well)
 
-    operands_of : (k : Kind) → (the_block app at.block.0).kind ≡ k → NamesEntries app.tasks app.alarms app.resources k
-    operands_of k e = subst (NamesEntries app.tasks app.alarms app.resources) e block.operands
+    operands_of : (k : Kind) → (the_block app at.block.0).kind ≡ k → NamesEntries (tables app) k
+    operands_of k e = subst (NamesEntries (tables app)) e block.operands
 
     effect_at_keeps : (choice : Bool) (k : Kind) → (the_block app at.block.0).kind ≡ k → Well app (effect_at app s choice at (the_block app at.block.0) k).state
     effect_at_keeps choice (kind.Work n) e = elim (cases_Bool (nat_lt (at.offset + 1) n)) [
@@ -73,28 +72,28 @@ module _ (app : App) (s : State) (w : Well app s) where
     ]
     effect_at_keeps true (kind.Choice other) e = after_well
     effect_at_keeps false (kind.Choice other) e = moved_to_keeps other (block.other other e)
-    effect_at_keeps choice (kind.WaitEvent m) e = wait_or_on_keeps app s by m.0 (the_block app at.block.0).next w after_well (calls app s w) (caller_owns app at.block.0 s.processor own) (wait_at at.block.0 m e)
-    effect_at_keeps choice kind.ShutdownOs e = halted_keeps app after after_well
+    effect_at_keeps choice (kind.Call (call.Mask call.WaitEvent m)) e = wait_or_on_keeps app s by m.0 (the_block app at.block.0).next w after_well (calls app s w) (caller_owns app at.block.0 s.processor own) (wait_at at.block.0 m e)
+    effect_at_keeps choice (kind.Call call.ShutdownOs) e = halted_keeps app after after_well
     effect_at_keeps choice kind.TaskEnd e = end_task_keeps app s by w (calls app s w)
     effect_at_keeps choice kind.IsrEnd e = returned_keeps app s w
     effect_at_keeps choice kind.Loop e = after_well
-    effect_at_keeps choice (kind.ActivateTask t) e = activate_keeps app after t.0 after_well (operands_of _ e)
-    effect_at_keeps choice kind.TerminateTask e = terminate_keeps app after by after_well after_calls
-    effect_at_keeps choice (kind.ChainTask t) e = chain_keeps app after by t.0 after_well after_calls (operands_of _ e)
-    effect_at_keeps choice kind.Schedule e = schedule_keeps app after by after_well
-    effect_at_keeps choice (kind.GetResource r) e = get_resource_by_keeps app after by r after_well after_calls (operands_of _ e)
-    effect_at_keeps choice (kind.ReleaseResource r) e = release_resource_by_keeps app after by r after_well after_calls
-    effect_at_keeps choice (kind.SetEvent t m) e = set_event_keeps app after t.0 m.0 after_well (operands_of _ e).0
-    effect_at_keeps choice (kind.ClearEvent m) e = clear_event_keeps app after by m.0 after_well (known_caller app after by after_calls)
-    effect_at_keeps choice (kind.GetEvent t) e = get_event_keeps app after t.0 after_well
-    effect_at_keeps choice (kind.SetRelAlarm a i c) e = set_rel_alarm_keeps app after a.0 i c after_well (operands_of _ e)
-    effect_at_keeps choice (kind.SetAbsAlarm a i c) e = set_abs_alarm_keeps app after a.0 i c after_well (operands_of _ e)
-    effect_at_keeps choice (kind.CancelAlarm a) e = cancel_alarm_keeps app after a.0 after_well (operands_of _ e)
-    effect_at_keeps choice (kind.GetAlarm a) e = get_alarm_keeps app after a.0 after_well
-    effect_at_keeps choice kind.GetTaskId e = after_well
-    effect_at_keeps choice (kind.GetTaskState t) e = after_well
-    effect_at_keeps choice kind.GetActiveApplicationMode e = after_well
-    effect_at_keeps choice (kind.LockCall l) e = after_well
+    effect_at_keeps choice (kind.Call (call.Task call.ActivateTask t)) e = activate_keeps app after t.0 after_well (operands_of _ e)
+    effect_at_keeps choice (kind.Call (call.Plain call.TerminateTask)) e = terminate_keeps app after by after_well after_calls
+    effect_at_keeps choice (kind.Call (call.Task call.ChainTask t)) e = chain_keeps app after by t.0 after_well after_calls (operands_of _ e)
+    effect_at_keeps choice (kind.Call (call.Plain call.Schedule)) e = schedule_keeps app after by after_well
+    effect_at_keeps choice (kind.Call (call.Resource call.GetResource r)) e = get_resource_by_keeps app after by r after_well after_calls (operands_of _ e)
+    effect_at_keeps choice (kind.Call (call.Resource call.ReleaseResource r)) e = release_resource_by_keeps app after by r after_well after_calls
+    effect_at_keeps choice (kind.Call (call.SetEvent t m)) e = set_event_keeps app after t.0 m.0 after_well (operands_of _ e).0
+    effect_at_keeps choice (kind.Call (call.Mask call.ClearEvent m)) e = clear_event_keeps app after by m.0 after_well (known_caller app after by after_calls)
+    effect_at_keeps choice (kind.Call (call.Task call.GetEvent t)) e = get_event_keeps app after t.0 after_well
+    effect_at_keeps choice (kind.Call (call.Arm call.SetRelAlarm a i c)) e = set_rel_alarm_keeps app after a.0 i c after_well (operands_of _ e)
+    effect_at_keeps choice (kind.Call (call.Arm call.SetAbsAlarm a i c)) e = set_abs_alarm_keeps app after a.0 i c after_well (operands_of _ e)
+    effect_at_keeps choice (kind.Call (call.Alarm call.CancelAlarm a)) e = cancel_alarm_keeps app after a.0 after_well (operands_of _ e)
+    effect_at_keeps choice (kind.Call (call.Alarm call.GetAlarm a)) e = get_alarm_keeps app after a.0 after_well
+    effect_at_keeps choice (kind.Call (call.Plain call.GetTaskId)) e = after_well
+    effect_at_keeps choice (kind.Call (call.Task call.GetTaskState t)) e = after_well
+    effect_at_keeps choice (kind.Call (call.Plain call.GetActiveApplicationMode)) e = after_well
+    effect_at_keeps choice (kind.Call (call.Lock l)) e = after_well
     effect_at_keeps choice kind.CountUp e = counted_by_keeps app after by after_well
     effect_at_keeps choice (kind.Expire a) e = expire_keeps app after a.0 after_well (operands_of _ e)
 

@@ -1,15 +1,11 @@
 -- The event services keep a state well-formed (ISO 17356-3, event control).
 use Rattle.std.proofs.Common.{◌≡◌, ℕ, ◌<◌, true, false, length, inl, inr, arith, not}
-use Rattle.std.proofs.lemmas.Bool.{cases_Bool}
+use Rattle.std.proofs.lemmas.Bool.{cases_Bool, not-false}
 use Rattle.std.specs.List.{IsDistinct}
-use Rattle.osek_values.specs.declared.numbers.TaskNo.{TaskNo}
-use Rattle.osek_values.specs.declared.numbers.BlockNo.{BlockNo}
+use Rattle.osek_values.specs.declared.numbers.{TaskNo.{TaskNo}, BlockNo.{BlockNo}}
 use Rattle.osek_standard.specs.declared.app.App.{App}
-use Rattle.osek_standard.specs.declared.state.State.{State}
-use Rattle.osek_standard.specs.declared.state.Caller.{Caller}
-use Rattle.osek_standard.specs.declared.state.Caller.TheVariants.{Nobody, Task, Routine}
-use Rattle.osek_standard.specs.declared.task_state.Activity.{Activity}
-use Rattle.osek_standard.specs.declared.task_state.Activity.TheVariants.{Suspended, Live, Waiting}
+use Rattle.osek_standard.specs.declared.state.{State.{State}, Caller.{Caller}, Caller.TheVariants.{Nobody, Task, Routine}}
+use Rattle.osek_standard.specs.declared.task_state.{Activity.{Activity}, Activity.TheVariants.{Suspended, Live, Waiting}}
 use Rattle.osek_standard.specs.Apps.{the_block, is_extended}
 use Rattle.osek_standard.specs.TaskStates.{is_live_activity, is_suspended}
 use Rattle.osek_standard.specs.States.{task_state, with_task, here}
@@ -20,7 +16,6 @@ use Rattle.osek_standard.proofs.Callers.{IfTask}
 use Rattle.osek_standard.proofs.MaskLaws.{set_within, clear_within}
 use Rattle.osek_standard.proofs.WellLaws.{own_block}
 use Rattle.osek_standard.proofs.Keeps.{with_task_keeps, left_keeps, offset_0}
-use Rattle.osek_standard.proofs.BoolLaws.{not_false}
 
 -- a task that waited is Live at the block after
 released_is_right : (app : App) (t : ℕ) (a : Activity) → t < length app.tasks → IsActivityOf app t a → IsActivityOf app t (released_from app a)
@@ -78,24 +73,9 @@ module _ (app : App) (s : State) where
   waits_keeps : (c : TaskNo) → Well app s → IsTaskLevel app s c → IsOwn app c.0 (here s).block.0 → IsWaitEvent (the_block app (here s).block.0).kind → not (is_extended app c.0) ≡ false →
       Well app (left (with_task s c.0 (record (task_state s c.0) { activity = Waiting (here s).block })))
   waits_keeps c w h own wait e = left_keeps app s c.0 _ w h.running.0 (record {
-    activity = record { own = own; extended = not_false (is_extended app c.0) e; wait = wait };
+    activity = record { own = own; extended = not-false (is_extended app c.0) e; wait = wait };
     events = (w.tasks c.0 h.running.0).events;
   }) h.out
-
-  pub wait_event_keeps : (c : Caller) (m : ℕ) → Well app s → IfTask c (IsTaskLevel app s) → IfTask c (λ (t : TaskNo). IsOwn app t.0 (here s).block.0) → IsWaitEvent (the_block app (here s).block.0).kind → Well app (wait_event app s c m).state
-  unfolding wait_event
-  wait_event_keeps Nobody m w h own wait = w
-  wait_event_keeps (Routine k) m w h own wait = w
-  wait_event_keeps (Task c) m w h own wait = elim (cases_Bool (not (is_extended app c.0))) [
-    | inl e ↦ (rw e w)
-    | inr e ↦ elim (cases_Bool (holds_some s c.0)) [
-      | inl f ↦ (rw (e, f) w)
-      | inr f ↦ elim (cases_Bool (share (task_state s c.0).events.0 m)) [
-        | inl g ↦ (rw (e, f, g) w)
-        | inr g ↦ (rw (e, f, g) (waits_keeps c w h own wait e))
-      ]
-    ]
-  ]
 
   -- the caller of WaitEvent waits, or goes on to the block after
   pub wait_or_on_keeps : (c : Caller) (m : ℕ) (next : BlockNo) → Well app s → Well app (moved_to s next) → IfTask c (IsTaskLevel app s) → IfTask c (λ (t : TaskNo). IsOwn app t.0 (here s).block.0) → IsWaitEvent (the_block app (here s).block.0).kind →

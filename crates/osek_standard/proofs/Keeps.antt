@@ -4,26 +4,20 @@ use Rattle.std.proofs.lemmas.Bool.{cases_Bool, cases_eq}
 use Rattle.std.proofs.Math.ListN.{length-set}
 use Rattle.std.specs.List.{IsDistinct}
 use Rattle.std.specs.declared.option.Option.{Option}
-use Rattle.osek_values.specs.declared.numbers.TaskNo.{TaskNo}
-use Rattle.osek_values.specs.declared.numbers.SourceNo.{SourceNo}
+use Rattle.osek_values.specs.declared.numbers.{TaskNo.{TaskNo}, SourceNo.{SourceNo}}
 use Rattle.osek_standard.specs.declared.app.App.{App}
 use Rattle.osek_standard.specs.declared.block.Kind.{Kind}
 use Rattle.osek_standard.specs.declared.block.Kind.TheVariants as kind
-use Rattle.osek_standard.specs.declared.state.State.{State}
-use Rattle.osek_standard.specs.declared.state.Source.{Source}
+use Rattle.osek_standard.specs.declared.state.{State.{State}, Source.{Source}, Processor.{Processor}}
 use Rattle.osek_standard.specs.declared.state.Source.TheVariants as source
-use Rattle.osek_standard.specs.declared.state.Processor.{Processor}
 use Rattle.osek_standard.specs.declared.state.Processor.TheVariants as processor
-use Rattle.osek_standard.specs.declared.task_state.TaskState.{TaskState}
-use Rattle.osek_standard.specs.declared.task_state.Place.{Place}
-use Rattle.osek_standard.specs.declared.task_state.Activity.{Activity}
-use Rattle.osek_standard.specs.declared.task_state.Activity.TheVariants.{Suspended, Live, Waiting}
-use Rattle.osek_standard.specs.Apps.{the_task, the_block}
+use Rattle.osek_standard.specs.declared.task_state.{TaskState.{TaskState}, Place.{Place}, Activity.{Activity}, Activity.TheVariants.{Suspended, Live, Waiting}}
+use Rattle.osek_standard.specs.Apps.{tables, the_task, the_block}
 use Rattle.osek_standard.specs.TaskStates.{suspended, is_live, is_live_activity}
 use Rattle.osek_standard.specs.Validity.{NamesEntries}
 use Rattle.osek_standard.specs.States.{task_state, with_task, source_state, with_source, with_processor, place_in, place_of_source, place_by, here}
 use Rattle.osek_standard.specs.Services.{activate_task, activated_state, is_full, left}
-use Rattle.osek_standard.specs.Effects.{place_at, task_at, standing_at, moved_by, moved}
+use Rattle.osek_standard.specs.Effects.{source_at, place_at, task_at, standing_at, moved_by, moved}
 use Rattle.osek_standard.specs.Well.{Well, AreOut, HasProcessor, InOwner, IsActive, IsActivityOf, IsOffsetAt, IsOfRoutine, IsOwn, IsPlaceOf, IsProcessor, IsRoutine, IsRunningAt, IsStandingOf, IsTaskState}
 use Rattle.osek_standard.proofs.WellLaws.{owner_of, own_block}
 
@@ -116,7 +110,7 @@ pub left_keeps : (app : App) (s : State) (t : ℕ) (x : TaskState) → Well app 
 left_keeps app s t x w known right out = task_is_well app (left s) t x (idle_keeps app s w out) known right out
 
 -- a block is entered at its first instruction
-pub offset_0 : (app : App) (k : Kind) → NamesEntries app.tasks app.alarms app.resources k → IsOffsetAt k 0
+pub offset_0 : (app : App) (k : Kind) → NamesEntries (tables app) k → IsOffsetAt k 0
 offset_0 app (kind.Work n) h = h
 offset_0 app _ h = refl
 
@@ -150,12 +144,16 @@ at_is_live p Suspended h = h
 at_is_live p (Live x) h = refl
 at_is_live p (Waiting b) h = h
 
+running_at : (app : App) (k : ℕ) (x : Source) (p : Place) → IsRunningAt app k x → IsPlaceOf app k p → IsRunningAt app k (source_at x p)
+running_at app k source.Out p h right = h
+running_at app k (source.In x) p h right = right
+
 -- the source that runs at another place of its routine
-source_after : (app : App) (s : State) (k : SourceNo) (over : Option TaskNo) (p : Place) → k.0 < length s.sources → IsRoutine app s k over → IsPlaceOf app k.0 p → IsRoutine app (with_source s k.0 (source.In p)) k over
+source_after : (app : App) (s : State) (k : SourceNo) (over : Option TaskNo) (p : Place) → k.0 < length s.sources → IsRoutine app s k over → IsPlaceOf app k.0 p → IsRoutine app (with_source s k.0 (source_at (source_state s k.0) p)) k over
 source_after app s k over p here h right = record {
   known = h.known;
-  runs = subst (IsRunningAt app k.0) (sym (get_or-set_same s.sources k.0 (source.In p) source.Out here)) right;
-  others = λ l other. get_or-set_other s.sources k.0 l (source.In p) source.Out other ∙ h.others l other;
+  runs = subst (IsRunningAt app k.0) (sym (get_or-set_same s.sources k.0 (source_at (source_state s k.0) p) source.Out here)) (running_at app k.0 (source_state s k.0) p h.runs right);
+  others = λ l other. get_or-set_other s.sources k.0 l (source_at (source_state s k.0) p) source.Out other ∙ h.others l other;
   over = h.over;
 }
 
@@ -169,7 +167,8 @@ module _ (app : App) (s : State) (w : Well app s) where
       with_task_keeps app s t.0 (task_at x to) w h.running.0 (record { activity = at_is_right app t.0 to x.activity right.activity own off; events = right.events }) (at_is_live to x.activity)
   moved_by_keeps (processor.Interrupted k over) e h to own off =
       let here : k.0 < length s.sources = omega (arith, w.sources_len, h.known) in
-      with_source_keeps app s k.0 (source.In to) s.processor w (subst (IsProcessor app (with_source s k.0 (source.In to))) (sym e) (source_after app s k over to here h (record { own = own; offset = off })))
+      let x : Source = source_at (source_state s k.0) to in
+      with_source_keeps app s k.0 x s.processor w (subst (IsProcessor app (with_source s k.0 x)) (sym e) (source_after app s k over to here h (record { own = own; offset = off })))
 
   -- a move within the owner's blocks keeps a state well-formed
   pub moved_keeps : (to : Place) → InOwner app s.processor to.block.0 → IsOffsetAt (the_block app to.block.0).kind to.offset → Well app (moved s to)
@@ -182,7 +181,7 @@ module _ (app : App) (s : State) (w : Well app s) where
 
   source_own : (k : ℕ) (x : Source) → IsRunningAt app k x → IsOfRoutine app k (place_of_source x).block.0
   source_own k source.Out h = absurd h
-  source_own k (source.In p) h = h.own
+  source_own k (source.In x) h = h.own
 
   own_by : (p : Processor) → IsActive p → IsProcessor app s p → InOwner app p (place_by s p).block.0
   own_by processor.Halted a h = a

@@ -18,5 +18,7 @@ pub mod EffectKeeps
 pub mod SourceLaws
 pub mod AskLaws
 pub mod StepKeeps
-pub mod ValidLaws
 pub mod CountLaws
+pub mod Distinct
+pub mod OwnerLaws
+pub mod PointLaws

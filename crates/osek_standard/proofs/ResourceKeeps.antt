@@ -1,21 +1,17 @@
 -- The resource services keep a state well-formed (ISO 17356-3, resource management).
 use Rattle.std.proofs.Common.{◌≡◌, ℕ, ◌-◌, ◌<◌, true, List, [], ◌∷◌, ◌++◌, take, length, refl, inl, inr, arith, ◌||◌, nat_lt}
-use Rattle.std.proofs.lemmas.Bool.{cases_Bool}
+use Rattle.std.proofs.lemmas.Bool.{cases_Bool, or_parts}
 use Rattle.osek_values.specs.declared.numbers.ResNo.{ResNo}
 use Rattle.osek_standard.specs.declared.app.App.{App}
-use Rattle.osek_standard.specs.declared.state.State.{State}
-use Rattle.osek_standard.specs.declared.state.Caller.{Caller}
-use Rattle.osek_standard.specs.declared.state.Caller.TheVariants.{Nobody, Task, Routine}
-use Rattle.osek_standard.specs.declared.task_state.Activity.{Activity}
-use Rattle.osek_standard.specs.declared.task_state.Activity.TheVariants.{Suspended, Live, Waiting}
-use Rattle.osek_standard.specs.TaskStates.{is_live, is_live_activity, held, held_in}
+use Rattle.osek_standard.specs.declared.state.{State.{State}, Caller.{Caller}, Caller.TheVariants.{Nobody, Task, Routine}}
+use Rattle.osek_standard.specs.declared.task_state.{Activity.{Activity}, Activity.TheVariants.{Suspended, Live, Waiting}}
+use Rattle.osek_standard.specs.TaskStates.{is_live, is_live_activity, held}
 use Rattle.osek_standard.specs.States.{task_state, is_taken}
 use Rattle.osek_standard.specs.Services.{get_resource, release_resource, get_resource_by, release_resource_by, with_stack, with_held, is_on_top}
 use Rattle.osek_standard.specs.Priority.{ceiling, base_priority}
 use Rattle.osek_standard.specs.Well.{Well, IsActivityOf, IsStack, IsTaskLevel}
 use Rattle.osek_standard.proofs.Callers.{IfTask}
-use Rattle.osek_standard.proofs.StackLaws.{push_stack, pop_stack, not_taken}
-use Rattle.osek_standard.proofs.BoolLaws.{neither}
+use Rattle.osek_standard.proofs.StackLaws.{held_stack, push_stack, pop_stack, not_taken}
 use Rattle.osek_standard.proofs.Keeps.{with_task_keeps}
 
 -- another stack of a Live task
@@ -29,11 +25,6 @@ stack_is_live g Suspended h = h
 stack_is_live g (Live x) h = refl
 stack_is_live g (Waiting b) h = h
 
-held_stack : (app : App) (t : ℕ) (a : Activity) → IsActivityOf app t a → is_live_activity a ≡ true → IsStack app (held_in a)
-held_stack app t Suspended h k = absurd (cc)
-held_stack app t (Live x) h k = h.stack
-held_stack app t (Waiting b) h k = absurd (cc)
-
 module _ (app : App) (s : State) where
   -- a Live task with another stack
   pub with_held_keeps : (t : ℕ) (g : List ResNo) → Well app s → t < length app.tasks → IsStack app g → Well app (with_held s t g)
@@ -42,9 +33,6 @@ module _ (app : App) (s : State) where
       let right = w.tasks t known in
       with_task_keeps app s t _ w known (record { activity = stack_is_right app t g x.activity right.activity stack; events = right.events }) (stack_is_live g x.activity)
 
-  stack_of : (t : ℕ) → Well app s → t < length app.tasks → is_live (task_state s t) ≡ true → IsStack app (held (task_state s t))
-  stack_of t w known live = held_stack app t (task_state s t).activity (w.tasks t known).activity live
-
   pub get_resource_keeps : (t : ℕ) (r : ResNo) → Well app s → t < length app.tasks → is_live (task_state s t) ≡ true → r.0 < length app.resources → Well app (get_resource app s t r).state
   unfolding get_resource
   get_resource_keeps t r w known live resource =
@@ -52,8 +40,8 @@ module _ (app : App) (s : State) where
       let stack : List ResNo = held (task_state s t) in
       elim (cases_Bool (is_taken s r.0 || nat_lt (ceiling app r.0) (base_priority app t))) [
         | inl e ↦ (rw e w)
-        | inr e ↦ (let free = not_taken s t r.0 here (neither (is_taken s r.0) (nat_lt (ceiling app r.0) (base_priority app t)) e).0 in
-            rw e (with_held_keeps t (stack ++ r ∷ []) w known (push_stack app stack r (stack_of t w known live) resource free)))
+        | inr e ↦ (let free = not_taken s t r.0 here (or_parts (is_taken s r.0) (nat_lt (ceiling app r.0) (base_priority app t)) e).0 in
+            rw e (with_held_keeps t (stack ++ r ∷ []) w known (push_stack app stack r (held_stack app s t w known) resource free)))
       ]
 
   pub release_resource_keeps : (t : ℕ) (r : ResNo) → Well app s → t < length app.tasks → is_live (task_state s t) ≡ true → Well app (release_resource app s t r).state
@@ -63,7 +51,7 @@ module _ (app : App) (s : State) where
       elim (cases_Bool (nat_lt (ceiling app r.0) (base_priority app t))) [
         | inl e ↦ (rw e w)
         | inr e ↦ elim (cases_Bool (is_on_top r.0 stack)) [
-          | inl f ↦ (rw (e, f) (with_held_keeps t (take (length stack - 1) stack) w known (pop_stack app (length stack - 1) stack (stack_of t w known live))))
+          | inl f ↦ (rw (e, f) (with_held_keeps t (take (length stack - 1) stack) w known (pop_stack app (length stack - 1) stack (held_stack app s t w known))))
           | inr f ↦ (rw (e, f) w)
         ]
       ]

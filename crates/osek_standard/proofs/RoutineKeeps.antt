@@ -4,18 +4,15 @@ use Rattle.std.proofs.Common.{◌≡◌, ℕ, ◌+◌, ◌<◌, ◌≤◌, Bool,
 use Rattle.std.proofs.lemmas.Bool.{cases_eq}
 use Rattle.std.proofs.Math.ListN.{length-set}
 use Rattle.std.specs.declared.option.Option.{Option}
-use Rattle.osek_values.specs.declared.numbers.TaskNo.{TaskNo}
-use Rattle.osek_values.specs.declared.numbers.SourceNo.{SourceNo}
+use Rattle.osek_values.specs.declared.numbers.{TaskNo.{TaskNo}, SourceNo.{SourceNo}}
 use Rattle.osek_standard.specs.declared.app.App.{App}
-use Rattle.osek_standard.specs.declared.state.State.{State}
-use Rattle.osek_standard.specs.declared.state.Source.{Source}
+use Rattle.osek_standard.specs.declared.state.{State.{State}, Source.{Source}, Processor.{Processor}}
 use Rattle.osek_standard.specs.declared.state.Source.TheVariants as source
-use Rattle.osek_standard.specs.declared.state.Processor.{Processor}
 use Rattle.osek_standard.specs.declared.state.Processor.TheVariants as processor
 use Rattle.osek_standard.specs.Apps.{source_count, routine_start, routine_count, no_block}
 use Rattle.osek_standard.specs.States.{task_of, with_latch, with_source, source_state}
 use Rattle.osek_standard.specs.Effects.{place_at, given_back, returned_by, returned, halted_by}
-use Rattle.osek_standard.specs.Arrivals.{arrival, entered, takes_none_by}
+use Rattle.osek_standard.specs.Arrivals.{begun, arrival, entered, takes_none_by}
 use Rattle.osek_standard.specs.Well.{Well, AreOut, HasProcessor, IsPlaceOf, IsProcessor, IsRoutine, IsRunningAt}
 use Rattle.osek_standard.proofs.WellLaws.{routine_owner}
 use Rattle.osek_standard.proofs.Keeps.{processor_keeps, with_processor_keeps, with_source_keeps, offset_0}
@@ -51,7 +48,7 @@ module _ (app : App) (s : State) where
       let start = routine_start app k.0 in
       let own : (start.0 ≤ start.0) × (start.0 < start.0 + routine_count app k.0) = (omega arith, omega (arith, owner.some)) in
       let placed : IsPlaceOf app k.0 (place_at start 0) = record { own = own; offset = offset_0 app _ (owner.each start.0 no_block own).operands } in
-      let x : Source = source.In (place_at start 0) in
+      let x : Source = source.In (begun app k.0) in
       let has : IsRoutine app (with_source (with_latch s k.0 false) k.0 x) k (task_of s.processor) = record {
         known = known;
         runs = subst (IsRunningAt app k.0) (sym (get_or-set_same s.sources k.0 x source.Out here)) placed;

@@ -7,15 +7,15 @@ use Rattle.osek_standard.specs.declared.objects.Action.{Action}
 use Rattle.osek_standard.specs.declared.objects.Action.TheVariants as action
 use Rattle.osek_standard.specs.declared.block.Kind.{Kind}
 use Rattle.osek_standard.specs.declared.block.Kind.TheVariants as kind
-use Rattle.osek_standard.specs.declared.state.State.{State}
-use Rattle.osek_standard.specs.declared.state.Caller.{Caller}
-use Rattle.osek_standard.specs.declared.state.Caller.TheVariants.{Nobody, Task, Routine}
+use Rattle.osek_standard.specs.declared.call.Call.{Call}
+use Rattle.osek_standard.specs.CallNames as call
+use Rattle.osek_standard.specs.declared.state.{State.{State}, Caller.{Caller}, Caller.TheVariants.{Nobody, Task, Routine}}
 use Rattle.osek_standard.specs.Apps.{the_alarm, is_extended, is_counter, is_cycle, max_of}
 use Rattle.osek_standard.specs.TaskStates.{held, is_suspended}
 use Rattle.osek_standard.specs.States.{alarm_state, is_taken, task_state, with_alarm}
 use Rattle.osek_standard.specs.Priority.{base_priority, ceiling}
 use Rattle.osek_standard.specs.Services.{Answer, acted, activate_task, cancel_alarm, chain_task, clear_event, count_up, counted_by, due, expire, get_alarm, get_event, get_resource, get_resource_by, holds_some, is_due_at, is_full, is_idle, is_on_top, rearmed, release_resource, release_resource_by, schedule, set_abs_alarm, set_event, set_rel_alarm, share, terminate_task, time_left, value_of, wait_event, waits_for}
-use Rattle.osek_standard.specs.Effects.{called}
+use Rattle.osek_standard.specs.Effects.{called, row}
 use Rattle.osek_standard.proofs.BoolLaws.{either_way}
 
 abbrev pub HasSourcesOf : State → Answer → Type 0
@@ -111,29 +111,32 @@ unfolding expire
 expire_leaves app s a = either_way (HasSourcesOf s) (is_due_at (due (alarm_state s a)) (value_of app s a)) _ _ (acted_leaves app (with_alarm s a (rearmed app a (alarm_state s a))) (the_alarm app a).action) refl
 
 -- each row leaves the sources as they are
+row_leaves : (app : App) (s : State) (c : Caller) (k : Call) → HasSourcesOf s (row app s c k)
+row_leaves app s c (call.Task call.ActivateTask t) = activate_leaves app s t.0
+row_leaves app s c (call.Plain call.TerminateTask) = terminate_leaves app s c
+row_leaves app s c (call.Task call.ChainTask t) = chain_leaves app s c t.0
+row_leaves app s c (call.Plain call.Schedule) = schedule_leaves app s c
+row_leaves app s c (call.Resource call.GetResource r) = get_resource_leaves app s c r
+row_leaves app s c (call.Resource call.ReleaseResource r) = release_resource_leaves app s c r
+row_leaves app s c (call.SetEvent t m) = set_event_leaves app s t.0 m.0
+row_leaves app s c (call.Mask call.ClearEvent m) = clear_event_leaves app s c m.0
+row_leaves app s c (call.Task call.GetEvent t) = get_event_leaves app s t.0
+row_leaves app s c (call.Mask call.WaitEvent m) = wait_event_leaves app s c m.0
+row_leaves app s c (call.Arm call.SetRelAlarm a i y) = set_rel_alarm_leaves app s a.0 i y
+row_leaves app s c (call.Arm call.SetAbsAlarm a i y) = set_abs_alarm_leaves app s a.0 i y
+row_leaves app s c (call.Alarm call.CancelAlarm a) = cancel_alarm_leaves app s a.0
+row_leaves app s c (call.Alarm call.GetAlarm a) = get_alarm_leaves app s a.0
+row_leaves app s c (call.Plain call.GetTaskId) = refl
+row_leaves app s c (call.Task call.GetTaskState t) = refl
+row_leaves app s c (call.Plain call.GetActiveApplicationMode) = refl
+row_leaves app s c call.ShutdownOs = refl
+row_leaves app s c (call.Lock l) = refl
+
 pub called_leaves : (app : App) (s : State) (c : Caller) (k : Kind) → HasSourcesOf s (called app s c k)
 called_leaves app s c (kind.Work n) = refl
 called_leaves app s c (kind.Choice o) = refl
 called_leaves app s c kind.Loop = refl
-called_leaves app s c (kind.ActivateTask t) = activate_leaves app s t.0
-called_leaves app s c kind.TerminateTask = terminate_leaves app s c
-called_leaves app s c (kind.ChainTask t) = chain_leaves app s c t.0
-called_leaves app s c kind.Schedule = schedule_leaves app s c
-called_leaves app s c (kind.GetResource r) = get_resource_leaves app s c r
-called_leaves app s c (kind.ReleaseResource r) = release_resource_leaves app s c r
-called_leaves app s c (kind.SetEvent t m) = set_event_leaves app s t.0 m.0
-called_leaves app s c (kind.ClearEvent m) = clear_event_leaves app s c m.0
-called_leaves app s c (kind.GetEvent t) = get_event_leaves app s t.0
-called_leaves app s c (kind.WaitEvent m) = wait_event_leaves app s c m.0
-called_leaves app s c (kind.SetRelAlarm a i y) = set_rel_alarm_leaves app s a.0 i y
-called_leaves app s c (kind.SetAbsAlarm a i y) = set_abs_alarm_leaves app s a.0 i y
-called_leaves app s c (kind.CancelAlarm a) = cancel_alarm_leaves app s a.0
-called_leaves app s c (kind.GetAlarm a) = get_alarm_leaves app s a.0
-called_leaves app s c kind.GetTaskId = refl
-called_leaves app s c (kind.GetTaskState t) = refl
-called_leaves app s c kind.GetActiveApplicationMode = refl
-called_leaves app s c kind.ShutdownOs = refl
-called_leaves app s c (kind.LockCall l) = refl
+called_leaves app s c (kind.Call k) = row_leaves app s c k
 called_leaves app s c kind.TaskEnd = refl
 called_leaves app s c kind.IsrEnd = refl
 called_leaves app s c kind.CountUp = counted_leaves app s c

@@ -1,30 +1,22 @@
--- A stack of distinct resources has room for a resource that it does not hold.
-use Rattle.std.proofs.Common.{◌≡◌, ℕ, suc, ◌<◌, Bool, true, false, ◌||◌, List, [], ◌∷◌, ◌++◌, zero, take, length, sym, ◌∙◌, ap, inl, inr, arith, nat_eq, map}
+-- Stacks of distinct resources: with one more on top, without the top, and that they are no longer than there are
+-- resources.
+use Rattle.std.proofs.Common.{◌≡◌, ℕ, suc, ◌<◌, ◌≤◌, Bool, true, false, ◌||◌, List, [], ◌∷◌, ◌++◌, zero, take, length, length-append, sym, ◌∙◌, ap, inl, inr, arith, nat_eq, map}
 use Rattle.std.proofs.Math.ListN.{length-map}
 use Rattle.std.specs.List.{IsDistinct, AllByRecursion, list_any}
 use Rattle.std.proofs.lemmas.Bool.Decides.{nat_tests}
-use Rattle.std.proofs.lemmas.List.Elements.{recursion_from_All, All-from_recursion}
+use Rattle.std.proofs.lemmas.List.Elements.{All-nil, recursion_from_All, All-from_recursion}
 use Rattle.std.proofs.lemmas.List.Folds.{list_any_at}
 use Rattle.std.proofs.lemmas.Map.Steps.{length-le_from_distinct_below}
+use Rattle.osek_values.specs.declared.limits.TheConstants.{MAX_RESOURCES}
 use Rattle.osek_values.specs.declared.numbers.ResNo.{ResNo}
+use Rattle.osek_values.specs.Numbers.{res_no}
 use Rattle.osek_standard.specs.declared.app.App.{App}
 use Rattle.osek_standard.specs.declared.state.State.{State}
 use Rattle.osek_standard.specs.TaskStates.{holds, held, held_in, suspended}
 use Rattle.osek_standard.specs.States.{task_state, is_taken}
-use Rattle.osek_standard.specs.declared.task_state.TaskState.{TaskState}
-use Rattle.osek_standard.specs.declared.task_state.Standing.{Standing}
-use Rattle.osek_standard.specs.declared.task_state.Activity.{Activity}
-use Rattle.osek_standard.specs.declared.task_state.Activity.TheVariants.{Live}
-use Rattle.osek_standard.proofs.WellLaws.{live_at}
-use Rattle.osek_standard.specs.Well.{Well, IsStack, same_resource}
-use Rattle.std.proofs.lemmas.Bool.{cases_Bool}
-use Rattle.osek_standard.proofs.BoolLaws.{neither}
-
-absent : (r : ℕ) (h : List ResNo) → holds h r ≡ false → AllByRecursion (λ (y : ResNo). nat_eq r y.0 ≡ false) h
-absent r [] e = tt
-absent r (x ∷ xs) e =
-    let p = neither (nat_eq x.0 r) (holds xs r) e in
-    (let f : nat_eq x.0 r ≡ false = p.0 in grind (arith, nat_tests), absent r xs p.1)
+use Rattle.osek_standard.specs.declared.task_state.{TaskState.{TaskState}, Standing.{Standing}, Activity.{Activity}, Activity.TheVariants.{Suspended, Live, Waiting}}
+use Rattle.osek_standard.specs.Well.{Well, IsActivityOf, IsStack, IsStackOutOf, same_resource}
+use Rattle.std.proofs.lemmas.Bool.{cases_Bool, or_parts}
 
 below_each : (n : ℕ) (h : List ℕ) → AllByRecursion (λ x. x < n) h → (q : ℕ) → list_any (nat_eq q) h ≡ true → q < n
 below_each n [] all q e = absurd (cc)
@@ -46,27 +38,12 @@ unfolding IsDistinct
 numbers_distinct [] d = tt
 numbers_distinct (x ∷ xs) d = (numbers_each (λ y. nat_eq x.0 y ≡ false) xs d.0, numbers_distinct xs d.1)
 
-pub room_for : (app : App) (h : List ResNo) (r : ℕ) → IsStack app h → r < length app.resources → holds h r ≡ false → length h < 8
-unfolding IsDistinct
-room_for app h r stack known e =
-    let n : ℕ = length app.resources in
-    let all : AllByRecursion (λ x. x < n) (r ∷ numbers h) = (known, numbers_each (λ x. x < n) h (recursion_from_All _ h stack.known)) in
-    let few = length-le_from_distinct_below (r ∷ numbers h) n (numbers_each (λ y. nat_eq r y ≡ false) h (absent r h e), numbers_distinct h stack.distinct) (below_each n (r ∷ numbers h) all) in
-    omega (arith, few, app.valid.few_resources, length-map h (λ (q : ResNo). q.0))
-
-pub not_taken : (s : State) (t r : ℕ) → t < length s.tasks → is_taken s r ≡ false → holds (held (task_state s t)) r ≡ false
-not_taken s t r known e = elim (cases_Bool (holds (held (task_state s t)) r)) [
-  | inl f ↦ (let taken : is_taken s r ≡ true = list_any_at (λ x. holds (held x) r) s.tasks t suspended known f in absurd (cc))
-  | inr f ↦ f
-]
-
--- where no task has it, a Live task's stack has room for it
-pub room_at : (app : App) (s : State) → Well app s → (t r : ℕ) → t < length app.tasks → r < length app.resources → is_taken s r ≡ false →
-    (x : TaskState) → task_state s t ≡ x → (y : Standing) → x.activity ≡ Live y → length y.held < 8
-room_at app s w t r known resource free x is y e =
-    let here : t < length s.tasks = omega (arith, w.tasks_len) in
-    let same : held (task_state s t) ≡ y.held = ap (λ (z : TaskState). held z) is ∙ ap (λ (a : Activity). held_in a) e in
-    room_for app y.held r (live_at app s w t known x is y e).stack resource (ap (λ (g : List ResNo). holds g r) (sym same) ∙ not_taken s t r here free)
+-- a stack is no longer than there are resources
+pub stack_few : (n : ℕ) (h : List ResNo) → IsStackOutOf n h → length h ≤ n
+stack_few n h stack =
+    let each : AllByRecursion (λ x. x < n) (numbers h) = numbers_each (λ x. x < n) h (recursion_from_All _ h stack.known) in
+    let few = length-le_from_distinct_below (numbers h) n (numbers_distinct h stack.distinct) (below_each n (numbers h) each) in
+    omega (arith, few, length-map h (λ (q : ResNo). q.0))
 
 append_each : (P : ResNo → Type 0) (h : List ResNo) (r : ResNo) → AllByRecursion P h → P r → AllByRecursion P (h ++ r ∷ [])
 append_each P [] r all p = (p, tt)
@@ -81,7 +58,7 @@ append_distinct : (h : List ResNo) (r : ResNo) → IsDistinct same_resource h �
 unfolding IsDistinct
 append_distinct [] r d e = (tt, tt)
 append_distinct (x ∷ xs) r d e =
-    let p = neither (nat_eq x.0 r.0) (holds xs r.0) e in
+    let p = or_parts (nat_eq x.0 r.0) (holds xs r.0) e in
     (append_each (λ (y : ResNo). nat_eq x.0 y.0 ≡ false) xs r d.0 p.0, append_distinct xs r d.1 p.1)
 
 take_distinct : (n : ℕ) (h : List ResNo) → IsDistinct same_resource h → IsDistinct same_resource (take n h)
@@ -102,3 +79,33 @@ pop_stack app n h stack = record {
   distinct = take_distinct n h stack.distinct;
   known = All-from_recursion _ (take n h) (take_each (λ (q : ResNo). q.0 < length app.resources) n h (recursion_from_All _ h stack.known));
 }
+
+no_stack : (app : App) → IsStack app []
+unfolding IsDistinct
+no_stack app = record { distinct = tt; known = All-nil _ }
+
+stack_in : (app : App) (t : ℕ) (a : Activity) → IsActivityOf app t a → IsStack app (held_in a)
+stack_in app t Suspended h = no_stack app
+stack_in app t (Live x) h = h.stack
+stack_in app t (Waiting b) h = no_stack app
+
+-- what a task of a well-formed state holds
+pub held_stack : (app : App) (s : State) (t : ℕ) → Well app s → t < length app.tasks → IsStack app (held (task_state s t))
+held_stack app s t w known = stack_in app t (task_state s t).activity (w.tasks t known).activity
+
+pub not_taken : (s : State) (t r : ℕ) → t < length s.tasks → is_taken s r ≡ false → holds (held (task_state s t)) r ≡ false
+not_taken s t r known e = elim (cases_Bool (holds (held (task_state s t)) r)) [
+  | inl f ↦ (let taken : is_taken s r ≡ true = list_any_at (λ x. holds (held x) r) s.tasks t suspended known f in absurd (cc))
+  | inr f ↦ f
+]
+
+-- where no task has a resource, a Live task's stack has room for it
+pub room_at : (app : App) (s : State) → Well app s → (t r : ℕ) → t < length app.tasks → r < length app.resources → is_taken s r ≡ false →
+    (x : TaskState) → task_state s t ≡ x → (y : Standing) → x.activity ≡ Live y → length y.held < MAX_RESOURCES
+room_at app s w t r known resource free x is y e =
+    let here : t < length s.tasks = omega (arith, w.tasks_len) in
+    let same : held (task_state s t) ≡ y.held = ap (λ (z : TaskState). held z) is ∙ ap (λ (a : Activity). held_in a) e in
+    let pushed = push_stack app (held (task_state s t)) (res_no r) (held_stack app s t w known) resource (not_taken s t r here free) in
+    let few = stack_few (length app.resources) (held (task_state s t) ++ res_no r ∷ []) pushed in
+    let size = length-append (held (task_state s t)) (res_no r ∷ []) in
+    omega (arith, few, size, ap (λ (h : List ResNo). length h) same, app.valid.few_resources)

@@ -3,9 +3,7 @@ use Rattle.std.proofs.Common.{ℕ, ◌<◌, length, refl, inl, inr, not, ◌&&�
 use Rattle.std.proofs.lemmas.Bool.{cases_Bool}
 use Rattle.osek_values.specs.declared.numbers.TaskNo.{TaskNo}
 use Rattle.osek_standard.specs.declared.app.App.{App}
-use Rattle.osek_standard.specs.declared.state.State.{State}
-use Rattle.osek_standard.specs.declared.state.Caller.{Caller}
-use Rattle.osek_standard.specs.declared.state.Caller.TheVariants.{Nobody, Task, Routine}
+use Rattle.osek_standard.specs.declared.state.{State.{State}, Caller.{Caller}, Caller.TheVariants.{Nobody, Task, Routine}}
 use Rattle.osek_standard.specs.Services.{terminate_task, chain_task, schedule, holds_some, is_full, ended, left, activated_state}
 use Rattle.osek_standard.specs.Effects.{end_task}
 use Rattle.osek_standard.specs.Well.{Well, IsTaskLevel}

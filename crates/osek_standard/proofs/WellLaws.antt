@@ -2,19 +2,14 @@
 use Rattle.std.proofs.Common.{◌≡◌, ℕ, ◌<◌, ◌-◌, length, subst, ap, ◌∙◌, inl, inr, arith, nat_lt}
 use Rattle.std.proofs.lemmas.Bool.{cases_Bool}
 use Rattle.std.proofs.lemmas.Bool.Decides.{nat_tests}
-use Rattle.osek_values.specs.declared.numbers.BlockNo.{BlockNo}
 use Rattle.osek_standard.specs.declared.app.App.{App}
-use Rattle.osek_standard.specs.declared.state.State.{State}
-use Rattle.osek_standard.specs.declared.state.Processor.{Processor}
+use Rattle.osek_standard.specs.declared.state.{State.{State}, Processor.{Processor}}
 use Rattle.osek_standard.specs.declared.state.Processor.TheVariants as processor
-use Rattle.osek_standard.specs.declared.task_state.TaskState.{TaskState}
-use Rattle.osek_standard.specs.declared.task_state.Standing.{Standing}
-use Rattle.osek_standard.specs.declared.task_state.Activity.{Activity}
-use Rattle.osek_standard.specs.declared.task_state.Activity.TheVariants.{Live, Waiting}
-use Rattle.osek_standard.specs.Apps.{the_task, the_block, source_count, routine_start, routine_count, no_task, no_block, no_counter, no_isr}
+use Rattle.osek_standard.specs.declared.task_state.{TaskState.{TaskState}, Standing.{Standing}, Activity.{Activity}, Activity.TheVariants.{Live}}
+use Rattle.osek_standard.specs.Apps.{tables, the_task, the_block, source_count, routine_start, routine_count, no_task, no_block, no_counter, no_isr}
 use Rattle.osek_standard.specs.Validity.{IsBlock, IsOwner}
 use Rattle.osek_standard.specs.States.{task_state}
-use Rattle.osek_standard.specs.Well.{Well, IsActivityOf, IsStandingOf, IsWaitingAt, IsOwn, IsOfRoutine, IsProcessor, InOwner}
+use Rattle.osek_standard.specs.Well.{Well, IsActivityOf, IsStandingOf, IsOwn, IsOfRoutine, IsProcessor, InOwner}
 
 module _ (app : App) (s : State) (w : Well app s) (t : ℕ) (known : t < length app.tasks) (x : TaskState) (is : task_state s t ≡ x) where
   activity_of : (a : Activity) → x.activity ≡ a → IsActivityOf app t a
@@ -23,21 +18,18 @@ module _ (app : App) (s : State) (w : Well app s) (t : ℕ) (known : t < length 
   pub live_at : (y : Standing) → x.activity ≡ Live y → IsStandingOf app t y
   live_at y e = activity_of (Live y) e
 
-  pub waiting_at : (b : BlockNo) → x.activity ≡ Waiting b → IsWaitingAt app t b.0
-  waiting_at b e = activity_of (Waiting b) e
-
 -- the blocks of a task
-pub owner_of : (app : App) (t : ℕ) → t < length app.tasks → IsOwner app.tasks app.alarms app.resources app.blocks (the_task app t).first.0 (the_task app t).count
+pub owner_of : (app : App) (t : ℕ) → t < length app.tasks → IsOwner (tables app) (the_task app t).first.0 (the_task app t).count
 owner_of app t known = app.valid.each_task t no_task known
 
 pub own_known : (app : App) (t b : ℕ) → t < length app.tasks → IsOwn app t b → b < length app.blocks
 own_known app t b known own = omega (arith, own.1, (owner_of app t known).inside)
 
-pub own_block : (app : App) (t b : ℕ) → t < length app.tasks → IsOwn app t b → IsBlock app.tasks app.alarms app.resources app.blocks (the_task app t).first.0 (the_task app t).count (the_block app b)
+pub own_block : (app : App) (t b : ℕ) → t < length app.tasks → IsOwn app t b → IsBlock (tables app) (the_task app t).first.0 (the_task app t).count (the_block app b)
 own_block app t b known own = (owner_of app t known).each b no_block own
 
 -- the blocks of a routine
-pub routine_owner : (app : App) (k : ℕ) → k < source_count app → IsOwner app.tasks app.alarms app.resources app.blocks (routine_start app k).0 (routine_count app k)
+pub routine_owner : (app : App) (k : ℕ) → k < source_count app → IsOwner (tables app) (routine_start app k).0 (routine_count app k)
 routine_owner app k known = elim (cases_Bool (nat_lt k (length app.counters))) [
   | inl e ↦ (let below : k < length app.counters = grind (arith, nat_tests) in rw e (app.valid.each_counter k no_counter below).1)
   | inr e ↦ (let below : k - length app.counters < length app.isrs = grind (arith, nat_tests) in rw e (app.valid.each_isr (k - length app.counters) no_isr below))
@@ -46,7 +38,7 @@ routine_owner app k known = elim (cases_Bool (nat_lt k (length app.counters))) [
 pub routine_known : (app : App) (k b : ℕ) → k < source_count app → IsOfRoutine app k b → b < length app.blocks
 routine_known app k b known own = omega (arith, own.1, (routine_owner app k known).inside)
 
-pub routine_block : (app : App) (k b : ℕ) → k < source_count app → IsOfRoutine app k b → IsBlock app.tasks app.alarms app.resources app.blocks (routine_start app k).0 (routine_count app k) (the_block app b)
+pub routine_block : (app : App) (k b : ℕ) → k < source_count app → IsOfRoutine app k b → IsBlock (tables app) (routine_start app k).0 (routine_count app k) (the_block app b)
 routine_block app k b known own = (routine_owner app k known).each b no_block own
 
 -- a block of the caller's owner is in the table

@@ -4,47 +4,47 @@ use Rattle.std.specs.List.{list_any}
 pub use Rattle.osek_standard.specs.Validity.{no_task, no_isr, no_counter, no_alarm, no_resource, no_block}
 use Rattle.osek_standard.specs.Validity.{is_cycle_of, is_within}
 use Rattle.osek_values.specs.declared.numbers.BlockNo.{BlockNo}
-use Rattle.osek_values.specs.declared.event.Event.{Event}
-use Rattle.osek_values.specs.declared.event.Event.TheVariants.{Run, Irq, Tick}
+use Rattle.osek_values.specs.declared.event.{Event.{Event}, Event.TheVariants.{Run, Irq, Tick}}
+use Rattle.osek_standard.specs.Tables.{Tables, tabled}
 use Rattle.osek_standard.specs.declared.app.App.{App}
-use Rattle.osek_standard.specs.declared.objects.Task.{Task}
-use Rattle.osek_standard.specs.declared.objects.Isr.{Isr}
-use Rattle.osek_standard.specs.declared.objects.Counter.{Counter}
-use Rattle.osek_standard.specs.declared.objects.Alarm.{Alarm}
-use Rattle.osek_standard.specs.declared.objects.Resource.{Resource}
-use Rattle.osek_standard.specs.declared.block.Block.{Block}
-use Rattle.osek_standard.specs.declared.block.Kind.{Kind}
+use Rattle.osek_standard.specs.declared.objects.{Task.{Task}, Isr.{Isr}, Counter.{Counter}, Alarm.{Alarm}, Resource.{Resource}}
+use Rattle.osek_standard.specs.declared.block.{Block.{Block}, Kind.{Kind}}
 use Rattle.osek_standard.specs.declared.block.Kind.TheVariants as kind
+use Rattle.osek_standard.specs.declared.call.Call.{Call}
+use Rattle.osek_standard.specs.CallNames as call
 
 -- the events that a task waits for at a block of this kind
 abbrev pub awaited : Kind → ℕ
-awaited (kind.WaitEvent m) = m.0
+awaited (kind.Call (call.Mask call.WaitEvent m)) = m.0
 awaited _ = 0
 
 -- the calls after which the kernel may dispatch another task
+abbrev pub call_may_dispatch : Call → Bool
+call_may_dispatch (call.Task call.ActivateTask t) = true
+call_may_dispatch (call.Plain call.TerminateTask) = true
+call_may_dispatch (call.Task call.ChainTask t) = true
+call_may_dispatch (call.Plain call.Schedule) = true
+call_may_dispatch (call.Resource call.GetResource r) = false
+call_may_dispatch (call.Resource call.ReleaseResource r) = true
+call_may_dispatch (call.SetEvent t m) = true
+call_may_dispatch (call.Mask call.ClearEvent m) = false
+call_may_dispatch (call.Task call.GetEvent t) = false
+call_may_dispatch (call.Mask call.WaitEvent m) = true
+call_may_dispatch (call.Arm call.SetRelAlarm a i c) = false
+call_may_dispatch (call.Arm call.SetAbsAlarm a i c) = false
+call_may_dispatch (call.Alarm call.CancelAlarm a) = false
+call_may_dispatch (call.Alarm call.GetAlarm a) = false
+call_may_dispatch (call.Plain call.GetTaskId) = false
+call_may_dispatch (call.Task call.GetTaskState t) = false
+call_may_dispatch (call.Plain call.GetActiveApplicationMode) = false
+call_may_dispatch call.ShutdownOs = false
+call_may_dispatch (call.Lock l) = false
+
 abbrev pub may_dispatch : Kind → Bool
 may_dispatch (kind.Work n) = false
 may_dispatch (kind.Choice o) = false
 may_dispatch kind.Loop = false
-may_dispatch (kind.ActivateTask t) = true
-may_dispatch kind.TerminateTask = true
-may_dispatch (kind.ChainTask t) = true
-may_dispatch kind.Schedule = true
-may_dispatch (kind.GetResource r) = false
-may_dispatch (kind.ReleaseResource r) = true
-may_dispatch (kind.SetEvent t m) = true
-may_dispatch (kind.ClearEvent m) = false
-may_dispatch (kind.GetEvent t) = false
-may_dispatch (kind.WaitEvent m) = true
-may_dispatch (kind.SetRelAlarm a i c) = false
-may_dispatch (kind.SetAbsAlarm a i c) = false
-may_dispatch (kind.CancelAlarm a) = false
-may_dispatch (kind.GetAlarm a) = false
-may_dispatch kind.GetTaskId = false
-may_dispatch (kind.GetTaskState t) = false
-may_dispatch kind.GetActiveApplicationMode = false
-may_dispatch kind.ShutdownOs = false
-may_dispatch (kind.LockCall l) = false
+may_dispatch (kind.Call c) = call_may_dispatch c
 may_dispatch kind.TaskEnd = true
 may_dispatch kind.IsrEnd = false
 may_dispatch kind.CountUp = false
@@ -64,6 +64,9 @@ abbrev pub is_site_in : List Task → ℕ → Kind → Bool
 is_site_in tasks b k = if is_routine_end k then true else if may_dispatch k then is_task_block_in tasks b else false
 
 module _ (app : App) where
+  abbrev pub tables : Tables
+  tables = tabled app.hooks app.tasks app.isrs app.counters app.alarms app.resources app.modes app.blocks
+
   abbrev pub the_task : ℕ → Task
   the_task t = slice_index_or app.tasks t no_task
 

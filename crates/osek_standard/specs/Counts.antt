@@ -2,9 +2,7 @@
 use Rattle.std.specs.Prelude.{ℕ, zero, suc, ◌+◌, ◌*◌, count_ones, length}
 use Rattle.std.specs.List.{sum_by}
 use Rattle.osek_standard.specs.declared.app.App.{App}
-use Rattle.osek_standard.specs.declared.objects.Task.{Task}
-use Rattle.osek_standard.specs.declared.objects.Isr.{Isr}
-use Rattle.osek_standard.specs.declared.objects.Counter.{Counter}
+use Rattle.osek_standard.specs.declared.objects.{Task.{Task}, Isr.{Isr}, Counter.{Counter}}
 
 -- the stacks of distinct resources out of n: the empty one, and each of the n above a stack of the others
 abbrev pub stacks : ℕ → ℕ

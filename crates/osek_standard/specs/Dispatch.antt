@@ -9,11 +9,8 @@ use Rattle.osek_values.specs.declared.status.Ask.TheVariants as ask
 use Rattle.osek_values.specs.declared.notes.Notes.{Notes}
 use Rattle.osek_values.specs.declared.numbers.TaskNo.{TaskNo}
 use Rattle.osek_standard.specs.declared.app.App.{App}
-use Rattle.osek_standard.specs.declared.state.State.{State}
-use Rattle.osek_standard.specs.declared.state.Processor.{Processor}
+use Rattle.osek_standard.specs.declared.state.{State.{State}, Processor.{Processor}, Caller.{Caller}, Caller.TheVariants.{Nobody, Task, Routine}}
 use Rattle.osek_standard.specs.declared.state.Processor.TheVariants as processor
-use Rattle.osek_standard.specs.declared.state.Caller.{Caller}
-use Rattle.osek_standard.specs.declared.state.Caller.TheVariants.{Nobody, Task, Routine}
 use Rattle.osek_standard.specs.States.{task_of, caller, with_processor}
 use Rattle.osek_standard.specs.Priority.{current_priority, best}
 use Rattle.osek_standard.specs.Effects.{Effect, effect, wanted}

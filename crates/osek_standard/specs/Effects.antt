@@ -3,32 +3,24 @@ use Rattle.std.specs.Prelude.{ℕ, ◌+◌, Bool, true, false, nat_lt, bit_and, 
 use Rattle.std.specs.declared.option.Option.{Option}
 use Rattle.osek_values.specs.declared.hooks.HookSet.{HookSet}
 use Rattle.osek_values.specs.Hooks.{hook_set, shutdown, error, when}
-use Rattle.osek_values.specs.declared.status.Status.{Status}
+use Rattle.osek_values.specs.declared.status.{Status.{Status}, Ask.{Ask}}
 use Rattle.osek_values.specs.declared.status.Status.TheVariants as status
-use Rattle.osek_values.specs.declared.status.Ask.{Ask}
 use Rattle.osek_values.specs.declared.status.Ask.TheVariants as ask
 use Rattle.osek_values.specs.declared.notes.Value.TheVariants as value
 use Rattle.osek_values.specs.declared.notes.Notes.{Notes}
-use Rattle.osek_values.specs.declared.numbers.TaskNo.{TaskNo}
-use Rattle.osek_values.specs.declared.numbers.BlockNo.{BlockNo}
+use Rattle.osek_values.specs.declared.numbers.{TaskNo.{TaskNo}, BlockNo.{BlockNo}}
 use Rattle.osek_standard.specs.declared.app.App.{App}
-use Rattle.osek_standard.specs.declared.objects.Schedule.{Schedule}
-use Rattle.osek_standard.specs.declared.objects.Schedule.TheVariants.{Non, Full}
-use Rattle.osek_standard.specs.declared.block.Block.{Block}
-use Rattle.osek_standard.specs.declared.block.Kind.{Kind}
+use Rattle.osek_standard.specs.declared.objects.{Schedule.{Schedule}, Schedule.TheVariants.{Non, Full}}
+use Rattle.osek_standard.specs.declared.block.{Block.{Block}, Kind.{Kind}}
 use Rattle.osek_standard.specs.declared.block.Kind.TheVariants as kind
-use Rattle.osek_standard.specs.declared.task_state.Place.{Place}
-use Rattle.osek_standard.specs.declared.task_state.TaskState.{TaskState}
-use Rattle.osek_standard.specs.declared.task_state.Activity.{Activity}
-use Rattle.osek_standard.specs.declared.task_state.Activity.TheVariants.{Suspended, Live, Waiting}
-use Rattle.osek_standard.specs.declared.state.State.{State}
+use Rattle.osek_standard.specs.declared.call.Call.{Call}
+use Rattle.osek_standard.specs.CallNames as call
+use Rattle.osek_standard.specs.declared.task_state.{Place.{Place}, TaskState.{TaskState}, Activity.{Activity}, Activity.TheVariants.{Suspended, Live, Waiting}}
+use Rattle.osek_standard.specs.declared.state.{State.{State}, Source.{Source}, Processor.{Processor}, Caller.{Caller}, Caller.TheVariants.{Nobody, Task, Routine}}
 use Rattle.osek_standard.specs.declared.state.Source.TheVariants as source
-use Rattle.osek_standard.specs.declared.state.Processor.{Processor}
 use Rattle.osek_standard.specs.declared.state.Processor.TheVariants as processor
-use Rattle.osek_standard.specs.declared.state.Caller.{Caller}
-use Rattle.osek_standard.specs.declared.state.Caller.TheVariants.{Nobody, Task, Routine}
 use Rattle.osek_standard.specs.Apps.{the_task, the_block}
-use Rattle.osek_standard.specs.States.{caller, task_state, with_task, with_source, with_processor, here}
+use Rattle.osek_standard.specs.States.{caller, task_state, with_task, source_state, with_source, with_processor, here}
 use Rattle.osek_standard.specs.Services.{Answer, unnoted, left, ended, activate_task, terminate_task, chain_task, schedule, get_task_id, get_task_state, get_resource_by, release_resource_by, set_event, clear_event, get_event, wait_event, set_rel_alarm, set_abs_alarm, cancel_alarm, get_alarm, counted_by, expire}
 
 -- what an instruction leaves, notes and asks
@@ -71,12 +63,16 @@ standing_at (Waiting b) p = Waiting b
 abbrev pub task_at : TaskState → Place → TaskState
 task_at x p = record x { activity = standing_at x.activity p }
 
--- who has the processor stands at this place
+abbrev pub source_at : Source → Place → Source
+source_at source.Out p = source.Out
+source_at (source.In x) p = source.In (record x { at = p })
+
+-- who has the processor stands at this place, and keeps all else
 abbrev pub moved_by : State → Processor → Place → State
 moved_by s processor.Halted p = s
 moved_by s processor.Idle p = s
 moved_by s (processor.Running t) p = with_task s t.0 (task_at (task_state s t.0) p)
-moved_by s (processor.Interrupted k over) p = with_source s k.0 (source.In p)
+moved_by s (processor.Interrupted k over) p = with_source s k.0 (source_at (source_state s k.0) p)
 
 abbrev pub moved : State → Place → State
 moved s p = moved_by s s.processor p
@@ -86,7 +82,7 @@ abbrev pub moved_to : State → BlockNo → State
 moved_to s b = moved s (place_at b 0)
 
 abbrev pub is_schedule : Kind → Bool
-is_schedule kind.Schedule = true
+is_schedule (kind.Call (call.Plain call.Schedule)) = true
 is_schedule _ = false
 
 -- a non-preemptive caller reschedules at Schedule alone (ISO 17356-3, non-preemptive scheduling)
@@ -107,29 +103,32 @@ abbrev pub asks_as : App → Caller → Kind → Answer → Answer
 asks_as app c k a = record a { ask = asked_by app c k a.ask }
 
 -- the row of a service, and of the two kinds of a tick routine; the other kinds are no calls
+abbrev pub row : App → State → Caller → Call → Answer
+row app s c (call.Task call.ActivateTask t) = activate_task app s t.0
+row app s c (call.Plain call.TerminateTask) = terminate_task app s c
+row app s c (call.Task call.ChainTask t) = chain_task app s c t.0
+row app s c (call.Plain call.Schedule) = schedule s c
+row app s c (call.Resource call.GetResource r) = get_resource_by app s c r
+row app s c (call.Resource call.ReleaseResource r) = release_resource_by app s c r
+row app s c (call.SetEvent t m) = set_event app s t.0 m.0
+row app s c (call.Mask call.ClearEvent m) = clear_event app s c m.0
+row app s c (call.Task call.GetEvent t) = get_event app s t.0
+row app s c (call.Mask call.WaitEvent m) = wait_event app s c m.0
+row app s c (call.Arm call.SetRelAlarm a i y) = set_rel_alarm app s a.0 i y
+row app s c (call.Arm call.SetAbsAlarm a i y) = set_abs_alarm app s a.0 i y
+row app s c (call.Alarm call.CancelAlarm a) = cancel_alarm app s a.0
+row app s c (call.Alarm call.GetAlarm a) = get_alarm app s a.0
+row app s c (call.Plain call.GetTaskId) = get_task_id s
+row app s c (call.Task call.GetTaskState t) = get_task_state s t.0
+row app s c (call.Plain call.GetActiveApplicationMode) = record (unnoted s ask.No) { value = Some (value.Mode s.mode) }
+row app s c call.ShutdownOs = unnoted s ask.No
+row app s c (call.Lock l) = unnoted s ask.No
+
 abbrev pub called : App → State → Caller → Kind → Answer
 called app s c (kind.Work n) = unnoted s ask.No
 called app s c (kind.Choice o) = unnoted s ask.No
 called app s c kind.Loop = unnoted s ask.No
-called app s c (kind.ActivateTask t) = activate_task app s t.0
-called app s c kind.TerminateTask = terminate_task app s c
-called app s c (kind.ChainTask t) = chain_task app s c t.0
-called app s c kind.Schedule = schedule s c
-called app s c (kind.GetResource r) = get_resource_by app s c r
-called app s c (kind.ReleaseResource r) = release_resource_by app s c r
-called app s c (kind.SetEvent t m) = set_event app s t.0 m.0
-called app s c (kind.ClearEvent m) = clear_event app s c m.0
-called app s c (kind.GetEvent t) = get_event app s t.0
-called app s c (kind.WaitEvent m) = wait_event app s c m.0
-called app s c (kind.SetRelAlarm a i y) = set_rel_alarm app s a.0 i y
-called app s c (kind.SetAbsAlarm a i y) = set_abs_alarm app s a.0 i y
-called app s c (kind.CancelAlarm a) = cancel_alarm app s a.0
-called app s c (kind.GetAlarm a) = get_alarm app s a.0
-called app s c kind.GetTaskId = get_task_id s
-called app s c (kind.GetTaskState t) = get_task_state s t.0
-called app s c kind.GetActiveApplicationMode = record (unnoted s ask.No) { value = Some (value.Mode s.mode) }
-called app s c kind.ShutdownOs = unnoted s ask.No
-called app s c (kind.LockCall l) = unnoted s ask.No
+called app s c (kind.Call k) = row app s c k
 called app s c kind.TaskEnd = unnoted s ask.No
 called app s c kind.IsrEnd = unnoted s ask.No
 called app s c kind.CountUp = unnoted (counted_by app s c) ask.No
@@ -145,7 +144,7 @@ goes_on_by ask.Free next a = record a { state = moved_to a.state next }
 abbrev pub goes_on_unless_left : BlockNo → Answer → Answer
 goes_on_unless_left next a = goes_on_by a.ask next a
 
--- falling off the closing brace gives back what is held
+-- falling off the closing brace ends the task and gives back what is held (the profile)
 abbrev pub end_task : App → State → Caller → Answer
 end_task app s Nobody = unnoted s ask.No
 end_task app s (Routine k) = unnoted s ask.No
@@ -179,7 +178,8 @@ halted_by s processor.Idle = with_processor s processor.Halted
 halted_by s (processor.Running t) = with_processor s processor.Halted
 halted_by s (processor.Interrupted k over) = with_processor (with_source s k.0 source.Out) processor.Halted
 
--- ShutdownOS: the caller stands at its next block, the kernel halts, and ShutdownHook runs
+-- ShutdownOS: the kernel halts and ShutdownHook runs (the standard); the caller stands at its next block, and no
+-- PostTaskHook runs (the profile)
 abbrev pub shut_down : App → State → Effect
 shut_down app s = effected (halted_by s s.processor) (record { status = None; value = None; hooks = wanted app shutdown }) ask.No
 
@@ -188,8 +188,8 @@ abbrev pub effect_at : App → State → Bool → Place → Block → Kind → E
 effect_at app s choice p b (kind.Work n) =
     noted app (if nat_lt (p.offset + 1) n then unnoted (moved s (place_at p.block (p.offset + 1))) ask.No else unnoted (moved_to s b.next) ask.No)
 effect_at app s choice p b (kind.Choice other) = noted app (unnoted (moved_to s (if choice then b.next else other)) ask.No)
-effect_at app s choice p b (kind.WaitEvent m) = noted app (goes_on_unless_left b.next (wait_event app s (caller s.processor) m.0))
-effect_at app s choice p b kind.ShutdownOs = shut_down app (moved_to s b.next)
+effect_at app s choice p b (kind.Call (call.Mask call.WaitEvent m)) = noted app (goes_on_unless_left b.next (wait_event app s (caller s.processor) m.0))
+effect_at app s choice p b (kind.Call call.ShutdownOs) = shut_down app (moved_to s b.next)
 effect_at app s choice p b kind.TaskEnd = noted app (end_task app s (caller s.processor))
 effect_at app s choice p b kind.IsrEnd = noted app (returned app s)
 -- any other call: the caller goes on to its next block, and then the row applies

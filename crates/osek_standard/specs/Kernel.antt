@@ -4,20 +4,14 @@ use Rattle.std.specs.declared.option.Option.{Option}
 use Rattle.osek_values.specs.Hooks.{startup}
 use Rattle.osek_values.specs.Numbers.{mask}
 use Rattle.osek_values.specs.declared.status.Ask.TheVariants as ask
-use Rattle.osek_values.specs.declared.event.Event.{Event}
-use Rattle.osek_values.specs.declared.event.Event.TheVariants.{Run, Irq, Tick}
-use Rattle.osek_values.specs.declared.numbers.ModeNo.{ModeNo}
-use Rattle.osek_values.specs.declared.numbers.SourceNo.{SourceNo}
+use Rattle.osek_values.specs.declared.event.{Event.{Event}, Event.TheVariants.{Run, Irq, Tick}}
+use Rattle.osek_values.specs.declared.numbers.{ModeNo.{ModeNo}, SourceNo.{SourceNo}}
 use Rattle.osek_standard.specs.declared.app.App.{App}
-use Rattle.osek_standard.specs.declared.objects.Task.{Task}
-use Rattle.osek_standard.specs.declared.objects.Alarm.{Alarm}
-use Rattle.osek_standard.specs.declared.task_state.TaskState.{TaskState}
-use Rattle.osek_standard.specs.declared.task_state.Activity.TheVariants.{Live}
-use Rattle.osek_standard.specs.declared.state.State.{State}
-use Rattle.osek_standard.specs.declared.state.AlarmState.{AlarmState}
+use Rattle.osek_standard.specs.declared.objects.{Task.{Task}, Alarm.{Alarm}}
+use Rattle.osek_standard.specs.declared.task_state.{TaskState.{TaskState}, Activity.TheVariants.{Live}}
+use Rattle.osek_standard.specs.declared.state.{State.{State}, AlarmState.{AlarmState}, Processor.{Processor}}
 use Rattle.osek_standard.specs.declared.state.AlarmState.TheVariants as alarm
 use Rattle.osek_standard.specs.declared.state.Source.TheVariants as source
-use Rattle.osek_standard.specs.declared.state.Processor.{Processor}
 use Rattle.osek_standard.specs.declared.state.Processor.TheVariants as processor
 use Rattle.osek_standard.specs.Apps.{source_count}
 use Rattle.osek_standard.specs.TaskStates.{suspended}

@@ -1,5 +1,6 @@
 pub mod Apps
 pub mod Arrivals
+pub mod CallNames
 pub mod Counts
 pub mod Dispatch
 pub mod Effects
@@ -9,9 +10,9 @@ pub mod Points
 pub mod Priority
 pub mod Services
 pub mod States
+pub mod Tables
 pub mod TaskStates
 pub mod TraceText
 pub mod Validity
 pub mod Versions
 pub mod Well
-pub mod WorkedApps

@@ -1,10 +1,9 @@
 -- Priorities under the priority ceiling protocol (ISO 17356-3, OSEK priority ceiling protocol), and the task that is
 -- to run (ISO 17356-3, task priority).
-use Rattle.std.specs.Prelude.{◌≡◌, ◌≢◌, ◌⊎◌, ℕ, ◌*◌, ◌<◌, max, Bool, ◌==◌, nat_lt, nat_le, ◌&&◌, ◌||◌, List, true, option_map}
+use Rattle.std.specs.Prelude.{◌≡◌, ◌≢◌, ◌⊎◌, ℕ, ◌*◌, ◌<◌, max, Bool, ◌==◌, nat_lt, nat_le, ◌&&◌, ◌||◌, List, true, option_map, IsTrue}
 use Rattle.std.specs.List.{fold, find, list_all}
 use Rattle.std.specs.declared.option.Option.{Option}
-use Rattle.osek_values.specs.declared.numbers.TaskNo.{TaskNo}
-use Rattle.osek_values.specs.declared.numbers.ResNo.{ResNo}
+use Rattle.osek_values.specs.declared.numbers.{TaskNo.{TaskNo}, ResNo.{ResNo}}
 use Rattle.osek_values.specs.Numbers.{task_no}
 use Rattle.osek_standard.specs.declared.app.App.{App}
 use Rattle.osek_standard.specs.declared.state.State.{State}
@@ -15,10 +14,6 @@ use Rattle.osek_standard.specs.States.{task_state, live_tasks}
 -- the number that goes before each of them, if there is one
 unfoldable pub first_of_all : (ℕ → ℕ → Bool) → List ℕ → Option ℕ
 first_of_all before xs = find (λ x. list_all (before x) xs) xs
-
--- between equal priorities: the lower number goes first
-abbrev pub precedes : ℕ → ℕ → Bool
-precedes t u = nat_le t u
 
 module _ (app : App) where
   -- a task of priority p has base 2p, so that the ceilings 2m+1 lie between two tasks
@@ -36,6 +31,10 @@ module _ (app : App) where
     abbrev pub current_priority : ℕ → ℕ
     current_priority t = highest (base_priority t) (held (task_state s t))
 
+    -- between equal priorities: the lower number goes first
+    abbrev pub precedes : ℕ → ℕ → Bool
+    precedes t u = nat_le t u
+
     -- it has the higher current priority, or the same and precedes
     abbrev pub goes_before : ℕ → ℕ → Bool
     goes_before t u =
@@ -46,8 +45,8 @@ module _ (app : App) where
     unfoldable pub best : Option TaskNo
     best = option_map task_no (first_of_all goes_before (live_tasks s))
 
-    -- the same as a property: each other Live task has a lower current priority, or the same and a greater number
+    -- the same as a property: each other Live task has a lower current priority, or the same and t precedes it
     pub record IsBest (t : ℕ) : Type 0 where
       pub live : is_live (task_state s t) ≡ true
       pub others : (u : ℕ) → is_live (task_state s u) ≡ true → u ≢ t →
-          (current_priority u < current_priority t) ⊎ ((current_priority u ≡ current_priority t) × (t < u))
+          (current_priority u < current_priority t) ⊎ ((current_priority u ≡ current_priority t) × IsTrue (precedes t u))

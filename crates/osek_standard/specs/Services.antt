@@ -1,11 +1,14 @@
 -- The services of ISO 17356-3, each as one row: its refusals in the order in which they are tested, then what it does.
 -- A refused call changes nothing. The caller's move to its next block stands in Effects, but for WaitEvent's caller,
 -- which waits at its own block.
+--
+-- From the standard, where a row doesn't say otherwise: the refusals and their codes (extended status) and what an
+-- accepted call does. This project's profile, in every row: the order of the tests, CALLEVEL, ACCESS, RESOURCE, STATE,
+-- VALUE, LIMIT, NOFUNC; and that no status is noted where a call doesn't return one to its caller.
 use Rattle.std.specs.Prelude.{ℕ, ◌+◌, ◌-◌, ◌%◌, Bool, true, false, ◌==◌, slice_get, nat_lt, ◌&&◌, ◌||◌, not, bit_and, bit_or, bit_xor, List, [], ◌∷◌, ◌++◌, length, slice_set, take, if◌then◌else◌, Some, None}
 use Rattle.std.specs.declared.option.Option.{Option}
-use Rattle.osek_values.specs.declared.status.Status.{Status}
+use Rattle.osek_values.specs.declared.status.{Status.{Status}, Ask.{Ask}}
 use Rattle.osek_values.specs.declared.status.Status.TheVariants as status
-use Rattle.osek_values.specs.declared.status.Ask.{Ask}
 use Rattle.osek_values.specs.declared.status.Ask.TheVariants as ask
 use Rattle.osek_values.specs.declared.notes.Value.{Value}
 use Rattle.osek_values.specs.declared.notes.Value.TheVariants as value
@@ -14,15 +17,9 @@ use Rattle.osek_values.specs.Numbers.{mask}
 use Rattle.osek_standard.specs.declared.app.App.{App}
 use Rattle.osek_standard.specs.declared.objects.Action.{Action}
 use Rattle.osek_standard.specs.declared.objects.Action.TheVariants as action
-use Rattle.osek_standard.specs.declared.task_state.TaskState.{TaskState}
-use Rattle.osek_standard.specs.declared.task_state.Activity.{Activity}
-use Rattle.osek_standard.specs.declared.task_state.Activity.TheVariants.{Suspended, Live, Waiting}
-use Rattle.osek_standard.specs.declared.state.State.{State}
-use Rattle.osek_standard.specs.declared.state.AlarmState.{AlarmState}
-use Rattle.osek_standard.specs.declared.state.AlarmState.TheVariants.{Idle, Armed}
+use Rattle.osek_standard.specs.declared.task_state.{TaskState.{TaskState}, Activity.{Activity}, Activity.TheVariants.{Suspended, Live, Waiting}}
+use Rattle.osek_standard.specs.declared.state.{State.{State}, AlarmState.{AlarmState}, AlarmState.TheVariants.{Idle, Armed}, Caller.{Caller}, Caller.TheVariants.{Nobody, Task, Routine}}
 use Rattle.osek_standard.specs.declared.state.Processor.TheVariants as processor
-use Rattle.osek_standard.specs.declared.state.Caller.{Caller}
-use Rattle.osek_standard.specs.declared.state.Caller.TheVariants.{Nobody, Task, Routine}
 use Rattle.osek_standard.specs.Apps.{the_task, the_counter, the_alarm, the_block, is_extended, is_counter, max_of, is_cycle, awaited}
 use Rattle.osek_standard.specs.TaskStates.{is_suspended, held}
 use Rattle.osek_standard.specs.States.{task_of, letter_of, is_taken, task_state, with_task, alarm_state, with_alarm, counter_value, with_processor, here}
@@ -79,7 +76,8 @@ with_stack Suspended h = Suspended
 with_stack (Live x) h = Live (record x { held = h })
 with_stack (Waiting b) h = Waiting b
 
--- an activated task is Live at its first block, holds nothing, and has no event
+-- an activated task is Live at its first block, holds nothing, and has no event (the standard: activation clears the
+-- events of an extended task)
 abbrev pub activated_state : App → ℕ → TaskState
 activated_state app t = record {
   activity = Live (record { at = record { block = (the_task app t).first; offset = 0 }; held = [] });
@@ -131,7 +129,7 @@ with_held s t h = with_task s t (record (task_state s t) { activity = with_stack
 abbrev pub with_events : State → ℕ → ℕ → State
 with_events s t m = with_task s t (record (task_state s t) { events = mask m })
 
--- the task takes no further activation
+-- the task takes no further activation (the standard's limit for tasks of one activation)
 abbrev pub is_full : App → State → ℕ → Bool
 is_full app s t = not (is_suspended (task_state s t))
 
@@ -141,7 +139,7 @@ activate_task app s t =
     if is_full app s t then refused s status.Limit
     else accepted (activated app s t) ask.Maybe
 
--- TerminateTask
+-- TerminateTask. That the events of the ended task stay until its next activation is the profile's.
 unfoldable pub terminate_task : App → State → Caller → Answer
 terminate_task app s Nobody = unnoted s ask.No
 terminate_task app s (Routine k) = refused s status.CallLevel
@@ -149,7 +147,8 @@ terminate_task app s (Task c) =
     if holds_some s c.0 then refused s status.Resource
     else unnoted (left (ended app s c.0)) ask.Left
 
--- ChainTask(t): the caller ends, and then t is activated; a chain to oneself is no second activation
+-- ChainTask(t): the caller ends, and then t is activated; a chain to oneself is no second activation (the standard), and
+-- clears the events as each activation (the profile)
 unfoldable pub chain_task : App → State → Caller → ℕ → Answer
 chain_task app s Nobody t = unnoted s ask.No
 chain_task app s (Routine k) t = refused s status.CallLevel
@@ -158,7 +157,7 @@ chain_task app s (Task c) t =
     else if not (t == c.0) && is_full app s t then refused s status.Limit
     else unnoted (activated app (left (ended app s c.0)) t) ask.Left
 
--- Schedule
+-- Schedule. A non-preemptive caller reschedules here too (the standard).
 unfoldable pub schedule : State → Caller → Answer
 schedule s Nobody = unnoted s ask.No
 schedule s (Routine k) = refused s status.CallLevel
@@ -166,22 +165,23 @@ schedule s (Task c) =
     if holds_some s c.0 then refused s status.Resource
     else accepted s ask.Maybe
 
--- GetTaskID
+-- GetTaskID. At interrupt level it is the interrupted task (the profile).
 abbrev pub get_task_id : State → Answer
 get_task_id s = accepted_with s (value.Task (task_of s.processor))
 
--- GetTaskState(t)
+-- GetTaskState(t). An interrupted task is running (the profile).
 abbrev pub get_task_state : State → ℕ → Answer
 get_task_state s t = accepted_with s (value.State (letter_of s.processor t (task_state s t)))
 
 module _ (app : App) (s : State) where
-  -- GetResource(r) of a task
+  -- GetResource(r) of a task: ACCESS where r is taken or the caller's base priority is above its ceiling (the standard)
   unfoldable pub get_resource : ℕ → ResNo → Answer
   get_resource c r =
       if is_taken s r.0 || nat_lt (ceiling app r.0) (base_priority app c) then refused s status.Access
       else accepted (with_held s c (held (task_state s c) ++ r ∷ [])) ask.No
 
-  -- ReleaseResource(r) of a task
+  -- ReleaseResource(r) of a task. ACCESS before NOFUNC is the profile's order; that r has to be the last taken, NOFUNC
+  -- else, is the standard's.
   unfoldable pub release_resource : ℕ → ResNo → Answer
   release_resource c r =
       if nat_lt (ceiling app r.0) (base_priority app c) then refused s status.Access
@@ -189,7 +189,7 @@ module _ (app : App) (s : State) where
       then accepted (with_held s c (take (length (held (task_state s c)) - 1) (held (task_state s c)))) ask.Maybe
       else refused s status.NoFunc
 
-  -- No application has the two resource services in a routine: they do nothing there.
+  -- No application has the two resource services in a routine (the profile): they do nothing there.
   abbrev pub get_resource_by : Caller → ResNo → Answer
   get_resource_by Nobody r = unnoted s ask.No
   get_resource_by (Routine k) r = unnoted s ask.No
@@ -200,7 +200,7 @@ module _ (app : App) (s : State) where
   release_resource_by (Routine k) r = unnoted s ask.No
   release_resource_by (Task c) r = release_resource c.0 r
 
-  -- the events of t that m names: bits outside of its own are ignored
+  -- the events of t that m names: bits outside of its own are ignored (the profile)
   abbrev pub own_events : ℕ → ℕ → ℕ
   own_events t m = bit_and m (the_task app t).own.0
 
@@ -213,7 +213,8 @@ module _ (app : App) (s : State) where
   abbrev pub woken : ℕ → ℕ → State
   woken t m = with_task s t (record { activity = released_from app (task_state s t).activity; events = mask (events_set t m) })
 
-  -- SetEvent(t, m): the events are set, and t is released if it waits for one of these
+  -- SetEvent(t, m): the events are set, and t is released if it waits for one of these. ACCESS before STATE is the
+  -- profile's order.
   unfoldable pub set_event : ℕ → ℕ → Answer
   set_event t m =
       if not (is_extended app t) then refused s status.Access
@@ -221,7 +222,7 @@ module _ (app : App) (s : State) where
       else if waits_for t m then accepted (woken t m) ask.Maybe
       else accepted (with_events s t (events_set t m)) ask.No
 
-  -- ClearEvent(m)
+  -- ClearEvent(m). CALLEVEL before ACCESS is the profile's order.
   unfoldable pub clear_event : Caller → ℕ → Answer
   clear_event Nobody m = unnoted s ask.No
   clear_event (Routine k) m = refused s status.CallLevel
@@ -229,14 +230,15 @@ module _ (app : App) (s : State) where
       if not (is_extended app c.0) then refused s status.Access
       else accepted (with_events s c.0 (bit_xor (task_state s c.0).events.0 (bit_and (task_state s c.0).events.0 m))) ask.No
 
-  -- GetEvent(t)
+  -- GetEvent(t). ACCESS before STATE is the profile's order.
   unfoldable pub get_event : ℕ → Answer
   get_event t =
       if not (is_extended app t) then refused s status.Access
       else if is_suspended (task_state s t) then refused s status.State
       else accepted_with s (value.Mask (task_state s t).events)
 
-  -- WaitEvent(m): without one of the events the caller waits at the block where it stands
+  -- WaitEvent(m): without one of the events the caller waits at the block where it stands. CALLEVEL, ACCESS, RESOURCE is
+  -- the profile's order, and so is that E_OK is noted at once, also where the caller waits.
   unfoldable pub wait_event : Caller → ℕ → Answer
   wait_event Nobody m = unnoted s ask.No
   wait_event (Routine k) m = refused s status.CallLevel
@@ -250,27 +252,28 @@ module _ (app : App) (s : State) where
   abbrev pub value_of : ℕ → ℕ
   value_of a = counter_value s (the_alarm app a).counter.0
 
-  -- SetRelAlarm(a, increment, cycle)
+  -- SetRelAlarm(a, increment, cycle). An increment of 0 is VALUE (the profile; the standard leaves it to the
+  -- implementation).
   unfoldable pub set_rel_alarm : ℕ → ℕ → ℕ → Answer
   set_rel_alarm a increment cycle =
       if not (is_idle (alarm_state s a)) then refused s status.State
       else if (increment == 0) || nat_lt (max_of app a) increment || not (is_cycle app a cycle) then refused s status.Value
       else accepted (with_alarm s a (Armed ((value_of a + increment) % (max_of app a + 1)) cycle)) ask.No
 
-  -- SetAbsAlarm(a, start, cycle)
+  -- SetAbsAlarm(a, start, cycle). A start that is already reached waits for the counter's next round (the standard).
   unfoldable pub set_abs_alarm : ℕ → ℕ → ℕ → Answer
   set_abs_alarm a start cycle =
       if not (is_idle (alarm_state s a)) then refused s status.State
       else if nat_lt (max_of app a) start || not (is_cycle app a cycle) then refused s status.Value
       else accepted (with_alarm s a (Armed start cycle)) ask.No
 
-  -- CancelAlarm(a)
+  -- CancelAlarm(a): NOFUNC where it isn't armed (the standard)
   unfoldable pub cancel_alarm : ℕ → Answer
   cancel_alarm a =
       if is_idle (alarm_state s a) then refused s status.NoFunc
       else accepted (with_alarm s a Idle) ask.No
 
-  -- the ticks until an alarm expires: a whole round where its counter stands at the value
+  -- the ticks until an alarm expires: a whole round where its counter stands at the value (the profile)
   abbrev pub ticks_left : ℕ → ℕ → ℕ
   ticks_left a at =
       if at == value_of a then max_of app a + 1 else (at + (max_of app a + 1) - value_of a) % (max_of app a + 1)
@@ -279,7 +282,7 @@ module _ (app : App) (s : State) where
   time_left a None = refused s status.NoFunc
   time_left a (Some at) = accepted_with s (value.Number (ticks_left a at))
 
-  -- GetAlarm(a)
+  -- GetAlarm(a): NOFUNC where it isn't armed (the standard)
   unfoldable pub get_alarm : ℕ → Answer
   get_alarm a = time_left a (due (alarm_state s a))
 

@@ -3,21 +3,13 @@ use Rattle.std.specs.Prelude.{ℕ, Bool, false, ◌==◌, Some, None, List, leng
 use Rattle.std.specs.List.{list_any, filter, range_with_len}
 use Rattle.std.specs.declared.option.Option.{Option}
 use Rattle.osek_values.specs.declared.numbers.TaskNo.{TaskNo}
-use Rattle.osek_values.specs.declared.status.Letter.{Letter}
-use Rattle.osek_values.specs.declared.status.Letter.TheVariants.{S, Y, R, W}
+use Rattle.osek_values.specs.declared.status.{Letter.{Letter}, Letter.TheVariants.{S, Y, R, W}}
 use Rattle.osek_values.specs.Numbers.{block_no}
-use Rattle.osek_standard.specs.declared.task_state.TaskState.{TaskState}
-use Rattle.osek_standard.specs.declared.task_state.Activity.{Activity}
-use Rattle.osek_standard.specs.declared.task_state.Activity.TheVariants.{Suspended, Live, Waiting}
-use Rattle.osek_standard.specs.declared.task_state.Place.{Place}
-use Rattle.osek_standard.specs.declared.state.State.{State}
-use Rattle.osek_standard.specs.declared.state.AlarmState.{AlarmState}
+use Rattle.osek_standard.specs.declared.task_state.{TaskState.{TaskState}, Activity.{Activity}, Activity.TheVariants.{Suspended, Live, Waiting}, Place.{Place}}
+use Rattle.osek_standard.specs.declared.state.{State.{State}, AlarmState.{AlarmState}, Source.{Source}, Processor.{Processor}, Caller.{Caller}}
 use Rattle.osek_standard.specs.declared.state.AlarmState.TheVariants as alarm
-use Rattle.osek_standard.specs.declared.state.Source.{Source}
 use Rattle.osek_standard.specs.declared.state.Source.TheVariants as source
-use Rattle.osek_standard.specs.declared.state.Processor.{Processor}
 use Rattle.osek_standard.specs.declared.state.Processor.TheVariants as processor
-use Rattle.osek_standard.specs.declared.state.Caller.{Caller}
 use Rattle.osek_standard.specs.declared.state.Caller.TheVariants as caller_is
 use Rattle.osek_standard.specs.TaskStates.{suspended, is_live, held, holds}
 
@@ -58,7 +50,7 @@ place_in (Waiting b) = record { block = b; offset = 0 }
 
 abbrev pub place_of_source : Source → Place
 place_of_source source.Out = nowhere
-place_of_source (source.In p) = p
+place_of_source (source.In x) = x.at
 
 module _ (s : State) where
   abbrev pub task_state : ℕ → TaskState

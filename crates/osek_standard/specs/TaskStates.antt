@@ -4,9 +4,7 @@ use Rattle.std.specs.Prelude.{ℕ, Bool, true, false, ◌==◌, List, []}
 use Rattle.std.specs.List.{list_any}
 use Rattle.osek_values.specs.declared.numbers.ResNo.{ResNo}
 use Rattle.osek_values.specs.Numbers.{mask}
-use Rattle.osek_standard.specs.declared.task_state.TaskState.{TaskState}
-use Rattle.osek_standard.specs.declared.task_state.Activity.{Activity}
-use Rattle.osek_standard.specs.declared.task_state.Activity.TheVariants.{Suspended, Live, Waiting}
+use Rattle.osek_standard.specs.declared.task_state.{TaskState.{TaskState}, Activity.{Activity}, Activity.TheVariants.{Suspended, Live, Waiting}}
 
 abbrev pub suspended : TaskState
 suspended = record { activity = Suspended; events = mask 0 }

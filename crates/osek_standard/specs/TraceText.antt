@@ -3,24 +3,19 @@ use Rattle.std.specs.Prelude.{ℕ, ◌+◌, ◌-◌, Bool, false, not, ◌==◌,
 use Rattle.std.specs.List.{flat_map, enumerate_from}
 use Rattle.std.specs.Fmt.{decimal, digits}
 use Rattle.std.specs.declared.option.Option.{Option}
-use Rattle.osek_values.specs.declared.status.Status.{Status}
+use Rattle.osek_values.specs.declared.status.{Status.{Status}, Letter.{Letter}, Letter.TheVariants.{S, Y, R, W}}
 use Rattle.osek_values.specs.declared.status.Status.TheVariants as status
-use Rattle.osek_values.specs.declared.notes.Value.{Value}
+use Rattle.osek_values.specs.declared.notes.{Value.{Value}, Notes.{Notes}}
 use Rattle.osek_values.specs.declared.notes.Value.TheVariants as value
-use Rattle.osek_values.specs.declared.status.Letter.{Letter}
-use Rattle.osek_values.specs.declared.status.Letter.TheVariants.{S, Y, R, W}
-use Rattle.osek_values.specs.declared.notes.Notes.{Notes}
 use Rattle.osek_values.specs.declared.event.Event.{Event}
-use Rattle.osek_values.specs.declared.numbers.ModeNo.{ModeNo}
-use Rattle.osek_values.specs.declared.numbers.ResNo.{ResNo}
+use Rattle.osek_values.specs.declared.numbers.{ModeNo.{ModeNo}, ResNo.{ResNo}}
 use Rattle.osek_values.specs.declared.hooks.HookSet.{HookSet}
 use Rattle.osek_values.specs.Hooks.{startup, shutdown, error, pre_task, post_task}
 use Rattle.osek_standard.specs.declared.app.App.{App}
 use Rattle.osek_standard.specs.declared.objects.Task.{Task}
-use Rattle.osek_standard.specs.declared.state.State.{State}
+use Rattle.osek_standard.specs.declared.state.{State.{State}, Processor.{Processor}}
 use Rattle.osek_standard.specs.declared.task_state.TaskState.{TaskState}
 use Rattle.osek_standard.specs.declared.state.Processor.TheVariants as processor
-use Rattle.osek_standard.specs.declared.state.Processor.{Processor}
 use Rattle.osek_standard.specs.Apps.{the_task, the_counter, the_isr, the_resource, is_counter}
 use Rattle.osek_standard.specs.TaskStates.{is_suspended, held}
 use Rattle.osek_standard.specs.States.{task_state, letter_of}

@@ -1,24 +1,15 @@
 -- The states that the kernel can be in, for an application.
 use Rattle.std.specs.Prelude.{◌≡◌, ◌≢◌, ⊤, ℕ, ◌<◌, ◌≤◌, Bool, nat_eq, bit_and, List, length, All, IsTrue, IfSome}
 use Rattle.std.specs.List.{IsDistinct}
-use Rattle.osek_values.specs.declared.numbers.TaskNo.{TaskNo}
-use Rattle.osek_values.specs.declared.numbers.ResNo.{ResNo}
+use Rattle.osek_values.specs.declared.numbers.{TaskNo.{TaskNo}, ResNo.{ResNo}, SourceNo.{SourceNo}}
 use Rattle.osek_standard.specs.declared.app.App.{App}
 use Rattle.osek_standard.specs.declared.block.Kind.{Kind}
 use Rattle.osek_standard.specs.declared.block.Kind.TheVariants as kind
-use Rattle.osek_standard.specs.declared.state.State.{State}
-use Rattle.osek_standard.specs.declared.task_state.TaskState.{TaskState}
-use Rattle.osek_standard.specs.declared.task_state.Activity.{Activity}
-use Rattle.osek_standard.specs.declared.task_state.Activity.TheVariants.{Suspended, Live, Waiting}
-use Rattle.osek_standard.specs.declared.state.AlarmState.{AlarmState}
-use Rattle.osek_standard.specs.declared.state.AlarmState.TheVariants.{Idle, Armed}
-use Rattle.osek_standard.specs.declared.task_state.Place.{Place}
-use Rattle.osek_standard.specs.declared.task_state.Standing.{Standing}
-use Rattle.osek_values.specs.declared.numbers.SourceNo.{SourceNo}
-use Rattle.osek_standard.specs.declared.state.Source.{Source}
+use Rattle.osek_standard.specs.CallNames as call
+use Rattle.osek_standard.specs.declared.state.{State.{State}, AlarmState.{AlarmState}, AlarmState.TheVariants.{Idle, Armed}, Source.{Source}, Processor.{Processor}}
+use Rattle.osek_standard.specs.declared.task_state.{TaskState.{TaskState}, Activity.{Activity}, Activity.TheVariants.{Suspended, Live, Waiting}, Place.{Place}, Standing.{Standing}}
 use Rattle.osek_standard.specs.declared.state.Source.TheVariants as source
 use Rattle.std.specs.declared.option.Option.{Option}
-use Rattle.osek_standard.specs.declared.state.Processor.{Processor}
 use Rattle.osek_standard.specs.declared.state.Processor.TheVariants as processor
 use Rattle.osek_standard.specs.Validity.{IsAmong}
 use Rattle.osek_standard.specs.Apps.{the_task, the_counter, the_block, is_extended, source_count, routine_start, routine_count, max_of, is_cycle}
@@ -31,7 +22,7 @@ IsOffsetAt (kind.Work n) o = o < n
 IsOffsetAt _ o = o ≡ 0
 
 abbrev pub IsWaitEvent : Kind → Type 0
-IsWaitEvent (kind.WaitEvent m) = ⊤
+IsWaitEvent (kind.Call (call.Mask call.WaitEvent m)) = ⊤
 IsWaitEvent _ = ⊥
 
 abbrev pub same_resource : ResNo → ResNo → Bool
@@ -94,7 +85,7 @@ module _ (app : App) where
 
   abbrev pub IsRunningAt : ℕ → Source → Type 0
   IsRunningAt k source.Out = ⊥
-  IsRunningAt k (source.In p) = IsPlaceOf k p
+  IsRunningAt k (source.In x) = IsPlaceOf k x.at
 
   -- the source at the processor runs, and every other is out
   pub record IsRoutine (s : State) (k : SourceNo) (task : Option TaskNo) : Type 0 where

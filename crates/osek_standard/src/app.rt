@@ -1,6 +1,6 @@
 //! An application: what an image holds but for the forms of its sites.
 ghost use Rattle.osek_standard.specs.Validity.{IsValid, IsValid-prop};
-ghost use Rattle.osek_standard.specs.Versions.{FitsVersion1, FitsVersion1-prop};
+ghost use Rattle.osek_standard.specs.Tables.{tabled};
 
 use crate::block::Block;
 use crate::objects::{Alarm, Counter, Isr, Resource, Task};
@@ -22,8 +22,7 @@ pub struct App {
     pub resources: Seq<Resource>,
     pub modes: Seq<Name>,
     pub blocks: Seq<Block>,
-    pub ghost valid: { IsValid tasks alarms resources blocks isrs counters hooks modes } by { IsValid-prop tasks alarms resources blocks isrs counters hooks modes },
-    pub ghost version_1: { FitsVersion1 tasks } by { FitsVersion1-prop tasks },
+    pub ghost valid: { IsValid (tabled hooks tasks isrs counters alarms resources modes blocks) } by { IsValid-prop (tabled hooks tasks isrs counters alarms resources modes blocks) },
 }
 
 impl App {

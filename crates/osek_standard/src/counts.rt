@@ -1,27 +1,28 @@
 //! How many points an application has, and how high its tables of possible states are.
 ghost use Rattle.std.specs.Prelude.{◌≡◌, ◌≤◌, length};
 ghost use Rattle.std.specs.List.{sum_by};
-ghost use Rattle.osek_standard.specs.Counts.{stacks, task_height, event_height};
+ghost use Rattle.osek_standard.specs.Counts.{stacks, event_height};
 
 use crate::app::App;
 use crate::objects::{Counter, Isr, Task};
+use osek_values::limits::{MAX_COUNTERS, MAX_ISRS, MAX_RESOURCES, MAX_TASKS};
 
 fn blocks_of_tasks(tasks: &[Task]) -> u32
-    requires { length tasks.now ≤ 16 }
+    requires { length tasks.now ≤ MAX_TASKS }
     ensures { result ≡ sum_by (λ x. x.count) tasks.now }
 {
     tasks.iter().map(|task| task.count as u32).sum()
 }
 
 fn blocks_of_isrs(isrs: &[Isr]) -> u32
-    requires { length isrs.now ≤ 8 }
+    requires { length isrs.now ≤ MAX_ISRS }
     ensures { result ≡ sum_by (λ x. x.count) isrs.now }
 {
     isrs.iter().map(|isr| isr.count as u32).sum()
 }
 
 fn blocks_of_counters(counters: &[Counter]) -> u32
-    requires { length counters.now ≤ 8 }
+    requires { length counters.now ≤ MAX_COUNTERS }
     ensures { result ≡ sum_by (λ x. x.count) counters.now }
 {
     counters.iter().map(|counter| counter.count as u32).sum()
@@ -29,7 +30,7 @@ fn blocks_of_counters(counters: &[Counter]) -> u32
 
 // the stacks of distinct resources, out of so many
 fn stacks(resources: usize) -> u64
-    requires { resources ≤ 8 }
+    requires { resources ≤ MAX_RESOURCES }
     ensures value { result ≡ stacks resources }
     ensures few { result ≤ 109601 }
 {
@@ -41,7 +42,7 @@ fn stacks(resources: usize) -> u64
 }
 
 fn events_of_tasks(tasks: &[Task]) -> u32
-    requires { length tasks.now ≤ 16 }
+    requires { length tasks.now ≤ MAX_TASKS }
     ensures { result ≡ sum_by event_height tasks.now }
 {
     tasks.iter().map(|task| 2 * task.own.0.count_ones()).sum()

@@ -1,13 +1,18 @@
 //! Laws of the definitions, each on a function that does nothing.
-ghost use Rattle.std.specs.Prelude.{◌≡◌, ◌⊎◌, ℕ, ◌<◌, Bool, Some, None, true, false, length};
+ghost use Rattle.std.specs.Prelude.{◌≡◌, ◌≢◌, ◌⊎◌, ℕ, ◌<◌, Bool, Some, None, List, true, false, length};
 ghost use Rattle.std.specs.List.{position};
 ghost use Rattle.osek_values.specs.declared.event.Event.{Event};
+ghost use Rattle.osek_values.specs.declared.numbers.BlockNo.{BlockNo};
 ghost use Rattle.osek_values.specs.declared.numbers.ModeNo.{ModeNo};
 ghost use Rattle.osek_values.specs.declared.numbers.SourceNo.{SourceNo};
 ghost use Rattle.osek_values.specs.declared.numbers.TaskNo.{TaskNo};
 ghost use Rattle.osek_values.specs.Numbers.{task_no, source_no};
 ghost use Rattle.osek_standard.specs.declared.app.App.{App};
 ghost use Rattle.osek_standard.specs.declared.state.State.{State};
+ghost use Rattle.osek_standard.specs.declared.point.Point.{Point};
+ghost use Rattle.osek_standard.specs.declared.point.Point.TheVariants as point;
+ghost use Rattle.osek_standard.specs.Counts.{points};
+ghost use Rattle.osek_standard.specs.Points.{ArePoints, IsPoint, StandsAt, point_number};
 ghost use Rattle.osek_standard.specs.TaskStates.{is_live};
 ghost use Rattle.osek_standard.specs.States.{task_state, is_latched};
 ghost use Rattle.osek_standard.specs.Priority.{best, first_of_all, IsBest};
@@ -42,5 +47,21 @@ pub fn arrival_has_the_property()
     ensures none_taken { (app : App) (s : State) → takes_none app s ≡ true → arrival app s ≡ None }
     ensures none_latched { (app : App) (s : State) → ((k : ℕ) → is_latched s k ≡ false) → arrival app s ≡ None }
     // the lowest latched source is the first flag that is set
-    ensures first_flag { (s : State) → first_of_all comes_before (latched_sources s) ≡ position (λ b. b) s.latched }
+    ensures first_flag { (app : App) (s : State) → first_of_all (comes_before app s) (latched_sources s) ≡ position (λ b. b) s.latched }
+{}
+
+/// The numbers of points: no two points of an application have one, and they order the points as their words say: halted,
+/// idle, and then by block, a block's points over none first and then by the task below.
+pub fn numbers_order_the_points()
+    ensures one_each { (app : App) (p q : Point) → IsPoint app p → IsPoint app q → point_number p ≡ point_number q → p ≡ q }
+    ensures halted_first { (p : Point) → p ≢ point.Halted → point_number point.Halted < point_number p }
+    ensures idle_next { (p : Point) → p ≢ point.Halted → p ≢ point.Idle → point_number point.Idle < point_number p }
+    ensures by_block { (app : App) (p q : Point) (b c : BlockNo) → IsPoint app p → IsPoint app q → StandsAt p b → StandsAt q c → b.0 < c.0 → point_number p < point_number q }
+    ensures over_none_first { (b : BlockNo) (t : TaskNo) → point_number (point.Routine b None) < point_number (point.Routine b (Some t)) }
+    ensures by_task { (b : BlockNo) (t u : TaskNo) → t.0 < u.0 → point_number (point.Routine b (Some t)) < point_number (point.Routine b (Some u)) }
+{}
+
+/// The count of points is that of the points: there are so many, each once, and no other.
+pub fn points_are_counted()
+    ensures { (app : App) → (ps : List Point) × (ArePoints app ps × (length ps ≡ points app)) }
 {}

@@ -4,17 +4,20 @@
 
 mod app;
 mod block;
+mod call;
 mod counts;
 pub mod laws;
 mod objects;
 mod point;
 mod state;
 mod task_state;
-pub mod worked;
 
 pub use app::App;
-pub use block::{Block, Kind, Lock};
+pub use block::{Block, Kind};
+pub use call::{
+    AlarmService, ArmService, Call, Lock, MaskService, PlainService, ResourceService, TaskService,
+};
 pub use objects::{Action, Alarm, Counter, Isr, Resource, Schedule, Task};
 pub use point::Point;
-pub use state::{AlarmState, Caller, Processor, Source, State};
+pub use state::{AlarmState, Caller, Processor, RoutineStanding, Source, State};
 pub use task_state::{Activity, Place, Standing, TaskState};

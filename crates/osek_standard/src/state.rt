@@ -12,13 +12,19 @@ pub enum AlarmState {
     Armed { at: u32, cycle: u32 },
 }
 
+/// Where a routine that runs stands: at a block of its own.
+#[derive(Clone, Copy, PartialEq, Eq, Debug)]
+pub struct RoutineStanding {
+    pub at: Place,
+}
+
 /// A source's routine: a counter's tick routine or a category 2 ISR.
 #[derive(Clone, Copy, PartialEq, Eq, Debug)]
 pub enum Source {
     /// It isn't running.
     Out,
-    /// It runs, and stands at a block of its own.
-    In(Place),
+    /// It runs.
+    In(RoutineStanding),
 }
 
 /// Who has the processor.

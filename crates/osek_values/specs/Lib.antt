@@ -1,4 +1,7 @@
+pub mod Answers
 pub mod Hooks
+pub mod LeastFaults
+pub mod Lines
 pub mod Names
 pub mod Numbers
 pub mod Rules

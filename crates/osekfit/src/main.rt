@@ -3,13 +3,35 @@
 
 use commands::osekfit;
 use osek_io::{FileShelf, StdSink};
+use std::env::{Env, FillError};
 use std::process::ExitCode;
 use std::{env, io};
 
-/// The words of the command line.
+/// The words of the command line, with nothing in place of the first: that is the program's own name, which isn't looked
+/// at and so may be any bytes.
+#[derive(Drop)]
+struct NamelessWords<R>(R);
+
+impl<R: Env> Env for NamelessWords<R> {
+    fn arg(&self, i: usize, buf: &mut [u8]) -> Result<usize, FillError> {
+        match i {
+            0 => Ok(0),
+            _ => self.0.arg(i, buf),
+        }
+    }
+
+    fn var(&self, name: &str, buf: &mut [u8]) -> Result<usize, FillError> {
+        self.0.var(name, buf)
+    }
+
+    fn var_at(&self, i: usize, buf: &mut [u8]) -> Result<usize, FillError> {
+        self.0.var_at(i, buf)
+    }
+}
+
 fn words_given(rt: &HostRuntime) -> io::Result<Vec<String>> {
     let mut words = Vec::new(rt.alloc());
-    for word in env::args(rt)? {
+    for word in env::args(&(NamelessWords(rt), rt.alloc()))? {
         words.push(word)?;
     }
     Ok(words)

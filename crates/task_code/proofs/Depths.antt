@@ -4,15 +4,11 @@ use Rattle.std.proofs.lemmas.List.Elements.{All-nil, All-cons}
 use Rattle.std.proofs.str.Laws.{order}
 use Rattle.std.specs.Prelude.{⊤, All}
 use Rattle.osek_values.specs.declared.limits.TheConstants.{MAX_CODE_DEPTH}
-use Rattle.oil_lexer.specs.declared.token.Token.{Token}
-use Rattle.oil_lexer.specs.declared.token.Mark.TheVariants.{CloseParen, OpenBrace}
+use Rattle.oil_lexer.specs.declared.token.{Token.{Token}, Mark.TheVariants.{CloseParen, OpenBrace}}
 use Rattle.oil_grammar.specs.Depth.{deeper, depth_from}
 use Rattle.oil_grammar.specs.Tokens.{is_open, mark}
-use Rattle.task_code.specs.declared.call.Call.{Call}
-use Rattle.task_code.specs.declared.call.Reference.{Reference}
-use Rattle.task_code.specs.declared.tree.Body.{Body}
-use Rattle.task_code.specs.declared.tree.Code.{Code}
-use Rattle.task_code.specs.declared.tree.Condition.{Condition}
+use Rattle.task_code.specs.declared.call.{Call.{Call}, Reference.{Reference}}
+use Rattle.task_code.specs.declared.tree.{Body.{Body}, Code.{Code}, Condition.{Condition}}
 use Rattle.task_code.specs.declared.words.Service.{Service}
 use Rattle.task_code.specs.Statements.{Statements}
 use Rattle.task_code.specs.Fit.{depth, AreFit}

@@ -1,15 +1,11 @@
 -- The stack of expectations takes each phrase of the grammar.
 use Rattle.std.proofs.Common.{◌≡◌, List, [], ◌∷◌, ◌++◌, refl, ap, ◌∙◌}
 use Rattle.std.specs.Prelude.{Option, Some, option_and_then}
-use Rattle.oil_lexer.specs.declared.token.Mark.TheVariants.{OpenBrace, OpenParen, CloseParen, Semicolon, Question}
-use Rattle.oil_lexer.specs.declared.token.Token.{Token}
+use Rattle.oil_lexer.specs.declared.token.{Mark.TheVariants.{OpenBrace, OpenParen, CloseParen, Semicolon, Question}, Token.{Token}}
 use Rattle.oil_grammar.specs.Tokens.{name, number, mark}
-use Rattle.task_code.specs.declared.call.Reference.{Reference}
-use Rattle.task_code.specs.declared.call.Call.{Call}
-use Rattle.task_code.specs.declared.tree.Body.{Body}
-use Rattle.task_code.specs.declared.tree.Condition.{Condition}
-use Rattle.task_code.specs.declared.words.Service.{Service}
-use Rattle.task_code.specs.declared.words.StatementWord.{StatementWord}
+use Rattle.task_code.specs.declared.call.{Reference.{Reference}, Call.{Call}}
+use Rattle.task_code.specs.declared.tree.{Body.{Body}, Condition.{Condition}}
+use Rattle.task_code.specs.declared.words.{Service.{Service}, StatementWord.{StatementWord}}
 use Rattle.task_code.specs.Statements.{Statements}
 use Rattle.task_code.specs.Words.{statement_word}
 use Rattle.task_code.specs.Grammar.{IsMask, last_event, more_events, IsCall, plain, object, mask, set_event, alarm, shutdown, IsCondition, choice, always, IsStatements, no_more, a_work, an_if, an_if_else, a_while, AreBodies, no_body, a_body}

@@ -4,18 +4,9 @@ use Rattle.std.specs.Prelude.{All, ◌&&◌, nat_le, IsTrue}
 use Rattle.std.proofs.lemmas.Bool.Decides.{nat_tests}
 use Rattle.std.proofs.lemmas.List.Elements.{All-nil, All-cons, All-head, All-tail}
 use Rattle.oil_lexer.specs.declared.token.Token.{Token}
-use Rattle.task_code.specs.declared.call.Reference.{Reference}
-use Rattle.task_code.specs.declared.call.Call.{Call}
+use Rattle.task_code.specs.declared.call.{Reference.{Reference}, Call.{Call}}
 use Rattle.task_code.specs.declared.tree.Body.{Body}
-use Rattle.task_code.specs.declared.words.Service.{Service}
-use Rattle.task_code.specs.declared.words.PlainService.{PlainService}
-use Rattle.task_code.specs.declared.words.PlainService.TheVariants.{TerminateTask, Schedule, GetTaskId, GetActiveApplicationMode, Lock}
-use Rattle.task_code.specs.declared.words.ObjectService.{ObjectService}
-use Rattle.task_code.specs.declared.words.ObjectService.TheVariants.{ActivateTask, ChainTask, GetResource, ReleaseResource, GetEvent, CancelAlarm, GetAlarm, GetTaskState}
-use Rattle.task_code.specs.declared.words.MaskService.{MaskService}
-use Rattle.task_code.specs.declared.words.MaskService.TheVariants.{ClearEvent, WaitEvent}
-use Rattle.task_code.specs.declared.words.AlarmService.{AlarmService}
-use Rattle.task_code.specs.declared.words.AlarmService.TheVariants.{SetRelAlarm, SetAbsAlarm}
+use Rattle.task_code.specs.declared.words.{Service.{Service}, PlainService.{PlainService}, PlainService.TheVariants.{TerminateTask, Schedule, GetTaskId, GetActiveApplicationMode, Lock}, ObjectService.{ObjectService}, ObjectService.TheVariants.{ActivateTask, ChainTask, GetResource, ReleaseResource, GetEvent, CancelAlarm, GetAlarm, GetTaskState}, MaskService.{MaskService}, MaskService.TheVariants.{ClearEvent, WaitEvent}, AlarmService.{AlarmService}, AlarmService.TheVariants.{SetRelAlarm, SetAbsAlarm}}
 use Rattle.task_code.specs.Services.{plain_call, object_call, mask_call, alarm_call}
 use Rattle.task_code.specs.Statements.{Statements, closed, work_then, if_then, if_else_then, while_then, call_then}
 use Rattle.task_code.specs.Fit.{HasCounts, NamesEvents, HasMasks, depth, IsFit}

@@ -1,9 +1,6 @@
 -- Phrases from the tokens that were read.
 use Rattle.std.proofs.Common.{◌≡◌, ℕ, sym, ap, ◌∙◌, subst}
-use Rattle.oil_lexer.specs.declared.token.TokenKind.TheVariants.{Number, Mark}
-use Rattle.oil_lexer.specs.declared.token.Mark.{Mark as AMark}
-use Rattle.oil_lexer.specs.declared.token.Mark.TheVariants.{Question}
-use Rattle.oil_lexer.specs.declared.token.Token.{Token}
+use Rattle.oil_lexer.specs.declared.token.{TokenKind.TheVariants.{Number, Mark}, Mark.{Mark as AMark}, Mark.TheVariants.{Question}, Token.{Token}}
 use Rattle.task_code.specs.declared.tree.Condition.TheVariants.{Choice, Always}
 use Rattle.task_code.specs.Grammar.{IsCondition, choice, always}
 

@@ -1,26 +1,16 @@
 -- A list of tokens has at most one code or first fault.
 use Rattle.std.proofs.Common.{◌≡◌, ℕ, true, false, List, [], ◌∷◌, refl, sym, ap, ◌∙◌, subst}
 use Rattle.std.specs.Prelude.{Some, Result, Ok, Err}
-use Rattle.osek_values.specs.declared.refusal.Rule.{Rule}
-use Rattle.osek_values.specs.declared.refusal.Rule.TheVariants.{Lex, Syntax, Oil, Code as of_code}
-use Rattle.osek_values.specs.declared.refusal.SyntaxRule.{SyntaxRule}
-use Rattle.osek_values.specs.declared.refusal.CodeRule.TheVariants.{C1, C2, C3, C4, C6, C7, C8, C9}
+use Rattle.osek_values.specs.declared.refusal.{Rule.{Rule}, Rule.TheVariants.{Lex, Syntax, Oil, Code as of_code}, SyntaxRule.{SyntaxRule}, CodeRule.TheVariants.{C1, C2, C3, C4, C6, C7, C8, C9}}
 use Rattle.osek_values.specs.declared.limits.TheConstants.{MAX_CODE_DEPTH}
-use Rattle.oil_lexer.specs.declared.token.Mark.TheVariants.{Semicolon}
-use Rattle.oil_lexer.specs.declared.token.Token.{Token}
+use Rattle.oil_lexer.specs.declared.token.{Mark.TheVariants.{Semicolon}, Token.{Token}}
 use Rattle.oil_grammar.specs.Tokens.{name, mark}
 use Rattle.oil_grammar.proofs.OneFault.{same_fault, no_fault}
-use Rattle.task_code.specs.declared.call.Reference.{Reference}
-use Rattle.task_code.specs.declared.call.Call.{Call}
+use Rattle.task_code.specs.declared.call.{Reference.{Reference}, Call.{Call}}
 use Rattle.task_code.specs.declared.call.Call.TheVariants as call
-use Rattle.task_code.specs.declared.tree.Body.{Body}
-use Rattle.task_code.specs.declared.tree.Code.{Code}
-use Rattle.task_code.specs.declared.tree.Condition.{Condition}
-use Rattle.task_code.specs.declared.error.CodeFault.{CodeFault}
-use Rattle.task_code.specs.declared.error.CodeError.{CodeError}
-use Rattle.task_code.specs.declared.error.CodeError.TheVariants.{Memory, Fault}
-use Rattle.task_code.specs.declared.words.Service.{Service}
-use Rattle.task_code.specs.declared.words.StatementWord.{StatementWord}
+use Rattle.task_code.specs.declared.tree.{Body.{Body}, Code.{Code}, Condition.{Condition}}
+use Rattle.osek_values.specs.declared.refused.LineFault.{LineFault}
+use Rattle.task_code.specs.declared.words.{Service.{Service}, StatementWord.{StatementWord}}
 use Rattle.task_code.specs.declared.words.StatementWord.TheVariants as word
 use Rattle.task_code.specs.Statements.{Statements, work_then, if_then, if_else_then, while_then, call_then}
 use Rattle.task_code.specs.Words.{is_else, statement_word}
@@ -28,7 +18,7 @@ use Rattle.task_code.specs.Grammar.{reference, IsMask, last_event, more_events, 
 use Rattle.task_code.specs.Services.{mask_call}
 use Rattle.task_code.specs.Grammar as grammar
 use Rattle.task_code.specs.Faults.{IsSyntaxFault, HasCode, HasWrongWork, IsFirstFault, wrong_works_in}
-use Rattle.task_code.specs.Answers.{IsAnswer, IsRight, Answers}
+use Rattle.task_code.specs.Answers.{IsAnswer}
 use Rattle.task_code.proofs.Elses.{else_is_no_statement}
 
 same_mask : {m m' : List Reference} {a b c : List Token} → IsMask m a b → IsMask m' a c → (m ≡ m') × (b ≡ c)
@@ -207,20 +197,10 @@ same_first tokens (of_code C8) rule' line line' f g = absurd f
 same_first tokens (Lex rule) rule' line line' f g = absurd f
 same_first tokens (Oil rule) rule' line line' f g = absurd f
 
-pub one_answer : (tokens : List Token) (a b : Result Code CodeFault) → IsAnswer a tokens → IsAnswer b tokens → a ≡ b
+pub one_answer : (tokens : List Token) (a b : Result Code (LineFault Rule)) → IsAnswer a tokens → IsAnswer b tokens → a ≡ b
 one_answer tokens (Ok x) (Ok y) a b = ap Ok (same_code tokens x y a.tree.sentence b.tree.sentence)
 one_answer tokens (Ok x) (Err f) a b = absurd (code_or_fault tokens x f.rule f.line a b)
 one_answer tokens (Err f) (Ok y) a b = absurd (code_or_fault tokens y f.rule f.line b a)
 one_answer tokens (Err f) (Err g) a b =
     let s = same_first tokens f.rule g.rule f.line g.line a b in
     (λ i. Err (record { line = s.1 i; rule = s.0 i }))
-
-pub answers_code : (result : Result Code CodeError) (tokens : List Token) (code : Code) → IsRight result tokens → HasCode tokens code → Answers result (Ok code)
-answers_code (Ok x) tokens code r h = one_answer tokens (Ok code) (Ok x) h r
-answers_code (Err Memory) tokens code r h = tt
-answers_code (Err (Fault f)) tokens code r h = one_answer tokens (Ok code) (Err f) h r
-
-pub answers_fault : (result : Result Code CodeError) (tokens : List Token) (fault : CodeFault) → IsRight result tokens → IsFirstFault tokens fault.rule fault.line → Answers result (Err fault)
-answers_fault (Ok x) tokens fault r f = one_answer tokens (Err fault) (Ok x) f r
-answers_fault (Err Memory) tokens fault r f = tt
-answers_fault (Err (Fault g)) tokens fault r f = one_answer tokens (Err fault) (Err g) f r

@@ -1,25 +1,20 @@
 -- What the scan does at a phrase that was read.
 use Rattle.std.proofs.Common.{◌≡◌, ℕ, ◌+◌, ◌<◌, ◌≤◌, true, List, [], ◌∷◌, ◌++◌, length, refl, ap, arith}
-use Rattle.std.specs.Prelude.{Option, Some}
+use Rattle.std.specs.Prelude.{Option}
 use Rattle.osek_values.specs.declared.limits.TheConstants.{MAX_CODE_DEPTH}
-use Rattle.oil_lexer.specs.declared.token.Mark.TheVariants.{OpenBrace, CloseParen}
-use Rattle.oil_lexer.specs.declared.token.Token.{Token}
-use Rattle.oil_grammar.specs.declared.fault.Stop.{Stop}
-use Rattle.oil_grammar.specs.declared.fault.Stop.TheVariants.{TooDeep}
+use Rattle.oil_lexer.specs.declared.token.{Mark.TheVariants.{OpenBrace, CloseParen}, Token.{Token}}
+use Rattle.oil_grammar.specs.declared.fault.{Stop.{Stop}, Stop.TheVariants.{TooDeep}}
 use Rattle.oil_grammar.specs.Tokens.{name, mark}
 use Rattle.oil_grammar.specs.Scan as scans
 use Rattle.oil_grammar.proofs.Braces.{shallow, deep}
-use Rattle.task_code.specs.declared.call.Reference.{Reference}
-use Rattle.task_code.specs.declared.call.Call.{Call}
-use Rattle.task_code.specs.declared.tree.BodyKind.{BodyKind}
-use Rattle.task_code.specs.declared.tree.Condition.{Condition}
-use Rattle.task_code.specs.declared.words.Service.{Service}
-use Rattle.task_code.specs.declared.words.StatementWord.{StatementWord}
+use Rattle.task_code.specs.declared.call.{Reference.{Reference}, Call.{Call}}
+use Rattle.task_code.specs.declared.tree.{BodyKind.{BodyKind}, Condition.{Condition}}
+use Rattle.task_code.specs.declared.words.{Service.{Service}, StatementWord.{StatementWord}}
 use Rattle.task_code.specs.Statements.{Statements}
-use Rattle.task_code.specs.Words.{body_kind, is_else, statement_word}
+use Rattle.task_code.specs.Words.{is_else, statement_word}
 use Rattle.task_code.specs.Grammar.{IsMask, last_event, more_events, IsCall, plain, object, mask, set_event, alarm, shutdown, IsCondition, choice, always, IsStatements, no_more, a_work, an_if, an_if_else, a_while}
 use Rattle.task_code.specs.Grammar as grammar
-use Rattle.task_code.specs.Expect.{Phrase, some_statements, after_if, mask_rest, a_name, a_condition, open_brace, close_paren, Stack, operands, statement_step, else_step, status_step, body_phrases, onto, step_all, scan}
+use Rattle.task_code.specs.Expect.{Phrase, some_statements, after_if, mask_rest, a_name, a_condition, open_brace, close_paren, Stack, operands, statement_step, else_step, status_step, onto, step_all, scan}
 
 -- how the scan goes on behind a token that opens no brace too deep
 abbrev at_token : ℕ → Token → List Token → Option Stack → Option Stop
@@ -49,16 +44,9 @@ takes_word d line w o ts stack e = ap (λ x. at_token d (name w line) ts (onto s
 pub takes_else : (d line : ℕ) (w : List ℕ) (ts : List Token) (stack : Stack) → is_else w ≡ true → scan d (after_if ∷ stack) (name w line ∷ ts) ≡ scan d (open_brace ∷ (some_statements ∷ (some_statements ∷ stack))) ts
 takes_else d line w ts stack e = ap (λ b. at_token d (name w line) ts (onto stack (else_step b (statement_word w)))) e
 
--- at the first word of a body
-pub takes_body_word : (line : ℕ) (w : List ℕ) (o : Option BodyKind) (ts : List Token) → body_kind w ≡ o → scan 0 [] (name w line ∷ ts) ≡ at_token 0 (name w line) ts (body_phrases o)
-takes_body_word line w o ts e = ap (λ x. at_token 0 (name w line) ts (body_phrases x)) e
-
 -- a brace within the limit, and one too deep
 pub takes_open : (d l : ℕ) (stack : Stack) (ts : List Token) → d < 32 → scan d (open_brace ∷ stack) (mark OpenBrace l ∷ ts) ≡ scan (d + 1) stack ts
 takes_open d l stack ts h = shallow 32 d _ _ h
-
-pub stops_open : (d l : ℕ) (stack : Stack) (ts : List Token) → 32 ≤ d → scan d (open_brace ∷ stack) (mark OpenBrace l ∷ ts) ≡ Some (TooDeep l)
-stops_open d l stack ts h = deep 32 d _ _ h
 
 -- each phrase takes tokens
 shorter_mask : {m : List Reference} {ts rest : List Token} → IsMask m ts rest → length rest < length ts

@@ -1,21 +1,13 @@
 -- Statements that were read.
 use Rattle.std.proofs.Common.{◌≡◌, ℕ, ◌+◌, ◌-◌, ◌<◌, ◌≤◌, true, false, List, [], ◌∷◌, ◌++◌, length, refl, sym, ap, ◌∙◌, subst, arith}
 use Rattle.std.specs.Prelude.{Some, None, max}
-use Rattle.oil_lexer.specs.declared.token.TokenKind.{TokenKind}
-use Rattle.oil_lexer.specs.declared.token.TokenKind.TheVariants.{Name, Number, Text, Mark}
-use Rattle.oil_lexer.specs.declared.token.Mark.{Mark as AMark}
-use Rattle.oil_lexer.specs.declared.token.Mark.TheVariants.{OpenBrace, CloseBrace, OpenParen, CloseParen, Semicolon, Question}
-use Rattle.oil_lexer.specs.declared.token.Token.{Token}
-use Rattle.oil_grammar.specs.declared.fault.Stop.{Stop}
-use Rattle.oil_grammar.specs.declared.fault.Stop.TheVariants.{NotAllowed, TooDeep}
+use Rattle.oil_lexer.specs.declared.token.{TokenKind.{TokenKind}, TokenKind.TheVariants.{Name, Number, Text, Mark}, Mark.{Mark as AMark}, Mark.TheVariants.{OpenBrace, CloseBrace, OpenParen, CloseParen, Semicolon, Question}, Token.{Token}}
+use Rattle.oil_grammar.specs.declared.fault.{Stop.{Stop}, Stop.TheVariants.{NotAllowed}}
 use Rattle.oil_grammar.specs.Tokens.{name, number, mark, is_open}
 use Rattle.oil_grammar.proofs.Braces.{open_kind, front_is}
 use Rattle.task_code.specs.declared.call.Call.{Call as ACall}
-use Rattle.task_code.specs.declared.tree.Condition.{Condition}
-use Rattle.task_code.specs.declared.tree.Statement.{Statement}
-use Rattle.task_code.specs.declared.tree.Statement.TheVariants.{Work, If, While, Call}
-use Rattle.task_code.specs.declared.words.Service.{Service}
-use Rattle.task_code.specs.declared.words.StatementWord.{StatementWord}
+use Rattle.task_code.specs.declared.tree.{Condition.{Condition}, Statement.{Statement}, Statement.TheVariants.{Work, If, While, Call}}
+use Rattle.task_code.specs.declared.words.{Service.{Service}, StatementWord.{StatementWord}}
 use Rattle.task_code.specs.declared.words.StatementWord.TheVariants as word
 use Rattle.task_code.specs.Statements.{Statements, closed, work_then, if_then, if_else_then, while_then, call_then}
 use Rattle.task_code.specs.StatementLists.{statement_before, list_before, list_of}
@@ -25,7 +17,7 @@ use Rattle.task_code.specs.Grammar.{IsCall, IsCondition, IsStatements, no_more, 
 use Rattle.task_code.specs.Grammar as grammar
 use Rattle.task_code.specs.Expect.{some_statements, after_if, a_semicolon, close_paren, open_brace, Stack, statement_phrases, scan}
 use Rattle.task_code.specs.Phrases.{StopsIn, block_phrases, IsWithin, ReadsRest, ReadsStatement, ReadsStatements, ReadsBlock}
-use Rattle.task_code.proofs.Scanned.{takes_call, takes_condition, takes_word, takes_else, takes_open, stops_open, shorter_call, shorter_statements}
+use Rattle.task_code.proofs.Scanned.{takes_call, takes_condition, takes_word, takes_else, takes_open, shorter_call, shorter_statements}
 
 -- the limit of depth behind each kind of statement
 
@@ -143,9 +135,6 @@ pub list_within : (d : ℕ) (items more : List Statement) (s : Statement) → ((
 list_within d items more s all one same next h =
     subst (λ (x : Statements). depth x + d ≤ 32) (sym (ap (λ (x : List Statement). list_before x next) same ∙ list_before-push items s next)) (all (statement_before s next) (one next h))
 
-pub list_shorter : (d : ℕ) (w : List ℕ) (t : Token) (s : Statement) (rest after behind : List Token) → rest ≡ t ∷ after → ReadsStatement d (name w t.line ∷ after) s behind → length behind < length rest
-list_shorter d w t s rest after behind e read = let lengths = ap length e in let h = read.shorter in omega (arith, lengths, h)
-
 -- the end of a list
 pub reads_close : (d : ℕ) (m : AMark) (t : Token) (items : List Statement) (s : Statements) (tokens rest after : List Token) → d ≤ 32 → ListJoins items tokens rest → ((stack : Stack) → scan d (some_statements ∷ stack) tokens ≡ scan d (some_statements ∷ stack) rest) → ((next : Statements) → depth next + d ≤ 32 → depth (list_before items next) + d ≤ 32) → rest ≡ t ∷ after → t.kind ≡ Mark m → m ≡ CloseBrace → s ≡ list_of items t.line → ReadsStatements d tokens s after
 reads_close d m t items s tokens rest after limit joins takes within e k is same =
@@ -173,10 +162,6 @@ reads_block d t s tokens ts rest e o h r =
 pub stops_in_block : (d : ℕ) (t : Token) (tokens ts : List Token) (stop : Stop) → tokens ≡ t ∷ ts → is_open t.kind ≡ true → d < 32 → StopsIn (some_statements ∷ []) (d + 1) ts stop → StopsIn block_phrases d tokens stop
 stops_in_block d t tokens ts stop e o h r stack =
     ap (scan d (block_phrases ++ stack)) (front_is t (Mark OpenBrace) tokens ts e (open_kind t.kind o)) ∙ takes_open d t.line (some_statements ∷ stack) ts h ∙ r stack
-
-pub stops_too_deep : (d : ℕ) (t : Token) (tokens ts : List Token) → tokens ≡ t ∷ ts → is_open t.kind ≡ true → 32 ≤ d → StopsIn block_phrases d tokens (TooDeep t.line)
-stops_too_deep d t tokens ts e o h stack =
-    ap (scan d (block_phrases ++ stack)) (front_is t (Mark OpenBrace) tokens ts e (open_kind t.kind o)) ∙ stops_open d t.line (some_statements ∷ stack) ts h
 
 not_open_kind : (kind : TokenKind) (d line : ℕ) (ts : List Token) (stack : Stack) → is_open kind ≡ false → scan d (open_brace ∷ stack) (record { kind = kind; line = line } ∷ ts) ≡ Some (NotAllowed line)
 not_open_kind (Name n) d line ts stack e = refl

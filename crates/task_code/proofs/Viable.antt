@@ -4,34 +4,24 @@ use Rattle.std.proofs.Common.{◌≡◌, ⊎_elim, ℕ, Bool, true, false, cond,
 use Rattle.std.specs.Prelude.{Result, Ok, Err, Option, Some, None, option_and_then, codes, ◌==◌}
 use Rattle.osek_values.specs.declared.status.Status.{Status}
 use Rattle.osek_values.specs.declared.limits.TheConstants.{MAX_CODE_DEPTH}
-use Rattle.oil_lexer.specs.declared.token.TokenKind.{TokenKind}
-use Rattle.oil_lexer.specs.declared.token.TokenKind.TheVariants.{Name, Number, Text, Mark}
-use Rattle.oil_lexer.specs.declared.token.Mark.TheVariants.{OpenBrace, CloseBrace, OpenParen, CloseParen, Comma, Semicolon, Question, Bar}
-use Rattle.oil_lexer.specs.declared.token.Token.{Token}
+use Rattle.oil_lexer.specs.declared.token.{TokenKind.{TokenKind}, TokenKind.TheVariants.{Name, Number, Text, Mark}, Mark.TheVariants.{OpenBrace, CloseBrace, OpenParen, CloseParen, Comma, Semicolon, Question, Bar}, Token.{Token}}
 use Rattle.oil_grammar.specs.declared.fault.Stop.{Stop}
 use Rattle.oil_grammar.specs.Tokens.{name, number, mark}
 use Rattle.oil_grammar.specs.Scan.{fault_of}
 use Rattle.oil_grammar.proofs.FirstFault as first
-use Rattle.task_code.specs.declared.call.Reference.{Reference}
-use Rattle.task_code.specs.declared.call.Call.{Call}
+use Rattle.task_code.specs.declared.call.{Reference.{Reference}, Call.{Call}}
 use Rattle.task_code.specs.declared.call.Call.TheVariants as call
 use Rattle.task_code.specs.Services.{plain_call, object_call, mask_call, alarm_call}
-use Rattle.task_code.specs.declared.tree.Body.{Body}
-use Rattle.task_code.specs.declared.tree.BodyKind.{BodyKind}
-use Rattle.task_code.specs.declared.tree.Code.{Code}
-use Rattle.task_code.specs.declared.tree.Condition.{Condition}
-use Rattle.task_code.specs.declared.tree.Condition.TheVariants.{Choice, Always}
-use Rattle.task_code.specs.declared.words.Service.{Service}
+use Rattle.task_code.specs.declared.tree.{Body.{Body}, BodyKind.{BodyKind}, Code.{Code}, Condition.{Condition}, Condition.TheVariants.{Choice, Always}}
+use Rattle.task_code.specs.declared.words.{Service.{Service}, StatementWord.{StatementWord}}
 use Rattle.task_code.specs.declared.words.Service.TheVariants as service
-use Rattle.task_code.specs.declared.words.StatementWord.{StatementWord}
 use Rattle.task_code.specs.declared.words.StatementWord.TheVariants as word
 use Rattle.task_code.specs.Statements.{Statements, closed, work_then, if_then, if_else_then, while_then, call_then}
 use Rattle.task_code.specs.Words.{body_kind, is_else, status_of, statement_word}
 use Rattle.task_code.specs.Grammar.{reference, IsMask, last_event, more_events, IsCall, plain, object, mask, set_event, alarm, shutdown, IsCondition, choice, always, IsStatements, no_more, a_work, an_if, an_if_else, a_while, AreBodies, no_body, a_body, IsSentence}
 use Rattle.task_code.specs.Grammar as grammar
-use Rattle.osek_values.specs.declared.refusal.Rule.TheVariants.{Syntax, Code as of_code}
-use Rattle.osek_values.specs.declared.refusal.CodeRule.TheVariants.{C9}
-use Rattle.task_code.specs.declared.error.CodeFault.{CodeFault}
+use Rattle.osek_values.specs.declared.refusal.{Rule.TheVariants.{Syntax, Code as of_code}, CodeRule.TheVariants.{C9}, Rule.{Rule}}
+use Rattle.osek_values.specs.declared.refused.LineFault.{LineFault}
 use Rattle.task_code.specs.Answers.{IsAnswer}
 use Rattle.task_code.specs.Faults.{HasTree, IsSyntaxFault, wrong_works_in}
 use Rattle.task_code.specs.Expect.{Phrase, some_statements, after_if, mask_rest, a_name, a_number, a_status, a_condition, open_paren, close_paren, open_brace, a_comma, a_semicolon, a_question, Stack, operands, statement_step, else_step, status_step, step, body_phrases, body_step, step_all, run, scan}
@@ -259,11 +249,11 @@ pub has_tree : (tokens : List Token) (code : Code) → IsSentence tokens code �
 has_tree tokens code is e = record { sentence = is; clear = subst (first.Answers Code IsSentence MAX_CODE_DEPTH Phrase step_all [] complete right completion tokens) e (first.first_fault Code IsSentence MAX_CODE_DEPTH Phrase step_all [] complete right completion tokens) }
 
 -- a tree without a wrong `work` is code, another has a first one
-by_works : (tokens : List Token) (code : Code) (lines : List ℕ) → HasTree tokens code → wrong_works_in code.bodies ≡ lines → (answer : Result Code CodeFault) × IsAnswer answer tokens
+by_works : (tokens : List Token) (code : Code) (lines : List ℕ) → HasTree tokens code → wrong_works_in code.bodies ≡ lines → (answer : Result Code (LineFault Rule)) × IsAnswer answer tokens
 by_works tokens code [] has e = (Ok code, record { tree = has; works = e })
 by_works tokens code (line ∷ others) has e = (Err (record { line = line; rule = of_code C9 }), record { code = code; tree = has; others = others; works = e })
 
-pub some_answer : (tokens : List Token) → (answer : Result Code CodeFault) × IsAnswer answer tokens
+pub some_answer : (tokens : List Token) → (answer : Result Code (LineFault Rule)) × IsAnswer answer tokens
 some_answer tokens =
     ⊎_elim
     (λ x. by_works tokens x.0 (wrong_works_in x.0.bodies) x.1 refl)

@@ -1,9 +1,8 @@
 -- What holds of each task code text that has no fault (this project's profile), beside its grammar.
 use Rattle.std.specs.Prelude.{ℕ, ◌+◌, ◌≤◌, ◌<◌, max, length, All, IsTrue, ⊤}
-use Rattle.task_code.specs.declared.call.Call.{Call}
-use Rattle.task_code.specs.declared.call.Call.TheVariants.{SetEvent, ClearEvent, WaitEvent}
-use Rattle.task_code.specs.declared.tree.Body.{Body}
-use Rattle.task_code.specs.declared.tree.Code.{Code}
+use Rattle.osek_values.specs.declared.limits.TheConstants.{MAX_CODE_DEPTH}
+use Rattle.task_code.specs.declared.call.{Call.{Call}, Call.TheVariants.{SetEvent, ClearEvent, WaitEvent}}
+use Rattle.task_code.specs.declared.tree.{Body.{Body}, Code.{Code}}
 use Rattle.task_code.specs.Faults.{is_count}
 use Rattle.task_code.specs.Statements.{Statements, closed, work_then, if_then, if_else_then, while_then, call_then}
 
@@ -45,7 +44,7 @@ depth (call_then line call next) = depth next
 pub record IsFit (body : Body) : Type 0 where
   pub counts : HasCounts body.statements
   pub masks : HasMasks body.statements
-  pub depth : depth body.statements < 32
+  pub depth : depth body.statements < MAX_CODE_DEPTH
 
 abbrev pub AreFit : Code → Type 0
 AreFit code = All IsFit code.bodies

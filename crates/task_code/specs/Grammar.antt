@@ -3,24 +3,12 @@
 -- and what stands between a call's parentheses the closing one.
 use Rattle.std.specs.Prelude.{◌≡◌, ℕ, true, List, [], ◌∷◌, Some}
 use Rattle.osek_values.specs.declared.status.Status.{Status}
-use Rattle.oil_lexer.specs.declared.token.Mark.TheVariants.{OpenBrace, CloseBrace, OpenParen, CloseParen, Comma, Semicolon, Question, Bar}
-use Rattle.oil_lexer.specs.declared.token.Token.{Token}
+use Rattle.oil_lexer.specs.declared.token.{Mark.TheVariants.{OpenBrace, CloseBrace, OpenParen, CloseParen, Comma, Semicolon, Question, Bar}, Token.{Token}}
 use Rattle.oil_grammar.specs.Tokens.{name, number, mark}
-use Rattle.task_code.specs.declared.call.Reference.{Reference}
-use Rattle.task_code.specs.declared.call.Call.{Call}
+use Rattle.task_code.specs.declared.call.{Reference.{Reference}, Call.{Call}}
 use Rattle.task_code.specs.declared.call.Call.TheVariants as call
-use Rattle.task_code.specs.declared.tree.BodyKind.{BodyKind}
-use Rattle.task_code.specs.declared.tree.Body.{Body}
-use Rattle.task_code.specs.declared.tree.Code.{Code}
-use Rattle.task_code.specs.declared.tree.Condition.{Condition}
-use Rattle.task_code.specs.declared.tree.Condition.TheVariants.{Choice, Always}
-use Rattle.task_code.specs.declared.words.PlainService.{PlainService}
-use Rattle.task_code.specs.declared.words.ObjectService.{ObjectService}
-use Rattle.task_code.specs.declared.words.MaskService.{MaskService}
-use Rattle.task_code.specs.declared.words.AlarmService.{AlarmService}
-use Rattle.task_code.specs.declared.words.Service.{Service}
-use Rattle.task_code.specs.declared.words.Service.TheVariants.{Plain, Object, Mask, SetEvent, Alarm, ShutdownOs}
-use Rattle.task_code.specs.declared.words.StatementWord.TheVariants.{Work, If, While, Service as a_service}
+use Rattle.task_code.specs.declared.tree.{BodyKind.{BodyKind}, Body.{Body}, Code.{Code}, Condition.{Condition}, Condition.TheVariants.{Choice, Always}}
+use Rattle.task_code.specs.declared.words.{PlainService.{PlainService}, ObjectService.{ObjectService}, MaskService.{MaskService}, AlarmService.{AlarmService}, Service.{Service}, Service.TheVariants.{Plain, Object, Mask, SetEvent, Alarm, ShutdownOs}, StatementWord.TheVariants.{Work, If, While, Service as a_service}}
 use Rattle.task_code.specs.Statements.{Statements, closed, work_then, if_then, if_else_then, while_then, call_then}
 use Rattle.task_code.specs.Words.{body_kind, is_else, status_of, statement_word}
 use Rattle.task_code.specs.Services.{plain_call, object_call, mask_call, alarm_call}

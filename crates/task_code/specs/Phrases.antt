@@ -1,12 +1,10 @@
 -- What reading a phrase did.
 use Rattle.std.specs.Prelude.{◌≡◌, ℕ, ◌+◌, ◌-◌, ◌≤◌, ◌<◌, List, [], ◌∷◌, ◌++◌, length, All, Some, None}
-use Rattle.oil_lexer.specs.declared.token.Token.{Token}
-use Rattle.oil_lexer.specs.declared.token.Mark.TheVariants.{OpenBrace}
+use Rattle.osek_values.specs.declared.limits.TheConstants.{MAX_CODE_DEPTH}
+use Rattle.oil_lexer.specs.declared.token.{Token.{Token}, Mark.TheVariants.{OpenBrace}}
 use Rattle.oil_grammar.specs.declared.fault.Stop.{Stop}
 use Rattle.oil_grammar.specs.Tokens.{name, mark}
-use Rattle.task_code.specs.declared.tree.Statement.{Statement}
-use Rattle.task_code.specs.declared.tree.Body.{Body}
-use Rattle.task_code.specs.declared.tree.BodyKind.{BodyKind}
+use Rattle.task_code.specs.declared.tree.{Statement.{Statement}, Body.{Body}, BodyKind.{BodyKind}}
 use Rattle.task_code.specs.declared.call.Reference.{Reference}
 use Rattle.task_code.specs.declared.words.StatementWord.{StatementWord}
 use Rattle.task_code.specs.Statements.{Statements}
@@ -26,7 +24,7 @@ StopsIn phrases d tokens stop = (stack : Stack) → scan d (phrases ++ stack) to
 
 -- braces nest within the limit in each list that begins with the statement, if they do behind it
 abbrev pub IsWithin : ℕ → Statement → Type 0
-IsWithin d s = (next : Statements) → depth next + d ≤ 32 → depth (statement_before s next) + d ≤ 32
+IsWithin d s = (next : Statements) → depth next + d ≤ MAX_CODE_DEPTH → depth (statement_before s next) + d ≤ MAX_CODE_DEPTH
 
 -- what stands behind a statement's first word was read, with so many braces open
 pub record ReadsRest (word : StatementWord) (d line : ℕ) (tokens : List Token) (s : Statement) (rest : List Token) : Type 0 where
@@ -46,7 +44,7 @@ pub record ReadsStatement (d : ℕ) (tokens : List Token) (s : Statement) (rest 
 pub record ReadsStatements (d : ℕ) (tokens : List Token) (s : Statements) (rest : List Token) : Type 0 where
   pub are_statements : IsStatements s tokens rest
   pub takes : (stack : Stack) → scan d (some_statements ∷ stack) tokens ≡ scan (d - 1) stack rest
-  pub within : depth s + d ≤ 32
+  pub within : depth s + d ≤ MAX_CODE_DEPTH
 
 abbrev pub block_phrases : Stack
 block_phrases = open_brace ∷ (some_statements ∷ [])
@@ -58,24 +56,24 @@ pub record ReadsBlock (d : ℕ) (tokens : List Token) (s : Statements) (rest : L
   pub opens : tokens ≡ mark OpenBrace line ∷ inside
   pub are_statements : IsStatements s inside rest
   pub takes : TakesAll block_phrases d tokens rest
-  pub within : depth s + d + 1 ≤ 32
+  pub within : depth s + d + 1 ≤ MAX_CODE_DEPTH
 
 -- what stands behind the first word of a body was read
 pub record ReadsOwned (tokens : List Token) (owner : Reference) (s : Statements) (rest : List Token) : Type 0 where
   pub joins : (w : List ℕ) (kind : BodyKind) (line : ℕ) (more : List Body) → body_kind w ≡ Some kind → AreBodies more rest → AreBodies (record { kind = kind; line = line; owner = owner; statements = s } ∷ more) (name w line ∷ tokens)
   pub takes : scan 0 body_stack tokens ≡ scan 0 [] rest
   pub shorter : length rest < length tokens
-  pub within : depth s < 32
+  pub within : depth s < MAX_CODE_DEPTH
 
 -- a body was read
 pub record ReadsBody (tokens : List Token) (b : Body) (rest : List Token) : Type 0 where
   pub joins : (more : List Body) → AreBodies more rest → AreBodies (b ∷ more) tokens
   pub takes : scan 0 [] tokens ≡ scan 0 [] rest
   pub shorter : length rest < length tokens
-  pub within : depth b.statements < 32
+  pub within : depth b.statements < MAX_CODE_DEPTH
 
 -- the whole was read
 pub record ReadsAll (tokens : List Token) (bodies : List Body) : Type 0 where
   pub are_bodies : AreBodies bodies tokens
   pub taken : scan 0 [] tokens ≡ None
-  pub within : All (λ b. depth b.statements < 32) bodies
+  pub within : All (λ b. depth b.statements < MAX_CODE_DEPTH) bodies

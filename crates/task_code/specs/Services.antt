@@ -1,16 +1,8 @@
 -- The call that each service makes of what stands between its parentheses.
 use Rattle.std.specs.Prelude.{ℕ, List}
-use Rattle.task_code.specs.declared.call.Reference.{Reference}
-use Rattle.task_code.specs.declared.call.Call.{Call}
+use Rattle.task_code.specs.declared.call.{Reference.{Reference}, Call.{Call}}
 use Rattle.task_code.specs.declared.call.Call.TheVariants as call
-use Rattle.task_code.specs.declared.words.PlainService.{PlainService}
-use Rattle.task_code.specs.declared.words.PlainService.TheVariants.{TerminateTask, Schedule, GetTaskId, GetActiveApplicationMode, Lock}
-use Rattle.task_code.specs.declared.words.ObjectService.{ObjectService}
-use Rattle.task_code.specs.declared.words.ObjectService.TheVariants.{ActivateTask, ChainTask, GetResource, ReleaseResource, GetEvent, CancelAlarm, GetAlarm, GetTaskState}
-use Rattle.task_code.specs.declared.words.MaskService.{MaskService}
-use Rattle.task_code.specs.declared.words.MaskService.TheVariants.{ClearEvent, WaitEvent}
-use Rattle.task_code.specs.declared.words.AlarmService.{AlarmService}
-use Rattle.task_code.specs.declared.words.AlarmService.TheVariants.{SetRelAlarm, SetAbsAlarm}
+use Rattle.task_code.specs.declared.words.{PlainService.{PlainService}, PlainService.TheVariants.{TerminateTask, Schedule, GetTaskId, GetActiveApplicationMode, Lock}, ObjectService.{ObjectService}, ObjectService.TheVariants.{ActivateTask, ChainTask, GetResource, ReleaseResource, GetEvent, CancelAlarm, GetAlarm, GetTaskState}, MaskService.{MaskService}, MaskService.TheVariants.{ClearEvent, WaitEvent}, AlarmService.{AlarmService}, AlarmService.TheVariants.{SetRelAlarm, SetAbsAlarm}}
 
 abbrev pub plain_call : PlainService → Call
 plain_call TerminateTask = call.TerminateTask

@@ -4,8 +4,7 @@ use Rattle.std.specs.Coded.{Coded, coded_ℕ, coded_list}
 use Rattle.std.proofs.Common.{sym, ap, ◌∙◌}
 use base.Stored.{coded_via}
 use Rattle.task_code.specs.declared.call.Call.{Call}
-use Rattle.task_code.specs.declared.tree.Condition.{Condition}
-use Rattle.task_code.specs.declared.tree.Condition.TheVariants.{Choice, Always}
+use Rattle.task_code.specs.declared.tree.{Condition.{Condition}, Condition.TheVariants.{Choice, Always}}
 use Rattle.task_code.specs.Calls.{call_numbers, call_references, call_of, call_of-parts, flat, unflat, unflat-flat}
 
 -- a list of statements: its first, with the lists in it, and behind it the next; or the closing brace. Lines are those

@@ -4,19 +4,9 @@ use Rattle.std.specs.Borrow.{Bor}
 use Rattle.std.specs.Str.{bytes_eq}
 use Rattle.osek_values.specs.declared.status.Status.{Status}
 use Rattle.osek_values.specs.declared.status.Status.TheVariants as status
-use Rattle.osek_standard.specs.declared.block.Lock.TheVariants.{SuspendAll, ResumeAll, SuspendOs, ResumeOs, DisableAll, EnableAll}
-use Rattle.task_code.specs.declared.tree.BodyKind.{BodyKind}
-use Rattle.task_code.specs.declared.tree.BodyKind.TheVariants.{Task, Isr}
-use Rattle.task_code.specs.declared.words.PlainService.{PlainService}
-use Rattle.task_code.specs.declared.words.PlainService.TheVariants.{TerminateTask, Schedule, GetTaskId, GetActiveApplicationMode, Lock}
-use Rattle.task_code.specs.declared.words.ObjectService.{ObjectService}
-use Rattle.task_code.specs.declared.words.ObjectService.TheVariants.{ActivateTask, ChainTask, GetResource, ReleaseResource, GetEvent, CancelAlarm, GetAlarm, GetTaskState}
-use Rattle.task_code.specs.declared.words.MaskService.TheVariants.{ClearEvent, WaitEvent}
-use Rattle.task_code.specs.declared.words.AlarmService.TheVariants.{SetRelAlarm, SetAbsAlarm}
-use Rattle.task_code.specs.declared.words.Service.{Service}
-use Rattle.task_code.specs.declared.words.Service.TheVariants.{Plain, Object, Mask, SetEvent, Alarm, ShutdownOs}
-use Rattle.task_code.specs.declared.words.StatementWord.{StatementWord}
-use Rattle.task_code.specs.declared.words.StatementWord.TheVariants.{Work, If, While, Service as a_service}
+use Rattle.osek_standard.specs.declared.call.Lock.TheVariants.{SuspendAll, ResumeAll, SuspendOs, ResumeOs, DisableAll, EnableAll}
+use Rattle.task_code.specs.declared.tree.{BodyKind.{BodyKind}, BodyKind.TheVariants.{Task, Isr}}
+use Rattle.task_code.specs.declared.words.{PlainService.{PlainService}, PlainService.TheVariants.{TerminateTask, Schedule, GetTaskId, GetActiveApplicationMode, Lock}, ObjectService.{ObjectService}, ObjectService.TheVariants.{ActivateTask, ChainTask, GetResource, ReleaseResource, GetEvent, CancelAlarm, GetAlarm, GetTaskState}, MaskService.TheVariants.{ClearEvent, WaitEvent}, AlarmService.TheVariants.{SetRelAlarm, SetAbsAlarm}, Service.{Service}, Service.TheVariants.{Plain, Object, Mask, SetEvent, Alarm, ShutdownOs}, StatementWord.{StatementWord}, StatementWord.TheVariants.{Work, If, While, Service as a_service}}
 
 -- what a name stands for in a table of words, if it is one of them
 abbrev pub found_in : {A : Type 0} → List (List ℕ × A) → List ℕ → Option A

@@ -1,6 +1,6 @@
 //! The bodies of tasks and ISRs.
 ghost use Rattle.std.specs.Prelude.{◌≡◌, ◌∷◌, [], MatchResult, Some};
-ghost use Rattle.oil_grammar.specs.Refusals.{Refuses};
+ghost use Rattle.osek_values.specs.Answers.{Refuses};
 ghost use Rattle.task_code.specs.Expect.{scan, body_stack};
 ghost use Rattle.task_code.specs.Phrases.{StopsIn, ReadsOwned, ReadsBody, ReadsAll};
 
@@ -41,10 +41,10 @@ fn body<'a>(
         (λ e. Refuses e (λ stop. scan 0 [] (token.now ∷ tokens.now) ≡ Some stop)) }
 {
     let TokenKind::Name(word) = &token.kind else {
-        return Err(PhraseError::Stopped(Stop::NotAllowed(token.line)));
+        return Err(PhraseError::Fault(Stop::NotAllowed(token.line)));
     };
     let Some(kind) = body_kind(word.as_bytes()) else {
-        return Err(PhraseError::Stopped(Stop::NotAllowed(token.line)));
+        return Err(PhraseError::Fault(Stop::NotAllowed(token.line)));
     };
     let (owner, statements, rest) = owned(alloc, tokens)?;
     Ok((

@@ -7,7 +7,7 @@ ghost use Rattle.task_code.specs.Words.{status_of as the_status_of};
 ghost use Rattle.task_code.specs.Grammar.{IsMask, IsCall};
 ghost use Rattle.task_code.specs.Expect.{a_name, a_number, a_comma, a_status, mask_rest, operands};
 ghost use Rattle.task_code.specs.Phrases.{StopsIn};
-ghost use Rattle.oil_grammar.specs.Refusals.{Refuses};
+ghost use Rattle.osek_values.specs.Answers.{Refuses};
 ghost use Rattle.osek_values.specs.declared.status.Status.{Status};
 
 use crate::call::{Call, Reference};
@@ -94,7 +94,7 @@ fn mask(alloc: Global, tokens: &[Token]) -> Result<(Seq<Reference>, &[Token]), P
         match &token.kind {
             TokenKind::Mark(Mark::CloseParen) => return Ok((Seq::of(events), after)),
             TokenKind::Mark(Mark::Bar) => rest = after,
-            _ => return Err(PhraseError::Stopped(Stop::NotAllowed(token.line))),
+            _ => return Err(PhraseError::Fault(Stop::NotAllowed(token.line))),
         }
     }
 }

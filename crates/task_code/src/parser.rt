@@ -3,11 +3,12 @@ ghost use Rattle.std.specs.Prelude.{◌≡◌, List, Result, Ok, Err, IfOk};
 ghost use Rattle.oil_lexer.specs.declared.token.Token.{Token};
 ghost use Rattle.osek_values.specs.declared.refusal.Rule.TheVariants.{Syntax};
 ghost use Rattle.oil_grammar.specs.Scan.{fault_of as the_fault_of};
-ghost use Rattle.task_code.specs.declared.error.CodeFault.{CodeFault};
+ghost use Rattle.osek_values.specs.declared.refused.LineFault.{LineFault};
+ghost use Rattle.osek_values.specs.declared.refusal.Rule.{Rule};
 ghost use Rattle.task_code.specs.declared.tree.Code.{Code};
 ghost use Rattle.task_code.specs.Fit.{AreFit};
-ghost use Rattle.task_code.specs.Faults.{HasCode, IsFirstFault};
-ghost use Rattle.task_code.specs.Answers.{IsAnswer, IsRight, Answers};
+ghost use Rattle.osek_values.specs.Answers.{IsRight, Answers};
+ghost use Rattle.task_code.specs.Answers.{IsAnswer};
 
 use crate::bodies::bodies;
 use crate::error::{CodeError, CodeFault};
@@ -30,12 +31,12 @@ fn syntax_fault(stop: Stop, tokens: &[Token]) -> CodeFault
 }
 
 fn read(alloc: Global, tokens: &[Token]) -> Result<Code, CodeError>
-    ensures right { IsRight result tokens.now }
+    ensures right { IsRight (λ r. IsAnswer r tokens.now) result }
     ensures fit { IfOk result AreFit }
 {
     let bodies = match bodies(alloc, tokens) {
         Ok(bodies) => bodies,
-        Err(PhraseError::Stopped(stop)) => {
+        Err(PhraseError::Fault(stop)) => {
             return Err(CodeError::Fault(syntax_fault(stop, tokens)));
         }
         Err(PhraseError::Memory) => return Err(CodeError::Memory),
@@ -53,18 +54,17 @@ fn read(alloc: Global, tokens: &[Token]) -> Result<Code, CodeError>
 /// that has none the first `work` outside its range.
 pub fn parse_code(alloc: Global, tokens: &[Token]) -> Result<Code, CodeError>
     // What is answered is right, and can be linked,
-    ensures right { IsRight result tokens.now }
+    ensures right { IsRight (λ r. IsAnswer r tokens.now) result }
     ensures fit { IfOk result AreFit }
 
     // and what is right is answered, unless memory runs out.
-    ensures complete { (code : Code) → HasCode tokens.now code → Answers result (Ok code) }
-    ensures first_fault { (fault : CodeFault) → IsFirstFault tokens.now fault.rule fault.line → Answers result (Err fault) }
+    ensures exact { (expected : Result Code (LineFault Rule)) → IsAnswer expected tokens.now → Answers result expected }
 {
     read(alloc, tokens)
 }
 
 /// A law: each list of tokens has one code or first fault, and no other. It does nothing.
 pub fn one_answer()
-    ensures some { (tokens : List Token) → (answer : Result Code CodeFault) × IsAnswer answer tokens }
-    ensures one { (tokens : List Token) (a b : Result Code CodeFault) → IsAnswer a tokens → IsAnswer b tokens → a ≡ b }
+    ensures some { (tokens : List Token) → (answer : Result Code (LineFault Rule)) × IsAnswer answer tokens }
+    ensures one { (tokens : List Token) (a b : Result Code (LineFault Rule)) → IsAnswer a tokens → IsAnswer b tokens → a ≡ b }
 {}

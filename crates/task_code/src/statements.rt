@@ -1,6 +1,6 @@
 //! Statements, and lists of them in braces.
 ghost use Rattle.std.specs.Prelude.{◌≡◌, ℕ, ◌≤◌, List, [], ◌∷◌, true, MatchResult, MatchOption};
-ghost use Rattle.oil_grammar.specs.Refusals.{Refuses};
+ghost use Rattle.osek_values.specs.Answers.{Refuses};
 ghost use Rattle.oil_grammar.specs.Tokens.{name as a_name_token, mark};
 ghost use Rattle.oil_lexer.specs.declared.token.Mark.TheVariants.{OpenParen, Question, CloseParen};
 ghost use Rattle.task_code.specs.declared.words.StatementWord.TheVariants.{Work, If, While, Service as a_service};
@@ -85,7 +85,7 @@ fn conditional(
     line: u32,
     tokens: &[Token],
 ) -> Result<(Statement, &[Token]), PhraseError>
-    requires { depth ≤ 32 }
+    requires { depth ≤ MAX_CODE_DEPTH }
     ensures { MatchResult result
         (λ x. ReadsRest If depth line tokens.now x.0 x.1.now)
         (λ e. Refuses e (λ stop. StopsIn (statement_phrases If) depth tokens.now stop)) }
@@ -124,7 +124,7 @@ fn repetition(
     line: u32,
     tokens: &[Token],
 ) -> Result<(Statement, &[Token]), PhraseError>
-    requires { depth ≤ 32 }
+    requires { depth ≤ MAX_CODE_DEPTH }
     ensures { MatchResult result
         (λ x. ReadsRest While depth line tokens.now x.0 x.1.now)
         (λ e. Refuses e (λ stop. StopsIn (statement_phrases While) depth tokens.now stop)) }
@@ -152,13 +152,13 @@ fn statement<'a>(
     line: u32,
     tokens: &'a [Token],
 ) -> Result<(Statement, &'a [Token]), PhraseError>
-    requires { depth ≤ 32 }
+    requires { depth ≤ MAX_CODE_DEPTH }
     ensures { MatchResult result
         (λ x. ReadsStatement depth (a_name_token word.now line ∷ tokens.now) x.0 x.1.now)
         (λ e. Refuses e (λ stop. StopsIn (some_statements ∷ []) depth (a_name_token word.now line ∷ tokens.now) stop)) }
 {
     let Some(kind) = statement_word(word.as_bytes()) else {
-        return Err(PhraseError::Stopped(Stop::NotAllowed(line)));
+        return Err(PhraseError::Fault(Stop::NotAllowed(line)));
     };
     match kind {
         StatementWord::Work => {
@@ -187,7 +187,7 @@ fn statements(
     depth: u32,
     tokens: &[Token],
 ) -> Result<(StatementList, &[Token]), PhraseError>
-    requires { depth ≤ 32 }
+    requires { depth ≤ MAX_CODE_DEPTH }
     ensures { MatchResult result
         (λ x. ReadsStatements depth tokens.now x.0 x.1.now)
         (λ e. Refuses e (λ stop. StopsIn (some_statements ∷ []) depth tokens.now stop)) }
@@ -205,7 +205,7 @@ fn statements(
             TokenKind::Mark(Mark::CloseBrace) => {
                 return Ok((StatementList::from_vec(found, token.line), after));
             }
-            _ => return Err(PhraseError::Stopped(Stop::NotAllowed(token.line))),
+            _ => return Err(PhraseError::Fault(Stop::NotAllowed(token.line))),
         }
     }
 }
@@ -217,17 +217,17 @@ pub fn block(
     depth: u32,
     tokens: &[Token],
 ) -> Result<(StatementList, &[Token]), PhraseError>
-    requires { depth ≤ 32 }
+    requires { depth ≤ MAX_CODE_DEPTH }
     ensures { MatchResult result
         (λ x. ReadsBlock depth tokens.now x.0 x.1.now)
         (λ e. Refuses e (λ stop. StopsIn block_phrases depth tokens.now stop)) }
 {
     let (token, rest) = first(tokens)?;
     if !is_open(token) {
-        return Err(PhraseError::Stopped(Stop::NotAllowed(token.line)));
+        return Err(PhraseError::Fault(Stop::NotAllowed(token.line)));
     }
     if depth >= MAX_CODE_DEPTH {
-        return Err(PhraseError::Stopped(Stop::TooDeep(token.line)));
+        return Err(PhraseError::Fault(Stop::TooDeep(token.line)));
     }
     let (found, rest) = statements(alloc, depth + 1, rest)?;
     Ok((found, rest))

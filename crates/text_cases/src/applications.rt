@@ -8,7 +8,9 @@ use block_graph::{LinkError, link, one_answer};
 use oil_lexer::tokens;
 use oil_model::resolve;
 use oil_tree::parse;
-use osek_standard::{App, Block, Counter, Isr, Kind, Lock, Task};
+use osek_standard::{
+    AlarmService, App, Block, Call, Counter, Isr, Kind, Lock, PlainService, Task, TaskService,
+};
 use osek_values::{AlarmNo, BlockNo, CodeRule, Mask, TaskNo};
 use std::alloc::{AllocError, Global};
 use task_code::{Code, parse_code};
@@ -109,10 +111,14 @@ fn are_two_tasks(tasks: &[Task]) -> bool {
 /// The blocks of T2, whose code comes first, and then those of T1.
 fn second_before_first(app: &App) -> bool {
     let wanted = [
-        block(Kind::ActivateTask(TaskNo(0)), 1, 1),
-        block(Kind::TerminateTask, 2, 2),
+        block(
+            Kind::Call(Call::Task(TaskService::ActivateTask, TaskNo(0))),
+            1,
+            1,
+        ),
+        block(Kind::Call(Call::Plain(PlainService::TerminateTask)), 2, 2),
         block(Kind::TaskEnd, 2, 2),
-        block(Kind::TerminateTask, 3, 4),
+        block(Kind::Call(Call::Plain(PlainService::TerminateTask)), 3, 4),
         block(Kind::TaskEnd, 4, 4),
     ];
     app.blocks.as_slice() == wanted.as_slice() && are_two_tasks(app.tasks.as_slice())
@@ -136,7 +142,7 @@ fn branches_and_loops_lead(app: &App) -> bool {
         block(Kind::Choice(BlockNo(7)), 5, 6),
         block(Kind::Choice(BlockNo(5)), 5, 5),
         block(Kind::Loop, 6, 8),
-        block(Kind::Schedule, 6, 7),
+        block(Kind::Call(Call::Plain(PlainService::Schedule)), 6, 7),
         block(Kind::TaskEnd, 7, 9),
     ];
     app.blocks.as_slice() == wanted.as_slice()
@@ -161,11 +167,15 @@ fn is_one_isr(isrs: &[Isr]) -> bool {
 /// An ISR's blocks, the task's, and the ticks of C and D.
 fn locks_and_ticks_stand(app: &App) -> bool {
     let wanted = [
-        block(Kind::LockCall(Lock::SuspendAll), 2, 1),
+        block(Kind::Call(Call::Lock(Lock::SuspendAll)), 2, 1),
         under_lock(Kind::Work(3), 3, 2),
-        under_lock(Kind::LockCall(Lock::ResumeAll), 4, 3),
-        block(Kind::SetEvent(TaskNo(0), Mask(5)), 5, 4),
-        block(Kind::CancelAlarm(AlarmNo(1)), 6, 5),
+        under_lock(Kind::Call(Call::Lock(Lock::ResumeAll)), 4, 3),
+        block(Kind::Call(Call::SetEvent(TaskNo(0), Mask(5))), 5, 4),
+        block(
+            Kind::Call(Call::Alarm(AlarmService::CancelAlarm, AlarmNo(1))),
+            6,
+            5,
+        ),
         block(Kind::IsrEnd, 7, 5),
         block(Kind::TaskEnd, 8, 6),
         block(Kind::CountUp, 0, 8),

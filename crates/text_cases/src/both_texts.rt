@@ -16,7 +16,7 @@ fn the_least_fault_of_an_oil_text(rt: HostRuntime) {
         line: 4,
         rule: Rule::Oil(OilRule::O8),
     };
-    assert_eq!(rt; fault_of(rt.alloc(), text), Some(TextError::Refused(fault)));
+    assert_eq!(rt; fault_of(rt.alloc(), text), Some(TextError::Fault(fault)));
 }
 
 /// A task alone.
@@ -48,5 +48,5 @@ fn a_task_without_code(rt: HostRuntime) {
         line: 0,
         rule: Rule::Code(CodeRule::C1),
     };
-    assert_eq!(rt; sizes(rt.alloc(), b""), Err(TextError::Refused(fault)));
+    assert_eq!(rt; sizes(rt.alloc(), b""), Err(TextError::Fault(fault)));
 }

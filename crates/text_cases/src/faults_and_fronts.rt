@@ -1,7 +1,7 @@
 //! The fault of a place, and the token at the front.
-use oil_grammar::{Stop, SyntaxFault, copied, fault_of, first, is_close, is_open};
+use oil_grammar::{Stop, SyntaxFault, fault_of, first, is_close, is_open};
 use oil_lexer::{Token, TokenKind, tokens};
-use osek_values::SyntaxRule;
+use osek_values::{SyntaxRule, copied};
 use std::alloc::Global;
 
 /// Places with the line and the rule of their fault.

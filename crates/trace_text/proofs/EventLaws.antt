@@ -11,15 +11,12 @@ use Rattle.std.proofs.lemmas.List.Quantifiers.{position-Some}
 use Rattle.std.proofs.lemmas.Map.Keys.{apart_from_distinct}
 use Rattle.std.proofs.lemmas.Slice.Eq.{bytes_eq-Decides}
 use borrow.Author.Tests.{ltb-false}
-use Rattle.osek_values.specs.declared.event.Event.{Event}
-use Rattle.osek_values.specs.declared.event.Event.TheVariants.{Run, Irq, Tick}
+use Rattle.osek_values.specs.declared.event.{Event.{Event}, Event.TheVariants.{Run, Irq, Tick}}
 use Rattle.osek_values.specs.Numbers.{isr_no, counter_no}
 use Rattle.osek_standard.specs.declared.app.App.{App}
-use Rattle.osek_standard.specs.declared.objects.Isr.{Isr}
-use Rattle.osek_standard.specs.declared.objects.Counter.{Counter}
+use Rattle.osek_standard.specs.declared.objects.{Isr.{Isr}, Counter.{Counter}}
 use Rattle.osek_standard.specs.Apps.{the_isr, the_counter, no_isr, no_counter, IsDeclared}
-use Rattle.trace_text.specs.declared.fault.EventFault.{EventFault}
-use Rattle.trace_text.specs.declared.fault.EventFault.TheVariants.{E1, E3}
+use Rattle.trace_text.specs.declared.fault.{EventFault.{EventFault}, EventFault.TheVariants.{E1, E3}}
 use Rattle.trace_text.specs.EventWords.{is_comment, run_by, of_source, isr_named, counter_named, said_with, said, read_line, words}
 use Rattle.trace_text.specs.EventGrammar.{event_words, Says, HasWords}
 use Rattle.trace_text.proofs.GrammarLaws.{words_hold, no_other_words}

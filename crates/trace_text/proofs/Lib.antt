@@ -4,7 +4,5 @@ pub mod HexadecimalLaws
 pub mod LineLaws
 pub mod OtherLines
 pub mod Parts
-pub mod StackLaws
 pub mod TextLaws
 pub mod WordLaws
-pub mod WorkedApps

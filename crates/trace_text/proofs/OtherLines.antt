@@ -3,12 +3,10 @@ use Rattle.std.proofs.Common.{◌≡◌, ℕ, ◌≤◌, Bool, true, false, cond
 use Rattle.std.specs.Prelude.{codes}
 use Rattle.std.specs.Str.{bytes_eq}
 use Rattle.std.proofs.lemmas.Bool.{le-ltb, ltb-false}
-use Rattle.osek_values.specs.declared.event.Event.{Event}
-use Rattle.osek_values.specs.declared.event.Event.TheVariants.{Run, Irq, Tick}
+use Rattle.osek_values.specs.declared.event.{Event.{Event}, Event.TheVariants.{Run, Irq, Tick}}
 use Rattle.osek_values.specs.Numbers.{isr_no, counter_no}
 use Rattle.osek_standard.specs.declared.app.App.{App}
-use Rattle.trace_text.specs.declared.fault.EventFault.{EventFault}
-use Rattle.trace_text.specs.declared.fault.EventFault.TheVariants.{E1, E2, E3}
+use Rattle.trace_text.specs.declared.fault.{EventFault.{EventFault}, EventFault.TheVariants.{E1, E2, E3}}
 use Rattle.trace_text.specs.EventWords.{is_comment, run_by, of_source, isr_named, counter_named, said_with, said, read_line, words}
 use Rattle.trace_text.specs.EventGrammar.{NamesNone, SayNothing}
 use Rattle.trace_text.proofs.EventLaws.{same_bytes}

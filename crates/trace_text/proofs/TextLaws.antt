@@ -3,19 +3,17 @@ use Rattle.std.proofs.Common.{◌≡◌, ℕ, ◌+◌, ◌-◌, ◌<◌, ◌≤�
 use Rattle.std.specs.Prelude.{codes}
 use Rattle.std.specs.List.{All, list_all, slice_split, enumerate_from}
 use Rattle.std.specs.Str.Lines.{strip_carriage_return}
-use Rattle.std.proofs.lemmas.Bool.{le-ltb}
+use Rattle.std.proofs.lemmas.Bool.{le-ltb, not-true}
 use Rattle.std.proofs.lemmas.List.{length-map, append-nil}
 use Rattle.std.proofs.Math.ListN.{get_or-map}
 use Rattle.std.proofs.lemmas.List.Elements.{All-head, All-tail, All-weaker}
 use Rattle.std.proofs.lemmas.List.Sums.{AllPass-from_list_all}
 use Rattle.std.proofs.lemmas.List.Splits.{slice_split_at}
 use borrow.Author.Tests.{eqb-true, leb-true}
-use Rattle.osek_values.specs.declared.event.Event.{Event}
-use Rattle.osek_values.specs.declared.event.Event.TheVariants.{Run, Irq, Tick}
+use Rattle.osek_values.specs.declared.event.{Event.{Event}, Event.TheVariants.{Run, Irq, Tick}}
 use Rattle.osek_values.specs.Names.{is_letter, is_digit, is_name_byte, is_word, is_name}
 use Rattle.osek_standard.specs.declared.app.App.{App}
-use Rattle.osek_standard.specs.declared.objects.Isr.{Isr}
-use Rattle.osek_standard.specs.declared.objects.Counter.{Counter}
+use Rattle.osek_standard.specs.declared.objects.{Isr.{Isr}, Counter.{Counter}}
 use Rattle.osek_standard.specs.Apps.{the_isr, the_counter, no_isr, no_counter, IsDeclared}
 use Rattle.trace_text.specs.EventWords.{is_blank, is_some_word}
 use Rattle.trace_text.specs.declared.fault.EventFault.TheVariants.{E4}
@@ -115,13 +113,9 @@ no_cr app (Run true) h = refl
 no_cr app (Irq i) h = let n = isr_name app i.0 h in lacks 13 (the_isr app i.0).name refl n.bytes
 no_cr app (Tick c) h = let n = counter_name app c.0 h in lacks 13 (the_counter app c.0).name refl n.bytes
 
-not_true : (b : Bool) → not b ≡ true → b ≡ false
-not_true true h = absurd (cc)
-not_true false h = refl
-
 -- no byte of a line is the byte d
 none_is : (d : ℕ) (line : List ℕ) → list_all (λ c. not (eqb c d)) line ≡ true → All (λ c. eqb c d ≡ false) line
-none_is d line h = All-weaker (λ c. not (eqb c d) ≡ true) (λ c. eqb c d ≡ false) (λ c. not_true (eqb c d)) line (AllPass-from_list_all (λ c. not (eqb c d)) line h)
+none_is d line h = All-weaker (λ c. not (eqb c d) ≡ true) (λ c. eqb c d ≡ false) (λ c. not-true (eqb c d)) line (AllPass-from_list_all (λ c. not (eqb c d)) line h)
 
 last_is_not : (line : List ℕ) → list_all (λ c. not (eqb c 13)) line ≡ true → eqb (get_or line (length line - 1) 0) 13 ≡ false
 last_is_not [] h = refl

@@ -1,8 +1,8 @@
 -- The grammar of event lines: which words a line has, which words an event has, and the text of a list of events.
 use Rattle.std.specs.Prelude.{◌≡◌, ◌⊎◌, ⊤, ℕ, ◌≤◌, Bool, true, false, not, List, [], ◌∷◌, ◌++◌, length, IsTrue, codes, None}
 use Rattle.std.specs.List.{list_all, flat_map}
-use Rattle.osek_values.specs.declared.event.Event.{Event}
-use Rattle.osek_values.specs.declared.event.Event.TheVariants.{Run, Irq, Tick}
+use Rattle.osek_values.specs.declared.limits.TheConstants.{MAX_EVENT_LINE}
+use Rattle.osek_values.specs.declared.event.{Event.{Event}, Event.TheVariants.{Run, Irq, Tick}}
 use Rattle.osek_standard.specs.declared.app.App.{App}
 use Rattle.osek_standard.specs.Apps.{the_isr, the_counter, IsDeclared}
 use Rattle.trace_text.specs.EventWords.{is_blank, is_some_word, is_comment, isr_named, counter_named}
@@ -39,7 +39,7 @@ module _ (app : App) where
 
   -- a line says an event of the application
   pub record Says (line : List ℕ) (e : Event) : Type 0 where
-    pub short : length line ≤ 256
+    pub short : length line ≤ MAX_EVENT_LINE
     pub known : IsDeclared app e
     pub words : HasWords line (event_words e)
 

@@ -4,16 +4,15 @@ use Rattle.std.specs.List.{slice_split, enumerate_from}
 use Rattle.std.specs.Str.Lines.{strip_carriage_return}
 use Rattle.std.specs.declared.option.Option.{Option}
 use Rattle.std.specs.declared.result.Result.{Result}
+use Rattle.osek_values.specs.declared.limits.TheConstants.{MAX_EVENT_LINE, MAX_EVENT_TEXT}
 use Rattle.osek_values.specs.declared.event.Event.{Event}
 use Rattle.osek_standard.specs.declared.app.App.{App}
-use Rattle.trace_text.specs.declared.fault.EventFault.{EventFault}
-use Rattle.trace_text.specs.declared.fault.EventFault.TheVariants.{E4}
-use Rattle.trace_text.specs.declared.fault.FaultyLine.{FaultyLine}
+use Rattle.trace_text.specs.declared.fault.{EventFault.{EventFault}, EventFault.TheVariants.{E4}, FaultyLine.{FaultyLine}}
 use Rattle.trace_text.specs.EventWords.{read_line}
 
--- A CR right before an LF is dropped. It counts for the 256 bytes, so a line that is longer with it stays as it is.
+-- A CR right before an LF is dropped. It counts for the bytes of its line, so a line that is longer with it stays as it is.
 abbrev pub ended_line : List ℕ → List ℕ
-ended_line line = if nat_lt 256 (length line) then line else strip_carriage_return line
+ended_line line = if nat_lt MAX_EVENT_LINE (length line) then line else strip_carriage_return line
 
 -- the lines in the parts between LFs: behind the last LF stands a line only if a byte does, and its CR is its own
 abbrev pub lines_in : List (List ℕ) → List (List ℕ)
@@ -51,6 +50,6 @@ abbrev pub read_lines : App → List (ℕ × List ℕ) → Reading
 read_lines app [] = nothing_read
 read_lines app (line ∷ more) = with_line line.0 (read_line app line.1) (read_lines app more)
 
--- What an event text says. A text over 16 MiB is faulty as a whole.
+-- What an event text says. A text over MAX_EVENT_TEXT bytes is faulty as a whole.
 abbrev pub read_text : App → List ℕ → Reading
-read_text app text = if nat_lt 16777216 (length text) then fault_at 0 E4 else read_lines app (numbered_lines text)
+read_text app text = if nat_lt MAX_EVENT_TEXT (length text) then fault_at 0 E4 else read_lines app (numbered_lines text)

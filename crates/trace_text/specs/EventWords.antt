@@ -4,14 +4,12 @@ use Rattle.std.specs.List.{slice_split, position}
 use Rattle.std.specs.Str.{bytes_eq}
 use Rattle.std.specs.declared.option.Option.{Option}
 use Rattle.std.specs.declared.result.Result.{Result}
-use Rattle.osek_values.specs.declared.event.Event.{Event}
-use Rattle.osek_values.specs.declared.event.Event.TheVariants.{Run, Irq, Tick}
+use Rattle.osek_values.specs.declared.limits.TheConstants.{MAX_EVENT_LINE}
+use Rattle.osek_values.specs.declared.event.{Event.{Event}, Event.TheVariants.{Run, Irq, Tick}}
 use Rattle.osek_values.specs.Numbers.{isr_no, counter_no}
 use Rattle.osek_standard.specs.declared.app.App.{App}
-use Rattle.osek_standard.specs.declared.objects.Isr.{Isr}
-use Rattle.osek_standard.specs.declared.objects.Counter.{Counter}
-use Rattle.trace_text.specs.declared.fault.EventFault.{EventFault}
-use Rattle.trace_text.specs.declared.fault.EventFault.TheVariants.{E1, E2, E3}
+use Rattle.osek_standard.specs.declared.objects.{Isr.{Isr}, Counter.{Counter}}
+use Rattle.trace_text.specs.declared.fault.{EventFault.{EventFault}, EventFault.TheVariants.{E1, E2, E3}}
 
 -- a space or a tab
 abbrev pub is_blank : ℕ → Bool
@@ -68,6 +66,6 @@ module _ (app : App) where
   said [] = Ok None
   said (verb ∷ rest) = if is_comment verb then Ok None else said_with verb rest
 
-  -- What a line says, without its LF and the CR before it. A line over 256 bytes is faulty whatever it says.
+  -- What a line says, without its LF and the CR before it. A line over MAX_EVENT_LINE bytes is faulty whatever it says.
   abbrev pub read_line : List ℕ → Result (Option Event) EventFault
-  read_line line = if nat_lt 256 (length line) then Err E3 else said (words line)
+  read_line line = if nat_lt MAX_EVENT_LINE (length line) then Err E3 else said (words line)

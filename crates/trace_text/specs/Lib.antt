@@ -2,4 +2,3 @@ pub mod EventFaults
 pub mod EventGrammar
 pub mod EventText
 pub mod EventWords
-pub mod WorkedLines

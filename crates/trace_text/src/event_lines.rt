@@ -7,8 +7,8 @@ ghost use Rattle.trace_text.specs.EventText.{ended_line, text_lines, numbered_li
 use osek_values::limits::{MAX_EVENT_LINE, MAX_EVENT_TEXT};
 use std::marker::Model;
 
-/// A line of an event text as it is read: without its LF, and without the CR before it unless the line is over 256
-/// bytes with it.
+/// A line of an event text as it is read: without its LF, and without the CR before it unless the line is over
+/// `MAX_EVENT_LINE` bytes with it.
 #[derive(Clone, Copy, PartialEq, Eq, Debug)]
 pub struct EventLine<'a> {
     /// Lines count from 1.

@@ -9,9 +9,9 @@ pub enum EventFault {
     E1,
     /// No category 2 ISR or counter of that name.
     E2,
-    /// A line over 256 bytes without its LF.
+    /// A line over `MAX_EVENT_LINE` bytes without its LF.
     E3,
-    /// The text is over 16 MiB; no line has it.
+    /// The text is over `MAX_EVENT_TEXT` bytes; no line has it.
     E4,
 }
 

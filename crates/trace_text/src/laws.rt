@@ -1,5 +1,6 @@
 //! Laws of event texts.
 ghost use Rattle.std.specs.Prelude.{◌≡◌, ℕ, ◌≤◌, List, length, All, Some, None, Ok, Err};
+ghost use Rattle.osek_values.specs.declared.limits.TheConstants.{MAX_EVENT_LINE, MAX_EVENT_TEXT};
 ghost use Rattle.osek_values.specs.declared.event.Event.{Event};
 ghost use Rattle.osek_standard.specs.declared.app.App.{App};
 ghost use Rattle.osek_standard.specs.Apps.{IsDeclared};
@@ -22,17 +23,17 @@ pub fn a_line_is_read_as_what_it_says()
 
 /// A line is faulty for a source that isn't declared exactly where it is short enough and its words name one.
 pub fn a_line_that_names_none_is_faulty()
-    ensures faulty { (app : App) (line : List ℕ) → length line ≤ 256 → NamesNone app (words line) → read_line app line ≡ Err E2 }
-    ensures only_then { (app : App) (line : List ℕ) → read_line app line ≡ Err E2 → (length line ≤ 256) × NamesNone app (words line) }
+    ensures faulty { (app : App) (line : List ℕ) → length line ≤ MAX_EVENT_LINE → NamesNone app (words line) → read_line app line ≡ Err E2 }
+    ensures only_then { (app : App) (line : List ℕ) → read_line app line ≡ Err E2 → (length line ≤ MAX_EVENT_LINE) × NamesNone app (words line) }
 {}
 
 /// A line says no event exactly where it is short enough and has no words, or a comment.
 pub fn a_line_without_words_says_nothing()
-    ensures nothing { (app : App) (line : List ℕ) → length line ≤ 256 → SayNothing (words line) → read_line app line ≡ Ok None }
-    ensures only_then { (app : App) (line : List ℕ) → read_line app line ≡ Ok None → (length line ≤ 256) × SayNothing (words line) }
+    ensures nothing { (app : App) (line : List ℕ) → length line ≤ MAX_EVENT_LINE → SayNothing (words line) → read_line app line ≡ Ok None }
+    ensures only_then { (app : App) (line : List ℕ) → read_line app line ≡ Ok None → (length line ≤ MAX_EVENT_LINE) × SayNothing (words line) }
 {}
 
 /// Each list of events of an application has a text, which reads back as that list.
 pub fn a_text_of_events_reads_back()
-    ensures { (app : App) (es : List Event) → All (IsDeclared app) es → length (event_text app es) ≤ 16777216 → read_text app (event_text app es) ≡ record { events = es; fault = None } }
+    ensures { (app : App) (es : List Event) → All (IsDeclared app) es → length (event_text app es) ≤ MAX_EVENT_TEXT → read_text app (event_text app es) ≡ record { events = es; fault = None } }
 {}

@@ -8,7 +8,6 @@ pub mod laws;
 mod pieces;
 mod trace_line;
 mod trace_notes;
-pub mod worked_lines;
 
 pub use event_lines::{EventLine, EventLines};
 pub use event_words::read_event;

@@ -1,12 +1,10 @@
--- the application of what was generated is valid, and fits version 1
+-- the application of what was generated is valid
 use Rattle.std.proofs.Common.{◌≡◌, ◌≤◌, List, ◌∙◌, sym, ap, subst}
-use Rattle.osek_standard.specs.Versions.{FitsVersion1}
 use Rattle.task_code.specs.declared.tree.Body.{Body}
 use Rattle.block_graph.specs.Apps.{tasks_of, isrs_of, counters_of}
 use Rattle.block_graph.specs.Blocks.{source_size, app_blocks}
 use Rattle.block_graph.proofs.ExtentsRules.{few_source_blocks}
 use Rattle.block_graph.proofs.SomeAnswer.{valid_with}
-use Rattle.block_graph.proofs.Valid.{fits_version_1}
 use Rattle.block_graph.proofs.linker.app.Goals as goal
 
 pub generate-requires-clause-room : goal.generate-requires-clause-room
@@ -22,7 +20,4 @@ invariant_of-result c =
     let same_isrs = made.isrs ∙ ap (λ (bs : List Body). isrs_of s bs) bodies in
     let same_counters = made.counters ∙ ap (λ (bs : List Body). counters_of s bs) bodies in
     let same_blocks = made.blocks ∙ ap (λ (bs : List Body). app_blocks s bs) bodies in
-    record {
-      valid = valid_with s code c.requires.linkable c.requires.fit c.requires.no_fault _ _ _ _ same_tasks same_isrs same_counters same_blocks;
-      version_1 = subst FitsVersion1 (sym same_tasks) (fits_version_1 s code c.requires.linkable);
-    }
+    record { valid = valid_with s code c.requires.linkable c.requires.fit c.requires.no_fault _ _ _ _ same_tasks same_isrs same_counters same_blocks }

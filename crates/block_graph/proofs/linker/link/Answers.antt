@@ -1,8 +1,12 @@
-use Rattle.block_graph.proofs.OneAnswer.{gives_app, gives_fault}
+use Rattle.osek_values.proofs.OneAnswer.{answers}
+use Rattle.block_graph.proofs.OneAnswer.{one, gives_version_1}
 use Rattle.block_graph.proofs.linker.link.Goals as goal
 
-pub returns-clause-complete : goal.returns-clause-complete
-returns-clause-complete c = λ app h. gives_app _ _ _ app c.answer.ensures h
+pub returns-clause-right : goal.returns-clause-right
+returns-clause-right c = c.answer.ensures
 
-pub returns-clause-least_fault : goal.returns-clause-least_fault
-returns-clause-least_fault c = λ fault h. gives_fault _ _ _ fault c.answer.ensures h
+pub returns-clause-exact : goal.returns-clause-exact
+returns-clause-exact c = answers (one c.args.system c.args.code.now) c.answer.result c.answer.ensures
+
+pub returns-clause-version_1 : goal.returns-clause-version_1
+returns-clause-version_1 c = gives_version_1 _ _ _ c.requires.linkable c.answer.ensures

@@ -1,6 +1,6 @@
 use Rattle.std.proofs.Common.{◌≡◌, drop}
 use Rattle.std.specs.List.{list_any}
-use Rattle.app_model.specs.declared.system.TaskObject.{TaskObject}
+use Rattle.oil_system.specs.declared.system.TaskObject.{TaskObject}
 use Rattle.task_code.specs.declared.tree.BodyKind.TheVariants.{Task}
 use Rattle.block_graph.specs.Rules.{lacks_code}
 use Rattle.block_graph.proofs.owners.has_bare_task.Given as goal

@@ -1,5 +1,5 @@
 use Rattle.std.proofs.Common.{◌≡◌, drop, ◌++◌, map}
-use Rattle.app_model.specs.declared.system.TaskObject.{TaskObject}
+use Rattle.oil_system.specs.declared.system.TaskObject.{TaskObject}
 use Rattle.task_code.specs.declared.tree.BodyKind.TheVariants as body_kind
 use Rattle.block_graph.specs.Apps.{extent, task_with, tasks_of}
 use Rattle.block_graph.proofs.tables.tasks.Given as goal

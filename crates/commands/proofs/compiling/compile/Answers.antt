@@ -1,30 +1,31 @@
 -- the application of both texts, or why there is none
-use Rattle.std.proofs.Common.{◌∙◌}
-use Rattle.commands.proofs.Compiles.{of_app, system_stops, code_stops}
+use Rattle.std.proofs.Common.{ℕ, List, inl, inr}
+use Rattle.front_end.specs.Texts.{GivesApp}
+use Rattle.commands.specs.Compiling.{CodeStops}
+use Rattle.commands.specs.Inputs.{OfFile}
+use Rattle.commands.specs.Outside.{Told, told}
+use Rattle.commands.proofs.Compiles.{of_system, of_app}
+use Rattle.commands.proofs.FaultlessReads.{earlier, then_reads, then_same}
 use Rattle.commands.proofs.compiling.compile.Goals as goal
 
 pub returns-in-Ok-load_code-clause-app : goal.returns-in-Ok-load_code-clause-app
 returns-in-Ok-load_code-clause-app g c =
-    of_app (g.F.Shelf.contents c.args.shelf.now) (g.F.Shelf.contents c.load_system.new.shelf) c.in-Ok.ensures.same_files c.args.oil.now c.args.code.now c.in-Ok.system c.in-Ok-load_code.app
-    c.in-Ok.ensures.system c.in-Ok-load_code.ensures.app
+    of_app (g.F.Shelf.contents c.args.shelf.now) c.args.oil.now c.args.code.now c.in-Ok.system c.in-Ok-load_code.app c.in-Ok.ensures.system
+    (earlier g.F.Shelf c.args.shelf.now c.load_system.new.shelf c.in-Ok.ensures.same c.in-Ok.ensures.no_fault (λ (t : Told). OfFile t.files c.args.code.now (λ (b : List ℕ). GivesApp c.in-Ok.system b c.in-Ok-load_code.app)) c.in-Ok-load_code.ensures.app)
 
 pub returns-in-Err-clause-stop : goal.returns-in-Err-clause-stop
-returns-in-Err-clause-stop g c =
-    system_stops (g.F.Shelf.contents c.args.shelf.now) (g.F.Shelf.read_faults c.args.shelf.now) (g.F.Shelf.read_faults c.load_system.new.shelf) c.args.oil.now c.args.code.now c.in-Err.stop c.in-Err.ensures.stop
+returns-in-Err-clause-stop g c = inl c.in-Err.ensures.stop
 
 pub returns-in-Err-load_code-clause-stop : goal.returns-in-Err-load_code-clause-stop
 returns-in-Err-load_code-clause-stop g c =
-    code_stops (g.F.Shelf.contents c.args.shelf.now) (g.F.Shelf.contents c.load_system.new.shelf) c.in-Ok.ensures.same_files (g.F.Shelf.read_faults c.args.shelf.now) (g.F.Shelf.read_faults c.load_system.new.shelf) (g.F.Shelf.read_faults c.load_code.new.shelf) c.in-Ok.ensures.never_falls
-    c.args.oil.now c.args.code.now c.in-Ok.system c.in-Ok.ensures.system c.in-Err-load_code.stop c.in-Err-load_code.ensures.stop
+    inr (of_system (g.F.Shelf.contents c.args.shelf.now) c.args.oil.now _ c.in-Ok.system c.in-Ok.ensures.system
+    (earlier g.F.Shelf c.args.shelf.now c.load_system.new.shelf c.in-Ok.ensures.same c.in-Ok.ensures.no_fault (λ (t : Told). CodeStops t (told g.F.Shelf c.load_code.new.shelf) c.in-Ok.system c.args.code.now c.in-Err-load_code.stop) c.in-Err-load_code.ensures.stop))
 
-pub returns-in-Ok-load_code-clause-same_files : goal.returns-in-Ok-load_code-clause-same_files
-returns-in-Ok-load_code-clause-same_files g c = c.in-Ok-load_code.ensures.same_files ∙ c.in-Ok.ensures.same_files
+pub returns-in-Ok-load_code-clause-same : goal.returns-in-Ok-load_code-clause-same
+returns-in-Ok-load_code-clause-same g c = then_reads g.F.Shelf c.args.shelf.now c.load_system.new.shelf c.in-Ok.ensures.same c.in-Ok.ensures.no_fault c.load_code.new.shelf c.in-Ok-load_code.ensures.same
 
-pub returns-in-Ok-load_code-clause-same_writes : goal.returns-in-Ok-load_code-clause-same_writes
-returns-in-Ok-load_code-clause-same_writes g c = c.in-Ok-load_code.ensures.same_writes ∙ c.in-Ok.ensures.same_writes
+pub returns-in-Ok-load_code-clause-no_fault : goal.returns-in-Ok-load_code-clause-no_fault
+returns-in-Ok-load_code-clause-no_fault g c = then_same g.F.Shelf c.args.shelf.now c.load_system.new.shelf c.in-Ok.ensures.same c.in-Ok.ensures.no_fault c.load_code.new.shelf c.in-Ok-load_code.ensures.no_fault
 
-pub returns-in-Err-load_code-clause-same_files : goal.returns-in-Err-load_code-clause-same_files
-returns-in-Err-load_code-clause-same_files g c = c.in-Err-load_code.ensures.same_files ∙ c.in-Ok.ensures.same_files
-
-pub returns-in-Err-load_code-clause-same_writes : goal.returns-in-Err-load_code-clause-same_writes
-returns-in-Err-load_code-clause-same_writes g c = c.in-Err-load_code.ensures.same_writes ∙ c.in-Ok.ensures.same_writes
+pub returns-in-Err-load_code-clause-same : goal.returns-in-Err-load_code-clause-same
+returns-in-Err-load_code-clause-same g c = then_reads g.F.Shelf c.args.shelf.now c.load_system.new.shelf c.in-Ok.ensures.same c.in-Ok.ensures.no_fault c.load_code.new.shelf c.in-Err-load_code.ensures.same

@@ -3,8 +3,8 @@ use Rattle.std.proofs.Common.{◌≡◌, ℕ, List, refl, sym, subst, inl, Some,
 use Rattle.std.specs.declared.option.Option.{Option}
 use Rattle.osek_standard.specs.declared.state.State.{State}
 use Rattle.osek_standard.specs.Dispatch.{Stepped}
-use Rattle.image_codec.specs.declared.image.Image.{Image}
-use Rattle.image_codec.specs.ImageTrace.{trap_line}
+use Rattle.image_model.specs.declared.image.Image.{Image}
+use Rattle.image_model.specs.ImageTrace.{trap_line}
 use Rattle.osek_io.specs.Pieces.{grown}
 use Rattle.commands.specs.Playing.{AnswersEvent}
 use Rattle.commands.specs.declared.stop.Stop.TheVariants as stop

@@ -1,42 +1,27 @@
 -- the image that was loaded runs
-use Rattle.std.proofs.Common.{◌∙◌, refl, Ok, Err}
-use Rattle.commands.specs.Outside.{outside}
-use Rattle.commands.proofs.Runs.{earlier, replay_runs, image_stops}
+use Rattle.std.proofs.Common.{refl}
+use Rattle.image_model.specs.ImageTrace.{image_trace, has_trap}
+use Rattle.commands.specs.Outside.{Told, beside, outside}
+use Rattle.commands.specs.Replaying.{stops, runs}
+use Rattle.commands.specs.Running.{RunAnswers}
+use Rattle.commands.proofs.InputFiles.{of_map}
+use Rattle.commands.proofs.FaultlessReads.{earlier, then_reads}
 use Rattle.commands.proofs.replaying.replay.Goals as goal
 
-pub returns-in-Ok-run-clause-answer : goal.returns-in-Ok-run-clause-answer
-returns-in-Ok-run-clause-answer g c =
-    replay_runs
-    (outside (g.F.Shelf.contents c.args.shelf.now) (g.F.Shelf.read_faults c.args.shelf.now) (g.F.Shelf.write_faults c.args.shelf.now) (g.O.Sink.faults c.args.out.now) (g.O.Sink.written c.args.out.now))
-    (outside (g.F.Shelf.contents c.run.new.shelf) (g.F.Shelf.read_faults c.run.new.shelf) (g.F.Shelf.write_faults c.run.new.shelf) (g.O.Sink.faults c.run.new.out) (g.O.Sink.written c.run.new.out))
-    c.args.image.now c.args.mode.now c.args.events.now c.in-Ok.image c.in-Ok.ensures.image (Ok tt)
-    (earlier (g.F.Shelf.contents c.args.shelf.now) (g.F.Shelf.contents c.load_image.new.shelf) c.in-Ok.ensures.same_files (g.F.Shelf.read_faults c.args.shelf.now) (g.F.Shelf.read_faults c.load_image.new.shelf) c.in-Ok.ensures.never_falls
-    (g.F.Shelf.write_faults c.args.shelf.now) (g.F.Shelf.write_faults c.load_image.new.shelf) (g.O.Sink.faults c.args.out.now) (g.O.Sink.written c.args.out.now) _ _ _ _ c.args.mode.now c.args.events.now (Ok tt) c.in-Ok-run.ensures.answer)
+pub returns-clause-answer : goal.returns-clause-answer
+returns-clause-answer g c =
+    let i = c.in-Ok.image in
+    let after = outside g.F.Shelf g.O.Sink c.run.new.shelf c.run.new.out in
+    runs c.run.result (of_map (g.F.Shelf.contents c.args.shelf.now) c.args.image.now _ _
+    (λ b spells. (
+      i,
+      spells,
+      earlier g.F.Shelf c.args.shelf.now c.load_image.new.shelf c.in-Ok.ensures.same c.in-Ok.ensures.no_fault
+          (λ (t : Told). RunAnswers (beside t (g.O.Sink.faults c.args.out.now) (g.O.Sink.written c.args.out.now)) after i.app (image_trace i) (has_trap i) c.args.mode.now c.args.events.now c.run.result) c.run.ensures.answer,
+    )) c.in-Ok.ensures.image)
 
-pub returns-in-Err-run-clause-answer : goal.returns-in-Err-run-clause-answer
-returns-in-Err-run-clause-answer g c =
-    replay_runs
-    (outside (g.F.Shelf.contents c.args.shelf.now) (g.F.Shelf.read_faults c.args.shelf.now) (g.F.Shelf.write_faults c.args.shelf.now) (g.O.Sink.faults c.args.out.now) (g.O.Sink.written c.args.out.now))
-    (outside (g.F.Shelf.contents c.run.new.shelf) (g.F.Shelf.read_faults c.run.new.shelf) (g.F.Shelf.write_faults c.run.new.shelf) (g.O.Sink.faults c.run.new.out) (g.O.Sink.written c.run.new.out))
-    c.args.image.now c.args.mode.now c.args.events.now c.in-Ok.image c.in-Ok.ensures.image (Err c.in-Err-run.stop)
-    (earlier (g.F.Shelf.contents c.args.shelf.now) (g.F.Shelf.contents c.load_image.new.shelf) c.in-Ok.ensures.same_files (g.F.Shelf.read_faults c.args.shelf.now) (g.F.Shelf.read_faults c.load_image.new.shelf) c.in-Ok.ensures.never_falls
-    (g.F.Shelf.write_faults c.args.shelf.now) (g.F.Shelf.write_faults c.load_image.new.shelf) (g.O.Sink.faults c.args.out.now) (g.O.Sink.written c.args.out.now) _ _ _ _ c.args.mode.now c.args.events.now (Err c.in-Err-run.stop) c.in-Err-run.ensures.answer)
-
-pub returns-in-Ok-run-clause-same_files : goal.returns-in-Ok-run-clause-same_files
-returns-in-Ok-run-clause-same_files g c = c.in-Ok-run.ensures.same_files ∙ c.in-Ok.ensures.same_files
-
-pub returns-in-Ok-run-clause-same_writes : goal.returns-in-Ok-run-clause-same_writes
-returns-in-Ok-run-clause-same_writes g c = c.in-Ok-run.ensures.same_writes ∙ c.in-Ok.ensures.same_writes
-
-pub returns-in-Err-run-clause-same_files : goal.returns-in-Err-run-clause-same_files
-returns-in-Err-run-clause-same_files g c = c.in-Err-run.ensures.same_files ∙ c.in-Ok.ensures.same_files
-
-pub returns-in-Err-run-clause-same_writes : goal.returns-in-Err-run-clause-same_writes
-returns-in-Err-run-clause-same_writes g c = c.in-Err-run.ensures.same_writes ∙ c.in-Ok.ensures.same_writes
+pub returns-clause-same : goal.returns-clause-same
+returns-clause-same g c = then_reads g.F.Shelf c.args.shelf.now c.load_image.new.shelf c.in-Ok.ensures.same c.in-Ok.ensures.no_fault c.run.new.shelf c.run.ensures.same
 
 pub returns-in-Err-clause-answer : goal.returns-in-Err-clause-answer
-returns-in-Err-clause-answer g c =
-    image_stops
-    (outside (g.F.Shelf.contents c.args.shelf.now) (g.F.Shelf.read_faults c.args.shelf.now) (g.F.Shelf.write_faults c.args.shelf.now) (g.O.Sink.faults c.args.out.now) (g.O.Sink.written c.args.out.now))
-    (outside (g.F.Shelf.contents c.load_image.new.shelf) (g.F.Shelf.read_faults c.load_image.new.shelf) (g.F.Shelf.write_faults c.load_image.new.shelf) (g.O.Sink.faults c.args.out.now) (g.O.Sink.written c.args.out.now))
-    c.args.image.now c.args.mode.now c.args.events.now refl c.in-Err.stop c.in-Err.ensures.stop
+returns-in-Err-clause-answer g c = stops c.in-Err.stop c.in-Err.ensures.stop refl

@@ -17,8 +17,8 @@ pub returns-in-Ok-clause-does : goal.returns-in-Ok-clause-does
 returns-in-Ok-clause-does g c =
     does_of (command_of (map (string_bytes {Z = Global}) c.args.words.now)) (option_map seen c.command_from-command.result) c.command_from-command.ensures
     (λ (k : Option Command) (r : Result (Unit {0}) Stop). CommandAnswers
-    (outside (g.F.Shelf.contents c.args.shelf.now) (g.F.Shelf.read_faults c.args.shelf.now) (g.F.Shelf.write_faults c.args.shelf.now) (g.O.Sink.faults c.args.out.now) (g.O.Sink.written c.args.out.now))
-    (outside (g.F.Shelf.contents c.carry_out_words.new.shelf) (g.F.Shelf.read_faults c.carry_out_words.new.shelf) (g.F.Shelf.write_faults c.carry_out_words.new.shelf) (g.O.Sink.faults c.carry_out_words.new.out) (g.O.Sink.written c.carry_out_words.new.out)) k r)
+    (outside g.F.Shelf g.O.Sink c.args.shelf.now c.args.out.now)
+    (outside g.F.Shelf g.O.Sink c.carry_out_words.new.shelf c.carry_out_words.new.out) k r)
     (λ (text : List ℕ) (status : ℕ). Tells (g.E.Sink.faults c.args.err.now) (g.E.Sink.faults c.args.err.now) (g.E.Sink.written c.args.err.now) (g.E.Sink.written c.args.err.now) text status 0)
     (Ok tt) c.in-Ok.ensures (inl (refl, grown-nil (g.E.Sink.written c.args.err.now)))
 
@@ -26,15 +26,15 @@ pub returns-in-Err-clause-does : goal.returns-in-Err-clause-does
 returns-in-Err-clause-does g c =
     does_of (command_of (map (string_bytes {Z = Global}) c.args.words.now)) (option_map seen c.command_from-command.result) c.command_from-command.ensures
     (λ (k : Option Command) (r : Result (Unit {0}) Stop). CommandAnswers
-    (outside (g.F.Shelf.contents c.args.shelf.now) (g.F.Shelf.read_faults c.args.shelf.now) (g.F.Shelf.write_faults c.args.shelf.now) (g.O.Sink.faults c.args.out.now) (g.O.Sink.written c.args.out.now))
-    (outside (g.F.Shelf.contents c.carry_out_words.new.shelf) (g.F.Shelf.read_faults c.carry_out_words.new.shelf) (g.F.Shelf.write_faults c.carry_out_words.new.shelf) (g.O.Sink.faults c.carry_out_words.new.out) (g.O.Sink.written c.carry_out_words.new.out)) k r)
+    (outside g.F.Shelf g.O.Sink c.args.shelf.now c.args.out.now)
+    (outside g.F.Shelf g.O.Sink c.carry_out_words.new.shelf c.carry_out_words.new.out) k r)
     (λ (text : List ℕ) (status : ℕ). Tells (g.E.Sink.faults c.args.err.now) (g.E.Sink.faults c.refuse.new.err) (g.E.Sink.written c.args.err.now) (g.E.Sink.written c.refuse.new.err) text status c.refuse.result)
     (Err c.in-Err.stop) c.in-Err.ensures c.refuse.ensures
 
 pub returns-in-Ok-clause-exact : goal.returns-in-Ok-clause-exact
 returns-in-Ok-clause-exact g c = λ files due told calm still is.
     exact_of files (g.F.Shelf.contents c.args.shelf.now) told
-    (outside (g.F.Shelf.contents c.carry_out_words.new.shelf) (g.F.Shelf.read_faults c.carry_out_words.new.shelf) (g.F.Shelf.write_faults c.carry_out_words.new.shelf) (g.O.Sink.faults c.carry_out_words.new.out) (g.O.Sink.written c.carry_out_words.new.out))
+    (outside g.F.Shelf g.O.Sink c.carry_out_words.new.shelf c.carry_out_words.new.out)
     (g.F.Shelf.read_faults c.args.shelf.now) (g.F.Shelf.write_faults c.args.shelf.now) (g.O.Sink.faults c.args.out.now) (g.O.Sink.written c.args.out.now)
     (g.E.Sink.faults c.args.err.now) (g.E.Sink.faults c.args.err.now) (g.E.Sink.written c.args.err.now) (g.E.Sink.written c.args.err.now)
     (command_of (map (string_bytes {Z = Global}) c.args.words.now)) 0 calm still due is (returns-in-Ok-clause-does g c)
@@ -42,7 +42,7 @@ returns-in-Ok-clause-exact g c = λ files due told calm still is.
 pub returns-in-Err-clause-exact : goal.returns-in-Err-clause-exact
 returns-in-Err-clause-exact g c = λ files due told calm still is.
     exact_of files (g.F.Shelf.contents c.args.shelf.now) told
-    (outside (g.F.Shelf.contents c.carry_out_words.new.shelf) (g.F.Shelf.read_faults c.carry_out_words.new.shelf) (g.F.Shelf.write_faults c.carry_out_words.new.shelf) (g.O.Sink.faults c.carry_out_words.new.out) (g.O.Sink.written c.carry_out_words.new.out))
+    (outside g.F.Shelf g.O.Sink c.carry_out_words.new.shelf c.carry_out_words.new.out)
     (g.F.Shelf.read_faults c.args.shelf.now) (g.F.Shelf.write_faults c.args.shelf.now) (g.O.Sink.faults c.args.out.now) (g.O.Sink.written c.args.out.now)
     (g.E.Sink.faults c.args.err.now) (g.E.Sink.faults c.refuse.new.err) (g.E.Sink.written c.args.err.now) (g.E.Sink.written c.refuse.new.err)
     (command_of (map (string_bytes {Z = Global}) c.args.words.now)) c.refuse.result calm still due is (returns-in-Err-clause-does g c)

@@ -1,9 +1,7 @@
 -- the alarm is due at its counter's value and at no other, and a rearmed alarm keeps the state well-formed
 use Rattle.std.proofs.Common.{◌≡◌, ◌≢◌, ◌<◌, ℕ, ◌+◌, ◌%◌, length, sym, subst, arith, rules}
 use Rattle.osek_standard.specs.declared.app.App.{App}
-use Rattle.osek_standard.specs.declared.state.State.{State}
-use Rattle.osek_standard.specs.declared.state.AlarmState.{AlarmState}
-use Rattle.osek_standard.specs.declared.state.AlarmState.TheVariants.{Idle, Armed}
+use Rattle.osek_standard.specs.declared.state.{State.{State}, AlarmState.{AlarmState}, AlarmState.TheVariants.{Idle, Armed}}
 use Rattle.std.specs.Prelude.{◌==◌}
 use Rattle.osek_standard.specs.Apps.{max_of}
 use Rattle.osek_standard.specs.Services.{expire, rearmed}

@@ -1,22 +1,23 @@
 -- what the code has beside the system, or the first fault of the text
 use Rattle.std.proofs.Common.{◌≡◌, ℕ, List, refl, sym, subst, inl, inr, Err}
-use Rattle.osek_values.specs.declared.refusal.Rule.{Rule}
+use Rattle.osek_values.specs.declared.refusal.{Rule.{Rule}, Refusal.{Refusal}}
 use Rattle.osek_values.specs.declared.refusal.Rule.TheVariants as rule
 use Rattle.osek_values.specs.declared.refusal.TextFile.TheVariants as file
 use Rattle.osek_standard.specs.declared.app.App.{App}
-use Rattle.app_model.specs.declared.system.System.{System}
+use Rattle.oil_system.specs.declared.system.System.{System}
 use Rattle.oil_lexer.specs.declared.token.Token.{Token}
 use Rattle.oil_lexer.specs.Text.{AreTokens}
 use Rattle.task_code.specs.Faults.{IsFirstFault}
-use Rattle.front_end.specs.declared.error.TextError.{TextError}
-use Rattle.front_end.specs.declared.error.TextError.TheVariants as errors
-use Rattle.front_end.specs.Answers.{IsCodeAnswer, IsRight}
+use Rattle.osek_values.specs.declared.refused.Refused.{Refused}
+use Rattle.osek_values.specs.declared.refused.Refused.TheVariants as errors
+use Rattle.osek_values.specs.Answers.{IsRight}
+use Rattle.front_end.specs.Answers.{IsCodeAnswer}
 use Rattle.front_end.specs.Texts.{IsCodeFault}
 use Rattle.front_end.proofs.code_text.read.Goals as goal
 
-refuses : (s : System) (text : List ℕ) (e : TextError) (line : ℕ) (q : Rule) → e ≡ errors.Refused (record { file = file.Code; line = line; rule = q }) → IsCodeFault s text q line →
+refuses : (s : System) (text : List ℕ) (e : Refused Refusal) (line : ℕ) (q : Rule) → e ≡ errors.Fault (record { file = file.Code; line = line; rule = q }) → IsCodeFault s text q line →
     IsRight {X = App} (λ r. IsCodeAnswer r s text) (Err e)
-refuses s text e line q is fault = subst (λ (x : TextError). IsRight {X = App} (λ r. IsCodeAnswer r s text) (Err x)) (sym is) (refl, fault)
+refuses s text e line q is fault = subst (λ (x : Refused Refusal). IsRight {X = App} (λ r. IsCodeAnswer r s text) (Err x)) (sym is) (refl, fault)
 
 of_tokens : (s : System) (text : List ℕ) (tokens : List Token) (q : Rule) (line : ℕ) → AreTokens text tokens → IsFirstFault tokens q line → IsCodeFault s text q line
 of_tokens s text tokens (rule.Lex r) line are fault = absurd fault
@@ -24,19 +25,19 @@ of_tokens s text tokens (rule.Syntax r) line are fault = (tokens, are, fault)
 of_tokens s text tokens (rule.Oil r) line are fault = absurd fault
 of_tokens s text tokens (rule.Code r) line are fault = (tokens, are, inl fault)
 
-pub returns-in-Err-Fault : goal.returns-in-Err-Fault
-returns-in-Err-Fault c =
+pub returns-in-Err-Fault-clause-right : goal.returns-in-Err-Fault-clause-right
+returns-in-Err-Fault-clause-right c =
     refuses c.args.system c.args.text.now c.refused.result c.in-Err-Fault.fault.line (rule.Lex c.in-Err-Fault.fault.rule) (rw c.in-Err-Fault.field-0-is at c.refused.ensures)
     (rw c.in-Err-Fault.field-0-is at c.in-Err-Fault.ensures.right)
 
-pub returns-in-Err-Fault-parse_code : goal.returns-in-Err-Fault-parse_code
-returns-in-Err-Fault-parse_code c =
+pub returns-in-Err-Fault-parse_code-clause-right : goal.returns-in-Err-Fault-parse_code-clause-right
+returns-in-Err-Fault-parse_code-clause-right c =
     refuses c.args.system c.args.text.now c.refused-in-Err-Fault-parse_code.result c.in-Err-Fault-parse_code.fault.line c.in-Err-Fault-parse_code.fault.rule (rw c.in-Err-Fault-parse_code.field-0-is at c.refused-in-Err-Fault-parse_code.ensures)
     (of_tokens c.args.system c.args.text.now c.in-Ok.tokens.items c.in-Err-Fault-parse_code.fault.rule c.in-Err-Fault-parse_code.fault.line c.in-Ok.ensures.right
     (rw (c.in-Err-Fault-parse_code.field-0-is, c.deref.ensures.value) at c.in-Err-Fault-parse_code.ensures.right))
 
-pub returns-in-Ok-link : goal.returns-in-Ok-link
-returns-in-Ok-link c = record {
+pub returns-in-Ok-link-clause-right : goal.returns-in-Ok-link-clause-right
+returns-in-Ok-link-clause-right c = record {
   tokens = c.in-Ok.tokens.items;
   code = c.in-Ok-parse_code.code;
   are_tokens = c.in-Ok.ensures.right;
@@ -44,7 +45,7 @@ returns-in-Ok-link c = record {
   has_app = c.in-Ok-link.ensures.right;
 }
 
-pub returns-in-Err-Fault-link : goal.returns-in-Err-Fault-link
-returns-in-Err-Fault-link c =
+pub returns-in-Err-Fault-link-clause-right : goal.returns-in-Err-Fault-link-clause-right
+returns-in-Err-Fault-link-clause-right c =
     refuses c.args.system c.args.text.now c.refused-in-Err-Fault-link.result c.in-Err-Fault-link.fault.line (rule.Code c.in-Err-Fault-link.fault.rule) c.refused-in-Err-Fault-link.ensures
     (c.in-Ok.tokens.items, c.in-Ok.ensures.right, inr (c.in-Ok-parse_code.code, (rw c.deref.ensures.value at c.in-Ok-parse_code.ensures.right), (rw c.in-Err-Fault-link.field-0-is at c.in-Err-Fault-link.ensures.right)))

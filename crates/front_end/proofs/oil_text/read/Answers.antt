@@ -1,18 +1,19 @@
 -- what the text declares, or its first fault
 use Rattle.std.proofs.Common.{◌≡◌, ℕ, List, refl, sym, subst, Err}
-use Rattle.osek_values.specs.declared.refusal.Rule.{Rule}
+use Rattle.osek_values.specs.declared.refusal.{Rule.{Rule}, Refusal.{Refusal}}
 use Rattle.osek_values.specs.declared.refusal.Rule.TheVariants as rule
 use Rattle.osek_values.specs.declared.refusal.TextFile.TheVariants as file
-use Rattle.app_model.specs.declared.system.System.{System}
-use Rattle.front_end.specs.declared.error.TextError.{TextError}
-use Rattle.front_end.specs.declared.error.TextError.TheVariants as errors
-use Rattle.front_end.specs.Answers.{IsOilAnswer, IsRight}
+use Rattle.oil_system.specs.declared.system.System.{System}
+use Rattle.osek_values.specs.declared.refused.Refused.{Refused}
+use Rattle.osek_values.specs.declared.refused.Refused.TheVariants as errors
+use Rattle.osek_values.specs.Answers.{IsRight}
+use Rattle.front_end.specs.Answers.{IsOilAnswer}
 use Rattle.front_end.specs.Texts.{IsOilFault}
 use Rattle.front_end.proofs.oil_text.read.Goals as goal
 
-refuses : (text : List ℕ) (e : TextError) (line : ℕ) (q : Rule) → e ≡ errors.Refused (record { file = file.Oil; line = line; rule = q }) → IsOilFault text q line →
+refuses : (text : List ℕ) (e : Refused Refusal) (line : ℕ) (q : Rule) → e ≡ errors.Fault (record { file = file.Oil; line = line; rule = q }) → IsOilFault text q line →
     IsRight {X = System} (λ r. IsOilAnswer r text) (Err e)
-refuses text e line q is fault = subst (λ (x : TextError). IsRight {X = System} (λ r. IsOilAnswer r text) (Err x)) (sym is) (refl, fault)
+refuses text e line q is fault = subst (λ (x : Refused Refusal). IsRight {X = System} (λ r. IsOilAnswer r text) (Err x)) (sym is) (refl, fault)
 
 pub returns-in-Err-Fault-clause-right : goal.returns-in-Err-Fault-clause-right
 returns-in-Err-Fault-clause-right c =

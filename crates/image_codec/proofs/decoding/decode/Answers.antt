@@ -9,12 +9,12 @@ use Rattle.image_codec.proofs.decoding.decode.Goals as goal
 pub invariant_of-app : goal.invariant_of-app
 invariant_of-app c =
     let good = (all_takes c.args.bytes.now c.in-Ok.parts _ (λ i. omega (arith, c.type_inv.bytes i)) (ap all_at (sym c.new-reader.ensures) ∙ c.in-Ok.ensures)).good in
-    record { valid = valid_parts c.in-Ok.parts good; version_1 = version_1_parts c.in-Ok.parts good }
+    record { valid = valid_parts c.in-Ok.parts good }
 
 pub invariant_of-result : goal.invariant_of-result
 invariant_of-result c =
     let good = (all_takes c.args.bytes.now c.in-Ok.parts _ (λ i. omega (arith, c.type_inv.bytes i)) (ap all_at (sym c.new-reader.ensures) ∙ c.in-Ok.ensures)).good in
-    record { valid = sites_parts c.in-Ok.parts good _ refl refl }
+    record { version_1 = version_1_parts c.in-Ok.parts good; valid = sites_parts c.in-Ok.parts good _ refl refl }
 
 pub returns-in-Ok-clause-spelled : goal.returns-in-Ok-clause-spelled
 returns-in-Ok-clause-spelled c = its_spelling c.args.bytes.now _ _ (λ i. omega (arith, c.type_inv.bytes i)) (ap all_at (sym c.new-reader.ensures) ∙ c.in-Ok.ensures)

@@ -29,5 +29,5 @@ returns-else-not-is_live-clause-step g c = search rules
 pub returns-else-not-is_live-clause-scans : goal.returns-else-not-is_live-clause-scans
 returns-else-not-is_live-clause-scans g c = omega arith
 
-pub switch_to-hooks-requires-in-Some-Direct-Some-clause-live : goal.switch_to-hooks-requires-in-Some-Direct-Some-clause-live
-switch_to-hooks-requires-in-Some-Direct-Some-clause-live g c = (search rules, search rules)
+pub switch_to-hooks-requires-in-Some-Direct-2-clause-live : goal.switch_to-hooks-requires-in-Some-Direct-2-clause-live
+switch_to-hooks-requires-in-Some-Direct-2-clause-live g c = (search rules, search rules)

@@ -10,11 +10,11 @@ use Rattle.osek_standard.specs.Well.{AreOut}
 use Rattle.osek_standard.specs.Dispatch.{concluded}
 use Rattle.osek_standard.proofs.WellLaws.{in_owner_known}
 use Rattle.osek_standard.proofs.Keeps.{here_own}
-use Rattle.image_codec.specs.declared.site.Form.{Form}
-use Rattle.image_codec.specs.ImageStep.{form_at, formed_at, instructed}
+use Rattle.image_model.specs.declared.site.Site.{Site}
+use Rattle.image_model.specs.ImageStep.{site_at, formed_at, instructed}
 use Rattle.image_run.proofs.SiteEffects.{out_after_site}
 use Rattle.image_run.proofs.OtherEffects.{asks_none_elsewhere}
-use Rattle.image_run.proofs.SiteForms.{form_is_of_site, no_form_no_site, if_some_onward}
+use Rattle.image_run.proofs.SiteForms.{is_of_site, no_site_there, if_some_onward}
 use Rattle.image_run.proofs.instruction.instruct.Goals as goal
 
 pub conclude_by-requires-clause-site : goal.conclude_by-requires-clause-site
@@ -23,11 +23,11 @@ conclude_by-requires-clause-site g c =
     let s = c.args.state.now in
     let b = (here s).block.0 in
     let known = in_owner_known i.app s s.processor c.requires.well.processor b (here_own i.app s c.requires.well c.requires.active) in
-    let same : c.form-site.result ≡ form_at i b = c.form-site.ensures.form ∙ ap (λ (p : Place). form_at i p.block.0) c.here-place.ensures.place in
+    let same : c.site_at-site.result ≡ site_at i b = c.site_at-site.ensures.site ∙ ap (λ (p : Place). site_at i p.block.0) c.here-place.ensures.place in
     let out : is_site i.app b ≡ true → AreOut i.app c.effect-done.new.state
     = λ site. subst (AreOut i.app) (ap (λ (e : Effect). e.state) c.effect-done.ensures.row) (out_after_site i.app s c.requires.well c.args.choice site) in
-    if_some_onward (is_site i.app b ≡ true) (AreOut i.app c.effect-done.new.state) c.form-site.result out
-    (subst (λ (o : Option Form). IfSome o (λ (f : Form). is_site i.app b ≡ true)) (sym same) (form_is_of_site i b known))
+    if_some_onward (is_site i.app b ≡ true) (AreOut i.app c.effect-done.new.state) c.site_at-site.result out
+    (subst (λ (o : Option Site). IfSome o (λ (x : Site). is_site i.app b ≡ true)) (sym same) (is_of_site i b known))
 
 pub conclude_by-requires-clause-other : goal.conclude_by-requires-clause-other
 conclude_by-requires-clause-other g c =
@@ -35,8 +35,8 @@ conclude_by-requires-clause-other g c =
     let s = c.args.state.now in
     let b = (here s).block.0 in
     let known = in_owner_known i.app s s.processor c.requires.well.processor b (here_own i.app s c.requires.well c.requires.active) in
-    let same : c.form-site.result ≡ form_at i b = c.form-site.ensures.form ∙ ap (λ (p : Place). form_at i p.block.0) c.here-place.ensures.place in
-    λ none. sym (ap (λ (e : Effect). e.ask) c.effect-done.ensures.row) ∙ asks_none_elsewhere i.app s c.requires.well c.args.choice (no_form_no_site i b known (sym same ∙ none))
+    let same : c.site_at-site.result ≡ site_at i b = c.site_at-site.ensures.site ∙ ap (λ (p : Place). site_at i p.block.0) c.here-place.ensures.place in
+    λ none. sym (ap (λ (e : Effect). e.ask) c.effect-done.ensures.row) ∙ asks_none_elsewhere i.app s c.requires.well c.args.choice (no_site_there i b known (sym same ∙ none))
 
 pub returns-clause-step : goal.returns-clause-step
 unfolding instructed
@@ -44,8 +44,8 @@ returns-clause-step g c =
     let i = c.args.image.now in
     let s = c.args.state.now in
     let b = (here s).block.0 in
-    let same : c.form-site.result ≡ form_at i b = c.form-site.ensures.form ∙ ap (λ (p : Place). form_at i p.block.0) c.here-place.ensures.place in
+    let same : c.site_at-site.result ≡ site_at i b = c.site_at-site.ensures.site ∙ ap (λ (p : Place). site_at i p.block.0) c.here-place.ensures.place in
     let done : Effect = effected c.effect-done.new.state c.effect-done.result.notes c.effect-done.result.ask in
-    ap (λ (e : Effect). option_map (concluded i.app e) (formed_at i.app e (form_at i b))) c.effect-done.ensures.row
-    ∙ ap (λ (o : Option Form). option_map (concluded i.app done) (formed_at i.app done o)) (sym same)
+    ap (λ (e : Effect). option_map (concluded i.app e) (formed_at i.app e (site_at i b))) c.effect-done.ensures.row
+    ∙ ap (λ (o : Option Site). option_map (concluded i.app done) (formed_at i.app done o)) (sym same)
     ∙ c.conclude_by.ensures.step

@@ -17,8 +17,8 @@ loop-rest-preserved c =
       first = omega arith;
     }
 
-pub returns-in-Err-Broken : goal.returns-in-Err-Broken
-returns-in-Err-Broken c = inr (record { within = c.loop-rest.invariant.within; found = (c.loop-rest.rest.now, c.loop-rest.tokens.items, c.loop-rest.invariant.parts, search rules, search rules) })
+pub returns-in-Err-Fault : goal.returns-in-Err-Fault
+returns-in-Err-Fault c = inr (record { within = c.loop-rest.invariant.within; found = (c.loop-rest.rest.now, c.loop-rest.tokens.items, c.loop-rest.invariant.parts, search rules, search rules) })
 
 pub returns-then-bytes-gt-MAX_FILE : goal.returns-then-bytes-gt-MAX_FILE
 returns-then-bytes-gt-MAX_FILE c = inl (c.if-bytes-gt-MAX_FILE.true, search rules)

@@ -1,7 +1,7 @@
 use Rattle.std.proofs.Common.{◌≤◌, List, ◌++◌, ◌∷◌, [], map, sym, ◌∙◌, arith}
 use Rattle.std.specs.Prelude.{codes, filter}
 use Rattle.oil_tree.specs.declared.tree.Object.{Object}
-use Rattle.app_model.specs.declared.system.CounterObject.{CounterObject}
+use Rattle.oil_system.specs.declared.system.CounterObject.{CounterObject}
 use Rattle.oil_tree.specs.AttrLists.{attr_list}
 use Rattle.oil_model.specs.Objects.{is_kind, maximum, minimum}
 use Rattle.oil_model.proofs.Clean.{at_passing}

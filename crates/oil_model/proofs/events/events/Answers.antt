@@ -3,7 +3,7 @@ use Rattle.std.proofs.Common.{◌≡◌, ℕ, ◌+◌, List, ◌++◌, ◌∷◌
 use Rattle.std.proofs.lemmas.List.{append-nil, at_drop_all}
 use Rattle.std.specs.Prelude.{codes, bit_or}
 use Rattle.oil_tree.specs.declared.tree.Object.{Object}
-use Rattle.app_model.specs.declared.system.EventObject.{EventObject}
+use Rattle.oil_system.specs.declared.system.EventObject.{EventObject}
 use Rattle.oil_model.specs.Objects.{is_kind, objects_of, mask_of}
 use Rattle.oil_model.specs.Systems.{event, events_from}
 use Rattle.oil_model.proofs.Repeats.{filter_yes, filter_not}

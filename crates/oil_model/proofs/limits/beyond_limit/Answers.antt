@@ -19,12 +19,12 @@ returns c =
     let resources : List ℕ = first_beyond (resource_limit (has_scheduler objects)) (filter (is_ordinary (has_scheduler objects)) objects) in
     let scheduler = c.has_scheduler-scheduler.ensures in
     let limit : c.resource_limit.result ≡ resource_limit (has_scheduler objects) = c.resource_limit.ensures ∙ ap resource_limit scheduler in
-    let resource : c.resource_beyond-resource.result ≡ least resources = c.resource_beyond-resource.ensures ∙ (λ i. least (first_beyond (limit i) (filter (is_ordinary (scheduler i)) objects))) in
-    let behind_event = c.sooner.ensures ∙ (λ i. sooner (resource i) (c.mode_beyond-mode.ensures i)) in
+    let resource : c.beyond-resource.result ≡ least resources = c.beyond-resource.ensures ∙ (λ i. least (first_beyond (limit i) (filter (is_ordinary (scheduler i)) objects))) in
+    let behind_event = c.sooner.ensures ∙ (λ i. sooner (resource i) (c.beyond-mode.ensures i)) in
     let behind_alarm = c.sooner-behind_alarm.ensures ∙ (λ i. sooner (c.beyond-event.ensures i) (behind_event i)) in
     let behind_counter = c.sooner-2.ensures ∙ (λ i. sooner (c.beyond-alarm.ensures i) (behind_alarm i)) in
     let behind_isr = c.sooner-3.ensures ∙ (λ i. sooner (c.beyond-counter.ensures i) (behind_counter i)) in
-    let behind_task = c.sooner-4.ensures ∙ (λ i. sooner (c.isr_beyond-isr.ensures i) (behind_isr i)) in
+    let behind_task = c.sooner-4.ensures ∙ (λ i. sooner (c.beyond-isr.ensures i) (behind_isr i)) in
     c.sooner-5.ensures ∙ (λ i. sooner (c.beyond-task.ensures i) (behind_task i))
     ∙ sym (least_seven
     (first_beyond 16 (objects_of (codes "TASK") objects))

@@ -1,7 +1,7 @@
 use Rattle.std.proofs.Common.{◌≤◌, List, ◌++◌, ◌∷◌, [], Bool, sym, ◌∙◌}
 use Rattle.std.specs.Prelude.{codes}
 use Rattle.oil_tree.specs.declared.tree.Object.{Object}
-use Rattle.app_model.specs.declared.system.TaskObject.{TaskObject}
+use Rattle.oil_system.specs.declared.system.TaskObject.{TaskObject}
 use Rattle.oil_model.specs.Objects.{is_kind, priority}
 use Rattle.oil_model.specs.Systems.{task}
 use Rattle.oil_model.proofs.Clean.{at_passing}

@@ -1,6 +1,6 @@
 use Rattle.std.proofs.Common.{◌∙◌}
 use Rattle.std.proofs.lemmas.Result.{err_from_is_err_and}
-use Rattle.oil_grammar.proofs.Refusals.{refuses_map}
+use Rattle.osek_values.proofs.Refusals.{refuses_map}
 use Rattle.oil_tree.proofs.file.file.Goals as goal
 
 pub returns-in_err-tree : goal.returns-in_err-tree

@@ -1,11 +1,9 @@
-use Rattle.oil_tree.proofs.OneAnswer.{answers_tree, answers_fault}
+use Rattle.osek_values.proofs.OneAnswer.{answers}
+use Rattle.oil_tree.proofs.OneAnswer.{one_answer}
 use Rattle.oil_tree.proofs.parser.parse.Goals as goal
 
 pub returns-clause-right : goal.returns-clause-right
 returns-clause-right c = c.read.ensures
 
-pub returns-clause-complete : goal.returns-clause-complete
-returns-clause-complete c = λ tree has. answers_tree _ _ tree c.read.ensures has
-
-pub returns-clause-first_fault : goal.returns-clause-first_fault
-returns-clause-first_fault c = λ fault is. answers_fault _ _ fault c.read.ensures is
+pub returns-clause-exact : goal.returns-clause-exact
+returns-clause-exact c = answers (one_answer c.args.tokens.now) c.read.result c.read.ensures

@@ -1,5 +1,6 @@
-use Rattle.std.proofs.Common.{◌≡◌, ◌≤◌, ◌-◌, ◌+◌, ℕ, List, length, take}
-use Rattle.osek_io.specs.Files.{Holds, IsMissing}
+use Rattle.std.proofs.Common.{◌≡◌, ◌≤◌, ◌-◌, ◌+◌, ℕ, List, length, take, max}
+use Rattle.osek_io.specs.Counts.{Same}
+use Rattle.osek_io.specs.Files.{Holds}
 use Rattle.osek_io.proofs.loading.load.Given as goal
 
 -- What was taken is a front of the file, and within the limit.
@@ -9,8 +10,8 @@ invariant-loop-count g l =
       within : length l.bytes.items ≤ l.most;
       front : (all : List ℕ) → Holds (g.F.Shelf.contents l.fn.shelf) l.name all → l.bytes.items ≡ take (length l.bytes.items) all;
       files : g.F.Shelf.contents l.shelf ≡ g.F.Shelf.contents l.fn.shelf;
-      reads : g.F.Shelf.read_faults l.fn.shelf ≤ g.F.Shelf.read_faults l.shelf;
-      uncounted : IsMissing (g.F.Shelf.contents l.fn.shelf) l.name → g.F.Shelf.read_faults l.shelf ≡ g.F.Shelf.read_faults l.fn.shelf;
+      reads : Same (g.F.Shelf.read_faults l.fn.shelf) (g.F.Shelf.read_faults l.shelf);
+      asked : g.F.Shelf.asked l.shelf ≤ max (g.F.Shelf.asked l.fn.shelf) (l.most + 1);
       writes : g.F.Shelf.write_faults l.shelf ≡ g.F.Shelf.write_faults l.fn.shelf;
     }
 

@@ -13,7 +13,7 @@ loop-added-preserved g c =
       within = omega (arith, c.in-Ok.ensures.bound, length-rest bytes added);
       files = grows_file _ _ _ c.args.name.now bytes added c.in-Ok.count c.loop-added.invariant.files c.in-Ok.ensures.ok;
       later = omega (arith, c.append.ensures.never_falls);
-      reads = c.append.ensures.same_reads ∙ c.loop-added.invariant.reads;
+      reads = λ n. c.append.ensures.same_reads n ∙ c.loop-added.invariant.reads n;
     }
 
 pub returns-in_default-clause-cause : goal.returns-in_default-clause-cause

@@ -1,4 +1,5 @@
 use Rattle.std.proofs.Common.{◌≡◌, ◌≤◌, ◌-◌, length, take}
+use Rattle.osek_io.specs.Counts.{Same}
 use Rattle.osek_io.specs.Files.{with_file}
 use Rattle.osek_io.proofs.storing.store.Given as goal
 
@@ -8,7 +9,7 @@ invariant-loop-added g l =
       within : l.added ≤ length l.bytes;
       files : g.F.Shelf.contents l.shelf ≡ with_file (g.F.Shelf.contents l.fn.shelf) l.name (take l.added l.bytes);
       later : g.F.Shelf.write_faults l.fn.shelf ≤ g.F.Shelf.write_faults l.shelf;
-      reads : g.F.Shelf.read_faults l.shelf ≡ g.F.Shelf.read_faults l.fn.shelf;
+      reads : Same (g.F.Shelf.read_faults l.fn.shelf) (g.F.Shelf.read_faults l.shelf);
     }
 
 abbrev pub decreases-loop-added : goal.decreases-loop-added

@@ -7,9 +7,9 @@ use Rattle.task_code.proofs.FirstOfLines.{has_first, has_none}
 use Rattle.task_code.proofs.FitLaws.{are_fit}
 use Rattle.task_code.proofs.parser.read.Goals as goal
 
-pub returns-in-Err-Stopped-clause-right : goal.returns-in-Err-Stopped-clause-right
-returns-in-Err-Stopped-clause-right c =
-    rw (c.syntax_fault.ensures.rule, c.syntax_fault.ensures.line) (stop_fault _ _ (rw c.in-Err-Stopped.field-0-is at c.in-Err-Stopped.ensures))
+pub returns-in-Err-Fault-clause-right : goal.returns-in-Err-Fault-clause-right
+returns-in-Err-Fault-clause-right c =
+    rw (c.syntax_fault.ensures.rule, c.syntax_fault.ensures.line) (stop_fault _ _ (rw c.in-Err-Fault.field-0-is at c.in-Err-Fault.ensures))
 
 pub returns-in-Some-clause-right : goal.returns-in-Some-clause-right
 returns-in-Some-clause-right c =

@@ -1,7 +1,7 @@
 use Rattle.std.proofs.Common.{sym, ap, ◌∙◌, arith}
 use Rattle.std.specs.Prelude.{Some}
 use Rattle.std.proofs.lemmas.Result.{err_from_is_err_and}
-use Rattle.oil_grammar.proofs.Refusals.{refuses_map}
+use Rattle.osek_values.proofs.Refusals.{refuses_map}
 use Rattle.task_code.specs.Words.{statement_word}
 use Rattle.task_code.proofs.StatementsRead.{reads_block, reads_if, reads_if_else, reads_while, reads_statement, reads_close, stops_in_else, stops_behind_condition, list_joins, list_takes, list_within, list_stops, stops_at_word, stops_behind_word, stops_in_block, stops_not_open}
 use Rattle.task_code.proofs.statements.+statements.Goals as goal

@@ -1,7 +1,7 @@
 use Rattle.std.proofs.Common.{subst}
 use Rattle.osek_standard.specs.Well.{IsStack}
 use Rattle.osek_standard.specs.TaskStates.{held}
-use Rattle.trace_text.proofs.StackLaws.{held_stack}
+use Rattle.osek_standard.proofs.StackLaws.{held_stack}
 use Rattle.trace_text.proofs.trace_line.put_task.Goals as goal
 
 pub put_held-requires-clause-stack : goal.put_held-requires-clause-stack

@@ -3,7 +3,7 @@ use Rattle.std.proofs.Common.{rules, ◌≡◌, ◌∙◌, Bool, true, false, Op
 use Rattle.std.specs.Prelude.{option_map, if◌then◌else◌}
 use Rattle.osek_values.specs.declared.event.Event.{Event}
 use Rattle.osek_standard.specs.Dispatch.{Stepped, stepped}
-use Rattle.image_codec.specs.ImageStep.{image_step}
+use Rattle.image_model.specs.ImageStep.{image_step}
 use Rattle.image_run.specs.Machines.{AtWork, at_work, turn, turned, turned_by}
 use Rattle.image_run.proofs.machine.Machine.step.Goals as goal
 

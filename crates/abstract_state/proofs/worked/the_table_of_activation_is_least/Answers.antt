@@ -1,5 +1,0 @@
-use Rattle.abstract_state.proofs.WorkedLeast.{table_proper, table_least}
-use Rattle.abstract_state.proofs.worked.the_table_of_activation_is_least.Goals as goal
-
-pub returns : goal.returns
-returns c = record { proper = table_proper; least = table_least }

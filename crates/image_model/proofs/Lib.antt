@@ -1,0 +1,3 @@
+pub mod GeneralRuns
+pub mod GeneralSites
+pub mod KernelRuns

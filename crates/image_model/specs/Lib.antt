@@ -1,0 +1,5 @@
+pub mod CallNames
+pub mod ImageStep
+pub mod ImageTrace
+pub mod Laws
+pub mod Sites

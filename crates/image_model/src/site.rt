@@ -1,0 +1,97 @@
+//! Sites: which blocks they are, and what the replayer does there.
+ghost use Rattle.std.specs.Prelude.{◌≡◌};
+ghost use Rattle.osek_standard.specs.Validity.{is_within};
+ghost use Rattle.osek_standard.specs.Apps.{may_dispatch as may_dispatch_by, call_may_dispatch as call_may_dispatch_by, is_routine_end as is_end_of_routine, is_task_block_in, is_site_in};
+
+use osek_standard::{Call, Kind, MaskService, PlainService, ResourceService, Task, TaskService};
+use osek_values::{BlockNo, TaskNo};
+
+/// What the replayer does with the processor after the effect of a site's call.
+#[derive(Clone, Copy, PartialEq, Eq, Debug)]
+pub enum Form {
+    /// No state comes here: a trap.
+    Never,
+    /// Nothing is dispatched.
+    Stay,
+    /// This task is dispatched, or the processor is idle.
+    Direct(Option<TaskNo>),
+    /// The kernel's own rescheduling.
+    General,
+}
+
+/// A site: a task's call after which the kernel may dispatch, the end of a task, or the end of a routine.
+#[derive(Clone, Copy, PartialEq, Eq, Debug)]
+pub struct Site {
+    pub form: Form,
+}
+
+fn call_may_dispatch(call: Call) -> bool
+    ensures { result ≡ call_may_dispatch_by call }
+{
+    match call {
+        Call::Plain(PlainService::TerminateTask | PlainService::Schedule)
+        | Call::Task(TaskService::ActivateTask | TaskService::ChainTask, _)
+        | Call::Resource(ResourceService::ReleaseResource, _)
+        | Call::SetEvent(_, _)
+        | Call::Mask(MaskService::WaitEvent, _) => true,
+        Call::Plain(PlainService::GetTaskId | PlainService::GetActiveApplicationMode)
+        | Call::Task(TaskService::GetEvent | TaskService::GetTaskState, _)
+        | Call::Resource(ResourceService::GetResource, _)
+        | Call::Mask(MaskService::ClearEvent, _)
+        | Call::Alarm(_, _)
+        | Call::Arm(_, _, _, _)
+        | Call::Lock(_)
+        | Call::ShutdownOs => false,
+    }
+}
+
+fn may_dispatch(kind: Kind) -> bool
+    ensures { result ≡ may_dispatch_by kind }
+{
+    match kind {
+        Kind::Call(call) => call_may_dispatch(call),
+        Kind::TaskEnd => true,
+        Kind::Work(_)
+        | Kind::Choice(_)
+        | Kind::Loop
+        | Kind::IsrEnd
+        | Kind::CountUp
+        | Kind::Expire(_) => false,
+    }
+}
+
+fn is_routine_end(kind: Kind) -> bool
+    ensures { result ≡ is_end_of_routine kind }
+{
+    matches!(kind, Kind::IsrEnd)
+}
+
+/// Whether a block is among the `count` blocks from `first` on.
+pub fn is_within(block: u16, first: BlockNo, count: u16) -> bool
+    ensures { result ≡ is_within block (first.0, count) }
+{
+    let after = block >= first.0;
+    after && (block as u32) < first.0 as u32 + count as u32
+}
+
+/// Whether some task has the block.
+pub fn is_task_block(tasks: &[Task], block: u16) -> bool
+    ensures { result ≡ is_task_block_in tasks.now block }
+{
+    tasks
+        .iter()
+        .any(|task| is_within(block, task.first, task.count))
+}
+
+/// Whether a block of a kind is a site, where these are the tasks.
+pub fn is_site(tasks: &[Task], block: u16, kind: Kind) -> bool
+    ensures { result ≡ is_site_in tasks.now block kind }
+{
+    if is_routine_end(kind) {
+        return true;
+    }
+    if !may_dispatch(kind) {
+        return false;
+    }
+    is_task_block(tasks, block)
+}

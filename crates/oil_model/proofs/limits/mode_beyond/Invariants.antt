@@ -1,9 +1,0 @@
-use Rattle.std.proofs.Common.{◌≡◌, drop}
-use Rattle.std.specs.Prelude.{filter}
-use Rattle.oil_model.specs.Lines.{least}
-use Rattle.oil_model.specs.Objects.{is_other_mode}
-use Rattle.oil_model.specs.Rules.{first_beyond}
-use Rattle.oil_model.proofs.limits.mode_beyond.Given as goal
-
-abbrev pub invariant-loop-object : goal.invariant-loop-object
-invariant-loop-object l = least (first_beyond l.left (filter is_other_mode (drop l.object-index l.objects))) ≡ least (first_beyond l.limit (filter is_other_mode l.objects))

@@ -1,0 +1,129 @@
+//! The rules on each object of a kind by itself: what its attributes say.
+ghost use Rattle.std.specs.Prelude.{◌≡◌, map, filter};
+ghost use Rattle.oil_model.specs.Lines.{least};
+ghost use Rattle.oil_model.specs.Objects.{objects_of, line_at};
+ghost use Rattle.oil_model.specs.KindRules.{kind_of, attribute_of, is_violated, violations};
+ghost use Rattle.oil_model.specs.Rules as rules_of;
+
+use crate::lines::sooner;
+use crate::look_up::{has, number, says};
+use crate::objects::{Category, is_isr, is_kind, line_at, maximum, minimum};
+use oil_tree::Object;
+
+/// A rule on each object of a kind.
+#[derive(Clone, Copy)]
+pub enum KindRule {
+    /// ACTIVATION other than 1.
+    SeveralActivations,
+    /// RESOURCEPROPERTY that is LINKED or INTERNAL.
+    SpecialResource,
+    /// ACTION that is ALARMCALLBACK.
+    Callback,
+    /// MINCYCLE above MAXALLOWEDVALUE.
+    ReversedCounter,
+    /// CATEGORY other than 1 and 2.
+    OtherCategory,
+    /// RESOURCE of a category 2 ISR.
+    ResourceOfIsr,
+}
+
+/// The kind of the objects that a rule judges.
+fn kind_of(rule: KindRule) -> &'static [u8]
+    ensures { result.now ≡ kind_of rule }
+{
+    match rule {
+        KindRule::SeveralActivations => b"TASK",
+        KindRule::SpecialResource => b"RESOURCE",
+        KindRule::Callback => b"ALARM",
+        KindRule::ReversedCounter => b"COUNTER",
+        KindRule::OtherCategory => b"ISR",
+        KindRule::ResourceOfIsr => b"ISR",
+    }
+}
+
+/// The attribute on whose line a rule is violated.
+fn attribute_of(rule: KindRule) -> &'static [u8]
+    ensures { result.now ≡ attribute_of rule }
+{
+    match rule {
+        KindRule::SeveralActivations => b"ACTIVATION",
+        KindRule::SpecialResource => b"RESOURCEPROPERTY",
+        KindRule::Callback => b"ACTION",
+        KindRule::ReversedCounter => b"MINCYCLE",
+        KindRule::OtherCategory => b"CATEGORY",
+        KindRule::ResourceOfIsr => b"RESOURCE",
+    }
+}
+
+fn is_activated_often(object: &Object) -> bool
+    ensures { result ≡ rules_of.is_activated_often object.now }
+{
+    number(b"ACTIVATION", object.attrs.as_slice(), 1) != 1
+}
+
+fn is_special_resource(object: &Object) -> bool
+    ensures { result ≡ rules_of.is_special_resource object.now }
+{
+    let attrs = object.attrs.as_slice();
+    says(b"RESOURCEPROPERTY", b"LINKED", attrs) || says(b"RESOURCEPROPERTY", b"INTERNAL", attrs)
+}
+
+fn is_callback(object: &Object) -> bool
+    ensures { result ≡ rules_of.is_callback object.now }
+{
+    says(b"ACTION", b"ALARMCALLBACK", object.attrs.as_slice())
+}
+
+fn is_other_category(object: &Object) -> bool
+    ensures { result ≡ rules_of.is_other_category object.now }
+{
+    let category = number(b"CATEGORY", object.attrs.as_slice(), 1);
+    category != 1 && category != 2
+}
+
+fn takes_resource(object: &Object) -> bool
+    ensures { result ≡ rules_of.takes_resource object.now }
+{
+    is_isr(Category::Two, object) && has(b"RESOURCE", object.attrs.as_slice())
+}
+
+fn is_reversed(counter: &Object) -> bool
+    ensures { result ≡ rules_of.is_reversed counter.now }
+{
+    let attrs = counter.attrs.as_slice();
+    maximum(attrs) < minimum(attrs)
+}
+
+/// Whether an object violates a rule.
+fn is_violated(rule: KindRule, object: &Object) -> bool
+    ensures { result ≡ is_violated rule object.now }
+{
+    match rule {
+        KindRule::SeveralActivations => is_activated_often(object),
+        KindRule::SpecialResource => is_special_resource(object),
+        KindRule::Callback => is_callback(object),
+        KindRule::ReversedCounter => is_reversed(object),
+        KindRule::OtherCategory => is_other_category(object),
+        KindRule::ResourceOfIsr => takes_resource(object),
+    }
+}
+
+#[tactic(auto, using(crate::proofs::Leasts::least_steps))]
+fn least_marked(kind: &[u8], attribute: &[u8], rule: KindRule, objects: &[Object]) -> Option<u32>
+    ensures { result ≡ least (map (line_at attribute.now) (filter (is_violated rule) (objects_of kind.now objects.now))) }
+{
+    let mut best = None;
+    for object in objects {
+        if is_kind(kind, object) && is_violated(rule, object) {
+            best = sooner(best, Some(line_at(attribute, object)));
+        }
+    }
+    best
+}
+
+/// The least line on which an object violates a rule.
+pub fn least_violation(rule: KindRule, objects: &[Object]) -> Option<u32>
+    ensures { result ≡ least (violations rule objects.now) }
+{
+    least_marked(kind_of(rule), attribute_of(rule), rule, objects)
+}

@@ -1,0 +1,3 @@
+pub mod LeastFaults
+pub mod OneAnswer
+pub mod Refusals

@@ -1,8 +1,0 @@
-use Rattle.std.proofs.Common.{refl}
-use Rattle.trace_text.proofs.WorkedApps.{shown}
-use Rattle.std.specs.Fmt.{digits}
-use Rattle.trace_text.proofs.worked_lines.an_activated_task_preempts.Goals as goal
-
-pub returns : goal.returns
-unfolding digits
-returns c = shown _ _ _ _ _ (λ app v w. refl)

@@ -1,0 +1,6 @@
+pub mod ValidLaws
+pub mod WorkedApps
+pub mod WorkedForms
+pub mod WorkedLaws
+pub mod WorkedLeast
+pub mod WorkedStates

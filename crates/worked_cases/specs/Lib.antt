@@ -1,0 +1,3 @@
+pub mod WorkedApps
+pub mod WorkedLines
+pub mod WorkedTables
