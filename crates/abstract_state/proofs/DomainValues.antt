@@ -14,9 +14,9 @@ use Rattle.abstract_state.specs.declared.value.{Val.{Val}, Val.TheVariants.{Susp
 use Rattle.abstract_state.specs.declared.value.Component.TheVariants as component
 use Rattle.abstract_state.specs.declared.value.Domain.TheVariants as domain
 use Rattle.abstract_state.specs.Components.{live_val, component_at, component_count, IsVal, IsPart, IsAllowed}
-use Rattle.abstract_state.specs.Tables.{same_part}
+use Rattle.abstract_state.specs.ValueOrder.{same_part}
 use Rattle.abstract_state.specs.Domains.{IsValWithin, IsWithin, IsCounted, domain_of, domain_size}
-use Rattle.abstract_state.proofs.EqualityLaws.{part_right}
+use Rattle.abstract_state.proofs.OrderLaws.{part_right}
 use Rattle.abstract_state.proofs.AlikeLaws.{block_in}
 use Rattle.abstract_state.proofs.Stacks.{Apart, apart_append, apart_map, apart_flat_map, apart_range, distinct_apart, stacks_out_of, apart_stacks_out_of, length_stacks_out_of, stack_out_of, out_of_stack}
 

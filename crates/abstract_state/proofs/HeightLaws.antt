@@ -23,7 +23,7 @@ use Rattle.abstract_state.specs.Domains.{domain_size, domain_of, domains_of, dom
 
 module _ {X Y : Type 0} (g : Y → ℕ) where
   -- sums over lists made of others
-  sum_map : (f : X → Y) (xs : List X) → sum_by g (map f xs) ≡ sum_by (λ x. g (f x)) xs
+  pub sum_map : (f : X → Y) (xs : List X) → sum_by g (map f xs) ≡ sum_by (λ x. g (f x)) xs
   sum_map f [] = refl
   sum_map f (x ∷ xs) =
       sum_by-cons g (f x) (map f xs) ∙ ap (λ (n : ℕ). g (f x) + n) (sum_map f xs) ∙ sym (sum_by-cons (λ (y : X). g (f y)) x xs)

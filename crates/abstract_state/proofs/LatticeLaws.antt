@@ -1,18 +1,21 @@
 -- The lattice of entries: what a join leaves is sound and lies where it should, and the number of values grows with the order.
-use Rattle.std.proofs.Common.{◌≡◌, ℕ, zero, suc, ◌+◌, ◌<◌, ◌≤◌, ◌^◌, List, [], ◌∷◌, length, get_or, set, take, map, refl, sym, ap, subst, ◌∙◌, arith, sum_by, Result, Ok, Err}
+use Rattle.std.proofs.Common.{◌≡◌, ℕ, zero, suc, ◌+◌, ◌≤◌, List, [], ◌∷◌, length, get_or, map, refl, sym, ap, ap₂, ◌∙◌, arith, sum_by, Result, Ok, Err}
 use Rattle.std.specs.Prelude.{IfOk, OnOk, OnErr}
 use Rattle.std.specs.List.{All}
+use Rattle.std.proofs.Math.ListN.{get_or-map}
 use Rattle.std.proofs.lemmas.List.{length-map}
-use Rattle.std.proofs.lemmas.List.Elements.{All-nil, All-cons, All-head, All-tail, All-set, All-get_or}
+use Rattle.std.proofs.lemmas.List.Elements.{All-head, All-tail, All-weaker, All-get_or, All-from_get_or}
 use Rattle.std.proofs.lemmas.List.Sums.{sum_by-cons}
 use Rattle.osek_values.specs.declared.memory.Memory.{Memory}
 use Rattle.abstract_state.specs.declared.value.Domain.{Domain}
 use Rattle.abstract_state.specs.declared.table.{ValueSet.{ValueSet}, Entry.{Entry}}
+use Rattle.abstract_state.specs.ValueOrder.{IsAscending}
 use Rattle.abstract_state.specs.Domains.{domain_size, IsCounted, IsSound, IsSoundEntry, IsBelow, domains, entry_height}
-use Rattle.abstract_state.specs.Tables.{empty_set, set_at, with_members, joined, joined_sets, joined_entry, entry_values, IsPartOfJoin, IsSubset}
-use Rattle.abstract_state.proofs.JoinLaws.{members_keep, members_take, join_least, with_members_grow, none_new}
-use Rattle.abstract_state.proofs.EntryJoins.{size, joined_later, joined_at, part_above, part_below}
-use Rattle.abstract_state.proofs.SoundSets.{fewer, same_values, most_members, domain_kept, sound_join, sound_part}
+use Rattle.abstract_state.specs.Tables.{empty_set, set_at, entry_values, AreAscending, IsJoin, IsPartOfJoin, IsSetBySet, IsSubset}
+use Rattle.abstract_state.proofs.JoinLaws.{no_longer, no_other, join_part, join_right, part_least, equal_sets}
+use Rattle.abstract_state.proofs.EntryJoins.{size, ascending_at, same_sets}
+use Rattle.abstract_state.proofs.HeightLaws.{sum_map}
+use Rattle.abstract_state.proofs.SoundSets.{most_members, sound_part}
 
 pub below_itself : (x : Entry) → IsBelow x x
 below_itself x = record { each = λ c v h. h }
@@ -31,20 +34,13 @@ as_long : (xs ys : List ValueSet) → domains_in xs ≡ domains_in ys → length
 as_long xs ys e = sym (length-map xs (λ (s : ValueSet). s.domain)) ∙ ap length e ∙ length-map ys (λ (s : ValueSet). s.domain)
 
 same_room : (xs ys : List ValueSet) → domains_in xs ≡ domains_in ys → sum_by room xs ≡ sum_by room ys
-same_room [] [] e = refl
-same_room [] (y ∷ ys) e = absurd (cc)
-same_room (x ∷ xs) [] e = absurd (cc)
-same_room (x ∷ xs) (y ∷ ys) e =
-    let first : x.domain ≡ y.domain = cc in
-    let rest : domains_in xs ≡ domains_in ys = cc in
-    omega (arith, sum_by-cons room x xs, sum_by-cons room y ys, ap domain_size first, same_room xs ys rest)
+same_room xs ys e = sym (sum_map domain_size (λ (s : ValueSet). s.domain) xs) ∙ ap (sum_by domain_size) e ∙ sum_map domain_size (λ (s : ValueSet). s.domain) ys
 
 same_domain_at : (xs ys : List ValueSet) (c : ℕ) → domains_in xs ≡ domains_in ys → (get_or xs c empty_set).domain ≡ (get_or ys c empty_set).domain
-same_domain_at [] [] c e = refl
-same_domain_at [] (y ∷ ys) c e = absurd (cc)
-same_domain_at (x ∷ xs) [] c e = absurd (cc)
-same_domain_at (x ∷ xs) (y ∷ ys) zero e = cc
-same_domain_at (x ∷ xs) (y ∷ ys) (suc c) e = let rest : domains_in xs ≡ domains_in ys = cc in same_domain_at xs ys c rest
+same_domain_at xs ys c e =
+    sym (get_or-map (λ (s : ValueSet). s.domain) xs c empty_set)
+    ∙ ap (λ (ds : List Domain). get_or ds c empty_set.domain) e
+    ∙ get_or-map (λ (s : ValueSet). s.domain) ys c empty_set
 
 -- alike entries have one height
 pub heights_agree : (x y : Entry) → domains x ≡ domains y → entry_height x ≡ entry_height y
@@ -58,7 +54,7 @@ more_above : (xs ys : List ValueSet) → All IsSound xs → length xs ≡ length
 more_above [] ys sound e below = omega arith
 more_above (x ∷ xs) [] sound e below = absurd (omega (arith, e))
 more_above (x ∷ xs) (y ∷ ys) sound e below =
-    let first = fewer x y (All-head IsSound x xs sound) (below 0) in
+    let first = no_longer x.members y.members (All-head IsSound x xs sound).ascending (below 0) in
     let rest = more_above xs ys (All-tail IsSound x xs sound) (omega (arith, e)) (λ c. below (suc c)) in
     omega (arith, sum_by-cons size x xs, sum_by-cons size y ys, first, rest)
 
@@ -68,9 +64,9 @@ none_above [] (y ∷ ys) sound e below few c v h = absurd (omega (arith, e))
 none_above (x ∷ xs) [] sound e below few c v h = absurd (omega (arith, e))
 none_above (x ∷ xs) (y ∷ ys) sound e below few zero v h =
     let rest = more_above xs ys (All-tail IsSound x xs sound) (omega (arith, e)) (λ k. below (suc k)) in
-    same_values x y (All-head IsSound x xs sound) (below 0) (omega (arith, sum_by-cons size x xs, sum_by-cons size y ys, rest, few)) v h
+    no_other x.members y.members (All-head IsSound x xs sound).ascending (below 0) (omega (arith, sum_by-cons size x xs, sum_by-cons size y ys, rest, few)) v h
 none_above (x ∷ xs) (y ∷ ys) sound e below few (suc c) v h =
-    let first = fewer x y (All-head IsSound x xs sound) (below 0) in
+    let first = no_longer x.members y.members (All-head IsSound x xs sound).ascending (below 0) in
     none_above xs ys (All-tail IsSound x xs sound) (omega (arith, e)) (λ k. below (suc k)) (omega (arith, sum_by-cons size x xs, sum_by-cons size y ys, first, few)) c v h
 
 -- what is above has at least as many values, and where it has no more it is also below
@@ -91,69 +87,24 @@ module _ (counted : (d : Domain) → IsCounted d) where
   pub most_values : (entry : Entry) → IsSoundEntry entry → entry_values entry ≤ entry_height entry
   most_values entry sound = within_room entry.sets sound.sets
 
--- the domains of a join, of its front, and after a write that keeps them
-front_domains : (xs ys : List ValueSet) (i : ℕ) → domains_in (joined_sets xs (take i ys)) ≡ domains_in xs
-front_domains [] ys i = refl
-front_domains (x ∷ xs) [] zero = refl
-front_domains (x ∷ xs) [] (suc i) = refl
-front_domains (x ∷ xs) (y ∷ ys) zero = refl
-front_domains (x ∷ xs) (y ∷ ys) (suc i) =
-    ap (λ (d : Domain). d ∷ domains_in (joined_sets xs (take i ys))) (domain_kept x y.members)
-    ∙ ap (λ (ds : List Domain). x.domain ∷ ds) (front_domains xs ys i)
+pub sound_ascends : (x : Entry) → IsSoundEntry x → AreAscending x
+sound_ascends x sound = All-weaker IsSound (λ (s : ValueSet). IsAscending s.members) (λ s one. one.ascending) x.sets sound.sets
 
-whole_domains : (xs ys : List ValueSet) → domains_in (joined_sets xs ys) ≡ domains_in xs
-whole_domains [] ys = refl
-whole_domains (x ∷ xs) [] = refl
-whole_domains (x ∷ xs) (y ∷ ys) =
-    ap (λ (d : Domain). d ∷ domains_in (joined_sets xs ys)) (domain_kept x y.members)
-    ∙ ap (λ (ds : List Domain). x.domain ∷ ds) (whole_domains xs ys)
+-- sound entries below one another are equal
+pub equal_entries : (x y : Entry) → IsSoundEntry x → IsSoundEntry y → domains x ≡ domains y → IsBelow x y → IsBelow y x → x ≡ y
+equal_entries x y sound other alike below back =
+    let sets =
+    same_sets x.sets y.sets (as_long x.sets y.sets alike) (λ c.
+    equal_sets (set_at x c) (set_at y c) (ascending_at x.sets c (sound_ascends x sound)) (ascending_at y.sets c (sound_ascends y other))
+    (same_domain_at x.sets y.sets c alike) (below.each c) (back.each c)) in
+    λ i. record { sets = sets i }
 
-written_domains : (xs : List ValueSet) (i : ℕ) (s : ValueSet) → s.domain ≡ (get_or xs i empty_set).domain → domains_in (set xs i s) ≡ domains_in xs
-written_domains [] i s e = refl
-written_domains (x ∷ xs) zero s e = ap (λ (d : Domain). d ∷ domains_in xs) e
-written_domains (x ∷ xs) (suc i) s e = ap (λ (ds : List Domain). x.domain ∷ ds) (written_domains xs i s e)
-
--- joins of sound sets are sound
-front_sound : (xs ys : List ValueSet) (i : ℕ) → All IsSound xs → All IsSound ys → domains_in xs ≡ domains_in ys → All IsSound (joined_sets xs (take i ys))
-front_sound [] ys i sound other e = All-nil IsSound
-front_sound (x ∷ xs) [] i sound other e = absurd (cc)
-front_sound (x ∷ xs) (y ∷ ys) zero sound other e = sound
-front_sound (x ∷ xs) (y ∷ ys) (suc i) sound other e =
-    let first : x.domain ≡ y.domain = cc in
-    let rest : domains_in xs ≡ domains_in ys = cc in
-    All-cons IsSound (joined x y) (joined_sets xs (take i ys)) (sound_join x y (All-head IsSound x xs sound) (All-head IsSound y ys other) first)
-    (front_sound xs ys i (All-tail IsSound x xs sound) (All-tail IsSound y ys other) rest)
-
-whole_sound : (xs ys : List ValueSet) → All IsSound xs → All IsSound ys → domains_in xs ≡ domains_in ys → All IsSound (joined_sets xs ys)
-whole_sound [] ys sound other e = All-nil IsSound
-whole_sound (x ∷ xs) [] sound other e = absurd (cc)
-whole_sound (x ∷ xs) (y ∷ ys) sound other e =
-    let first : x.domain ≡ y.domain = cc in
-    let rest : domains_in xs ≡ domains_in ys = cc in
-    All-cons IsSound (joined x y) (joined_sets xs ys) (sound_join x y (All-head IsSound x xs sound) (All-head IsSound y ys other) first)
-    (whole_sound xs ys (All-tail IsSound x xs sound) (All-tail IsSound y ys other) rest)
-
--- where none is new in all, each set is as it was
-joined_grow : (xs ys : List ValueSet) → sum_by size xs ≤ sum_by size (joined_sets xs ys)
-joined_grow [] ys = omega arith
-joined_grow (x ∷ xs) [] = omega arith
-joined_grow (x ∷ xs) (y ∷ ys) =
-    omega (arith, sum_by-cons size x xs, sum_by-cons size (joined x y) (joined_sets xs ys), with_members_grow x y.members, joined_grow xs ys)
-
-none_joined : (xs ys : List ValueSet) → sum_by size (joined_sets xs ys) ≡ sum_by size xs → joined_sets xs ys ≡ xs
-none_joined [] ys e = refl
-none_joined (x ∷ xs) [] e = refl
-none_joined (x ∷ xs) (y ∷ ys) e =
-    let head = with_members_grow x y.members in
-    let tail = joined_grow xs ys in
-    let whole = sum_by-cons size x xs in
-    let grown = sum_by-cons size (joined x y) (joined_sets xs ys) in
-    let first : joined x y ≡ x = none_new x y.members (omega (arith, e, head, tail, whole, grown)) in
-    let rest : joined_sets xs ys ≡ xs = none_joined xs ys (omega (arith, e, head, tail, whole, grown)) in
-    ap (λ (s : ValueSet). s ∷ joined_sets xs ys) first ∙ ap (λ (ss : List ValueSet). x ∷ ss) rest
-
-abbrev entry_of : List ValueSet → Entry
-entry_of ss = record { sets = ss }
+-- sets with the same domains at their places
+same_domains : (xs ys : List ValueSet) → length xs ≡ length ys → ((c : ℕ) → (get_or xs c empty_set).domain ≡ (get_or ys c empty_set).domain) → domains_in xs ≡ domains_in ys
+same_domains [] [] e h = refl
+same_domains [] (y ∷ ys) e h = absurd (omega (arith, e))
+same_domains (x ∷ xs) [] e h = absurd (omega (arith, e))
+same_domains (x ∷ xs) (y ∷ ys) e h = ap₂ (λ (d : Domain) (ds : List Domain). d ∷ ds) (h 0) (same_domains xs ys (omega (arith, e)) (λ c. h (suc c)))
 
 -- What a join leaves, done or stopped: a sound entry, alike, above what was there and below whatever is above both.
 pub record IsOnTheWay (before other after : Entry) : Type 0 where
@@ -162,89 +113,40 @@ pub record IsOnTheWay (before other after : Entry) : Type 0 where
   pub grows : IsBelow before after
   pub least : (z : Entry) → IsBelow before z → IsBelow other z → IsBelow after z
 
-module _ (before other : Entry) (sound : IsSoundEntry before) (too : IsSoundEntry other) (alike : domains before ≡ domains other) where
-  few_after : (after : Entry) → domains before ≡ domains after → entry_height after < 2 ^ 64
-  few_after after same = omega (arith, heights_agree before after same, sound.few)
+module _ (before other : Entry) (sound : IsSoundEntry before) (too : IsSoundEntry other) (alike : domains before ≡ domains other) (after : Entry) where
+  part_on_the_way : IsSetBySet IsPartOfJoin before other after → IsOnTheWay before other after
+  part_on_the_way part =
+      let long = as_long before.sets other.sets alike in
+      let same : domains before ≡ domains after = same_domains before.sets after.sets (sym part.as_many) (λ c. sym (part.each c).domain) in
+      let sets : All IsSound after.sets =
+      All-from_get_or IsSound after.sets empty_set (λ i lt.
+      sound_part (set_at before i) (set_at other i) (set_at after i)
+      (All-get_or IsSound before.sets i empty_set (omega (arith, lt, part.as_many)) sound.sets)
+      (All-get_or IsSound other.sets i empty_set (omega (arith, lt, part.as_many, long)) too.sets)
+      (same_domain_at before.sets other.sets i alike) (part.each i)) in
+      record {
+        element = record { sets = sets; few = omega (arith, heights_agree before after same, sound.few) };
+        alike = same;
+        grows = record { each = λ c. (part.each c).keeps };
+        least = λ z h k. record { each = λ c. part_least (set_at before c) (set_at other c) (set_at after c) (set_at z c) (part.each c) (h.each c) (k.each c) };
+      }
 
-  below_join : (z : Entry) → IsBelow before z → IsBelow other z → (c : ℕ) → IsSubset (set_at (joined_entry before other) c) (set_at z c)
-  below_join z h k c =
-      subst (λ (s : ValueSet). IsSubset s (set_at z c)) (sym (joined_at before.sets other.sets c (as_long before.sets other.sets alike)))
-      (join_least (set_at before c) (set_at other c) (set_at z c) (h.each c) (k.each c))
+  join_on_the_way : IsSetBySet IsJoin before other after → IsOnTheWay before other after
+  join_on_the_way join = part_on_the_way (record { as_many = join.as_many; each = λ c. join_part (set_at before c) (set_at other c) (set_at after c) (join.each c) })
 
-  pub whole_on_the_way : IsOnTheWay before other (joined_entry before other)
-  whole_on_the_way = record {
-    element = record {
-      sets = whole_sound before.sets other.sets sound.sets too.sets alike;
-      few = few_after (joined_entry before other) (sym (whole_domains before.sets other.sets));
-    };
-    alike = sym (whole_domains before.sets other.sets);
-    grows = record {
-      each = λ c.
-          subst (IsSubset (set_at before c)) (sym (joined_at before.sets other.sets c (as_long before.sets other.sets alike)))
-          (members_keep (set_at before c) (set_at other c).members);
-    };
-    least = λ z h k. record { each = below_join z h k };
-  }
+  -- so it is whether the join was done or memory was wanted
+  pub on_the_way : (result : Result ℕ Memory) → OnOk result (IsSetBySet IsJoin before other after) → OnErr result (IsSetBySet IsPartOfJoin before other after) → IsOnTheWay before other after
+  on_the_way (Ok n) done stopped = join_on_the_way done
+  on_the_way (Err e) done stopped = part_on_the_way stopped
 
-  -- the whole join is above the other
-  pub whole_above : IsBelow other (joined_entry before other)
-  whole_above = record {
-    each = λ c.
-        subst (IsSubset (set_at other c)) (sym (joined_at before.sets other.sets c (as_long before.sets other.sets alike)))
-        (members_take (set_at before c) (set_at other c).members);
-  }
+  pub join_done : (result : Result ℕ Memory) → OnOk result (IsSetBySet IsJoin before other after) → OnOk result (IsBelow other after)
+  join_done (Ok n) done = record { each = λ c. join_right (set_at before c) (set_at other c) (set_at after c) (done.each c) }
+  join_done (Err e) done = tt
 
-  module _ (after : Entry) (part : IsPartOfJoin before other after) where
-    front : List ValueSet
-    front = joined_sets before.sets (take part.place other.sets)
-
-    last : ValueSet
-    last = with_members (set_at before part.place) (take part.taken (set_at other part.place).members)
-
-    same_after : domains before ≡ domains after
-    unfolding front last
-    same_after =
-        sym
-        (ap domains_in part.is
-        ∙ written_domains front part.place last (domain_kept (set_at before part.place) (take part.taken (set_at other part.place).members) ∙ sym (ap (λ (s : ValueSet). s.domain) (joined_later before.sets other.sets part.place)))
-        ∙ front_domains before.sets other.sets part.place)
-
-    sound_last : IsSound last
-    unfolding front last
-    sound_last =
-        sound_part (set_at before part.place) (set_at other part.place)
-        (All-get_or IsSound before.sets part.place empty_set (omega (arith, part.known, as_long before.sets other.sets alike)) sound.sets)
-        (All-get_or IsSound other.sets part.place empty_set part.known too.sets)
-        (same_domain_at before.sets other.sets part.place alike)
-        part.taken
-
-    sound_after : All IsSound after.sets
-    unfolding front last
-    sound_after =
-        subst (All IsSound) (sym part.is)
-        (All-set IsSound front part.place last sound_last (front_sound before.sets other.sets part.place sound.sets too.sets alike))
-
-    pub part_on_the_way : IsOnTheWay before other after
-    part_on_the_way = record {
-      element = record { sets = sound_after; few = few_after after same_after };
-      alike = same_after;
-      grows = record { each = part_above before other after (as_long before.sets other.sets alike) part };
-      least = λ z h k. record { each = λ c v member. below_join z h k c v (part_below before other after (as_long before.sets other.sets alike) part c v member) };
-    }
-
-  module _ (after : Entry) where
-    -- so it is whether the join was done or memory was wanted
-    pub on_the_way : (result : Result ℕ Memory) → OnOk result (after ≡ joined_entry before other) → OnErr result (IsPartOfJoin before other after) → IsOnTheWay before other after
-    on_the_way (Ok n) done stopped = subst (IsOnTheWay before other) (sym done) whole_on_the_way
-    on_the_way (Err e) done stopped = part_on_the_way after stopped
-
-    pub join_done : (result : Result ℕ Memory) → OnOk result (after ≡ joined_entry before other) → OnOk result (IsBelow other after)
-    join_done (Ok n) done = subst (IsBelow other) (sym done) whole_above
-    join_done (Err e) done = tt
-
-    pub join_of_none : (result : Result ℕ Memory) → OnOk result (after ≡ joined_entry before other) → IfOk result (λ n. entry_values after ≡ entry_values before + n) → IfOk result (λ n. n ≡ 0 → after ≡ before)
-    join_of_none (Ok n) done count =
-        λ none.
-        let same : sum_by size (joined_sets before.sets other.sets) ≡ sum_by size before.sets = sym (ap entry_values done) ∙ omega (arith, count, none) in
-        done ∙ ap entry_of (none_joined before.sets other.sets same)
-    join_of_none (Err e) done count = tt
+  pub join_of_none : (result : Result ℕ Memory) → OnOk result (IsSetBySet IsJoin before other after) → IfOk result (λ n. entry_values after ≡ entry_values before + n) → IfOk result (λ n. n ≡ 0 → after ≡ before)
+  join_of_none (Ok n) done count =
+      λ none.
+      let way = join_on_the_way done in
+      let back = growth_shows before after sound way.element way.alike way.grows (omega (arith, count, none)) in
+      equal_entries after before way.element sound (sym way.alike) back way.grows
+  join_of_none (Err e) done count = tt

@@ -6,6 +6,7 @@ pub mod ComponentLaws
 pub mod BitLaws
 pub mod AllowedLaws
 pub mod ConcreteLaws
+pub mod OrderLaws
 pub mod EqualityLaws
 pub mod MarkLaws
 pub mod JoinLaws

@@ -12,7 +12,8 @@ use Rattle.abstract_state.specs.declared.value.Component.TheVariants as componen
 use Rattle.abstract_state.specs.declared.value.Domain.TheVariants as domain
 use Rattle.abstract_state.specs.declared.table.{ValueSet.{ValueSet}, Entry.{Entry}}
 use Rattle.abstract_state.specs.Components.{components}
-use Rattle.abstract_state.specs.Tables.{same_part, set_at, IsSubset}
+use Rattle.abstract_state.specs.ValueOrder.{same_part, IsAscending}
+use Rattle.abstract_state.specs.Tables.{set_at, IsSubset}
 
 -- what a task with these blocks can be: suspended, Live at one of them with a stack of resources, or waiting at one
 abbrev pub IsValWithin : ℕ → ℕ → ℕ → Val → Type 0
@@ -66,10 +67,10 @@ HasMasks app = All (λ (x : Task). x.own.0 < 2 ^ 64) app.tasks
 abbrev pub entry_height : Entry → ℕ
 entry_height entry = sum_by (λ (set : ValueSet). domain_size set.domain) entry.sets
 
--- values of the domain, none twice
+-- values of the domain, in their order
 pub record IsSound (set : ValueSet) : Type 0 where
   pub within : All (IsWithin set.domain) set.members
-  pub distinct : IsDistinct same_part set.members
+  pub ascending : IsAscending set.members
 
 -- each set is sound, and a count of 64 bits holds the number of values
 pub record IsSoundEntry (entry : Entry) : Type 0 where

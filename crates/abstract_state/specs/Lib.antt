@@ -4,3 +4,5 @@ pub mod Concrete
 pub mod Domains
 pub mod Forms
 pub mod Tables
+pub mod ValueOrder
+pub mod Written

@@ -1,20 +1,20 @@
 -- Tables of possible states, judged by single steps of single states.
-use Rattle.std.specs.Prelude.{◌≡◌, ℕ, ◌<◌, Bool, true, false, ◌&&◌, ◌==◌, List, [], ◌∷◌, length, slice_index_or, sum_by, IsTrue, Some, None, Contains, ◌++◌, if◌then◌else◌, take, slice_set}
+use Rattle.std.specs.Prelude.{◌≡◌, ℕ, ◌<◌, Bool, true, false, ◌&&◌, ◌||◌, ◌==◌, [], length, slice_index_or, slice_set, sum_by, IsTrue, Some, None, Contains, All}
 use Rattle.std.specs.List.{list_any}
-use Rattle.std.specs.Cmp.Lexicographic.{pointwise}
 use Rattle.std.specs.declared.option.Option.{Option}
 use Rattle.osek_values.specs.declared.event.Event.{Event}
-use Rattle.osek_values.specs.declared.numbers.{TaskNo.{TaskNo}, ResNo.{ResNo}, ModeNo.{ModeNo}}
+use Rattle.osek_values.specs.declared.numbers.{TaskNo.{TaskNo}, ModeNo.{ModeNo}}
 use Rattle.osek_standard.specs.declared.app.App.{App}
 use Rattle.osek_standard.specs.declared.state.State.{State}
 use Rattle.osek_standard.specs.Kernel.{start, step}
 use Rattle.osek_standard.specs.Well.{Well}
 use Rattle.osek_standard.specs.declared.point.Point.{Point}
 use Rattle.osek_standard.specs.declared.point.Point.TheVariants as point
-use Rattle.abstract_state.specs.declared.value.{Val.{Val}, Val.TheVariants.{Suspended, Live, Waiting}, Domain.{Domain}, PartValue.{PartValue}, PartValue.TheVariants.{OfTask, OfEvent, OfAlarm}}
+use Rattle.abstract_state.specs.declared.value.{Domain.{Domain}, PartValue.{PartValue}}
 use Rattle.abstract_state.specs.declared.value.Domain.TheVariants as domain
 use Rattle.abstract_state.specs.declared.table.{ValueSet.{ValueSet}, Entry.{Entry}, TableRow.{TableRow}, Table.{Table}}
 use Rattle.osek_standard.specs.Points.{point_of, IsPoint}
+use Rattle.abstract_state.specs.ValueOrder.{same_part, IsAscending}
 use Rattle.abstract_state.specs.Components.{component_count, abstract_of, IsAllowed}
 
 -- What a table says, however it is written down: which points have an entry, and which values are in the entry's set
@@ -79,26 +79,6 @@ same_point (point.Task b) (point.Task c) = b.0 == c.0
 same_point (point.Routine b over) (point.Routine c under) = (b.0 == c.0) && same_over over under
 same_point _ _ = false
 
-abbrev pub same_stack : List ResNo → List ResNo → Bool
-same_stack = pointwise (λ (q r : ResNo). q.0 == r.0)
-
-abbrev pub same_val : Val → Val → Bool
-same_val Suspended Suspended = true
-same_val (Live x) (Live y) = (x.block.0 == y.block.0) && same_stack x.held y.held
-same_val (Waiting b) (Waiting c) = b.0 == c.0
-same_val _ _ = false
-
-abbrev pub same_flag : Bool → Bool → Bool
-same_flag true b = b
-same_flag false true = false
-same_flag false false = true
-
-abbrev pub same_part : PartValue → PartValue → Bool
-same_part (OfTask v) (OfTask w) = same_val v w
-same_part (OfEvent a) (OfEvent b) = same_flag a b
-same_part (OfAlarm a) (OfAlarm b) = same_flag a b
-same_part _ _ = false
-
 -- a written table
 abbrev pub empty_of : Domain → ValueSet
 empty_of d = record { domain = d; members = [] }
@@ -117,37 +97,35 @@ is_member set v = list_any (same_part v) set.members
 abbrev pub IsSubset : ValueSet → ValueSet → Type 0
 IsSubset set other = (v : PartValue) → IsTrue (is_member set v) → IsTrue (is_member other v)
 
--- a set with one more value, if it isn't there
-abbrev pub with_member : ValueSet → PartValue → ValueSet
-with_member set v = if is_member set v then set else record { domain = set.domain; members = set.members ++ v ∷ [] }
+-- The join of two sets: its members are those of both.
+pub record IsJoin (set other after : ValueSet) : Type 0 where
+  pub domain : after.domain ≡ set.domain
+  pub ascending : IsAscending after.members
+  pub members : (v : PartValue) → is_member after v ≡ (is_member set v || is_member other v)
 
--- a set with all values of a list
-abbrev pub with_members : ValueSet → List PartValue → ValueSet
-with_members set [] = set
-with_members set (v ∷ vs) = with_members (with_member set v) vs
-
--- the least set with the values of both
-abbrev pub joined : ValueSet → ValueSet → ValueSet
-joined set other = with_members set other.members
+-- A join that stopped: no member is lost, and none is from elsewhere.
+pub record IsPartOfJoin (set other after : ValueSet) : Type 0 where
+  pub domain : after.domain ≡ set.domain
+  pub ascending : IsAscending after.members
+  pub keeps : IsSubset set after
+  pub from : (v : PartValue) → IsTrue (is_member after v) → IsTrue (is_member set v || is_member other v)
 
 abbrev pub entry_values : Entry → ℕ
 entry_values entry = sum_by (λ (set : ValueSet). length set.members) entry.sets
 
--- each set with the values of the other's set for the same component
-abbrev pub joined_sets : List ValueSet → List ValueSet → List ValueSet
-joined_sets [] others = []
-joined_sets (set ∷ sets) [] = set ∷ sets
-joined_sets (set ∷ sets) (other ∷ others) = joined set other ∷ joined_sets sets others
+abbrev pub AreAscending : Entry → Type 0
+AreAscending entry = All (λ (set : ValueSet). IsAscending set.members) entry.sets
 
-abbrev pub joined_entry : Entry → Entry → Entry
-joined_entry entry other = record { sets = joined_sets entry.sets other.sets }
+-- The sets for each component are so related, and there are as many after.
+pub record IsSetBySet (P : ValueSet → ValueSet → ValueSet → Type 0) (entry other after : Entry) : Type 0 where
+  pub as_many : length after.sets ≡ length entry.sets
+  pub each : (c : ℕ) → P (set_at entry c) (set_at other c) (set_at after c)
 
--- the sets below a component are joined, and that component's has some of the other's values
-pub record IsPartOfJoin (entry other after : Entry) : Type 0 where
-  pub place : ℕ
-  pub known : place < length other.sets
-  pub taken : ℕ
-  pub is : after.sets ≡ slice_set (joined_sets entry.sets (take place other.sets)) place (with_members (set_at entry place) (take taken (set_at other place).members))
+-- the set for component c is so related to another set, and the rest stays
+pub record IsWrite (P : ValueSet → ValueSet → ValueSet → Type 0) (c : ℕ) (other : ValueSet) (entry after : Entry) : Type 0 where
+  pub set : ValueSet
+  pub is : P (set_at entry c) other set
+  pub written : after.sets ≡ slice_set entry.sets c set
 
 abbrev pub is_row_of : Point → TableRow → Bool
 is_row_of p row = same_point p row.point

@@ -1,6 +1,8 @@
 //! Laws over the definitions, each on a function that does nothing.
-ghost use Rattle.std.specs.Prelude.{◌≡◌, ◌↔◌, ℕ, ◌<◌, ◌≤◌, List, length, take, IsTrue, Some};
+ghost use Rattle.std.specs.Prelude.{◌≡◌, ◌↔◌, ℕ, ◌<◌, ◌≤◌, List, length, IsTrue, Some};
+ghost use Rattle.std.specs.Cmp.{IsTotalOrder};
 ghost use Rattle.std.specs.List.{IsDistinct};
+ghost use Rattle.std.specs.declared.cmp.Ordering.TheVariants.{Equal};
 ghost use Rattle.osek_values.specs.declared.event.Event.{Event};
 ghost use Rattle.osek_values.specs.declared.numbers.ModeNo.{ModeNo};
 ghost use Rattle.osek_values.specs.declared.status.Status.{Status};
@@ -23,8 +25,9 @@ ghost use Rattle.osek_standard.specs.Points.{point_of, IsPoint};
 ghost use Rattle.abstract_state.specs.Components.{component_count, abstract_of, IsAllowed};
 ghost use Rattle.abstract_state.specs.Concrete.{Free, IsFree, AreAllowed, HasParts, state_of};
 ghost use Rattle.abstract_state.specs.Alike.{IsAlike};
-ghost use Rattle.abstract_state.specs.Tables.{Sets, In, Inductive, IsContained, Least, meet, full, same_part, IsSubset, IsPartOfJoin, set_at, joined_entry, joined, with_members, sets_of, HasRow, HasValue};
-ghost use Rattle.abstract_state.specs.Domains.{IsSound};
+ghost use Rattle.abstract_state.specs.Tables.{Sets, In, Inductive, IsContained, Least, meet, full, IsSubset, IsJoin, IsPartOfJoin, IsSetBySet, set_at, sets_of, HasRow, HasValue};
+ghost use Rattle.abstract_state.specs.ValueOrder.{same_part, part_order, IsAscending};
+ghost use Rattle.abstract_state.specs.Domains.{domains, IsSound, IsSoundEntry, IsBelow};
 ghost use Rattle.osek_standard.specs.Outcomes.{Silent, Arrived, Did, shows, IsInstruction, IsArrivalStep};
 ghost use Rattle.abstract_state.specs.Forms.{FormOf, Known, KnownOf, HasDictatedForms, Edge};
 
@@ -87,23 +90,30 @@ pub fn a_written_table_says_its_rows()
     ensures has { (table : Table) (p : Point) (c : ℕ) (v : PartValue) → IsTrue ((sets_of table).has p c v) ↔ HasValue table p c v }
 {}
 
-/// The join of two sets is the least above both, and each set on the way to it lies between; where it has no more
-/// values it is the first set, and where that has no value twice the join has none twice.
+/// The order of values is total, and ties no two.
+pub fn values_are_in_a_total_order()
+    ensures total { IsTotalOrder part_order }
+    ensures ties { (v w : PartValue) → part_order v w ≡ Equal → v ≡ w }
+{}
+
+/// The join of two sets is one, the least above both, with no value twice; a join that stopped lies between; where it
+/// has no more values it is the first set.
 pub fn the_join_is_the_least_set_above_both()
-    ensures left { (a b : ValueSet) → IsSubset a (joined a b) }
-    ensures right { (a b : ValueSet) → IsSubset b (joined a b) }
-    ensures least { (a b c : ValueSet) → IsSubset a c → IsSubset b c → IsSubset (joined a b) c }
-    ensures before { (a b : ValueSet) (k : ℕ) → IsSubset a (with_members a (take k b.members)) }
-    ensures after { (a b : ValueSet) (k : ℕ) → IsSubset (with_members a (take k b.members)) (joined a b) }
-    ensures same { (a b : ValueSet) → length (joined a b).members ≡ length a.members → joined a b ≡ a }
-    ensures distinct { (a b : ValueSet) → IsDistinct same_part a.members → IsDistinct same_part (joined a b).members }
+    ensures one { (a b x y : ValueSet) → IsJoin a b x → IsJoin a b y → x ≡ y }
+    ensures left { (a b x : ValueSet) → IsJoin a b x → IsSubset a x }
+    ensures right { (a b x : ValueSet) → IsJoin a b x → IsSubset b x }
+    ensures least { (a b x c : ValueSet) → IsJoin a b x → IsSubset a c → IsSubset b c → IsSubset x c }
+    ensures before { (a b p : ValueSet) → IsPartOfJoin a b p → IsSubset a p }
+    ensures after { (a b p x : ValueSet) → IsPartOfJoin a b p → IsJoin a b x → IsSubset p x }
+    ensures same { (a b x : ValueSet) → IsAscending a.members → IsJoin a b x → length x.members ≡ length a.members → x ≡ a }
+    ensures distinct { (a b x : ValueSet) → IsJoin a b x → IsDistinct same_part x.members }
 {}
 
 /// Entries join set by set, and where a join stopped each set lies between what it was and the join.
 pub fn entries_join_set_by_set()
-    ensures sets { (a b : Entry) (c : ℕ) → length a.sets ≡ length b.sets → set_at (joined_entry a b) c ≡ joined (set_at a c) (set_at b c) }
-    ensures before { (a b x : Entry) (c : ℕ) → length a.sets ≡ length b.sets → IsPartOfJoin a b x → IsSubset (set_at a c) (set_at x c) }
-    ensures after { (a b x : Entry) (c : ℕ) → length a.sets ≡ length b.sets → IsPartOfJoin a b x → IsSubset (set_at x c) (set_at (joined_entry a b) c) }
+    ensures one { (a b x y : Entry) → IsSetBySet IsJoin a b x → IsSetBySet IsJoin a b y → x ≡ y }
+    ensures before { (a b p : Entry) (c : ℕ) → IsSetBySet IsPartOfJoin a b p → IsSubset (set_at a c) (set_at p c) }
+    ensures after { (a b p x : Entry) (c : ℕ) → IsSetBySet IsPartOfJoin a b p → IsSetBySet IsJoin a b x → IsSubset (set_at p c) (set_at x c) }
 {}
 
 /// A step does what it shows: an instruction with this outcome and status, the begin of a routine, or nothing that a
@@ -144,5 +154,11 @@ pub fn no_block_is_without_a_form()
 pub fn sound_sets_grow_by_their_members()
     ensures fewer { (a b : ValueSet) → IsSound a → IsSubset a b → length a.members ≤ length b.members }
     ensures same { (a b : ValueSet) → IsSound a → IsSound b → IsSubset a b → length b.members ≤ length a.members → IsSubset b a }
-    ensures joins { (a b : ValueSet) → IsSound a → IsSound b → a.domain ≡ b.domain → IsSound (joined a b) }
+    ensures joins { (a b x : ValueSet) → IsSound a → IsSound b → a.domain ≡ b.domain → IsJoin a b x → IsSound x }
+{}
+
+/// Sound sets of one domain with the same values are equal, and so are sound entries below one another.
+pub fn sound_sets_are_their_values()
+    ensures sets { (a b : ValueSet) → IsSound a → IsSound b → a.domain ≡ b.domain → IsSubset a b → IsSubset b a → a ≡ b }
+    ensures entries { (a b : Entry) → IsSoundEntry a → IsSoundEntry b → domains a ≡ domains b → IsBelow a b → IsBelow b a → a ≡ b }
 {}

@@ -5,8 +5,9 @@ use crate::value::{Domain, PartValue};
 use osek_standard::Point;
 use osek_values::{Memory, Seq};
 use std::alloc::Global;
+use std::cmp::Ordering;
 
-/// A set of values, which its members make: order and repeats say nothing.
+/// A set of values: its members, which a sound set has in ascending order.
 #[derive(Drop)]
 pub struct ValueSet {
     pub domain: Domain,
@@ -33,12 +34,15 @@ pub struct Table {
 }
 
 impl ValueSet {
-    ghost use Rattle.std.specs.Prelude.{◌≡◌, ◌+◌, [], ℕ, ◌≤◌, not, length, take, IfOk, OnOk, OnErr};
-    ghost use Rattle.abstract_state.specs.Tables.{empty_of, is_member, with_member, with_members, joined};
+    ghost use Rattle.std.specs.Prelude.{◌≡◌, ◌+◌, ◌||◌, ℕ, ◌≤◌, not, length, IfOk, IfErr, OnOk, OnErr, if◌then◌else◌};
+    ghost use Rattle.std.specs.List.{insert};
+    ghost use Rattle.abstract_state.specs.ValueOrder.{same_part, IsAscending, ArePassed, IsPlace, IsGap};
+    ghost use Rattle.abstract_state.specs.Tables.{empty_of, is_member, IsJoin, IsPartOfJoin};
 
     /// The set without a value. It takes no memory yet.
     pub fn new(alloc: Global, domain: Domain) -> ValueSet
-        ensures { result ≡ empty_of domain }
+        ensures empty { result ≡ empty_of domain }
+        ensures ascending { IsAscending result.members }
     {
         ValueSet {
             domain,
@@ -56,44 +60,99 @@ impl ValueSet {
             .any(|member| value.is(member))
     }
 
-    /// Puts a value in the set, and tells whether it is new there.
-    pub fn insert(&mut self, value: PartValue) -> Result<bool, Memory>
-        ensures is_new { IfOk result (λ is_new. is_new ≡ not (is_member self.old value)) }
-        ensures set { OnOk result (self.new ≡ with_member self.old value) }
+    /// The place of a value, or the one where it would come in, where those before a place are known to be before it.
+    fn search(&self, from: usize, value: &PartValue) -> Result<usize, usize>
+        requires { ArePassed self.now.members from value.now }
+        ensures place { IfOk result (λ place. IsPlace self.now.members place value.now) }
+        ensures gap { IfErr result (λ gap. IsGap self.now.members gap value.now) }
+    {
+        for place in from..self.members.len() {
+            match self.members.at(place).order(value) {
+                Ordering::Less => {}
+                Ordering::Equal => return Ok(place),
+                Ordering::Greater => return Err(place),
+            }
+        }
+        Err(self.members.len())
+    }
+
+    /// Puts a value in at a place, before those that stand there and after it.
+    fn put_in(&mut self, gap: usize, value: PartValue) -> Result<(), Memory>
+        requires { gap ≤ length self.old.members }
+        ensures domain { self.new.domain ≡ self.old.domain }
+        ensures members { OnOk result (self.new.members ≡ insert self.old.members gap value) }
         ensures err { OnErr result (self.new ≡ self.old) }
     {
-        if self.has(&value) {
-            return Ok(false);
+        self.members.push(value.copy())?;
+        let mut free = self.members.len() - 1;
+        while free > gap {
+            let member = self.members.at(free - 1).copy();
+            self.members.put(free, member);
+            free -= 1;
         }
-        self.members.push(value)?;
-        Ok(true)
+        self.members.put(gap, value);
+        Ok(())
+    }
+
+    /// Puts a value in the set, and tells whether it is new there.
+    pub fn insert(&mut self, value: PartValue) -> Result<bool, Memory>
+        requires { IsAscending self.old.members }
+        ensures is_new { IfOk result (λ is_new. is_new ≡ not (is_member self.old value)) }
+        ensures count { IfOk result (λ is_new. length self.new.members ≡ length self.old.members + (if is_new then 1 else 0)) }
+        ensures members { OnOk result ((v : PartValue) → is_member self.new v ≡ (is_member self.old v || same_part v value)) }
+        ensures domain { self.new.domain ≡ self.old.domain }
+        ensures ascending { IsAscending self.new.members }
+        ensures err { OnErr result (self.new ≡ self.old) }
+    {
+        match self.search(0, &value) {
+            Ok(_) => Ok(false),
+            Err(gap) => {
+                self.put_in(gap, value)?;
+                Ok(true)
+            }
+        }
     }
 
     /// Puts all values of another set in this one, and tells how many are new here. Where memory is wanted it lies
     /// between what it was and the join.
     pub fn join_into(&mut self, other: &ValueSet) -> Result<u64, Memory>
-        ensures set { OnOk result (self.new ≡ joined self.old other.now) }
+        requires ascending { IsAscending self.old.members }
+        requires ascending_too { IsAscending other.now.members }
+        ensures set { OnOk result (IsJoin self.old other.now self.new) }
         ensures count { IfOk result (λ n. length self.new.members ≡ length self.old.members + n) }
-        ensures err { OnErr result ((k : ℕ) × (k ≤ length other.now.members) × (self.new ≡ with_members self.old (take k other.now.members))) }
+        ensures few { IfOk result (λ n. n ≤ length other.now.members) }
+        ensures err { OnErr result (IsPartOfJoin self.old other.now self.new) }
     {
-        let before = self.members.len();
+        let mut added = 0;
+        let mut place = 0;
         for member in other.members.as_slice() {
-            self.insert(member.copy())?;
+            match self.search(place, member) {
+                Ok(found) => place = found,
+                Err(gap) => {
+                    self.put_in(gap, member.copy())?;
+                    added += 1;
+                    place = gap;
+                }
+            }
         }
-        Ok((self.members.len() - before) as u64)
+        Ok(added)
     }
 }
 
 impl Entry {
-    ghost use Rattle.std.specs.Prelude.{◌≡◌, ◌<◌, ◌≤◌, ◌+◌, ◌^◌, ℕ, length, take, slice_set, IfOk, OnOk, OnErr};
-    ghost use Rattle.abstract_state.specs.Tables.{set_at, with_members, joined, joined_entry, entry_values, IsPartOfJoin};
+    ghost use Rattle.std.specs.Prelude.{◌≡◌, ◌<◌, ◌≤◌, ◌+◌, ◌^◌, length, IfOk, OnOk, OnErr};
+    ghost use Rattle.abstract_state.specs.ValueOrder.{IsAscending};
+    ghost use Rattle.abstract_state.specs.Tables.{set_at, entry_values, AreAscending, IsJoin, IsPartOfJoin, IsSetBySet, IsWrite};
 
     /// Joins the values of another set into one of the sets.
     fn join_set(&mut self, place: usize, other: &ValueSet) -> Result<u64, Memory>
-        requires { place < length self.old.sets }
-        ensures set { OnOk result (self.new.sets ≡ slice_set self.old.sets place (joined (set_at self.old place) other.now)) }
-        ensures count { IfOk result (λ n. length (joined (set_at self.old place) other.now).members ≡ length (set_at self.old place).members + n) }
-        ensures err { OnErr result ((k : ℕ) × (self.new.sets ≡ slice_set self.old.sets place (with_members (set_at self.old place) (take k other.now.members)))) }
+        requires known { place < length self.old.sets }
+        requires ascending { IsAscending (set_at self.old place).members }
+        requires ascending_too { IsAscending other.now.members }
+        ensures set { OnOk result (IsWrite IsJoin place other.now self.old self.new) }
+        ensures count { IfOk result (λ n. entry_values self.new ≡ entry_values self.old + n) }
+        ensures few { IfOk result (λ n. n ≤ length other.now.members) }
+        ensures err { OnErr result (IsWrite IsPartOfJoin place other.now self.old self.new) }
     {
         let set = self.sets.at_mut(place);
         let added = set.join_into(other)?;
@@ -104,10 +163,12 @@ impl Entry {
     /// between what it was and the join.
     pub fn join_into(&mut self, other: &Entry) -> Result<u64, Memory>
         requires as_many { length self.old.sets ≡ length other.now.sets }
+        requires ascending { AreAscending self.old }
+        requires ascending_too { AreAscending other.now }
         requires few { entry_values other.now < 2 ^ 64 }
-        ensures entry { OnOk result (self.new ≡ joined_entry self.old other.now) }
+        ensures entry { OnOk result (IsSetBySet IsJoin self.old other.now self.new) }
         ensures count { IfOk result (λ n. entry_values self.new ≡ entry_values self.old + n) }
-        ensures err { OnErr result (IsPartOfJoin self.old other.now self.new) }
+        ensures err { OnErr result (IsSetBySet IsPartOfJoin self.old other.now self.new) }
     {
         let mut added = 0;
         for place in 0..other.sets.len() {

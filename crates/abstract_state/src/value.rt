@@ -2,6 +2,7 @@
 ghost use Rattle.std.specs.Prelude.{◌≡◌};
 
 use osek_values::{AlarmNo, BlockNo, EventNo, Held, TaskNo};
+use std::cmp::Ordering;
 
 /// Where a Live task stands, but for the offset, and the resources that it holds.
 #[derive(Drop)]
@@ -53,9 +54,28 @@ pub enum PartValue {
     OfAlarm(bool),
 }
 
+impl LiveVal {
+    ghost use Rattle.std.specs.Prelude.{◌≡◌};
+    ghost use Rattle.std.specs.Cmp.Lexicographic.{slice_cmp};
+    ghost use Rattle.std.specs.Ordering.{nat_cmp};
+    ghost use Rattle.abstract_state.specs.ValueOrder.{live_fields};
+
+    /// By block, then by the number of resources, then by these.
+    fn order(&self, other: &LiveVal) -> Ordering
+        ensures { result ≡ slice_cmp nat_cmp (live_fields self.now) (live_fields other.now) }
+    {
+        let held = self.held.as_slice();
+        let kept = other.held.as_slice();
+        let by_held = held.len().cmp(&kept.len()).then(held.cmp(kept));
+        self.block.0.cmp(&other.block.0).then(by_held)
+    }
+}
+
 impl Val {
     ghost use Rattle.std.specs.Prelude.{◌≡◌};
-    ghost use Rattle.abstract_state.specs.Tables.{same_val};
+    ghost use Rattle.std.specs.Cmp.Lexicographic.{slice_cmp};
+    ghost use Rattle.std.specs.Ordering.{nat_cmp};
+    ghost use Rattle.abstract_state.specs.ValueOrder.{val_fields};
 
     /// Another that is the same. It takes no memory.
     pub fn copy(&self) -> Val
@@ -71,24 +91,27 @@ impl Val {
         }
     }
 
-    /// Whether another is the same.
-    pub fn is(&self, other: &Val) -> bool
-        ensures { result ≡ same_val self.now other.now }
+    /// Suspended is before Live, and that before Waiting.
+    pub fn order(&self, other: &Val) -> Ordering
+        ensures { result ≡ slice_cmp nat_cmp (val_fields self.now) (val_fields other.now) }
     {
         match (self, other) {
-            (Val::Suspended, Val::Suspended) => true,
-            (Val::Live(live), Val::Live(kept)) => {
-                live.block.0 == kept.block.0 && live.held.as_slice() == kept.held.as_slice()
-            }
-            (Val::Waiting(block), Val::Waiting(at)) => block.0 == at.0,
-            _ => false,
+            (Val::Suspended, Val::Suspended) => Ordering::Equal,
+            (Val::Live(live), Val::Live(kept)) => live.order(kept),
+            (Val::Waiting(block), Val::Waiting(at)) => block.0.cmp(&at.0),
+            (Val::Suspended, Val::Live(_)) => Ordering::Less,
+            (Val::Suspended, Val::Waiting(_)) => Ordering::Less,
+            (Val::Live(_), Val::Waiting(_)) => Ordering::Less,
+            (Val::Live(_), Val::Suspended) => Ordering::Greater,
+            (Val::Waiting(_), Val::Suspended) => Ordering::Greater,
+            (Val::Waiting(_), Val::Live(_)) => Ordering::Greater,
         }
     }
 }
 
 impl PartValue {
     ghost use Rattle.std.specs.Prelude.{◌≡◌};
-    ghost use Rattle.abstract_state.specs.Tables.{same_part};
+    ghost use Rattle.abstract_state.specs.ValueOrder.{part_order, same_part};
 
     /// Another that is the same. It takes no memory.
     pub fn copy(&self) -> PartValue
@@ -101,15 +124,27 @@ impl PartValue {
         }
     }
 
+    /// An event that isn't set is before one that is, and an idle alarm before an armed one.
+    pub fn order(&self, other: &PartValue) -> Ordering
+        ensures { result ≡ part_order self.now other.now }
+    {
+        match (self, other) {
+            (PartValue::OfTask(val), PartValue::OfTask(to)) => val.order(to),
+            (PartValue::OfEvent(set), PartValue::OfEvent(to)) => set.cmp(to),
+            (PartValue::OfAlarm(armed), PartValue::OfAlarm(to)) => armed.cmp(to),
+            (PartValue::OfTask(_), PartValue::OfEvent(_)) => Ordering::Less,
+            (PartValue::OfTask(_), PartValue::OfAlarm(_)) => Ordering::Less,
+            (PartValue::OfEvent(_), PartValue::OfAlarm(_)) => Ordering::Less,
+            (PartValue::OfEvent(_), PartValue::OfTask(_)) => Ordering::Greater,
+            (PartValue::OfAlarm(_), PartValue::OfTask(_)) => Ordering::Greater,
+            (PartValue::OfAlarm(_), PartValue::OfEvent(_)) => Ordering::Greater,
+        }
+    }
+
     /// Whether another is the same.
     pub fn is(&self, other: &PartValue) -> bool
         ensures { result ≡ same_part self.now other.now }
     {
-        match (self, other) {
-            (PartValue::OfTask(val), PartValue::OfTask(to)) => val.is(to),
-            (PartValue::OfEvent(set), PartValue::OfEvent(to)) => *set == *to,
-            (PartValue::OfAlarm(armed), PartValue::OfAlarm(to)) => *armed == *to,
-            _ => false,
-        }
+        self.order(other).is_eq()
     }
 }

@@ -21,5 +21,8 @@ values_grow = laws.values_grow
 pub growth_shows : (x y : Entry) → IsSoundEntry x → IsSoundEntry y → domains x ≡ domains y → IsBelow x y → entry_values y ≤ entry_values x → IsBelow y x
 growth_shows = laws.growth_shows
 
+pub equal_entries : (x y : Entry) → IsSoundEntry x → IsSoundEntry y → domains x ≡ domains y → IsBelow x y → IsBelow y x → x ≡ y
+equal_entries = laws.equal_entries
+
 pub most_values : (entry : Entry) → IsSoundEntry entry → entry_values entry ≤ entry_height entry
 most_values = laws.most_values domain_counted

@@ -8,7 +8,7 @@ impl Lattice for Entry {
     ghost use Rattle.std.specs.Prelude.{◌≡◌};
     ghost use Rattle.abstract_state.specs.Tables.{entry_values};
     ghost use Rattle.abstract_state.specs.Domains.{domains, entry_height, IsSoundEntry, IsBelow};
-    ghost use Rattle.entry_lattice.specs.EntryOrder.{below_itself, below_onward, most_values, heights_agree, values_grow, growth_shows};
+    ghost use Rattle.entry_lattice.specs.EntryOrder.{below_itself, below_onward, most_values, heights_agree, values_grow, growth_shows, equal_entries};
 
     ghost is_element = { IsSoundEntry };
 
@@ -35,4 +35,6 @@ impl Lattice for Entry {
     ghost rank_grows = { values_grow };
 
     ghost growth = { growth_shows };
+
+    ghost antisymmetric = { equal_entries };
 }

@@ -3,7 +3,7 @@ ghost use Rattle.std.specs.Prelude.{◌≡◌, ◌+◌, ◌≤◌, ℕ, IfOk, On
 
 use osek_values::Memory;
 
-/// A preorder in which a chain grows only so often: each growth raises the rank, which never passes the height. The join
+/// A partial order in which a chain grows only so often: each growth raises the rank, which never passes the height. The join
 /// is what the clauses of `join_into` say.
 pub trait Lattice {
     /// A value that the type is made for.
@@ -46,4 +46,6 @@ pub trait Lattice {
     ghost rank_grows: { (x y : Self) → is_element x → is_element y → alike x y → is_below x y → rank x ≤ rank y };
 
     ghost growth: { (x y : Self) → is_element x → is_element y → alike x y → is_below x y → rank y ≤ rank x → is_below y x };
+
+    ghost antisymmetric: { (x y : Self) → is_element x → is_element y → alike x y → is_below x y → is_below y x → x ≡ y };
 }

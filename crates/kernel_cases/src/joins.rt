@@ -1,6 +1,7 @@
 //! Joins of sets and entries.
-ghost use Rattle.std.specs.Prelude.{◌≡◌, length, IfOk};
-ghost use Rattle.abstract_state.specs.Tables.{entry_values};
+ghost use Rattle.std.specs.Prelude.{◌≡◌, ◌≤◌, length, IfOk};
+ghost use Rattle.abstract_state.specs.ValueOrder.{IsAscending};
+ghost use Rattle.abstract_state.specs.Tables.{entry_values, AreAscending};
 
 use abstract_state::{Domain, Entry, LiveVal, PartValue, Val, ValueSet};
 use entry_lattice::Lattice;
@@ -28,7 +29,9 @@ fn live(block: u16, resource: Option<ResNo>) -> PartValue {
 }
 
 /// The set of these blocks at which a task is Live.
-fn set_of(alloc: Global, blocks: &[u16]) -> Result<ValueSet, Memory> {
+fn set_of(alloc: Global, blocks: &[u16]) -> Result<ValueSet, Memory>
+    ensures { IfOk result (λ set. IsAscending set.members) }
+{
     let mut set = ValueSet::new(alloc, TASK);
     for block in blocks {
         set.insert(live(*block, None))?;
@@ -78,13 +81,36 @@ fn different() -> [PartValue; 5] {
     ]
 }
 
-/// How many of these are new in the set of those before them.
-fn new_ones(alloc: Global, values: &[PartValue]) -> Result<usize, Memory> {
+/// The set of these values.
+fn set_with(alloc: Global, values: &[PartValue]) -> Result<ValueSet, Memory> {
     let mut set = ValueSet::new(alloc, TASK);
     for value in values {
         set.insert(value.copy())?;
     }
+    Ok(set)
+}
+
+/// How many of these are new in the set of those before them.
+fn new_ones(alloc: Global, values: &[PartValue]) -> Result<usize, Memory> {
+    let set = set_with(alloc, values)?;
     Ok(set.members.len())
+}
+
+/// Whether the first of the different values that the set has is Suspended, and the last Waiting.
+fn are_in_order(alloc: Global) -> Result<bool, Memory> {
+    let set = set_with(alloc, &different())?;
+    let members = set.members.as_slice();
+    let suspended = PartValue::OfTask(Val::Suspended);
+    let waiting = PartValue::OfTask(Val::Waiting(BlockNo(1)));
+    match (members.first(), members.last()) {
+        (Some(first), Some(last)) => Ok(first.is(&suspended) && last.is(&waiting)),
+        _ => Ok(false),
+    }
+}
+
+#[test]
+fn a_set_is_in_order(rt: HostRuntime) {
+    assert_eq!(rt; are_in_order(rt.alloc()), Ok(true));
 }
 
 /// Whether a value is new once where it is put into a set twice.
@@ -109,12 +135,12 @@ fn a_set_has_each_value_once(rt: HostRuntime) {
 
 /// An entry of a task and an event, each with one value.
 fn entry_of(alloc: Global, block: u16, is_set: bool) -> Result<Entry, Memory>
-    ensures { IfOk result (λ e. (length e.sets ≡ 2) × (entry_values e ≡ 2)) }
+    ensures { IfOk result (λ e. (length e.sets ≡ 2) × (entry_values e ≤ 2) × AreAscending e) }
 {
     let mut task = ValueSet::new(alloc, TASK);
-    task.members.push(live(block, None))?;
+    task.insert(live(block, None))?;
     let mut event = ValueSet::new(alloc, Domain::Event);
-    event.members.push(PartValue::OfEvent(is_set))?;
+    event.insert(PartValue::OfEvent(is_set))?;
     let mut sets = Seq::new(alloc);
     sets.push(task)?;
     sets.push(event)?;

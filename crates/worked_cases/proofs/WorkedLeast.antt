@@ -1,5 +1,7 @@
 -- The worked table is proper, inductive, and contained in each inductive table.
-use Rattle.std.proofs.Common.{◌≡◌, ℕ, zero, suc, ◌<◌, refl, sym, ap, subst, ◌∙◌, arith, IsTrue}
+use Rattle.std.proofs.Common.{◌≡◌, ℕ, zero, suc, ◌<◌, [], ◌∷◌, refl, sym, ap, subst, ◌∙◌, arith, IsTrue}
+use Rattle.std.specs.List.Sorted.{IsStrictlySortedBy}
+use Rattle.std.proofs.lemmas.List.Elements.{All-from_recursion}
 use Rattle.osek_values.specs.declared.event.Event.{Event}
 use Rattle.osek_values.specs.declared.numbers.ModeNo.{ModeNo}
 use Rattle.osek_values.specs.Numbers.{mode_no}
@@ -11,13 +13,17 @@ use Rattle.osek_standard.specs.Kernel.{start, step}
 use Rattle.osek_standard.specs.Validity.{IsValid}
 use Rattle.worked_cases.specs.WorkedApps.{activation, app_of}
 use Rattle.abstract_state.specs.declared.value.PartValue.{PartValue}
-use Rattle.abstract_state.specs.Components.{abstract_of, IsAllowed}
+use Rattle.abstract_state.specs.Components.{component_at, abstract_of, IsAllowed}
+use Rattle.abstract_state.specs.Domains.{domain_of, IsWithin, IsSound}
+use Rattle.abstract_state.specs.Written.{IsRow, IsWritten}
 use Rattle.abstract_state.specs.Tables.{Sets, In, Inductive, IsProper, Least, sets_of}
-use Rattle.worked_cases.specs.WorkedTables.{activation_table}
+use Rattle.worked_cases.specs.WorkedTables.{only, activation_table}
 use Rattle.abstract_state.proofs.AllowedLaws.{well_point, well_part}
+use Rattle.abstract_state.proofs.DomainValues.{allowed_within}
+use Rattle.abstract_state.proofs.OrderLaws.{ascending_one}
 use Rattle.abstract_state.proofs.EqualityLaws.{written_entry, written_value}
 use Rattle.worked_cases.proofs.WorkedLaws.{both_within}
-use Rattle.worked_cases.proofs.WorkedStates.{Stage, Begun, Preempted, Resumed, Done, stage_point, stage_value, stage_state, stage_by, entry_stage, value_stage, in_stage, start_stage, step_stage, stage_in, stage_well}
+use Rattle.worked_cases.proofs.WorkedStates.{Stage, Begun, Preempted, Resumed, Done, stage_point, stage_value, first_value, second_value, stage_row, stage_state, stage_by, entry_stage, value_stage, in_stage, start_stage, step_stage, stage_in, stage_well}
 
 -- a stage's state stands at the stage's point
 pub point_is : (k : Stage) → point_of (stage_state k) ≡ stage_point k
@@ -114,4 +120,33 @@ module _ (m : IsValid activation) where
     known = λ p c v e. (value_stage p c v e).is.known;
     allowed = value_allowed;
     filled = entry_filled;
+  }
+
+  -- and it is as the analysis writes one
+  stage_sound : (k : Stage) (c : ℕ) (v : PartValue) → c < 2 → stage_value k c ≡ v → IsSound (only (domain_of app (component_at app c)) v)
+  stage_sound k c v lt e = record {
+    within = All-from_recursion (IsWithin (domain_of app (component_at app c))) (v ∷ []) (
+      subst (IsWithin (domain_of app (component_at app c))) (part_is k c lt ∙ e)
+          (allowed_within app (point_of (stage_state k)) c (abstract_of app (stage_state k) c) lt (well_part app (stage_state k) (stage_well m k) c lt)),
+      tt,
+    );
+    ascending = ascending_one v;
+  }
+
+  stage_written : (k : Stage) → IsRow app (stage_row k)
+  stage_written k = record {
+    point = subst (IsPoint app) (point_is k) (well_point app (stage_state k) (stage_well m k));
+    sound = record {
+      sets = All-from_recursion IsSound (stage_row k).entry.sets (stage_sound k 0 (first_value k) (omega arith) refl, (stage_sound k 1 (second_value k) (omega arith) refl, tt));
+      few = omega arith;
+    };
+    domains = refl;
+  }
+
+  pub table_written : IsWritten (app_of activation m) activation_table
+  unfolding IsStrictlySortedBy
+  table_written = record {
+    ascending = ((refl, (refl, (refl, tt))), ((refl, (refl, tt)), ((refl, tt), (tt, tt))));
+    rows = All-from_recursion (IsRow app) activation_table.rows (stage_written Done, (stage_written Begun, (stage_written Resumed, (stage_written Preempted, tt))));
+    proper = table_proper;
   }

@@ -10,6 +10,7 @@ ghost use Rattle.worked_cases.specs.WorkedApps.{activation, app_of, times};
 ghost use Rattle.image_model.specs.declared.site.Form.TheVariants as form;
 ghost use Rattle.abstract_state.specs.Components.{component_count};
 ghost use Rattle.abstract_state.specs.Tables.{In, IsProper, Least, sets_of, value_count};
+ghost use Rattle.abstract_state.specs.Written.{IsWritten};
 ghost use Rattle.abstract_state.specs.Forms.{FormOf, Edge};
 ghost use Rattle.worked_cases.specs.WorkedTables.{activation_table, IsEdgeOfActivation};
 
@@ -23,9 +24,10 @@ pub fn activation_preempts()
         All (λ (x : Stepped). In (app_of activation m) (sets_of activation_table) x.state) (run (app_of activation m) (mode_no 0) (times 4 (Run false ∷ []))) }
 {}
 
-/// The table is inductive, and contained in every inductive table: each of its entries and values is shown by a state of
+/// The table is as the analysis writes one, inductive, and contained in every inductive table: each of its entries and values is shown by a state of
 /// the run.
 pub fn the_table_of_activation_is_least()
+    ensures written { (m : IsValid activation) → IsWritten (app_of activation m) activation_table }
     ensures proper { (m : IsValid activation) → IsProper (app_of activation m) (sets_of activation_table) }
     ensures least { (m : IsValid activation) → Least (app_of activation m) (sets_of activation_table) }
 {}

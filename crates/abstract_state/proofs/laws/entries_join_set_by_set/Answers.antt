@@ -1,9 +1,11 @@
-use Rattle.abstract_state.proofs.EntryJoins.{joined_at, part_above, part_below}
+use Rattle.abstract_state.specs.Tables.{set_at}
+use Rattle.abstract_state.proofs.JoinLaws.{part_joined}
+use Rattle.abstract_state.proofs.EntryJoins.{entry_join_one}
 use Rattle.abstract_state.proofs.laws.entries_join_set_by_set.Goals as goal
 
 pub returns : goal.returns
 returns c = record {
-  sets = λ a b k e. joined_at a.sets b.sets k e;
-  before = λ a b x k e part. part_above a b x e part k;
-  after = λ a b x k e part. part_below a b x e part k;
+  one = entry_join_one;
+  before = λ a b p k part. (part.each k).keeps;
+  after = λ a b p x k part join. part_joined (set_at a k) (set_at b k) (set_at p k) (set_at x k) (part.each k) (join.each k);
 }

@@ -1,14 +1,16 @@
-use Rattle.std.proofs.Common.{take}
-use Rattle.abstract_state.proofs.JoinLaws.{members_keep, members_take, members_distinct, join_least, join_between, none_new}
+use Rattle.std.proofs.lemmas.Map.Keys.{IsDistinct-from_sorted}
+use Rattle.abstract_state.specs.ValueOrder.{part_order}
+use Rattle.abstract_state.proofs.JoinLaws.{join_one, join_left, join_right, join_part, part_least, part_joined, none_new}
 use Rattle.abstract_state.proofs.laws.the_join_is_the_least_set_above_both.Goals as goal
 
 pub returns : goal.returns
 returns c = record {
-  left = λ a b. members_keep a b.members;
-  right = λ a b. members_take a b.members;
-  least = join_least;
-  before = λ a b k. members_keep a (take k b.members);
-  after = join_between;
-  same = λ a b. none_new a b.members;
-  distinct = λ a b. members_distinct a b.members;
+  one = join_one;
+  left = join_left;
+  right = join_right;
+  least = λ a b x c join. part_least a b x c (join_part a b x join);
+  before = λ a b p part. part.keeps;
+  after = part_joined;
+  same = none_new;
+  distinct = λ a b x join. IsDistinct-from_sorted part_order x.members join.ascending;
 }
