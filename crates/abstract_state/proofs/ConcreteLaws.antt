@@ -95,17 +95,17 @@ module _ (app : App) (p : Point) where
     allowed_task : (t : ℕ) → t < length app.tasks → IsPart app p (component.Task (task_no t)) (value t)
     allowed_task t lt = subst (λ (x : Component). IsPart app p x (value t)) (task_at_its_number app t lt) (allowed t (task_counted app t lt))
 
-    val_right : (t : ℕ) → t < length app.tasks → IsVal app t (val_of (value t)) × FitsPoint app p t (val_of (value t))
+    pub val_right : (t : ℕ) → t < length app.tasks → IsVal app t (val_of (value t)) × FitsPoint app p t (val_of (value t))
     val_right t lt = val_part (task_no t) (value t) (allowed_task t lt)
 
   module _ (value : ℕ → PartValue) (free : Free) where
-    task_is : (t : ℕ) → t < length app.tasks → task_state (state_of app p value free) t ≡ task_chosen app p value free t
+    pub task_is : (t : ℕ) → t < length app.tasks → task_state (state_of app p value free) t ≡ task_chosen app p value free t
     task_is t lt = get_or-map-range_with_len (task_chosen app p value free) 0 (length app.tasks) t t suspended lt (omega arith)
 
-    alarm_is : (a : ℕ) → a < length app.alarms → alarm_state (state_of app p value free) a ≡ alarm_chosen app p value free a
+    pub alarm_is : (a : ℕ) → a < length app.alarms → alarm_state (state_of app p value free) a ≡ alarm_chosen app p value free a
     alarm_is a lt = get_or-map-range_with_len (alarm_chosen app p value free) 0 (length app.alarms) a a alarm.Idle lt (omega arith)
 
-    source_is : (k : ℕ) → k < source_count app → source_state (state_of app p value free) k ≡ source_by app p value free p k
+    pub source_is : (k : ℕ) → k < source_count app → source_state (state_of app p value free) k ≡ source_by app p value free p k
     source_is k lt = get_or-map-range_with_len (source_by app p value free p) 0 (source_count app) k k source.Out lt (omega arith)
 
     source_out : (k : ℕ) → source_by app p value free p k ≡ source.Out → source_state (state_of app p value free) k ≡ source.Out

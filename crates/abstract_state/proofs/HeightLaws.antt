@@ -56,7 +56,7 @@ counted_by : (b : Bool) (a : ℕ) (xs : List ℕ) → length (cond b (a ∷ xs) 
 counted_by true a xs = omega arith
 counted_by false a xs = refl
 
-bits_counted : (test : ℕ → Bool) (w a m : ℕ) → m < 2 ^ w → ((k : ℕ) → k < w → test (a + k) ≡ has_bit m k) → length (filter test (range_with_len a w)) ≡ count_ones m
+pub bits_counted : (test : ℕ → Bool) (w a m : ℕ) → m < 2 ^ w → ((k : ℕ) → k < w → test (a + k) ≡ has_bit m k) → length (filter test (range_with_len a w)) ≡ count_ones m
 bits_counted test zero a m lt each =
     omega (arith, ones-le 0 m lt)
 bits_counted test (suc w) a m lt each =

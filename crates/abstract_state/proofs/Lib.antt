@@ -6,6 +6,9 @@ pub mod ComponentLaws
 pub mod BitLaws
 pub mod AllowedLaws
 pub mod ConcreteLaws
+pub mod RangeLaws
+pub mod Numbers
+pub mod Concretes
 pub mod OrderLaws
 pub mod EqualityLaws
 pub mod MarkLaws

@@ -1,5 +1,5 @@
 -- The order of values is total and ties no two, so an ascending list has its members at their places alone.
-use Rattle.std.proofs.Common.{◌≡◌, ℕ, zero, suc, ◌+◌, ◌<◌, Bool, true, false, ◌||◌, List, [], ◌∷◌, length, get_or, take, drop, map, refl, sym, ap, ap₂, ◌∙◌, arith}
+use Rattle.std.proofs.Common.{◌≡◌, ℕ, zero, suc, ◌+◌, ◌-◌, ◌<◌, Bool, true, false, ◌||◌, List, [], ◌∷◌, length, get_or, take, drop, map, refl, sym, subst, ap, ap₂, ◌∙◌, arith}
 use Rattle.std.specs.Cmp.{IsTotalOrder, IsEquivalence}
 use Rattle.std.specs.Cmp.Lexicographic.{slice_cmp}
 use Rattle.std.specs.List.{list_any, All, insert}
@@ -8,6 +8,7 @@ use Rattle.std.specs.Ordering.{is_eq, nat_cmp, ordering_reverse, ordering_then}
 use Rattle.std.specs.declared.cmp.{Ordering.{Ordering}, Ordering.TheVariants.{Less, Equal, Greater}}
 use Rattle.std.proofs.lemmas.Cmp.{on_total, nat_list_cmp_total, eq_by_cmp_equiv}
 use Rattle.std.proofs.lemmas.List.Elements.{All-nil, All-cons, All-head, All-tail, All-append, All-weaker, All-take, All-drop, All-more, All-get_or, All-from_recursion, recursion_from_All}
+use Rattle.std.proofs.lemmas.List.{take_all}
 use Rattle.std.proofs.lemmas.List.Sorted.{IsPermutation-insert, list_any-IsPermutation}
 use Rattle.std.proofs.lemmas.Map.Keys.{sorted_head, sorted_tail}
 use Rattle.std.proofs.lemmas.Map.Lookups.{exact_bytes, btree_set_from_contains}
@@ -95,6 +96,23 @@ all_after v x xs up h =
 
 pub none_passed : (xs : List PartValue) (v : PartValue) → ArePassed xs 0 v
 none_passed xs v = record { known = omega arith; each = All-nil (λ (w : PartValue). Before w v) }
+
+-- where the last is before a value, all are
+all_before : (xs : List PartValue) (m v : PartValue) → IsAscending xs → 0 < length xs → get_or xs (length xs - 1) m ≡ m → Before m v → All (λ (w : PartValue). Before w v) xs
+all_before [] m v up some is h = absurd (omega (arith, some))
+all_before (x ∷ []) m v up some is h = All-cons (λ (w : PartValue). Before w v) x [] (subst (λ (w : PartValue). Before w v) (sym is) h) (All-nil (λ (w : PartValue). Before w v))
+all_before (x ∷ y ∷ ys) m v up some is h =
+    let place : length (x ∷ y ∷ ys) - 1 ≡ suc (length (y ∷ ys) - 1) = omega arith in
+    let last : get_or (y ∷ ys) (length (y ∷ ys) - 1) m ≡ m = ap (λ (i : ℕ). get_or (x ∷ y ∷ ys) i m) (sym place) ∙ is in
+    let rest = all_before (y ∷ ys) m v (sorted_tail part_order x (y ∷ ys) up) (omega arith) last h in
+    let next : Before x y = All-head (Before x) y ys (All-from_recursion (Before x) (y ∷ ys) (sorted_head part_order x (y ∷ ys) up)) in
+    All-cons (λ (w : PartValue). Before w v) x (y ∷ ys) (order_total.trans x y v next (All-head (λ (w : PartValue). Before w v) y ys rest)) rest
+
+pub all_passed : (xs : List PartValue) (m v : PartValue) → IsAscending xs → 0 < length xs → get_or xs (length xs - 1) m ≡ m → part_order m v ≡ Less → ArePassed xs (length xs) v
+all_passed xs m v up some is h = record {
+  known = omega arith;
+  each = subst (All (λ (w : PartValue). Before w v)) (sym (take_all (length xs) xs (omega arith))) (all_before xs m v up some is h);
+}
 
 -- the gap of a value before the first
 first_gap : (v : PartValue) (xs : List PartValue) → All (Before v) xs → IsGap xs 0 v

@@ -14,7 +14,7 @@ use Rattle.osek_standard.specs.Kernel.{has_bit}
 use Rattle.osek_standard.specs.Well.{IsOwn, IsStack, IsWaitingAt}
 use Rattle.osek_standard.specs.declared.point.Point.{Point}
 use Rattle.osek_standard.specs.declared.point.Point.TheVariants as point
-use Rattle.abstract_state.specs.declared.value.{Val.{Val}, LiveVal.{LiveVal}, Val.TheVariants.{Suspended, Live, Waiting}, Component.{Component}, PartValue.{PartValue}, PartValue.TheVariants.{OfTask, OfEvent, OfAlarm}}
+use Rattle.abstract_state.specs.declared.value.{Val.{Val}, LiveVal.{LiveVal}, Val.TheVariants.{Suspended, Live, Waiting}, Component.{Component}, ComponentNo.{ComponentNo}, PartValue.{PartValue}, PartValue.TheVariants.{OfTask, OfEvent, OfAlarm}}
 use Rattle.abstract_state.specs.declared.value.Component.TheVariants as component
 
 -- how many numbers below k pass a test
@@ -59,6 +59,9 @@ module _ (app : App) where
   component_number (component.Task t) = t.0
   component_number (component.Event t k) = length app.tasks + event_start t.0 + passing_below (has_bit (the_task app t.0).own.0) k.0
   component_number (component.Alarm a) = length app.tasks + length (flat_map events_of (range_with_len 0 (length app.tasks))) + a.0
+
+abbrev pub component_no : ℕ → ComponentNo
+component_no n = record { 0 = n }
 
 abbrev pub live_val : BlockNo → List ResNo → LiveVal
 live_val b held = record { block = b; held = held }

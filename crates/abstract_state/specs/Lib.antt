@@ -1,4 +1,5 @@
 pub mod Alike
+pub mod Choices
 pub mod Components
 pub mod Concrete
 pub mod Domains

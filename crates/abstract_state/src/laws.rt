@@ -1,17 +1,18 @@
 //! Laws over the definitions, each on a function that does nothing.
-ghost use Rattle.std.specs.Prelude.{◌≡◌, ◌↔◌, ℕ, ◌<◌, ◌≤◌, List, length, IsTrue, Some};
+ghost use Rattle.std.specs.Prelude.{◌≡◌, ◌↔◌, ℕ, ◌<◌, ◌≤◌, Bool, List, length, IsTrue, Some};
 ghost use Rattle.std.specs.Cmp.{IsTotalOrder};
 ghost use Rattle.std.specs.List.{IsDistinct};
 ghost use Rattle.std.specs.declared.cmp.Ordering.TheVariants.{Equal};
 ghost use Rattle.osek_values.specs.declared.event.Event.{Event};
-ghost use Rattle.osek_values.specs.declared.numbers.ModeNo.{ModeNo};
+ghost use Rattle.osek_values.specs.declared.numbers.{TaskNo.{TaskNo}, BlockNo.{BlockNo}, ModeNo.{ModeNo}};
 ghost use Rattle.osek_values.specs.declared.status.Status.{Status};
 ghost use Rattle.std.specs.declared.option.Option.{Option};
 ghost use Rattle.osek_standard.specs.declared.app.App.{App};
 ghost use Rattle.osek_standard.specs.declared.state.State.{State};
 ghost use Rattle.osek_standard.specs.Dispatch.{Outcome};
 ghost use Rattle.osek_standard.specs.Kernel.{step};
-ghost use Rattle.osek_standard.specs.Well.{Well};
+ghost use Rattle.osek_standard.specs.Apps.{the_block, the_counter, source_count, max_of};
+ghost use Rattle.osek_standard.specs.Well.{Well, IsOffsetAt, IsArmed};
 ghost use Rattle.image_model.specs.declared.site.Form.{Form};
 ghost use Rattle.image_model.specs.declared.image.Image.{Image};
 ghost use Rattle.image_model.specs.ImageStep.{image_step};
@@ -20,10 +21,13 @@ ghost use Rattle.osek_standard.specs.declared.point.Point.{Point};
 ghost use Rattle.abstract_state.specs.declared.table.ValueSet.{ValueSet};
 ghost use Rattle.abstract_state.specs.declared.table.Entry.{Entry};
 ghost use Rattle.abstract_state.specs.declared.table.Table.{Table};
-ghost use Rattle.abstract_state.specs.declared.value.PartValue.{PartValue};
-ghost use Rattle.osek_standard.specs.Points.{point_of, IsPoint};
-ghost use Rattle.abstract_state.specs.Components.{component_count, abstract_of, IsAllowed};
+ghost use Rattle.abstract_state.specs.declared.value.Component.{Component};
+ghost use Rattle.abstract_state.specs.declared.value.{LiveVal.{LiveVal}, Val.TheVariants.{Live}, PartValue.{PartValue}, PartValue.TheVariants.{OfTask}};
+ghost use Rattle.osek_standard.specs.declared.point.Point.TheVariants as point;
+ghost use Rattle.osek_standard.specs.Points.{point_of, IsPoint, StandsAt};
+ghost use Rattle.abstract_state.specs.Components.{component_at, component_count, component_number, abstract_of, IsAllowed, IsComponent};
 ghost use Rattle.abstract_state.specs.Concrete.{Free, IsFree, AreAllowed, HasParts, state_of};
+ghost use Rattle.abstract_state.specs.Choices.{with_latches, with_offset, with_routine_offset, with_arming, with_counter, IsQuiet, IsQuietAt, IsQuietWith, IsLatchedAlone};
 ghost use Rattle.abstract_state.specs.Alike.{IsAlike};
 ghost use Rattle.abstract_state.specs.Tables.{Sets, In, Inductive, IsContained, Least, meet, full, IsSubset, IsJoin, IsPartOfJoin, IsSetBySet, set_at, sets_of, HasRow, HasValue};
 ghost use Rattle.abstract_state.specs.ValueOrder.{same_part, part_order, IsAscending};
@@ -161,4 +165,29 @@ pub fn sound_sets_grow_by_their_members()
 pub fn sound_sets_are_their_values()
     ensures sets { (a b : ValueSet) → IsSound a → IsSound b → a.domain ≡ b.domain → IsSubset a b → IsSubset b a → a ≡ b }
     ensures entries { (a b : Entry) → IsSoundEntry a → IsSoundEntry b → domains a ≡ domains b → IsBelow a b → IsBelow b a → a ≡ b }
+{}
+
+/// Each component stands at its number.
+pub fn components_stand_at_their_numbers()
+    ensures here { (app : App) (k : Component) → IsComponent app k → component_at app (component_number app k) ≡ k }
+    ensures known { (app : App) (k : Component) → IsComponent app k → component_number app k < component_count app }
+{}
+
+/// What a table doesn't keep may be chosen, each part by itself within what well-formedness allows.
+pub fn all_else_may_be_chosen()
+    ensures latches { (app : App) (p : Point) (value : ℕ → PartValue) (free : Free) → IsFree app p value free → (latched : List Bool) → length latched ≡ source_count app → IsFree app p value (with_latches free latched) }
+    ensures offset { (app : App) (p : Point) (value : ℕ → PartValue) (free : Free) → IsFree app p value free → (t o : ℕ) → ((x : LiveVal) → value t ≡ OfTask (Live x) → IsOffsetAt (the_block app x.block.0).kind o) → IsFree app p value (with_offset free t o) }
+    ensures routine_offset { (app : App) (p : Point) (value : ℕ → PartValue) (free : Free) → IsFree app p value free → (o : ℕ) → ((b : BlockNo) (over : Option TaskNo) → p ≡ point.Routine b over → IsOffsetAt (the_block app b.0).kind o) → IsFree app p value (with_routine_offset free o) }
+    ensures arming { (app : App) (p : Point) (value : ℕ → PartValue) (free : Free) → IsFree app p value free → (a at cycle : ℕ) → IsArmed app a at cycle → IsFree app p value (with_arming free a at cycle) }
+    ensures counter { (app : App) (p : Point) (value : ℕ → PartValue) (free : Free) → IsFree app p value free → (c x : ℕ) → x ≤ (the_counter app c).max → IsFree app p value (with_counter free c x) }
+{}
+
+/// Values that the components can have at a point are those of a state there in which no routine begins, also with the
+/// processor so far in its block, with an alarm's time, cycle and counter as well-formedness allows, or of one in which
+/// the routine of a given source begins where one may.
+pub fn states_are_found_where_they_are_asked_for()
+    ensures quiet { (app : App) (p : Point) (value : ℕ → PartValue) → IsPoint app p → AreAllowed app p value → (s : State) × IsQuiet app p value s }
+    ensures at { (app : App) (p : Point) (value : ℕ → PartValue) → IsPoint app p → AreAllowed app p value → (b : BlockNo) (o : ℕ) → StandsAt p b → IsOffsetAt (the_block app b.0).kind o → (s : State) × IsQuietAt app p value b o s }
+    ensures armed { (app : App) (p : Point) (value : ℕ → PartValue) → IsPoint app p → AreAllowed app p value → (a at cycle now : ℕ) → a < length app.alarms → IsArmed app a at cycle → now ≤ max_of app a → (s : State) × IsQuietWith app p value a at cycle now s }
+    ensures latched { (app : App) (p : Point) (value : ℕ → PartValue) → IsPoint app p → AreAllowed app p value → (k : ℕ) → k < source_count app → (s : State) × IsLatchedAlone app p value k s }
 {}

@@ -4,9 +4,11 @@
 
 pub mod bounds;
 pub mod laws;
+mod numbering;
 mod table;
 mod value;
 
+pub use numbering::{component_number, components, masks_are_few, own_events};
 pub use osek_standard::Point;
 pub use table::{Entry, Table, TableRow, ValueSet};
-pub use value::{Component, Domain, LiveVal, PartValue, Val};
+pub use value::{Component, ComponentNo, Domain, LiveVal, PartValue, Val};

@@ -76,6 +76,22 @@ impl ValueSet {
         Err(self.members.len())
     }
 
+    /// How many members are known to be before a value by the last one: all of them, or none. So values that come in
+    /// ascending order are not searched for.
+    fn passed(&self, value: &PartValue) -> usize
+        requires { IsAscending self.now.members }
+        ensures { ArePassed self.now.members result value.now }
+    {
+        let count = self.members.len();
+        if count == 0 {
+            return 0;
+        }
+        match self.members.at(count - 1).order(value) {
+            Ordering::Less => count,
+            Ordering::Equal | Ordering::Greater => 0,
+        }
+    }
+
     /// Puts a value in at a place, before those that stand there and after it.
     fn put_in(&mut self, gap: usize, value: PartValue) -> Result<(), Memory>
         requires { gap ≤ length self.old.members }
@@ -104,7 +120,7 @@ impl ValueSet {
         ensures ascending { IsAscending self.new.members }
         ensures err { OnErr result (self.new ≡ self.old) }
     {
-        match self.search(0, &value) {
+        match self.search(self.passed(&value), &value) {
             Ok(_) => Ok(false),
             Err(gap) => {
                 self.put_in(gap, value)?;

@@ -29,6 +29,21 @@ pub enum Component {
     Alarm(AlarmNo),
 }
 
+/// The number of a component: the tasks come first, then each task's own events, then the alarms.
+#[derive(Clone, Copy, PartialEq, Eq, Debug)]
+pub struct ComponentNo(pub u16);
+
+impl ComponentNo {
+    ghost use Rattle.std.specs.Prelude.{◌≡◌};
+
+    /// The number as a place in an entry.
+    pub fn index(self) -> usize
+        ensures { result ≡ self.0 }
+    {
+        self.0 as usize
+    }
+}
+
 /// What the values of a set are values of, which bounds how many there can be.
 #[derive(Clone, Copy, PartialEq, Eq, Debug)]
 pub enum Domain {

@@ -1,0 +1,298 @@
+-- Other choices of what a table doesn't keep are allowed too, and the states that they give.
+use Rattle.std.proofs.Common.{◌≡◌, ◌≢◌, ℕ, ◌<◌, ◌≤◌, Bool, true, false, List, length, replicate, get_or, refl, sym, ap, subst, ◌∙◌, inl, inr, arith, Some, None, get_or-set_same, get_or-set_other}
+use Rattle.std.specs.Prelude.{◌==◌, ◌&&◌, nat_le, slice_set, if◌then◌else◌}
+use Rattle.std.proofs.lemmas.Bool.{cases_lt, cases_eq, eq-eqb, ne_eqb, and_from, or_right}
+use Rattle.std.proofs.lemmas.Bool.Decides.{nat_tests}
+use Rattle.std.proofs.lemmas.List.{get_or_past, get_or-replicate, length-replicate}
+use Rattle.std.proofs.Math.ListN.{length-set}
+use Rattle.osek_values.specs.Numbers.{task_no, source_no, alarm_no}
+use Rattle.osek_values.specs.declared.numbers.{TaskNo.{TaskNo}, BlockNo.{BlockNo}}
+use Rattle.std.specs.declared.option.Option.{Option}
+use Rattle.osek_standard.specs.declared.app.App.{App}
+use Rattle.osek_standard.specs.declared.objects.Counter.{Counter}
+use Rattle.osek_standard.specs.Validity.{is_cycle_of}
+use Rattle.osek_standard.specs.declared.state.{State.{State}, AlarmState.{AlarmState}, Source.{Source}}
+use Rattle.osek_standard.specs.declared.state.AlarmState.TheVariants as alarm
+use Rattle.osek_standard.specs.declared.state.Source.TheVariants as source
+use Rattle.osek_standard.specs.declared.task_state.{TaskState.{TaskState}, Activity.{Activity}, Place.{Place}}
+use Rattle.osek_standard.specs.declared.point.Point.{Point}
+use Rattle.osek_standard.specs.declared.point.Point.TheVariants as point
+use Rattle.osek_standard.specs.Apps.{the_task, the_block, the_alarm, the_counter, source_count, max_of, is_cycle, no_alarm, no_counter}
+use Rattle.osek_standard.specs.States.{task_state, source_state, alarm_state, counter_value, is_latched, here, place_in, place_of_source}
+use Rattle.osek_standard.specs.Effects.{place_at}
+use Rattle.osek_standard.specs.Arrivals.{arrival, takes_none, IsArrival}
+use Rattle.osek_standard.specs.Points.{StandsAt, IsPoint}
+use Rattle.osek_standard.specs.Well.{IsOwn, IsOffsetAt, IsArmed}
+use Rattle.osek_standard.proofs.ArrivalLaws.{is_arrival, none_latched as nothing_arrives}
+use Rattle.osek_standard.proofs.OwnerLaws.{own_once}
+use Rattle.abstract_state.specs.declared.value.{LiveVal.{LiveVal}, Val.{Val}, Val.TheVariants.{Suspended, Live, Waiting}, PartValue.{PartValue}, PartValue.TheVariants.{OfTask, OfAlarm}}
+use Rattle.abstract_state.specs.declared.value.Component.TheVariants as component
+use Rattle.abstract_state.specs.Components.{component_number, IsLiveAt}
+use Rattle.abstract_state.specs.Concrete.{Free, val_of, flag_of, activity_of, alarm_of, source_by, IsFree, StandsThere, AreAllowed, HasParts, state_of}
+use Rattle.abstract_state.specs.Choices.{with_latches, with_offset, with_routine_offset, with_arming, with_counter, IsQuiet, IsQuietAt, IsQuietWith, IsLatchedAlone}
+use Rattle.abstract_state.proofs.ConcreteLaws.{state_has_parts, choice_allowed, task_is, alarm_is, source_is, val_right}
+
+module _ (app : App) (p : Point) (value : ℕ → PartValue) (free : Free) where
+  stands_with_latches : (latched : List Bool) (q : Point) → StandsThere app p value free q → StandsThere app p value (with_latches free latched) q
+  stands_with_latches latched point.Halted h = h
+  stands_with_latches latched point.Idle h = h
+  stands_with_latches latched (point.Task b) h = h
+  stands_with_latches latched (point.Routine b over) h = record { known = h.known; own = h.own; offset = h.offset; interrupted = h.interrupted }
+
+  stands_with_offset : (t o : ℕ) (q : Point) → StandsThere app p value free q → StandsThere app p value (with_offset free t o) q
+  stands_with_offset t o point.Halted h = h
+  stands_with_offset t o point.Idle h = h
+  stands_with_offset t o (point.Task b) h = h
+  stands_with_offset t o (point.Routine b over) h = record { known = h.known; own = h.own; offset = h.offset; interrupted = h.interrupted }
+
+  stands_with_routine_offset : (o : ℕ) (q : Point) → ((b : BlockNo) (over : Option TaskNo) → q ≡ point.Routine b over → IsOffsetAt (the_block app b.0).kind o) → StandsThere app p value free q → StandsThere app p value (with_routine_offset free o) q
+  stands_with_routine_offset o point.Halted known h = h
+  stands_with_routine_offset o point.Idle known h = h
+  stands_with_routine_offset o (point.Task b) known h = h
+  stands_with_routine_offset o (point.Routine b over) known h = record { known = h.known; own = h.own; offset = known b over refl; interrupted = h.interrupted }
+
+  stands_with_arming : (a at cycle : ℕ) (q : Point) → StandsThere app p value free q → StandsThere app p value (with_arming free a at cycle) q
+  stands_with_arming a at cycle point.Halted h = h
+  stands_with_arming a at cycle point.Idle h = h
+  stands_with_arming a at cycle (point.Task b) h = h
+  stands_with_arming a at cycle (point.Routine b over) h = record { known = h.known; own = h.own; offset = h.offset; interrupted = h.interrupted }
+
+  stands_with_counter : (c x : ℕ) (q : Point) → StandsThere app p value free q → StandsThere app p value (with_counter free c x) q
+  stands_with_counter c x point.Halted h = h
+  stands_with_counter c x point.Idle h = h
+  stands_with_counter c x (point.Task b) h = h
+  stands_with_counter c x (point.Routine b over) h = record { known = h.known; own = h.own; offset = h.offset; interrupted = h.interrupted }
+
+  module _ (h : IsFree app p value free) where
+    pub free_latches : (latched : List Bool) → length latched ≡ source_count app → IsFree app p value (with_latches free latched)
+    free_latches latched long = record {
+      mode = h.mode;
+      counters_len = h.counters_len;
+      counters = h.counters;
+      latched_len = long;
+      stands = stands_with_latches latched p h.stands;
+      offsets = h.offsets;
+      alarms = h.alarms;
+    }
+
+    pub free_offset : (t o : ℕ) → ((x : LiveVal) → value t ≡ OfTask (Live x) → IsOffsetAt (the_block app x.block.0).kind o) → IsFree app p value (with_offset free t o)
+    free_offset t o known = record {
+      mode = h.mode;
+      counters_len = h.counters_len;
+      counters = h.counters;
+      latched_len = h.latched_len;
+      stands = stands_with_offset t o p h.stands;
+      offsets = λ u x lt e. elim (cases_eq u t) [
+        | inl same ↦ (rw (eq-eqb u t same) (known x (ap value (sym same) ∙ e)))
+        | inr other ↦ (rw (ne_eqb u t other) (h.offsets u x lt e))
+      ];
+      alarms = h.alarms;
+    }
+
+    pub free_routine_offset : (o : ℕ) → ((b : BlockNo) (over : Option TaskNo) → p ≡ point.Routine b over → IsOffsetAt (the_block app b.0).kind o) → IsFree app p value (with_routine_offset free o)
+    free_routine_offset o known = record {
+      mode = h.mode;
+      counters_len = h.counters_len;
+      counters = h.counters;
+      latched_len = h.latched_len;
+      stands = stands_with_routine_offset o p known h.stands;
+      offsets = h.offsets;
+      alarms = h.alarms;
+    }
+
+    pub free_arming : (a at cycle : ℕ) → IsArmed app a at cycle → IsFree app p value (with_arming free a at cycle)
+    free_arming a at cycle armed = record {
+      mode = h.mode;
+      counters_len = h.counters_len;
+      counters = h.counters;
+      latched_len = h.latched_len;
+      stands = stands_with_arming a at cycle p h.stands;
+      offsets = h.offsets;
+      alarms = λ b lt. elim (cases_eq b a) [
+        | inl same ↦ (rw (eq-eqb b a same) (subst (λ (i : ℕ). IsArmed app i at cycle) (sym same) armed))
+        | inr other ↦ (rw (ne_eqb b a other) (h.alarms b lt))
+      ];
+    }
+
+    pub free_counter : (c x : ℕ) → x ≤ (the_counter app c).max → IsFree app p value (with_counter free c x)
+    free_counter c x most = record {
+      mode = h.mode;
+      counters_len = length-set free.counters c x ∙ h.counters_len;
+      counters = λ d lt. elim (cases_eq d c) [
+        | inl same ↦
+            (let here : c < length free.counters = let long = h.counters_len in omega (arith, same, lt, long) in
+            let is : get_or (slice_set free.counters c x) d 0 ≡ x = ap (λ (i : ℕ). get_or (slice_set free.counters c x) i 0) same ∙ get_or-set_same free.counters c x 0 here in
+            subst (λ (n : ℕ). n ≤ (the_counter app d).max) (sym is) (subst (λ (i : ℕ). x ≤ (the_counter app i).max) (sym same) most))
+        | inr other ↦ subst (λ (n : ℕ). n ≤ (the_counter app d).max) (sym (get_or-set_other free.counters c d x 0 other)) (h.counters d lt)
+      ];
+      latched_len = h.latched_len;
+      stands = stands_with_counter c x p h.stands;
+      offsets = h.offsets;
+      alarms = h.alarms;
+    }
+
+-- none latched, and one alone
+pub none_latched : (n k : ℕ) → get_or (replicate n false) k false ≡ false
+none_latched n k = elim (cases_lt k n) [
+  | inl below ↦ get_or-replicate n k false false below
+  | inr above ↦ (let long = length-replicate n false in get_or_past (replicate n false) k false (omega (arith, above, long)))
+]
+
+pub one_is_latched : (n k : ℕ) → k < n → get_or (slice_set (replicate n false) k true) k false ≡ true
+one_is_latched n k lt = let long = length-replicate n false in get_or-set_same (replicate n false) k true false (omega (arith, lt, long))
+
+pub one_latched : (n k l : ℕ) → get_or (slice_set (replicate n false) k true) l false ≡ true → l ≡ k
+one_latched n k l e = elim (cases_eq l k) [
+  | inl same ↦ same
+  | inr other ↦ (let unset : get_or (slice_set (replicate n false) k true) l false ≡ false = get_or-set_other (replicate n false) k l true false other ∙ none_latched n l in absurd (cc))
+]
+
+-- a well-formed state with these values and latches
+pub record Chosen (app : App) (p : Point) (value : ℕ → PartValue) (l : List Bool) : Type 0 where
+  pub state : State
+  pub has : HasParts app p value state
+  pub latched : state.latched ≡ l
+
+pub chosen : (app : App) (p : Point) (value : ℕ → PartValue) (l : List Bool) → IsPoint app p → AreAllowed app p value → length l ≡ source_count app → Chosen app p value l
+chosen app p value l h allowed long =
+    let c = choice_allowed app p value h allowed in
+    let free = with_latches c.0 l in
+    record {
+      state = state_of app p value free;
+      has = state_has_parts app p value free allowed (free_latches app p value c.0 c.1 l long);
+      latched = refl;
+    }
+
+module _ (app : App) (p : Point) (value : ℕ → PartValue) (known : IsPoint app p) (allowed : AreAllowed app p value) where
+  -- no source is latched
+  abbrev quiet_free : Free
+  quiet_free = with_latches (choice_allowed app p value known allowed).0 (replicate (source_count app) false)
+
+  quiet_is_free : IsFree app p value quiet_free
+  quiet_is_free = let c = choice_allowed app p value known allowed in free_latches app p value c.0 c.1 (replicate (source_count app) false) (length-replicate (source_count app) false)
+
+  quiet_by : (free : Free) → free.latched ≡ replicate (source_count app) false → arrival app (state_of app p value free) ≡ None
+  quiet_by free e = nothing_arrives app (state_of app p value free) (λ k. ap (λ (l : List Bool). get_or l k false) e ∙ none_latched (source_count app) k)
+
+  -- a state in which no routine begins
+  pub some_quiet : (s : State) × IsQuiet app p value s
+  some_quiet = (state_of app p value quiet_free, record { has = state_has_parts app p value quiet_free allowed quiet_is_free; quiet = quiet_by quiet_free refl })
+
+  -- a state in which source k's routine begins if one may
+  pub some_latched : (k : ℕ) → k < source_count app → (s : State) × IsLatchedAlone app p value k s
+  some_latched k lt =
+      let c = choice_allowed app p value known allowed in
+      let latched = slice_set (replicate (source_count app) false) k true in
+      let long : length latched ≡ source_count app = length-set (replicate (source_count app) false) k true ∙ length-replicate (source_count app) false in
+      let free = with_latches c.0 latched in
+      let s = state_of app p value free in (
+        s,
+        record {
+          has = state_has_parts app p value free allowed (free_latches app p value c.0 c.1 latched long);
+          arrives = λ may. is_arrival app s k (record {
+            allowed = may;
+            latched = one_is_latched (source_count app) k lt;
+            first = λ l set. (let same : l ≡ k = one_latched (source_count app) k l set in grind (arith, nat_tests));
+          });
+        },
+      )
+
+  -- the counter of alarm a stands at a value, and the alarm has a time and a cycle
+  pub some_armed : (a at cycle now : ℕ) → a < length app.alarms → IsArmed app a at cycle → now ≤ max_of app a → (s : State) × IsQuietWith app p value a at cycle now s
+  some_armed a at cycle now lt armed most =
+      let c = (the_alarm app a).counter.0 in
+      let first = with_arming quiet_free a at cycle in
+      let free = with_counter first c now in
+      let s = state_of app p value free in
+      let few : c < length quiet_free.counters = let there = (app.valid.each_alarm a no_alarm lt).counter in let long = quiet_is_free.counters_len in omega (arith, there, long) in
+      let own : flag_of (value (component_number app (component.Alarm (alarm_no a)))) ≡ true → alarm_state s a ≡ alarm.Armed at cycle
+      = λ set. alarm_is app p value free a lt
+      ∙ ap (λ (b : Bool). alarm_of b (free.due a) (free.cycle a)) set
+      ∙ ap (λ (e : Bool). alarm.Armed (if e then at else quiet_free.due a) (if e then cycle else quiet_free.cycle a)) (eq-eqb a a refl) in (
+        s,
+        record {
+          has = state_has_parts app p value free allowed (free_counter app p value first (free_arming app p value quiet_free quiet_is_free a at cycle armed) c now most);
+          quiet = quiet_by free refl;
+          counter = get_or-set_same quiet_free.counters c now 0 few;
+          armed = λ e. own (ap flag_of e);
+        },
+      )
+
+-- where the processor stands, so far in its block
+place_of_live : (b : BlockNo) (v : Val) (o : ℕ) → IsLiveAt b v → place_in (activity_of v o) ≡ place_at b o
+place_of_live b Suspended o h = absurd h
+place_of_live b (Live x) o h = ap (λ (c : BlockNo). place_at c o) h
+place_of_live b (Waiting c) o h = absurd h
+
+block_of_live : (b : BlockNo) (x : LiveVal) (y : PartValue) → IsLiveAt b (val_of y) → y ≡ OfTask (Live x) → x.block ≡ b
+block_of_live b x y h e = let there : IsLiveAt b (Live x) = subst (λ (z : PartValue). IsLiveAt b (val_of z)) e h in there
+
+abbrev inside : BlockNo → ℕ → Source
+inside b o = source.In (record { at = place_at b o })
+
+-- a state in which no routine begins, and who has the processor stands so far in the block
+pub some_quiet_at : (app : App) (p : Point) (value : ℕ → PartValue) → IsPoint app p → AreAllowed app p value → (b : BlockNo) (o : ℕ) → StandsAt p b → IsOffsetAt (the_block app b.0).kind o → (s : State) × IsQuietAt app p value b o s
+some_quiet_at app point.Halted value known allowed b o same offset = absurd same
+some_quiet_at app point.Idle value known allowed b o same offset = absurd same
+some_quiet_at app (point.Task c) value known allowed b o same offset =
+    let p = point.Task c in
+    let before = quiet_free app p value known allowed in
+    let h = quiet_is_free app p value known allowed in
+    let t = before.task.0 in
+    let there : IsLiveAt c (val_of (value t)) = (val_right app p value allowed t h.stands.0).1 h.stands.1 in
+    let free = with_offset before t o in
+    let s = state_of app p value free in (
+      s,
+      record {
+        has = state_has_parts app p value free allowed (free_offset app p value before h t o
+            (λ x e. subst (λ (d : BlockNo). IsOffsetAt (the_block app d.0).kind o) (sym (block_of_live c x (value t) there e ∙ same)) offset));
+        quiet = quiet_by app p value known allowed free refl;
+        stands = ap (λ (x : TaskState). place_in x.activity) (task_is app p value free t h.stands.0)
+            ∙ ap (λ (e : Bool). place_in (activity_of (val_of (value t)) (if e then o else before.offset t))) (eq-eqb t t refl)
+            ∙ place_of_live c (val_of (value t)) o there
+            ∙ ap (λ (d : BlockNo). place_at d o) same;
+      },
+    )
+some_quiet_at app (point.Routine c over) value known allowed b o same offset =
+    let p = point.Routine c over in
+    let before = quiet_free app p value known allowed in
+    let h = quiet_is_free app p value known allowed in
+    let k = before.source.0 in
+    let free = with_routine_offset before o in
+    let s = state_of app p value free in (
+      s,
+      record {
+        has = state_has_parts app p value free allowed (free_routine_offset app p value before h o
+            (λ d under e. let next : c ≡ d = cc in subst (λ (i : BlockNo). IsOffsetAt (the_block app i.0).kind o) (sym same ∙ next) offset));
+        quiet = quiet_by app p value known allowed free refl;
+        stands = ap place_of_source (source_is app p value free k h.stands.known
+            ∙ ap (λ (e : Bool). if e then inside c o else source.Out) (eq-eqb k k refl))
+            ∙ ap (λ (d : BlockNo). place_at d o) same;
+      },
+    )
+
+-- times and cycles that an alarm may have
+cycle_of : (c : Counter) → c.min_cycle ≤ c.max → is_cycle_of c c.max ≡ true
+cycle_of c least =
+    let low : nat_le c.min_cycle c.max ≡ true = grind (arith, nat_tests) in
+    let high : nat_le c.max c.max ≡ true = grind (arith, nat_tests) in
+    or_right (c.max == 0) (nat_le c.min_cycle c.max && nat_le c.max c.max) (and_from (nat_le c.min_cycle c.max) (nat_le c.max c.max) low high)
+
+module _ (app : App) (a : ℕ) (lt : a < length app.alarms) where
+  counter_known : (the_alarm app a).counter.0 < length app.counters
+  counter_known = (app.valid.each_alarm a no_alarm lt).counter
+
+  -- its counter counts to 1 at least
+  pub some_ticks : 1 ≤ max_of app a
+  some_ticks = (app.valid.each_counter (the_alarm app a).counter.0 no_counter counter_known).0
+
+  -- a single alarm, at any time
+  pub armed_once : (at : ℕ) → at ≤ max_of app a → IsArmed app a at 0
+  armed_once at most = record { at_most = most; round = refl }
+
+  -- a cyclic one, at any time, its cycle the longest
+  pub armed_again : (at : ℕ) → at ≤ max_of app a → IsArmed app a at (max_of app a)
+  armed_again at most = record {
+    at_most = most;
+    round = (let least = app.valid.min_cycles (the_alarm app a).counter.0 no_counter counter_known in cycle_of (the_counter app (the_alarm app a).counter.0) least);
+  }

@@ -1,0 +1,57 @@
+-- Other choices of what a table doesn't keep, and the states that they give.
+use Rattle.std.specs.Prelude.{◌≡◌, ℕ, Bool, true, false, ◌==◌, List, slice_set, if◌then◌else◌, Some, None}
+use Rattle.osek_values.specs.Numbers.{alarm_no, source_no}
+use Rattle.osek_values.specs.declared.numbers.BlockNo.{BlockNo}
+use Rattle.osek_standard.specs.declared.app.App.{App}
+use Rattle.osek_standard.specs.declared.state.State.{State}
+use Rattle.osek_standard.specs.declared.state.AlarmState.TheVariants as alarm
+use Rattle.osek_standard.specs.Apps.{the_alarm}
+use Rattle.osek_standard.specs.States.{alarm_state, counter_value, here}
+use Rattle.osek_standard.specs.Effects.{place_at}
+use Rattle.osek_standard.specs.Arrivals.{arrival, takes_none}
+use Rattle.osek_standard.specs.declared.point.Point.{Point}
+use Rattle.abstract_state.specs.declared.value.{PartValue.{PartValue}, PartValue.TheVariants.{OfAlarm}}
+use Rattle.abstract_state.specs.declared.value.Component.TheVariants as component
+use Rattle.abstract_state.specs.Components.{component_number}
+use Rattle.abstract_state.specs.Concrete.{Free, HasParts}
+
+abbrev pub with_latches : Free → List Bool → Free
+with_latches free latched = record free { latched = latched }
+
+-- a Live task stands so far in its block
+abbrev pub with_offset : Free → ℕ → ℕ → Free
+with_offset free t o = record free { offset = λ u. if u == t then o else free.offset u }
+
+abbrev pub with_routine_offset : Free → ℕ → Free
+with_routine_offset free o = record free { routine_offset = o }
+
+-- an alarm, where it is armed, expires at this time, and has this cycle
+abbrev pub with_arming : Free → ℕ → ℕ → ℕ → Free
+with_arming free a at cycle = record free { due = λ b. if b == a then at else free.due b; cycle = λ b. if b == a then cycle else free.cycle b }
+
+abbrev pub with_counter : Free → ℕ → ℕ → Free
+with_counter free c x = record free { counters = slice_set free.counters c x }
+
+module _ (app : App) (p : Point) (value : ℕ → PartValue) where
+  -- a well-formed state at the point, with these values, in which no routine begins
+  pub record IsQuiet (s : State) : Type 0 where
+    pub has : HasParts app p value s
+    pub quiet : arrival app s ≡ None
+
+  -- and the processor stands so far in its block
+  pub record IsQuietAt (b : BlockNo) (o : ℕ) (s : State) : Type 0 where
+    pub has : HasParts app p value s
+    pub quiet : arrival app s ≡ None
+    pub stands : here s ≡ place_at b o
+
+  -- and the counter of an alarm stands at this value, and the alarm, where it is armed, has this time and cycle
+  pub record IsQuietWith (a at cycle now : ℕ) (s : State) : Type 0 where
+    pub has : HasParts app p value s
+    pub quiet : arrival app s ≡ None
+    pub counter : counter_value s (the_alarm app a).counter.0 ≡ now
+    pub armed : value (component_number app (component.Alarm (alarm_no a))) ≡ OfAlarm true → alarm_state s a ≡ alarm.Armed at cycle
+
+  -- a well-formed state at the point, with these values, in which this source's routine begins if one may
+  pub record IsLatchedAlone (k : ℕ) (s : State) : Type 0 where
+    pub has : HasParts app p value s
+    pub arrives : takes_none app s ≡ false → arrival app s ≡ Some (source_no k)

@@ -1,0 +1,4 @@
+pub mod Joining
+pub mod RuleOutcomes
+pub mod RowOutcomes
+pub mod DictatedForms

@@ -1,0 +1,129 @@
+-- What is found at each block, row by row.
+use Rattle.std.proofs.Common.{◌≡◌, ◌⊎◌, ℕ, ◌+◌, ◌<◌, Bool, true, false, List, [], ◌∷◌, ◌++◌, length, map, get_or, set, take, Some, None, refl, sym, ap, subst, ◌∙◌, inl, inr, arith}
+use Rattle.std.specs.Prelude.{Contains, if◌then◌else◌}
+use Rattle.std.specs.List.{range_with_len}
+use Rattle.std.specs.declared.option.Option.{Option}
+use Rattle.std.proofs.lemmas.Bool.{cases_eq}
+use Rattle.std.proofs.lemmas.List.{take_more, length-set, get_or-set_same, get_or-set_other}
+use Rattle.std.proofs.lemmas.List.Elements.{All-get_or, Contains-push, Contains-push_cases, Contains-append_left}
+use Rattle.std.proofs.lemmas.List.FromFn.{get_or-map-range_with_len, length-map-range_with_len}
+use Rattle.std.proofs.lemmas.Map.Views.{Contains-from_any}
+use Rattle.osek_values.specs.Numbers.{block_no}
+use Rattle.osek_values.specs.declared.numbers.BlockNo.{BlockNo}
+use Rattle.osek_standard.specs.declared.app.App.{App}
+use Rattle.osek_standard.specs.declared.point.Point.{Point}
+use Rattle.osek_standard.specs.declared.point.Point.TheVariants as point
+use Rattle.osek_standard.specs.Apps.{is_site}
+use Rattle.osek_standard.specs.Dispatch.{Outcome}
+use Rattle.osek_standard.specs.Points.{StandsAt, IsPoint}
+use Rattle.osek_standard.proofs.WellLaws.{own_known, routine_known}
+use Rattle.abstract_state.specs.declared.table.{TableRow.{TableRow}, Table.{Table}}
+use Rattle.abstract_state.specs.Tables.{set_at}
+use Rattle.abstract_state.specs.Written.{IsRow, IsWritten}
+use Rattle.abstract_state.proofs.OrderLaws.{part_right}
+use Rattle.abstract_state.proofs.EqualityLaws.{written_value}
+use Rattle.flow_model.specs.Effects.{AreAllAllowed}
+use Rattle.call_tailor.specs.declared.found.Found.{Found}
+use Rattle.call_tailor.specs.declared.found.Found.TheVariants as found
+use Rattle.call_tailor.specs.Found.{IsFound, IsJoined}
+use Rattle.call_tailor.specs.Outcomes.{Arises, ArisesAt, IsFoundAt, AreFound, first_found}
+use Rattle.call_tailor.proofs.Joining.{joined_found, same_found}
+
+-- a point stands at one block, which is the application's
+pub stands_once : (p : Point) (b c : BlockNo) → StandsAt p b → StandsAt p c → b ≡ c
+stands_once point.Halted b c h k = absurd h
+stands_once point.Idle b c h k = absurd h
+stands_once (point.Task d) b c h k = sym h ∙ k
+stands_once (point.Routine d over) b c h k = sym h ∙ k
+
+pub stands_known : (app : App) (p : Point) (b : BlockNo) → IsPoint app p → StandsAt p b → b.0 < length app.blocks
+stands_known app point.Halted b at h = absurd h
+stands_known app point.Idle b at h = absurd h
+stands_known app (point.Task d) b at h = subst (λ (k : BlockNo). k.0 < length app.blocks) h (own_known app at.task d.0 at.known at.own)
+stands_known app (point.Routine d over) b at h = subst (λ (k : BlockNo). k.0 < length app.blocks) h (routine_known app at.source d.0 at.known at.own)
+
+module _ (app : App) where
+  -- before the first row
+  first_at : (b : ℕ) (site : Bool) → is_site app b ≡ site → IsFoundAt app [] b (if site then Some found.None else None)
+  first_at b true e = (e, λ o h. absurd (omega (arith, h.among.1)))
+  first_at b false e = rw e refl
+
+  pub first_outcomes : (n : ℕ) (sites : List (Option Found)) → n ≡ length app.blocks → sites ≡ map (first_found app) (range_with_len 0 n) → AreFound app [] sites
+  first_outcomes n sites all e = subst (AreFound app []) (sym e) (record {
+    count = length-map-range_with_len (first_found app) 0 n ∙ all;
+    each = λ b lt.
+        let below : b < n = omega (arith, lt, all) in
+        let same : 0 + b ≡ b = omega arith in
+        subst (IsFoundAt app [] b) (sym (get_or-map-range_with_len (first_found app) 0 n b b None below same)) (first_at b (is_site app b) refl);
+  })
+
+  module _ (rows : List TableRow) (row : TableRow) where
+    abbrev more_rows : List TableRow
+    more_rows = rows ++ row ∷ []
+
+    earlier : (b : ℕ) (o : Outcome) → ArisesAt app rows b o → ArisesAt app more_rows b o
+    earlier b o h = record { row = h.row; among = Contains-append_left rows (row ∷ []) h.row h.among; stands = h.stands; arises = h.arises }
+
+    -- it arises at an earlier row, or at the last one
+    either : (b : ℕ) (o : Outcome) → ArisesAt app more_rows b o → ArisesAt app rows b o ⊎ (StandsAt row.point (block_no b) × Arises app row o)
+    either b o h = elim (Contains-push_cases rows row h.row h.among) [
+      | inl old ↦ inl (record { row = h.row; among = old; stands = h.stands; arises = h.arises })
+      | inr same ↦ inr (subst (λ (x : TableRow). StandsAt x.point (block_no b)) (sym same) h.stands, subst (λ (x : TableRow). Arises app x o) (sym same) h.arises)
+    ]
+
+    -- the row stands elsewhere, or where nothing is sought
+    row_elsewhere : (b : ℕ) (x : Option Found) → (StandsAt row.point (block_no b) → x ≡ None) → IsFoundAt app rows b x → IsFoundAt app more_rows b x
+    row_elsewhere b None other f = f
+    row_elsewhere b (Some y) other f = (
+      f.0,
+      same_found (ArisesAt app rows b) (ArisesAt app more_rows b) (earlier b) (λ o h. elim (either b o h) [
+        | inl old ↦ old
+        | inr new ↦ absurd (let e : Some y ≡ None = other new.0 in cc)
+      ]) y f.1,
+    )
+
+    -- the row stands there
+    row_here : (b : ℕ) (before new after : Found) → StandsAt row.point (block_no b) → IsJoined before new after → IsFound (Arises app row) new → IsFoundAt app rows b (Some before) → IsFoundAt app more_rows b (Some after)
+    row_here b before new after here joined h f = (
+      f.0,
+      joined_found (ArisesAt app rows b) (Arises app row) (ArisesAt app more_rows b) (earlier b)
+          (λ o a. record { row = row; among = Contains-push rows row; stands = here; arises = a })
+          (λ o a. elim (either b o a) [ inl old ↦ inl old | inr last ↦ inr last.1 ])
+          before new after joined f.1 h,
+    )
+
+    pub row_passed : (sites : List (Option Found)) → ((b : ℕ) → StandsAt row.point (block_no b) → get_or sites b None ≡ None) → AreFound app rows sites → AreFound app more_rows sites
+    row_passed sites other f = record { count = f.count; each = λ b lt. row_elsewhere b (get_or sites b None) (other b) (f.each b lt) }
+
+    pub row_added : (sites : List (Option Found)) (k : BlockNo) (before new after : Found) → k.0 < length sites → StandsAt row.point k → get_or sites k.0 None ≡ Some before → IsFound (Arises app row) new → IsJoined before new after → AreFound app rows sites → AreFound app more_rows (set sites k.0 (Some after))
+    row_added sites k before new after known here was h joined f = record {
+      count = length-set sites k.0 (Some after) ∙ f.count;
+      each = λ b lt. elim (cases_eq b k.0) [
+        | inl same ↦
+            subst (λ (c : ℕ). IsFoundAt app more_rows c (get_or (set sites k.0 (Some after)) c None)) (sym same)
+            (subst (IsFoundAt app more_rows k.0) (sym (get_or-set_same sites k.0 (Some after) None known))
+            (row_here k.0 before new after here joined h (subst (IsFoundAt app rows k.0) was (f.each k.0 (omega (arith, known, f.count))))))
+        | inr differ ↦
+            subst (IsFoundAt app more_rows b) (sym (get_or-set_other sites k.0 b (Some after) None differ))
+            (row_elsewhere b (get_or sites b None) (λ stands. absurd (differ (ap (λ (c : BlockNo). c.0) (stands_once row.point (block_no b) k stands here)))) (f.each b lt))
+      ];
+    }
+
+module _ (app : App) (table : Table) (written : IsWritten app table) where
+  pub row_proper : (row : TableRow) → Contains table.rows row → IsRow app row
+  row_proper row h = subst (IsRow app) h.2 (All-get_or (IsRow app) table.rows h.0 row h.1 written.rows)
+
+  pub row_allowed : (row : TableRow) → Contains table.rows row → AreAllAllowed app row.point row.entry
+  row_allowed row h c v lt m = written.proper.allowed row.point c v ((written_value table row.point c v).1 (record {
+    row = row;
+    among = h;
+    point = refl;
+    member = Contains-from_any part_right v (set_at row.entry c).members m;
+  }))
+
+-- the rows so far, in a loop over their list
+pub row_listed : (items rows : List TableRow) (i : ℕ) (row : TableRow) → items ≡ rows → i < length items → row ≡ get_or items i row → Contains rows row
+row_listed items rows i row same lt e = subst (λ (xs : List TableRow). Contains xs row) same (i, lt, sym e)
+
+pub rows_more : (items : List TableRow) (i : ℕ) (row : TableRow) → i < length items → row ≡ get_or items i row → take i items ++ row ∷ [] ≡ take (i + 1) items
+rows_more items i row lt e = ap (λ (x : TableRow). take i items ++ x ∷ []) e ∙ sym (take_more items i row lt)

@@ -1,0 +1,8 @@
+//! The form that the least table of possible states dictates at each site of an application.
+#![tactic(auto)]
+
+mod found;
+mod outcomes;
+mod tailoring;
+
+pub use tailoring::tailor;

@@ -1,0 +1,105 @@
+//! The rules of a point over an entry of one state.
+ghost use Rattle.std.specs.Prelude.{◌≡◌, ◌<◌, IfOk};
+ghost use Rattle.osek_standard.specs.Well.{Well};
+ghost use Rattle.state_flow.specs.Rows.{IsProperRow};
+
+use abstract_state::{Entry, TableRow};
+use flow_model::{Decision, Rule};
+use flow_rules::{apply, rules};
+use front_end::{TextError, read_app, read_system};
+use generic_kernel::{start, step};
+use osek_standard::{App, State};
+use osek_values::{Event, Memory, ModeNo, Steps, TaskNo};
+use state_flow::row_of;
+use std::alloc::Global;
+use std::marker::Brand;
+use std::sync::ledger::{Blank, Ledger};
+use std::test::*;
+
+/// Two tasks of which the lower one takes a resource of both, activates the higher one and gives the resource back.
+const OIL: &[u8] = b"CPU c { OS os; RESOURCE Res; \
+TASK T1 { PRIORITY = 1; AUTOSTART = TRUE; RESOURCE = Res; }; TASK T2 { PRIORITY = 2; RESOURCE = Res; }; };";
+
+const CODE: &[u8] = b"\
+TASK(T1) { GetResource(Res); ActivateTask(T2); ReleaseResource(Res); TerminateTask(); }\n\
+TASK(T2) { TerminateTask(); }\n";
+
+/// Two runs.
+fn run_twice<L: Ledger>(app: &App, state: &mut State, blank: Blank)
+    requires name { blank.name ≡ L.name }
+    requires parts { blank.parts ≡ L.parts }
+    requires some { 0 < L.parts }
+    requires well { Well app.now state.old }
+    ensures { Well app.now state.new }
+{
+    let mut scans = Steps::<L>::of(blank);
+    step(app, state, Event::Run(false), &mut scans);
+    step(app, state, Event::Run(false), &mut scans);
+}
+
+/// The row of the state after two runs.
+fn row_after_two_runs(alloc: Global, app: &App) -> Result<TableRow, Memory>
+    ensures { IfOk result (IsProperRow app.now) }
+{
+    let (mut state, _notes) = start(alloc, app, ModeNo(0))?;
+    run_twice::<Brand>(app, &mut state, Blank::new(1));
+    let row = row_of(alloc, app, &state);
+    drop(state);
+    row
+}
+
+/// What the rules of a row come to: that some has a result, and that each that has one gives the processor to the second
+/// task.
+#[derive(Clone, Copy, PartialEq, Eq, Debug)]
+struct Summary {
+    some: bool,
+    all_dispatch: bool,
+}
+
+fn outcomes(alloc: Global, app: &App, row: &TableRow) -> Result<Summary, Memory>
+    requires { IsProperRow app.now row.now }
+{
+    let mut outcomes = Summary {
+        some: false,
+        all_dispatch: true,
+    };
+    let found = rules(alloc, app, row.point, &row.entry)?;
+    for rule in found.as_slice() {
+        if has_result(alloc, rule, &row.entry)? {
+            outcomes.some = true;
+            if rule.decision != Some(Decision::To(Some(TaskNo(1)))) {
+                outcomes.all_dispatch = false;
+            }
+        }
+    }
+    Ok(outcomes)
+}
+
+fn has_result(alloc: Global, rule: &Rule, entry: &Entry) -> Result<bool, Memory> {
+    let new = apply(alloc, rule, entry)?;
+    Ok(new.is_some())
+}
+
+/// What the rules come to where the lower task is about to give the resource back and the higher one waits for it.
+fn outcomes_by_texts(alloc: Global) -> Result<Summary, TextError> {
+    let system = read_system(alloc, OIL)?;
+    match read_app(alloc, system, CODE) {
+        Ok(app) => {
+            let row = row_after_two_runs(alloc, &app)?;
+            let outcomes = outcomes(alloc, &app, &row);
+            drop(row);
+            drop(app);
+            Ok(outcomes?)
+        }
+        Err(error) => Err(error),
+    }
+}
+
+#[test]
+fn where_a_ceiling_falls_every_rule_dispatches_the_higher_task(rt: HostRuntime) {
+    let wanted = Summary {
+        some: true,
+        all_dispatch: true,
+    };
+    assert_eq!(rt; outcomes_by_texts(rt.alloc()), Ok(wanted));
+}

@@ -1,0 +1,6 @@
+pub mod Candidates
+pub mod Claims
+pub mod Deciding
+pub mod Findings
+pub mod Needs
+pub mod Outcomes

@@ -1,0 +1,11 @@
+pub mod EntryLaws
+pub mod ListLaws
+pub mod Listed
+pub mod TaskValues
+pub mod ValueCases
+pub mod MoveCases
+pub mod TaskEndCases
+pub mod ReturnCases
+pub mod ResourceCases
+pub mod WaitingCases
+pub mod ChainCases

@@ -1,0 +1,7 @@
+pub mod CallNames
+pub mod Lists
+pub mod Moves
+pub mod TaskEnds
+pub mod Resources
+pub mod Waiting
+pub mod Returns

@@ -1,0 +1,38 @@
+-- The cases of instructions that do nothing but go on: work, choices, loops, and calls that are refused or have no effect
+-- on the components.
+use Rattle.std.specs.Prelude.{ℕ, nat_lt, List, [], ◌∷◌, Some, None, if◌then◌else◌}
+use Rattle.osek_values.specs.declared.numbers.BlockNo.{BlockNo}
+use Rattle.osek_values.specs.declared.status.Status.{Status}
+use Rattle.osek_standard.specs.declared.point.Point.TheVariants as point
+use Rattle.flow_model.specs.declared.case.EffectCase.{EffectCase}
+use Rattle.flow_model.specs.declared.case.Asked.TheVariants as asked
+use Rattle.flow_model.specs.declared.runner.Runner.{Runner}
+use Rattle.flow_model.specs.Runners.{runner_point, moving}
+use Rattle.flow_model.specs.Cases.{effect_case, goes_on}
+
+-- it stays at its block, and nothing changes
+abbrev pub stays : Runner → BlockNo → EffectCase
+stays r b = effect_case [] [] asked.No None (runner_point r b)
+
+-- it goes on, and nothing else
+abbrev pub passes_by : Runner → BlockNo → EffectCase
+passes_by r n = goes_on r n [] asked.No None
+
+abbrev pub onward : Runner → BlockNo → List EffectCase
+onward r n = passes_by r n ∷ []
+
+-- it goes on, and the call is refused whatever the values are
+abbrev pub refuses : Runner → BlockNo → Status → List EffectCase
+refuses r n x = goes_on r n [] asked.No (Some x) ∷ []
+
+-- of several instructions of work one is done, or the last
+abbrev pub work_cases : Runner → BlockNo → BlockNo → ℕ → List EffectCase
+work_cases r b n count = if nat_lt 1 count then stays r b ∷ onward r n else onward r n
+
+-- either way
+abbrev pub choice_cases : Runner → BlockNo → BlockNo → List EffectCase
+choice_cases r n other = passes_by r n ∷ onward r other
+
+-- ShutdownOS: the caller stands at its next block, and the kernel halts
+abbrev pub halts : Runner → BlockNo → List EffectCase
+halts r n = effect_case [] (moving r n) asked.No None point.Halted ∷ []

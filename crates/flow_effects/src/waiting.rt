@@ -1,0 +1,174 @@
+//! WaitEvent.
+ghost use Rattle.std.specs.Prelude.{◌≡◌, ◌<◌, ◌++◌, IsTrue, IfOk, OnOk, false, length, map, bit_and};
+ghost use Rattle.osek_standard.specs.Apps.{the_task, is_extended};
+ghost use Rattle.osek_standard.specs.Kernel.{has_bit};
+ghost use Rattle.flow_model.specs.Runners.{IsKnown};
+ghost use Rattle.flow_effects.specs.Waiting.{of_event, awaited_events, goes_on_by, waits, extended_cases, wait_cases};
+
+use crate::conditions::if_task;
+use crate::moves::refuses;
+use crate::task_ends::refused_holding;
+use abstract_state::{Component, ComponentNo, PartValue, Point, Val, component_number};
+use flow_model::{Asked, Change, Condition, EffectCase, Runner, Test, Update};
+use osek_standard::App;
+use osek_values::{BlockNo, EventNo, Mask, Memory, Seq, Status, TaskNo};
+use std::alloc::Global;
+
+fn has_bit(mask: Mask, bit: u8) -> bool
+    requires { bit < 64 }
+    ensures { result ≡ has_bit mask.0 bit }
+{
+    (mask.0 >> bit) & 1 == 1
+}
+
+/// Whether an event of a task is set, or isn't.
+fn of_event(app: &App, task: TaskNo, set: bool, bit: u8) -> Condition
+    requires task { task.0 < length app.now.tasks }
+    requires bit { bit < 64 }
+    requires own { IsTrue (has_bit (the_task app.now task.0).own.0 bit) }
+    ensures { result ≡ of_event app.now task set bit }
+{
+    let event = Component::Event {
+        task,
+        bit: EventNo(bit),
+    };
+    Condition {
+        component: component_number(app, event),
+        test: Test::Is(PartValue::OfEvent(set)),
+    }
+}
+
+/// The task's own events that it waits for.
+fn awaited(app: &App, task: TaskNo, mask: Mask) -> Mask
+    requires { task.0 < length app.now.tasks }
+    ensures { result.0 ≡ bit_and mask.0 (the_task app.now task.0).own.0 }
+{
+    mask.and(app.task(task).own)
+}
+
+/// The case in which one event is set, and the task goes on.
+fn goes_on_by(
+    alloc: Global,
+    app: &App,
+    task: TaskNo,
+    next: BlockNo,
+    bit: u8,
+) -> Result<EffectCase, Memory>
+    requires task { task.0 < length app.now.tasks }
+    requires bit { bit < 64 }
+    requires own { IsTrue (has_bit (the_task app.now task.0).own.0 bit) }
+    ensures { IfOk result (λ case. case ≡ goes_on_by app.now task next bit) }
+{
+    let mut conditions = if_task(alloc, task, Test::HoldsNothing)?;
+    conditions.push(of_event(app, task, true, bit))?;
+    Runner::Task(task).goes_on(alloc, next, conditions, Asked::No, Some(Status::Ok))
+}
+
+/// Adds the cases in which an event is set, and the task goes on.
+fn add_goes_on(
+    alloc: Global,
+    app: &App,
+    cases: &mut Seq<EffectCase>,
+    task: TaskNo,
+    next: BlockNo,
+    mask: Mask,
+) -> Result<(), Memory>
+    requires { task.0 < length app.now.tasks }
+    ensures { OnOk result (cases.new ≡ cases.old ++ map (goes_on_by app.now task next) (awaited_events app.now task mask)) }
+{
+    let events = awaited(app, task, mask);
+    for bit in 0..64 {
+        if has_bit(events, bit) {
+            cases.push(goes_on_by(alloc, app, task, next, bit)?)?;
+        }
+    }
+    Ok(())
+}
+
+/// Adds that none of the events is set.
+fn add_unset(
+    app: &App,
+    conditions: &mut Seq<Condition>,
+    task: TaskNo,
+    mask: Mask,
+) -> Result<(), Memory>
+    requires { task.0 < length app.now.tasks }
+    ensures { OnOk result (conditions.new ≡ conditions.old ++ map (of_event app.now task false) (awaited_events app.now task mask)) }
+{
+    let events = awaited(app, task, mask);
+    for bit in 0..64 {
+        if has_bit(events, bit) {
+            conditions.push(of_event(app, task, false, bit))?;
+        }
+    }
+    Ok(())
+}
+
+/// The case in which none of the events is set, and the task waits.
+fn waits(
+    alloc: Global,
+    app: &App,
+    task: TaskNo,
+    block: BlockNo,
+    mask: Mask,
+) -> Result<EffectCase, Memory>
+    requires { task.0 < length app.now.tasks }
+    ensures { IfOk result (λ case. case ≡ waits app.now task block (awaited_events app.now task mask)) }
+{
+    let mut conditions = if_task(alloc, task, Test::HoldsNothing)?;
+    add_unset(app, &mut conditions, task, mask)?;
+    let mut changes = Seq::new(alloc);
+    changes.push(Change {
+        component: ComponentNo(task.0 as u16),
+        update: Update::Set(PartValue::OfTask(Val::Waiting(block))),
+    })?;
+    Ok(EffectCase {
+        conditions,
+        changes,
+        asked: Asked::Left,
+        status: Some(Status::Ok),
+        point: Point::Idle,
+    })
+}
+
+/// WaitEvent of an extended task.
+fn extended_cases(
+    alloc: Global,
+    app: &App,
+    task: TaskNo,
+    block: BlockNo,
+    next: BlockNo,
+    mask: Mask,
+) -> Result<Seq<EffectCase>, Memory>
+    requires { task.0 < length app.now.tasks }
+    ensures { IfOk result (λ cases. cases ≡ extended_cases app.now task block next mask) }
+{
+    let mut cases = Seq::new(alloc);
+    cases.push(refused_holding(alloc, task, next)?)?;
+    cases.push(waits(alloc, app, task, block, mask)?)?;
+    add_goes_on(alloc, app, &mut cases, task, next, mask)?;
+    Ok(cases)
+}
+
+/// WaitEvent.
+pub fn wait_cases(
+    alloc: Global,
+    app: &App,
+    runner: Runner,
+    block: BlockNo,
+    next: BlockNo,
+    mask: Mask,
+) -> Result<Seq<EffectCase>, Memory>
+    requires { IsKnown app.now runner }
+    ensures { IfOk result (λ cases. cases ≡ wait_cases app.now runner block next mask) }
+{
+    match runner {
+        Runner::Task(task) => {
+            if app.task(task).own.is_empty() {
+                return refuses(alloc, runner, next, Status::Access);
+            }
+            extended_cases(alloc, app, task, block, next, mask)
+        }
+        Runner::Routine { over: _ } => refuses(alloc, runner, next, Status::CallLevel),
+    }
+}

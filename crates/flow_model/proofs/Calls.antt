@@ -1,0 +1,117 @@
+-- The calls after which their caller goes on to its next block: what their answer says of the effect.
+use Rattle.std.proofs.Common.{◌≡◌, ℕ, ◌<◌, Bool, false, List, refl, sym, ap, subst, ◌∙◌}
+use Rattle.std.specs.Prelude.{if◌then◌else◌}
+use Rattle.osek_values.specs.declared.status.{Status.{Status}, Ask.{Ask}}
+use Rattle.osek_values.specs.declared.status.Ask.TheVariants as ask
+use Rattle.osek_values.specs.declared.notes.{Notes.{Notes}, Value.{Value}}
+use Rattle.std.specs.declared.option.Option.{Option}
+use Rattle.osek_values.specs.declared.numbers.{TaskNo.{TaskNo}, BlockNo.{BlockNo}}
+use Rattle.osek_standard.specs.declared.app.App.{App}
+use Rattle.osek_standard.specs.declared.objects.{Schedule.{Schedule}, Schedule.TheVariants.{Non, Full}}
+use Rattle.osek_standard.specs.declared.block.{Block.{Block}, Kind.{Kind}}
+use Rattle.osek_standard.specs.declared.state.{State.{State}, Processor.{Processor}, Caller.TheVariants.{Task}}
+use Rattle.osek_standard.specs.declared.state.Processor.TheVariants as processor
+use Rattle.osek_standard.specs.declared.task_state.Place.{Place}
+use Rattle.osek_standard.specs.Apps.{the_task, the_block}
+use Rattle.osek_standard.specs.States.{caller, here}
+use Rattle.osek_standard.specs.Points.{point_of}
+use Rattle.osek_standard.specs.Services.{Answer, answer}
+use Rattle.osek_standard.specs.Effects.{Effect, effect, effect_at, place_at, effected, noted, asks_as, asked_by, asked_under, is_schedule, called, moved_to}
+use Rattle.abstract_state.specs.Components.{component_count, abstract_of}
+use Rattle.flow_model.specs.declared.case.{Asked.{Asked}, EffectCase.{EffectCase}}
+use Rattle.flow_model.specs.declared.case.Asked.TheVariants as asked
+use Rattle.flow_model.specs.declared.runner.Runner.{Runner}
+use Rattle.flow_model.specs.declared.runner.Runner.TheVariants as runner
+use Rattle.flow_model.specs.Runners.{Stands, Runs}
+use Rattle.flow_model.specs.Tests.{PassesAll, value_after}
+use Rattle.flow_model.specs.Effects.{Asks, HasEffect}
+use Rattle.flow_model.specs.declared.test.Condition.{Condition}
+use Rattle.flow_model.specs.Cases.{asked_when, asked_for, asked_after, asked_under as asked_of_task, goes_on}
+use Rattle.flow_model.proofs.Standing.{next_owned, point_there}
+use Rattle.flow_model.proofs.Instructions.{effect_there}
+use Rattle.flow_model.proofs.Moves.{moved_has, moved_parts, went_on}
+
+-- Its caller goes on to its next block, and then the row applies: of each such kind this holds by computation.
+abbrev pub IsCall : App → Kind → Type 0
+IsCall app k = (s : State) (choice : Bool) (p : Place) (b : Block) → effect_at app s choice p b k ≡ noted app (asks_as app (caller s.processor) k (called app (moved_to s b.next) (caller s.processor) k))
+
+-- an effect that leaves a state and asks this
+abbrev asking : State → Notes → Ask → Effect
+asking s n a = effected s n a
+
+asks_by : (t : TaskNo) (s : State) (n : Notes) (a : Ask) → (a ≡ ask.Maybe → s.processor ≡ processor.Running t) → Asks (asked_when t a) (asking s n a)
+asks_by t s n ask.No h = refl
+asks_by t s n ask.Maybe h = (refl, h refl)
+asks_by t s n ask.Left h = refl
+asks_by t s n ask.Free h = refl
+
+maybe_by : (app : App) (t : TaskNo) (k : Kind) (a : Ask) → asked_by app (Task t) k a ≡ ask.Maybe → a ≡ ask.Maybe
+maybe_by app t k ask.No e = absurd (cc)
+maybe_by app t k ask.Maybe e = refl
+maybe_by app t k ask.Left e = absurd (cc)
+maybe_by app t k ask.Free e = absurd (cc)
+
+asks_there : (app : App) (s after : State) (r : Runner) (b : BlockNo) (k : Kind) (n : Notes) (a : Ask) → Runs app s r b → (a ≡ ask.Maybe → after.processor ≡ s.processor) → Asks (asked_for app r k a) (asking after n (asked_by app (caller s.processor) k a))
+asks_there app s after (runner.Task t) b k n a h kept =
+    subst (λ (p : Processor). Asks (asked_for app (runner.Task t) k a) (asking after n (asked_by app (caller p) k a))) (sym h.runs)
+    (asks_by t after n (asked_by app (Task t) k a) (λ e. kept (maybe_by app t k a e) ∙ h.runs))
+asks_there app s after (runner.Routine over) b k n a h kept =
+    subst (λ (p : Processor). Asks asked.No (asking after n (asked_by app (caller p) k a))) (sym h.runs) refl
+
+-- an effect that is known is the case's, where it leaves, asks and notes what the case says
+pub has_effect : (app : App) (x : EffectCase) (s : State) (choice : Bool) (e : Effect) → effect app s choice ≡ e → PassesAll app x.conditions (abstract_of app s) → point_of e.state ≡ x.point →
+    ((c : ℕ) → c < component_count app → abstract_of app e.state c ≡ value_after x.changes c (abstract_of app s c)) → Asks x.asked e → e.notes.status ≡ x.status → HasEffect app x s choice
+has_effect app x s choice e is passing point parts asks status = record {
+  passes = passing;
+  point = ap (λ (f : Effect). point_of f.state) is ∙ point;
+  parts = λ c lt. ap (λ (f : Effect). abstract_of app f.state c) is ∙ parts c lt;
+  asks = subst (Asks x.asked) (sym is) asks;
+  status = ap (λ (f : Effect). f.notes.status) is ∙ status;
+}
+
+-- what an answer says of the effect, where the case is this
+pub record HasAnswer (app : App) (x : EffectCase) (s : State) (r : Runner) (k : Kind) (a : Answer) : Type 0 where
+  pub point : point_of a.state ≡ x.point
+  pub parts : (c : ℕ) → c < component_count app → abstract_of app a.state c ≡ value_after x.changes c (abstract_of app s c)
+  pub asked : asked_for app r k a.ask ≡ x.asked
+  -- the caller still has the processor where a dispatch is asked
+  pub kept : a.ask ≡ ask.Maybe → a.state.processor ≡ s.processor
+  pub status : a.status ≡ x.status
+
+-- The effect of a call is the case's, where its answer is.
+pub call_has : (app : App) (x : EffectCase) (s : State) (choice : Bool) (r : Runner) (b : BlockNo) (k : Kind) (a : Answer) → IsCall app k → Stands app s r b → (the_block app b.0).kind ≡ k →
+    called app (moved_to s (the_block app b.0).next) (caller s.processor) k ≡ a → PassesAll app x.conditions (abstract_of app s) → HasAnswer app x s r k a → HasEffect app x s choice
+call_has app x s choice r b k a call h is answers passing has =
+    let e : effect app s choice ≡ noted app (asks_as app (caller s.processor) k a)
+    = effect_there app s r b k choice h is ∙ call s choice (here s) (the_block app b.0) ∙ ap (λ (y : Answer). noted app (asks_as app (caller s.processor) k y)) answers in
+    let asks : Asks (asked_for app r k a.ask) (noted app (asks_as app (caller s.processor) k a)) = asks_there app s a.state r b k _ a.ask h.runs has.kept in
+    has_effect app x s choice (noted app (asks_as app (caller s.processor) k a)) e passing has.point has.parts
+    (subst (λ (y : Asked). Asks y (noted app (asks_as app (caller s.processor) k a))) has.asked asks) has.status
+
+-- what is asked where the row asks nothing
+pub asked_none : (app : App) (r : Runner) (k : Kind) → asked_for app r k ask.No ≡ asked.No
+asked_none app (runner.Task t) k = refl
+asked_none app (runner.Routine over) k = refl
+
+under_schedule : (t : TaskNo) (x : Schedule) (k : Kind) → is_schedule k ≡ false → asked_when t (asked_under x k) ≡ asked_of_task t x
+under_schedule t Full k e = refl
+under_schedule t Non k e = ap (λ (b : Bool). asked_when t (if b then ask.Maybe else ask.No)) e
+
+-- and where it asks for a dispatch, but at Schedule
+pub asked_maybe : (app : App) (r : Runner) (k : Kind) → is_schedule k ≡ false → asked_for app r k ask.Maybe ≡ asked_after app r
+asked_maybe app (runner.Task t) k e = under_schedule t (the_task app t.0).schedule k e
+asked_maybe app (runner.Routine over) k e = refl
+
+-- a call after which its caller goes on, and nothing else changes
+pub call_goes_on : (app : App) (s : State) (choice : Bool) (r : Runner) (b : BlockNo) (k : Kind) (conditions : List Condition) (asked : Asked) (status : Option Status) (v : Option Value) (a : Ask) → IsCall app k → Stands app s r b → (the_block app b.0).kind ≡ k →
+    called app (moved_to s (the_block app b.0).next) (caller s.processor) k ≡ answer (moved_to s (the_block app b.0).next) status v a → asked_for app r k a ≡ asked → PassesAll app conditions (abstract_of app s) →
+    HasEffect app (goes_on r (the_block app b.0).next conditions asked status) s choice
+call_goes_on app s choice r b k conditions asked status v a call h is answers asks passing =
+    let n = (the_block app b.0).next in
+    call_has app (goes_on r n conditions asked status) s choice r b k (answer (moved_to s n) status v a) call h is answers passing (record {
+      point = point_there app (moved_to s n) r n (went_on app s r b n h (next_owned app s r b h));
+      parts = λ c lt. moved_parts app s n 0 r b h c lt;
+      asked = asks;
+      kept = λ _. moved_has app s h.well (place_at n 0);
+      status = refl;
+    })

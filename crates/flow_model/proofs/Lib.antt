@@ -1,0 +1,10 @@
+pub mod ChangeLaws
+pub mod BitsOf
+pub mod Writes
+pub mod Activations
+pub mod Standing
+pub mod Instructions
+pub mod Moves
+pub mod Calls
+pub mod Listing
+pub mod BitRange

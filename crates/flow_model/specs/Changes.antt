@@ -1,0 +1,42 @@
+-- What becomes of the components: of a task, of its events, of an alarm.
+use Rattle.std.specs.Prelude.{ℕ, Bool, false, List, [], ◌∷◌, map, filter}
+use Rattle.std.specs.List.{range_with_len}
+use Rattle.osek_values.specs.Numbers.{task_no, event_no, alarm_no}
+use Rattle.osek_standard.specs.declared.app.App.{App}
+use Rattle.osek_standard.specs.Apps.{the_task}
+use Rattle.osek_standard.specs.Kernel.{has_bit}
+use Rattle.abstract_state.specs.declared.value.{Val.{Val}, Val.TheVariants.{Live}, PartValue.TheVariants.{OfTask, OfEvent, OfAlarm}}
+use Rattle.abstract_state.specs.declared.value.Component.TheVariants as component
+use Rattle.abstract_state.specs.Components.{component_number, live_val}
+use Rattle.flow_model.specs.declared.change.Change.{Change}
+use Rattle.flow_model.specs.declared.change.Update.TheVariants as update
+use Rattle.flow_model.specs.Runners.{change}
+
+-- the bits of a word that are set
+unfoldable pub bits_of : ℕ → List ℕ
+bits_of n = filter (has_bit n) (range_with_len 0 64)
+
+-- a task becomes this
+abbrev pub task_change : ℕ → Val → Change
+task_change t v = change t (update.Set (OfTask v))
+
+module _ (app : App) where
+  -- an alarm becomes armed or idle
+  abbrev pub alarm_change : ℕ → Bool → Change
+  alarm_change a armed = change (component_number app (component.Alarm (alarm_no a))) (update.Set (OfAlarm armed))
+
+  -- an event of a task becomes set or unset
+  abbrev pub event_change : ℕ → Bool → ℕ → Change
+  event_change t flag k = change (component_number app (component.Event (task_no t) (event_no k))) (update.Set (OfEvent flag))
+
+  -- and so do those of these bits
+  abbrev pub event_changes : ℕ → ℕ → Bool → List Change
+  event_changes t bits flag = map (event_change t flag) (bits_of bits)
+
+  -- an activated task: at its first block, with nothing held
+  abbrev pub started : ℕ → Val
+  started t = Live (live_val (the_task app t).first [])
+
+  -- an activation: the task begins, and none of its events is set
+  abbrev pub activating : ℕ → List Change
+  activating t = task_change t (started t) ∷ event_changes t (the_task app t).own.0 false

@@ -1,0 +1,71 @@
+-- What the cases of an effect say of the states at a point.
+use Rattle.std.specs.Prelude.{◌≡◌, ℕ, ◌<◌, Bool, List, IsTrue, None, Contains}
+use Rattle.osek_values.specs.declared.status.Ask.TheVariants as ask
+use Rattle.osek_standard.specs.declared.app.App.{App}
+use Rattle.osek_standard.specs.declared.state.State.{State}
+use Rattle.osek_standard.specs.declared.state.Processor.TheVariants as processor
+use Rattle.osek_standard.specs.declared.point.Point.{Point}
+use Rattle.osek_standard.specs.Points.{point_of}
+use Rattle.osek_standard.specs.Effects.{Effect, effect}
+use Rattle.osek_standard.specs.Arrivals.{arrival}
+use Rattle.osek_standard.specs.Well.{Well, IsActive}
+use Rattle.abstract_state.specs.declared.value.PartValue.{PartValue}
+use Rattle.abstract_state.specs.declared.table.Entry.{Entry}
+use Rattle.abstract_state.specs.Components.{component_count, abstract_of, IsAllowed}
+use Rattle.abstract_state.specs.Concrete.{HasParts}
+use Rattle.abstract_state.specs.Tables.{set_at, is_member}
+use Rattle.flow_model.specs.declared.case.{Asked.{Asked}, EffectCase.{EffectCase}}
+use Rattle.flow_model.specs.declared.case.Asked.TheVariants as asked
+use Rattle.flow_model.specs.Tests.{PassesAll, value_after}
+
+-- a value for each component, out of its set
+abbrev pub AreIn : App → Entry → (ℕ → PartValue) → Type 0
+AreIn app entry value = (c : ℕ) → c < component_count app → IsTrue (is_member (set_at entry c) (value c))
+
+-- the values of an entry are ones that well-formed states have at the point
+abbrev pub AreAllAllowed : App → Point → Entry → Type 0
+AreAllAllowed app p entry = (c : ℕ) (v : PartValue) → c < component_count app → IsTrue (is_member (set_at entry c) v) → IsAllowed app p c v
+
+-- a state of the entry, at the point
+pub record IsAt (app : App) (p : Point) (entry : Entry) (s : State) : Type 0 where
+  pub well : Well app s
+  pub point : point_of s ≡ p
+  pub within : AreIn app entry (abstract_of app s)
+
+abbrev pub Asks : Asked → Effect → Type 0
+Asks asked.No e = e.ask ≡ ask.No
+Asks (asked.Maybe t) e = (e.ask ≡ ask.Maybe) × (e.state.processor ≡ processor.Running t)
+Asks asked.Left e = e.ask ≡ ask.Left
+Asks asked.Free e = e.ask ≡ ask.Free
+
+-- The effect of the instruction is the case's: the state passes its conditions, and the effect leaves its point and its
+-- changes of the components, asks what it asks, and notes its status.
+pub record HasEffect (app : App) (x : EffectCase) (s : State) (choice : Bool) : Type 0 where
+  pub passes : PassesAll app x.conditions (abstract_of app s)
+  pub point : point_of (effect app s choice).state ≡ x.point
+  pub parts : (c : ℕ) → c < component_count app → abstract_of app (effect app s choice).state c ≡ value_after x.changes c (abstract_of app s c)
+  pub asks : Asks x.asked (effect app s choice)
+  pub status : (effect app s choice).notes.status ≡ x.status
+
+pub record HasSomeEffect (app : App) (cases : List EffectCase) (s : State) (choice : Bool) : Type 0 where
+  pub case : EffectCase
+  pub listed : Contains cases case
+  pub effect : HasEffect app case s choice
+
+-- Each instruction of a state of the entry is some case's.
+abbrev pub CoverEffects : App → Point → Entry → List EffectCase → Type 0
+CoverEffects app p entry cases = (s : State) (choice : Bool) → IsAt app p entry s → IsActive s.processor → HasSomeEffect app cases s choice
+
+-- a well-formed state at the point, with these values of its components, whose instruction is the case's, and where no
+-- routine begins: all else is chosen
+pub record ShowsEffect (app : App) (p : Point) (x : EffectCase) (value : ℕ → PartValue) : Type 0 where
+  pub from : State
+  pub choice : Bool
+  pub has : HasParts app p value from
+  pub alone : arrival app from ≡ None
+  pub effect : HasEffect app x from choice
+
+-- Each choice of values of the entry that passes a case's conditions is a state's, whose instruction is the case's.
+abbrev pub AreExactEffects : App → Point → Entry → List EffectCase → Type 0
+AreExactEffects app p entry cases =
+    (x : EffectCase) (value : ℕ → PartValue) → Contains cases x → AreIn app entry value → PassesAll app x.conditions value → ShowsEffect app p x value

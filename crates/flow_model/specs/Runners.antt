@@ -1,0 +1,81 @@
+-- Who executes at a point, and the states in which it does.
+use Rattle.std.specs.Prelude.{◌≡◌, ⊤, ℕ, ◌<◌, List, [], ◌∷◌, length}
+use Rattle.std.specs.declared.option.Option.{Option}
+use Rattle.osek_values.specs.declared.numbers.{TaskNo.{TaskNo}, BlockNo.{BlockNo}, SourceNo.{SourceNo}}
+use Rattle.osek_standard.specs.declared.app.App.{App}
+use Rattle.osek_standard.specs.declared.state.{State.{State}}
+use Rattle.osek_standard.specs.declared.state.Processor.TheVariants as processor
+use Rattle.osek_standard.specs.declared.point.Point.{Point}
+use Rattle.osek_standard.specs.declared.point.Point.TheVariants as point
+use Rattle.osek_standard.specs.Apps.{source_count}
+use Rattle.osek_standard.specs.States.{here}
+use Rattle.osek_standard.specs.Points.{IsRoutineBlock}
+use Rattle.osek_standard.specs.Well.{Well, IsOwn, IsOfRoutine, HasProcessor}
+use Rattle.abstract_state.specs.Components.{component_no}
+use Rattle.flow_model.specs.declared.change.{Update.{Update}, Change.{Change}}
+use Rattle.flow_model.specs.declared.change.Update.TheVariants as update
+use Rattle.flow_model.specs.declared.runner.Runner.{Runner}
+use Rattle.flow_model.specs.declared.runner.Runner.TheVariants as runner
+
+abbrev pub runner_point : Runner → BlockNo → Point
+runner_point (runner.Task t) b = point.Task b
+runner_point (runner.Routine over) b = point.Routine b over
+
+abbrev pub change : ℕ → Update → Change
+change c u = record { component = component_no c; update = u }
+
+-- A task that goes on stands at another block; where a routine stands is no component's.
+abbrev pub moving : Runner → BlockNo → List Change
+moving (runner.Task t) b = change t.0 (update.Block b) ∷ []
+moving (runner.Routine over) b = []
+
+-- the block is one of the runner's
+abbrev pub OwnsBlock : App → Runner → BlockNo → Type 0
+OwnsBlock app (runner.Task t) b = (t.0 < length app.tasks) × IsOwn app t.0 b.0
+OwnsBlock app (runner.Routine over) b = IsRoutineBlock app b over
+
+-- it executes at the point, at this block
+pub record ExecutesAt (app : App) (p : Point) (r : Runner) (b : BlockNo) : Type 0 where
+  pub point : runner_point r b ≡ p
+  pub owns : OwnsBlock app r b
+
+-- who executes at a point
+abbrev pub Executes : App → Point → Runner → Type 0
+Executes app point.Halted r = ⊥
+Executes app point.Idle r = ⊥
+Executes app (point.Task b) r = ExecutesAt app (point.Task b) r b
+Executes app (point.Routine b over) r = ExecutesAt app (point.Routine b over) r b
+
+abbrev pub IsNobodys : Point → Type 0
+IsNobodys point.Halted = ⊤
+IsNobodys point.Idle = ⊤
+IsNobodys (point.Task b) = ⊥
+IsNobodys (point.Routine b over) = ⊥
+
+-- a runner that is a task is one of the application's
+abbrev pub IsKnown : App → Runner → Type 0
+IsKnown app (runner.Task t) = t.0 < length app.tasks
+IsKnown app (runner.Routine over) = ⊤
+
+-- the task runs, at a block of its own
+pub record RunsTask (app : App) (s : State) (t : TaskNo) (b : BlockNo) : Type 0 where
+  pub runs : s.processor ≡ processor.Running t
+  pub has : HasProcessor app s t
+  pub own : IsOwn app t.0 b.0
+
+-- a source's routine runs, at a block of its own
+pub record RunsRoutine (app : App) (s : State) (over : Option TaskNo) (b : BlockNo) : Type 0 where
+  pub source : SourceNo
+  pub known : source.0 < source_count app
+  pub runs : s.processor ≡ processor.Interrupted source over
+  pub own : IsOfRoutine app source.0 b.0
+
+abbrev pub Runs : App → State → Runner → BlockNo → Type 0
+Runs app s (runner.Task t) b = RunsTask app s t b
+Runs app s (runner.Routine over) b = RunsRoutine app s over b
+
+-- It executes block b: the state is well-formed, and the processor stands there.
+pub record Stands (app : App) (s : State) (r : Runner) (b : BlockNo) : Type 0 where
+  pub well : Well app s
+  pub runs : Runs app s r b
+  pub block : (here s).block ≡ b

@@ -1,0 +1,69 @@
+-- Which values pass a test, and what changes make of them.
+use Rattle.std.specs.Prelude.{◌≡◌, ℕ, ◌<◌, Bool, true, ◌==◌, ◌&&◌, not, List, [], ◌∷◌, length, IsTrue, if◌then◌else◌, Contains}
+use Rattle.std.specs.List.{list_any}
+use Rattle.osek_values.specs.declared.numbers.{BlockNo.{BlockNo}, ResNo.{ResNo}}
+use Rattle.osek_standard.specs.declared.app.App.{App}
+use Rattle.osek_standard.specs.TaskStates.{holds}
+use Rattle.osek_standard.specs.Kernel.{has_bit}
+use Rattle.abstract_state.specs.declared.value.{Val.{Val}, PartValue.{PartValue}, PartValue.TheVariants.{OfTask, OfEvent, OfAlarm}}
+use Rattle.abstract_state.specs.ValueOrder.{same_part}
+use Rattle.abstract_state.specs.Components.{component_count}
+use Rattle.flow_model.specs.declared.test.{Test.{Test}, Condition.{Condition}}
+use Rattle.flow_model.specs.declared.test.Test.TheVariants as test
+use Rattle.flow_model.specs.declared.change.{Update.{Update}, Change.{Change}}
+use Rattle.flow_model.specs.declared.change.Update.TheVariants as update
+use Rattle.flow_model.specs.Values.{is_suspended_value, is_live_value, held_of, at_block}
+
+-- a test of a task's value; what is no task's passes
+abbrev pub of_task : (Val → Bool) → PartValue → Bool
+of_task f (OfTask v) = f v
+of_task f (OfEvent b) = true
+of_task f (OfAlarm b) = true
+
+abbrev pub holds_none_of : ℕ → Val → Bool
+holds_none_of m v = not (list_any (λ (r : ResNo). has_bit m r.0) (held_of v))
+
+abbrev pub holds_nothing : Val → Bool
+holds_nothing v = length (held_of v) == 0
+
+-- Whether a value passes a test.
+abbrev pub passes : Test → PartValue → Bool
+passes (test.Is w) v = same_part v w
+passes (test.IsNot w) v = not (same_part v w)
+passes test.Suspended v = of_task is_suspended_value v
+passes test.NotSuspended v = of_task (λ x. not (is_suspended_value x)) v
+passes test.NotLive v = of_task (λ x. not (is_live_value x)) v
+passes (test.Holds r) v = of_task (λ x. holds (held_of x) r.0) v
+passes (test.HoldsNoneOf m) v = of_task (holds_none_of m.0) v
+passes test.HoldsSome v = of_task (λ x. not (holds_nothing x)) v
+passes test.HoldsNothing v = of_task holds_nothing v
+
+abbrev pub part_at_block : BlockNo → PartValue → PartValue
+part_at_block b (OfTask v) = OfTask (at_block b v)
+part_at_block b (OfEvent x) = OfEvent x
+part_at_block b (OfAlarm x) = OfAlarm x
+
+abbrev pub updated : Update → PartValue → PartValue
+updated (update.Set w) v = w
+updated (update.Block b) v = part_at_block b v
+
+-- What becomes of a value of component c: what the first change that names it says, or else it stays.
+abbrev pub value_after : List Change → ℕ → PartValue → PartValue
+value_after [] c v = v
+value_after (x ∷ xs) c v = if x.component.0 == c then updated x.update v else value_after xs c v
+
+-- the values of all components after the changes
+abbrev pub values_after : List Change → (ℕ → PartValue) → ℕ → PartValue
+values_after xs value c = value_after xs c (value c)
+
+-- it is a condition on component c, and the value doesn't pass
+abbrev pub is_failed : ℕ → PartValue → Condition → Bool
+is_failed c v x = (x.component.0 == c) && not (passes x.test v)
+
+-- the value passes each condition on component c
+abbrev pub PassesAt : List Condition → ℕ → PartValue → Type 0
+PassesAt xs c v = (x : Condition) → Contains xs x → x.component.0 ≡ c → IsTrue (passes x.test v)
+
+-- each component's value passes each condition on it
+abbrev pub PassesAll : App → List Condition → (ℕ → PartValue) → Type 0
+PassesAll app xs value = (c : ℕ) → c < component_count app → PassesAt xs c (value c)

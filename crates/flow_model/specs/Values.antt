@@ -1,0 +1,39 @@
+-- What tests and the scheduler read of a task's value.
+use Rattle.std.specs.Prelude.{ℕ, Bool, true, false, List, []}
+use Rattle.osek_values.specs.Numbers.{block_no}
+use Rattle.osek_values.specs.declared.numbers.{BlockNo.{BlockNo}, ResNo.{ResNo}}
+use Rattle.osek_standard.specs.declared.app.App.{App}
+use Rattle.osek_standard.specs.Priority.{base_priority, highest}
+use Rattle.abstract_state.specs.declared.value.{Val.{Val}, Val.TheVariants.{Suspended, Live, Waiting}}
+
+abbrev pub is_suspended_value : Val → Bool
+is_suspended_value Suspended = true
+is_suspended_value (Live x) = false
+is_suspended_value (Waiting b) = false
+
+abbrev pub is_live_value : Val → Bool
+is_live_value Suspended = false
+is_live_value (Live x) = true
+is_live_value (Waiting b) = false
+
+-- the resources that it holds, the first taken first
+abbrev pub held_of : Val → List ResNo
+held_of Suspended = []
+held_of (Live x) = x.held
+held_of (Waiting b) = []
+
+-- where it stands; a suspended task stands nowhere
+abbrev pub block_of : Val → BlockNo
+block_of Suspended = block_no 0
+block_of (Live x) = x.block
+block_of (Waiting b) = b
+
+-- a Live task at another block
+abbrev pub at_block : BlockNo → Val → Val
+at_block b Suspended = Suspended
+at_block b (Live x) = Live (record x { block = b })
+at_block b (Waiting c) = Waiting c
+
+-- The current priority of a task with this value.
+abbrev pub value_priority : App → ℕ → Val → ℕ
+value_priority app u v = highest app (base_priority app u) (held_of v)

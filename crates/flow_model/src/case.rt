@@ -1,0 +1,49 @@
+//! An instruction in two halves: the cases of its effect, and those of what the scheduler does after it.
+
+use crate::change::Change;
+use crate::test::Condition;
+use abstract_state::Point;
+use osek_values::{Seq, Status, TaskNo};
+
+/// What an effect asks of the scheduler.
+#[derive(Clone, Copy, PartialEq, Eq, Debug)]
+pub enum Asked {
+    /// Nothing.
+    No,
+    /// This task runs, and a Live task of a strictly higher current priority is dispatched.
+    Maybe(TaskNo),
+    /// The caller ended or waits: the best Live task is dispatched, or the processor is idle.
+    Left,
+    /// A routine that interrupted no task ended: the best Live task is dispatched, if there is one.
+    Free,
+}
+
+/// A case of the effect of an instruction: the values of components that it takes, and what it does then. A component
+/// passes where it passes each condition on it; the first change that names it says what becomes of it, and where none
+/// does it stays as it is.
+#[derive(Drop)]
+pub struct EffectCase {
+    pub conditions: Seq<Condition>,
+    pub changes: Seq<Change>,
+    pub asked: Asked,
+    /// The status that is noted, if one is.
+    pub status: Option<Status>,
+    /// The point after the effect, before the scheduler.
+    pub point: Point,
+}
+
+/// What the scheduler does: who had the processor keeps it, or it goes to a task or to none.
+#[derive(Clone, Copy, PartialEq, Eq, Debug)]
+pub enum Decision {
+    Keep,
+    To(Option<TaskNo>),
+}
+
+/// A case of what the scheduler does after a case of an effect, by the values before that effect.
+#[derive(Drop)]
+pub struct OutcomeCase {
+    pub conditions: Seq<Condition>,
+    pub decision: Decision,
+    /// The point at which the step ends.
+    pub target: Point,
+}

@@ -1,0 +1,15 @@
+//! Rules of the analysis of flow: which values of the components a step takes, what it makes of them, and what that says
+//! of the steps of states (in `specs/`).
+#![tactic(auto)]
+
+mod case;
+mod change;
+mod rule;
+mod runner;
+mod test;
+
+pub use case::{Asked, Decision, EffectCase, OutcomeCase};
+pub use change::{Change, Update, value_after};
+pub use rule::Rule;
+pub use runner::{Runner, task_of};
+pub use test::{Condition, Test, passes_each};

@@ -1,0 +1,130 @@
+//! Tests of the values of components.
+ghost use Rattle.std.specs.Prelude.{◌≡◌, not};
+ghost use Rattle.std.specs.List.{list_any};
+ghost use Rattle.osek_values.specs.declared.numbers.ResNo.{ResNo};
+ghost use Rattle.osek_standard.specs.Kernel.{has_bit};
+ghost use Rattle.flow_model.specs.Tests.{is_failed};
+
+use abstract_state::{ComponentNo, PartValue, Val};
+use osek_values::{Mask, ResNo};
+
+/// A test of a component's value. The tests of tasks pass for every event and alarm.
+#[derive(Drop)]
+pub enum Test {
+    /// It is this value.
+    Is(PartValue),
+    /// It is another value.
+    IsNot(PartValue),
+    Suspended,
+    NotSuspended,
+    NotLive,
+    /// The task holds this resource.
+    Holds(ResNo),
+    /// The task holds none of the resources whose bit is set.
+    HoldsNoneOf(Mask),
+    /// The task holds some resource.
+    HoldsSome,
+    /// The task holds no resource.
+    HoldsNothing,
+}
+
+/// A test of one component.
+#[derive(Drop)]
+pub struct Condition {
+    pub component: ComponentNo,
+    pub test: Test,
+}
+
+impl Test {
+    ghost use Rattle.std.specs.Prelude.{◌≡◌};
+    ghost use Rattle.flow_model.specs.Tests.{passes};
+
+    /// Whether a value passes.
+    pub fn passes(&self, value: &PartValue) -> bool
+        ensures { result ≡ passes self.now value.now }
+    {
+        match (self, value) {
+            (Test::Is(wanted), _) => value.is(wanted),
+            (Test::IsNot(barred), _) => !value.is(barred),
+            (Test::Suspended, PartValue::OfTask(Val::Suspended)) => true,
+            (Test::Suspended, PartValue::OfTask(_)) => false,
+            (Test::NotSuspended, PartValue::OfTask(Val::Suspended)) => false,
+            (Test::NotLive, PartValue::OfTask(Val::Live(_))) => false,
+            (Test::Holds(resource), PartValue::OfTask(Val::Live(live))) => live.held.has(*resource),
+            (Test::Holds(_), PartValue::OfTask(_)) => false,
+            (Test::HoldsNoneOf(resources), PartValue::OfTask(Val::Live(live))) => {
+                !holds_one_of(live.held.as_slice(), *resources)
+            }
+            (Test::HoldsSome, PartValue::OfTask(Val::Live(live))) => !live.held.is_empty(),
+            (Test::HoldsSome, PartValue::OfTask(_)) => false,
+            (Test::HoldsNothing, PartValue::OfTask(Val::Live(live))) => live.held.is_empty(),
+            _ => true,
+        }
+    }
+
+    /// Another that is the same. It takes no memory.
+    pub fn copy(&self) -> Test
+        ensures { result ≡ self.now }
+    {
+        match self {
+            Test::Is(value) => Test::Is(value.copy()),
+            Test::IsNot(value) => Test::IsNot(value.copy()),
+            Test::Suspended => Test::Suspended,
+            Test::NotSuspended => Test::NotSuspended,
+            Test::NotLive => Test::NotLive,
+            Test::Holds(resource) => Test::Holds(*resource),
+            Test::HoldsNoneOf(resources) => Test::HoldsNoneOf(*resources),
+            Test::HoldsSome => Test::HoldsSome,
+            Test::HoldsNothing => Test::HoldsNothing,
+        }
+    }
+}
+
+impl Condition {
+    ghost use Rattle.std.specs.Prelude.{◌≡◌};
+    ghost use Rattle.flow_model.specs.Tests.{is_failed};
+
+    /// Another that is the same. It takes no memory.
+    pub fn copy(&self) -> Condition
+        ensures { result ≡ self.now }
+    {
+        Condition {
+            component: self.component,
+            test: self.test.copy(),
+        }
+    }
+
+    // whether it is on the component, and the value doesn't pass
+    fn fails(&self, component: usize, value: &PartValue) -> bool
+        ensures { result ≡ is_failed component value.now self.now }
+    {
+        self.component.index() == component && !self.test.passes(value)
+    }
+}
+
+/// Whether a value of a component passes each condition on it.
+pub fn passes_each(conditions: &[Condition], component: usize, value: &PartValue) -> bool
+    ensures { result ≡ not (list_any (is_failed component value.now) conditions.now) }
+{
+    !some_fails(conditions, component, value)
+}
+
+fn some_fails(conditions: &[Condition], component: usize, value: &PartValue) -> bool
+    ensures { result ≡ list_any (is_failed component value.now) conditions.now }
+{
+    conditions
+        .iter()
+        .any(|condition| condition.fails(component, value))
+}
+
+fn has_bit(bits: u64, bit: u8) -> bool
+    ensures { result ≡ has_bit bits bit }
+{
+    bit < 64 && (bits >> bit) & 1 == 1
+}
+
+fn holds_one_of(held: &[ResNo], resources: Mask) -> bool
+    ensures { result ≡ list_any (λ (r : ResNo). has_bit resources.0 r.0) held.now }
+{
+    held.iter().any(|resource| has_bit(resources.0, resource.0))
+}

@@ -1,0 +1,119 @@
+-- What rules that cover and are exact make of an entry: all that its states step to, and nothing else.
+use Rattle.std.proofs.Common.{◌≡◌, ℕ, ◌<◌, false, List, length, IsTrue, refl, sym, ap, subst, ◌∙◌, inl, inr, arith}
+use Rattle.std.specs.Prelude.{Contains}
+use Rattle.std.proofs.lemmas.Bool.{cases_eq, cases_lt}
+use Rattle.osek_values.specs.declared.event.Event.{Event}
+use Rattle.osek_standard.specs.declared.app.App.{App}
+use Rattle.osek_standard.specs.declared.state.State.{State}
+use Rattle.osek_standard.specs.declared.point.Point.{Point}
+use Rattle.osek_standard.specs.Kernel.{step}
+use Rattle.abstract_state.specs.declared.value.{PartValue.{PartValue}, PartValue.TheVariants.{OfAlarm}}
+use Rattle.abstract_state.specs.declared.table.Entry.{Entry}
+use Rattle.abstract_state.specs.Components.{component_count, abstract_of}
+use Rattle.abstract_state.specs.Tables.{Sets, In, Inductive, set_at, is_member}
+use Rattle.flow_model.specs.declared.rule.Rule.{Rule}
+use Rattle.flow_model.specs.Tests.{PassesAt, PassesAll, value_after}
+use Rattle.flow_model.specs.Effects.{AreIn, IsAt}
+use Rattle.flow_model.specs.Rules.{Matches, Exact, Shown, Applies, HasNone, IsMadeBy}
+
+module _ (app : App) (p : Point) (entry new : Entry) (rule : Rule) (size : length entry.sets ≡ component_count app) (made : Applies rule entry new) where
+  in_sets : (k : ℕ) → k < component_count app → k < length entry.sets
+  in_sets k lt = subst (λ (n : ℕ). k < n) (sym size) lt
+
+  -- the values after a step that is the rule's are in the new sets
+  pub steps_in : (s : State) (e : Event) → IsAt app p entry s → Matches app rule s e → AreIn app new (abstract_of app (step app s e).state)
+  steps_in s e at m c lt = subst (λ (v : PartValue). IsTrue (is_member (set_at new c) v)) (sym (m.parts c lt)) (made.to c (abstract_of app s c) (in_sets c lt) (at.within c lt) (m.passes c lt))
+
+  -- a value of a set that passes
+  record Pick (k : ℕ) : Type 0 where
+    pick : PartValue
+    there : k < component_count app → IsTrue (is_member (set_at entry k) pick)
+    passes : k < component_count app → PassesAt rule.conditions k pick
+
+  some_picked : (k : ℕ) → Pick k
+  some_picked k = elim (cases_lt k (component_count app)) [
+    | inl below ↦ (let t = made.filled k (in_sets k below) in record { pick = t.was; there = λ lt. t.there; passes = λ lt. t.passes })
+    | inr above ↦ record { pick = OfAlarm false; there = λ lt. absurd (omega (arith, lt, above)); passes = λ lt. absurd (omega (arith, lt, above)) }
+  ]
+
+  -- a value of each set that passes, with a chosen one at component c
+  record PickWith (c : ℕ) (was : PartValue) (k : ℕ) : Type 0 where
+    pick : Pick k
+    chosen : k ≡ c → pick.pick ≡ was
+
+  picked : (c : ℕ) (was : PartValue) → IsTrue (is_member (set_at entry c) was) → PassesAt rule.conditions c was → (k : ℕ) → PickWith c was k
+  picked c was there passes k = elim (cases_eq k c) [
+    | inl same ↦ record {
+      pick = record {
+        pick = was;
+        there = λ lt. subst (λ (i : ℕ). IsTrue (is_member (set_at entry i) was)) (sym same) there;
+        passes = λ lt. subst (λ (i : ℕ). PassesAt rule.conditions i was) (sym same) passes;
+      };
+      chosen = λ e. refl;
+    }
+    | inr other ↦ record { pick = some_picked k; chosen = λ e. absurd (other e) }
+  ]
+
+  -- picked values are a state's, whose step is the rule's
+  module _ (rules : List Rule) (listed : Contains rules rule) (exact : Exact app p entry rules) where
+    module _ (picks : (k : ℕ) → Pick k) where
+      shown : Shown app p rule (λ k. (picks k).pick)
+      shown = exact rule (λ k. (picks k).pick) listed (λ k lt. (picks k).there lt) (λ k lt. (picks k).passes lt)
+
+      shown_at : IsAt app p entry shown.from
+      shown_at = record {
+        well = shown.has.well;
+        point = shown.has.point;
+        within = λ k lt. subst (λ (w : PartValue). IsTrue (is_member (set_at entry k) w)) (sym (shown.has.parts k lt)) ((picks k).there lt);
+      }
+
+    -- a state of the entry whose step is the rule's
+    pub record HasStep : Type 0 where
+      pub from : State
+      pub event : Event
+      pub at : IsAt app p entry from
+      pub matches : Matches app rule from event
+
+    pub rule_shown : HasStep
+    rule_shown = record { from = (shown some_picked).from; event = (shown some_picked).event; at = shown_at some_picked; matches = (shown some_picked).matches }
+
+    -- each value of a new set is made by a state of the entry
+    pub value_shown : (c : ℕ) (v : PartValue) → c < component_count app → IsTrue (is_member (set_at new c) v) → IsMadeBy app p entry rule c v
+    value_shown c v lt m =
+        let o = made.from c v (in_sets c lt) m in
+        let picks : (k : ℕ) → Pick k = λ k. (picked c o.taken.was o.taken.there o.taken.passes k).pick in
+        let x = shown picks in
+        record {
+          from = x.from;
+          event = x.event;
+          at = shown_at picks;
+          target = x.matches.target;
+          value = x.matches.parts c lt ∙ ap (value_after rule.changes c) (x.has.parts c lt ∙ (picked c o.taken.was o.taken.there o.taken.passes c).chosen refl) ∙ o.becomes;
+        }
+
+    -- what another inductive table has of the entry's point, it has of what the rule makes
+    module _ (other : Sets) (inductive : Inductive app other) (entered : IsTrue (other.entry p)) (has : (c : ℕ) (v : PartValue) → IsTrue (is_member (set_at entry c) v) → IsTrue (other.has p c v)) where
+      at_in : (s : State) → IsAt app p entry s → In app other s
+      at_in s at = record {
+        well = at.well;
+        entry = subst (λ (q : Point). IsTrue (other.entry q)) (sym at.point) entered;
+        within = λ c lt. subst (λ (q : Point). IsTrue (other.has q c (abstract_of app s c))) (sym at.point) (has c (abstract_of app s c) (at.within c lt));
+      }
+
+      pub target_contained : IsTrue (other.entry rule.target)
+      target_contained =
+          let after = inductive.step rule_shown.from rule_shown.event (at_in rule_shown.from rule_shown.at) in
+          subst (λ (q : Point). IsTrue (other.entry q)) rule_shown.matches.target after.entry
+
+      pub value_contained : (c : ℕ) (v : PartValue) → c < component_count app → IsTrue (is_member (set_at new c) v) → IsTrue (other.has rule.target c v)
+      value_contained c v lt m =
+          let x = value_shown c v lt m in
+          let after = inductive.step x.from x.event (at_in x.from x.at) in
+          subst (λ (w : PartValue). IsTrue (other.has rule.target c w)) x.value
+          (subst (λ (q : Point). IsTrue (other.has q c (abstract_of app (step app x.from x.event).state c))) x.target (after.within c lt))
+
+-- a state that passes a rule's conditions has values in each set, so the rule has a result
+pub passing_state : (app : App) (p : Point) (entry : Entry) (rule : Rule) (s : State) → length entry.sets ≡ component_count app → IsAt app p entry s → PassesAll app rule.conditions (abstract_of app s) → HasNone rule entry → ⊥
+passing_state app p entry rule s size at passes none =
+    let known : none.component < component_count app = subst (λ (n : ℕ). none.component < n) size none.known in
+    none.none (abstract_of app s none.component) (at.within none.component known) (passes none.component known)

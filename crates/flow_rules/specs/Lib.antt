@@ -1,0 +1,4 @@
+pub mod Arrivals
+pub mod Assembly
+pub mod Instructions
+pub mod Passing

@@ -1,0 +1,23 @@
+-- What a rule makes of the values of one component.
+use Rattle.std.specs.Prelude.{◌≡◌, ℕ, List, IsTrue}
+use Rattle.std.specs.List.{list_any}
+use Rattle.abstract_state.specs.declared.value.{PartValue.{PartValue}, Domain.{Domain}}
+use Rattle.abstract_state.specs.declared.table.ValueSet.{ValueSet}
+use Rattle.abstract_state.specs.ValueOrder.{same_part, IsAscending}
+use Rattle.abstract_state.specs.Tables.{is_member}
+use Rattle.flow_model.specs.declared.rule.Rule.{Rule}
+use Rattle.flow_model.specs.Tests.{PassesAt, value_after}
+
+-- a value of a list that the rule takes, and what it makes of it
+pub record Origin (rule : Rule) (c : ℕ) (old : List PartValue) (v : PartValue) : Type 0 where
+  pub was : PartValue
+  pub there : IsTrue (list_any (same_part was) old)
+  pub passes : PassesAt rule.conditions c was
+  pub becomes : value_after rule.changes c was ≡ v
+
+-- exactly what the rule makes of the values of a list that pass
+pub record ArePassed (rule : Rule) (c : ℕ) (d : Domain) (old : List PartValue) (new : ValueSet) : Type 0 where
+  pub domain : new.domain ≡ d
+  pub ascending : IsAscending new.members
+  pub from : (v : PartValue) → IsTrue (is_member new v) → Origin rule c old v
+  pub to : (v : PartValue) → IsTrue (list_any (same_part v) old) → PassesAt rule.conditions c v → IsTrue (is_member new (value_after rule.changes c v))

@@ -1,0 +1,10 @@
+//! Rules: every step from the states of an entry, as cases, and what a case makes of an entry.
+#![tactic(auto)]
+
+mod applying;
+mod arrivals;
+pub mod laws;
+mod ruling;
+
+pub use applying::apply;
+pub use ruling::rules;

@@ -1,0 +1,12 @@
+pub mod Seeing
+pub mod Serving
+pub mod ActivationLaws
+pub mod SettingEvents
+pub mod CallerEvents
+pub mod AlarmServices
+pub mod Calling
+pub mod Expiring
+pub mod EntrySets
+pub mod ListLaws
+pub mod NamedEvents
+pub mod ServiceListing

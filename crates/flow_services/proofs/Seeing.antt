@@ -1,0 +1,127 @@
+-- What tests read of a state, and what a service sees of it after its caller's move.
+use Rattle.std.proofs.Common.{false, ◌≡◌, ℕ, ◌<◌, Bool, true, not, length, refl, sym, ap, ◌∙◌, Some, None, ◌⊎◌, inl, inr, [], ◌∷◌}
+use Rattle.std.specs.declared.option.Option.{Option}
+use Rattle.std.proofs.lemmas.Bool.{cases_Bool, not-true}
+use Rattle.flow_model.proofs.ChangeLaws.{passes_one, one_passes}
+use Rattle.flow_model.specs.Cases.{condition}
+use Rattle.osek_values.specs.Numbers.{alarm_no}
+use Rattle.osek_values.specs.declared.numbers.BlockNo.{BlockNo}
+use Rattle.osek_standard.specs.declared.app.App.{App}
+use Rattle.osek_standard.specs.declared.state.State.{State}
+use Rattle.osek_standard.specs.declared.task_state.{TaskState.{TaskState}, Activity.{Activity}, Place.{Place}}
+use Rattle.osek_standard.specs.declared.task_state.Activity.TheVariants as activity
+use Rattle.osek_standard.specs.TaskStates.{is_suspended, is_suspended_activity}
+use Rattle.osek_standard.specs.States.{task_state, alarm_state}
+use Rattle.osek_standard.specs.Effects.{place_at, standing_at, moved_to}
+use Rattle.abstract_state.specs.declared.value.{Val.{Val}, Val.TheVariants.{Waiting}, PartValue.TheVariants.{OfTask, OfAlarm}}
+use Rattle.abstract_state.specs.declared.value.Component.TheVariants as component
+use Rattle.abstract_state.specs.Components.{component_number, part_of, abstract_of, value_in, is_armed}
+use Rattle.abstract_state.specs.ValueOrder.{same_part}
+use Rattle.abstract_state.proofs.ComponentLaws.{task_at_its_number, task_counted}
+use Rattle.abstract_state.proofs.Numbers.{component_here}
+use Rattle.abstract_state.proofs.OrderLaws.{part_right, part_itself}
+use Rattle.flow_model.specs.declared.runner.Runner.{Runner}
+use Rattle.flow_model.specs.declared.test.Test.TheVariants as test
+use Rattle.flow_model.specs.Values.{is_suspended_value}
+use Rattle.flow_model.specs.Tests.{passes, PassesAll}
+use Rattle.flow_model.specs.Runners.{Stands}
+use Rattle.flow_model.proofs.Moves.{moved_keeps_of, moved_suspended}
+
+-- where a task waits
+abbrev pub waiting_block : Activity → Option BlockNo
+waiting_block activity.Suspended = None
+waiting_block (activity.Live x) = None
+waiting_block (activity.Waiting b) = Some b
+
+pub waits_there : (a : Activity) (b : BlockNo) → waiting_block a ≡ Some b → a ≡ activity.Waiting b
+waits_there activity.Suspended b e = absurd (cc)
+waits_there (activity.Live x) b e = absurd (cc)
+waits_there (activity.Waiting c) b e = ap activity.Waiting (cc)
+
+suspended_value : (a : Activity) → is_suspended_value (value_in a) ≡ is_suspended_activity a
+suspended_value activity.Suspended = refl
+suspended_value (activity.Live x) = refl
+suspended_value (activity.Waiting b) = refl
+
+waiting_value : (a : Activity) (b : BlockNo) → value_in a ≡ Waiting b → waiting_block a ≡ Some b
+waiting_value activity.Suspended b e = absurd (cc)
+waiting_value (activity.Live x) b e = absurd (cc)
+waiting_value (activity.Waiting c) b e = ap (λ (d : BlockNo). Some d) (cc)
+
+pub value_waiting : (a : Activity) (b : BlockNo) → waiting_block a ≡ Some b → value_in a ≡ Waiting b
+value_waiting a b e = ap value_in (waits_there a b e)
+
+still_waiting : (a : Activity) (p : Place) → waiting_block (standing_at a p) ≡ waiting_block a
+still_waiting activity.Suspended p = refl
+still_waiting (activity.Live x) p = refl
+still_waiting (activity.Waiting b) p = refl
+
+module _ (app : App) (s : State) (t : ℕ) (known : t < length app.tasks) where
+  pub task_value : abstract_of app s t ≡ OfTask (value_in (task_state s t).activity)
+  task_value = ap (part_of s) (task_at_its_number app t known)
+
+  -- the tests of a task
+  pub tests_suspended : passes test.Suspended (abstract_of app s t) ≡ is_suspended (task_state s t)
+  tests_suspended = ap (passes test.Suspended) task_value ∙ suspended_value (task_state s t).activity
+
+  pub tests_not_suspended : passes test.NotSuspended (abstract_of app s t) ≡ not (is_suspended (task_state s t))
+  tests_not_suspended = ap (passes test.NotSuspended) task_value ∙ ap not (suspended_value (task_state s t).activity)
+
+  tests_is : (b : BlockNo) → passes (test.Is (OfTask (Waiting b))) (abstract_of app s t) ≡ same_part (OfTask (value_in (task_state s t).activity)) (OfTask (Waiting b))
+  tests_is b = ap (passes (test.Is (OfTask (Waiting b)))) task_value
+
+  pub waits_passes : (b : BlockNo) → waiting_block (task_state s t).activity ≡ Some b → passes (test.Is (OfTask (Waiting b))) (abstract_of app s t) ≡ true
+  waits_passes b e = tests_is b ∙ ap (λ (v : Val). same_part (OfTask v) (OfTask (Waiting b))) (value_waiting (task_state s t).activity b e) ∙ part_itself (OfTask (Waiting b))
+
+  pub passes_waits : (b : BlockNo) → passes (test.Is (OfTask (Waiting b))) (abstract_of app s t) ≡ true → waiting_block (task_state s t).activity ≡ Some b
+  passes_waits b e = waiting_value (task_state s t).activity b (of_task (part_right (OfTask (value_in (task_state s t).activity)) (OfTask (Waiting b)) (sym (tests_is b) ∙ e)))
+    where
+      of_task : {v w : Val} → OfTask v ≡ OfTask w → v ≡ w
+      of_task e = cc
+
+module _ (app : App) (s : State) (a : ℕ) (known : a < length app.alarms) where
+  abbrev number : ℕ
+  number = component_number app (component.Alarm (alarm_no a))
+
+  pub alarm_value : abstract_of app s number ≡ OfAlarm (is_armed (alarm_state s a))
+  alarm_value = ap (part_of s) (component_here app (component.Alarm (alarm_no a)) known)
+
+  pub tests_alarm : (armed : Bool) → is_armed (alarm_state s a) ≡ armed → passes (test.Is (OfAlarm armed)) (abstract_of app s number) ≡ true
+  tests_alarm armed e = ap (passes (test.Is (OfAlarm armed))) (alarm_value ∙ ap OfAlarm e) ∙ part_itself (OfAlarm armed)
+
+  pub alarm_tested : (armed : Bool) → passes (test.Is (OfAlarm armed)) (abstract_of app s number) ≡ true → is_armed (alarm_state s a) ≡ armed
+  alarm_tested armed e = of_alarm (part_right (OfAlarm (is_armed (alarm_state s a))) (OfAlarm armed) (ap (passes (test.Is (OfAlarm armed))) (sym alarm_value) ∙ e))
+    where
+      of_alarm : {x y : Bool} → OfAlarm x ≡ OfAlarm y → x ≡ y
+      of_alarm e = cc
+
+-- A service in this state sees of the tasks what those are in the other.
+pub record Sees (app : App) (s m : State) : Type 0 where
+  pub size : length m.tasks ≡ length app.tasks
+  pub suspended : (t : ℕ) → is_suspended (task_state m t) ≡ is_suspended (task_state s t)
+  pub waiting : (t : ℕ) → waiting_block (task_state m t).activity ≡ waiting_block (task_state s t).activity
+
+-- after the caller's move
+pub moved_sees : (app : App) (s : State) (r : Runner) (b n : BlockNo) → Stands app s r b → length (moved_to s n).tasks ≡ length app.tasks → Sees app s (moved_to s n)
+moved_sees app s r b n h long = record {
+  size = long;
+  suspended = λ t. moved_suspended app s h.well (place_at n 0) t;
+  waiting = λ t. moved_keeps_of app s h.well (place_at n 0) (λ (x : TaskState). waiting_block x.activity) (λ x. still_waiting x.activity (place_at n 0)) t;
+}
+
+-- whether a task is suspended, which conditions on it tell
+module _ (app : App) (s m : State) (t : ℕ) (known : t < length app.tasks) (sees : Sees app s m) where
+  pub off_there : PassesAll app (condition t test.Suspended ∷ []) (abstract_of app s) → is_suspended (task_state m t) ≡ true
+  off_there passing = sees.suspended t ∙ sym (tests_suspended app s t known) ∙ one_passes app (abstract_of app s) (condition t test.Suspended) passing (task_counted app t known)
+
+  pub on_there : PassesAll app (condition t test.NotSuspended ∷ []) (abstract_of app s) → is_suspended (task_state m t) ≡ false
+  on_there passing = sees.suspended t ∙ not-true (is_suspended (task_state s t)) (sym (tests_not_suspended app s t known) ∙ one_passes app (abstract_of app s) (condition t test.NotSuspended) passing (task_counted app t known))
+
+pub off_passes : (app : App) (s : State) (t : ℕ) → t < length app.tasks → is_suspended (task_state s t) ≡ true → PassesAll app (condition t test.Suspended ∷ []) (abstract_of app s)
+off_passes app s t known e = passes_one app (abstract_of app s) (condition t test.Suspended) (tests_suspended app s t known ∙ e)
+
+pub off_or_on : (app : App) (s : State) (t : ℕ) → t < length app.tasks → PassesAll app (condition t test.Suspended ∷ []) (abstract_of app s) ⊎ PassesAll app (condition t test.NotSuspended ∷ []) (abstract_of app s)
+off_or_on app s t known = elim (cases_Bool (is_suspended (task_state s t))) [
+  | inl e ↦ inl (off_passes app s t known e)
+  | inr e ↦ inr (passes_one app (abstract_of app s) (condition t test.NotSuspended) (tests_not_suspended app s t known ∙ ap not e))
+]

@@ -1,0 +1,228 @@
+-- SetEvent is served by its cases.
+use Rattle.std.proofs.Common.{map, ◌≡◌, ℕ, ◌<◌, Bool, true, false, not, List, [], ◌∷◌, length, refl, sym, ap, subst, ◌∙◌, inl, inr, ⊎_elim, arith, Some, IsTrue}
+use Rattle.std.specs.Prelude.{if◌then◌else◌}
+use Rattle.std.proofs.lemmas.Bool.{cases_Bool}
+use Rattle.std.proofs.lemmas.Map.Views.{Contains-from_any}
+use Rattle.osek_values.specs.Numbers.{mask}
+use Rattle.osek_values.specs.declared.numbers.BlockNo.{BlockNo}
+use Rattle.osek_values.specs.declared.status.Ask.TheVariants as ask
+use Rattle.osek_values.specs.declared.status.Status.TheVariants as status
+use Rattle.osek_standard.specs.declared.app.App.{App}
+use Rattle.osek_standard.specs.declared.state.State.{State}
+use Rattle.osek_standard.specs.declared.task_state.{TaskState.{TaskState}, Activity.{Activity}}
+use Rattle.osek_standard.specs.declared.task_state.Activity.TheVariants as activity
+use Rattle.osek_standard.specs.Apps.{the_task, the_block, is_extended}
+use Rattle.osek_standard.specs.TaskStates.{is_suspended, is_live_activity}
+use Rattle.osek_standard.specs.States.{task_state}
+use Rattle.osek_standard.specs.Services.{set_event, refused, accepted, waits_in, waits_for, woken, with_events, events_set, released_from}
+use Rattle.osek_standard.specs.Kernel.{has_bit}
+use Rattle.osek_standard.proofs.Members.{Among, among_map, map_among, among_flat_map, flat_map_among, contained_among}
+use Rattle.abstract_state.specs.declared.value.{Val.TheVariants.{Suspended, Live, Waiting}, PartValue.{PartValue}, PartValue.TheVariants.{OfTask, OfEvent, OfAlarm}}
+use Rattle.abstract_state.specs.declared.table.Entry.{Entry}
+use Rattle.abstract_state.specs.Components.{component_count, abstract_of, value_in, live_val}
+use Rattle.abstract_state.specs.Tables.{set_at, is_member}
+use Rattle.abstract_state.proofs.ComponentLaws.{task_counted}
+use Rattle.abstract_state.proofs.OrderLaws.{part_right}
+use Rattle.flow_model.specs.declared.test.Condition.{Condition}
+use Rattle.flow_model.specs.declared.test.Test.TheVariants as test
+use Rattle.flow_model.specs.Cases.{condition}
+use Rattle.flow_model.specs.Tests.{passes, PassesAll, value_after}
+use Rattle.flow_model.specs.Changes.{task_change, event_changes}
+use Rattle.flow_model.proofs.ChangeLaws.{passes_each, each_passes, passes_one, one_passes, sets_both, passes_left}
+use Rattle.flow_model.proofs.BitsOf.{bit_within, bit_set}
+use Rattle.flow_model.proofs.Writes.{task_written, events_written, task_changes_set, event_changes_set}
+use Rattle.flow_services.specs.Occasions.{ServiceCase, refused_case}
+use Rattle.flow_services.specs.Services.{waits_at, waits_not_at, awaits, awaiting_block, awaiting_blocks, own_among, not_awaiting, waking, settings, event_settings, members_of}
+use Rattle.flow_services.proofs.Seeing.{Sees, waiting_block, waits_there, value_waiting, tests_not_suspended, task_value, waits_passes, passes_waits, off_there, on_there, off_passes}
+use Rattle.flow_services.proofs.Serving.{Serves, IsServed, keeps_serves, always_served, stays_with}
+
+-- a task waits for an event where its block awaits it
+waits_by : (app : App) (a : Activity) (e : ℕ) → waits_in app a e ≡ true → (b : BlockNo) × (waiting_block a ≡ Some b) × (awaits app e b ≡ true)
+waits_by app activity.Suspended e h = absurd (cc)
+waits_by app (activity.Live x) e h = absurd (cc)
+waits_by app (activity.Waiting b) e h = (b, refl, h)
+
+not_live_there : (a : Activity) (b : BlockNo) → waiting_block a ≡ Some b → is_live_activity a ≡ true → ⊥
+not_live_there activity.Suspended b e l = cc
+not_live_there (activity.Live x) b e l = cc
+not_live_there (activity.Waiting c) b e l = cc
+
+not_suspended_there : (x : TaskState) (b : BlockNo) → waiting_block x.activity ≡ Some b → is_suspended x ≡ false
+not_suspended_there x b e = by x.activity e
+  where
+    by : (a : Activity) → waiting_block a ≡ Some b → is_suspended (record x { activity = a }) ≡ false
+    by activity.Suspended e = absurd (cc)
+    by (activity.Live y) e = refl
+    by (activity.Waiting c) e = refl
+
+module _ (app : App) (events : ℕ) where
+  awaited_among : (b : BlockNo) (values : List PartValue) → awaits app events b ≡ true → Among (OfTask (Waiting b)) values → Among b (awaiting_blocks app events values)
+  awaited_among b values e m = among_flat_map (awaiting_block app events) (OfTask (Waiting b)) b values m
+      (subst (λ (c : Bool). Among b (if c then b ∷ [] else [])) (sym e) (inl refl))
+
+  awaits_of : (b : BlockNo) (v : PartValue) → Among b (awaiting_block app events v) → awaits app events b ≡ true
+  awaits_of b (OfTask Suspended) m = absurd m
+  awaits_of b (OfTask (Live x)) m = absurd m
+  awaits_of b (OfTask (Waiting c)) m = elim (cases_Bool (awaits app events c)) [
+    | inl e ↦ (let n : Among b (c ∷ []) = subst (λ (f : Bool). Among b (if f then c ∷ [] else [])) e m in
+        ⊎_elim (λ same. ap (awaits app events) same ∙ e) (λ none. absurd none) n)
+    | inr e ↦ absurd (subst (λ (f : Bool). Among b (if f then c ∷ [] else [])) e m)
+  ]
+  awaits_of b (OfEvent x) m = absurd m
+  awaits_of b (OfAlarm x) m = absurd m
+
+  among_awaits : (b : BlockNo) (values : List PartValue) → Among b (awaiting_blocks app events values) → awaits app events b ≡ true
+  among_awaits b values m = let h = flat_map_among (awaiting_block app events) b values m in awaits_of b h.0 h.2
+
+module _ (app : App) (m : State) (t e : ℕ) (known : t < length app.tasks) (here : t < length m.tasks) where
+  abbrev bits : ℕ
+  bits = own_among app t e
+
+  within : (k : ℕ) → has_bit bits k ≡ true → has_bit (the_task app t).own.0 k ≡ true
+  within k h = bit_within e (the_task app t).own.0 k h
+
+  -- SetEvent in each case
+  access : is_extended app t ≡ false → set_event app m t e ≡ refused m status.Access
+  unfolding set_event
+  access x = rw x refl
+
+  state : is_extended app t ≡ true → is_suspended (task_state m t) ≡ true → set_event app m t e ≡ refused m status.State
+  unfolding set_event
+  state x y = rw (x, y) refl
+
+  released : is_extended app t ≡ true → is_suspended (task_state m t) ≡ false → waits_for app m t e ≡ true → set_event app m t e ≡ accepted (woken app m t e) ask.Maybe
+  unfolding set_event
+  released x y z = rw (x, y, z) refl
+
+  set : is_extended app t ≡ true → is_suspended (task_state m t) ≡ false → waits_for app m t e ≡ false → set_event app m t e ≡ accepted (with_events m t (events_set app m t e)) ask.No
+  unfolding set_event
+  set x y z = rw (x, y, z) refl
+
+  events_serve : (blocks : List BlockNo) → Serves app m (not_awaiting app t bits blocks) (accepted (with_events m t (events_set app m t e)) ask.No)
+  events_serve blocks = record {
+    parts = λ c lt. events_written app t bits true known within m (record (task_state m t) { events = mask (events_set app m t e) }) here (λ k below own. bit_set (task_state m t).events.0 bits k) c lt refl;
+    sets = event_changes_set app t bits true;
+    status = refl;
+    ask = refl;
+    stays = stays_with m t (record (task_state m t) { events = mask (events_set app m t e) }) here (λ l. refl);
+  }
+
+  abbrev released_state : TaskState
+  released_state = record { activity = released_from app (task_state m t).activity; events = mask (events_set app m t e) }
+
+  woken_serves : (b : BlockNo) → waiting_block (task_state m t).activity ≡ Some b → Serves app m (waking app t bits b) (accepted (woken app m t e) ask.Maybe)
+  woken_serves b at =
+      let there = waits_there (task_state m t).activity b at in
+      record {
+        parts = λ c lt.
+            (task_written app t bits true known within m released_state here (λ k below own. bit_set (task_state m t).events.0 bits k) c lt
+            ∙ ap (λ (a : Activity). value_after (task_change t (value_in (released_from app a)) ∷ event_changes app t bits true) c (abstract_of app m c)) there);
+        sets = sets_both (task_change t (Live (live_val (the_block app b.0).next [])) ∷ []) (event_changes app t bits true) (task_changes_set t _) (event_changes_set app t bits true);
+        status = refl;
+        ask = refl;
+        stays = stays_with m t released_state here (λ l. absurd (not_live_there (task_state m t).activity b at l));
+      }
+
+module _ (app : App) (s m : State) (entry : Entry) (t e : ℕ) (known : t < length app.tasks) (sees : Sees app s m)
+    (there : IsTrue (is_member (set_at entry t) (abstract_of app s t))) where
+  abbrev own : ℕ
+  own = own_among app t e
+
+  abbrev blocks : List BlockNo
+  blocks = awaiting_blocks app own (members_of app entry t)
+
+  abbrev waits : ServiceCase
+  waits = not_awaiting app t own blocks
+
+  abbrev gone : ServiceCase
+  gone = refused_case (condition t test.Suspended ∷ []) status.State
+
+  here : t < length m.tasks
+  here = let long = sees.size in omega (arith, long, known)
+
+  counted : t < component_count app
+  counted = task_counted app t known
+
+  abbrev P : ServiceCase → Type 0
+  P x = PassesAll app x.conditions (abstract_of app s)
+
+  abbrev S : ServiceCase → Type 0
+  S x = Serves app m x (set_event app m t e)
+
+  -- where the task waits for one of these events, by the entry it may
+  waits_among : (b : BlockNo) → waiting_block (task_state s t).activity ≡ Some b → awaits app own b ≡ true → Among b blocks
+  waits_among b at e = awaited_among app own b (members_of app entry t) e
+      (subst (λ (v : PartValue). Among v (members_of app entry t)) (task_value app s t known ∙ ap OfTask (value_waiting (task_state s t).activity b at))
+      (contained_among (members_of app entry t) (abstract_of app s t) (Contains-from_any part_right (abstract_of app s t) (members_of app entry t) there)))
+
+  waits_of : (b : BlockNo) → waiting_block (task_state m t).activity ≡ Some b → waits_for app m t e ≡ awaits app own b
+  waits_of b at = ap (λ (a : Activity). waits_in app a own) (waits_there (task_state m t).activity b at)
+
+  not_waiting : P waits → waits_for app m t e ≡ false
+  not_waiting passing = elim (cases_Bool (waits_for app m t e)) [
+    | inl does ↦ absurd
+        (let w = waits_by app (task_state m t).activity own does in
+        let at : waiting_block (task_state s t).activity ≡ Some w.0 = sym (sees.waiting t) ∙ w.1 in
+        let p = each_passes app (abstract_of app s) waits.conditions passing (waits_not_at t w.0) (inr (among_map (waits_not_at t) w.0 blocks (waits_among w.0 at w.2))) counted in
+        let q = waits_passes app s t known w.0 at in
+        cc (ap not q, p))
+    | inr doesnt ↦ doesnt
+  ]
+
+  module _ (extended : is_extended app t ≡ true) where
+    gone_serves : P gone → S gone
+    gone_serves passing = subst (Serves app m gone) (sym (state app m t e known here extended (off_there app s m t known sees passing))) (keeps_serves app m _ _ _)
+
+    waits_serve : P waits → S waits
+    waits_serve passing =
+        let awake = on_there app s m t known sees (passes_left app (abstract_of app s) (condition t test.NotSuspended ∷ []) (map (waits_not_at t) blocks) passing) in
+        subst (Serves app m waits) (sym (set app m t e known here extended awake (not_waiting passing))) (events_serve app m t e known here blocks)
+
+    wakes_serve : (b : BlockNo) → Among b blocks → P (waking app t own b) → S (waking app t own b)
+    wakes_serve b among passing =
+        let p = one_passes app (abstract_of app s) (waits_at t b) passing counted in
+        let at : waiting_block (task_state m t).activity ≡ Some b = sees.waiting t ∙ passes_waits app s t known b p in
+        let waiting : waits_for app m t e ≡ true = waits_of b at ∙ among_awaits app own b (members_of app entry t) among in
+        subst (Serves app m (waking app t own b)) (sym (released app m t e known here extended (not_suspended_there (task_state m t) b at) waiting)) (woken_serves app m t e known here b at)
+
+    each_serves : (x : ServiceCase) → Among x (settings app t own blocks) → P x → S x
+    each_serves x (inl same) passing = subst S (sym same) (gone_serves (subst P same passing))
+    each_serves x (inr (inl same)) passing = subst S (sym same) (waits_serve (subst P same passing))
+    each_serves x (inr (inr among)) passing =
+        let h = map_among (waking app t own) x blocks among in
+        subst S (sym h.2) (wakes_serve h.0 h.1 (subst P h.2 passing))
+
+    -- each condition of a task that waits for none of the events passes
+    waits_pass : is_suspended (task_state s t) ≡ false → waits_in app (task_state s t).activity own ≡ false → P waits
+    waits_pass awake none = passes_each app (abstract_of app s) waits.conditions (λ x among. elim among [
+      | inl same ↦ subst (λ (y : Condition). IsTrue (passes y.test (abstract_of app s y.component.0))) (sym same) (tests_not_suspended app s t known ∙ ap not awake)
+      | inr more ↦
+          (let h = map_among (waits_not_at t) x blocks more in
+          subst (λ (y : Condition). IsTrue (passes y.test (abstract_of app s y.component.0))) (sym h.2)
+          (elim (cases_Bool (passes (test.Is (OfTask (Waiting h.0))) (abstract_of app s t))) [
+            | inl does ↦ absurd
+                (let at = passes_waits app s t known h.0 does in
+                let is : waits_in app (task_state s t).activity own ≡ awaits app own h.0 = ap (λ (a : Activity). waits_in app a own) (waits_there (task_state s t).activity h.0 at) in
+                let has = among_awaits app own h.0 (members_of app entry t) h.1 in
+                cc)
+            | inr doesnt ↦ ap not doesnt
+          ]))
+    ])
+
+    some_serves : (x : ServiceCase) × Among x (settings app t own blocks) × P x
+    some_serves = elim (cases_Bool (is_suspended (task_state s t))) [
+      | inl off ↦ (gone, inl refl, off_passes app s t known off)
+      | inr on ↦ elim (cases_Bool (waits_in app (task_state s t).activity own)) [
+        | inl does ↦
+            (let w = waits_by app (task_state s t).activity own does in
+            (waking app t own w.0, inr (inr (among_map (waking app t own) w.0 blocks (waits_among w.0 w.1 w.2))), passes_one app (abstract_of app s) (waits_at t w.0) (waits_passes app s t known w.0 w.1)))
+        | inr doesnt ↦ (waits, inr (inl refl), waits_pass on doesnt)
+      ]
+    ]
+
+  pub setting_served : IsServed app s m (event_settings app (members_of app entry t) t e) (set_event app m t e)
+  setting_served = elim (cases_Bool (is_extended app t)) [
+    | inl extended ↦ (rw extended (record { each = each_serves extended; some = some_serves extended }))
+    | inr basic ↦ (rw basic (always_served app s m (refused_case [] status.Access) (set_event app m t e) (passes_each app (abstract_of app s) [] (λ x none. absurd none))
+        (subst (Serves app m (refused_case [] status.Access)) (sym (access app m t e known here basic)) (keeps_serves app m _ _ _))))
+  ]

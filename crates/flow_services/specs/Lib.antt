@@ -1,0 +1,3 @@
+pub mod CallNames
+pub mod Occasions
+pub mod Services

@@ -1,0 +1,53 @@
+-- A case of a service alone, and the case of the effect that it is where the service is called.
+use Rattle.std.specs.Prelude.{Bool, true, false, List, [], ◌∷◌, ◌++◌, Some, None, if◌then◌else◌}
+use Rattle.std.specs.declared.option.Option.{Option}
+use Rattle.osek_values.specs.declared.status.Status.{Status}
+use Rattle.osek_values.specs.declared.status.Status.TheVariants as status
+use Rattle.abstract_state.specs.declared.value.PartValue.TheVariants.{OfAlarm}
+use Rattle.flow_model.specs.declared.change.Change.{Change}
+use Rattle.flow_model.specs.declared.change.Update.TheVariants as update
+use Rattle.flow_model.specs.declared.test.Condition.{Condition}
+use Rattle.flow_model.specs.declared.test.Test.TheVariants as test
+use Rattle.flow_model.specs.declared.case.EffectCase.{EffectCase}
+use Rattle.flow_model.specs.declared.case.Asked.TheVariants as asked
+use Rattle.flow_model.specs.Runners.{runner_point, moving, change}
+use Rattle.flow_model.specs.Cases.{condition, effect_case}
+use Rattle.flow_services.specs.declared.occasion.{Expired.{Expired}, Occasion.{Occasion}}
+
+-- what a service takes, changes and notes, and whether it may lead to a dispatch
+pub record ServiceCase : Type 0 where
+  pub conditions : List Condition
+  pub changes : List Change
+  pub status : Option Status
+  pub may_dispatch : Bool
+
+abbrev pub service_case : List Condition → List Change → Option Status → Bool → ServiceCase
+service_case conditions changes status may_dispatch = record { conditions = conditions; changes = changes; status = status; may_dispatch = may_dispatch }
+
+-- a refused call changes nothing
+abbrev pub refused_case : List Condition → Status → ServiceCase
+refused_case conditions e = service_case conditions [] (Some e) false
+
+abbrev pub accepted_case : List Condition → List Change → Bool → ServiceCase
+accepted_case conditions changes may_dispatch = service_case conditions changes (Some status.Ok) may_dispatch
+
+abbrev pub unnoted_case : List Condition → ServiceCase
+unnoted_case conditions = service_case conditions [] None false
+
+-- an alarm that expired was armed, and is armed anew or idle
+abbrev pub expired_conditions : Option Expired → List Condition
+expired_conditions None = []
+expired_conditions (Some x) = condition x.alarm.0 (test.Is (OfAlarm true)) ∷ []
+
+abbrev pub expired_changes : Option Expired → List Change
+expired_changes None = []
+expired_changes (Some x) = change x.alarm.0 (update.Set (OfAlarm x.again)) ∷ []
+
+-- The case of the effect: the caller goes on too.
+abbrev pub case_at : Occasion → ServiceCase → EffectCase
+case_at o x = effect_case
+    (x.conditions ++ expired_conditions o.expired)
+    ((x.changes ++ expired_changes o.expired) ++ moving o.runner o.next)
+    (if x.may_dispatch then o.asked else asked.No)
+    x.status
+    (runner_point o.runner o.next)

@@ -1,0 +1,204 @@
+-- The cases of each service, in the order of ISO 17356-3.
+use Rattle.std.specs.Prelude.{ℕ, Bool, true, false, not, ◌==◌, ◌||◌, nat_lt, bit_and, List, [], ◌∷◌, ◌++◌, map, flat_map, Some, None, if◌then◌else◌}
+use Rattle.osek_values.specs.declared.numbers.BlockNo.{BlockNo}
+use Rattle.osek_values.specs.Numbers.{alarm_no}
+use Rattle.osek_values.specs.declared.status.Status.TheVariants as status
+use Rattle.osek_standard.specs.declared.app.App.{App}
+use Rattle.osek_standard.specs.declared.objects.Action.{Action}
+use Rattle.osek_standard.specs.declared.objects.Action.TheVariants as action
+use Rattle.osek_standard.specs.declared.block.Kind.{Kind}
+use Rattle.osek_standard.specs.declared.block.Kind.TheVariants as kind
+use Rattle.osek_standard.specs.declared.call.Call.{Call}
+use Rattle.flow_services.specs.CallNames as call
+use Rattle.osek_standard.specs.Apps.{the_task, the_alarm, the_block, is_extended, max_of, is_cycle, awaited}
+use Rattle.osek_standard.specs.Services.{share}
+use Rattle.abstract_state.specs.declared.value.{Val.TheVariants.{Suspended, Live, Waiting}, PartValue.{PartValue}, PartValue.TheVariants.{OfTask, OfEvent, OfAlarm}}
+use Rattle.abstract_state.specs.declared.value.Component.TheVariants as component
+use Rattle.abstract_state.specs.declared.table.Entry.{Entry}
+use Rattle.abstract_state.specs.Components.{component_no, component_number, live_val}
+use Rattle.abstract_state.specs.Tables.{set_at}
+use Rattle.flow_model.specs.declared.test.Condition.{Condition}
+use Rattle.flow_model.specs.declared.test.Test.TheVariants as test
+use Rattle.flow_model.specs.declared.case.Asked.TheVariants as asked
+use Rattle.flow_model.specs.declared.case.EffectCase.{EffectCase}
+use Rattle.flow_model.specs.declared.runner.Runner.{Runner}
+use Rattle.flow_model.specs.declared.runner.Runner.TheVariants as runner
+use Rattle.flow_model.specs.Cases.{condition, asked_after}
+use Rattle.flow_model.specs.Changes.{task_change, alarm_change, event_changes, activating}
+use Rattle.flow_services.specs.Occasions.{ServiceCase, refused_case, accepted_case, unnoted_case, case_at}
+use Rattle.flow_services.specs.declared.occasion.{Expired.{Expired}, Occasion.{Occasion}}
+
+-- all but the calls by which a caller ends, waits, asks for a dispatch alone, or takes and gives back a resource
+abbrev pub is_service_call : Call → Bool
+is_service_call (call.Task call.ActivateTask t) = true
+is_service_call (call.Task call.ChainTask t) = false
+is_service_call (call.Task call.GetEvent t) = true
+is_service_call (call.Task call.GetTaskState t) = true
+is_service_call (call.Plain call.TerminateTask) = false
+is_service_call (call.Plain call.Schedule) = false
+is_service_call (call.Plain call.GetTaskId) = true
+is_service_call (call.Plain call.GetActiveApplicationMode) = true
+is_service_call (call.Resource k r) = false
+is_service_call (call.SetEvent t m) = true
+is_service_call (call.Mask call.ClearEvent m) = true
+is_service_call (call.Mask call.WaitEvent m) = false
+is_service_call (call.Arm k a x cycle) = true
+is_service_call (call.Alarm k a) = true
+is_service_call (call.Lock l) = true
+is_service_call call.ShutdownOs = false
+
+-- The kinds whose cases stand here.
+abbrev pub is_service : Kind → Bool
+is_service (kind.Work n) = false
+is_service (kind.Choice o) = false
+is_service kind.Loop = false
+is_service (kind.Call c) = is_service_call c
+is_service kind.TaskEnd = false
+is_service kind.IsrEnd = false
+is_service kind.CountUp = false
+is_service (kind.Expire a) = true
+
+-- without a condition
+abbrev pub always : ServiceCase → List ServiceCase
+always x = x ∷ []
+
+abbrev pub waits_at : ℕ → BlockNo → Condition
+waits_at x b = condition x (test.Is (OfTask (Waiting b)))
+
+abbrev pub waits_not_at : ℕ → BlockNo → Condition
+waits_not_at x b = condition x (test.IsNot (OfTask (Waiting b)))
+
+module _ (app : App) where
+  -- ActivateTask: LIMIT where the task isn't suspended
+  abbrev pub activations : ℕ → List ServiceCase
+  activations x =
+      refused_case (condition x test.NotSuspended ∷ []) status.Limit
+      ∷ accepted_case (condition x test.Suspended ∷ []) (activating app x) true ∷ []
+
+  -- at the block a task waits for one of these events
+  abbrev pub awaits : ℕ → BlockNo → Bool
+  awaits events b = share (awaited (the_block app b.0).kind) events
+
+  abbrev pub awaiting_block : ℕ → PartValue → List BlockNo
+  awaiting_block events (OfTask Suspended) = []
+  awaiting_block events (OfTask (Live x)) = []
+  awaiting_block events (OfTask (Waiting b)) = if awaits events b then b ∷ [] else []
+  awaiting_block events (OfEvent x) = []
+  awaiting_block events (OfAlarm x) = []
+
+  -- where, by these values, a task may wait for one of these events
+  abbrev pub awaiting_blocks : ℕ → List PartValue → List BlockNo
+  awaiting_blocks events values = flat_map (awaiting_block events) values
+
+  abbrev pub own_among : ℕ → ℕ → ℕ
+  own_among x m = bit_and m (the_task app x).own.0
+
+  -- a task that waits nowhere for one of the events: they are set
+  abbrev pub not_awaiting : ℕ → ℕ → List BlockNo → ServiceCase
+  not_awaiting x events blocks = accepted_case (condition x test.NotSuspended ∷ map (waits_not_at x) blocks) (event_changes app x events true) false
+
+  -- a task that waits for one is released too, to the block after
+  abbrev pub waking : ℕ → ℕ → BlockNo → ServiceCase
+  waking x events b = accepted_case (waits_at x b ∷ []) (task_change x (Live (live_val (the_block app b.0).next [])) ∷ event_changes app x events true) true
+
+  abbrev pub settings : ℕ → ℕ → List BlockNo → List ServiceCase
+  settings x events blocks =
+      refused_case (condition x test.Suspended ∷ []) status.State
+      ∷ not_awaiting x events blocks
+      ∷ map (waking x events) blocks
+
+  -- SetEvent, where these are the values that the task may have: ACCESS of a basic task, STATE of a suspended one
+  abbrev pub event_settings : List PartValue → ℕ → ℕ → List ServiceCase
+  event_settings values x m =
+      if is_extended app x then settings x (own_among x m) (awaiting_blocks (own_among x m) values)
+      else always (refused_case [] status.Access)
+
+  -- ClearEvent: CALLEVEL in a routine, ACCESS of a basic task
+  abbrev pub event_clearings : Runner → ℕ → List ServiceCase
+  event_clearings (runner.Task t) m =
+      if is_extended app t.0 then always (accepted_case [] (event_changes app t.0 (own_among t.0 m) false) false)
+      else always (refused_case [] status.Access)
+  event_clearings (runner.Routine over) m = always (refused_case [] status.CallLevel)
+
+  -- GetEvent: ACCESS of a basic task, STATE of a suspended one
+  abbrev pub event_readings : ℕ → List ServiceCase
+  event_readings x =
+      if is_extended app x then
+      refused_case (condition x test.Suspended ∷ []) status.State
+      ∷ accepted_case (condition x test.NotSuspended ∷ []) [] false ∷ []
+      else always (refused_case [] status.Access)
+
+  -- an alarm is armed, or idle
+  abbrev pub alarm_is : ℕ → Bool → Condition
+  alarm_is a armed = condition (component_number app (component.Alarm (alarm_no a))) (test.Is (OfAlarm armed))
+
+  -- SetRelAlarm, SetAbsAlarm: STATE of an armed alarm, VALUE where the numbers are refused
+  abbrev pub armings : ℕ → Bool → List ServiceCase
+  armings a refused =
+      refused_case (alarm_is a true ∷ []) status.State
+      ∷ (if refused then refused_case (alarm_is a false ∷ []) status.Value
+      else accepted_case (alarm_is a false ∷ []) (alarm_change app a true ∷ []) false) ∷ []
+
+  abbrev pub is_rel_refused : ℕ → ℕ → ℕ → Bool
+  is_rel_refused a increment cycle = (increment == 0) || nat_lt (max_of app a) increment || not (is_cycle app a cycle)
+
+  abbrev pub is_abs_refused : ℕ → ℕ → ℕ → Bool
+  is_abs_refused a start cycle = nat_lt (max_of app a) start || not (is_cycle app a cycle)
+
+  -- CancelAlarm: NOFUNC of an idle alarm
+  abbrev pub cancellings : ℕ → List ServiceCase
+  cancellings a =
+      refused_case (alarm_is a false ∷ []) status.NoFunc
+      ∷ accepted_case (alarm_is a true ∷ []) (alarm_change app a false ∷ []) false ∷ []
+
+  -- GetAlarm: NOFUNC of an idle alarm
+  abbrev pub alarm_readings : ℕ → List ServiceCase
+  alarm_readings a =
+      refused_case (alarm_is a false ∷ []) status.NoFunc
+      ∷ accepted_case (alarm_is a true ∷ []) [] false ∷ []
+
+  abbrev pub members_of : Entry → ℕ → List PartValue
+  members_of entry c = (set_at entry c).members
+
+  -- what an alarm does when it expires
+  abbrev pub actions : Entry → Action → List ServiceCase
+  actions entry (action.ActivateTask x) = activations x.0
+  actions entry (action.SetEvent x m) = event_settings (members_of entry x.0) x.0 m.0
+
+  -- The cases of a call.
+  abbrev pub call_cases : Entry → Runner → Call → List ServiceCase
+  call_cases entry r (call.Task call.ActivateTask x) = activations x.0
+  call_cases entry r (call.Task call.GetEvent x) = event_readings x.0
+  call_cases entry r (call.Task call.GetTaskState x) = always (accepted_case [] [] false)
+  call_cases entry r (call.SetEvent x m) = event_settings (members_of entry x.0) x.0 m.0
+  call_cases entry r (call.Mask call.ClearEvent m) = event_clearings r m.0
+  call_cases entry r (call.Arm call.SetRelAlarm a increment cycle) = armings a.0 (is_rel_refused a.0 increment cycle)
+  call_cases entry r (call.Arm call.SetAbsAlarm a start cycle) = armings a.0 (is_abs_refused a.0 start cycle)
+  call_cases entry r (call.Alarm call.CancelAlarm a) = cancellings a.0
+  call_cases entry r (call.Alarm call.GetAlarm a) = alarm_readings a.0
+  call_cases entry r (call.Plain call.GetTaskId) = always (accepted_case [] [] false)
+  call_cases entry r (call.Plain call.GetActiveApplicationMode) = always (unnoted_case [])
+  call_cases entry r (call.Lock l) = always (unnoted_case [])
+  call_cases entry r _ = []
+
+  -- the call of a service
+  abbrev pub calling : Runner → BlockNo → Occasion
+  calling r next = record { runner = r; next = next; asked = asked_after app r; expired = None }
+
+  -- an alarm's action: nothing is asked at interrupt level
+  abbrev pub looking : Runner → BlockNo → Occasion
+  looking r next = record { runner = r; next = next; asked = asked.No; expired = None }
+
+  abbrev pub expired_alarm : ℕ → Bool → Expired
+  expired_alarm a again = record { alarm = component_no (component_number app (component.Alarm (alarm_no a))); again = again }
+
+  abbrev pub expiring : Runner → BlockNo → ℕ → Bool → Occasion
+  expiring r next a again = record { runner = r; next = next; asked = asked.No; expired = Some (expired_alarm a again) }
+
+  -- An alarm that a tick routine looks at: idle, or armed and not due; or due, and then idle or armed anew.
+  abbrev pub expiries : Entry → Runner → BlockNo → ℕ → List EffectCase
+  expiries entry r next a =
+      case_at (looking r next) (unnoted_case (alarm_is a false ∷ []))
+      ∷ case_at (looking r next) (unnoted_case (alarm_is a true ∷ []))
+      ∷ map (case_at (expiring r next a false)) (actions entry (the_alarm app a).action)
+      ++ map (case_at (expiring r next a true)) (actions entry (the_alarm app a).action)

@@ -1,0 +1,193 @@
+//! The cases of the services on alarms, and of an alarm that a tick routine looks at.
+ghost use Rattle.std.specs.Prelude.{◌≡◌, ◌<◌, [], ◌∷◌, ◌++◌, length, map, IfOk, OnOk};
+ghost use Rattle.osek_standard.specs.Apps.{tables, is_cycle as is_cycle_of};
+ghost use Rattle.osek_standard.specs.Validity.{IsAction};
+ghost use Rattle.abstract_state.specs.Domains.{domains, domains_of};
+ghost use Rattle.abstract_state.specs.Components.{component_number as component_number_of};
+ghost use Rattle.abstract_state.specs.declared.value.Component.TheVariants as component;
+ghost use Rattle.abstract_state.specs.declared.value.PartValue.TheVariants.{OfAlarm};
+ghost use Rattle.flow_model.specs.declared.change.Update.TheVariants as update;
+ghost use Rattle.flow_model.specs.Runners.{change};
+ghost use Rattle.flow_services.specs.Occasions.{case_at};
+ghost use Rattle.flow_services.specs.Services.{armings as armings_of, cancellings as cancellings_of, alarm_readings as alarm_readings_of, actions as actions_of, expiries as expiries_of, is_rel_refused as is_rel_refused_by, is_abs_refused as is_abs_refused_by};
+
+use crate::events::{add_event_settings, values_of};
+use crate::occasion::{Occasion, one, only};
+use crate::tasks::add_activations;
+use abstract_state::{Component, ComponentNo, Entry, PartValue, component_number};
+use flow_model::{Asked, Change, EffectCase, Runner, Test, Update};
+use osek_standard::{Action, App};
+use osek_values::{AlarmNo, BlockNo, Memory, Seq, Status};
+use std::alloc::Global;
+
+/// Whether the alarm's counter allows a cycle: 0, or from MINCYCLE to MAXALLOWEDVALUE.
+fn is_cycle(app: &App, alarm: AlarmNo, cycle: u64) -> bool
+    requires { alarm.0 < length app.now.alarms }
+    ensures { result ≡ is_cycle_of app.now alarm.0 cycle }
+{
+    let counter = app.counter_of(alarm);
+    cycle == 0 || (counter.min_cycle as u64 <= cycle && cycle <= counter.max as u64)
+}
+
+/// Whether SetRelAlarm refuses these numbers.
+pub fn is_rel_refused(app: &App, alarm: AlarmNo, increment: u64, cycle: u64) -> bool
+    requires { alarm.0 < length app.now.alarms }
+    ensures { result ≡ is_rel_refused_by app.now alarm.0 increment cycle }
+{
+    let max = app.counter_of(alarm).max as u64;
+    increment == 0 || max < increment || !is_cycle(app, alarm, cycle)
+}
+
+/// Whether SetAbsAlarm refuses these numbers.
+pub fn is_abs_refused(app: &App, alarm: AlarmNo, start: u64, cycle: u64) -> bool
+    requires { alarm.0 < length app.now.alarms }
+    ensures { result ≡ is_abs_refused_by app.now alarm.0 start cycle }
+{
+    (app.counter_of(alarm).max as u64) < start || !is_cycle(app, alarm, cycle)
+}
+
+/// The component of an alarm.
+pub fn alarm_component(app: &App, alarm: AlarmNo) -> ComponentNo
+    requires { alarm.0 < length app.now.alarms }
+    ensures { result.0 ≡ component_number_of app.now (component.Alarm alarm) }
+{
+    component_number(app, Component::Alarm(alarm))
+}
+
+fn becoming(alloc: Global, component: ComponentNo, armed: bool) -> Result<Seq<Change>, Memory>
+    ensures { IfOk result (λ changes. changes ≡ change component.0 (update.Set (OfAlarm armed)) ∷ []) }
+{
+    let mut changes = Seq::new(alloc);
+    changes.push(Change {
+        component,
+        update: Update::Set(PartValue::OfAlarm(armed)),
+    })?;
+    Ok(changes)
+}
+
+/// The cases of a service that arms an alarm, whose numbers may be refused.
+pub fn armings(
+    alloc: Global,
+    app: &App,
+    occasion: Occasion,
+    alarm: AlarmNo,
+    refused: bool,
+) -> Result<Seq<EffectCase>, Memory>
+    requires { alarm.0 < length app.now.alarms }
+    ensures { IfOk result (λ cases. cases ≡ map (case_at occasion) (armings_of app.now alarm.0 refused)) }
+{
+    let component = alarm_component(app, alarm);
+    let armed = only(alloc, component, Test::Is(PartValue::OfAlarm(true)))?;
+    let idle = only(alloc, component, Test::Is(PartValue::OfAlarm(false)))?;
+    let mut cases = one(alloc, occasion.refused(alloc, armed, Status::State)?)?;
+    if refused {
+        cases.push(occasion.refused(alloc, idle, Status::Value)?)?;
+        return Ok(cases);
+    }
+    let changes = becoming(alloc, component, true)?;
+    cases.push(occasion.accepted(idle, changes, false)?)?;
+    Ok(cases)
+}
+
+/// The cases of CancelAlarm.
+pub fn cancellings(
+    alloc: Global,
+    app: &App,
+    occasion: Occasion,
+    alarm: AlarmNo,
+) -> Result<Seq<EffectCase>, Memory>
+    requires { alarm.0 < length app.now.alarms }
+    ensures { IfOk result (λ cases. cases ≡ map (case_at occasion) (cancellings_of app.now alarm.0)) }
+{
+    let component = alarm_component(app, alarm);
+    let idle = only(alloc, component, Test::Is(PartValue::OfAlarm(false)))?;
+    let armed = only(alloc, component, Test::Is(PartValue::OfAlarm(true)))?;
+    let mut cases = one(alloc, occasion.refused(alloc, idle, Status::NoFunc)?)?;
+    let changes = becoming(alloc, component, false)?;
+    cases.push(occasion.accepted(armed, changes, false)?)?;
+    Ok(cases)
+}
+
+/// The cases of GetAlarm.
+pub fn alarm_readings(
+    alloc: Global,
+    app: &App,
+    occasion: Occasion,
+    alarm: AlarmNo,
+) -> Result<Seq<EffectCase>, Memory>
+    requires { alarm.0 < length app.now.alarms }
+    ensures { IfOk result (λ cases. cases ≡ map (case_at occasion) (alarm_readings_of app.now alarm.0)) }
+{
+    let component = alarm_component(app, alarm);
+    let idle = only(alloc, component, Test::Is(PartValue::OfAlarm(false)))?;
+    let armed = only(alloc, component, Test::Is(PartValue::OfAlarm(true)))?;
+    let mut cases = one(alloc, occasion.refused(alloc, idle, Status::NoFunc)?)?;
+    cases.push(occasion.accepted(armed, Seq::new(alloc), false)?)?;
+    Ok(cases)
+}
+
+/// Adds the cases of an alarm's action.
+fn add_actions(
+    alloc: Global,
+    app: &App,
+    occasion: Occasion,
+    entry: &Entry,
+    action: Action,
+    cases: &mut Seq<EffectCase>,
+) -> Result<(), Memory>
+    requires domains { domains entry.now ≡ domains_of app.now }
+    requires known { IsAction (tables app.now) action }
+    ensures { OnOk result (cases.new ≡ cases.old ++ map (case_at occasion) (actions_of app.now entry.now action)) }
+{
+    match action {
+        Action::ActivateTask(task) => add_activations(alloc, app, occasion, task, cases),
+        Action::SetEvent(task, mask) => {
+            let values = values_of(app, entry, task);
+            add_event_settings(alloc, app, occasion, values, task, mask, cases)
+        }
+    }
+}
+
+/// The cases of an alarm that a tick routine looks at.
+pub fn expiries(
+    alloc: Global,
+    app: &App,
+    runner: Runner,
+    next: BlockNo,
+    entry: &Entry,
+    alarm: AlarmNo,
+) -> Result<Seq<EffectCase>, Memory>
+    requires domains { domains entry.now ≡ domains_of app.now }
+    requires known { alarm.0 < length app.now.alarms }
+    ensures { IfOk result (λ cases. cases ≡ expiries_of app.now entry.now runner next alarm.0) }
+{
+    let component = alarm_component(app, alarm);
+    let action = app.alarm(alarm).action;
+    let looking = Occasion {
+        runner,
+        next,
+        asked: Asked::No,
+        expired: None,
+    };
+    let idle = only(alloc, component, Test::Is(PartValue::OfAlarm(false)))?;
+    let armed = only(alloc, component, Test::Is(PartValue::OfAlarm(true)))?;
+    let mut cases = one(alloc, looking.unnoted(alloc, idle)?)?;
+    cases.push(looking.unnoted(alloc, armed)?)?;
+    add_actions(
+        alloc,
+        app,
+        looking.expiring(component, false),
+        entry,
+        action,
+        &mut cases,
+    )?;
+    add_actions(
+        alloc,
+        app,
+        looking.expiring(component, true),
+        entry,
+        action,
+        &mut cases,
+    )?;
+    Ok(cases)
+}

@@ -1,0 +1,208 @@
+//! The cases of SetEvent, ClearEvent and GetEvent.
+ghost use Rattle.std.specs.Prelude.{◌≡◌, ◌<◌, ℕ, true, ◌++◌, length, map, All, IfOk, OnOk};
+ghost use Rattle.osek_values.specs.declared.numbers.BlockNo.{BlockNo};
+ghost use Rattle.osek_standard.specs.Apps.{the_task, awaited as awaited_at};
+ghost use Rattle.osek_standard.specs.Kernel.{has_bit as has_bit_of};
+ghost use Rattle.abstract_state.specs.Domains.{domains, domains_of};
+ghost use Rattle.flow_model.specs.Runners.{IsKnown};
+ghost use Rattle.flow_services.specs.Occasions.{case_at};
+ghost use Rattle.flow_services.specs.Services.{awaits as awaits_at, awaiting_blocks as awaiting_blocks_in, not_awaiting as not_awaiting_case, waking as waking_case, members_of, event_settings, event_clearings as event_clearings_of, event_readings as event_readings_of};
+
+use crate::occasion::{Occasion, one, only, task_component};
+use crate::tasks::{add_event_changes, add_live};
+use abstract_state::{Entry, PartValue, Val};
+use flow_model::{Condition, EffectCase, Runner, Test};
+use osek_standard::{App, Call, Kind, MaskService};
+use osek_values::{BlockNo, Mask, Memory, Seq, Status, TaskNo};
+use std::alloc::Global;
+
+/// The events that a task waits for at a block of this kind.
+fn awaited(kind: Kind) -> Mask
+    ensures { result.0 ≡ awaited_at kind }
+{
+    if let Kind::Call(Call::Mask(MaskService::WaitEvent, mask)) = kind {
+        mask
+    } else {
+        Mask(0)
+    }
+}
+
+/// Whether a task that waits at a block waits for one of these events.
+fn awaits(app: &App, block: BlockNo, events: Mask) -> bool
+    ensures { result ≡ awaits_at app.now events.0 block }
+{
+    if block.index() >= app.blocks.len() {
+        return false;
+    }
+    !awaited(app.block(block).kind).and(events).is_empty()
+}
+
+/// The blocks among these values at which a task waits for one of these events.
+fn awaiting_blocks(
+    alloc: Global,
+    app: &App,
+    values: &[PartValue],
+    events: Mask,
+) -> Result<Seq<BlockNo>, Memory>
+    ensures all { IfOk result (λ blocks. blocks ≡ awaiting_blocks_in app.now events.0 values.now) }
+    ensures there { IfOk result (λ blocks. All (λ (b : BlockNo). b.0 < length app.now.blocks) blocks) }
+{
+    let mut blocks = Seq::new(alloc);
+    for value in values {
+        if let PartValue::OfTask(Val::Waiting(block)) = value {
+            if awaits(app, *block, events) {
+                blocks.push(*block)?;
+            }
+        }
+    }
+    Ok(blocks)
+}
+
+/// The case in which the task isn't suspended and waits at none of these blocks: the events are set.
+fn not_awaiting(
+    alloc: Global,
+    app: &App,
+    occasion: Occasion,
+    task: TaskNo,
+    events: Mask,
+    blocks: &Seq<BlockNo>,
+) -> Result<EffectCase, Memory>
+    requires known { task.0 < length app.now.tasks }
+    requires own { (k : ℕ) → has_bit_of events.0 k ≡ true → has_bit_of (the_task app.now task.0).own.0 k ≡ true }
+    ensures { IfOk result (λ case. case ≡ case_at occasion (not_awaiting_case app.now task.0 events.0 blocks.now)) }
+{
+    let component = task_component(task);
+    let mut conditions = only(alloc, component, Test::NotSuspended)?;
+    for block in blocks.as_slice() {
+        conditions.push(Condition {
+            component,
+            test: Test::IsNot(PartValue::OfTask(Val::Waiting(*block))),
+        })?;
+    }
+    let mut changes = Seq::new(alloc);
+    add_event_changes(app, task, events, true, &mut changes)?;
+    occasion.accepted(conditions, changes, false)
+}
+
+/// The case in which the task waits at this block for one of the events: it is released from waiting.
+fn waking(
+    alloc: Global,
+    app: &App,
+    occasion: Occasion,
+    task: TaskNo,
+    events: Mask,
+    block: BlockNo,
+) -> Result<EffectCase, Memory>
+    requires known { task.0 < length app.now.tasks }
+    requires own { (k : ℕ) → has_bit_of events.0 k ≡ true → has_bit_of (the_task app.now task.0).own.0 k ≡ true }
+    requires there { block.0 < length app.now.blocks }
+    ensures { IfOk result (λ case. case ≡ case_at occasion (waking_case app.now task.0 events.0 block)) }
+{
+    let waits = PartValue::OfTask(Val::Waiting(block));
+    let conditions = only(alloc, task_component(task), Test::Is(waits))?;
+    let mut changes = Seq::new(alloc);
+    add_live(task, app.block(block).next, &mut changes)?;
+    add_event_changes(app, task, events, true, &mut changes)?;
+    occasion.accepted(conditions, changes, true)
+}
+
+fn add_wakings(
+    alloc: Global,
+    app: &App,
+    occasion: Occasion,
+    task: TaskNo,
+    events: Mask,
+    blocks: &Seq<BlockNo>,
+    cases: &mut Seq<EffectCase>,
+) -> Result<(), Memory>
+    requires known { task.0 < length app.now.tasks }
+    requires own { (k : ℕ) → has_bit_of events.0 k ≡ true → has_bit_of (the_task app.now task.0).own.0 k ≡ true }
+    requires there { All (λ (b : BlockNo). b.0 < length app.now.blocks) blocks.now }
+    ensures { OnOk result (cases.new ≡ cases.old ++ map (λ b. case_at occasion (waking_case app.now task.0 events.0 b)) blocks.now) }
+{
+    for block in blocks.as_slice() {
+        cases.push(waking(alloc, app, occasion, task, events, *block)?)?;
+    }
+    Ok(())
+}
+
+/// The values that a task may have by an entry.
+pub fn values_of<'a>(app: &App, entry: &'a Entry, task: TaskNo) -> &'a [PartValue]
+    requires domains { domains entry.now ≡ domains_of app.now }
+    requires known { task.0 < length app.now.tasks }
+    ensures { result.now ≡ members_of app.now entry.now task.0 }
+{
+    entry.sets.at(task.index()).members.as_slice()
+}
+
+/// Adds the cases of SetEvent, where these are the values that the task may have.
+pub fn add_event_settings(
+    alloc: Global,
+    app: &App,
+    occasion: Occasion,
+    values: &[PartValue],
+    task: TaskNo,
+    mask: Mask,
+    cases: &mut Seq<EffectCase>,
+) -> Result<(), Memory>
+    requires { task.0 < length app.now.tasks }
+    ensures { OnOk result (cases.new ≡ cases.old ++ map (case_at occasion) (event_settings app.now values.now task.0 mask.0)) }
+{
+    let own = app.task(task).own;
+    if own.is_empty() {
+        return cases.push(occasion.refused(alloc, Seq::new(alloc), Status::Access)?);
+    }
+    let events = mask.and(own);
+    let blocks = awaiting_blocks(alloc, app, values, events)?;
+    let suspended = only(alloc, task_component(task), Test::Suspended)?;
+    cases.push(occasion.refused(alloc, suspended, Status::State)?)?;
+    cases.push(not_awaiting(alloc, app, occasion, task, events, &blocks)?)?;
+    add_wakings(alloc, app, occasion, task, events, &blocks, cases)
+}
+
+/// The cases of ClearEvent.
+pub fn event_clearings(
+    alloc: Global,
+    app: &App,
+    occasion: Occasion,
+    mask: Mask,
+) -> Result<Seq<EffectCase>, Memory>
+    requires { IsKnown app.now occasion.runner }
+    ensures { IfOk result (λ cases. cases ≡ map (case_at occasion) (event_clearings_of app.now occasion.runner mask.0)) }
+{
+    let none = Seq::new(alloc);
+    let Runner::Task(task) = occasion.runner else {
+        return one(alloc, occasion.refused(alloc, none, Status::CallLevel)?);
+    };
+    let own = app.task(task).own;
+    if own.is_empty() {
+        return one(alloc, occasion.refused(alloc, none, Status::Access)?);
+    }
+    let mut changes = Seq::new(alloc);
+    add_event_changes(app, task, mask.and(own), false, &mut changes)?;
+    one(alloc, occasion.accepted(none, changes, false)?)
+}
+
+/// The cases of GetEvent.
+pub fn event_readings(
+    alloc: Global,
+    app: &App,
+    occasion: Occasion,
+    task: TaskNo,
+) -> Result<Seq<EffectCase>, Memory>
+    requires { task.0 < length app.now.tasks }
+    ensures { IfOk result (λ cases. cases ≡ map (case_at occasion) (event_readings_of app.now task.0)) }
+{
+    if app.task(task).own.is_empty() {
+        return one(
+            alloc,
+            occasion.refused(alloc, Seq::new(alloc), Status::Access)?,
+        );
+    }
+    let component = task_component(task);
+    let suspended = only(alloc, component, Test::Suspended)?;
+    let mut cases = one(alloc, occasion.refused(alloc, suspended, Status::State)?)?;
+    let conditions = only(alloc, component, Test::NotSuspended)?;
+    cases.push(occasion.accepted(conditions, Seq::new(alloc), false)?)?;
+    Ok(cases)
+}

@@ -1,0 +1,161 @@
+//! What all cases of a call have in common, and the parts of which they are made.
+ghost use Rattle.std.specs.Prelude.{◌≡◌, [], ◌∷◌, ◌++◌, IfOk, OnOk, OnErr};
+ghost use Rattle.flow_model.specs.Cases.{condition as condition_on};
+ghost use Rattle.flow_model.specs.Runners.{moving};
+ghost use Rattle.flow_services.specs.Occasions.{expired_conditions, expired_changes};
+
+use abstract_state::{ComponentNo, PartValue};
+use flow_model::{Asked, Change, Condition, EffectCase, Runner, Test, Update};
+use osek_values::{BlockNo, Memory, Seq, Status, TaskNo};
+use std::alloc::Global;
+
+/// An alarm that expired, and whether it is armed anew.
+#[derive(Clone, Copy)]
+pub struct Expired {
+    pub alarm: ComponentNo,
+    pub again: bool,
+}
+
+/// Where a service is called, or an alarm does its action.
+#[derive(Clone, Copy)]
+pub struct Occasion {
+    pub runner: Runner,
+    /// Where the runner goes on.
+    pub next: BlockNo,
+    /// What is asked where the service may lead to a dispatch.
+    pub asked: Asked,
+    /// The alarm whose action this is, if it is one.
+    pub expired: Option<Expired>,
+}
+
+/// The one condition that a component's value passes a test.
+pub fn only(alloc: Global, component: ComponentNo, test: Test) -> Result<Seq<Condition>, Memory>
+    ensures { IfOk result (λ conditions. conditions ≡ condition_on component.0 test ∷ []) }
+{
+    let mut conditions = Seq::new(alloc);
+    conditions.push(Condition { component, test })?;
+    Ok(conditions)
+}
+
+/// The component of a task.
+pub fn task_component(task: TaskNo) -> ComponentNo
+    ensures { result.0 ≡ task.0 }
+{
+    ComponentNo(task.0 as u16)
+}
+
+fn add_expired_condition(
+    expired: Option<Expired>,
+    conditions: &mut Seq<Condition>,
+) -> Result<(), Memory>
+    ensures { OnOk result (conditions.new ≡ conditions.old ++ expired_conditions expired) }
+{
+    if let Some(alarm) = expired {
+        conditions.push(Condition {
+            component: alarm.alarm,
+            test: Test::Is(PartValue::OfAlarm(true)),
+        })?;
+    }
+    Ok(())
+}
+
+fn add_expired_change(expired: Option<Expired>, changes: &mut Seq<Change>) -> Result<(), Memory>
+    ensures { OnOk result (changes.new ≡ changes.old ++ expired_changes expired) }
+{
+    if let Some(alarm) = expired {
+        changes.push(Change {
+            component: alarm.alarm,
+            update: Update::Set(PartValue::OfAlarm(alarm.again)),
+        })?;
+    }
+    Ok(())
+}
+
+fn add_move(runner: Runner, next: BlockNo, changes: &mut Seq<Change>) -> Result<(), Memory>
+    ensures { OnOk result (changes.new ≡ changes.old ++ moving runner next) }
+{
+    if let Runner::Task(task) = runner {
+        changes.push(Change {
+            component: task_component(task),
+            update: Update::Block(next),
+        })?;
+    }
+    Ok(())
+}
+
+impl Occasion {
+    ghost use Rattle.std.specs.Prelude.{◌≡◌, Some, IfOk};
+    ghost use Rattle.flow_services.specs.Occasions.{service_case, refused_case, accepted_case, unnoted_case, case_at};
+
+    /// A case of the service here.
+    pub fn case(
+        self,
+        mut conditions: Seq<Condition>,
+        mut changes: Seq<Change>,
+        status: Option<Status>,
+        may_dispatch: bool,
+    ) -> Result<EffectCase, Memory>
+        ensures { IfOk result (λ case. case ≡ case_at self (service_case conditions changes status may_dispatch)) }
+    {
+        add_expired_condition(self.expired, &mut conditions)?;
+        add_expired_change(self.expired, &mut changes)?;
+        add_move(self.runner, self.next, &mut changes)?;
+        Ok(EffectCase {
+            conditions,
+            changes,
+            asked: if may_dispatch { self.asked } else { Asked::No },
+            status,
+            point: self.runner.at(self.next),
+        })
+    }
+
+    /// The case of a call that is refused, which changes nothing.
+    pub fn refused(
+        self,
+        alloc: Global,
+        conditions: Seq<Condition>,
+        status: Status,
+    ) -> Result<EffectCase, Memory>
+        ensures { IfOk result (λ case. case ≡ case_at self (refused_case conditions status)) }
+    {
+        self.case(conditions, Seq::new(alloc), Some(status), false)
+    }
+
+    /// The case of a call that is accepted.
+    pub fn accepted(
+        self,
+        conditions: Seq<Condition>,
+        changes: Seq<Change>,
+        may_dispatch: bool,
+    ) -> Result<EffectCase, Memory>
+        ensures { IfOk result (λ case. case ≡ case_at self (accepted_case conditions changes may_dispatch)) }
+    {
+        self.case(conditions, changes, Some(Status::Ok), may_dispatch)
+    }
+
+    /// The same, as the action of an alarm that expired.
+    pub fn expiring(self, alarm: ComponentNo, again: bool) -> Occasion
+        ensures { result ≡ record self { expired = Some (record { alarm = alarm; again = again }) } }
+    {
+        Occasion {
+            expired: Some(Expired { alarm, again }),
+            ..self
+        }
+    }
+
+    /// The case of an instruction that notes no status and changes nothing.
+    pub fn unnoted(self, alloc: Global, conditions: Seq<Condition>) -> Result<EffectCase, Memory>
+        ensures { IfOk result (λ case. case ≡ case_at self (unnoted_case conditions)) }
+    {
+        self.case(conditions, Seq::new(alloc), None, false)
+    }
+}
+
+/// The list of one case.
+pub fn one(alloc: Global, case: EffectCase) -> Result<Seq<EffectCase>, Memory>
+    ensures { IfOk result (λ cases. cases ≡ case ∷ []) }
+{
+    let mut cases = Seq::new(alloc);
+    cases.push(case)?;
+    Ok(cases)
+}

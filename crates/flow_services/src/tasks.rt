@@ -1,0 +1,95 @@
+//! The cases of ActivateTask, and what becomes of a task and its events.
+ghost use Rattle.std.specs.Prelude.{◌≡◌, ◌<◌, ℕ, true, [], ◌∷◌, ◌++◌, length, map, IfOk, OnOk};
+ghost use Rattle.osek_standard.specs.Apps.{the_task};
+ghost use Rattle.osek_standard.specs.Kernel.{has_bit as has_bit_of};
+ghost use Rattle.abstract_state.specs.declared.value.Val.TheVariants.{Live};
+ghost use Rattle.abstract_state.specs.Components.{live_val};
+ghost use Rattle.flow_model.specs.Changes.{event_changes, task_change, activating as activating_of};
+ghost use Rattle.flow_services.specs.Occasions.{case_at};
+ghost use Rattle.flow_services.specs.Services.{activations};
+
+use crate::occasion::{Occasion, only, task_component};
+use abstract_state::{Component, LiveVal, PartValue, Val, component_number};
+use flow_model::{Change, EffectCase, Test, Update};
+use osek_standard::App;
+use osek_values::{BlockNo, EventNo, Held, Mask, Memory, Seq, Status, TaskNo};
+use std::alloc::Global;
+
+fn has_bit(bits: u64, bit: u8) -> bool
+    requires { bit < 64 }
+    ensures { result ≡ has_bit_of bits bit }
+{
+    (bits >> bit) % 2 == 1
+}
+
+/// Adds the changes by which these events of a task become set or unset.
+pub fn add_event_changes(
+    app: &App,
+    task: TaskNo,
+    events: Mask,
+    set: bool,
+    changes: &mut Seq<Change>,
+) -> Result<(), Memory>
+    requires known { task.0 < length app.now.tasks }
+    requires own { (k : ℕ) → has_bit_of events.0 k ≡ true → has_bit_of (the_task app.now task.0).own.0 k ≡ true }
+    ensures { OnOk result (changes.new ≡ changes.old ++ event_changes app.now task.0 events.0 set) }
+{
+    for bit in 0..64 {
+        if has_bit(events.0, bit) {
+            let event = Component::Event {
+                task,
+                bit: EventNo(bit),
+            };
+            changes.push(Change {
+                component: component_number(app, event),
+                update: Update::Set(PartValue::OfEvent(set)),
+            })?;
+        }
+    }
+    Ok(())
+}
+
+/// Adds the change by which a task becomes Live at a block, with nothing held.
+pub fn add_live(task: TaskNo, block: BlockNo, changes: &mut Seq<Change>) -> Result<(), Memory>
+    ensures { OnOk result (changes.new ≡ changes.old ++ task_change task.0 (Live (live_val block [])) ∷ []) }
+{
+    changes.push(Change {
+        component: task_component(task),
+        update: Update::Set(PartValue::OfTask(Val::Live(LiveVal {
+            block,
+            held: Held::new(),
+        }))),
+    })
+}
+
+/// What becomes of the components by an activation.
+pub fn activating(alloc: Global, app: &App, task: TaskNo) -> Result<Seq<Change>, Memory>
+    requires { task.0 < length app.now.tasks }
+    ensures { IfOk result (λ changes. changes ≡ activating_of app.now task.0) }
+{
+    let own = app.task(task).own;
+    let mut changes = Seq::new(alloc);
+    add_live(task, app.task(task).first, &mut changes)?;
+    add_event_changes(app, task, own, false, &mut changes)?;
+    Ok(changes)
+}
+
+/// Adds the cases of ActivateTask.
+pub fn add_activations(
+    alloc: Global,
+    app: &App,
+    occasion: Occasion,
+    task: TaskNo,
+    cases: &mut Seq<EffectCase>,
+) -> Result<(), Memory>
+    requires { task.0 < length app.now.tasks }
+    ensures { OnOk result (cases.new ≡ cases.old ++ map (case_at occasion) (activations app.now task.0)) }
+{
+    let component = task_component(task);
+    let full = only(alloc, component, Test::NotSuspended)?;
+    cases.push(occasion.refused(alloc, full, Status::Limit)?)?;
+    let free = only(alloc, component, Test::Suspended)?;
+    let changes = activating(alloc, app, task)?;
+    cases.push(occasion.accepted(free, changes, true)?)?;
+    Ok(())
+}

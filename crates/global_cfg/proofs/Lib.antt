@@ -1,0 +1,7 @@
+pub mod ListTurns
+pub mod Pairs
+pub mod PointPlaces
+pub mod LeadingOn
+pub mod Targeting
+pub mod TableRows
+pub mod EdgeLists

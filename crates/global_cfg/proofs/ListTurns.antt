@@ -1,0 +1,13 @@
+-- The turns of a loop over a list.
+use Rattle.std.proofs.Common.{◌≡◌, ℕ, ◌+◌, ◌<◌, List, [], ◌∷◌, ◌++◌, length, get_or, take, sym, ap, subst, ◌∙◌}
+use Rattle.std.specs.Prelude.{Contains}
+use Rattle.std.proofs.lemmas.List.{take_more}
+use Rattle.std.proofs.lemmas.List.Elements.{Contains-get_or}
+
+module _ {X : Type 0} (items : List X) (i : ℕ) (x : X) (lt : i < length items) (is : x ≡ get_or items i x) where
+  -- what is done after a turn
+  pub turn_done : take i items ++ x ∷ [] ≡ take (i + 1) items
+  turn_done = ap (λ (y : X). take i items ++ y ∷ []) is ∙ sym (take_more items i x lt)
+
+  pub turn_listed : Contains items x
+  turn_listed = subst (Contains items) (sym is) (Contains-get_or items i x lt)

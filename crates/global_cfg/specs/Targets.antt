@@ -1,0 +1,47 @@
+-- The points to which edges lead from one point, by the states of its entry.
+use Rattle.std.specs.Prelude.{◌≡◌, ◌≢◌, ◌⊎◌, ◌||◌, ◌==◌, not, Bool, true, false, List, Some, None, Contains}
+use Rattle.std.specs.declared.option.Option.{Option}
+use Rattle.osek_values.specs.declared.event.Event.{Event}
+use Rattle.osek_standard.specs.declared.app.App.{App}
+use Rattle.osek_standard.specs.declared.state.State.{State}
+use Rattle.osek_standard.specs.declared.point.Point.{Point}
+use Rattle.osek_standard.specs.Points.{point_of, point_number}
+use Rattle.osek_standard.specs.Kernel.{step}
+use Rattle.abstract_state.specs.declared.table.Entry.{Entry}
+use Rattle.abstract_state.specs.Forms.{IsAnew}
+use Rattle.flow_model.specs.declared.case.Decision.{Decision}
+use Rattle.flow_model.specs.declared.case.Decision.TheVariants as decision
+use Rattle.flow_model.specs.declared.rule.Rule.{Rule}
+use Rattle.flow_model.specs.Effects.{IsAt}
+use Rattle.flow_model.specs.Rules.{Applies}
+use Rattle.global_cfg.specs.PointOrder.{AreInOrder}
+
+-- the scheduler gives the processor to a task
+abbrev pub dispatches : Option Decision → Bool
+dispatches None = false
+dispatches (Some decision.Keep) = false
+dispatches (Some (decision.To None)) = false
+dispatches (Some (decision.To (Some t))) = true
+
+-- the rule's step ends at another point than p, or dispatches a task
+abbrev pub leads_on : Rule → Point → Bool
+leads_on rule p = not (point_number rule.target == point_number p) || dispatches rule.decision
+
+-- the rule has a result for the entry
+pub record IsTaken (rule : Rule) (entry : Entry) : Type 0 where
+  pub new : Entry
+  pub applies : Applies rule entry new
+
+-- some state of the entry at p steps to a state at q, and q is another point or the task of p is dispatched anew
+pub record LeadsTo (app : App) (p : Point) (entry : Entry) (q : Point) : Type 0 where
+  pub from : State
+  pub event : Event
+  pub at : IsAt app p entry from
+  pub ends : point_of (step app from event).state ≡ q
+  pub moves : (p ≢ q) ⊎ IsAnew app from event
+
+-- These are the points to which edges lead, in their order.
+pub record AreTargets (app : App) (p : Point) (entry : Entry) (targets : List Point) : Type 0 where
+  pub order : AreInOrder targets
+  pub each : (q : Point) → Contains targets q → LeadsTo app p entry q
+  pub all : (q : Point) → LeadsTo app p entry q → Contains targets q

@@ -1,0 +1,44 @@
+//! The control-flow graph of a table.
+ghost use Rattle.std.specs.Prelude.{◌≡◌, ◌++◌, ◌↔◌, map, Contains, IfOk, OnOk};
+ghost use Rattle.osek_standard.specs.declared.point.Point.{Point};
+ghost use Rattle.abstract_state.specs.Forms.{Edge};
+ghost use Rattle.abstract_state.specs.Tables.{sets_of};
+ghost use Rattle.abstract_state.specs.Written.{IsWritten};
+ghost use Rattle.global_cfg.specs.Edges.{flow_edge, AreAscending};
+
+use crate::targets::targets;
+use abstract_state::{Point, Table};
+use osek_standard::App;
+use osek_values::{Memory, Seq};
+use std::alloc::Global;
+
+/// An edge: control flow leads from a point to another, or to the same one where its task is dispatched anew.
+#[derive(Clone, Copy, PartialEq, Eq, Debug)]
+pub struct FlowEdge {
+    pub from: Point,
+    pub to: Point,
+}
+
+/// The edges that a table of the application dictates, by where they begin and then by where they end.
+pub fn edges(alloc: Global, app: &App, table: &Table) -> Result<Seq<FlowEdge>, Memory>
+    requires written { IsWritten app.now table.now }
+    ensures exact { IfOk result (λ edges. (p q : Point) → Contains edges (flow_edge p q) ↔ Edge app.now (sets_of table.now) p q) }
+    ensures ascending { IfOk result AreAscending }
+{
+    let mut edges = Seq::new(alloc);
+    for row in table.rows.as_slice() {
+        let targets = targets(alloc, app, row.point, &row.entry)?;
+        add_edges(&mut edges, row.point, targets.as_slice())?;
+    }
+    Ok(edges)
+}
+
+// adds the edges from a point to these targets
+fn add_edges(edges: &mut Seq<FlowEdge>, from: Point, targets: &[Point]) -> Result<(), Memory>
+    ensures { OnOk result (edges.new ≡ edges.old ++ map (flow_edge from) targets.now) }
+{
+    for to in targets {
+        edges.push(FlowEdge { from, to: *to })?;
+    }
+    Ok(())
+}

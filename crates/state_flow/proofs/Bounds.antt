@@ -1,0 +1,84 @@
+-- Rows stand at different points, so there are no more of them than points, nor of their values than these times the height.
+use Rattle.std.proofs.Common.{◌≡◌, ℕ, ◌+◌, ◌*◌, ◌<◌, ◌≤◌, List, length, map, get_or, IsTrue, sym, ap, subst, arith}
+use Rattle.std.specs.Prelude.{Contains}
+use Rattle.std.specs.List.{list_any}
+use Rattle.std.specs.Cmp.{IsEquivalence}
+use Rattle.std.specs.Ordering.{nat_cmp, eq_by_cmp}
+use Rattle.std.proofs.Math.Nat.{mul-le-mul}
+use Rattle.std.proofs.lemmas.Cmp.{nat_cmp_total, eq_by_cmp_equiv}
+use Rattle.std.proofs.lemmas.List.{length-map}
+use Rattle.std.proofs.lemmas.List.Sums.{sum_by-le}
+use Rattle.std.proofs.lemmas.Map.Keys.{IsDistinct-from_sorted}
+use Rattle.std.proofs.lemmas.Map.Lookups.{exact_unsigned}
+use Rattle.std.proofs.lemmas.Map.Made.{length-le_from_is_member}
+use Rattle.std.proofs.lemmas.Map.Views.{Contains-from_any, list_any-from_Contains, tells_apart}
+use Rattle.osek_standard.specs.declared.app.App.{App}
+use Rattle.osek_standard.specs.Counts.{points, height}
+use Rattle.osek_standard.specs.Points.{point_number, IsPoint}
+use Rattle.osek_standard.proofs.Members.{among_map, map_among, contained_among, among_contained}
+use Rattle.osek_standard.proofs.PointLaws.{counted}
+use Rattle.abstract_state.specs.declared.table.{Entry.{Entry}, TableRow.{TableRow}, Table.{Table}}
+use Rattle.abstract_state.specs.Domains.{HasMasks}
+use Rattle.abstract_state.specs.Tables.{entry_values, value_count}
+use Rattle.abstract_state.specs.Written.{IsWritten}
+use Rattle.abstract_state.proofs.DomainValues.{domain_counted}
+use Rattle.abstract_state.proofs.LatticeLaws.{most_values}
+use Rattle.abstract_state.proofs.HeightLaws.{entry_height_is, sum_map}
+use Rattle.state_flow.specs.declared.cells.Cell.{Cell}
+use Rattle.state_flow.specs.Cells.{IsWaitingAt, NoneWaitsFrom}
+use Rattle.state_flow.specs.Rows.{row_of, table_of}
+use Rattle.state_flow.specs.Progress.{values_in, Progress}
+use Rattle.state_flow.proofs.RowLaws.{written}
+use Rattle.state_flow.proofs.Closing.{room_left, counted_at_end}
+
+same_laws : IsEquivalence (eq_by_cmp nat_cmp)
+same_laws = eq_by_cmp_equiv nat_cmp_total
+
+abbrev number_of : TableRow → ℕ
+number_of row = point_number row.point
+
+module _ (app : App) (table : Table) (written : IsWritten app table) where
+  -- the number of a row is that of a point
+  among_points : (n : ℕ) → IsTrue (list_any (eq_by_cmp nat_cmp n) (map number_of table.rows)) → IsTrue (list_any (eq_by_cmp nat_cmp n) (map point_number (counted app).0))
+  among_points n h =
+      let row = map_among number_of n table.rows (contained_among (map number_of table.rows) n (Contains-from_any (tells_apart exact_unsigned) n (map number_of table.rows) h)) in
+      let at = among_contained table.rows row.0 row.1 in
+      let point = ap (λ (x : TableRow). x.point) at.2 in
+      let known = (written.rows at.0 row.0 at.1).point in
+      let listed = (counted app).1.0.each row.0.point (subst (λ (x : TableRow). IsPoint app x.point) at.2 known) in
+      list_any-from_Contains same_laws n (map point_number (counted app).0)
+      (subst (Contains (map point_number (counted app).0)) (sym row.2) (among_contained (map point_number (counted app).0) (number_of row.0) (among_map point_number row.0.point (counted app).0 (contained_among (counted app).0 row.0.point listed))))
+
+  pub rows_few : length table.rows ≤ points app
+  rows_few =
+      let most = length-le_from_is_member same_laws (map number_of table.rows) (map point_number (counted app).0) (IsDistinct-from_sorted nat_cmp (map number_of table.rows) written.ascending) among_points in
+      omega (arith, most, length-map table.rows number_of, length-map (counted app).0 point_number, (counted app).1.1)
+
+  pub entry_few : HasMasks app → (i : ℕ) (d : TableRow) → i < length table.rows → entry_values (get_or table.rows i d).entry ≤ height app
+  entry_few masks i d lt =
+      let row = written.rows i d lt in
+      let entry = (get_or table.rows i d).entry in
+      omega (arith, most_values domain_counted entry row.sound, entry_height_is app masks entry row.domains)
+
+  pub values_few : HasMasks app → value_count table ≤ points app * height app
+  values_few masks =
+      let sum = sum_by-le (λ (row : TableRow). entry_values row.entry) (height app) table.rows (entry_few masks) in
+      omega (arith, sum, mul-le-mul {n₁ = length table.rows} {m₁ = height app} {n₂ = points app} {m₂ = height app} rows_few (omega arith))
+
+-- so it is with the table of cells
+pub values_same : (cells : List (Cell Entry)) → value_count (table_of cells) ≡ values_in cells
+values_same cells = sum_map (λ (row : TableRow). entry_values row.entry) row_of cells
+
+-- while a cell waits, fewer evaluations were made than points and their values
+pub room : (app : App) → HasMasks app → (cells : List (Cell Entry)) (n place : ℕ) → Progress app cells n → IsWaitingAt cells place → n < points app + points app * height app
+room app masks cells n place progress at =
+    let whole = written app cells progress.cells_proper in
+    omega (arith, room_left app cells n place progress at, rows_few app (table_of cells) whole, values_few app (table_of cells) whole masks, values_same cells, length-map cells row_of)
+
+-- at the end each row was evaluated, and no more often than rows and values came in
+pub rows_evaluated : (app : App) (cells : List (Cell Entry)) (n : ℕ) → Progress app cells n → NoneWaitsFrom cells 0 → length (map row_of cells) ≤ n
+rows_evaluated app cells n progress none = omega (arith, (counted_at_end app cells n progress none).1, length-map cells row_of)
+
+pub evaluations_few : (app : App) (cells : List (Cell Entry)) (n : ℕ) → Progress app cells n → NoneWaitsFrom cells 0 → n ≤ points app + value_count (table_of cells)
+evaluations_few app cells n progress none =
+    omega (arith, (counted_at_end app cells n progress none).0, rows_few app (table_of cells) (written app cells progress.cells_proper), values_same cells, length-map cells row_of)

@@ -1,0 +1,9 @@
+pub mod CellLists
+pub mod EntryUnion
+pub mod RowLaws
+pub mod ReachedRows
+pub mod StartEntry
+pub mod Joining
+pub mod Closing
+pub mod Bounds
+pub mod Sizes

@@ -1,0 +1,8 @@
+use Rattle.std.proofs.Common.{sym, ap₂, subst}
+use Rattle.state_flow.specs.Rows.{row_at, IsProperRow}
+use Rattle.state_flow.proofs.StartEntry.{row_proper}
+use Rattle.state_flow.proofs.state_row.row_of.Goals as goal
+
+pub returns-clause-proper : goal.returns-clause-proper
+returns-clause-proper c =
+    subst (IsProperRow c.args.app.now) (sym (ap₂ row_at c.point_of.ensures c.in_ok-entry_of.ensures)) (row_proper c.args.app.now c.masks_are_few.ensures c.args.state.now c.requires)

@@ -1,0 +1,112 @@
+-- Points that were reached, with what is known of each, in the order of the points.
+use Rattle.std.specs.Prelude.{◌≡◌, ◌⊎◌, ℕ, ◌+◌, ◌<◌, ◌≤◌, true, false, List, length, slice_index_or, sum_by, if◌then◌else◌, Contains}
+use Rattle.osek_standard.specs.declared.point.Point.{Point}
+use Rattle.osek_standard.specs.Points.{point_number}
+use Rattle.state_flow.specs.declared.cells.Cell.{Cell}
+
+module _ {E : Type 0} where
+  abbrev pub cell_number : Cell E → ℕ
+  cell_number cell = point_number cell.point
+
+  -- in the order of their points, none twice
+  pub record AreInOrder (cells : List (Cell E)) : Type 0 where
+    pub before : (i j : ℕ) (d : Cell E) → i < j → j < length cells → cell_number (slice_index_or cells i d) < cell_number (slice_index_or cells j d)
+
+  -- a cell with this number stands there
+  pub record IsPlaceOf (cells : List (Cell E)) (number place : ℕ) : Type 0 where
+    pub known : place < length cells
+    pub is : (d : Cell E) → cell_number (slice_index_or cells place d) ≡ number
+
+  -- no cell has this number, and one that has it belongs there
+  pub record IsGapFor (cells : List (Cell E)) (number gap : ℕ) : Type 0 where
+    pub known : gap ≤ length cells
+    pub below : (k : ℕ) (d : Cell E) → k < gap → cell_number (slice_index_or cells k d) < number
+    pub above : (k : ℕ) (d : Cell E) → gap ≤ k → k < length cells → number < cell_number (slice_index_or cells k d)
+
+  -- the cells below the place have numbers up to this one, and the others have higher ones
+  pub record IsBehind (cells : List (Cell E)) (number place : ℕ) : Type 0 where
+    pub known : place ≤ length cells
+    pub below : (k : ℕ) (d : Cell E) → k < place → cell_number (slice_index_or cells k d) ≤ number
+    pub above : (k : ℕ) (d : Cell E) → place ≤ k → k < length cells → number < cell_number (slice_index_or cells k d)
+
+  pub record IsWaitingAt (cells : List (Cell E)) (place : ℕ) : Type 0 where
+    pub known : place < length cells
+    pub waits : (d : Cell E) → (slice_index_or cells place d).waiting ≡ true
+
+  -- no cell of these places waits
+  abbrev pub NoneWaitsWithin : List (Cell E) → ℕ → ℕ → Type 0
+  NoneWaitsWithin cells from end = (k : ℕ) (d : Cell E) → from ≤ k → k < end → (slice_index_or cells k d).waiting ≡ false
+
+  abbrev pub NoneWaitsFrom : List (Cell E) → ℕ → Type 0
+  NoneWaitsFrom cells from = NoneWaitsWithin cells from (length cells)
+
+  -- the first cell that waits from a place on
+  pub record IsFirstWaiting (cells : List (Cell E)) (from place : ℕ) : Type 0 where
+    pub behind : from ≤ place
+    pub waits : IsWaitingAt cells place
+    pub first : NoneWaitsWithin cells from place
+
+  -- the same, or, where none waits there, the first of all
+  abbrev pub IsNextWaiting : List (Cell E) → ℕ → ℕ → Type 0
+  IsNextWaiting cells from place = IsFirstWaiting cells from place ⊎ (NoneWaitsFrom cells from × IsFirstWaiting cells 0 place)
+
+  abbrev pub waits : Cell E → ℕ
+  waits cell = if cell.waiting then 1 else 0
+
+  -- how many cells wait
+  abbrev pub waiting_count : List (Cell E) → ℕ
+  waiting_count cells = sum_by waits cells
+
+  -- it is of the point, and has this entry
+  pub record IsNewCell (point : Point) (entry : E) (cell : Cell E) : Type 0 where
+    pub at : cell.point ≡ point
+    pub is : cell.entry ≡ entry
+
+abbrev pub ranks : {E : Type 0} → (E → ℕ) → List (Cell E) → ℕ
+ranks rank cells = sum_by (λ cell. rank cell.entry) cells
+
+-- The cells may take the entry at the point: they can be joined, and no cell of another point has its number.
+pub record MayJoin {E : Type 0} (IsElement : E → Type 0) (AreAlike : E → E → Type 0) (cells : List (Cell E)) (point : Point) (entry : E) : Type 0 where
+  pub one : (cell : Cell E) → Contains cells cell → cell_number cell ≡ point_number point → cell.point ≡ point
+  pub elements : (cell : Cell E) → Contains cells cell → IsElement cell.entry
+  pub alike : (cell : Cell E) → Contains cells cell → AreAlike cell.entry entry
+  pub element : IsElement entry
+
+-- a cell of the point has this entry or one above it
+pub record HasAbove {E : Type 0} (IsLower : E → E → Type 0) (cells : List (Cell E)) (point : Point) (entry : E) : Type 0 where
+  pub cell : Cell E
+  pub among : Contains cells cell
+  pub at : cell.point ≡ point
+  pub above : IsLower entry cell.entry
+
+-- in the words of a lattice
+module _ {E : Type 0} (IsElement : E → Type 0) (AreAlike IsLower : E → E → Type 0) (rank : E → ℕ) where
+  -- An entry was joined to the cell's. The cell waits where it grew.
+  pub record IsRaised (cell : Cell E) (entry : E) (after : Cell E) : Type 0 where
+    pub point : after.point ≡ cell.point
+    pub element : IsElement after.entry
+    pub alike : AreAlike cell.entry after.entry
+    pub grows : IsLower cell.entry after.entry
+    pub joins : IsLower entry after.entry
+    pub least : (z : E) → IsLower cell.entry z → IsLower entry z → IsLower after.entry z
+    pub stays : waits cell ≤ waits after
+    pub counts : waits after + rank cell.entry ≤ waits cell + rank after.entry
+    pub same : after.waiting ≡ false → after ≡ cell
+
+  -- it is a cell of the point to whose entry this one was joined
+  pub record IsRaisedCell (cells : List (Cell E)) (point : Point) (entry : E) (cell : Cell E) : Type 0 where
+    pub old : Cell E
+    pub among : Contains cells old
+    pub at : old.point ≡ point
+    pub raised : IsRaised old entry cell
+
+  -- The entry was joined to the cell of its point, or stands in a new one; the other cells stay. A cell that doesn't wait
+  -- stood there as it is, and no more cells are to be evaluated than cells and values came in.
+  pub record IsJoined (cells : List (Cell E)) (point : Point) (entry : E) (after : List (Cell E)) : Type 0 where
+    pub order : AreInOrder after
+    pub kept : (cell : Cell E) → Contains after cell → cell.waiting ≡ false → Contains cells cell
+    pub grows : (cell : Cell E) → Contains cells cell → HasAbove IsLower after cell.point cell.entry
+    pub joins : HasAbove IsLower after point entry
+    pub from : (cell : Cell E) → Contains after cell → Contains cells cell ⊎ (IsNewCell point entry cell ⊎ IsRaisedCell cells point entry cell)
+    pub counts : waiting_count after + (length cells + ranks rank cells) ≤ waiting_count cells + (length after + ranks rank after)
+    pub sizes : length after + waiting_count cells ≤ length cells + waiting_count after

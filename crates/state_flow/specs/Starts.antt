@@ -1,0 +1,35 @@
+-- The entry of one state, and the rows of the starts.
+use Rattle.std.specs.Prelude.{◌≡◌, ◌<◌, [], ◌∷◌, length, map}
+use Rattle.osek_values.specs.declared.numbers.ModeNo.{ModeNo}
+use Rattle.osek_standard.specs.declared.app.App.{App}
+use Rattle.osek_standard.specs.declared.state.State.{State}
+use Rattle.osek_standard.specs.Kernel.{start}
+use Rattle.osek_standard.specs.Points.{point_of}
+use Rattle.abstract_state.specs.declared.value.{Component.{Component}, Domain.{Domain}, PartValue.{PartValue}}
+use Rattle.abstract_state.specs.declared.value.Component.TheVariants as component
+use Rattle.abstract_state.specs.declared.table.{ValueSet.{ValueSet}, Entry.{Entry}, TableRow.{TableRow}}
+use Rattle.abstract_state.specs.Components.{components, part_of, abstract_of}
+use Rattle.abstract_state.specs.Domains.{domain_of}
+use Rattle.abstract_state.specs.Tables.{Sets, Inductive}
+use Rattle.flow_model.specs.Effects.{AreIn}
+use Rattle.state_flow.specs.Rows.{IsProperRow, IsRowIn}
+
+-- the state's tables have the component
+abbrev pub HasPart : State → Component → Type 0
+HasPart s (component.Task t) = t.0 < length s.tasks
+HasPart s (component.Event t k) = (t.0 < length s.tasks) × (k.0 < 64)
+HasPart s (component.Alarm a) = a.0 < length s.alarms
+
+abbrev pub single : Domain → PartValue → ValueSet
+single d v = record { domain = d; members = v ∷ [] }
+
+-- The entry that has a state alone.
+abbrev pub entry_of : App → State → Entry
+entry_of app s = record { sets = map (λ k. single (domain_of app k) (part_of s k)) (components app) }
+
+-- The row of the start in a mode: the start is in each table that has the row, and each inductive table has it.
+pub record IsStartRow (app : App) (mode : ModeNo) (row : TableRow) : Type 0 where
+  pub proper : IsProperRow app row
+  pub point : point_of (start app mode).state ≡ row.point
+  pub within : AreIn app row.entry (abstract_of app (start app mode).state)
+  pub least : (other : Sets) → Inductive app other → IsRowIn other row

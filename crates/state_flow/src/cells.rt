@@ -1,0 +1,107 @@
+//! Points that were reached, with what is known of each, in the order of the points.
+ghost use Rattle.std.specs.Prelude.{◌≡◌, ◌≤◌, IfOk, IfErr, OnOk, IfSome, IfNone};
+ghost use Rattle.state_flow.specs.Cells.{AreInOrder, IsPlaceOf, IsGapFor, IsBehind, NoneWaitsFrom, IsFirstWaiting, IsNextWaiting, MayJoin, IsJoined};
+ghost use Rattle.osek_standard.specs.Points.{point_number};
+
+use entry_lattice::Lattice;
+use osek_standard::Point;
+use osek_values::Memory;
+
+/// A point that was reached, and what the states there can be like.
+#[derive(Drop)]
+pub struct Cell<E> {
+    pub point: Point,
+    pub entry: E,
+    /// It is to be evaluated: it is new, or its entry grew since it was.
+    pub waiting: bool,
+}
+
+impl<E: Lattice> Cell<E> {
+    ghost use Rattle.std.specs.Prelude.{OnOk};
+    ghost use Rattle.state_flow.specs.Cells.{IsRaised};
+
+    /// Joins another entry in. The cell waits where its entry grew.
+    fn raise(&mut self, other: &E) -> Result<(), Memory>
+        requires element { E.is_element self.old.entry }
+        requires of_element { E.is_element other.now }
+        requires alike { E.alike self.old.entry other.now }
+        ensures { OnOk result (IsRaised E.is_element E.alike E.is_below E.rank self.old other.now self.new) }
+    {
+        let added = self.entry.join_into(other)?;
+        if added > 0 {
+            self.waiting = true;
+        }
+        Ok(())
+    }
+}
+
+/// The place of a point's cell, or the one where it belongs.
+fn place_of<E>(cells: &[Cell<E>], point: Point) -> Result<usize, usize>
+    requires { AreInOrder cells.now }
+    ensures place { IfOk result (IsPlaceOf cells.now (point_number point)) }
+    ensures gap { IfErr result (IsGapFor cells.now (point_number point)) }
+{
+    let number = point.number();
+    let place = cells.partition_point(|cell| cell.point.number() < number);
+    if place < cells.len() && cells[place].point.number() == number {
+        Ok(place)
+    } else {
+        Err(place)
+    }
+}
+
+/// The first place behind a point's.
+pub fn place_behind<E>(cells: &[Cell<E>], point: Point) -> usize
+    requires { AreInOrder cells.now }
+    ensures { IsBehind cells.now (point_number point) result }
+{
+    let number = point.number();
+    cells.partition_point(|cell| cell.point.number() <= number)
+}
+
+fn waiting_from<E>(cells: &[Cell<E>], from: usize) -> Option<usize>
+    ensures found { IfSome result (IsFirstWaiting cells.now from) }
+    ensures none { IfNone result (NoneWaitsFrom cells.now from) }
+{
+    for place in from..cells.len() {
+        if cells[place].waiting {
+            return Some(place);
+        }
+    }
+    None
+}
+
+/// The place of the next cell that waits, from a place on, or else from the first one.
+pub fn next_waiting<E>(cells: &[Cell<E>], from: usize) -> Option<usize>
+    ensures found { IfSome result (IsNextWaiting cells.now from) }
+    ensures none { IfNone result (NoneWaitsFrom cells.now 0) }
+{
+    match waiting_from(cells, from) {
+        Some(place) => Some(place),
+        None => waiting_from(cells, 0),
+    }
+}
+
+/// Joins an entry into the cell of its point, or puts the point in with it.
+pub fn join<E: Lattice + Drop>(
+    cells: &mut Vec<Cell<E>>,
+    point: Point,
+    entry: E,
+) -> Result<(), Memory>
+    requires order { AreInOrder cells.old.items }
+    requires may { MayJoin E.is_element E.alike cells.old.items point entry }
+    ensures { OnOk result (IsJoined E.is_element E.alike E.is_below E.rank cells.old.items point entry cells.new.items) }
+{
+    match place_of(cells.as_slice(), point) {
+        Ok(place) => cells[place].raise(&entry)?,
+        Err(gap) => cells.insert(
+            gap,
+            Cell {
+                point,
+                entry,
+                waiting: true,
+            },
+        )?,
+    }
+    Ok(())
+}

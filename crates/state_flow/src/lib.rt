@@ -1,0 +1,13 @@
+//! The least table of possible states of an application.
+#![tactic(auto)]
+
+mod cells;
+mod counts;
+mod evaluation;
+mod least_table;
+mod starts;
+mod state_row;
+
+pub use counts::values;
+pub use least_table::solve;
+pub use state_row::row_of;

@@ -1,0 +1,132 @@
+//! The row of one state.
+ghost use Rattle.std.specs.Prelude.{◌≡◌, ◌<◌, [], ◌∷◌, length, map, IfOk};
+ghost use Rattle.osek_standard.specs.Points.{point_of as point_of_state};
+ghost use Rattle.osek_standard.specs.Kernel.{has_bit as has_bit_of};
+ghost use Rattle.osek_standard.specs.Well.{Well};
+ghost use Rattle.abstract_state.specs.Components.{IsComponent, value_in as value_of_activity, is_armed as is_armed_state, part_of};
+ghost use Rattle.abstract_state.specs.Domains.{domain_of as domain_of_component};
+ghost use Rattle.state_flow.specs.Rows.{row_at, IsProperRow};
+ghost use Rattle.state_flow.specs.Starts.{HasPart, single as single_set, entry_of as entry_of_state};
+
+use abstract_state::{
+    Component, Domain, Entry, LiveVal, PartValue, Point, TableRow, Val, ValueSet, components,
+    masks_are_few,
+};
+use generic_kernel::here;
+use osek_standard::{Activity, AlarmState, App, Processor, State};
+use osek_values::{Memory, Seq};
+use std::alloc::Global;
+
+/// The row that has one state alone: the state's point, and an entry with the value of each of its components.
+pub fn row_of(alloc: Global, app: &App, state: &State) -> Result<TableRow, Memory>
+    requires { Well app.now state.now }
+    ensures row { IfOk result (λ row. row ≡ row_at (point_of_state state.now) (entry_of_state app.now state.now)) }
+    ensures proper { IfOk result (IsProperRow app.now) }
+{
+    masks_are_few(app);
+    Ok(TableRow {
+        point: point_of(app, state),
+        entry: entry_of(alloc, app, state)?,
+    })
+}
+
+fn point_of(app: &App, state: &State) -> Point
+    requires { Well app.now state.now }
+    ensures { result ≡ point_of_state state.now }
+{
+    match state.processor {
+        Processor::Halted => Point::Halted,
+        Processor::Idle => Point::Idle,
+        Processor::Running(_) => Point::Task(here(app, state).block),
+        Processor::Interrupted { over, .. } => Point::Routine {
+            block: here(app, state).block,
+            over,
+        },
+    }
+}
+
+/// The entry that has one state alone.
+fn entry_of(alloc: Global, app: &App, state: &State) -> Result<Entry, Memory>
+    requires { Well app.now state.now }
+    ensures { IfOk result (λ entry. entry ≡ entry_of_state app.now state.now) }
+{
+    let components = components(alloc, app)?;
+    let mut sets = Vec::new(alloc);
+    for component in components.as_slice() {
+        let domain = domain_of(app, *component);
+        sets.push(single(alloc, domain, part(state, *component))?)?;
+    }
+    Ok(Entry {
+        sets: Seq::of(sets),
+    })
+}
+
+/// The set of one value.
+fn single(alloc: Global, domain: Domain, value: PartValue) -> Result<ValueSet, Memory>
+    ensures { IfOk result (λ set. set ≡ single_set domain value) }
+{
+    let mut members = Seq::new(alloc);
+    members.push(value)?;
+    Ok(ValueSet { domain, members })
+}
+
+fn domain_of(app: &App, component: Component) -> Domain
+    requires { IsComponent app.now component }
+    ensures { result ≡ domain_of_component app.now component }
+{
+    match component {
+        Component::Task(task) => {
+            let task = app.task(task);
+            Domain::Task {
+                first: task.first,
+                count: task.count,
+                resources: app.resources.len() as u8,
+            }
+        }
+        Component::Event { .. } => Domain::Event,
+        Component::Alarm(_) => Domain::Alarm,
+    }
+}
+
+/// What a part of a state is.
+fn part(state: &State, component: Component) -> PartValue
+    requires { HasPart state.now component }
+    ensures { result ≡ part_of state.now component }
+{
+    match component {
+        Component::Task(task) => PartValue::OfTask(value_in(&state.task(task).activity)),
+        Component::Event { task, bit } => {
+            PartValue::OfEvent(has_bit(state.task(task).events.0, bit.0))
+        }
+        Component::Alarm(alarm) => PartValue::OfAlarm(is_armed(state.alarm(alarm))),
+    }
+}
+
+fn value_in(activity: &Activity) -> Val
+    ensures { result ≡ value_of_activity activity.now }
+{
+    match activity {
+        Activity::Suspended => Val::Suspended,
+        Activity::Live(standing) => Val::Live(LiveVal {
+            block: standing.at.block,
+            held: standing.held.copy(),
+        }),
+        Activity::Waiting(block) => Val::Waiting(*block),
+    }
+}
+
+fn has_bit(bits: u64, bit: u8) -> bool
+    requires { bit < 64 }
+    ensures { result ≡ has_bit_of bits bit }
+{
+    (bits >> bit) % 2 == 1
+}
+
+fn is_armed(alarm: AlarmState) -> bool
+    ensures { result ≡ is_armed_state alarm }
+{
+    match alarm {
+        AlarmState::Idle => false,
+        AlarmState::Armed { .. } => true,
+    }
+}
