@@ -1,5 +1,6 @@
 //! The examples that the guide explains: their texts, byte for byte, and their whole traces.
 use crate::rows::{Act, Row};
+use crate::show_texts::{BODY_SHOW, ENGINE_SHOW, LAMP_SHOW};
 
 /// `examples/body/body.oil`.
 const BODY_OIL: &str = "\
@@ -426,7 +427,9 @@ const REPLAY_WORDS: &[&str] = &["replay", "a.img", "OSDEFAULTAPPMODE", "e"];
 
 const TRACE_WORDS: &[&str] = &["trace", "a.oil", "a.c", "OSDEFAULTAPPMODE", "e"];
 
-/// Each by way of its image and from its texts.
+const SHOW_WORDS: &[&str] = &["show", "a.oil", "a.c"];
+
+/// Each by way of its image and from its texts, and what the analysis finds.
 pub const EXAMPLE_ROWS: [Row; 3] = [
     Row {
         name: "a lamp and its button",
@@ -435,6 +438,7 @@ pub const EXAMPLE_ROWS: [Row; 3] = [
             BUILD,
             Act::Run(REPLAY_WORDS, 0, LAMP_TRACE, ""),
             Act::Run(TRACE_WORDS, 0, LAMP_TRACE, ""),
+            Act::Run(SHOW_WORDS, 0, LAMP_SHOW, ""),
         ],
     },
     Row {
@@ -444,6 +448,7 @@ pub const EXAMPLE_ROWS: [Row; 3] = [
             BUILD,
             Act::Run(REPLAY_WORDS, 0, BODY_TRACE, ""),
             Act::Run(TRACE_WORDS, 0, BODY_TRACE, ""),
+            Act::Run(SHOW_WORDS, 0, BODY_SHOW, ""),
         ],
     },
     Row {
@@ -457,6 +462,7 @@ pub const EXAMPLE_ROWS: [Row; 3] = [
             BUILD,
             Act::Run(REPLAY_WORDS, 0, ENGINE_TRACE, ""),
             Act::Run(TRACE_WORDS, 0, ENGINE_TRACE, ""),
+            Act::Run(SHOW_WORDS, 0, ENGINE_SHOW, ""),
         ],
     },
 ];

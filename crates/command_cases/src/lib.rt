@@ -4,6 +4,10 @@
 #[cfg(test)]
 mod example_rows;
 #[cfg(test)]
+mod flow_rows;
+#[cfg(test)]
+mod gen_rows;
+#[cfg(test)]
 mod long_rows;
 #[cfg(test)]
 mod real_files;
@@ -11,3 +15,5 @@ mod real_files;
 mod rows;
 #[cfg(test)]
 mod runs;
+#[cfg(test)]
+mod show_texts;

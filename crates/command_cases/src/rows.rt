@@ -9,31 +9,37 @@ pub struct Row {
     pub acts: &'static [Act],
 }
 
-/// A step of a row, which is wrong where anything differs from what the step says. `Cut` and `Add` only make files.
+/// A step of a row, which is wrong where anything differs from what the step says. `Cut`, `Set` and `Add` only make files.
 #[derive(Clone, Copy)]
 pub enum Act {
     /// A run with these words behind the program's name: its status, and all that it writes.
     Run(&'static [&'static str], u8, &'static str, &'static str),
+    /// A run that is done: its words, and how the text begins and ends that it writes.
+    Frames(&'static [&'static str], &'static str, &'static str),
     /// `build` of `a.oil` and `a.c` to `a.img`, which writes nothing, and then in this mode a `replay` of `a.img` and a
     /// `trace` of `a.oil` and `a.c`, both over `e`: so many lines, and these at their numbers, counted from 0.
     Plays(&'static str, usize, &'static [(usize, &'static str)]),
+    /// `show` of `a.oil` and `a.c`, and `info` of `a.img`, which was built: each has these lines, and others.
+    Forms(&'static [&'static str]),
     /// A file is there, of exactly these bytes.
     Holds(&'static str, &'static [u8]),
     /// A second file of so many first bytes of a first.
     Cut(&'static str, &'static str, usize),
+    /// A second file of a first with these bytes from a place on.
+    Set(&'static str, &'static str, usize, &'static [u8]),
     /// A second file of a first with these bytes behind it.
     Add(&'static str, &'static str, &'static [u8]),
 }
 
 /// The image of one task: the header, the task, its resource, its mode, and two blocks, whose last two bytes are the
-/// general form.
+/// form: direct to idle, and never.
 const ONE_TASK_IMAGE: &[u8] = b"\
     OSEKFIT\x01\x00\x01\x00\x00\x00\x01\x01\x00\x02\
     \x02T1\x00\x01\x01\x00\x00\x00\x00\x00\x00\x00\x00\x01\x00\x00\x00\x02\
     \x0dRES_SCHEDULER\x00\x00\x00\x03\
     \x10OSDEFAULTAPPMODE\
-    \x04\x00\x00\x00\x00\x01\x00\x01\x03\x00\
-    \x16\x00\x00\x00\x00\x01\x03\x00";
+    \x04\x00\x00\x00\x00\x01\x00\x01\x02\xff\
+    \x16\x00\x00\x00\x00\x01\x00\x00";
 
 /// The same of two tasks, of which the first activates the second: five blocks, each of them a site.
 const ACTIVATION_IMAGE: &[u8] = b"\
@@ -42,11 +48,11 @@ const ACTIVATION_IMAGE: &[u8] = b"\
     \x02T2\x00\x02\x01\x00\x00\x00\x00\x00\x00\x00\x00\x00\x00\x03\x00\x02\
     \x0dRES_SCHEDULER\x00\x00\x00\x05\
     \x10OSDEFAULTAPPMODE\
-    \x03\x00\x00\x00\x00\x01\x01\x00\x01\x03\x00\
-    \x04\x00\x00\x00\x00\x01\x00\x02\x03\x00\
-    \x16\x00\x00\x00\x00\x01\x03\x00\
-    \x04\x00\x00\x00\x00\x02\x00\x04\x03\x00\
-    \x16\x00\x00\x00\x00\x02\x03\x00";
+    \x03\x00\x00\x00\x00\x01\x01\x00\x01\x02\x01\
+    \x04\x00\x00\x00\x00\x01\x00\x02\x02\xff\
+    \x16\x00\x00\x00\x00\x01\x00\x00\
+    \x04\x00\x00\x00\x00\x02\x00\x04\x02\x00\
+    \x16\x00\x00\x00\x00\x02\x00\x00";
 
 /// Rows of tasks, activation and resources.
 pub const TASK_ROWS: [Row; 10] = [
@@ -62,6 +68,7 @@ pub const TASK_ROWS: [Row; 10] = [
         ],
         acts: &[
             Act::Plays("OSDEFAULTAPPMODE", 2, &[(0, "0 T1 T1=R"), (1, "1 - T1=S")]),
+            Act::Forms(&["site b0 line 1 direct -", "site b1 line 1 never"]),
             Act::Holds("a.img", ONE_TASK_IMAGE),
         ],
     },
@@ -89,6 +96,13 @@ pub const TASK_ROWS: [Row; 10] = [
                     (3, "3 - T1=S T2=S"),
                 ],
             ),
+            Act::Forms(&[
+                "site b0 line 1 direct T2",
+                "site b1 line 1 direct -",
+                "site b2 line 1 never",
+                "site b3 line 2 direct T1",
+                "site b4 line 2 never",
+            ]),
             Act::Holds("a.img", ACTIVATION_IMAGE),
         ],
     },
@@ -105,15 +119,22 @@ pub const TASK_ROWS: [Row; 10] = [
             ),
             ("e", "run 0\nrun 0\nrun 0\n"),
         ],
-        acts: &[Act::Plays(
-            "OSDEFAULTAPPMODE",
-            4,
-            &[
-                (1, "1 T1 T1=R T2=Y !E_OK"),
-                (2, "2 T2 T1=S T2=R"),
-                (3, "3 - T1=S T2=S"),
-            ],
-        )],
+        acts: &[
+            Act::Plays(
+                "OSDEFAULTAPPMODE",
+                4,
+                &[
+                    (1, "1 T1 T1=R T2=Y !E_OK"),
+                    (2, "2 T2 T1=S T2=R"),
+                    (3, "3 - T1=S T2=S"),
+                ],
+            ),
+            Act::Forms(&[
+                "site b0 line 1 stay",
+                "site b1 line 1 direct T2",
+                "site b3 line 2 direct -",
+            ]),
+        ],
     },
     Row {
         name: "an interrupt activates a lower task",
@@ -128,19 +149,26 @@ pub const TASK_ROWS: [Row; 10] = [
             ),
             ("e", "irq I\nrun 0\nrun 0\nrun 0\nrun 0\nrun 0\n"),
         ],
-        acts: &[Act::Plays(
-            "OSDEFAULTAPPMODE",
-            7,
-            &[
-                (0, "0 T1 T1=R T2=S"),
-                (1, "1 T1 T1=R T2=S"),
-                (2, "2 @I T1=R T2=S"),
-                (3, "3 @I T1=R T2=Y !E_OK"),
-                (4, "4 T1 T1=R T2=Y"),
-                (5, "5 T2 T1=S T2=R"),
-                (6, "6 - T1=S T2=S"),
-            ],
-        )],
+        acts: &[
+            Act::Plays(
+                "OSDEFAULTAPPMODE",
+                7,
+                &[
+                    (0, "0 T1 T1=R T2=S"),
+                    (1, "1 T1 T1=R T2=S"),
+                    (2, "2 @I T1=R T2=S"),
+                    (3, "3 @I T1=R T2=Y !E_OK"),
+                    (4, "4 T1 T1=R T2=Y"),
+                    (5, "5 T2 T1=S T2=R"),
+                    (6, "6 - T1=S T2=S"),
+                ],
+            ),
+            Act::Forms(&[
+                "site b0 line 1 general",
+                "site b2 line 2 direct -",
+                "site b5 line 3 general",
+            ]),
+        ],
     },
     Row {
         name: "activation preempts beside an interrupt",
@@ -155,16 +183,19 @@ pub const TASK_ROWS: [Row; 10] = [
             ),
             ("e", "run 0\nrun 0\nrun 0\n"),
         ],
-        acts: &[Act::Plays(
-            "OSDEFAULTAPPMODE",
-            4,
-            &[
-                (0, "0 T1 T1=R T2=S"),
-                (1, "1 T2 T1=Y T2=R !E_OK"),
-                (2, "2 T1 T1=R T2=S"),
-                (3, "3 - T1=S T2=S"),
-            ],
-        )],
+        acts: &[
+            Act::Plays(
+                "OSDEFAULTAPPMODE",
+                4,
+                &[
+                    (0, "0 T1 T1=R T2=S"),
+                    (1, "1 T2 T1=Y T2=R !E_OK"),
+                    (2, "2 T1 T1=R T2=S"),
+                    (3, "3 - T1=S T2=S"),
+                ],
+            ),
+            Act::Forms(&["site b0 line 1 direct T2", "site b3 line 2 general"]),
+        ],
     },
     Row {
         name: "activating oneself is refused and reported",
@@ -176,15 +207,18 @@ pub const TASK_ROWS: [Row; 10] = [
             ("a.c", "TASK(T1) { ActivateTask(T1); }\n"),
             ("e", "run 0\nrun 0\n"),
         ],
-        acts: &[Act::Plays(
-            "OSDEFAULTAPPMODE",
-            3,
-            &[
-                (0, "0 T1 T1=R"),
-                (1, "1 T1 T1=R !E_OS_LIMIT ^Error"),
-                (2, "2 - T1=S"),
-            ],
-        )],
+        acts: &[
+            Act::Plays(
+                "OSDEFAULTAPPMODE",
+                3,
+                &[
+                    (0, "0 T1 T1=R"),
+                    (1, "1 T1 T1=R !E_OS_LIMIT ^Error"),
+                    (2, "2 - T1=S"),
+                ],
+            ),
+            Act::Forms(&["site b0 line 1 stay", "site b1 line 1 direct -"]),
+        ],
     },
     Row {
         name: "a ceiling delays a higher task",
@@ -199,18 +233,25 @@ pub const TASK_ROWS: [Row; 10] = [
             ),
             ("e", "run 0\nrun 0\nrun 0\nrun 0\nrun 0\n"),
         ],
-        acts: &[Act::Plays(
-            "OSDEFAULTAPPMODE",
-            6,
-            &[
-                (0, "0 T1 T1=R T2=S"),
-                (1, "1 T1 T1=R+Res T2=S !E_OK"),
-                (2, "2 T1 T1=R+Res T2=Y !E_OK"),
-                (3, "3 T2 T1=Y T2=R !E_OK"),
-                (4, "4 T1 T1=R T2=S"),
-                (5, "5 - T1=S T2=S"),
-            ],
-        )],
+        acts: &[
+            Act::Plays(
+                "OSDEFAULTAPPMODE",
+                6,
+                &[
+                    (0, "0 T1 T1=R T2=S"),
+                    (1, "1 T1 T1=R+Res T2=S !E_OK"),
+                    (2, "2 T1 T1=R+Res T2=Y !E_OK"),
+                    (3, "3 T2 T1=Y T2=R !E_OK"),
+                    (4, "4 T1 T1=R T2=S"),
+                    (5, "5 - T1=S T2=S"),
+                ],
+            ),
+            Act::Forms(&[
+                "site b1 line 1 stay",
+                "site b2 line 1 direct T2",
+                "site b5 line 2 direct T1",
+            ]),
+        ],
     },
     Row {
         name: "resources are released in order",
@@ -270,15 +311,22 @@ pub const TASK_ROWS: [Row; 10] = [
             ("a.c", "TASK(T1) { SetEvent(T1, E); ChainTask(T1); }\n"),
             ("e", "run 0\nrun 0\n"),
         ],
-        acts: &[Act::Plays(
-            "OSDEFAULTAPPMODE",
-            3,
-            &[
-                (0, "0 T1 T1=R:0 ^PreTask"),
-                (1, "1 T1 T1=R:1 !E_OK"),
-                (2, "2 T1 T1=R:0 ^PostTask ^PreTask"),
-            ],
-        )],
+        acts: &[
+            Act::Plays(
+                "OSDEFAULTAPPMODE",
+                3,
+                &[
+                    (0, "0 T1 T1=R:0 ^PreTask"),
+                    (1, "1 T1 T1=R:1 !E_OK"),
+                    (2, "2 T1 T1=R:0 ^PostTask ^PreTask"),
+                ],
+            ),
+            Act::Forms(&[
+                "site b0 line 1 stay",
+                "site b1 line 1 direct T1",
+                "site b2 line 1 never",
+            ]),
+        ],
     },
 ];
 
@@ -300,20 +348,31 @@ pub const EVENT_ROWS: [Row; 8] = [
                 "run 0\nrun 0\nrun 1\nrun 0\nrun 0\nrun 0\nrun 0\nrun 0\n",
             ),
         ],
-        acts: &[Act::Plays(
-            "OSDEFAULTAPPMODE",
-            9,
-            &[
-                (1, "1 T1 T1=R T2=S !E_OS_STATE"),
-                (2, "2 T2 T1=Y T2=R:0 !E_OK"),
-                (3, "3 T2 T1=Y T2=R:0"),
-                (4, "4 T2 T1=Y T2=R:1 !E_OK"),
-                (5, "5 T2 T1=Y T2=R:1 !E_OK"),
-                (6, "6 T1 T1=R T2=S"),
-                (7, "7 T1 T1=R T2=S !E_OS_STATE"),
-                (8, "8 - T1=S T2=S"),
-            ],
-        )],
+        acts: &[
+            Act::Plays(
+                "OSDEFAULTAPPMODE",
+                9,
+                &[
+                    (1, "1 T1 T1=R T2=S !E_OS_STATE"),
+                    (2, "2 T2 T1=Y T2=R:0 !E_OK"),
+                    (3, "3 T2 T1=Y T2=R:0"),
+                    (4, "4 T2 T1=Y T2=R:1 !E_OK"),
+                    (5, "5 T2 T1=Y T2=R:1 !E_OK"),
+                    (6, "6 T1 T1=R T2=S"),
+                    (7, "7 T1 T1=R T2=S !E_OS_STATE"),
+                    (8, "8 - T1=S T2=S"),
+                ],
+            ),
+            Act::Forms(&[
+                "site b0 line 1 stay",
+                "site b1 line 1 direct T2",
+                "site b2 line 1 general",
+                "site b3 line 1 direct -",
+                "site b6 line 2 stay",
+                "site b7 line 2 general",
+                "site b8 line 2 direct T1",
+            ]),
+        ],
     },
     Row {
         name: "an event set while waiting",
@@ -331,15 +390,26 @@ pub const EVENT_ROWS: [Row; 8] = [
                 "run 0\nrun 0\nrun 0\nrun 0\nrun 0\nrun 0\nrun 0\nrun 0\n",
             ),
         ],
-        acts: &[Act::Plays(
-            "OSDEFAULTAPPMODE",
-            9,
-            &[
-                (4, "4 T1 T1=R T2=W:0 !E_OK"),
-                (5, "5 T2 T1=Y T2=R:1 !E_OK"),
-                (6, "6 T1 T1=R T2=S"),
-            ],
-        )],
+        acts: &[
+            Act::Plays(
+                "OSDEFAULTAPPMODE",
+                9,
+                &[
+                    (4, "4 T1 T1=R T2=W:0 !E_OK"),
+                    (5, "5 T2 T1=Y T2=R:1 !E_OK"),
+                    (6, "6 T1 T1=R T2=S"),
+                ],
+            ),
+            Act::Forms(&[
+                "site b0 line 1 stay",
+                "site b1 line 1 direct T2",
+                "site b2 line 1 general",
+                "site b3 line 1 direct -",
+                "site b6 line 2 stay",
+                "site b7 line 2 general",
+                "site b8 line 2 direct T1",
+            ]),
+        ],
     },
     Row {
         name: "an alarm by increment and its remaining ticks",

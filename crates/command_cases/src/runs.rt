@@ -1,5 +1,7 @@
 //! Whole runs of the top call over files in memory.
 use crate::example_rows::EXAMPLE_ROWS;
+use crate::flow_rows::FLOW_ROWS;
+use crate::gen_rows::GEN_ROWS;
 use crate::long_rows::{LONG_ROWS, LongRow, Repeated};
 use crate::rows::{Act, EVENT_ROWS, MODE_ROWS, Row, TASK_ROWS, TEXT_ROWS};
 use commands::osekfit;
@@ -29,6 +31,10 @@ const LONG_ROOM: usize = 30_000;
 enum Wanted<'a> {
     /// A status, and all that is written.
     Exactly(u8, &'a str, &'a str),
+    /// A text that begins and ends so.
+    Frame(&'static str, &'static str),
+    /// These lines, and others.
+    Lines(&'static [&'static str]),
     /// A trace of so many lines, and these at their numbers, counted from 0.
     Trace(usize, &'static [(usize, &'static str)]),
 }
@@ -60,11 +66,28 @@ fn is_trace(text: &[u8], count: usize, lines: &[(usize, &str)]) -> bool {
     count_of_lines(text) == count && has_lines(text, lines)
 }
 
+/// Whether a text has each of these lines.
+fn has_each(text: &[u8], lines: &[&str]) -> bool {
+    for line in lines {
+        if !text.split(is_break).any(|other| other == line.as_bytes()) {
+            return false;
+        }
+    }
+    true
+}
+
 fn is_wanted(status: u8, out: &[u8], err: &[u8], wanted: Wanted) -> bool {
     match wanted {
         Wanted::Exactly(answer, text, told) => {
             status == answer && out == text.as_bytes() && err == told.as_bytes()
         }
+        Wanted::Frame(begin, end) => {
+            status == 0
+                && err.is_empty()
+                && out.starts_with(begin.as_bytes())
+                && out.ends_with(end.as_bytes())
+        }
+        Wanted::Lines(lines) => status == 0 && err.is_empty() && has_each(out, lines),
         Wanted::Trace(count, lines) => {
             status == 0 && err.is_empty() && is_trace(out, count, lines)
         }
@@ -189,6 +212,22 @@ fn plays(alloc: Global, shelf: &mut MemShelf, mode: &str, trace: Wanted) -> Resu
     Ok(built && replayed && traced)
 }
 
+/// Whether the analysis of the texts, and the image that was built, tell of these forms.
+fn tells_forms(
+    alloc: Global,
+    shelf: &mut MemShelf,
+    lines: &'static [&'static str],
+) -> Result<bool, Memory> {
+    let shown = gives(
+        alloc,
+        shelf,
+        &["show", "a.oil", "a.c"],
+        Wanted::Lines(lines),
+    )?;
+    let told = gives(alloc, shelf, &["info", "a.img"], Wanted::Lines(lines))?;
+    Ok(shown && told)
+}
+
 /// The bytes at a name, of which there are none where it isn't there.
 fn bytes_at(alloc: Global, shelf: &MemShelf, name: &str) -> Result<Vec<u8>, Memory> {
     let bytes = shelf.bytes(name).unwrap_or(b"");
@@ -206,6 +245,27 @@ fn cut(
     let mut bytes = bytes_at(alloc, shelf, from)?;
     bytes.truncate(len);
     shelf.set(to, Some(bytes.as_slice()), 0)
+}
+
+/// A second file of a first with other bytes from a place on.
+fn set(
+    alloc: Global,
+    shelf: &mut MemShelf,
+    from: &str,
+    to: &str,
+    place: usize,
+    piece: &[u8],
+) -> Result<(), Memory> {
+    let bytes = bytes_at(alloc, shelf, from)?;
+    let mut changed = Vec::new(alloc);
+    for (number, byte) in bytes.iter().enumerate() {
+        if number >= place && number - place < piece.len() {
+            changed.push(piece[number - place])?;
+        } else {
+            changed.push(*byte)?;
+        }
+    }
+    shelf.set(to, Some(changed.as_slice()), 0)
 }
 
 /// A second file of a first with more bytes behind it.
@@ -226,9 +286,14 @@ fn holds(alloc: Global, shelf: &mut MemShelf, act: &Act) -> Result<bool, Memory>
         Act::Run(words, status, out, err) => {
             gives(alloc, shelf, words, Wanted::Exactly(*status, out, err))
         }
+        Act::Frames(words, begin, end) => gives(alloc, shelf, words, Wanted::Frame(begin, end)),
         Act::Plays(mode, count, lines) => plays(alloc, shelf, mode, Wanted::Trace(*count, lines)),
+        Act::Forms(lines) => tells_forms(alloc, shelf, lines),
         Act::Holds(name, bytes) => Ok(shelf.bytes(name) == Some(*bytes)),
         Act::Cut(from, to, len) => cut(alloc, shelf, from, to, *len).map(|()| true),
+        Act::Set(from, to, place, piece) => {
+            set(alloc, shelf, from, to, *place, piece).map(|()| true)
+        }
         Act::Add(from, to, more) => add(alloc, shelf, from, to, more).map(|()| true),
     }
 }
@@ -296,6 +361,11 @@ fn the_rows_of_modes(rt: HostRuntime) {
 #[test]
 fn the_rows_of_texts(rt: HostRuntime) {
     assert_eq!(rt; first_wrong(rt.alloc(), &TEXT_ROWS), Ok(""));
+}
+
+#[test]
+fn the_rows_of_the_analysis(rt: HostRuntime) {
+    assert_eq!(rt; first_wrong(rt.alloc(), &FLOW_ROWS), Ok(""));
 }
 
 #[test]
@@ -395,4 +465,9 @@ fn loops(alloc: Global) -> Result<bool, Memory> {
 #[test]
 fn a_loop_for_ever(rt: HostRuntime) {
     assert_eq!(rt; loops(rt.alloc()), Ok(true));
+}
+
+#[test]
+fn the_rows_of_generated_systems(rt: HostRuntime) {
+    assert_eq!(rt; first_wrong(rt.alloc(), &GEN_ROWS), Ok(""));
 }

@@ -20,14 +20,19 @@ use Rattle.osek_io.specs.Files.{Files}
 use Rattle.commands.specs.Answering.{CommandAnswers}
 use Rattle.commands.specs.Building as building
 use Rattle.commands.specs.Compiling.{SystemStops, CodeStops, CompileStops, OfApp}
-use Rattle.commands.specs.Due.{IsCalm, RunDue, no_mode, no_events, ends, ReplayDue, no_image, bad_image, runs, TextsDue, no_oil, bad_oil, no_code, bad_code, goes_on, IsBuilt, IsDue}
+use Rattle.commands.specs.Due.{IsCalm, RunDue, no_mode, no_events, ends, ImageDue, no_image, bad_image, is_read, ImageRuns, IsTold, TextsDue, no_oil, bad_oil, no_code, bad_code, goes_on, IsBuilt, GenDue, IsDue}
+use Rattle.commands.specs.GeneratedFiles.{events_name, default_mode, generated_files}
+use Rattle.commands.specs.Generating as generating
 use Rattle.commands.specs.Inputs.{over_limit, unread, faulty, no_memory}
+use Rattle.commands.specs.Informing as informing
 use Rattle.commands.specs.Outside.{Outside, beside}
 use Rattle.commands.specs.Replaying as replaying
 use Rattle.commands.specs.Running as running
 use Rattle.commands.specs.Running.{end_of, RunAnswers}
+use Rattle.commands.specs.Showing as showing
+use Rattle.commands.specs.Printing.{PrintAnswers}
 use Rattle.commands.specs.Tracing as tracing
-use Rattle.commands.specs.Words.{Command, Build, Replay, Trace}
+use Rattle.commands.specs.Words.{Command, Build, Replay, Trace, Show, Info, Gen}
 use Rattle.commands.specs.declared.stop.{Input.TheVariants.{Events}, Stop.{Stop}}
 use Rattle.commands.specs.declared.stop.Stop.TheVariants as stop
 
@@ -36,7 +41,7 @@ abbrev OrMemory : (Result (Unit {0}) Stop → Type 0) → Result (Unit {0}) Stop
 OrMemory P r = (r ≡ Err stop.Memory) ⊎ P r
 
 -- over its limit a text has no event, so there is no trap
-over_ends : (app : App) (traps : ModeNo → List Event → Bool) (m : ModeNo) (text : List ℕ) → traps m [] ≡ false → MAX_EVENT_TEXT < length text →
+pub over_ends : (app : App) (traps : ModeNo → List Event → Bool) (m : ModeNo) (text : List ℕ) → traps m [] ≡ false → MAX_EVENT_TEXT < length text →
     end_of (traps m (read_text app text).events) (read_text app text).fault ≡ Err (over_limit Events)
 over_ends app traps m text none over =
     let long : nat_lt MAX_EVENT_TEXT (length text) ≡ true = grind (arith, nat_tests) in
@@ -58,18 +63,34 @@ module _ (files : Files) (after : Outside) (reads : List ℕ → ℕ) (writes fa
     run_due app trace traps mode events starts _ (running.stops m s named no_memory same) = inl refl
     run_due app trace traps mode events starts _ (running.plays m r named (text, holds, (within, inl (is, prints)))) = inr (subst (RunDue files app traps mode events) (sym is) (ends m text named holds))
     run_due app trace traps mode events starts _ (running.plays m r named (text, holds, (within, inr (is, rose, front)))) = absurd (calm.faults rose)
+    run_due app trace traps mode events starts _ (running.unread_on m named rose text) = absurd (calm.reads events rose)
 
     image_starts : (i : Image) (m : ModeNo) → has_trap i m [] ≡ false
     unfolding image_run
     image_starts i m = refl
 
-    replay_due : (image mode events : List ℕ) (r : Result (Unit {0}) Stop) → replaying.ReplayAnswers before after image mode events r → OrMemory (ReplayDue files image mode events) r
-    replay_due image mode events _ (replaying.stops s (unread (inl rose)) same) = absurd (calm.reads image rose)
-    replay_due image mode events _ (replaying.stops s (unread (inr missing)) same) = inr (no_image missing)
-    replay_due image mode events _ (replaying.stops s (faulty f (bytes, holds, first)) same) = inr (bad_image bytes f holds first)
-    replay_due image mode events _ (replaying.stops s no_memory same) = inl refl
-    replay_due image mode events _ (replaying.runs r (bytes, holds, (i, spells, h))) =
-        ⊎_elim inl (λ due. inr (runs bytes i r holds spells due)) (run_due i.app (image_trace i) (has_trap i) mode events (image_starts i) r h)
+    module _ (image : List ℕ) (Next : Image → Result (Unit {0}) Stop → Type 0) where
+      image_stops : (s : Stop) → replaying.ImageStops before.shelf after.shelf image s → OrMemory (ImageDue files image Next) (Err s)
+      image_stops _ (unread (inl rose)) = absurd (calm.reads image rose)
+      image_stops _ (unread (inr missing)) = inr (no_image missing)
+      image_stops _ (faulty f (bytes, holds, first)) = inr (bad_image bytes f holds first)
+      image_stops _ no_memory = inl refl
+
+      of_image : (P : Image → Type 0) (r : Result (Unit {0}) Stop) → ((i : Image) → P i → OrMemory (Next i) r) → replaying.OfImage (Some files) image P → OrMemory (ImageDue files image Next) r
+      of_image P r next (bytes, holds, (i, spells, p)) = ⊎_elim inl (λ due. inr (is_read bytes i r holds spells due)) (next i p)
+
+    replay_due : (image mode events : List ℕ) (r : Result (Unit {0}) Stop) → replaying.ReplayAnswers before after image mode events r → OrMemory (ImageDue files image (ImageRuns files mode events)) r
+    replay_due image mode events _ (replaying.stops s h same) = image_stops image _ s h
+    replay_due image mode events _ (replaying.runs r h) = of_image image _ _ r (λ i answers. run_due i.app (image_trace i) (has_trap i) mode events (image_starts i) r answers) h
+
+    -- what is printed without a fault is printed to its end
+    printed_due : (text : List ℕ) (r : Result (Unit {0}) Stop) → PrintAnswers before after text r → r ≡ Ok tt
+    printed_due text r (inl h) = h.0
+    printed_due text r (inr h) = absurd (calm.faults h.1)
+
+    info_due : (image : List ℕ) (r : Result (Unit {0}) Stop) → informing.InfoAnswers before after image r → OrMemory (ImageDue files image IsTold) r
+    info_due image _ (informing.stops s h same) = image_stops image IsTold s h
+    info_due image _ (informing.tells r h) = of_image image IsTold _ r (λ i answers. inr (printed_due _ r answers)) h
 
     module _ (oil code : List ℕ) (Next : App → Result (Unit {0}) Stop → Type 0) where
       abbrev Due : Result (Unit {0}) Stop → Type 0
@@ -105,8 +126,25 @@ module _ (files : Files) (after : Outside) (reads : List ℕ → ℕ) (writes fa
     trace_due oil code mode events _ (tracing.stops s h same) = texts_stop oil code _ s h
     trace_due oil code mode events _ (tracing.runs r h) = of_app oil code _ _ r (λ app answers. run_due app (kernel_trace app) tracing.never mode events (λ m. refl) r answers) h
 
+    show_due : (oil code : List ℕ) (r : Result (Unit {0}) Stop) → showing.ShowAnswers before after oil code r → OrMemory (TextsDue files oil code IsBuilt) r
+    show_due oil code _ (showing.stops s h same) = texts_stop oil code IsBuilt s h
+    show_due oil code _ (showing.tells r h) = of_app oil code IsBuilt _ r (λ app told. inr (printed_due _ r told.2)) h
+
+    -- over its own texts, of which the run was done
+    gen_due : (seed tasks : ℕ) (r : Result (Unit {0}) Stop) → generating.GenAnswers before after seed tasks r → OrMemory (GenDue seed tasks) r
+    gen_due seed tasks _ (generating.no_memory same) = inl refl
+    gen_due seed tasks _ (generating.stops s due same) = inr due
+    gen_due seed tasks _ (generating.tells r (text, holds, (system, declares, (code_text, code_holds, (app, gives, (events, events_hold, (line, told, prints))))))) =
+        let own = generated_files seed tasks in
+        let done : end_of false (read_text app events).fault ≡ Ok tt = ap (end_of false) told.run.faultless in
+        let due = subst (RunDue own app tracing.never default_mode events_name) done (ends told.run.mode events told.run.named events_hold) in
+        subst (OrMemory (GenDue seed tasks)) (sym (printed_due line r prints)) (inr (goes_on text system code_text app (Ok tt) holds declares code_holds gives due))
+
     pub command_due : (command : Option Command) (r : Result (Unit {0}) Stop) → CommandAnswers before after command r → OrMemory (IsDue files command) r
     command_due None r h = inr h.0
     command_due (Some (Build oil code image)) r h = build_due oil code image r h.0
     command_due (Some (Replay image mode events)) r h = replay_due image mode events r h.0
     command_due (Some (Trace oil code mode events)) r h = trace_due oil code mode events r h.0
+    command_due (Some (Show oil code)) r h = show_due oil code r h.0
+    command_due (Some (Info image)) r h = info_due image r h.0
+    command_due (Some (Gen seed tasks)) r h = gen_due seed tasks r h.0

@@ -1,5 +1,5 @@
 -- What is true of an input's bytes.
-use Rattle.std.proofs.Common.{◌≡◌, ℕ, suc, ◌<◌, List, length, replicate, refl, sym, subst, arith, Some, None}
+use Rattle.std.proofs.Common.{◌≡◌, ℕ, suc, ◌<◌, List, [], length, replicate, refl, sym, subst, arith, Some, None}
 use Rattle.std.proofs.lemmas.List.{length-replicate}
 use Rattle.std.specs.FinMap.{get}
 use Rattle.std.specs.declared.option.Option.{Option}
@@ -15,6 +15,15 @@ of_loaded (Some files) name P loaded bytes there p = found (get files name) refl
     found : (o : Option (List ℕ)) → get files name ≡ o → OfFile (Some files) name P
     found None e = absurd (there e)
     found (Some b) e = (b, e, subst P (bytes b e) p)
+
+-- what is true of the bytes that are told, and of none, is true of a file that is there
+pub of_told : (files : Option Files) (name : List ℕ) (P : List ℕ → Type 0) → P [] → ((bytes : List ℕ) → Holds files name bytes → P bytes) → (IsMissing files name → ⊥) → OfFile files name P
+of_told None name P none p there = ([], tt, none)
+of_told (Some files) name P none p there = found (get files name) refl
+  where
+    found : (o : Option (List ℕ)) → get files name ≡ o → OfFile (Some files) name P
+    found None e = absurd (there e)
+    found (Some b) e = (b, e, p b e)
 
 -- there are bytes beyond each limit
 longer : (most : ℕ) → (bytes : List ℕ) × (most < length bytes)

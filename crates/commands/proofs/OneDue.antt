@@ -21,10 +21,11 @@ use Rattle.image_codec.proofs.GoodOfValid.{one_spelling_holds, read_again}
 use Rattle.trace_text.specs.EventText.{read_text}
 use Rattle.osek_io.specs.Files.{Files}
 use Rattle.commands.specs.Running.{end_of}
-use Rattle.commands.specs.Due.{RunDue, no_mode, no_events, ends, ReplayDue, no_image, bad_image, runs, TextsDue, no_oil, bad_oil, no_code, bad_code, goes_on, IsBuilt, IsDue}
+use Rattle.commands.specs.Due.{RunDue, no_mode, no_events, ends, ImageDue, no_image, bad_image, is_read, ImageRuns, IsTold, TextsDue, no_oil, bad_oil, no_code, bad_code, goes_on, IsBuilt, IsDue}
 use Rattle.commands.specs.Replaying.{SpellImage, IsImageFault}
 use Rattle.commands.specs.Tracing.{never}
-use Rattle.commands.specs.Words.{Command, Build, Replay, Trace}
+use Rattle.commands.specs.GeneratedFiles.{oil_name, code_name, events_name, default_mode, generated_files}
+use Rattle.commands.specs.Words.{Command, Build, Replay, Trace, Show, Info, Gen}
 use Rattle.commands.specs.declared.stop.Stop.{Stop}
 use Rattle.commands.specs.declared.stop.Stop.TheVariants as stop
 
@@ -67,18 +68,19 @@ module _ (files : Files) where
   same_image_fault b c f g e (inr (within, x)) (inl (over, y)) = let same : length b ≡ length c = ap (λ (l : List ℕ). length l) e in absurd (omega (arith, over, within, same))
   same_image_fault b c f g e (inr (within, x)) (inr (inside, y)) = let both = sym x ∙ ap read_image e ∙ y in cc both
 
-  one_replay : (image mode events : List ℕ) (a b : Result (Unit {0}) Stop) → ReplayDue files image mode events a → ReplayDue files image mode events b → a ≡ b
-  one_replay image mode events _ _ (no_image x) (no_image y) = refl
-  one_replay image mode events _ _ (no_image x) (bad_image b f y p) = absurd (not_found _ b x y)
-  one_replay image mode events _ _ (no_image x) (runs b i r y p d) = absurd (not_found _ b x y)
-  one_replay image mode events _ _ (bad_image b f x p) (no_image y) = absurd (not_found _ b y x)
-  one_replay image mode events _ _ (bad_image b f x p) (bad_image c g y q) = ap (λ (k : ImageFault). Err (stop.Image k)) (same_image_fault b c f g (same_found _ b c x y) p q)
-  one_replay image mode events _ _ (bad_image b f x p) (runs c i r y q d) = absurd (no_image_fault c b i f (same_found _ c b y x) q p)
-  one_replay image mode events _ _ (runs b i r x p d) (no_image y) = absurd (not_found _ b y x)
-  one_replay image mode events _ _ (runs b i r x p d) (bad_image c g y q) = absurd (no_image_fault b c i g (same_found _ b c x y) p q)
-  one_replay image mode events _ _ (runs b i r x p d) (runs c j q y s e) =
-      let images : j ≡ i = same_image c b j i (same_found _ c b y x) s p in
-      one_run i.app (has_trap i) mode events r q d (subst (λ (k : Image). RunDue files k.app (has_trap k) mode events q) images e)
+  module _ (image : List ℕ) (Next : Image → Result (Unit {0}) Stop → Type 0) (one_next : (i : Image) (a b : Result (Unit {0}) Stop) → Next i a → Next i b → a ≡ b) where
+    one_image : (a b : Result (Unit {0}) Stop) → ImageDue files image Next a → ImageDue files image Next b → a ≡ b
+    one_image _ _ (no_image x) (no_image y) = refl
+    one_image _ _ (no_image x) (bad_image b f y p) = absurd (not_found _ b x y)
+    one_image _ _ (no_image x) (is_read b i r y p d) = absurd (not_found _ b x y)
+    one_image _ _ (bad_image b f x p) (no_image y) = absurd (not_found _ b y x)
+    one_image _ _ (bad_image b f x p) (bad_image c g y q) = ap (λ (k : ImageFault). Err (stop.Image k)) (same_image_fault b c f g (same_found _ b c x y) p q)
+    one_image _ _ (bad_image b f x p) (is_read c i r y q d) = absurd (no_image_fault c b i f (same_found _ c b y x) q p)
+    one_image _ _ (is_read b i r x p d) (no_image y) = absurd (not_found _ b y x)
+    one_image _ _ (is_read b i r x p d) (bad_image c g y q) = absurd (no_image_fault b c i g (same_found _ b c x y) p q)
+    one_image _ _ (is_read b i r x p d) (is_read c j q y s e) =
+        let images : j ≡ i = same_image c b j i (same_found _ c b y x) s p in
+        one_next i r q d (subst (λ (k : Image). Next k q) images e)
 
   -- the two texts: an answer of the OIL text, and of the code beside its system
   same_system : (t u : List ℕ) (s r : System) → t ≡ u → DeclaresSystem t s → DeclaresSystem u r → s ≡ r
@@ -132,8 +134,13 @@ module _ (files : Files) where
         let apps : b ≡ a = same_given z s v c b a (same_system u t z s (same_found _ u t y x) p h) (same_found _ v c w l) k g in
         one_next a r q d (subst (λ (f : App). Next f q) apps n)
 
-  pub one_due : (command : Option Command) (a b : Result (Unit {0}) Stop) → IsDue files command a → IsDue files command b → a ≡ b
-  one_due None a b x y = x ∙ sym y
-  one_due (Some (Build oil code image)) a b x y = one_texts oil code IsBuilt (λ app a b x y. x ∙ sym y) a b x y
-  one_due (Some (Replay image mode events)) a b x y = one_replay image mode events a b x y
-  one_due (Some (Trace oil code mode events)) a b x y = one_texts oil code (λ app. RunDue files app never mode events) (λ app. one_run app never mode events) a b x y
+pub one_due : (files : Files) (command : Option Command) (a b : Result (Unit {0}) Stop) → IsDue files command a → IsDue files command b → a ≡ b
+one_due files None a b x y = x ∙ sym y
+one_due files (Some (Build oil code image)) a b x y = one_texts files oil code IsBuilt (λ app a b x y. x ∙ sym y) a b x y
+one_due files (Some (Replay image mode events)) a b x y = one_image files image (ImageRuns files mode events) (λ i. one_run files i.app (has_trap i) mode events) a b x y
+one_due files (Some (Trace oil code mode events)) a b x y = one_texts files oil code (λ app. RunDue files app never mode events) (λ app. one_run files app never mode events) a b x y
+one_due files (Some (Show oil code)) a b x y = one_texts files oil code IsBuilt (λ app a b x y. x ∙ sym y) a b x y
+one_due files (Some (Info image)) a b x y = one_image files image IsTold (λ i a b x y. x ∙ sym y) a b x y
+one_due files (Some (Gen seed tasks)) a b x y =
+    let own = generated_files seed tasks in
+    one_texts own oil_name code_name (λ app. RunDue own app never default_mode events_name) (λ app. one_run own app never default_mode events_name) a b x y

@@ -21,11 +21,12 @@ use Rattle.image_model.specs.ImageTrace.{has_trap}
 use Rattle.image_codec.specs.Spelling.{spelling}
 use Rattle.image_codec.proofs.SomeImage.{spell_or_fail}
 use Rattle.osek_io.specs.Files.{Files}
-use Rattle.commands.specs.Due.{RunDue, no_mode, no_events, ends, ReplayDue, no_image, bad_image, runs, TextsDue, no_oil, bad_oil, no_code, bad_code, goes_on, IsBuilt, IsDue}
+use Rattle.commands.specs.Due.{RunDue, no_mode, no_events, ends, ImageDue, no_image, bad_image, is_read, ImageRuns, IsTold, TextsDue, no_oil, bad_oil, no_code, bad_code, goes_on, IsBuilt, IsDue}
+use Rattle.commands.specs.GeneratedFiles.{oil_name, code_name, events_name, default_mode, generated_files}
 use Rattle.commands.specs.Laws.{HoldBytes}
 use Rattle.commands.specs.Running.{mode_named}
 use Rattle.commands.specs.Tracing.{never}
-use Rattle.commands.specs.Words.{Command, Build, Replay, Trace}
+use Rattle.commands.specs.Words.{Command, Build, Replay, Trace, Show, Info, Gen}
 use Rattle.commands.specs.declared.stop.Stop.{Stop}
 
 module _ (files : Files) where
@@ -44,25 +45,25 @@ module _ (files : Files) where
     some_run : Run
     some_run = in_mode (mode_named app mode) refl
 
-  module _ (image mode events : List ℕ) where
-    abbrev Replayed : Type 0
-    Replayed = (r : Result (Unit {0}) Stop) × ReplayDue files image mode events r
+  module _ (image : List ℕ) (Next : Image → Result (Unit {0}) Stop → Type 0) (next : (i : Image) → (r : Result (Unit {0}) Stop) × Next i r) where
+    abbrev Read : Type 0
+    Read = (r : Result (Unit {0}) Stop) × ImageDue files image Next r
 
-    of_bytes : (bytes : List ℕ) → get files image ≡ Some bytes → length bytes ≤ MAX_FILE → ((i : Image) × FitsFormat i × (spelling i ≡ bytes)) ⊎ ((f : ImageFault) × (read_image bytes ≡ Err f)) → Replayed
+    of_bytes : (bytes : List ℕ) → get files image ≡ Some bytes → length bytes ≤ MAX_FILE → ((i : Image) × FitsFormat i × (spelling i ≡ bytes)) ⊎ ((f : ImageFault) × (read_image bytes ≡ Err f)) → Read
     of_bytes bytes e within (inl (i, fits, spelled)) =
-        let (r, due) = some_run i.app (has_trap i) mode events in
-        (r, runs bytes i r e (record { within = within; fits = fits; spelled = spelled }) due)
+        let (r, due) = next i in
+        (r, is_read bytes i r e (record { within = within; fits = fits; spelled = spelled }) due)
     of_bytes bytes e within (inr (f, faulty)) = (_, bad_image bytes f e (inr (within, faulty)))
 
-    of_image : HoldBytes files → (found : Option (List ℕ)) → get files image ≡ found → Replayed
+    of_image : HoldBytes files → (found : Option (List ℕ)) → get files image ≡ found → Read
     of_image hold None e = (_, no_image e)
     of_image hold (Some bytes) e = ⊎_elim
         (λ over. (_, bad_image bytes _ e (inl (over, refl))))
         (λ within. of_bytes bytes e within (spell_or_fail bytes (hold image bytes e)))
         (order MAX_FILE (length bytes))
 
-    some_replay : HoldBytes files → Replayed
-    some_replay hold = of_image hold (get files image) refl
+    some_image : HoldBytes files → Read
+    some_image hold = of_image hold (get files image) refl
 
   module _ (oil code : List ℕ) (Next : App → Result (Unit {0}) Stop → Type 0) (next : (app : App) → (r : Result (Unit {0}) Stop) × Next app r) where
     abbrev Given : Type 0
@@ -87,8 +88,11 @@ module _ (files : Files) where
     some_texts : Given
     some_texts = of_texts (get files oil) refl
 
-  pub some_due : HoldBytes files → (command : Option Command) → (r : Result (Unit {0}) Stop) × IsDue files command r
-  some_due hold None = (_, refl)
-  some_due hold (Some (Build oil code image)) = some_texts oil code IsBuilt (λ app. (Ok tt, refl))
-  some_due hold (Some (Replay image mode events)) = some_replay image mode events hold
-  some_due hold (Some (Trace oil code mode events)) = some_texts oil code (λ app. RunDue files app never mode events) (λ app. some_run app never mode events)
+pub some_due : (files : Files) → HoldBytes files → (command : Option Command) → (r : Result (Unit {0}) Stop) × IsDue files command r
+some_due files hold None = (_, refl)
+some_due files hold (Some (Build oil code image)) = some_texts files oil code IsBuilt (λ app. (Ok tt, refl))
+some_due files hold (Some (Replay image mode events)) = some_image files image (ImageRuns files mode events) (λ i. some_run files i.app (has_trap i) mode events) hold
+some_due files hold (Some (Trace oil code mode events)) = some_texts files oil code (λ app. RunDue files app never mode events) (λ app. some_run files app never mode events)
+some_due files hold (Some (Show oil code)) = some_texts files oil code IsBuilt (λ app. (Ok tt, refl))
+some_due files hold (Some (Info image)) = some_image files image IsTold (λ i. (Ok tt, refl)) hold
+some_due files hold (Some (Gen seed tasks)) = let own = generated_files seed tasks in some_texts own oil_name code_name (λ app. RunDue own app never default_mode events_name) (λ app. some_run own app never default_mode events_name)

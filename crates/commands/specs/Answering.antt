@@ -5,12 +5,15 @@ use Rattle.osek_io.specs.Pieces.{grown}
 use Rattle.commands.specs.declared.stop.Stop.{Stop}
 use Rattle.commands.specs.declared.stop.Stop.TheVariants as stop
 use Rattle.commands.specs.Building.{BuildAnswers}
+use Rattle.commands.specs.Generating.{GenAnswers}
+use Rattle.commands.specs.Informing.{InfoAnswers}
 use Rattle.commands.specs.Outside.{Outside, SameFiles}
 use Rattle.commands.specs.Replaying.{ReplayAnswers}
+use Rattle.commands.specs.Showing.{ShowAnswers}
 use Rattle.commands.specs.Statuses.{status_of, text_due}
 use Rattle.commands.specs.Telling.{WritesFront}
 use Rattle.commands.specs.Tracing.{TraceAnswers}
-use Rattle.commands.specs.Words.{Command, Build, Replay, Trace}
+use Rattle.commands.specs.Words.{Command, Build, Replay, Trace, Show, Info, Gen}
 
 -- err gained the text, and the status is as given; or a write on err failed: it gained a front, and the status is 6
 abbrev pub Tells : (faults faults_after : ℕ) → Option (List ℕ) → Option (List ℕ) → (text : List ℕ) → (status answered : ℕ) → Type 0
@@ -24,6 +27,9 @@ CommandAnswers before after None r = (r ≡ Err stop.Usage) × (after ≡ before
 CommandAnswers before after (Some (Build oil code image)) r = BuildAnswers before after oil code image r × (after.printed ≡ before.printed) × (after.faults ≡ before.faults)
 CommandAnswers before after (Some (Replay image mode events)) r = ReplayAnswers before after image mode events r × SameFiles before.shelf after.shelf
 CommandAnswers before after (Some (Trace oil code mode events)) r = TraceAnswers before after oil code mode events r × SameFiles before.shelf after.shelf
+CommandAnswers before after (Some (Show oil code)) r = ShowAnswers before after oil code r × SameFiles before.shelf after.shelf
+CommandAnswers before after (Some (Info image)) r = InfoAnswers before after image r × SameFiles before.shelf after.shelf
+CommandAnswers before after (Some (Gen seed tasks)) r = GenAnswers before after seed tasks r × (after.shelf ≡ before.shelf)
 
 -- The command of the words answers r, of which err has the text and the call the status.
 pub record Does (command : Option Command) (answers : Result (Unit {0}) Stop → Type 0) (tells : List ℕ → ℕ → Type 0) : Type 0 where

@@ -1,43 +1,29 @@
 -- The answers of `build`, each with its cause and what it leaves.
 use Rattle.std.specs.Prelude.{◌≡◌, ℕ, List, Result, Ok, Err}
-use Rattle.osek_values.specs.declared.event.Event.{Event}
-use Rattle.osek_values.specs.declared.numbers.ModeNo.{ModeNo}
 use Rattle.osek_standard.specs.declared.app.App.{App}
 use Rattle.image_model.specs.declared.image.Image.{Image}
 use Rattle.image_codec.specs.Spelling.{spelling}
-use Rattle.image_model.specs.ImageTrace.{AreGeneral}
-use Rattle.image_model.specs.Laws.{IsKernelsRun}
-use Rattle.osek_io.specs.Counts.{Rose}
-use Rattle.osek_io.specs.Files.{with_file}
-use Rattle.osek_io.specs.Stored.{StoresPart}
+use Rattle.osek_io.specs.{Counts.{Rose}, Files.{with_file}, Stored.{StoresPart}}
 use Rattle.commands.specs.Compiling.{OfApp, CompileStops}
+use Rattle.commands.specs.Fitting.{IsFitted}
 use Rattle.commands.specs.Outside.{Outside, SameFiles}
-use Rattle.commands.specs.Replaying.{SpellImage}
 use Rattle.commands.specs.declared.stop.Stop.{Stop}
 use Rattle.commands.specs.declared.stop.Stop.TheVariants as stop
 
--- An image that is the kernel of an application: in every mode, under every list of events, its trace is the kernel's,
--- without a trap. Its bytes are those that `replay` reads.
-pub record IsKernelImage (app : App) (i : Image) : Type 0 where
-  pub is : i.app ≡ app
-  pub general : AreGeneral i.sites
-  pub spelled : SpellImage (spelling i) i
-  pub runs : (mode : ModeNo) (events : List Event) → IsKernelsRun i mode events
-
--- the bytes of such an image
-pub record SpellsKernelImage (app : App) (bytes : List ℕ) : Type 0 where
+-- the bytes of the image that is fitted to the application
+pub record SpellsFitted (app : App) (bytes : List ℕ) : Type 0 where
   pub image : Image
-  pub kernel : IsKernelImage app image
+  pub fitted : IsFitted app image
   pub are : bytes ≡ spelling image
 
 module _ (before after : Outside) (image : List ℕ) where
   -- the image's bytes were stored, all of them
   abbrev pub Stores : App → Type 0
-  Stores app = (i : Image) × IsKernelImage app i × (after.shelf.files ≡ with_file before.shelf.files image (spelling i))
+  Stores app = (i : Image) × IsFitted app i × (after.shelf.files ≡ with_file before.shelf.files image (spelling i))
 
   -- The files are as they were, or the image's holds a front of the bytes.
   abbrev pub StoresFront : App → Type 0
-  StoresFront app = (i : Image) × IsKernelImage app i × StoresPart before.shelf.files after.shelf.files image (spelling i)
+  StoresFront app = (i : Image) × IsFitted app i × StoresPart before.shelf.files after.shelf.files image (spelling i)
 
 -- `build` stops at the texts and writes no file; a write fails; or it is done.
 pub data BuildAnswers (before after : Outside) (oil code image : List ℕ) : Result (Unit {0}) Stop → Type 0 where

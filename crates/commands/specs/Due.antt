@@ -15,11 +15,12 @@ use Rattle.image_model.specs.ImageTrace.{has_trap}
 use Rattle.trace_text.specs.EventText.{read_text}
 use Rattle.osek_io.specs.Counts.{Rose}
 use Rattle.osek_io.specs.Files.{Files}
+use Rattle.commands.specs.GeneratedFiles.{oil_name, code_name, events_name, default_mode, generated_files}
 use Rattle.commands.specs.Outside.{Outside}
 use Rattle.commands.specs.Replaying.{SpellImage, IsImageFault}
 use Rattle.commands.specs.Running.{mode_named, end_of}
 use Rattle.commands.specs.Tracing.{never}
-use Rattle.commands.specs.Words.{Command, Build, Replay, Trace}
+use Rattle.commands.specs.Words.{Command, Build, Replay, Trace, Show, Info, Gen}
 use Rattle.commands.specs.declared.stop.{Input.TheVariants.{Oil, Code, Image as image_file, Events}, Stop.{Stop}}
 use Rattle.commands.specs.declared.stop.Stop.TheVariants as stop
 
@@ -35,11 +36,18 @@ pub data RunDue (files : Files) (app : App) (traps : ModeNo → List Event → B
   no_events : (m : ModeNo) → mode_named app mode ≡ Some m → get files events ≡ None → RunDue files app traps mode events (Err (stop.Unread Events))
   ends : (m : ModeNo) (text : List ℕ) → mode_named app mode ≡ Some m → get files events ≡ Some text → RunDue files app traps mode events (end_of (traps m (read_text app text).events) (read_text app text).fault)
 
--- `replay`: the image, and then the run
-pub data ReplayDue (files : Files) (image mode events : List ℕ) : Result (Unit {0}) Stop → Type 0 where
-  no_image : get files image ≡ None → ReplayDue files image mode events (Err (stop.Unread image_file))
-  bad_image : (bytes : List ℕ) (fault : ImageFault) → get files image ≡ Some bytes → IsImageFault bytes fault → ReplayDue files image mode events (Err (stop.Image fault))
-  runs : (bytes : List ℕ) (i : Image) (r : Result (Unit {0}) Stop) → get files image ≡ Some bytes → SpellImage bytes i → RunDue files i.app (has_trap i) mode events r → ReplayDue files image mode events r
+-- the image, and what comes behind it
+pub data ImageDue (files : Files) (image : List ℕ) (Next : Image → Result (Unit {0}) Stop → Type 0) : Result (Unit {0}) Stop → Type 0 where
+  no_image : get files image ≡ None → ImageDue files image Next (Err (stop.Unread image_file))
+  bad_image : (bytes : List ℕ) (fault : ImageFault) → get files image ≡ Some bytes → IsImageFault bytes fault → ImageDue files image Next (Err (stop.Image fault))
+  is_read : (bytes : List ℕ) (i : Image) (r : Result (Unit {0}) Stop) → get files image ≡ Some bytes → SpellImage bytes i → Next i r → ImageDue files image Next r
+
+-- `replay` runs the image, `info` is done
+abbrev pub ImageRuns : Files → (mode events : List ℕ) → Image → Result (Unit {0}) Stop → Type 0
+ImageRuns files mode events i r = RunDue files i.app (has_trap i) mode events r
+
+abbrev pub IsTold : Image → Result (Unit {0}) Stop → Type 0
+IsTold i r = r ≡ Ok tt
 
 -- the OIL text, the task code, and what comes behind them
 pub data TextsDue (files : Files) (oil code : List ℕ) (Next : App → Result (Unit {0}) Stop → Type 0) : Result (Unit {0}) Stop → Type 0 where
@@ -51,12 +59,23 @@ pub data TextsDue (files : Files) (oil code : List ℕ) (Next : App → Result (
   goes_on : (text : List ℕ) (s : System) (code_text : List ℕ) (app : App) (r : Result (Unit {0}) Stop) → get files oil ≡ Some text → DeclaresSystem text s → get files code ≡ Some code_text →
       GivesApp s code_text app → Next app r → TextsDue files oil code Next r
 
--- `build` is done where both texts give an application; `trace` runs it, and never traps
+-- `build` and `show` are done where both texts give an application; `trace` runs it, and never traps
 abbrev pub IsBuilt : App → Result (Unit {0}) Stop → Type 0
 IsBuilt app r = r ≡ Ok tt
+
+-- a run of the system that is there in memory
+abbrev pub OwnDue : Files → Result (Unit {0}) Stop → Type 0
+OwnDue files r = TextsDue files oil_name code_name (λ app. RunDue files app never default_mode events_name) r
+
+abbrev pub GenDue : (seed tasks : ℕ) → Result (Unit {0}) Stop → Type 0
+GenDue seed tasks = OwnDue (generated_files seed tasks)
 
 abbrev pub IsDue : Files → Option Command → Result (Unit {0}) Stop → Type 0
 IsDue files None r = r ≡ Err stop.Usage
 IsDue files (Some (Build oil code image)) r = TextsDue files oil code IsBuilt r
-IsDue files (Some (Replay image mode events)) r = ReplayDue files image mode events r
+IsDue files (Some (Replay image mode events)) r = ImageDue files image (ImageRuns files mode events) r
 IsDue files (Some (Trace oil code mode events)) r = TextsDue files oil code (λ app. RunDue files app never mode events) r
+IsDue files (Some (Show oil code)) r = TextsDue files oil code IsBuilt r
+IsDue files (Some (Info image)) r = ImageDue files image IsTold r
+-- over its own texts `gen` is due what `trace` is
+IsDue files (Some (Gen seed tasks)) r = GenDue seed tasks r

@@ -1,5 +1,5 @@
 -- The inputs of a command: what is true of one of which a shelf may tell nothing, and why one stops the command.
-use Rattle.std.specs.Prelude.{◌≡◌, ◌<◌, ◌⊎◌, ⊤, ℕ, List, length, Option, Some, None}
+use Rattle.std.specs.Prelude.{◌≡◌, ◌<◌, ◌≤◌, ◌+◌, ◌⊎◌, ⊤, ℕ, List, ◌++◌, length, take, drop, Option, Some, None}
 use Rattle.std.specs.FinMap.{get}
 use Rattle.osek_values.specs.declared.limits.TheConstants.{MAX_FILE, MAX_EVENT_TEXT}
 use Rattle.osek_values.specs.declared.refusal.LexRule.TheVariants.{L6}
@@ -8,7 +8,7 @@ use Rattle.osek_values.specs.declared.refusal.TextFile.TheVariants as file
 use Rattle.image_codec.specs.declared.fault.ImageRule.TheVariants.{I7}
 use Rattle.trace_text.specs.declared.fault.EventFault.TheVariants.{E4}
 use Rattle.osek_io.specs.Counts.{Rose}
-use Rattle.osek_io.specs.Files.{Files, IsMissing}
+use Rattle.osek_io.specs.Files.{Files, Holds, IsMissing}
 use Rattle.osek_io.specs.declared.loading.LoadError.{LoadError}
 use Rattle.osek_io.specs.declared.loading.LoadError.TheVariants as load_error
 use Rattle.commands.specs.Outside.{Told}
@@ -24,6 +24,15 @@ MayHold (Some files) name bytes = get files name ≡ Some bytes
 -- Of bytes that the file may hold P is true.
 abbrev pub OfFile : Option Files → (name : List ℕ) → (List ℕ → Type 0) → Type 0
 OfFile files name P = (bytes : List ℕ) × MayHold files name bytes × P bytes
+
+-- n bytes of a file, behind those that were taken, came behind the bytes ahead: none only at the end or the limit
+pub record ReadsOn (files : Option Files) (name : List ℕ) (taken : ℕ) (ahead ahead_after : List ℕ) (n : ℕ) : Type 0 where
+  pub more : List ℕ
+  pub count : n ≡ length more
+  pub joins : ahead_after ≡ ahead ++ more
+  pub within : taken + n ≤ MAX_EVENT_TEXT
+  pub held : (bytes : List ℕ) → Holds files name bytes → more ≡ take n (drop taken bytes)
+  pub ends : n ≡ 0 → taken < MAX_EVENT_TEXT → (bytes : List ℕ) → Holds files name bytes → length bytes ≤ taken
 
 -- how many bytes an input has at most
 abbrev pub limit_of : Input → ℕ

@@ -1,17 +1,19 @@
 -- What holds of the answers that are due, and of what is built and then replayed.
-use Rattle.std.specs.Prelude.{◌≡◌, ℕ, List, Option, Some, None, Result, Ok}
+use Rattle.std.specs.Prelude.{◌≡◌, ◌<◌, ℕ, List, length, Option, Some, None, Result, Ok}
 use Rattle.std.specs.FinMap.{get}
 use Rattle.osek_values.specs.declared.numbers.ModeNo.{ModeNo}
 use Rattle.osek_standard.specs.declared.app.App.{App}
 use Rattle.osek_standard.specs.TraceText.{kernel_trace}
+use Rattle.oil_system.specs.declared.system.System.{System}
+use Rattle.front_end.specs.Texts.{DeclaresSystem, GivesApp}
 use Rattle.image_model.specs.declared.image.Image.{Image}
 use Rattle.image_codec.specs.Spelling.{spelling}
 use Rattle.image_model.specs.ImageTrace.{image_trace}
 use Rattle.image_codec.specs.Reading.{AreBytes}
 use Rattle.trace_text.specs.EventText.{read_text}
 use Rattle.osek_io.specs.Files.{Files}
-use Rattle.commands.specs.Building.{IsKernelImage}
-use Rattle.commands.specs.Due.{ReplayDue, IsDue}
+use Rattle.commands.specs.Fitting.{IsKernelImage, IsFitted}
+use Rattle.commands.specs.Due.{ImageDue, ImageRuns, IsDue}
 use Rattle.commands.specs.Running.{mode_named}
 use Rattle.commands.specs.Words.{Command}
 use Rattle.commands.specs.declared.stop.Stop.{Stop}
@@ -20,12 +22,26 @@ use Rattle.commands.specs.declared.stop.Stop.{Stop}
 abbrev pub WhatIsBuiltReplays : Type 0
 WhatIsBuiltReplays = (files : Files) (image mode events : List ℕ) (app : App) (i : Image) (m : ModeNo) (text : List ℕ)
     → IsKernelImage app i → get files image ≡ Some (spelling i) → mode_named app mode ≡ Some m → get files events ≡ Some text → (read_text app text).fault ≡ None
-    → ReplayDue files image mode events (Ok tt)
+    → ImageDue files image (ImageRuns files mode events) (Ok tt)
 
 -- What it prints then is the kernel's trace.
 abbrev pub WhatIsBuiltIsTheKernel : Type 0
-WhatIsBuiltIsTheKernel = (app : App) (i : Image) (m : ModeNo) (text : List ℕ) → IsKernelImage app i
+WhatIsBuiltIsTheKernel = (app : App) (i : Image) (m : ModeNo) (text : List ℕ) → IsKernelImage app i → m.0 < length app.modes
     → image_trace i m (read_text app text).events ≡ kernel_trace app m (read_text app text).events
+
+-- the bytes are those of the image that is fitted to the application of the two texts
+pub record AreBuiltFrom (oil code bytes : List ℕ) : Type 0 where
+  pub system : System
+  pub declares : DeclaresSystem oil system
+  pub app : App
+  pub gives : GivesApp system code app
+  pub image : Image
+  pub fitted : IsFitted app image
+  pub are : bytes ≡ spelling image
+
+-- What `build` stores is a function of its two texts.
+abbrev pub OneImageIsBuilt : Type 0
+OneImageIsBuilt = (oil code bytes others : List ℕ) → AreBuiltFrom oil code bytes → AreBuiltFrom oil code others → bytes ≡ others
 
 -- the files hold bytes
 abbrev pub HoldBytes : Files → Type 0

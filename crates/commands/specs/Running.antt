@@ -8,11 +8,13 @@ use Rattle.osek_values.specs.declared.numbers.ModeNo.{ModeNo}
 use Rattle.osek_values.specs.Numbers.{mode_no}
 use Rattle.osek_values.specs.declared.limits.TheConstants.{MAX_EVENT_TEXT}
 use Rattle.osek_standard.specs.declared.app.App.{App}
+use Rattle.osek_io.specs.Counts.{Rose}
 use Rattle.trace_text.specs.EventText.{read_text}
 use Rattle.trace_text.specs.declared.fault.FaultyLine.{FaultyLine}
 use Rattle.commands.specs.Inputs.{OfFile, NotLoaded}
 use Rattle.commands.specs.Outside.{Told, Outside}
 use Rattle.commands.specs.Playing.{Played, played, PlayAnswers}
+use Rattle.commands.specs.Telling.{WritesFront}
 use Rattle.commands.specs.declared.stop.Input.TheVariants as input
 use Rattle.commands.specs.declared.stop.Stop.{Stop}
 use Rattle.commands.specs.declared.stop.Stop.TheVariants as stop
@@ -36,10 +38,14 @@ abbrev pub whole_run : App → (trace : ModeNo → List Event → List ℕ) → 
 whole_run app trace traps m text = let read = read_text app text in played (trace m read.events) (end_of (traps m read.events) read.fault)
 
 -- The application has no mode of the name; its mode is there, and the event text isn't loaded: nothing was printed, as
--- where memory ran out; or the text is within its limit, and the run was printed to its end or to a failed write.
+-- where memory ran out; or the text is within its limit, and the run was printed to its end, to a failed write or to a
+-- failed read of the text.
 pub data RunAnswers (before after : Outside) (app : App) (trace : ModeNo → List Event → List ℕ) (traps : ModeNo → List Event → Bool) (mode events : List ℕ) : Result (Unit {0}) Stop → Type 0 where
   no_mode : mode_named app mode ≡ None → after.printed ≡ before.printed → RunAnswers before after app trace traps mode events (Err stop.NoMode)
   stops : (m : ModeNo) (s : Stop) → mode_named app mode ≡ Some m → EventsStop before.shelf after.shelf events s → after.printed ≡ before.printed → RunAnswers before after app trace traps mode events (Err s)
   plays : (m : ModeNo) (r : Result (Unit {0}) Stop) → mode_named app mode ≡ Some m
       → OfFile before.shelf.files events (λ text. (length text ≤ MAX_EVENT_TEXT) × PlayAnswers before.faults after.faults before.printed after.printed (whole_run app trace traps m text) r)
       → RunAnswers before after app trace traps mode events r
+  unread_on : (m : ModeNo) → mode_named app mode ≡ Some m → Rose (before.shelf.reads events) (after.shelf.reads events)
+      → OfFile before.shelf.files events (λ text. (length text ≤ MAX_EVENT_TEXT) × WritesFront before.printed after.printed (whole_run app trace traps m text).text)
+      → RunAnswers before after app trace traps mode events (Err (stop.Unread input.Events))

@@ -7,3 +7,6 @@ abbrev pub seen : Command → words.Command
 seen (command.Build oil code image) = words.Build oil.now code.now image.now
 seen (command.Replay image mode events) = words.Replay image.now mode.now events.now
 seen (command.Trace oil code mode events) = words.Trace oil.now code.now mode.now events.now
+seen (command.Show oil code) = words.Show oil.now code.now
+seen (command.Info image) = words.Info image.now
+seen (command.Gen seed tasks) = words.Gen seed tasks

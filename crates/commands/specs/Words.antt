@@ -1,17 +1,35 @@
 -- The stated forms of the words (this project's profile).
 use Rattle.std.specs.Prelude.{ℕ, ◌==◌, ◌&&◌, Bool, false, not, List, [], ◌∷◌, Option, Some, None, if◌then◌else◌, codes}
 use Rattle.std.specs.Str.{bytes_eq}
+use Rattle.commands.specs.Numerals.{seed_of, tasks_of}
 use Rattle.commands.specs.declared.stop.{Input.{Input}, Input.TheVariants.{Oil, Code, Image, Events}}
 
 pub data Command : Type 0 where
   Build : (oil code image : List ℕ) → Command
   Replay : (image mode events : List ℕ) → Command
   Trace : (oil code mode events : List ℕ) → Command
+  Show : (oil code : List ℕ) → Command
+  Info : (image : List ℕ) → Command
+  Gen : (seed tasks : ℕ) → Command
 
 -- neither empty nor beginning with a dash
 abbrev pub is_plain : List ℕ → Bool
 is_plain [] = false
 is_plain (c ∷ cs) = not (c == 45)
+
+abbrev pub command_of_one : List ℕ → (a : List ℕ) → Option Command
+command_of_one verb a = if bytes_eq verb (codes "info") then Some (Info a) else None
+
+-- `gen` of two numbers
+abbrev pub gen_of : Option ℕ → Option ℕ → Option Command
+gen_of None tasks = None
+gen_of (Some seed) None = None
+gen_of (Some seed) (Some tasks) = Some (Gen seed tasks)
+
+abbrev pub command_of_two : List ℕ → (a b : List ℕ) → Option Command
+command_of_two verb a b =
+    if bytes_eq verb (codes "show") then Some (Show a b)
+    else (if bytes_eq verb (codes "gen") then gen_of (seed_of a) (tasks_of b) else None)
 
 abbrev pub command_of_three : List ℕ → (a b c : List ℕ) → Option Command
 command_of_three verb a b c =
@@ -23,6 +41,8 @@ command_of_four verb a b c d = if bytes_eq verb (codes "trace") then Some (Trace
 
 -- the first word is the program's name, and isn't looked at
 abbrev pub command_of : List (List ℕ) → Option Command
+command_of (program ∷ verb ∷ a ∷ []) = if is_plain a then command_of_one verb a else None
+command_of (program ∷ verb ∷ a ∷ b ∷ []) = if is_plain a && is_plain b then command_of_two verb a b else None
 command_of (program ∷ verb ∷ a ∷ b ∷ c ∷ []) = if is_plain a && is_plain b && is_plain c then command_of_three verb a b c else None
 command_of (program ∷ verb ∷ a ∷ b ∷ c ∷ d ∷ []) = if is_plain a && is_plain b && is_plain c && is_plain d then command_of_four verb a b c d else None
 command_of other = None
@@ -41,9 +61,21 @@ input_name (Trace oil code mode events) Oil = oil
 input_name (Trace oil code mode events) Code = code
 input_name (Trace oil code mode events) Image = []
 input_name (Trace oil code mode events) Events = events
+input_name (Show oil code) Oil = oil
+input_name (Show oil code) Code = code
+input_name (Show oil code) Image = []
+input_name (Show oil code) Events = []
+input_name (Info image) Oil = []
+input_name (Info image) Code = []
+input_name (Info image) Image = image
+input_name (Info image) Events = []
+input_name (Gen seed tasks) i = []
 
 -- the word that names the mode
 abbrev pub mode_name : Command → List ℕ
 mode_name (Build oil code image) = []
 mode_name (Replay image mode events) = mode
 mode_name (Trace oil code mode events) = mode
+mode_name (Show oil code) = []
+mode_name (Info image) = []
+mode_name (Gen seed tasks) = []

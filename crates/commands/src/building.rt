@@ -1,33 +1,35 @@
 //! The command `build`: the image of an application.
 ghost use Rattle.std.specs.Prelude.{ℕ, List, Option, IfOk};
 ghost use Rattle.osek_standard.specs.Versions.{FitsVersion1};
-ghost use Rattle.commands.specs.Building.{BuildAnswers, IsKernelImage, SpellsKernelImage};
+ghost use Rattle.commands.specs.Building.{BuildAnswers, SpellsFitted};
+ghost use Rattle.commands.specs.Fitting.{IsFitted};
 ghost use Rattle.commands.specs.Outside.{beside, told};
 
 use crate::compiling::compile;
-use crate::ranges::read_numbers;
+use crate::fitting::{fitted, least_table};
 use crate::stop::Stop;
 use image_codec::encode;
-use image_model::{Image, general};
+use image_model::Image;
 use osek_io::{PutError, Shelf, store};
 use osek_standard::App;
 use osek_values::Memory;
 use std::alloc::Global;
 
-/// The image of an application, each of whose sites is General.
-pub fn image_of(alloc: Global, app: App) -> Result<Image, Memory>
+/// The image that is fitted to an application.
+fn image_of(alloc: Global, app: App) -> Result<Image, Memory>
     requires { FitsVersion1 app.tasks }
-    ensures { IfOk result (IsKernelImage app) }
+    ensures { IfOk result (IsFitted app) }
 {
-    let image = general(alloc, app)?;
-    read_numbers(&image);
-    Ok(image)
+    let table = least_table(alloc, &app)?;
+    let image = fitted(alloc, app, &table);
+    drop(table);
+    image
 }
 
 /// The bytes of that image.
 fn image_bytes(alloc: Global, app: App) -> Result<Vec<u8>, Memory>
     requires { FitsVersion1 app.tasks }
-    ensures { IfOk result (λ v. SpellsKernelImage app v.items) }
+    ensures { IfOk result (λ v. SpellsFitted app v.items) }
 {
     let image = image_of(alloc, app)?;
     let bytes = encode(alloc, &image);

@@ -1,10 +1,15 @@
 //! Laws over the definitions.
-ghost use Rattle.commands.specs.Laws.{SomeIsDue, OneIsDue, WhatIsBuiltReplays, WhatIsBuiltIsTheKernel};
+ghost use Rattle.commands.specs.Laws.{SomeIsDue, OneIsDue, OneImageIsBuilt, WhatIsBuiltReplays, WhatIsBuiltIsTheKernel};
 
 /// Over files of bytes one answer is due to each command, and no other.
 pub fn one_answer()
     ensures some { SomeIsDue }
     ensures one { OneIsDue }
+{}
+
+/// The bytes that `build` stores are a function of its two texts.
+pub fn one_image_is_built()
+    ensures { OneImageIsBuilt }
 {}
 
 /// What `build` stores, `replay` reads and runs to the end of the events, and it prints the kernel's trace.

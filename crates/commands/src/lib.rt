@@ -3,12 +3,19 @@
 
 mod building;
 mod compiling;
+mod fitting;
+mod generating;
+mod informing;
 mod inputs;
+mod kept_text;
 mod laws;
+mod numerals;
 mod playing;
+mod printing;
 mod ranges;
 mod replaying;
 mod running;
+mod showing;
 mod stop;
 mod tell;
 mod telling;
@@ -17,8 +24,11 @@ mod tracing;
 mod words;
 
 pub use building::build;
-pub use laws::{one_answer, what_is_built_replays};
+pub use generating::generate_and_run;
+pub use informing::info;
+pub use laws::{one_answer, one_image_is_built, what_is_built_replays};
 pub use replaying::replay;
+pub use showing::{Dictated, show};
 pub use stop::{Input, Stop};
 pub use top::osekfit;
 pub use tracing::trace;

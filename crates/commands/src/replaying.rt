@@ -15,7 +15,7 @@ use osek_io::{Shelf, Sink};
 use std::alloc::Global;
 
 /// The image that a file's bytes spell.
-fn load_image<F: Shelf>(alloc: Global, shelf: &mut F, image: &str) -> Result<Image, Stop>
+pub fn load_image<F: Shelf>(alloc: Global, shelf: &mut F, image: &str) -> Result<Image, Stop>
     ensures image { IfOk result (λ i. OfFile (F.contents shelf.old) image.now (λ b. SpellImage b i)) }
     ensures stop { IfErr result (ImageStops (told F.Shelf shelf.old) (told F.Shelf shelf.new) image.now) }
     ensures same { OnlyReads F.Shelf shelf.old shelf.new }

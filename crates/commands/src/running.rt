@@ -1,27 +1,30 @@
 //! An image that runs in a mode under an event text, and its trace that is printed.
-ghost use Rattle.std.specs.Prelude.{◌≡◌, ◌≤◌, ◌<◌, length, false, IfOk, IfSome};
+ghost use Rattle.std.specs.Prelude.{◌≡◌, ◌≤◌, ◌<◌, [], length, false, IfOk, IfSome};
 ghost use Rattle.std.specs.List.{position};
 ghost use Rattle.std.specs.Str.{bytes_eq};
 ghost use Rattle.osek_io.specs.Reads.{OnlyReads};
 ghost use Rattle.trace_text.specs.EventText.{numbered_lines};
+ghost use Rattle.trace_text.specs.Feeds.{no_bytes};
 ghost use Rattle.osek_standard.specs.Dispatch.{stepped};
 ghost use Rattle.image_model.specs.ImageTrace.{image_trace, has_trap};
 ghost use Rattle.commands.specs.Outside.{outside};
-ghost use Rattle.commands.specs.Playing.{PlayAnswers, PlaysWhole, plays, printing, line_of};
+ghost use Rattle.commands.specs.Inputs.{OfFile};
+ghost use Rattle.commands.specs.Playing.{given, HeldReadAnswers, ReadAnswers, PlaysWhole, plays, printing, line_of};
 ghost use Rattle.commands.specs.Running.{mode_named as mode_of_name, RunAnswers};
 
-use crate::inputs::load_input;
-use crate::playing::{play, print_line};
-use crate::stop::{Input, Stop};
+use crate::inputs::judge_length;
+use crate::playing::{play, print_held, print_line};
+use crate::stop::Stop;
 use image_model::Image;
 use image_run::Machine;
-use osek_io::{Shelf, Sink};
+use osek_io::{PutBuffer, Shelf, Sink};
 use osek_standard::App;
 use osek_values::limits::{LINE_MAX, MAX_EVENT_TEXT};
 use osek_values::{Memory, ModeNo, Name, Notes, Steps};
 use std::alloc::Global;
 use std::marker::Brand;
 use std::sync::ledger::{Blank, Ledger};
+use trace_text::Feed;
 
 /// The place of a name.
 fn place_of(names: &[Name], name: &[u8]) -> Option<usize>
@@ -41,13 +44,22 @@ fn mode_named(app: &App, name: &str) -> Option<ModeNo>
     }
 }
 
-/// Prints the trace of a machine that has just started: the start's line, and what the event text brings.
-fn print_trace<L: Ledger, O: Sink>(
+/// The name of an event text.
+#[derive(Clone, Copy)]
+struct EventFile<'a> {
+    name: &'a str,
+}
+
+/// Prints the trace of a machine that has just started: the start's line, and what the event text brings as it is read.
+fn print_trace<L: Ledger, F: Shelf, O: Sink>(
     blank: Blank,
+    shelf: &mut F,
+    events: EventFile<'_>,
     out: &mut O,
+    buffer: &mut PutBuffer,
     machine: &mut Machine,
     notes: &Notes,
-    text: &[u8],
+    feed: &mut Feed,
     line: &mut [u8],
 ) -> Result<(), Stop>
     requires name { blank.name ≡ L.name }
@@ -55,75 +67,130 @@ fn print_trace<L: Ledger, O: Sink>(
     requires some { 0 < L.parts }
     requires running { machine.old.trapped ≡ false }
     requires room { LINE_MAX ≤ length line.old }
-    requires few { length text.now ≤ MAX_EVENT_TEXT }
-    ensures { PlayAnswers (O.faults out.old) (O.faults out.new) (O.written out.old) (O.written out.new) (printing (line_of machine.old.image 0 (stepped machine.old.state notes.now)) (plays machine.old.image (numbered_lines text.now) 1 machine.old.state)) result }
+    requires empty { feed.old ≡ no_bytes }
+    requires text { OfFile (F.contents shelf.old) events.name.now (λ t. length t ≤ MAX_EVENT_TEXT) }
+    ensures never_falls { O.faults out.old ≤ O.faults out.new }
+    ensures answer { HeldReadAnswers (F.contents shelf.old) events.entry.name.now (F.read_faults shelf.old events.entry.name.now) (F.read_faults shelf.new events.entry.name.now) (O.faults out.old) (O.faults out.new) (given (O.written out.old) buffer.old) (given (O.written out.new) buffer.new) (λ t. printing (line_of machine.old.image 0 (stepped machine.old.state notes.now)) (plays machine.old.image (numbered_lines t) 1 machine.old.state)) result }
+    ensures same { OnlyReads F.Shelf shelf.old shelf.new }
 {
     let mut scans = Steps::<L>::of(blank);
-    match print_line(out, machine, 0, notes, line) {
-        Ok(()) => play(out, machine, text, line, &mut scans),
+    match print_line(out, buffer, machine, 0, notes, line) {
+        Ok(()) => play(
+            shelf,
+            events.name,
+            out,
+            buffer,
+            machine,
+            feed,
+            line,
+            &mut scans,
+        ),
         Err(stop) => Err(stop),
     }
 }
 
+/// What a play takes memory for: a line of the trace, the event text as it comes, and what is held back of the trace.
+#[derive(Drop)]
+struct PlayRoom {
+    line: Vec<u8>,
+    feed: Feed,
+    buffer: PutBuffer,
+}
+
+/// Plays a machine that has just started, to its end. Its scans are counted in a ledger of their own.
+fn play_machine<F: Shelf, O: Sink>(
+    shelf: &mut F,
+    events: &str,
+    out: &mut O,
+    mut machine: Machine,
+    notes: &Notes,
+    room: &mut PlayRoom,
+) -> Result<(), Stop>
+    requires running { machine.trapped ≡ false }
+    requires room { LINE_MAX ≤ length room.old.line.items }
+    requires empty { room.old.feed ≡ no_bytes }
+    requires nothing_held { room.old.buffer ≡ [] }
+    requires text { OfFile (F.contents shelf.old) events.now (λ t. length t ≤ MAX_EVENT_TEXT) }
+    ensures answer { ReadAnswers (F.contents shelf.old) events.now (F.read_faults shelf.old events.now) (F.read_faults shelf.new events.now) (O.faults out.old) (O.faults out.new) (O.written out.old) (O.written out.new) (λ t. printing (line_of machine.image 0 (stepped machine.state notes.now)) (plays machine.image (numbered_lines t) 1 machine.state)) result }
+    ensures same { OnlyReads F.Shelf shelf.old shelf.new }
+{
+    let played = print_trace::<Brand, F, O>(
+        Blank::new(1),
+        shelf,
+        EventFile { name: events },
+        out,
+        &mut room.buffer,
+        &mut machine,
+        notes,
+        &mut room.feed,
+        &mut room.line,
+    );
+    drop(machine);
+    match print_held(out, &mut room.buffer) {
+        Ok(()) => played,
+        Err(stop) => Err(stop),
+    }
+}
+
+/// Plays an image from its start in a mode, with all the room that it takes.
+fn play_with<F: Shelf, O: Sink>(
+    alloc: Global,
+    shelf: &mut F,
+    events: &str,
+    out: &mut O,
+    image: Image,
+    mode: ModeNo,
+    room: &mut PlayRoom,
+) -> Result<(), Stop>
+    requires known { mode.0 < length image.app.modes }
+    requires room { LINE_MAX ≤ length room.old.line.items }
+    requires empty { room.old.feed ≡ no_bytes }
+    requires nothing_held { room.old.buffer ≡ [] }
+    requires text { OfFile (F.contents shelf.old) events.now (λ t. length t ≤ MAX_EVENT_TEXT) }
+    ensures answer { PlaysWhole (F.contents shelf.old) events.now (F.read_faults shelf.old events.now) (F.read_faults shelf.new events.now) (O.faults out.old) (O.faults out.new) (O.written out.old) (O.written out.new) image mode result }
+    ensures same { OnlyReads F.Shelf shelf.old shelf.new }
+{
+    match Machine::start(alloc, image, mode) {
+        Ok((machine, notes)) => play_machine(shelf, events, out, machine, &notes, room),
+        Err(_) => Err(Stop::Memory),
+    }
+}
+
 /// Room for a line of the trace.
-fn line_room(alloc: Global) -> Result<Vec<u8>, Memory>
+pub fn line_room(alloc: Global) -> Result<Vec<u8>, Memory>
     ensures { IfOk result (λ v. LINE_MAX ≤ length v.items) }
 {
     Ok(vec![in alloc; 0u8; LINE_MAX]?)
 }
 
-/// Plays a machine that has just started, to its end. Its scans are counted in a ledger of their own.
-fn play_machine<O: Sink>(
-    out: &mut O,
-    mut machine: Machine,
-    notes: &Notes,
-    text: &[u8],
-    line: &mut [u8],
-) -> Result<(), Stop>
-    requires running { machine.trapped ≡ false }
-    requires room { LINE_MAX ≤ length line.old }
-    requires few { length text.now ≤ MAX_EVENT_TEXT }
-    ensures { PlayAnswers (O.faults out.old) (O.faults out.new) (O.written out.old) (O.written out.new) (printing (line_of machine.image 0 (stepped machine.state notes.now)) (plays machine.image (numbered_lines text.now) 1 machine.state)) result }
+/// The room that a play takes, of which nothing is used yet.
+fn play_room(alloc: Global) -> Result<PlayRoom, Memory>
+    ensures line { IfOk result (λ r. LINE_MAX ≤ length r.line.items) }
+    ensures feed { IfOk result (λ r. r.feed ≡ no_bytes) }
+    ensures nothing_held { IfOk result (λ r. r.buffer ≡ []) }
 {
-    let played = print_trace::<Brand, O>(Blank::new(1), out, &mut machine, notes, text, line);
-    drop(machine);
-    played
-}
-
-/// Plays an image from its start in a mode, with room for a line.
-fn play_with<O: Sink>(
-    alloc: Global,
-    out: &mut O,
-    image: Image,
-    mode: ModeNo,
-    text: &[u8],
-    line: &mut [u8],
-) -> Result<(), Stop>
-    requires known { mode.0 < length image.app.modes }
-    requires room { LINE_MAX ≤ length line.old }
-    requires few { length text.now ≤ MAX_EVENT_TEXT }
-    ensures { PlaysWhole (O.faults out.old) (O.faults out.new) (O.written out.old) (O.written out.new) image mode text.now result }
-{
-    match Machine::start(alloc, image, mode) {
-        Ok((machine, notes)) => play_machine(out, machine, &notes, text, line),
-        Err(_) => Err(Stop::Memory),
-    }
+    let line = line_room(alloc)?;
+    let feed = Feed::new(alloc)?;
+    let buffer = PutBuffer::new(alloc)?;
+    Ok(PlayRoom { line, feed, buffer })
 }
 
 /// Plays an image from its start in a mode. All memory is taken before the first line is printed.
-fn play_image<O: Sink>(
+fn play_image<F: Shelf, O: Sink>(
     alloc: Global,
+    shelf: &mut F,
+    events: &str,
     out: &mut O,
     image: Image,
     mode: ModeNo,
-    text: &[u8],
 ) -> Result<(), Stop>
     requires known { mode.0 < length image.app.modes }
-    requires few { length text.now ≤ MAX_EVENT_TEXT }
-    ensures { PlaysWhole (O.faults out.old) (O.faults out.new) (O.written out.old) (O.written out.new) image mode text.now result }
+    requires text { OfFile (F.contents shelf.old) events.now (λ t. length t ≤ MAX_EVENT_TEXT) }
+    ensures answer { PlaysWhole (F.contents shelf.old) events.now (F.read_faults shelf.old events.now) (F.read_faults shelf.new events.now) (O.faults out.old) (O.faults out.new) (O.written out.old) (O.written out.new) image mode result }
+    ensures same { OnlyReads F.Shelf shelf.old shelf.new }
 {
-    match line_room(alloc) {
-        Ok(mut line) => play_with(alloc, out, image, mode, text, &mut line),
+    match play_room(alloc) {
+        Ok(mut room) => play_with(alloc, shelf, events, out, image, mode, &mut room),
         Err(_) => {
             drop(image);
             Err(Stop::Memory)
@@ -147,8 +214,8 @@ pub fn run<F: Shelf, O: Sink>(
         drop(image);
         return Err(Stop::NoMode);
     };
-    match load_input(alloc, shelf, Input::Events, events) {
-        Ok(text) => play_image(alloc, out, image, mode, &text),
+    match judge_length(shelf, events) {
+        Ok(()) => play_image(alloc, shelf, events, out, image, mode),
         Err(stop) => {
             drop(image);
             Err(stop)

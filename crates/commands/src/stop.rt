@@ -27,7 +27,7 @@ pub enum Stop {
     Unread(Input),
     /// The image can't be written.
     Unstored,
-    /// The trace can't be written.
+    /// What the command prints can't be written.
     Unprinted,
     Memory,
     /// The image traps at the event that the trace's last line names.

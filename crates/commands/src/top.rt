@@ -12,7 +12,10 @@ ghost use Rattle.commands.specs.Seen.{seen};
 ghost use Rattle.commands.specs.Words.{command_of};
 
 use crate::building::build;
+use crate::generating::generate_and_run;
+use crate::informing::info;
 use crate::replaying::replay;
+use crate::showing::show;
 use crate::stop::Stop;
 use crate::telling::refuse;
 use crate::tracing::trace;
@@ -42,6 +45,9 @@ fn carry_out<F: Shelf, O: Sink>(
             mode,
             events,
         } => trace(alloc, shelf, out, oil, code, mode, events),
+        Command::Show { oil, code } => show(alloc, shelf, out, oil, code),
+        Command::Info { image } => info(alloc, shelf, out, image),
+        Command::Gen { seed, tasks } => generate_and_run(alloc, out, *seed, *tasks),
     }
 }
 
@@ -61,9 +67,12 @@ fn carry_out_words<F: Shelf, O: Sink>(
 }
 
 /// Carries out the words, of which the first is the program's name, and answers the program's status:
-/// `build OIL CODE IMAGE` stores the image of the application that an OIL text and task code give;
+/// `build OIL CODE IMAGE` stores the image that is fitted to the application that an OIL text and task code give;
 /// `replay IMAGE MODE EVENTS` prints on `out` the trace of an image, from a start in a mode, under an event text;
-/// `trace OIL CODE MODE EVENTS` prints the kernel's trace of the application of the two texts.
+/// `trace OIL CODE MODE EVENTS` prints the kernel's trace of the application of the two texts;
+/// `show OIL CODE` prints the form of each of its call sites, its control-flow graph and its counts;
+/// `info IMAGE` prints the forms of an image;
+/// `gen SEED TASKS` makes a system from a number, runs it in memory, and prints what its analysis counts and how long its trace is.
 /// It tells on `err` why the status isn't 0.
 pub fn osekfit<F: Shelf, O: Sink, E: Sink>(
     alloc: Global,

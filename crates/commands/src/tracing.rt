@@ -3,10 +3,10 @@ ghost use Rattle.osek_io.specs.Reads.{OnlyReads};
 ghost use Rattle.commands.specs.Outside.{outside};
 ghost use Rattle.commands.specs.Tracing.{TraceAnswers};
 
-use crate::building::image_of;
 use crate::compiling::compile;
 use crate::running::run;
 use crate::stop::Stop;
+use image_model::general;
 use osek_io::{Shelf, Sink};
 use std::alloc::Global;
 
@@ -27,7 +27,7 @@ pub fn trace<F: Shelf, O: Sink>(
         Ok(app) => app,
         Err(stop) => return Err(stop),
     };
-    let Ok(image) = image_of(alloc, app) else {
+    let Ok(image) = general(alloc, app) else {
         return Err(Stop::Memory);
     };
     run(alloc, shelf, out, image, mode, events)

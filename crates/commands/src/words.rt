@@ -1,9 +1,10 @@
 //! The words of the command line.
 ghost use Rattle.std.specs.Prelude.{◌≡◌, map, option_map};
 ghost use Rattle.std.specs.String.{string_bytes};
-ghost use Rattle.commands.specs.Words.{command_of, command_of_three as the_command_of_three, command_of_four as the_command_of_four, is_plain as is_plain_word, input_name, mode_name};
+ghost use Rattle.commands.specs.Words.{command_of, gen_of as the_gen_of, command_of_one as the_command_of_one, command_of_two as the_command_of_two, command_of_three as the_command_of_three, command_of_four as the_command_of_four, is_plain as is_plain_word, input_name, mode_name};
 ghost use Rattle.commands.specs.Seen.{seen};
 
+use crate::numerals::{seed_of, tasks_of};
 use crate::stop::Input;
 
 /// What the words ask for. Each name is the word as it was given.
@@ -27,6 +28,20 @@ pub enum Command<'a> {
         code: &'a str,
         mode: &'a str,
         events: &'a str,
+    },
+    /// `show OIL CODE`
+    Show {
+        oil: &'a str,
+        code: &'a str,
+    },
+    /// `info IMAGE`
+    Info {
+        image: &'a str,
+    },
+    /// `gen SEED TASKS`
+    Gen {
+        seed: u64,
+        tasks: u32,
     },
 }
 
@@ -62,6 +77,19 @@ pub fn input_name<'a>(command: &Command<'a>, input: Input) -> &'a str
             Input::Image => "",
             Input::Events => events,
         },
+        Command::Show { oil, code } => match input {
+            Input::Oil => oil,
+            Input::Code => code,
+            Input::Image => "",
+            Input::Events => "",
+        },
+        Command::Info { image } => match input {
+            Input::Oil => "",
+            Input::Code => "",
+            Input::Image => image,
+            Input::Events => "",
+        },
+        Command::Gen { seed: _, tasks: _ } => "",
     }
 }
 
@@ -86,6 +114,9 @@ pub fn mode_name<'a>(command: &Command<'a>) -> &'a str
             mode,
             events: _,
         } => mode,
+        Command::Show { oil: _, code: _ } => "",
+        Command::Info { image: _ } => "",
+        Command::Gen { seed: _, tasks: _ } => "",
     }
 }
 
@@ -96,6 +127,36 @@ fn is_plain(word: &str) -> bool
         [] => false,
         [first, ..] => *first != b'-',
     }
+}
+
+fn command_of_one<'a>(verb: &str, a: &'a str) -> Option<Command<'a>>
+    ensures { option_map seen result ≡ the_command_of_one verb.now a.now }
+{
+    if verb == "info" {
+        return Some(Command::Info { image: a });
+    }
+    None
+}
+
+fn gen_of<'a>(seed: Option<u64>, tasks: Option<u32>) -> Option<Command<'a>>
+    ensures { option_map seen result ≡ the_gen_of seed tasks }
+{
+    match (seed, tasks) {
+        (Some(seed), Some(tasks)) => Some(Command::Gen { seed, tasks }),
+        _ => None,
+    }
+}
+
+fn command_of_two<'a>(verb: &str, a: &'a str, b: &'a str) -> Option<Command<'a>>
+    ensures { option_map seen result ≡ the_command_of_two verb.now a.now b.now }
+{
+    if verb == "show" {
+        return Some(Command::Show { oil: a, code: b });
+    }
+    if verb == "gen" {
+        return gen_of(seed_of(a), tasks_of(b));
+    }
+    None
 }
 
 fn command_of_three<'a>(verb: &str, a: &'a str, b: &'a str, c: &'a str) -> Option<Command<'a>>
@@ -144,6 +205,20 @@ pub fn command_from(words: &[String]) -> Option<Command<'_>>
     ensures { option_map seen result ≡ command_of (map string_bytes words.now) }
 {
     match words {
+        [_, verb, a] => {
+            if is_plain(a) {
+                command_of_one(verb, a)
+            } else {
+                None
+            }
+        }
+        [_, verb, a, b] => {
+            if is_plain(a) && is_plain(b) {
+                command_of_two(verb, a, b)
+            } else {
+                None
+            }
+        }
         [_, verb, a, b, c] => {
             if is_plain(a) && is_plain(b) && is_plain(c) {
                 command_of_three(verb, a, b, c)

@@ -1,7 +1,11 @@
-//! Cases of the analysis of flow, worked by hand: what the rules of a point come to, and the size of least tables.
+//! Cases of the analysis of flow, worked by hand: what the rules of a point come to, the size of least tables, and what is
+//! printed of an analysis.
 #![tactic(auto)]
 
 #[cfg(test)]
 mod least_tables;
 #[cfg(test)]
+mod printed_lines;
+#[cfg(test)]
 mod rules_at_points;
+pub mod worked_texts;

@@ -3,6 +3,8 @@
 #![tactic(auto)]
 
 #[cfg(test)]
+mod event_feeds;
+#[cfg(test)]
 mod image_bytes;
 #[cfg(test)]
 mod joins;

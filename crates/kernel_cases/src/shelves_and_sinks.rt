@@ -1,8 +1,8 @@
 //! What no clause says: that the calls succeed where memory is there, the scripted failures by the
 //! numbers of the calls, and the real files and streams.
 use osek_io::{
-    Failed, FileShelf, LoadError, MemShelf, MemSink, PutError, Shelf, Sink, StdSink, load, put_all,
-    store,
+    Failed, FileShelf, LoadError, MemShelf, MemSink, PUT_ROOM, PutBuffer, PutError, Shelf, Sink,
+    StdSink, load, put_all, store,
 };
 use osek_values::Memory;
 use std::alloc::Global;
@@ -170,6 +170,81 @@ fn puts_over_pieces_and_failures(rt: HostRuntime) {
         Put::Called(5),
     ];
     assert_eq!(rt; first_wrong_put(rt.alloc(), &puts), Ok(None));
+}
+
+/// A call over a buffer and its sink with its answer, or what the sink tells.
+#[derive(Clone, Copy)]
+enum Held<'a> {
+    Puts(&'a [u8], Result<(), PutError>),
+    Flushes(Result<(), PutError>),
+    Holds(&'a [u8]),
+    Called(u64),
+}
+
+fn is_held(buffer: &mut PutBuffer, sink: &mut MemSink, step: Held) -> bool {
+    match step {
+        Held::Puts(bytes, wanted) => buffer.put(sink, bytes) == wanted,
+        Held::Flushes(wanted) => buffer.flush(sink) == wanted,
+        Held::Holds(bytes) => sink.bytes() == bytes,
+        Held::Called(calls) => sink.calls() == calls,
+    }
+}
+
+/// The number of the first that isn't so over a buffer and a sink with this room, whose second call fails.
+fn first_wrong_held(alloc: Global, room: usize, steps: &[Held]) -> Result<Option<usize>, Memory> {
+    let mut sink = MemSink::new(alloc, Vec::from_slice(alloc, &[2])?, room)?;
+    let mut buffer = PutBuffer::new(alloc)?;
+    for (number, step) in steps.iter().enumerate() {
+        if !is_held(&mut buffer, &mut sink, *step) {
+            return Ok(Some(number));
+        }
+    }
+    Ok(None)
+}
+
+#[test]
+fn holds_back_what_there_is_room_for(rt: HostRuntime) {
+    let steps = [
+        Held::Puts(b"0 T1\n", Ok(())),
+        Held::Puts(b"1 -\n", Ok(())),
+        Held::Called(0),
+        Held::Flushes(Ok(())),
+        Held::Holds(b"0 T1\n1 -\n"),
+        Held::Called(1),
+        // Nothing is held, and no call is made.
+        Held::Flushes(Ok(())),
+        Held::Called(1),
+        // The second call fails, and what was held is lost.
+        Held::Puts(b"2 -\n", Ok(())),
+        Held::Flushes(Err(PutError::Write)),
+        Held::Flushes(Ok(())),
+        Held::Holds(b"0 T1\n1 -\n"),
+    ];
+    assert_eq!(rt; first_wrong_held(rt.alloc(), 64, &steps), Ok(None));
+}
+
+#[test]
+fn makes_room_for_what_is_put(rt: HostRuntime) {
+    let bytes = [7; PUT_ROOM + 1];
+    let large = &bytes[..];
+    let half = &bytes[..PUT_ROOM / 2];
+    let byte = &bytes[..1];
+    let steps = [
+        Held::Puts(half, Ok(())),
+        Held::Puts(half, Ok(())),
+        Held::Called(0),
+        // Room is made for a byte, which is held back.
+        Held::Puts(byte, Ok(())),
+        Held::Called(1),
+        // The second call fails.
+        Held::Puts(large, Err(PutError::Write)),
+        // Nothing is held, and what is too large for the buffer goes past it.
+        Held::Puts(large, Ok(())),
+        Held::Called(3),
+        Held::Flushes(Ok(())),
+        Held::Called(3),
+    ];
+    assert_eq!(rt; first_wrong_held(rt.alloc(), 200_000, &steps), Ok(None));
 }
 
 /// The path of a file that isn't there yet.

@@ -1,5 +1,6 @@
 pub mod FileChanges
-pub mod Turns
 pub mod FirstOf
-pub mod PlaceMaps
+pub mod HeldTexts
 pub mod MeetsShelf
+pub mod PlaceMaps
+pub mod Turns

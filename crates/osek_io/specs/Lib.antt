@@ -1,5 +1,6 @@
 pub mod Counts
 pub mod Files
+pub mod HeldBytes
 pub mod Pieces
 pub mod Reads
 pub mod Stored

@@ -4,11 +4,8 @@ use Rattle.std.specs.Prelude.{codes}
 use Rattle.std.specs.List.{IsDistinct, position}
 use Rattle.std.specs.Str.{bytes_eq}
 use Rattle.std.proofs.lemmas.Bool.{lt-ltb, le-ltb}
-use Rattle.std.proofs.lemmas.List.{length-map}
-use Rattle.std.proofs.Math.ListN.{get_or-map}
 use Rattle.std.proofs.lemmas.List.Sums.{position_or_len_is}
 use Rattle.std.proofs.lemmas.List.Quantifiers.{position-Some}
-use Rattle.std.proofs.lemmas.Map.Keys.{apart_from_distinct}
 use Rattle.std.proofs.lemmas.Slice.Eq.{bytes_eq-Decides}
 use borrow.Author.Tests.{ltb-false}
 use Rattle.osek_values.specs.declared.event.{Event.{Event}, Event.TheVariants.{Run, Irq, Tick}}
@@ -16,6 +13,7 @@ use Rattle.osek_values.specs.Numbers.{isr_no, counter_no}
 use Rattle.osek_standard.specs.declared.app.App.{App}
 use Rattle.osek_standard.specs.declared.objects.{Isr.{Isr}, Counter.{Counter}}
 use Rattle.osek_standard.specs.Apps.{the_isr, the_counter, no_isr, no_counter, IsDeclared}
+use Rattle.text_pieces.proofs.NameLaws.{apart}
 use Rattle.trace_text.specs.declared.fault.{EventFault.{EventFault}, EventFault.TheVariants.{E1, E3}}
 use Rattle.trace_text.specs.EventWords.{is_comment, run_by, of_source, isr_named, counter_named, said_with, said, read_line, words}
 use Rattle.trace_text.specs.EventGrammar.{event_words, Says, HasWords}
@@ -27,24 +25,17 @@ Answer = Result (Option Event) EventFault
 pub same_bytes : (xs ys : List ℕ) → bytes_eq xs ys ≡ true → xs ≡ ys
 same_bytes xs ys = (bytes_eq-Decides xs ys).0
 
-position_is : {X : Type 0} (p : X → Bool) (xs : List X) (k : ℕ) (d : X) → k < length xs → ((j : ℕ) → j < k → p (get_or xs j d) ≡ false) → p (get_or xs k d) ≡ true → position p xs ≡ Some k
+pub position_is : {X : Type 0} (p : X → Bool) (xs : List X) (k : ℕ) (d : X) → k < length xs → ((j : ℕ) → j < k → p (get_or xs j d) ≡ false) → p (get_or xs k d) ≡ true → position p xs ≡ Some k
 position_is p xs k d below before here =
     let at = position_or_len_is p xs k d (omega (arith, below)) before (λ _. here) in
     ap (λ n. cond (ltb n (length xs)) (Some n) None) at ∙ ap (λ b. cond b (Some k) None) (lt-ltb k (length xs) below)
-
-apart : {X : Type 0} (name : X → List ℕ) (xs : List X) (none : X) (j k : ℕ) → IsDistinct bytes_eq (map name xs) → j < k → k < length xs →
-    bytes_eq (name (get_or xs j none)) (name (get_or xs k none)) ≡ false
-apart name xs none j k distinct before below =
-    let within : k < length (map name xs) = omega (arith, length-map xs name, below) in
-    ap (λ n. bytes_eq n (name (get_or xs k none))) (sym (get_or-map name xs j none)) ∙ ap (λ n. bytes_eq (get_or (map name xs) j (name none)) n) (sym (get_or-map name xs k none))
-    ∙ apart_from_distinct bytes_eq (map name xs) j k (name none) distinct before within
 
 -- a name that stands once is found where it stands
 name_found : {X : Type 0} (name : X → List ℕ) (xs : List X) (none : X) (k : ℕ) → IsDistinct bytes_eq (map name xs) → k < length xs →
     position (λ x. bytes_eq (name x) (name (get_or xs k none))) xs ≡ Some k
 name_found name xs none k distinct below =
     position_is (λ x. bytes_eq (name x) (name (get_or xs k none))) xs k none below
-    (λ j before. apart name xs none j k distinct before below)
+    (λ j before. apart name xs none distinct j k before below)
     ((bytes_eq-Decides (name (get_or xs k none)) (name (get_or xs k none))).1 refl)
 
 said_event : (app : App) (e : Event) → IsDeclared app e → said app (event_words app e) ≡ Ok (Some e)

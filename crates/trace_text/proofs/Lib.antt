@@ -1,6 +1,8 @@
 pub mod EventLaws
+pub mod FeedLaws
+pub mod FirstLines
 pub mod GrammarLaws
-pub mod HexadecimalLaws
+pub mod KeptAhead
 pub mod LineLaws
 pub mod OtherLines
 pub mod Parts

@@ -1,5 +1,5 @@
 -- A text of events reads back as these events.
-use Rattle.std.proofs.Common.{◌≡◌, ℕ, ◌+◌, ◌-◌, ◌<◌, ◌≤◌, Bool, true, false, cond, ◌||◌, not, eqb, ltb, leb, List, [], ◌∷◌, ◌++◌, map, length, take, get_or, Some, None, Ok, refl, sym, ◌∙◌, ap, subst, arith, append_assoc}
+use Rattle.std.proofs.Common.{◌≡◌, ℕ, ◌+◌, ◌-◌, ◌<◌, ◌≤◌, Bool, true, false, cond, ◌||◌, not, eqb, ltb, List, [], ◌∷◌, ◌++◌, map, length, take, get_or, Some, None, Ok, refl, sym, ◌∙◌, ap, subst, arith, append_assoc}
 use Rattle.std.specs.Prelude.{codes}
 use Rattle.std.specs.List.{All, list_all, slice_split, enumerate_from}
 use Rattle.std.specs.Str.Lines.{strip_carriage_return}
@@ -9,12 +9,12 @@ use Rattle.std.proofs.Math.ListN.{get_or-map}
 use Rattle.std.proofs.lemmas.List.Elements.{All-head, All-tail, All-weaker}
 use Rattle.std.proofs.lemmas.List.Sums.{AllPass-from_list_all}
 use Rattle.std.proofs.lemmas.List.Splits.{slice_split_at}
-use borrow.Author.Tests.{eqb-true, leb-true}
 use Rattle.osek_values.specs.declared.event.{Event.{Event}, Event.TheVariants.{Run, Irq, Tick}}
-use Rattle.osek_values.specs.Names.{is_letter, is_digit, is_name_byte, is_word, is_name}
+use Rattle.osek_values.specs.Names.{is_name_byte, is_name}
 use Rattle.osek_standard.specs.declared.app.App.{App}
 use Rattle.osek_standard.specs.declared.objects.{Isr.{Isr}, Counter.{Counter}}
 use Rattle.osek_standard.specs.Apps.{the_isr, the_counter, no_isr, no_counter, IsDeclared}
+use Rattle.text_pieces.proofs.NameLaws.{byte_lacks, lacks, Name, name_is}
 use Rattle.trace_text.specs.EventWords.{is_blank, is_some_word}
 use Rattle.trace_text.specs.declared.fault.EventFault.TheVariants.{E4}
 use Rattle.trace_text.specs.EventText.{Reading, ended_line, lines_in, text_lines, with_line, read_lines, fault_at, numbered_lines, read_text}
@@ -22,17 +22,6 @@ use Rattle.trace_text.specs.EventGrammar.{HasWords, Says, event_line, event_text
 use Rattle.trace_text.proofs.LineLaws.{is_lf, ended_first, some_parts}
 use Rattle.trace_text.proofs.EventLaws.{read_as_said}
 use Rattle.trace_text.proofs.GrammarLaws.{both}
-
--- a byte that no name has
-lacks_by : (b : Bool) (c d : ℕ) → is_name_byte d ≡ false → is_name_byte c ≡ true → eqb c d ≡ b → not b ≡ true
-lacks_by true c d out within e = let same = eqb-true c d e in cc (ap is_name_byte same)
-lacks_by false c d out within e = refl
-
-lacks : (d : ℕ) (cs : List ℕ) → is_name_byte d ≡ false → list_all is_name_byte cs ≡ true → list_all (λ c. not (eqb c d)) cs ≡ true
-lacks d [] out h = refl
-lacks d (c ∷ cs) out h =
-    let parts = both (is_name_byte c) (list_all is_name_byte cs) h in
-    rw (lacks_by (eqb c d) c d out parts.0 refl, lacks d cs out parts.1)
 
 no_blank_by : (a b : Bool) → not a ≡ true → not b ≡ true → not (a || b) ≡ true
 no_blank_by true b h k = absurd (cc)
@@ -42,29 +31,11 @@ no_blanks : (cs : List ℕ) → list_all is_name_byte cs ≡ true → list_all (
 no_blanks [] h = refl
 no_blanks (c ∷ cs) h =
     let parts = both (is_name_byte c) (list_all is_name_byte cs) h in
-    rw (no_blank_by (eqb c 32) (eqb c 9) (lacks_by (eqb c 32) c 32 refl parts.0 refl) (lacks_by (eqb c 9) c 9 refl parts.0 refl), no_blanks cs parts.1)
+    rw (no_blank_by (eqb c 32) (eqb c 9) (byte_lacks c 32 refl parts.0) (byte_lacks c 9 refl parts.0), no_blanks cs parts.1)
 
-letter_by : (a b : Bool) → a ≡ true → (a || b) ≡ true
-letter_by true b h = refl
-letter_by false b h = absurd (cc)
-
-word_bytes : (name : List ℕ) → is_word name ≡ true → (is_some_word name ≡ true) × (list_all is_name_byte name ≡ true)
-word_bytes [] h = absurd (cc)
-word_bytes (c ∷ cs) h =
-    let parts = both (is_letter c) (list_all is_name_byte cs) h in
-    (refl, rw (letter_by (is_letter c) (is_digit c) parts.0, parts.1))
-
--- what is known of a name
-record Name (name : List ℕ) : Type 0 where
-  some : is_some_word name ≡ true
-  bytes : list_all is_name_byte name ≡ true
-  short : length name ≤ 64
-
-name_is : (name : List ℕ) → is_name name ≡ true → Name name
-name_is name h =
-    let parts = both (is_word name) (leb (length name) 64) h in
-    let bytes = word_bytes name parts.0 in
-    record { some = bytes.0; bytes = bytes.1; short = leb-true (length name) 64 parts.1 }
+some_word : (name : List ℕ) → 0 < length name → is_some_word name ≡ true
+some_word [] h = absurd (omega (arith, h))
+some_word (c ∷ cs) h = refl
 
 isr_name : (app : App) (k : ℕ) → k < length app.isrs → Name (the_isr app k).name
 isr_name app k h =
@@ -96,10 +67,10 @@ says app (Run false) h = record { short = omega arith; known = h; words = two_wo
 says app (Run true) h = record { short = omega arith; known = h; words = two_words (codes "run") (codes "1") refl refl refl refl }
 says app (Irq i) h =
     let n = isr_name app i.0 h in
-    record { short = omega (arith, n.short); known = h; words = two_words (codes "irq") (the_isr app i.0).name refl refl n.some (no_blanks (the_isr app i.0).name n.bytes) }
+    record { short = omega (arith, n.short); known = h; words = two_words (codes "irq") (the_isr app i.0).name refl refl (some_word (the_isr app i.0).name n.some) (no_blanks (the_isr app i.0).name n.bytes) }
 says app (Tick c) h =
     let n = counter_name app c.0 h in
-    record { short = omega (arith, n.short); known = h; words = two_words (codes "tick") (the_counter app c.0).name refl refl n.some (no_blanks (the_counter app c.0).name n.bytes) }
+    record { short = omega (arith, n.short); known = h; words = two_words (codes "tick") (the_counter app c.0).name refl refl (some_word (the_counter app c.0).name n.some) (no_blanks (the_counter app c.0).name n.bytes) }
 
 no_lf : (app : App) (e : Event) → IsDeclared app e → list_all (λ c. not (eqb c 10)) (event_line app e) ≡ true
 no_lf app (Run false) h = refl

@@ -2,3 +2,4 @@ pub mod EventFaults
 pub mod EventGrammar
 pub mod EventText
 pub mod EventWords
+pub mod Feeds

@@ -35,13 +35,13 @@ impl<'a> Model for EventLines<'a> {
     ghost invariant = { λ s. s.number + length s.rest.now ≤ 16777217 };
 }
 
-fn line_end(text: &[u8]) -> Option<usize>
+pub(crate) fn line_end(text: &[u8]) -> Option<usize>
     ensures { result ≡ position (λ c. c == 10) text.now }
 {
     text.iter().position(|byte| *byte == b'\n')
 }
 
-fn without_cr(line: &[u8]) -> &[u8]
+pub(crate) fn without_cr(line: &[u8]) -> &[u8]
     ensures { result.now ≡ strip_carriage_return line.now }
 {
     match line {

@@ -1,12 +1,15 @@
 //! Laws of event texts.
-ghost use Rattle.std.specs.Prelude.{◌≡◌, ℕ, ◌≤◌, List, length, All, Some, None, Ok, Err};
+ghost use Rattle.std.specs.Prelude.{◌≡◌, ℕ, ◌≤◌, ◌↔◌, true, false, List, [], ◌∷◌, ◌++◌, length, All, Some, None, Ok, Err};
+ghost use Rattle.std.specs.List.{enumerate_from};
 ghost use Rattle.osek_values.specs.declared.limits.TheConstants.{MAX_EVENT_LINE, MAX_EVENT_TEXT};
 ghost use Rattle.osek_values.specs.declared.event.Event.{Event};
 ghost use Rattle.osek_standard.specs.declared.app.App.{App};
 ghost use Rattle.osek_standard.specs.Apps.{IsDeclared};
 ghost use Rattle.trace_text.specs.declared.fault.EventFault.TheVariants.{E2};
 ghost use Rattle.trace_text.specs.EventWords.{words, read_line};
-ghost use Rattle.trace_text.specs.EventText.{read_text};
+ghost use Rattle.trace_text.specs.declared.feed.FeedStep.TheVariants.{Line, End, More};
+ghost use Rattle.trace_text.specs.EventText.{text_lines, numbered_lines, read_lines, read_text};
+ghost use Rattle.trace_text.specs.Feeds.{FeedState, no_bytes, next_answer, after_next, ComesOut, lines_to_long};
 ghost use Rattle.trace_text.specs.EventGrammar.{HasWords, NamesNone, SayNothing, Says, event_text};
 
 /// A line has the words that it is read by, and no other ones.
@@ -36,4 +39,17 @@ pub fn a_line_without_words_says_nothing()
 /// Each list of events of an application has a text, which reads back as that list.
 pub fn a_text_of_events_reads_back()
     ensures { (app : App) (es : List Event) → All (IsDeclared app) es → length (event_text app es) ≤ MAX_EVENT_TEXT → read_text app (event_text app es) ≡ record { events = es; fault = None } }
+{}
+
+/// A line that comes out of a feed is the first of those that are still to come, or too long as that one is, and then its first bytes.
+pub fn a_feed_gives_the_first_line()
+    ensures line { (s : FeedState) (rest : List ℕ) → (s.finished ≡ true → rest ≡ []) → next_answer s ≡ Line → lines_to_long (text_lines (s.ahead ++ rest)) ≡ lines_to_long ((after_next s).line ∷ text_lines ((after_next s).ahead ++ rest)) }
+    ensures end { (s : FeedState) → (next_answer s ≡ End) ↔ ((s.finished ≡ true) × (s.ahead ≡ [])) }
+    ensures more { (s : FeedState) → next_answer s ≡ More → (s.finished ≡ false) × (length s.ahead ≤ MAX_EVENT_LINE) }
+{}
+
+/// However a text is cut into pieces, the same lines come out up to the first that is too long, and say what the text says.
+pub fn the_lines_of_a_text_come_out_for_every_cut()
+    ensures lines { (text : List ℕ) (lines : List (List ℕ)) → ComesOut no_bytes text lines → lines_to_long lines ≡ lines_to_long (text_lines text) }
+    ensures reading { (app : App) (text : List ℕ) (lines : List (List ℕ)) → ComesOut no_bytes text lines → read_lines app (enumerate_from 1 lines) ≡ read_lines app (numbered_lines text) }
 {}

@@ -4,12 +4,13 @@
 mod event_lines;
 mod event_words;
 mod fault;
+mod feed;
 pub mod laws;
-mod pieces;
 mod trace_line;
 mod trace_notes;
 
 pub use event_lines::{EventLine, EventLines};
 pub use event_words::read_event;
 pub use fault::{EventFault, FaultyLine};
+pub use feed::{FEED_ROOM, Feed, FeedStep};
 pub use trace_line::write_line;

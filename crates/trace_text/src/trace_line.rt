@@ -8,11 +8,11 @@ ghost use Rattle.osek_standard.specs.TaskStates.{held};
 ghost use Rattle.osek_standard.specs.TraceText.{source_text, who, events_text, resource_text, task_text, line_text};
 ghost use Rattle.osek_standard.specs.Well.{Well, IsStack};
 
-use crate::pieces::{MAX_DECIMAL, MAX_HEXADECIMAL, put, put_decimal, put_hexadecimal, put_name};
 use crate::trace_notes::{letter, put_notes};
 use osek_standard::{Activity, App, Processor, State, Task, TaskState};
 use osek_values::limits::{LINE_MAX, MAX_NAME, MAX_RESOURCES, MAX_TASKS};
 use osek_values::{Notes, ResNo, SourceNo, TaskNo};
+use text_pieces::{MAX_DECIMAL, MAX_HEXADECIMAL, put, put_decimal, put_hexadecimal, put_name};
 
 /// The most bytes of who has the processor: a mark and a name.
 const MAX_WHO: usize = 1 + MAX_NAME;

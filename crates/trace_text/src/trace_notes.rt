@@ -2,10 +2,10 @@
 ghost use Rattle.std.specs.Prelude.{◌≡◌, ◌+◌, ◌≤◌, ◌++◌, length, take};
 ghost use Rattle.osek_standard.specs.TraceText.{status_name as name_of_status, letter as letter_text, has_hook as is_hook_in, hook_text, status_text, value_text, value_note, notes_text};
 
-use crate::pieces::{put, put_decimal, put_hexadecimal, put_name};
 use osek_standard::App;
 use osek_values::limits::MAX_NAME;
 use osek_values::{HookSet, Letter, ModeNo, Notes, Status, TaskNo, Value};
+use text_pieces::{put, put_decimal, put_hexadecimal, put_name};
 
 /// The most bytes of a status: ` !` and E_OS_CALLEVEL or E_OS_RESOURCE.
 const MAX_STATUS: usize = 15;

@@ -12,7 +12,7 @@ pub returns-in-Ok-store : goal.returns-in-Ok-store
 returns-in-Ok-store g c = let made = c.in-Ok-bytes.ensures in record {
   answer = λ faults printed.
       stores (over_app (g.F.Shelf.contents c.args.shelf.now) c.args.oil.now c.args.code.now (Stores (beside (told g.F.Shelf c.args.shelf.now) faults printed) (beside (told g.F.Shelf c.store.new.shelf) faults printed) c.args.image.now) c.in-Ok.app
-      (made.image, made.kernel, stored_all _ _ _ c.args.image.now c.deref.result.now (spelling made.image) c.in-Ok.ensures.same.files (c.deref.ensures.value ∙ made.are) c.in-Ok-store.ensures.ok)
+      (made.image, made.fitted, stored_all _ _ _ c.args.image.now c.deref.result.now (spelling made.image) c.in-Ok.ensures.same.files (c.deref.ensures.value ∙ made.are) c.in-Ok-store.ensures.ok)
       c.in-Ok.ensures.app);
 }
 
@@ -21,7 +21,7 @@ returns g c = let made = c.in-Ok-bytes.ensures in record {
   answer = λ faults printed.
       fails (subst (λ (n : ℕ). Rose n (g.F.Shelf.write_faults c.store.new.shelf)) c.in-Ok.ensures.same.writes c.in-Err-Write.ensures.cause)
       (over_app (g.F.Shelf.contents c.args.shelf.now) c.args.oil.now c.args.code.now (StoresFront (beside (told g.F.Shelf c.args.shelf.now) faults printed) (beside (told g.F.Shelf c.store.new.shelf) faults printed) c.args.image.now) c.in-Ok.app
-      (made.image, made.kernel, stored_part _ _ _ c.args.image.now c.deref.result.now (spelling made.image) c.in-Ok.ensures.same.files (c.deref.ensures.value ∙ made.are) c.in-Err-Write.ensures.part)
+      (made.image, made.fitted, stored_part _ _ _ c.args.image.now c.deref.result.now (spelling made.image) c.in-Ok.ensures.same.files (c.deref.ensures.value ∙ made.are) c.in-Err-Write.ensures.part)
       c.in-Ok.ensures.app);
 }
 

@@ -2,4 +2,4 @@
 use Rattle.commands.proofs.building.image_bytes.Goals as goal
 
 pub returns : goal.returns
-returns c = record { image = c.in_ok-image.image; kernel = c.in_ok-image.ensures; are = c.in_ok-bytes.ensures }
+returns c = record { image = c.in_ok-image.image; fitted = c.in_ok-image.ensures; are = c.in_ok-bytes.ensures }

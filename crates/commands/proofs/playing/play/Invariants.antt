@@ -1,18 +1,25 @@
--- how far the play has come, and that events are no more than lines
-use Rattle.std.proofs.Common.{◌≡◌, ◌≤◌, ℕ, List, false, length}
-use Rattle.std.specs.List.{enumerate_from}
-use Rattle.trace_text.specs.EventText.{numbered_lines}
-use Rattle.commands.specs.Playing.{plays}
-use Rattle.commands.proofs.Plays.{Came}
+-- how far the read and the play of the text have come
+use Rattle.std.proofs.Common.{◌≡◌, ◌+◌, ◌-◌, ◌≤◌, false, length}
+use Rattle.osek_io.specs.Counts.{Same}
+use Rattle.osek_io.specs.Reads.{OnlyReads}
+use Rattle.commands.specs.Playing.{given}
+use Rattle.commands.proofs.FedPlays.{HasCome}
 use Rattle.commands.proofs.playing.play.Given as goal
 
-abbrev pub invariant-loop-event_line : goal.invariant-loop-event_line
-invariant-loop-event_line g l = record {
+abbrev pub invariant-pieces : goal.invariant-pieces
+invariant-pieces g l = record {
   running : l.machine.trapped ≡ false;
+  image : l.machine.image ≡ l.fn.machine.image;
   later : g.O.Sink.faults l.initial.out ≤ g.O.Sink.faults l.out;
-  numbered : (k : ℕ) × (rest : List (List ℕ)) × (l.lines ≡ enumerate_from k rest) × (l.number ≤ k);
-  came : Came (g.O.Sink.written l.initial.out) (g.O.Sink.written l.out) (plays l.fn.machine.image (numbered_lines l.fn.text) 1 l.fn.machine.state) l.machine.image l.lines l.number l.machine.state;
+  few : l.place.event ≤ l.place.line;
+  fits : l.place.line + length l.feed.ahead ≤ l.taken + 1;
+  within : l.taken ≤ 16777216;
+  not_finished : l.feed.finished ≡ false;
+  waits : length l.feed.ahead ≤ 256;
+  same : OnlyReads g.F.Shelf l.initial.shelf l.shelf;
+  no_fault : Same (g.F.Shelf.read_faults l.initial.shelf) (g.F.Shelf.read_faults l.shelf);
+  come : HasCome (g.F.Shelf.contents l.initial.shelf) l.events (given (g.O.Sink.written l.initial.out) l.initial.buffer) (given (g.O.Sink.written l.out) l.buffer) l.fn.machine.image l.fn.machine.state l.taken l.feed l.place.line l.place.event l.machine.state;
 }
 
-abbrev pub decreases-loop-event_line : goal.decreases-loop-event_line
-decreases-loop-event_line g l = length l.lines
+abbrev pub decreases-pieces : goal.decreases-pieces
+decreases-pieces g l = 16777216 - l.taken

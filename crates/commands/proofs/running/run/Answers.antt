@@ -1,8 +1,9 @@
--- the answers, from what was loaded and played
-use Rattle.std.proofs.Common.{◌≡◌, List, ℕ, refl, sym, subst, None}
-use Rattle.commands.specs.Outside.{outside}
-use Rattle.commands.specs.Playing.{PlaysWhole}
-use Rattle.commands.specs.Running.{mode_named, no_mode, stops}
+-- the answers, from what was read and played
+use Rattle.std.proofs.Common.{◌≡◌, refl, sym, None}
+use Rattle.image_model.specs.ImageTrace.{image_trace, has_trap}
+use Rattle.commands.specs.Outside.{Told, beside, outside}
+use Rattle.commands.specs.Running.{mode_named, no_mode, stops, RunAnswers}
+use Rattle.commands.proofs.FaultlessReads.{earlier, then_reads}
 use Rattle.commands.proofs.Runs.{image_runs}
 use Rattle.commands.proofs.running.run.Goals as goal
 
@@ -13,9 +14,14 @@ returns-in_default-clause-answer g c =
 
 pub returns-in-Ok-clause-answer : goal.returns-in-Ok-clause-answer
 returns-in-Ok-clause-answer g c =
-    image_runs (outside g.F.Shelf g.O.Sink c.args.shelf.now c.args.out.now) (outside g.F.Shelf g.O.Sink c.load_input.new.shelf c.play_image.new.out)
-    c.args.image c.args.mode.now c.args.events.now c.in-Some.mode c.in-Ok.text.items (sym c.in-Some.ensures.mode) c.in-Ok.ensures.bytes c.in-Ok.ensures.within c.play_image.result
-    (subst (λ (t : List ℕ). PlaysWhole (g.O.Sink.faults c.args.out.now) (g.O.Sink.faults c.play_image.new.out) (g.O.Sink.written c.args.out.now) (g.O.Sink.written c.play_image.new.out) c.args.image c.in-Some.mode t c.play_image.result) c.deref.ensures.value c.play_image.ensures)
+    let i = c.args.image in
+    let after = outside g.F.Shelf g.O.Sink c.play_image.new.shelf c.play_image.new.out in
+    earlier g.F.Shelf c.args.shelf.now c.judge_length.new.shelf c.in-Ok.ensures.same c.in-Ok.ensures.no_fault
+    (λ (t : Told). RunAnswers (beside t (g.O.Sink.faults c.args.out.now) (g.O.Sink.written c.args.out.now)) after i.app (image_trace i) (has_trap i) c.args.mode.now c.args.events.now c.play_image.result)
+    (image_runs (outside g.F.Shelf g.O.Sink c.judge_length.new.shelf c.args.out.now) after i c.args.mode.now c.args.events.now c.in-Some.mode (sym c.in-Some.ensures.mode) c.play_image.result c.play_image.ensures.answer)
+
+pub returns-in-Ok-clause-same : goal.returns-in-Ok-clause-same
+returns-in-Ok-clause-same g c = then_reads g.F.Shelf c.args.shelf.now c.judge_length.new.shelf c.in-Ok.ensures.same c.in-Ok.ensures.no_fault c.play_image.new.shelf c.play_image.ensures.same
 
 pub play_image-requires-clause-known : goal.play_image-requires-clause-known
 play_image-requires-clause-known g c = c.in-Some.ensures.known

@@ -10,7 +10,7 @@ use Rattle.commands.specs.Words.{Command, command_of}
 use Rattle.commands.specs.declared.stop.Stop.{Stop}
 use Rattle.commands.proofs.Commands.{does_of}
 use Rattle.commands.proofs.Exact.{exact_of}
-use Rattle.commands.proofs.Plays.{grown-nil}
+use Rattle.commands.proofs.GivenTexts.{grown-nil}
 use Rattle.commands.proofs.top.osekfit.Goals as goal
 
 pub returns-in-Ok-clause-does : goal.returns-in-Ok-clause-does

@@ -14,11 +14,11 @@ use Rattle.commands.proofs.tracing.trace.Goals as goal
 
 pub returns-clause-answer : goal.returns-clause-answer
 returns-clause-answer g c =
-    let i = c.in-Ok-image_of.image in
+    let i = c.in-Ok-general.image in
     let before = outside g.F.Shelf g.O.Sink c.args.shelf.now c.args.out.now in
     let after = outside g.F.Shelf g.O.Sink c.run.new.shelf c.run.new.out in
     runs c.run.result (over_app (g.F.Shelf.contents c.args.shelf.now) c.args.oil.now c.args.code.now (λ (app : App). RunAnswers before after app (kernel_trace app) never c.args.mode.now c.args.events.now c.run.result) c.in-Ok.app
-    (kernel_runs before after c.args.mode.now c.args.events.now c.in-Ok.app i c.in-Ok-image_of.ensures c.run.result
+    (kernel_runs before after c.args.mode.now c.args.events.now c.in-Ok.app i c.in-Ok-general.ensures.app c.in-Ok-general.ensures.forms c.run.result
     (earlier g.F.Shelf c.args.shelf.now c.compile.new.shelf c.in-Ok.ensures.same c.in-Ok.ensures.no_fault
     (λ (t : Told). RunAnswers (beside t (g.O.Sink.faults c.args.out.now) (g.O.Sink.written c.args.out.now)) after i.app (image_trace i) (has_trap i) c.args.mode.now c.args.events.now c.run.result) c.run.ensures.answer))
     c.in-Ok.ensures.app)

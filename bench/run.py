@@ -1,0 +1,113 @@
+#!/usr/bin/env python3
+"""Measures a built osekfit on applications of growing size.
+
+For each number of tasks it makes an application by a seed, runs `build` and `show` on it, and `replay` of as many random events
+as asked for, each in a process of its own. The table gives user and system time in seconds, the largest memory in MB, and the
+numbers that the program prints. The last line is the time that md5sum needs for 100 MB here, to compare machines by.
+
+    bench/run.py crates/osekfit/out/osekfit
+    bench/run.py --tasks 2,4 --events 10000 crates/osekfit/out/osekfit
+"""
+import argparse
+import os
+import shutil
+import subprocess
+import sys
+import tempfile
+import threading
+from collections import namedtuple
+
+import make_app
+
+Run = namedtuple('Run', 'status seconds megabytes')
+"""How a process ended: its status (None where it was stopped, for its time or by a signal), its time, its largest memory."""
+
+MODE = 'OSDEFAULTAPPMODE'
+
+CHECKED_BYTES = 100 * 1000 * 1000
+
+
+def run(words, folder, out, limit):
+    """Runs a command with its output in a file, and stops it after `limit` seconds."""
+    with open(os.path.join(folder, out), 'wb') as file:
+        process = subprocess.Popen(words, cwd=folder, stdin=subprocess.DEVNULL, stdout=file, stderr=file)
+    timer = threading.Timer(limit, process.kill)
+    timer.start()
+    _, ended, usage = os.wait4(process.pid, 0)
+    timer.cancel()
+    process.returncode = ended
+    status = os.WEXITSTATUS(ended) if os.WIFEXITED(ended) else None
+    return Run(status, usage.ru_utime + usage.ru_stime, usage.ru_maxrss / 1024)
+
+
+def counts_of(folder):
+    """The numbers of the last line of show, and how many sites have each form."""
+    with open(os.path.join(folder, 'show.out'), encoding='ascii', errors='replace') as file:
+        lines = file.read().splitlines()
+    words = lines[-1].split(' ') if lines else []
+    counts = dict(zip(words[::2], words[1::2])) if words[:1] == ['points'] else {}
+    forms = [line.split(' ')[4] for line in lines if line.startswith('site ')]
+    counts['forms'] = '/'.join(str(forms.count(form)) for form in ('never', 'stay', 'direct', 'general'))
+    return counts
+
+
+def measured(program, tasks, words, folder):
+    """A line of the table for so many tasks."""
+    make_app.write_app(make_app.usual_size(tasks), words.seed, words.events, folder)
+    runs = [run([program, 'build', 'app.oil', 'app.code', 'app.image'], folder, 'build.out', words.limit),
+            run([program, 'show', 'app.oil', 'app.code'], folder, 'show.out', words.limit)]
+    if os.path.exists(os.path.join(folder, 'app.image')):
+        runs.append(run([program, 'replay', 'app.image', MODE, 'app.events'], folder, 'replay.out', words.limit))
+    counts = counts_of(folder) if runs[1].status == 0 else {}
+    cells = [str(tasks)] + [counts.get(name, '-') for name in ('points', 'values', 'edges', 'forms')]
+    return cells + [cell for one in runs for cell in cells_of(one)]
+
+
+def cells_of(one):
+    seconds = '%.2f' % one.seconds if one.status == 0 else 'stopped' if one.status is None else 'status %d' % one.status
+    return [seconds, '%.0f' % one.megabytes]
+
+
+def checksum_seconds(folder):
+    with open(os.path.join(folder, 'zeros'), 'wb') as file:
+        file.truncate(CHECKED_BYTES)
+    return run(['md5sum', 'zeros'], folder, 'md5sum.out', 600).seconds
+
+
+def printed(cells, widths):
+    print('  '.join(cell.rjust(width) for cell, width in zip(cells, widths)), flush=True)
+
+
+def arguments():
+    parser = argparse.ArgumentParser(description=__doc__, formatter_class=argparse.RawDescriptionHelpFormatter)
+    parser.add_argument('program', metavar='PROGRAM', help='the built osekfit')
+    parser.add_argument('--tasks', default='2,4,8,16', help='numbers of tasks, parted by commas')
+    parser.add_argument('--events', type=int, default=1000000, metavar='N', help='how many events are replayed')
+    parser.add_argument('--seed', type=int, default=1)
+    parser.add_argument('--limit', type=float, default=600, metavar='SECONDS', help='how long one command may take')
+    parser.add_argument('--keep', metavar='DIR', help='where the texts and outputs are kept')
+    return parser.parse_args()
+
+
+HEADINGS = ['tasks', 'points', 'values', 'edges', 'n/s/d/g', 'build s', 'MB', 'show s', 'MB', 'replay s', 'MB']
+
+
+def main():
+    words = arguments()
+    program = os.path.abspath(words.program)
+    folder = os.path.abspath(words.keep) if words.keep else tempfile.mkdtemp(prefix='osekfit-bench-')
+    os.makedirs(folder, exist_ok=True)
+    widths = [5, 6, 9, 7, 15, 8, 5, 8, 5, 8, 5]
+    print('forms: never/stay/direct/general; replay of %d events; seed %d' % (words.events, words.seed))
+    printed(HEADINGS, widths)
+    try:
+        for tasks in map(int, words.tasks.split(',')):
+            printed(measured(program, tasks, words, os.path.join(folder, 'tasks%d' % tasks)), widths)
+        print('md5sum of 100 MB: %.2f s' % checksum_seconds(folder))
+    finally:
+        if not words.keep:
+            shutil.rmtree(folder)
+
+
+if __name__ == '__main__':
+    sys.exit(main())

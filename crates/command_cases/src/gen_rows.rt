@@ -1,0 +1,66 @@
+//! Rows of `gen`: what its line says of systems of which a model of the definitions says the same.
+use crate::rows::{Act, Row};
+
+pub const GEN_ROWS: [Row; 3] = [
+    Row {
+        name: "gen of one task",
+        files: &[],
+        acts: &[
+            Act::Frames(
+                &["gen", "1", "1"],
+                "points 22 height 65 values ",
+                " lines 1001\n",
+            ),
+            Act::Run(
+                &["gen", "1", "1"],
+                0,
+                "points 22 height 65 values 130 never 0 stay 3 direct 1 general 2 bytes 15382 lines 1001\n",
+                "",
+            ),
+            Act::Run(
+                &["gen", "00000000000000000001", "0000000000000000000000001"],
+                0,
+                "points 22 height 65 values 130 never 0 stay 3 direct 1 general 2 bytes 15382 lines 1001\n",
+                "",
+            ),
+        ],
+    },
+    Row {
+        name: "gen of two and three tasks",
+        files: &[],
+        acts: &[
+            Act::Run(
+                &["gen", "1", "2"],
+                0,
+                "points 37 height 128 values 263 never 3 stay 5 direct 2 general 1 bytes 44964 lines 2001\n",
+                "",
+            ),
+            Act::Run(
+                &["gen", "1", "3"],
+                0,
+                "points 52 height 191 values 1049 never 0 stay 11 direct 1 general 6 bytes 96185 lines 3001\n",
+                "",
+            ),
+            Act::Run(
+                &["gen", "7", "2"],
+                0,
+                "points 37 height 128 values 396 never 0 stay 3 direct 0 general 4 bytes 45759 lines 2001\n",
+                "",
+            ),
+        ],
+    },
+    Row {
+        name: "gen of no such numbers",
+        files: &[],
+        acts: &[
+            Act::Run(&["gen", "1", "17"], 2, "", "usage\n"),
+            Act::Run(&["gen", "1", "0"], 2, "", "usage\n"),
+            Act::Run(&["gen", "000000000000000000001", "1"], 2, "", "usage\n"),
+            Act::Run(&["gen", "18446744073709551616", "1"], 2, "", "usage\n"),
+            Act::Run(&["gen", "-1", "1"], 2, "", "usage\n"),
+            Act::Run(&["gen", "+1", "1"], 2, "", "usage\n"),
+            Act::Run(&["gen", "1"], 2, "", "usage\n"),
+            Act::Run(&["gen", "1", "1", "1"], 2, "", "usage\n"),
+        ],
+    },
+];

@@ -1,0 +1,15 @@
+-- the table is inductive, so the image is the kernel; its forms are those that the table dictates
+use Rattle.std.proofs.Common.{refl}
+use Rattle.abstract_state.specs.Tables.{sets_of}
+use Rattle.commands.proofs.SmallImages.{small}
+use Rattle.commands.proofs.fitting.fitted.Goals as goal
+
+pub returns-clause-fitted : goal.returns-clause-fitted
+returns-clause-fitted c = let i = c.in_ok-image.image in record {
+  kernel = record {
+    is = c.in_ok-image.ensures.app;
+    spelled = record { within = small i; fits = c.read_numbers.ensures; spelled = refl };
+    runs = c.in_ok-image.ensures.kernel c.requires.table.least.inductive;
+  };
+  forms = record { table = sets_of c.args.table.now; least = c.requires.table.least; forms = c.in_ok-image.ensures.forms };
+}

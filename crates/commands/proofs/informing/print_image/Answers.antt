@@ -1,0 +1,15 @@
+-- a front of the first line, or one of the sites' lines behind it
+use Rattle.flow_text.specs.{FlowLines.{info_line}, Texts.{sites_text}}
+use Rattle.commands.proofs.Fronts.{front_of_first, front_behind}
+use Rattle.commands.proofs.Results.{on_err}
+use Rattle.commands.proofs.informing.print_image.Goals as goal
+
+pub returns-in_err-print_info-clause-front : goal.returns-in_err-print_info-clause-front
+returns-in_err-print_info-clause-front g c =
+    let i = c.args.image.now in
+    on_err _ _ (front_of_first _ _ (info_line i) (sites_text i.app i.sites) c.in_err-print_info.ensures.front)
+
+pub returns-in_err-print_sites-clause-front : goal.returns-in_err-print_sites-clause-front
+returns-in_err-print_sites-clause-front g c =
+    let i = c.args.image.now in
+    on_err _ _ (front_behind _ _ _ (info_line i) (sites_text i.app i.sites) c.in_ok-print_info.ensures.ok c.in_err-print_sites.ensures.front)

@@ -1,0 +1,33 @@
+-- The image of an application that is fitted to it by its least table of possible states.
+use Rattle.std.specs.Prelude.{◌≡◌, ◌<◌, List, length}
+use Rattle.osek_values.specs.declared.{event.Event.{Event}, numbers.ModeNo.{ModeNo}}
+use Rattle.osek_standard.specs.declared.app.App.{App}
+use Rattle.image_model.specs.declared.image.Image.{Image}
+use Rattle.image_model.specs.Laws.{IsKernelsRun}
+use Rattle.image_codec.specs.Spelling.{spelling}
+use Rattle.abstract_state.specs.declared.table.Table.{Table}
+use Rattle.abstract_state.specs.{Forms.{HasDictatedForms}, Tables.{Sets, Least, sets_of}, Written.{IsWritten}}
+use Rattle.commands.specs.Replaying.{SpellImage}
+
+-- the least table of an application, as the analysis writes it
+pub record IsLeastTable (app : App) (table : Table) : Type 0 where
+  pub written : IsWritten app table
+  pub least : Least app (sets_of table)
+
+-- An image that is the kernel of an application: in each of its modes, under every list of events, its trace is the
+-- kernel's, without a trap. Its bytes are those that `replay` reads.
+pub record IsKernelImage (app : App) (i : Image) : Type 0 where
+  pub is : i.app ≡ app
+  pub spelled : SpellImage (spelling i) i
+  pub runs : (mode : ModeNo) (events : List Event) → mode.0 < length app.modes → IsKernelsRun i mode events
+
+-- Each call site has the form that the least table of the application dictates.
+pub record HasLeastForms (app : App) (i : Image) : Type 0 where
+  pub table : Sets
+  pub least : Least app table
+  pub forms : HasDictatedForms table i
+
+-- The image that `build` writes: it is the kernel, and each call site has the form that the least table dictates.
+pub record IsFitted (app : App) (i : Image) : Type 0 where
+  pub kernel : IsKernelImage app i
+  pub forms : HasLeastForms app i

@@ -1,0 +1,126 @@
+//! The command `show`: what the least table of an application dictates.
+ghost use Rattle.std.specs.Prelude.{◌≡◌, ◌≤◌, All, length, IfOk, OnOk, OnErr};
+ghost use Rattle.osek_standard.specs.Points.{IsPoint};
+ghost use Rattle.osek_standard.specs.Versions.{FitsVersion1};
+ghost use Rattle.global_cfg.specs.declared.graph.FlowEdge.{FlowEdge as AnEdge};
+ghost use Rattle.osek_io.specs.Reads.{OnlyReads};
+ghost use Rattle.flow_text.specs.Texts.{show_text};
+ghost use Rattle.commands.specs.Fitting.{IsLeastTable};
+ghost use Rattle.commands.specs.Outside.{outside};
+ghost use Rattle.osek_io.specs.{Counts.{Rose}, Pieces.{grown}};
+ghost use Rattle.commands.specs.Telling.{WritesFront};
+ghost use Rattle.commands.specs.Printing.{PrintsWhole};
+ghost use Rattle.commands.specs.Showing.{IsDictated, ShowAnswers};
+
+use crate::compiling::compile;
+use crate::fitting::{fitted, least_table};
+use crate::printing::{print_counts, print_edges, print_sites};
+use crate::running::line_room;
+use crate::stop::Stop;
+use abstract_state::Table;
+use global_cfg::{FlowEdge, edges};
+use image_model::Image;
+use osek_io::{PutError, Shelf, Sink};
+use osek_standard::App;
+use osek_values::limits::LINE_MAX;
+use osek_values::{Memory, Seq};
+use state_flow::values;
+use std::alloc::Global;
+
+/// What the least table of an application dictates.
+#[derive(Drop)]
+pub struct Dictated {
+    /// The image in which each site has its form.
+    pub image: Image,
+    /// The edges of the global control-flow graph.
+    pub edges: Seq<FlowEdge>,
+    /// How many values the table has.
+    pub values: u64,
+}
+
+fn derive_by(alloc: Global, app: App, table: &Table) -> Result<Dictated, Memory>
+    requires version { FitsVersion1 app.tasks }
+    requires table { IsLeastTable app table.now }
+    ensures { IfOk result (IsDictated app) }
+{
+    let edges = edges(alloc, &app, table)?;
+    let values = values(&app, table);
+    let image = fitted(alloc, app, table)?;
+    Ok(Dictated {
+        image,
+        edges,
+        values,
+    })
+}
+
+/// What the least table of an application dictates.
+fn derive(alloc: Global, app: App) -> Result<Dictated, Memory>
+    requires version { FitsVersion1 app.tasks }
+    ensures { IfOk result (IsDictated app) }
+{
+    let table = least_table(alloc, &app)?;
+    let dictated = derive_by(alloc, app, &table);
+    drop(table);
+    dictated
+}
+
+/// Prints the text of what is dictated.
+fn print_dictated<O: Sink>(
+    out: &mut O,
+    dictated: &Dictated,
+    line: &mut [u8],
+) -> Result<(), PutError>
+    requires begin { All (λ (e : AnEdge). IsPoint dictated.now.image.app e.from) dictated.now.edges }
+    requires end { All (λ (e : AnEdge). IsPoint dictated.now.image.app e.to) dictated.now.edges }
+    requires room { LINE_MAX ≤ length line.old }
+    ensures ok { OnOk result (O.written out.new ≡ grown (O.written out.old) (show_text dictated.now.image.app dictated.now.image.sites dictated.now.edges dictated.now.values)) }
+    ensures front { OnErr result (WritesFront (O.written out.old) (O.written out.new) (show_text dictated.now.image.app dictated.now.image.sites dictated.now.edges dictated.now.values)) }
+    ensures cause { OnErr result (Rose (O.faults out.old) (O.faults out.new)) }
+    ensures never_falls { O.faults out.old ≤ O.faults out.new }
+{
+    let app = &dictated.image.app;
+    let edges = dictated.edges.as_slice();
+    print_sites(out, &dictated.image, line)?;
+    print_edges(out, app, edges, line)?;
+    print_counts(out, app, dictated.values, edges.len(), line)?;
+    Ok(())
+}
+
+/// The same with room for a line.
+fn print_shown<O: Sink>(alloc: Global, out: &mut O, dictated: &Dictated) -> Result<(), Stop>
+    requires begin { All (λ (e : AnEdge). IsPoint dictated.now.image.app e.from) dictated.now.edges }
+    requires end { All (λ (e : AnEdge). IsPoint dictated.now.image.app e.to) dictated.now.edges }
+    ensures { PrintsWhole (O.faults out.old) (O.faults out.new) (O.written out.old) (O.written out.new) (show_text dictated.now.image.app dictated.now.image.sites dictated.now.edges dictated.now.values) result }
+{
+    let Ok(mut line) = line_room(alloc) else {
+        return Err(Stop::Memory);
+    };
+    match print_dictated(out, dictated, &mut line) {
+        Ok(()) => Ok(()),
+        Err(PutError::Write) => Err(Stop::Unprinted),
+    }
+}
+
+/// Prints what the least table of the application of the two texts dictates: the form of each call site, the edges of
+/// the global control-flow graph, and its counts. All memory is taken before the first line is printed.
+pub fn show<F: Shelf, O: Sink>(
+    alloc: Global,
+    shelf: &mut F,
+    out: &mut O,
+    oil: &str,
+    code: &str,
+) -> Result<(), Stop>
+    ensures answer { ShowAnswers (outside F.Shelf O.Sink shelf.old out.old) (outside F.Shelf O.Sink shelf.new out.new) oil.now code.now result }
+    ensures same { OnlyReads F.Shelf shelf.old shelf.new }
+{
+    let app = match compile(alloc, shelf, oil, code) {
+        Ok(app) => app,
+        Err(stop) => return Err(stop),
+    };
+    let Ok(dictated) = derive(alloc, app) else {
+        return Err(Stop::Memory);
+    };
+    let printed = print_shown(alloc, out, &dictated);
+    drop(dictated);
+    printed
+}

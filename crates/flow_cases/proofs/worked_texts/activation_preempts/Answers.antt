@@ -1,0 +1,16 @@
+use Rattle.std.proofs.Common.{refl}
+use Rattle.std.specs.Fmt.{digits}
+use Rattle.std.specs.Int.Count.{ones}
+use Rattle.flow_cases.proofs.worked_texts.activation_preempts.Goals as goal
+
+pub returns-clause-shown : goal.returns-clause-shown
+unfolding digits ones
+returns-clause-shown c = λ m. refl
+
+pub returns-clause-told : goal.returns-clause-told
+unfolding digits
+returns-clause-told c = λ m i app sites. rw (app, sites) refl
+
+pub returns-clause-general : goal.returns-clause-general
+unfolding digits
+returns-clause-general c = λ m i app sites. rw (app, sites) refl

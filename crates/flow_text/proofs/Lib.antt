@@ -1,0 +1,3 @@
+pub mod LinesApart
+pub mod Parting
+pub mod TextsApart

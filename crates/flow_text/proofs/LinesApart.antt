@@ -1,0 +1,57 @@
+-- A line tells one edge, or one site.
+use Rattle.std.proofs.Common.{◌≡◌, ℕ, ◌<◌, List, [], ◌∷◌, ◌++◌, length, sym, ◌∙◌, ap, arith, append_assoc}
+use Rattle.std.specs.Prelude.{codes}
+use Rattle.std.specs.Fmt.{decimal}
+use Rattle.std.proofs.lemmas.List.{append_cancel_left, append_cancel_right}
+use Rattle.osek_standard.specs.declared.{app.App.{App}, point.Point.{Point}}
+use Rattle.osek_standard.specs.Apps.{the_block}
+use Rattle.osek_standard.specs.Points.{IsPoint}
+use Rattle.image_model.specs.declared.site.Form.{Form}
+use Rattle.image_model.specs.Sites.{IsForm}
+use Rattle.global_cfg.specs.Edges.{flow_edge}
+use Rattle.global_cfg.specs.declared.graph.FlowEdge.{FlowEdge}
+use Rattle.flow_text.specs.FlowLines.{block_text, edge_line, form_text, point_text, site_line}
+use Rattle.flow_text.proofs.Parting.{parted}
+use Rattle.flow_text.proofs.TextsApart.{block_lacks, block_once, few, form_once, point_lacks, point_once}
+
+abbrev lf : List ℕ
+lf = 10 ∷ []
+
+-- a word, a part, a blank and the rest
+regrouped : (w a b : List ℕ) → w ++ a ++ codes " " ++ b ++ lf ≡ w ++ (a ++ 32 ∷ (b ++ lf))
+regrouped w a b = simp append_assoc
+
+two_parts : (w a b c d : List ℕ) → w ++ a ++ codes " " ++ b ++ lf ≡ w ++ c ++ codes " " ++ d ++ lf → a ++ 32 ∷ (b ++ lf) ≡ c ++ 32 ∷ (d ++ lf)
+two_parts w a b c d e = append_cancel_left w (a ++ 32 ∷ (b ++ lf)) (c ++ 32 ∷ (d ++ lf)) (sym (regrouped w a b) ∙ e ∙ regrouped w c d)
+
+pub edge_once : (app : App) (e f : FlowEdge) → IsPoint app e.from → IsPoint app e.to → IsPoint app f.from → IsPoint app f.to → edge_line app e ≡ edge_line app f → e ≡ f
+edge_once app e f from to from_too to_too same =
+    let parts = parted 32 (point_text app e.from) (point_text app f.from) (point_text app e.to ++ lf) (point_text app f.to ++ lf)
+    (point_lacks app e.from from) (point_lacks app f.from from_too)
+    (two_parts (codes "edge ") (point_text app e.from) (point_text app e.to) (point_text app f.from) (point_text app f.to) same) in
+    let ends = append_cancel_right (point_text app e.to) (point_text app f.to) lf parts.1 in
+    ap (λ (p : Point). flow_edge p e.to) (point_once app e.from f.from from from_too parts.0)
+    ∙ ap (flow_edge f.from) (point_once app e.to f.to to to_too ends)
+
+-- what stands behind the block
+abbrev behind : App → ℕ → Form → List ℕ
+behind app b x = codes "line " ++ decimal (the_block app b).line ++ codes " " ++ form_text app x ++ lf
+
+site_regrouped : (w a b d : List ℕ) → w ++ a ++ codes " line " ++ b ++ codes " " ++ d ++ lf ≡ w ++ (a ++ 32 ∷ (codes "line " ++ b ++ codes " " ++ d ++ lf))
+site_regrouped w a b d = simp append_assoc
+
+pub site_once : (app : App) (b c : ℕ) (x y : Form) → b < length app.blocks → c < length app.blocks → IsForm (length app.tasks) x → IsForm (length app.tasks) y →
+    site_line app b x ≡ site_line app c y → (b ≡ c) × (x ≡ y)
+site_once app b c x y known known_too form form_too same =
+    let low = few app b known in
+    let high = few app c known_too in
+    let line_of : ℕ → List ℕ = λ (k : ℕ). decimal (the_block app k).line in
+    let word = codes "site " in
+    let whole = append_cancel_left word (block_text b ++ 32 ∷ behind app b x) (block_text c ++ 32 ∷ behind app c y)
+    (sym (site_regrouped word (block_text b) (line_of b) (form_text app x)) ∙ same ∙ site_regrouped word (block_text c) (line_of c) (form_text app y)) in
+    let parts = parted 32 (block_text b) (block_text c) (behind app b x) (behind app c y) (block_lacks 32 b (omega arith) low) (block_lacks 32 c (omega arith) high) whole in
+    let block = block_once b c low high parts.0 in
+    let front : ℕ → List ℕ = λ (k : ℕ). codes "line " ++ line_of k ++ codes " " in
+    let forms : front c ++ form_text app x ≡ front c ++ form_text app y =
+    ap (λ (k : ℕ). front k ++ form_text app x) (sym block) ∙ append_cancel_right (front b ++ form_text app x) (front c ++ form_text app y) lf parts.1 in
+    (block, form_once app x y form form_too (append_cancel_left (front c) (form_text app x) (form_text app y) forms))

@@ -1,0 +1,4 @@
+pub mod FlowLines
+pub mod FormCounts
+pub mod GeneratedLine
+pub mod Texts

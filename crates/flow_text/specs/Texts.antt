@@ -1,0 +1,29 @@
+-- What is told of an image, and what is shown of an application and its analysis (this project's profile).
+use Rattle.std.specs.Prelude.{ℕ, List, [], ◌++◌, length, Some, None}
+use Rattle.std.specs.List.{flat_map, enumerate_from}
+use Rattle.std.specs.declared.option.Option.{Option}
+use Rattle.osek_standard.specs.declared.app.App.{App}
+use Rattle.image_model.specs.declared.{site.Site.{Site}, image.Image.{Image}}
+use Rattle.global_cfg.specs.declared.graph.FlowEdge.{FlowEdge}
+use Rattle.flow_text.specs.FlowLines.{site_line, edge_line, counts_line, info_line}
+
+-- the line of a block that is a site, and nothing for each other
+abbrev pub site_text : App → ℕ → Option Site → List ℕ
+site_text app b None = []
+site_text app b (Some x) = site_line app b x.form
+
+-- the lines of the sites, in the order of their blocks
+abbrev pub sites_text : App → List (Option Site) → List ℕ
+sites_text app sites = flat_map (λ (d : ℕ × Option Site). site_text app d.0 d.1) (enumerate_from 0 sites)
+
+-- the lines of edges
+abbrev pub edges_text : App → List FlowEdge → List ℕ
+edges_text app edges = flat_map (edge_line app) edges
+
+-- What is told of an image.
+abbrev pub info_text : Image → List ℕ
+info_text i = info_line i ++ sites_text i.app i.sites
+
+-- What is shown of an application whose sites have these forms, and whose least table has these edges and so many values.
+abbrev pub show_text : App → List (Option Site) → List FlowEdge → ℕ → List ℕ
+show_text app sites edges values = sites_text app sites ++ edges_text app edges ++ counts_line app values (length edges)

@@ -1,0 +1,26 @@
+//! Laws of texts: what a text tells is told by no other.
+ghost use Rattle.std.specs.Prelude.{◌≡◌, ℕ, ◌<◌, length};
+ghost use Rattle.osek_standard.specs.declared.app.App.{App};
+ghost use Rattle.osek_standard.specs.declared.point.Point.{Point};
+ghost use Rattle.osek_standard.specs.Points.{IsPoint};
+ghost use Rattle.image_model.specs.declared.site.Form.{Form};
+ghost use Rattle.image_model.specs.Sites.{IsForm};
+ghost use Rattle.global_cfg.specs.declared.graph.FlowEdge.{FlowEdge};
+ghost use Rattle.flow_text.specs.FlowLines.{point_text, form_text, edge_line, site_line};
+
+/// The text of a point of an application is that of no other of its points, and so with forms.
+pub fn a_text_tells_one_point_or_form()
+    ensures point { (app : App) (p q : Point) → IsPoint app p → IsPoint app q → point_text app p ≡ point_text app q → p ≡ q }
+    ensures form { (app : App) (x y : Form) → IsForm (length app.tasks) x → IsForm (length app.tasks) y → form_text app x ≡ form_text app y → x ≡ y }
+{}
+
+/// A line of an edge tells where it begins and ends.
+pub fn a_line_tells_one_edge()
+    ensures { (app : App) (e f : FlowEdge) → IsPoint app e.from → IsPoint app e.to → IsPoint app f.from → IsPoint app f.to → edge_line app e ≡ edge_line app f → e ≡ f }
+{}
+
+/// A line of a site tells its block and its form.
+pub fn a_line_tells_one_site()
+    ensures { (app : App) (b c : ℕ) (x y : Form) → b < length app.blocks → c < length app.blocks → IsForm (length app.tasks) x → IsForm (length app.tasks) y →
+        site_line app b x ≡ site_line app c y → (b ≡ c) × (x ≡ y) }
+{}

@@ -1,0 +1,4 @@
+pub mod InTurn
+pub mod LineCountLaws
+pub mod TextLines
+pub mod WritingLaws

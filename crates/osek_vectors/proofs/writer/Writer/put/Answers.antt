@@ -1,0 +1,7 @@
+use Rattle.std.proofs.Common.{rules}
+use Rattle.osek_vectors.specs.Writing.{fixed, onto}
+use Rattle.osek_vectors.proofs.writer.Writer.put.Goals as goal
+
+pub returns : goal.returns
+unfolding fixed onto
+returns c = search rules

@@ -1,0 +1,15 @@
+-- The three texts of a generated system. Each draws from the state on that the one before leaves.
+use Rattle.std.specs.Prelude.{ℕ}
+use Rattle.osek_vectors.specs.declared.generated.Generated.{Generated}
+use Rattle.osek_vectors.specs.Draws.{first_state}
+use Rattle.osek_vectors.specs.OilTexts.{oil_text}
+use Rattle.osek_vectors.specs.CodeTexts.{code_text}
+use Rattle.osek_vectors.specs.EventLines.{event_text}
+
+-- for a seed and n tasks
+abbrev pub generated_texts : ℕ → ℕ → Generated
+generated_texts seed n =
+    let oil = oil_text n (first_state seed) in
+    let code = code_text n oil.state in
+    let events = event_text n code.state in
+    record { oil = oil.text; code = code.text; events = events.text }

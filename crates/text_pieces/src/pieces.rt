@@ -1,0 +1,72 @@
+//! Pieces of text. Each call puts its piece at a place of a buffer and answers the place behind it; what stood before
+//! the place stays, and what stands behind the piece has no meaning. No call takes memory.
+ghost use Rattle.std.specs.Prelude.{◌≡◌, ◌+◌, ◌<◌, ◌≤◌, false, ◌++◌, length, take, decimal};
+ghost use Rattle.std.specs.Fmt.{digit_glyph};
+ghost use Rattle.osek_standard.specs.TraceText.{hexadecimal};
+
+use osek_values::Name;
+use osek_values::limits::MAX_NAME;
+
+/// The most digits of a number in decimal.
+pub const MAX_DECIMAL: usize = 20;
+/// The most digits of a set of events in hexadecimal.
+pub const MAX_HEXADECIMAL: usize = 16;
+
+/// Puts bytes.
+pub fn put(buf: &mut [u8], at: usize, bytes: &[u8]) -> usize
+    requires room { at + length bytes.now ≤ length buf.old }
+    ensures text { take result buf.new ≡ take at buf.old ++ bytes.now }
+    ensures end { result ≡ at + length bytes.now }
+{
+    let end = at + bytes.len();
+    buf[at..end].copy_from_slice(bytes);
+    end
+}
+
+/// Puts a name.
+pub fn put_name(buf: &mut [u8], at: usize, name: &Name) -> usize
+    requires room { at + MAX_NAME ≤ length buf.old }
+    ensures text { take result buf.new ≡ take at buf.old ++ name.now }
+    ensures most { result ≤ at + MAX_NAME }
+{
+    put(buf, at, name.as_bytes())
+}
+
+/// Puts a number in decimal.
+pub fn put_decimal(buf: &mut [u8], at: usize, n: u64) -> usize
+    requires room { at + MAX_DECIMAL ≤ length buf.old }
+    ensures text { take result buf.new ≡ take at buf.old ++ decimal n }
+    ensures most { result ≤ at + MAX_DECIMAL }
+{
+    let mut digits = itoa::Buffer::new();
+    put(buf, at, digits.format(n).as_bytes())
+}
+
+fn hexadecimal_digit(digit: u64) -> u8
+    requires { digit < 16 }
+    ensures { result ≡ digit_glyph false digit }
+{
+    if digit < 10 {
+        b'0' + digit as u8
+    } else {
+        b'a' + (digit as u8 - 10)
+    }
+}
+
+/// Puts a number in lower-case hexadecimal, without leading zeros.
+pub fn put_hexadecimal(buf: &mut [u8], at: usize, n: u64) -> usize
+    requires room { at + MAX_HEXADECIMAL ≤ length buf.old }
+    ensures text { take result buf.new ≡ take at buf.old ++ hexadecimal n }
+    ensures most { result ≤ at + MAX_HEXADECIMAL }
+{
+    let mut digits = [0; MAX_HEXADECIMAL];
+    let mut first = MAX_HEXADECIMAL - 1;
+    let mut left = n;
+    while left >= 16 {
+        digits[first] = hexadecimal_digit(left % 16);
+        left /= 16;
+        first -= 1;
+    }
+    digits[first] = hexadecimal_digit(left);
+    put(buf, at, &digits[first..])
+}

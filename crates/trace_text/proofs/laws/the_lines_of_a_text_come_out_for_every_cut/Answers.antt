@@ -1,0 +1,8 @@
+use Rattle.trace_text.proofs.FeedLaws.{same_lines, read_as_text}
+use Rattle.trace_text.proofs.laws.the_lines_of_a_text_come_out_for_every_cut.Goals as goal
+
+pub returns-clause-lines : goal.returns-clause-lines
+returns-clause-lines c = same_lines
+
+pub returns-clause-reading : goal.returns-clause-reading
+returns-clause-reading c = read_as_text

@@ -1,0 +1,316 @@
+#!/usr/bin/env python3
+"""Changes the examples' texts and images at random and runs a built osekfit on them.
+
+Each run has to end in time, with a status of the guide's table and the text on standard error that belongs to it; a refusal names
+the file that was changed, and a line or offset in it; no file but the image is changed, and that one only where `build` ends with
+0. What was built replays as `trace` prints it, and `info` has the sites that `show` has. What goes wrong is said, and its files
+are kept. The last lines count how often each answer came.
+
+    tools/mutate.py crates/osekfit/out/osekfit --minutes 5 --seed 7
+"""
+import argparse
+import collections
+import os
+import random
+import re
+import shutil
+import subprocess
+import sys
+import tempfile
+import time
+
+HERE = os.path.dirname(os.path.abspath(__file__))
+EXAMPLES = os.path.join(os.path.dirname(HERE), 'examples')
+MODE = 'OSDEFAULTAPPMODE'
+SECONDS = 20
+"""How long a run may take."""
+
+Answer = collections.namedtuple('Answer', 'status out err')
+
+TOKEN = re.compile(rb'\w+|\s+|[^\w\s]')
+NUMBERS = [b'0', b'1', b'2', b'65535', b'65536', b'4294967295', b'4294967296', b'18446744073709551615', b'18446744073709551616',
+           b'0x10', b'0xffffffffffffffff', b'00']
+PIECES = [b'{', b'}', b'(', b')', b';', b'=', b':', b'"', b'/*', b'*/', b'//', b'\n', b'\r', b'\0', b'\xff', b'?', b'|', b'-',
+          b'TASK', b'ISR', b'if (?) {', b'} else {', b'while (1) {', b'while (?) {', b'TerminateTask();', b'Schedule();', b'AUTO',
+          b'TRUE', b'SuspendOSInterrupts();', b'ResumeOSInterrupts();', b'run 1', b'irq ', b'tick ', b'#', b'x' * 65, b' ' * 257]
+
+
+COUNTS = {'build': 4, 'replay': 4, 'trace': 5, 'show': 3, 'info': 2, 'gen': 3}
+"""How many words each command has."""
+
+WORDS = list(COUNTS) + ['a.oil', 'a.code', '1', '17', '-', '--help', '', 'x', '\u00e9']
+
+
+class Fault(Exception):
+    """Something that the program did against the guide."""
+
+
+def text_changes(rng, text, others):
+    """The text with one to four changes."""
+    for _ in range(rng.randint(1, 4)):
+        text = rng.choice([change_tokens, change_bytes, cut_slice, copy_slice, put_piece, splice])(rng, text, others)
+    return text
+
+
+def change_tokens(rng, text, others):
+    """A token of the text in place of another, or a number."""
+    tokens = TOKEN.findall(text) or [b'']
+    place, token = rng.randrange(len(tokens)), rng.choice(tokens)
+    if tokens[place].isdigit() or rng.random() < 0.2:
+        token = rng.choice(NUMBERS)
+    return b''.join(tokens[:place] + [token] + tokens[place + 1:])
+
+
+def change_bytes(rng, text, others):
+    """A byte changed, in one of its bits or to another."""
+    if not text:
+        return text
+    place = rng.randrange(len(text))
+    byte = text[place] ^ 1 << rng.randrange(8) if rng.random() < 0.5 else rng.randrange(256)
+    return text[:place] + bytes([byte]) + text[place + 1:]
+
+
+def slice_of(rng, text):
+    begin = rng.randint(0, len(text))
+    return begin, min(len(text), begin + rng.choice([1, 2, 8, 40, 200, len(text)]))
+
+
+def cut_slice(rng, text, others):
+    begin, end = slice_of(rng, text)
+    return text[:begin] + text[end:]
+
+
+def copy_slice(rng, text, others):
+    begin, end = slice_of(rng, text)
+    place = rng.randint(0, len(text))
+    return (text[:place] + text[begin:end] + text[place:])[:2000000]
+
+
+def put_piece(rng, text, others):
+    place = rng.randint(0, len(text))
+    return text[:place] + rng.choice(PIECES) + text[place:]
+
+
+def splice(rng, text, others):
+    """A piece of another example's text."""
+    other = rng.choice(others)
+    begin, end = slice_of(rng, other)
+    place = rng.randint(0, len(text))
+    return text[:place] + other[begin:end] + text[place:]
+
+
+def image_changes(rng, image, others):
+    """The image with one to three changes of bytes, or a cut or a copy."""
+    for _ in range(rng.randint(1, 3)):
+        change = rng.choices([change_bytes, cut_slice, copy_slice, splice], [4, 1, 1, 1])[0]
+        image = change(rng, image, others)
+    return image
+
+
+class Trial:
+    """A folder with the texts of an example, in which the program is run."""
+
+    def __init__(self, program, folder, counts):
+        self.program, self.folder, self.counts = program, folder, counts
+
+    def path(self, name):
+        return os.path.join(self.folder, name)
+
+    def put(self, name, data):
+        with open(self.path(name), 'wb') as file:
+            file.write(data)
+
+    def get(self, name):
+        with open(self.path(name), 'rb') as file:
+            return file.read()
+
+    def files(self):
+        return {name: self.get(name) for name in os.listdir(self.folder)}
+
+    def run(self, words, may_write=None):
+        """Runs the program, and sees that the answer is of a stated form and that it changed nothing else."""
+        before = self.files()
+        try:
+            done = subprocess.run([self.program] + words, cwd=self.folder, stdin=subprocess.DEVNULL, capture_output=True,
+                                  timeout=SECONDS, check=False)
+        except subprocess.TimeoutExpired as stopped:
+            raise Fault('%s: no end within %d seconds' % (' '.join(words), SECONDS)) from stopped
+        answer = Answer(done.returncode, done.stdout, done.stderr)
+        self.see(words, answer)
+        after = self.files()
+        changed = {name for name in set(before) | set(after) if before.get(name) != after.get(name)}
+        if changed - ({may_write} if answer.status == 0 else set()):
+            raise Fault('%s: changed %s with status %d' % (' '.join(words), sorted(changed), answer.status))
+        return answer
+
+    def see(self, words, answer):
+        kind = words[0] if words and words[0] in COUNTS else 'other'
+        rule = answer.err.decode('latin-1').rpartition(': ')[2].strip()
+        self.counts[kind, answer.status, rule if answer.status in (1, 3, 4) else ''] += 1
+        if not is_stated(self, words, answer):
+            raise Fault('%s: status %d with err %r and %d bytes on out'
+                        % (' '.join(words), answer.status, answer.err[:200], len(answer.out)))
+
+
+REFUSALS = {1: (r'(a\.oil|a\.code):(\d+): ([LSOC])(\d+)\n', {'L': 6, 'S': 3, 'O': 15, 'C': 9}),
+            3: (r'(a\.image):(\d+): (I)(\d+)\n', {'I': 7}),
+            4: (r'(a\.events):(\d+): (E)(\d+)\n', {'E': 4})}
+
+
+def is_stated(trial, words, answer):
+    """Whether the status, the text on standard error and what was printed go together."""
+    err = answer.err.decode('latin-1')
+    if answer.status == 0:
+        return err == ''
+    if answer.status in REFUSALS:
+        return is_refusal(trial, answer, *REFUSALS[answer.status])
+    if answer.status == 8:
+        return err == '' and re.search(rb'(^|\n)trap \d+\n$', answer.out) is not None
+    if answer.status == 9:
+        return answer.out == b'' and err == MODE + ': no such mode\n'
+    if answer.status == 2:
+        return answer.out == b'' and err == 'usage\n'
+    return False
+
+
+def is_refusal(trial, answer, form, most):
+    match = re.fullmatch(form, answer.err.decode('latin-1'))
+    if not match or not 1 <= int(match.group(4)) <= most[match.group(3)]:
+        return False
+    data = trial.get(match.group(1))
+    last = len(data) if match.group(3) == 'I' else data.count(b'\n') + 1
+    return int(match.group(2)) <= last and (answer.status == 4 or answer.out == b'')
+
+
+def load_examples():
+    """The texts of the examples, by name: OIL, code, events."""
+    found = {}
+    for name in sorted(os.listdir(EXAMPLES)):
+        texts = []
+        for end in ('oil', 'code', 'events'):
+            with open(os.path.join(EXAMPLES, name, '%s.%s' % (name, end)), 'rb') as file:
+                texts.append(file.read())
+        found[name] = texts
+    return found
+
+
+def try_texts(rng, trial, texts, others, knows):
+    """A changed OIL or code text: a refusal of it, or an image that replays as trace prints it."""
+    changed = rng.choice([0, 0, 1, 1, 1])
+    for k, name in enumerate(('a.oil', 'a.code', 'a.events')):
+        trial.put(name, text_changes(rng, texts[k], others[k]) if k == changed else texts[k])
+    built = trial.run(['build', 'a.oil', 'a.code', 'a.image'], 'a.image')
+    if built.status not in (0, 1) or built.out:
+        raise Fault('build: status %d' % built.status)
+    if built.status == 0:
+        agree(trial)
+        if knows:
+            sites_agree(trial)
+    elif knows and trial.run(['show', 'a.oil', 'a.code']) != built:
+        raise Fault('show refuses otherwise than build')
+
+
+def agree(trial):
+    """The image replays as trace prints it."""
+    replayed = trial.run(['replay', 'a.image', MODE, 'a.events'])
+    traced = trial.run(['trace', 'a.oil', 'a.code', MODE, 'a.events'])
+    if replayed != traced or replayed.status not in (0, 4):
+        raise Fault('replay (status %d) and trace (status %d) differ, or trap' % (replayed.status, traced.status))
+
+
+def sites_agree(trial):
+    shown, told = trial.run(['show', 'a.oil', 'a.code']), trial.run(['info', 'a.image'])
+    sites = [[line for line in answer.out.split(b'\n') if line.startswith(b'site ')] for answer in (shown, told)]
+    if shown.status or told.status or sites[0] != sites[1]:
+        raise Fault('show and info differ in their sites')
+
+
+def try_events(rng, trial, texts, others, knows):
+    """A changed event text over a sound image."""
+    for k, name in enumerate(('a.oil', 'a.code', 'a.events')):
+        trial.put(name, text_changes(rng, texts[k], others[k]) if k == 2 else texts[k])
+    if trial.run(['build', 'a.oil', 'a.code', 'a.image'], 'a.image').status:
+        raise Fault('an example is refused')
+    agree(trial)
+
+
+def try_image(rng, trial, texts, others, knows):
+    """A changed image: a refusal of it, another mode, or some trace."""
+    for k, name in enumerate(('a.oil', 'a.code', 'a.events')):
+        trial.put(name, texts[k])
+    if trial.run(['build', 'a.oil', 'a.code', 'a.image'], 'a.image').status:
+        raise Fault('an example is refused')
+    image = trial.get('a.image')
+    trial.put('a.image', image_changes(rng, image, [image]))
+    replayed = trial.run(['replay', 'a.image', MODE, 'a.events'])
+    if replayed.status not in (0, 3, 4, 8, 9):
+        raise Fault('replay: status %d' % replayed.status)
+    if knows:
+        told = trial.run(['info', 'a.image'])
+        if told.status not in (0, 3) or (told.status == 3) != (replayed.status == 3) or told.status and told.err != replayed.err:
+            raise Fault('info (status %d) judges the image otherwise than replay (status %d)' % (told.status, replayed.status))
+
+
+
+
+def try_words(rng, trial, texts, others, knows):
+    """Words of no stated form."""
+    words = [rng.choice(WORDS) for _ in range(rng.randint(0, 6))]
+    if words and COUNTS.get(words[0]) == len(words):
+        words.append('x')
+    answer = trial.run(words)
+    if answer.status != 2:
+        raise Fault('%r: status %d' % (words, answer.status))
+
+
+def one_trial(rng, program, examples, knows, counts, keep):
+    """Tries one change; what went wrong, or None."""
+    folder = tempfile.mkdtemp(prefix='osekfit-mutate-')
+    try:
+        attempt = rng.choices([try_texts, try_events, try_image, try_words], [6, 2, 6, 1])[0]
+        texts = examples[rng.choice(sorted(examples))]
+        others = [[e[k] for e in examples.values()] for k in range(3)]
+        attempt(rng, Trial(program, folder, counts), texts, others, knows)
+        return None
+    except Fault as fault:
+        kept = os.path.join(keep, 'fault%d' % (len(os.listdir(keep)) + 1 if os.path.isdir(keep) else 1))
+        shutil.copytree(folder, kept)
+        return '%s (kept in %s)' % (fault, kept)
+    finally:
+        shutil.rmtree(folder)
+
+
+def arguments():
+    parser = argparse.ArgumentParser(description=__doc__, formatter_class=argparse.RawDescriptionHelpFormatter)
+    parser.add_argument('program', metavar='PROGRAM', help='the built osekfit')
+    parser.add_argument('--seed', type=int, default=1)
+    parser.add_argument('--minutes', type=float, default=1, metavar='M', help='how long to go on')
+    parser.add_argument('--keep', default='mutate-faults', metavar='DIR', help='where the files of what goes wrong are kept')
+    return parser.parse_args()
+
+
+def knows_show(program):
+    """Whether the program has the commands show and info."""
+    done = subprocess.run([program, 'show', 'a', 'b'], cwd='/', capture_output=True, timeout=SECONDS, check=False)
+    return done.returncode != 2
+
+
+def main():
+    words = arguments()
+    program, keep = os.path.abspath(words.program), os.path.abspath(words.keep)
+    rng, examples, counts = random.Random(words.seed), load_examples(), collections.Counter()
+    knows, end, trials, faults = knows_show(program), time.monotonic() + 60 * words.minutes, 0, 0
+    while time.monotonic() < end:
+        trials += 1
+        fault = one_trial(rng, program, examples, knows, counts, keep)
+        if fault:
+            faults += 1
+            print('trial %d: %s' % (trials, fault), flush=True)
+    for (command, status, rule), count in sorted(counts.items()):
+        print('%-10s status %d %-4s %7d' % (command, status, rule, count))
+    print('%d trials, %d wrong' % (trials, faults))
+    return 1 if faults else 0
+
+
+if __name__ == '__main__':
+    sys.exit(main())

@@ -1,0 +1,208 @@
+#!/usr/bin/env python3
+"""Refuses a program its memory, one request at a time.
+
+For each command and each k the program's k-th request for memory is refused, until a run meets no refusal. A run that met one
+has to end with status 7 and `memory` on standard error (nothing there where the words weren't there yet), having printed a prefix
+of what it prints with ample memory (`replay` and `trace`: nothing), with no file created or changed. Where the C library itself
+asked, the answer may be a failed read or write, with status 5 or 6; these are counted apart.
+
+    tools/refuse_memory.py crates/osekfit/out/osekfit          needs cc: a library that is loaded first refuses the request
+    tools/refuse_memory.py --try --every 10                    by `rt try --fail-alloc`, which needs no proved program, builds it
+                                                               anew each time (half a minute), and doesn't show its files
+"""
+import argparse
+import collections
+import os
+import re
+import shutil
+import subprocess
+import sys
+import tempfile
+
+HERE = os.path.dirname(os.path.abspath(__file__))
+TOP = os.path.dirname(HERE)
+MODE = 'OSDEFAULTAPPMODE'
+
+COMMANDS = [['build', 'a.oil', 'a.code', 'a.image'], ['build', 'a.oil', 'a.code', 'new.image'],
+            ['replay', 'a.image', MODE, 'a.events'], ['trace', 'a.oil', 'a.code', MODE, 'a.events'],
+            ['show', 'a.oil', 'a.code'], ['info', 'a.image'], ['gen', '1', '1']]
+
+SECONDS = 60
+MOST = 200000
+"""How many requests of one command are refused at most."""
+
+LIBRARY = r"""
+#include <fcntl.h>
+#include <stdlib.h>
+#include <unistd.h>
+
+void *__libc_malloc(size_t);
+void *__libc_calloc(size_t, size_t);
+void *__libc_realloc(void *, size_t);
+void *__libc_memalign(size_t, size_t);
+
+static long requests, refused_at = -1;
+
+/* Whether this request is the one to refuse; a file then tells that it came. */
+static int refuse(void) {
+    if (refused_at < 0) {
+        const char *at = getenv("REFUSE_AT");
+        refused_at = at ? atol(at) : 0;
+    }
+    if (++requests != refused_at)
+        return 0;
+    close(open(getenv("REFUSE_MARK"), O_CREAT | O_WRONLY, 0600));
+    return 1;
+}
+
+void *malloc(size_t n) { return refuse() ? NULL : __libc_malloc(n); }
+void *calloc(size_t n, size_t m) { return refuse() ? NULL : __libc_calloc(n, m); }
+void *realloc(void *p, size_t n) { return refuse() ? NULL : __libc_realloc(p, n); }
+void *memalign(size_t a, size_t n) { return refuse() ? NULL : __libc_memalign(a, n); }
+void *aligned_alloc(size_t a, size_t n) { return memalign(a, n); }
+int posix_memalign(void **p, size_t a, size_t n) { *p = memalign(a, n); return *p ? 0 : 12; }
+"""
+
+Answer = collections.namedtuple('Answer', 'status out err refused files')
+"""How a run ended; files is None where they can't be seen."""
+
+
+class Built:
+    """A built program, with a library loaded before the C library's own."""
+
+    def __init__(self, program, folder, texts):
+        self.program, self.folder, self.texts = os.path.abspath(program), folder, texts
+        source, self.library = os.path.join(folder, 'refuse.c'), os.path.join(folder, 'refuse.so')
+        with open(source, 'w', encoding='ascii') as file:
+            file.write(LIBRARY)
+        subprocess.run(['cc', '-O1', '-shared', '-fPIC', '-o', self.library, source], check=True)
+
+    def run(self, words, k):
+        """Runs the program with its k-th request refused; 0 refuses none."""
+        place, mark = tempfile.mkdtemp(dir=self.folder), os.path.join(self.folder, 'mark')
+        for name, data in self.texts.items():
+            write(os.path.join(place, name), data)
+        if os.path.exists(mark):
+            os.remove(mark)
+        environment = {'LD_PRELOAD': self.library, 'REFUSE_AT': str(k), 'REFUSE_MARK': mark}
+        done = subprocess.run([self.program] + words, cwd=place, env=environment, stdin=subprocess.DEVNULL, capture_output=True,
+                              timeout=SECONDS, check=False)
+        files = {name: read(os.path.join(place, name)) for name in os.listdir(place)}
+        shutil.rmtree(place)
+        return Answer(done.returncode, done.stdout, done.stderr, os.path.exists(mark), files)
+
+
+class Tried:
+    """The program as `rt try` runs it. Whether a refusal was met is told by the status alone."""
+
+    def __init__(self, folder, texts):
+        self.data = []
+        for name, data in texts.items():
+            write(os.path.join(folder, name), data)
+            self.data += ['--data', '%s=%s' % (name, os.path.join(folder, name))]
+
+    def run(self, words, k):
+        refusal = ['--fail-alloc', str(k)] if k else []
+        done = subprocess.run(['rt', 'try'] + refusal + self.data + ['--'] + words, cwd=os.path.join(TOP, 'crates', 'osekfit'),
+                              stdin=subprocess.DEVNULL, capture_output=True, check=False)
+        err = done.stderr.decode('utf-8', 'replace')
+        ended = re.search(r'run=ended status=(\d+)', err)
+        status = int(ended.group(1)) if ended else done.returncode
+        return Answer(status, done.stdout, b'memory\n' if status == 7 else b'', status == 7, None)
+
+
+def write(name, data):
+    with open(name, 'wb') as file:
+        file.write(data)
+
+
+def read(name):
+    with open(name, 'rb') as file:
+        return file.read()
+
+
+def fault_of(words, answer, ample, texts):
+    """What is wrong with the answer of a run that met a refusal, or None."""
+    err = answer.err.decode('latin-1')
+    if answer.status == 7 and err not in ('memory\n', ''):
+        return 'err is %r' % err
+    if answer.status in (5, 6) and not re.fullmatch(r'([^\n:]+: (read|write)\n)?', err):
+        return 'err is %r' % err
+    if answer.status not in (5, 6, 7):
+        return 'status %d' % answer.status
+    if not ample.out.startswith(answer.out) or words[0] in ('replay', 'trace') and answer.out and answer.status == 7:
+        return '%d bytes on out' % len(answer.out)
+    if answer.files is not None and answer.files != texts and answer.status != 6:
+        return 'a file was created or changed'
+    return None
+
+
+def refuse_all(runner, words, texts, every, say):
+    """Refuses each request of a command in turn; the number of faults."""
+    ample = runner.run(words, 0)
+    if ample.status == 2:
+        say('%s: no such command yet' % words[0])
+        return 0
+    faults, statuses = 0, collections.Counter()
+    if ample.status != 0:
+        say('%s: status %d with ample memory' % (' '.join(words), ample.status))
+        return 1
+    for k in range(1, MOST, every):
+        answer = runner.run(words, k)
+        if not answer.refused:
+            break
+        statuses[answer.status] += 1
+        fault = fault_of(words, answer, ample, texts)
+        if fault:
+            faults += 1
+            say('%s: request %d refused: %s' % (' '.join(words), k, fault))
+    if (answer.status, answer.out) != (0, ample.out):
+        faults += 1
+        say('%s: without a refusal, other than with ample memory' % ' '.join(words))
+    told = ', '.join('%d times status %d' % (count, status) for status, count in sorted(statuses.items()))
+    say('%s: %s, then no refusal' % (' '.join(words), told or 'none'))
+    return faults
+
+
+def arguments():
+    parser = argparse.ArgumentParser(description=__doc__, formatter_class=argparse.RawDescriptionHelpFormatter)
+    parser.add_argument('program', metavar='PROGRAM', nargs='?', help='the built osekfit')
+    parser.add_argument('--try', dest='tried', action='store_true', help='by rt try, in place of a built program')
+    parser.add_argument('--example', default='first', help='the folder of examples/ whose texts are used')
+    parser.add_argument('--image', metavar='FILE', help="the example's image; needed with --try for replay and info")
+    parser.add_argument('--every', type=int, default=1, metavar='N', help='refuse the first request and each N-th after it')
+    parser.add_argument('--only', metavar='COMMAND', help='one command')
+    return parser.parse_args()
+
+
+def texts_of(words, folder):
+    example = os.path.join(TOP, 'examples', words.example, words.example)
+    texts = {'a.' + end: read('%s.%s' % (example, end)) for end in ('oil', 'code', 'events')}
+    image = words.image
+    if words.program:
+        image = os.path.join(folder, 'image')
+        subprocess.run([os.path.abspath(words.program), 'build', example + '.oil', example + '.code', image], check=True)
+    if image:
+        texts['a.image'] = read(image)
+    return texts
+
+
+def main():
+    words = arguments()
+    if bool(words.program) == words.tried:
+        sys.exit('refuse_memory.py: a built program, or --try')
+    folder, faults = tempfile.mkdtemp(prefix='osekfit-memory-'), 0
+    try:
+        texts = texts_of(words, folder)
+        runner = Tried(folder, texts) if words.tried else Built(words.program, folder, texts)
+        for command in COMMANDS:
+            if words.only in (None, command[0]) and ('a.image' in texts or command[0] not in ('replay', 'info')):
+                faults += refuse_all(runner, command, texts, words.every, lambda text: print(text, flush=True))
+    finally:
+        shutil.rmtree(folder)
+    print('%d wrong' % faults)
+    return 1 if faults else 0
+
+
+if __name__ == '__main__':
+    sys.exit(main())

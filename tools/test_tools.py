@@ -1,0 +1,231 @@
+#!/usr/bin/env python3
+"""Tests of the tools, run by hand: `python3 tools/test_tools.py`. Expected values are worked out by hand from the guide."""
+import os
+import sys
+import unittest
+from xml.etree import ElementTree
+
+sys.path.insert(0, os.path.dirname(os.path.abspath(__file__)))
+
+import graph
+import graph_chart
+import task_code
+import timeline
+import timeline_chart
+import vcd
+
+CODE = """TASK(T1) { ActivateTask(T2); TerminateTask(); }
+TASK(T2) { TerminateTask(); }
+"""
+
+SHOW = """site b0 line 1 direct T2
+site b1 line 1 direct -
+site b2 line 1 never
+site b3 line 2 direct T1
+site b4 line 2 never
+edge b0 b3
+edge b1 idle
+edge b3 b1
+points 7 height 17 values 8 edges 3
+"""
+
+DOT = """digraph osekfit {
+  rankdir=TB;
+  node [shape=box, style="filled,rounded", fillcolor="#ffffff", color="#d0d7de", fontname="Helvetica", fontsize=10];
+  edge [fontname="Helvetica", fontsize=9];
+  "idle" [label="idle", shape="ellipse"];
+  subgraph "cluster_TASK_T1" {
+    label="T1"; color="#8c959f"; fontname="Helvetica";
+    "b0" [label="b0 ActivateTask(T2)\\nline 1: direct T2", fillcolor="#ddf4ff", color="#0969da"];
+    "b1" [label="b1 TerminateTask()\\nline 1: direct -", fillcolor="#ddf4ff", color="#0969da"];
+    "b2" [label="b2 }\\nline 1: never", fillcolor="#eaeef2", color="#8c959f"];
+  }
+  subgraph "cluster_TASK_T2" {
+    label="T2"; color="#8c959f"; fontname="Helvetica";
+    "b3" [label="b3 TerminateTask()\\nline 2: direct T1", fillcolor="#ddf4ff", color="#0969da"];
+    "b4" [label="b4 }\\nline 2: never", fillcolor="#eaeef2", color="#8c959f"];
+  }
+  "b0" -> "b3" [color="#0969da", label="dispatch"];
+  "b1" -> "idle" [color="#6e7781", label="idle"];
+  "b3" -> "b1" [color="#0969da", label="dispatch"];
+}
+"""
+
+TRACE = """0 T1 T1=R T2=W:0 ^Startup ^PreTask
+1 @I T1=R+Res T2=Y:1f !E_OS_LIMIT ^Error
+2 - T1=S T2=S !E_OK =9
+"""
+
+VCD = """$version timeline.py of osekfit $end
+$timescale 1 ns $end
+$scope module osekfit $end
+$scope module processor $end
+$var wire 1 ! idle $end
+$var wire 1 " halted $end
+$var wire 1 # isr_I $end
+$upscope $end
+$scope module T1 $end
+$var wire 8 $ state [7:0] $end
+$var wire 1 % running $end
+$var wire 1 & holds_Res $end
+$upscope $end
+$scope module T2 $end
+$var wire 8 ' state [7:0] $end
+$var wire 1 ( running $end
+$var wire 64 ) events [63:0] $end
+$upscope $end
+$scope module notes $end
+$var wire 4 * status [3:0] $end
+$var wire 1 + Startup $end
+$var wire 1 , Error $end
+$var wire 1 - PreTask $end
+$upscope $end
+$upscope $end
+$enddefinitions $end
+#0
+$dumpvars
+0!
+0"
+0#
+b1010010 $
+1%
+0&
+b1010111 '
+0(
+b0 )
+bx *
+1+
+0,
+1-
+$end
+#1
+1#
+0%
+1&
+b1011001 '
+b11111 )
+b100 *
+0+
+1,
+0-
+#2
+1!
+0#
+b1010011 $
+0&
+b1010011 '
+bx )
+b0 *
+0,
+#3
+"""
+
+
+def owners_of(show, code):
+    found = graph.read_show(show)
+    return found, graph.Owners(found, code)
+
+
+def words_of(svg):
+    """The texts of a drawing, which has to be well-formed."""
+    return [e.text for e in ElementTree.fromstring(svg).iter('{http://www.w3.org/2000/svg}text')]
+
+
+class TaskCode(unittest.TestCase):
+    def ways(self, text):
+        return [(b.line, b.text, b.next, b.other) for b in task_code.blocks_of(text)]
+
+    def test_blocks_are_numbered_in_text_order(self):
+        text = 'TASK(A) {\n if (?) { work 2; } else {\n SetEvent(B, E | F); }\n}\nISR(I) { }\n'
+        self.assertEqual(self.ways(text), [(2, 'if (?)', 1, 2), (2, 'work 2', 3, None), (3, 'SetEvent(B, E | F)', 3, None),
+                                           (4, '}', None, None), (5, '}', None, None)])
+
+    def test_loops_lead_back(self):
+        text = 'TASK(A) { /* { */ while (?) { while (1) { } } if (?) { } // }\n }'
+        self.assertEqual(self.ways(text), [(1, 'while (?)', 1, 2), (1, 'while (1)', 1, None), (1, 'if (?)', 3, 3),
+                                           (2, '}', None, None)])
+
+    def test_a_hexadecimal_one_is_a_loop_for_ever(self):
+        self.assertEqual(self.ways('TASK(A) { while (0x1) { work 1; } }'),
+                         [(1, 'while (0x1)', 1, None), (1, 'work 1', 0, None), (1, '}', None, None)])
+
+
+class Graphs(unittest.TestCase):
+    def test_show_is_read(self):
+        found = graph.read_show(SHOW)
+        self.assertEqual(found.sites[1], graph.Site(1, 'direct -'))
+        self.assertEqual(found.edges[1], (graph.Point('task', 1, None), graph.Point('idle', None, None)))
+        self.assertEqual(found.counts, {'points': 7, 'height': 17, 'values': 8, 'edges': 3})
+        self.assertRaises(ValueError, graph.read_show, 'site b0\n')
+
+    def test_points_are_written_as_they_are_read(self):
+        for word in ('halt', 'idle', 'b12', 'b3/-', 'b3/T1'):
+            self.assertEqual(graph.text_of(graph.point_of(word)), word)
+
+    def test_dot(self):
+        self.assertEqual(graph.dot(*owners_of(SHOW, CODE)), DOT)
+
+    def test_edges_are_named_by_their_ends(self):
+        code = 'TASK(A) { ChainTask(A); }\nTASK(B) { work 1; }\nISR(I) { }\n'
+        edges = ['b0 b0', 'b0 b1', 'b0 b2', 'b0 idle', 'b0 halt', 'b0 b4/A',
+                 'b4/A b0', 'b4/A b2', 'b4/- idle', 'b4/- b2', 'b5/- b6/-']
+        show = ''.join('edge %s\n' % edge for edge in edges) + 'site b4 line 3 general\nsite b6 line 0 stay\n'
+        found, owners = owners_of(show, code)
+        self.assertEqual([owners.kind_of_edge(*edge) for edge in found.edges],
+                         ['restart', 'flow', 'dispatch', 'idle', 'shutdown', 'interrupt',
+                          'return', 'dispatch', 'return', 'dispatch', 'flow'])
+        found, owners = owners_of(show, None)
+        self.assertEqual([owners.kind_of_edge(*edge) for edge in found.edges],
+                         ['', '', '', 'idle', 'shutdown', 'interrupt', 'return', 'return', 'return', 'dispatch', 'flow'])
+
+    def test_tick_routines_end_at_sites_of_line_0(self):
+        _, owners = owners_of('site b1 line 1 never\nsite b4 line 0 stay\nsite b7 line 0 never\n', 'TASK(A) { work 1; }')
+        self.assertEqual([owners.text(b) for b in range(8)],
+                         ['work 1', '}', 'count', 'expire', 'end', 'count', 'expire', 'end'])
+        self.assertEqual(owners.ticks[7].name, 'tick routine 2')
+
+    def test_the_drawing_names_all_that_stands_in_it(self):
+        words = words_of(graph_chart.chart(*owners_of(SHOW, CODE), 'A & B'))
+        for word in ('A & B', 'T1', 'T2', 'b0 ActivateTask(T2)', '→ T2', '→ idle', 'never', 'idle'):
+            self.assertIn(word, words)
+
+    def test_nothing_at_all_is_drawn(self):
+        words_of(graph_chart.chart(*owners_of('points 2 height 0 values 0 edges 0\n', ''), ''))
+
+
+class Timelines(unittest.TestCase):
+    def test_a_line_is_read(self):
+        tasks = {'T1': timeline.Task('R', None, ['A', 'B']), 'T2': timeline.Task('W', '1f', [])}
+        self.assertEqual(timeline.line_of('7 @I T1=R+A+B T2=W:1f !E_OK =- ^PreTask'),
+                         timeline.Line(7, '@I', tasks, 'E_OK', '-', ['PreTask']))
+
+    def test_a_trap_is_read(self):
+        self.assertEqual(timeline.read_trace('0 - T1=S\ntrap 1\n').trap, 1)
+        self.assertRaises(ValueError, timeline.read_trace, '0 - T1=X\n')
+
+    def test_requests_are_counted_as_events(self):
+        text = '# none\nrun 0\r\n\n irq  I\ntick C\n'
+        self.assertEqual(timeline.requests_of(text), [(2, '@I'), (3, '%C')])
+
+    def test_spans(self):
+        self.assertEqual(timeline_chart.spans([1, 1, None, 2], lambda v: v), [(0, 2, 1), (3, 4, 2)])
+        self.assertEqual(timeline_chart.spans([None], lambda v: v), [])
+
+    def test_vcd(self):
+        self.assertEqual(vcd.dump(timeline.read_trace(TRACE)), VCD)
+
+    def test_identifiers_differ(self):
+        self.assertEqual(len({vcd.identifier(n) for n in range(20000)}), 20000)
+
+    def test_the_chart_names_all_that_stands_in_it(self):
+        words = words_of(timeline_chart.chart(timeline.read_trace(TRACE), [(1, '@I')], 'A < B'))
+        for word in ('A < B', 'T1', 'T2', '@I', 'LIMIT', '9', 'holds Res', 'requested', 'Startup', '1f'):
+            self.assertIn(word, words)
+        self.assertNotIn('tick routine', words)
+
+    def test_a_trace_that_traps_is_drawn(self):
+        self.assertIn('trap', words_of(timeline_chart.chart(timeline.read_trace('0 T1 T1=R\ntrap 1\n'), [], '')))
+
+
+if __name__ == '__main__':
+    unittest.main()

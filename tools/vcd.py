@@ -1,0 +1,90 @@
+"""The value change dump of timeline.py (IEEE 1364): one unit of time is one event.
+
+A task has its state as a letter (eight bits, to be shown as ASCII), whether the processor is its own, and its events; each
+resource that it holds somewhere is a wire. A routine is a wire that is 1 while it has the processor, and a hook one that is 1 at
+its event. The status is a number, and x where none was noted."""
+from collections import namedtuple
+
+from timeline import HOOKS, STATUSES, routines_of
+
+Signal = namedtuple('Signal', 'scope name width value')
+"""A signal: value gives its bits at a line of the trace."""
+
+
+def identifier(number):
+    """The short name of a signal: digits to the base 94, in visible characters."""
+    word = chr(33 + number % 94)
+    while number >= 94:
+        number = number // 94
+        word += chr(33 + number % 94)
+    return word
+
+
+def wire(scope, name, holds):
+    return Signal(scope, name, 1, lambda line: '1' if holds(line) else '0')
+
+
+def vector(scope, name, width, number):
+    """A signal of several bits; x where there is no number."""
+    def bits(line):
+        value = number(line)
+        return 'x' if value is None else format(value, 'b')
+    return Signal(scope, name, width, bits)
+
+
+def signals_of(trace):
+    found = [wire('processor', 'idle', lambda line: line.who == '-'), wire('processor', 'halted', lambda line: line.who == '#')]
+    for who in routines_of(trace):
+        name = ('isr_' if who[0] == '@' else 'tick_') + who[1:]
+        found.append(wire('processor', name, lambda line, who=who: line.who == who))
+    for task in trace.lines[0].tasks:
+        found += task_signals(trace, task)
+    found.append(vector('notes', 'status', 4, lambda line: STATUSES.index(line.status) if line.status else None))
+    for hook in HOOKS:
+        if any(hook in line.hooks for line in trace.lines):
+            found.append(wire('notes', hook, lambda line, hook=hook: hook in line.hooks))
+    return found
+
+
+def task_signals(trace, task):
+    found = [vector(task, 'state', 8, lambda line: ord(line.tasks[task].state)),
+             wire(task, 'running', lambda line: line.who == task)]
+    if any(line.tasks[task].events is not None for line in trace.lines):
+        found.append(vector(task, 'events', 64, lambda line: events_of(line.tasks[task])))
+    for resource in sorted({r for line in trace.lines for r in line.tasks[task].held}):
+        found.append(wire(task, 'holds_' + resource, lambda line, r=resource: r in line.tasks[task].held))
+    return found
+
+
+def events_of(task):
+    return None if task.events is None else int(task.events, 16)
+
+
+def declarations(signals):
+    lines, scope = ['$version timeline.py of osekfit $end', '$timescale 1 ns $end', '$scope module osekfit $end'], None
+    for number, signal in enumerate(signals):
+        if signal.scope != scope:
+            lines += (['$upscope $end'] if scope else []) + ['$scope module %s $end' % signal.scope]
+            scope = signal.scope
+        size = ' [%d:0]' % (signal.width - 1) if signal.width > 1 else ''
+        lines.append('$var wire %d %s %s%s $end' % (signal.width, identifier(number), signal.name, size))
+    return lines + ['$upscope $end', '$upscope $end', '$enddefinitions $end']
+
+
+def change(signal, number, bits):
+    return ('%s%s' if signal.width == 1 else 'b%s %s') % (bits, identifier(number))
+
+
+def dump(trace):
+    """The dump of a trace that has a line."""
+    signals = signals_of(trace)
+    lines, last = declarations(signals), [None] * len(signals)
+    for place, line in enumerate(trace.lines):
+        now = [signal.value(line) for signal in signals]
+        changes = [change(s, k, bits) for k, (s, bits) in enumerate(zip(signals, now)) if bits != last[k]]
+        if place == 0:
+            changes = ['$dumpvars'] + changes + ['$end']
+        if changes:
+            lines += ['#%d' % line.number] + changes
+        last = now
+    return '\n'.join(lines + ['#%d' % (trace.lines[-1].number + 1), ''])
