@@ -141,7 +141,7 @@ module _ (files : Files) (after : Outside) (reads : List ℕ → ℕ) (writes fa
         subst (OrMemory (GenDue seed tasks)) (sym (printed_due line r prints)) (inr (goes_on text system code_text app (Ok tt) holds declares code_holds gives due))
 
     pub command_due : (command : Option Command) (r : Result (Unit {0}) Stop) → CommandAnswers before after command r → OrMemory (IsDue files command) r
-    command_due None r h = inr h.0
+    command_due None r h = ⊎_elim inr inl h.0
     command_due (Some (Build oil code image)) r h = build_due oil code image r h.0
     command_due (Some (Replay image mode events)) r h = replay_due image mode events r h.0
     command_due (Some (Trace oil code mode events)) r h = trace_due oil code mode events r h.0

@@ -7,6 +7,7 @@ pub mod EventSteps
 pub mod Exact
 pub mod FaultlessReads
 pub mod FedPlays
+pub mod FewWords
 pub mod Fronts
 pub mod GeneratedRuns
 pub mod GivenTexts
@@ -26,4 +27,4 @@ pub mod SmallImages
 pub mod SomeDue
 pub mod TextReads
 pub mod Unloaded
-pub mod WordCounts
+pub mod WantOfMemory

@@ -21,9 +21,9 @@ Tells faults faults_after told told_after text status answered =
     ((answered ≡ status) × (told_after ≡ grown told text))
     ⊎ ((answered ≡ 6) × Rose faults faults_after × WritesFront told told_after text)
 
--- Words of no stated form leave all as it was; `build` prints nothing; the others write no file.
+-- Words of no stated form leave all as it was, also where memory ran out as they were read; `build` prints nothing; the others write no file.
 abbrev pub CommandAnswers : (before after : Outside) → Option Command → Result (Unit {0}) Stop → Type 0
-CommandAnswers before after None r = (r ≡ Err stop.Usage) × (after ≡ before)
+CommandAnswers before after None r = ((r ≡ Err stop.Usage) ⊎ (r ≡ Err stop.Memory)) × (after ≡ before)
 CommandAnswers before after (Some (Build oil code image)) r = BuildAnswers before after oil code image r × (after.printed ≡ before.printed) × (after.faults ≡ before.faults)
 CommandAnswers before after (Some (Replay image mode events)) r = ReplayAnswers before after image mode events r × SameFiles before.shelf after.shelf
 CommandAnswers before after (Some (Trace oil code mode events)) r = TraceAnswers before after oil code mode events r × SameFiles before.shelf after.shelf

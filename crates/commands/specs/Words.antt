@@ -1,6 +1,7 @@
 -- The stated forms of the words (this project's profile).
-use Rattle.std.specs.Prelude.{ℕ, ◌==◌, ◌&&◌, Bool, false, not, List, [], ◌∷◌, Option, Some, None, if◌then◌else◌, codes}
+use Rattle.std.specs.Prelude.{ℕ, List, [], ◌∷◌, Option, Some, None, if◌then◌else◌, codes}
 use Rattle.std.specs.Str.{bytes_eq}
+use Rattle.command_words.specs.Forms.{is_form}
 use Rattle.commands.specs.Numerals.{seed_of, tasks_of}
 use Rattle.commands.specs.declared.stop.{Input.{Input}, Input.TheVariants.{Oil, Code, Image, Events}}
 
@@ -12,39 +13,23 @@ pub data Command : Type 0 where
   Info : (image : List ℕ) → Command
   Gen : (seed tasks : ℕ) → Command
 
--- neither empty nor beginning with a dash
-abbrev pub is_plain : List ℕ → Bool
-is_plain [] = false
-is_plain (c ∷ cs) = not (c == 45)
-
-abbrev pub command_of_one : List ℕ → (a : List ℕ) → Option Command
-command_of_one verb a = if bytes_eq verb (codes "info") then Some (Info a) else None
-
 -- `gen` of two numbers
 abbrev pub gen_of : Option ℕ → Option ℕ → Option Command
 gen_of None tasks = None
 gen_of (Some seed) None = None
 gen_of (Some seed) (Some tasks) = Some (Gen seed tasks)
 
-abbrev pub command_of_two : List ℕ → (a b : List ℕ) → Option Command
-command_of_two verb a b =
-    if bytes_eq verb (codes "show") then Some (Show a b)
-    else (if bytes_eq verb (codes "gen") then gen_of (seed_of a) (tasks_of b) else None)
-
-abbrev pub command_of_three : List ℕ → (a b c : List ℕ) → Option Command
-command_of_three verb a b c =
-    if bytes_eq verb (codes "build") then Some (Build a b c)
-    else (if bytes_eq verb (codes "replay") then Some (Replay a b c) else None)
-
-abbrev pub command_of_four : List ℕ → (a b c d : List ℕ) → Option Command
-command_of_four verb a b c d = if bytes_eq verb (codes "trace") then Some (Trace a b c d) else None
+-- the command of a verb, which takes these words
+abbrev pub command_of_words : (verb : List ℕ) → List (List ℕ) → Option Command
+command_of_words verb (a ∷ []) = Some (Info a)
+command_of_words verb (a ∷ b ∷ []) = if bytes_eq verb (codes "show") then Some (Show a b) else gen_of (seed_of a) (tasks_of b)
+command_of_words verb (a ∷ b ∷ c ∷ []) = if bytes_eq verb (codes "build") then Some (Build a b c) else Some (Replay a b c)
+command_of_words verb (a ∷ b ∷ c ∷ d ∷ []) = Some (Trace a b c d)
+command_of_words verb other = None
 
 -- the first word is the program's name, and isn't looked at
 abbrev pub command_of : List (List ℕ) → Option Command
-command_of (program ∷ verb ∷ a ∷ []) = if is_plain a then command_of_one verb a else None
-command_of (program ∷ verb ∷ a ∷ b ∷ []) = if is_plain a && is_plain b then command_of_two verb a b else None
-command_of (program ∷ verb ∷ a ∷ b ∷ c ∷ []) = if is_plain a && is_plain b && is_plain c then command_of_three verb a b c else None
-command_of (program ∷ verb ∷ a ∷ b ∷ c ∷ d ∷ []) = if is_plain a && is_plain b && is_plain c && is_plain d then command_of_four verb a b c d else None
+command_of (program ∷ verb ∷ words) = if is_form (program ∷ verb ∷ words) then command_of_words verb words else None
 command_of other = None
 
 -- the word that names an input of a command; empty where it has none of the kind

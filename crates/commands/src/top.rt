@@ -66,6 +66,30 @@ fn carry_out_words<F: Shelf, O: Sink>(
     }
 }
 
+/// Carries out a command, if the words are one, and tells why it isn't done.
+fn run_command<F: Shelf, O: Sink, E: Sink>(
+    alloc: Global,
+    command: &Option<Command<'_>>,
+    shelf: &mut F,
+    out: &mut O,
+    err: &mut E,
+) -> u8
+    ensures does { Does (option_map seen command.now)
+        (CommandAnswers (outside F.Shelf O.Sink shelf.old out.old) (outside F.Shelf O.Sink shelf.new out.new) (option_map seen command.now))
+        (λ text status. Tells (E.faults err.old) (E.faults err.new) (E.written err.old) (E.written err.new) text status result) }
+
+    // Over files that are told, where no count of faults rose, the answer is the one that is due, or memory ran out.
+    ensures exact { (files : Files) (due : Result (Unit {0}) Stop) → F.contents shelf.old ≡ Some files
+        → IsCalm (outside F.Shelf O.Sink shelf.old out.old) (outside F.Shelf O.Sink shelf.new out.new) → (Rose (E.faults err.old) (E.faults err.new) → ⊥)
+        → IsDue files (option_map seen command.now) due
+        → (result ≡ status_of due) ⊎ (result ≡ 7) }
+{
+    match carry_out_words(alloc, command, shelf, out) {
+        Ok(()) => 0,
+        Err(stop) => refuse(err, command, &stop),
+    }
+}
+
 /// Carries out the words, of which the first is the program's name, and answers the program's status:
 /// `build OIL CODE IMAGE` stores the image that is fitted to the application that an OIL text and task code give;
 /// `replay IMAGE MODE EVENTS` prints on `out` the trace of an image, from a start in a mode, under an event text;
@@ -91,9 +115,8 @@ pub fn osekfit<F: Shelf, O: Sink, E: Sink>(
         → IsDue files (command_of (map string_bytes words.now)) due
         → (result ≡ status_of due) ⊎ (result ≡ 7) }
 {
-    let command = command_from(words);
-    match carry_out_words(alloc, &command, shelf, out) {
-        Ok(()) => 0,
-        Err(stop) => refuse(err, &command, &stop),
+    match command_from(alloc, words) {
+        Ok(command) => run_command(alloc, &command, shelf, out, err),
+        Err(_) => refuse(err, &None, &Stop::Memory),
     }
 }

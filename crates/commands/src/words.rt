@@ -1,11 +1,15 @@
 //! The words of the command line.
-ghost use Rattle.std.specs.Prelude.{◌≡◌, map, option_map};
+ghost use Rattle.std.specs.Prelude.{◌≡◌, ◌∷◌, [], ℕ, List, IfOk, map, option_map};
+ghost use Rattle.std.specs.Borrow.{Bor};
 ghost use Rattle.std.specs.String.{string_bytes};
-ghost use Rattle.commands.specs.Words.{command_of, gen_of as the_gen_of, command_of_one as the_command_of_one, command_of_two as the_command_of_two, command_of_three as the_command_of_three, command_of_four as the_command_of_four, is_plain as is_plain_word, input_name, mode_name};
+ghost use Rattle.commands.specs.Words.{command_of, gen_of as the_gen_of, command_of_words as the_command_of_words, input_name, mode_name};
 ghost use Rattle.commands.specs.Seen.{seen};
 
 use crate::numerals::{seed_of, tasks_of};
 use crate::stop::Input;
+use command_words::{has_form, parse_words};
+use osek_values::Memory;
+use std::alloc::Global;
 
 /// What the words ask for. Each name is the word as it was given.
 #[derive(Clone, Copy, Debug)]
@@ -120,24 +124,6 @@ pub fn mode_name<'a>(command: &Command<'a>) -> &'a str
     }
 }
 
-fn is_plain(word: &str) -> bool
-    ensures { result ≡ is_plain_word word.now }
-{
-    match word.as_bytes() {
-        [] => false,
-        [first, ..] => *first != b'-',
-    }
-}
-
-fn command_of_one<'a>(verb: &str, a: &'a str) -> Option<Command<'a>>
-    ensures { option_map seen result ≡ the_command_of_one verb.now a.now }
-{
-    if verb == "info" {
-        return Some(Command::Info { image: a });
-    }
-    None
-}
-
 fn gen_of<'a>(seed: Option<u64>, tasks: Option<u32>) -> Option<Command<'a>>
     ensures { option_map seen result ≡ the_gen_of seed tasks }
 {
@@ -148,91 +134,62 @@ fn gen_of<'a>(seed: Option<u64>, tasks: Option<u32>) -> Option<Command<'a>>
 }
 
 fn command_of_two<'a>(verb: &str, a: &'a str, b: &'a str) -> Option<Command<'a>>
-    ensures { option_map seen result ≡ the_command_of_two verb.now a.now b.now }
+    ensures { option_map seen result ≡ the_command_of_words verb.now (a.now ∷ b.now ∷ []) }
 {
     if verb == "show" {
-        return Some(Command::Show { oil: a, code: b });
+        Some(Command::Show { oil: a, code: b })
+    } else {
+        gen_of(seed_of(a), tasks_of(b))
     }
-    if verb == "gen" {
-        return gen_of(seed_of(a), tasks_of(b));
-    }
-    None
 }
 
 fn command_of_three<'a>(verb: &str, a: &'a str, b: &'a str, c: &'a str) -> Option<Command<'a>>
-    ensures { option_map seen result ≡ the_command_of_three verb.now a.now b.now c.now }
+    ensures { option_map seen result ≡ the_command_of_words verb.now (a.now ∷ b.now ∷ c.now ∷ []) }
 {
     if verb == "build" {
-        return Some(Command::Build {
+        Some(Command::Build {
             oil: a,
             code: b,
             image: c,
-        });
-    }
-    if verb == "replay" {
-        return Some(Command::Replay {
+        })
+    } else {
+        Some(Command::Replay {
             image: a,
             mode: b,
             events: c,
-        });
+        })
     }
-    None
 }
 
-fn command_of_four<'a>(
-    verb: &str,
-    a: &'a str,
-    b: &'a str,
-    c: &'a str,
-    d: &'a str,
-) -> Option<Command<'a>>
-    ensures { option_map seen result ≡ the_command_of_four verb.now a.now b.now c.now d.now }
+/// The command of a verb, which takes these words.
+fn command_of_words<'a>(verb: &str, words: &[&'a str]) -> Option<Command<'a>>
+    ensures { option_map seen result ≡ the_command_of_words verb.now (map (λ (w : Bor (List ℕ)). w.now) words.now) }
 {
-    if verb == "trace" {
-        return Some(Command::Trace {
-            oil: a,
-            code: b,
-            mode: c,
-            events: d,
-        });
+    match words {
+        [image] => Some(Command::Info { image }),
+        [a, b] => command_of_two(verb, a, b),
+        [a, b, c] => command_of_three(verb, a, b, c),
+        [oil, code, mode, events] => Some(Command::Trace {
+            oil,
+            code,
+            mode,
+            events,
+        }),
+        _ => None,
     }
-    None
 }
 
 /// The command of the words, of which the first is the program's name; None where they are of no stated form. No word
-/// after the first is empty or begins with `-`.
-pub fn command_from(words: &[String]) -> Option<Command<'_>>
-    ensures { option_map seen result ≡ command_of (map string_bytes words.now) }
+/// after the first is empty or begins with `-`. Only words of a verb, and as many as it takes, are given to `clap`.
+pub fn command_from<'a>(alloc: Global, words: &'a [String]) -> Result<Option<Command<'a>>, Memory>
+    ensures { IfOk result (λ command. option_map seen command ≡ command_of (map string_bytes words.now)) }
 {
-    match words {
-        [_, verb, a] => {
-            if is_plain(a) {
-                command_of_one(verb, a)
-            } else {
-                None
-            }
-        }
-        [_, verb, a, b] => {
-            if is_plain(a) && is_plain(b) {
-                command_of_two(verb, a, b)
-            } else {
-                None
-            }
-        }
-        [_, verb, a, b, c] => {
-            if is_plain(a) && is_plain(b) && is_plain(c) {
-                command_of_three(verb, a, b, c)
-            } else {
-                None
-            }
-        }
-        [_, verb, a, b, c, d] => {
-            if is_plain(a) && is_plain(b) && is_plain(c) && is_plain(d) {
-                command_of_four(verb, a, b, c, d)
-            } else {
-                None
-            }
-        }
-        _ => None,
+    let [_, verb, ..] = words else {
+        return Ok(None);
+    };
+    if !has_form(words) {
+        return Ok(None);
     }
+    let given = parse_words(alloc, words)?;
+    Ok(command_of_words(verb, &given))
 }

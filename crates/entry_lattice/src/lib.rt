@@ -1,7 +1,8 @@
-//! Lattices: values that are joined until they stop growing. Entries of tables are one.
+//! Lattices: values that are joined until they stop growing. Entries of tables are one, in both forms.
 #![tactic(auto)]
 
 mod entry;
 mod lattice;
+mod numbered;
 
 pub use lattice::Lattice;

@@ -1,13 +1,15 @@
 //! The rules of a point over an entry of one state.
 ghost use Rattle.std.specs.Prelude.{◌≡◌, ◌<◌, IfOk};
 ghost use Rattle.osek_standard.specs.Well.{Well};
+ghost use Rattle.abstract_state.specs.Domains.{domains as domains_of_entry};
 ghost use Rattle.state_flow.specs.Rows.{IsProperRow};
 
-use abstract_state::{Entry, TableRow};
+use abstract_state::{Domain, Entry, TableRow};
 use flow_model::{Decision, Rule};
 use flow_rules::{apply, rules};
 use front_end::{TextError, read_app, read_system};
 use generic_kernel::{start, step};
+use numbered_sets::{Pool, numbered};
 use osek_standard::{App, State};
 use osek_values::{Event, Memory, ModeNo, Steps, TaskNo};
 use state_flow::row_of;
@@ -56,6 +58,16 @@ struct Summary {
     all_dispatch: bool,
 }
 
+impl Summary {
+    /// A rule that has a result.
+    fn take(&mut self, rule: &Rule) {
+        self.some = true;
+        if rule.decision != Some(Decision::To(Some(TaskNo(1)))) {
+            self.all_dispatch = false;
+        }
+    }
+}
+
 fn outcomes(alloc: Global, app: &App, row: &TableRow) -> Result<Summary, Memory>
     requires { IsProperRow app.now row.now }
 {
@@ -66,13 +78,41 @@ fn outcomes(alloc: Global, app: &App, row: &TableRow) -> Result<Summary, Memory>
     let found = rules(alloc, app, row.point, &row.entry)?;
     for rule in found.as_slice() {
         if has_result(alloc, rule, &row.entry)? {
-            outcomes.some = true;
-            if rule.decision != Some(Decision::To(Some(TaskNo(1)))) {
-                outcomes.all_dispatch = false;
-            }
+            outcomes.take(rule);
         }
     }
     Ok(outcomes)
+}
+
+/// The same by the numbers of the row's values.
+fn outcomes_by_number(alloc: Global, app: &App, row: &TableRow) -> Result<Summary, Memory>
+    requires { IsProperRow app.now row.now }
+{
+    let mut outcomes = Summary {
+        some: false,
+        all_dispatch: true,
+    };
+    let domains = domains(alloc, &row.entry)?;
+    let mut pool = Pool::new(alloc, domains.as_slice())?;
+    let entry = numbered(alloc, &mut pool, &row.entry)?;
+    let found = numbered_rules::rules(alloc, app, row.point, &pool, &entry)?;
+    for rule in found.as_slice() {
+        let new = numbered_rules::apply(alloc, rule, &mut pool, &entry)?;
+        if new.is_some() {
+            outcomes.take(rule);
+        }
+    }
+    Ok(outcomes)
+}
+
+fn domains(alloc: Global, entry: &Entry) -> Result<Vec<Domain>, Memory>
+    ensures { IfOk result (λ all. all.items ≡ domains_of_entry entry.now) }
+{
+    let mut all = Vec::new(alloc);
+    for set in entry.sets.as_slice() {
+        all.push(set.domain)?;
+    }
+    Ok(all)
 }
 
 fn has_result(alloc: Global, rule: &Rule, entry: &Entry) -> Result<bool, Memory> {
@@ -80,13 +120,18 @@ fn has_result(alloc: Global, rule: &Rule, entry: &Entry) -> Result<bool, Memory>
     Ok(new.is_some())
 }
 
-/// What the rules come to where the lower task is about to give the resource back and the higher one waits for it.
-fn outcomes_by_texts(alloc: Global) -> Result<Summary, TextError> {
+/// What the rules come to where the lower task is about to give the resource back and the higher one waits for it, by
+/// values or by their numbers.
+fn outcomes_by_texts(alloc: Global, by_number: bool) -> Result<Summary, TextError> {
     let system = read_system(alloc, OIL)?;
     match read_app(alloc, system, CODE) {
         Ok(app) => {
             let row = row_after_two_runs(alloc, &app)?;
-            let outcomes = outcomes(alloc, &app, &row);
+            let outcomes = if by_number {
+                outcomes_by_number(alloc, &app, &row)
+            } else {
+                outcomes(alloc, &app, &row)
+            };
             drop(row);
             drop(app);
             Ok(outcomes?)
@@ -101,5 +146,6 @@ fn where_a_ceiling_falls_every_rule_dispatches_the_higher_task(rt: HostRuntime) 
         some: true,
         all_dispatch: true,
     };
-    assert_eq!(rt; outcomes_by_texts(rt.alloc()), Ok(wanted));
+    assert_eq!(rt; outcomes_by_texts(rt.alloc(), false), Ok(wanted));
+    assert_eq!(rt; outcomes_by_texts(rt.alloc(), true), Ok(wanted));
 }

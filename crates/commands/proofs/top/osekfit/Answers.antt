@@ -1,48 +1,38 @@
 -- the command that the words are, its answer, and that it is the one which is due
-use Rattle.std.proofs.Common.{ℕ, List, refl, map, option_map, inl, Global, Ok, Err}
+use Rattle.std.proofs.Common.{ℕ, List, refl, sym, subst, map, Global, Err}
 use Rattle.std.specs.String.{string_bytes}
 use Rattle.std.specs.declared.option.Option.{Option}
-use Rattle.std.specs.declared.result.Result.{Result}
-use Rattle.commands.specs.Answering.{CommandAnswers, Tells}
+use Rattle.commands.specs.Answering.{CommandAnswers, Does, Tells}
+use Rattle.commands.specs.Due.{IsDue}
 use Rattle.commands.specs.Outside.{outside}
-use Rattle.commands.specs.Seen.{seen}
 use Rattle.commands.specs.Words.{Command, command_of}
-use Rattle.commands.specs.declared.stop.Stop.{Stop}
-use Rattle.commands.proofs.Commands.{does_of}
+use Rattle.commands.specs.declared.stop.Stop.TheVariants as stop
 use Rattle.commands.proofs.Exact.{exact_of}
-use Rattle.commands.proofs.GivenTexts.{grown-nil}
+use Rattle.commands.proofs.WantOfMemory.{memory_answers}
 use Rattle.commands.proofs.top.osekfit.Goals as goal
 
 pub returns-in-Ok-clause-does : goal.returns-in-Ok-clause-does
 returns-in-Ok-clause-does g c =
-    does_of (command_of (map (string_bytes {Z = Global}) c.args.words.now)) (option_map seen c.command_from-command.result) c.command_from-command.ensures
-    (λ (k : Option Command) (r : Result (Unit {0}) Stop). CommandAnswers
-    (outside g.F.Shelf g.O.Sink c.args.shelf.now c.args.out.now)
-    (outside g.F.Shelf g.O.Sink c.carry_out_words.new.shelf c.carry_out_words.new.out) k r)
-    (λ (text : List ℕ) (status : ℕ). Tells (g.E.Sink.faults c.args.err.now) (g.E.Sink.faults c.args.err.now) (g.E.Sink.written c.args.err.now) (g.E.Sink.written c.args.err.now) text status 0)
-    (Ok tt) c.in-Ok.ensures (inl (refl, grown-nil (g.E.Sink.written c.args.err.now)))
-
-pub returns-in-Err-clause-does : goal.returns-in-Err-clause-does
-returns-in-Err-clause-does g c =
-    does_of (command_of (map (string_bytes {Z = Global}) c.args.words.now)) (option_map seen c.command_from-command.result) c.command_from-command.ensures
-    (λ (k : Option Command) (r : Result (Unit {0}) Stop). CommandAnswers
-    (outside g.F.Shelf g.O.Sink c.args.shelf.now c.args.out.now)
-    (outside g.F.Shelf g.O.Sink c.carry_out_words.new.shelf c.carry_out_words.new.out) k r)
-    (λ (text : List ℕ) (status : ℕ). Tells (g.E.Sink.faults c.args.err.now) (g.E.Sink.faults c.refuse.new.err) (g.E.Sink.written c.args.err.now) (g.E.Sink.written c.refuse.new.err) text status c.refuse.result)
-    (Err c.in-Err.stop) c.in-Err.ensures c.refuse.ensures
+    subst (λ (k : Option Command). Does k
+    (CommandAnswers (outside g.F.Shelf g.O.Sink c.args.shelf.now c.args.out.now) (outside g.F.Shelf g.O.Sink c.run_command.new.shelf c.run_command.new.out) k)
+    (λ (text : List ℕ) (status : ℕ). Tells (g.E.Sink.faults c.args.err.now) (g.E.Sink.faults c.run_command.new.err) (g.E.Sink.written c.args.err.now) (g.E.Sink.written c.run_command.new.err) text status c.run_command.result))
+    c.in-Ok.ensures c.run_command.ensures.does
 
 pub returns-in-Ok-clause-exact : goal.returns-in-Ok-clause-exact
 returns-in-Ok-clause-exact g c = λ files due told calm still is.
-    exact_of files (g.F.Shelf.contents c.args.shelf.now) told
-    (outside g.F.Shelf g.O.Sink c.carry_out_words.new.shelf c.carry_out_words.new.out)
-    (g.F.Shelf.read_faults c.args.shelf.now) (g.F.Shelf.write_faults c.args.shelf.now) (g.O.Sink.faults c.args.out.now) (g.O.Sink.written c.args.out.now)
-    (g.E.Sink.faults c.args.err.now) (g.E.Sink.faults c.args.err.now) (g.E.Sink.written c.args.err.now) (g.E.Sink.written c.args.err.now)
-    (command_of (map (string_bytes {Z = Global}) c.args.words.now)) 0 calm still due is (returns-in-Ok-clause-does g c)
+    c.run_command.ensures.exact files due told calm still (subst (λ (k : Option Command). IsDue files k due) (sym c.in-Ok.ensures) is)
+
+pub returns-in-Err-clause-does : goal.returns-in-Err-clause-does
+returns-in-Err-clause-does g c = record {
+  answer = Err stop.Memory;
+  does = memory_answers (outside g.F.Shelf g.O.Sink c.args.shelf.now c.args.out.now) (command_of (map (string_bytes {Z = Global}) c.args.words.now));
+  told = c.refuse.ensures;
+}
 
 pub returns-in-Err-clause-exact : goal.returns-in-Err-clause-exact
 returns-in-Err-clause-exact g c = λ files due told calm still is.
     exact_of files (g.F.Shelf.contents c.args.shelf.now) told
-    (outside g.F.Shelf g.O.Sink c.carry_out_words.new.shelf c.carry_out_words.new.out)
+    (outside g.F.Shelf g.O.Sink c.args.shelf.now c.args.out.now)
     (g.F.Shelf.read_faults c.args.shelf.now) (g.F.Shelf.write_faults c.args.shelf.now) (g.O.Sink.faults c.args.out.now) (g.O.Sink.written c.args.out.now)
     (g.E.Sink.faults c.args.err.now) (g.E.Sink.faults c.refuse.new.err) (g.E.Sink.written c.args.err.now) (g.E.Sink.written c.refuse.new.err)
     (command_of (map (string_bytes {Z = Global}) c.args.words.now)) c.refuse.result calm still due is (returns-in-Err-clause-does g c)

@@ -1,0 +1,6 @@
+pub mod FormParts
+pub mod FormRows
+pub mod FoundWords
+pub mod Plain
+pub mod TopWalk
+pub mod VerbWalks

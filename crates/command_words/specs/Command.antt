@@ -1,0 +1,36 @@
+-- The command that clap is given: each verb is a subcommand with one argument, which takes all the words behind it.
+use Rattle.std.specs.Prelude.{ℕ, true, List, Some, None, codes}
+use Rattle.clap.specs.Walk.{reading_by}
+use Rattle.clap.specs.declared.builder.action.ArgAction.TheVariants.{Set}
+use Rattle.clap.specs.declared.builder.value_parser.ValueParser.TheVariants as parser
+use Rattle.clap.specs.declared.parser.matches.ValueSource.TheVariants.{CommandLine}
+use Rattle.clap.specs.Words.{App, Row, Rule, Shape, Text, new_app, new_rule, with_rule, with_subcommand}
+
+-- one argument of k values
+abbrev pub words_rule : ℕ → Rule
+words_rule k = record (new_rule (codes "words")) { value_names = k; required = true }
+
+abbrev pub verb_app : Text → ℕ → App
+verb_app name k = with_rule (new_app name) (words_rule k)
+
+abbrev pub with_verb : App → Text → ℕ → App
+with_verb a name k = with_subcommand a (verb_app name k).top
+
+-- no flag and no subcommand of clap's own
+abbrev pub bare : Shape → Shape
+bare s = record s { disable_help_flag = true; disable_help_subcommand = true; subcommand_required = true }
+
+abbrev pub bare_app : App
+bare_app = let a = new_app (codes "osekfit") in record a { top = bare a.top }
+
+abbrev pub the_app : App
+the_app =
+    with_verb (with_verb (with_verb (with_verb (with_verb (with_verb bare_app (codes "build") 3) (codes "replay") 3) (codes "trace") 4) (codes "show") 2) (codes "gen") 2) (codes "info") 1
+
+-- the argument as building fills it in
+abbrev pub built_rule : ℕ → Rule
+built_rule k = record (words_rule k) { action = Some Set; parser = Some parser.String; range = Some (record { start_inclusive = k; end_inclusive = k }); index = Some 1 }
+
+-- what a parse finds for the argument
+abbrev pub words_row : List Text → Row
+words_row words = record { id = codes "words"; values = words; count = None; source = Some CommandLine; reading = reading_by (built_rule 1) }

@@ -1,0 +1,23 @@
+-- Each command may answer that memory ran out before it began.
+use Rattle.std.proofs.Common.{refl, inl, inr, Some, None, Err}
+use Rattle.std.specs.declared.option.Option.{Option}
+use Rattle.commands.specs.Answering.{CommandAnswers}
+use Rattle.commands.specs.Building as building
+use Rattle.commands.specs.Generating as generating
+use Rattle.commands.specs.Informing as informing
+use Rattle.commands.specs.Inputs.{no_memory}
+use Rattle.commands.specs.Outside.{Outside}
+use Rattle.commands.specs.Replaying as replaying
+use Rattle.commands.specs.Showing as showing
+use Rattle.commands.specs.Tracing as tracing
+use Rattle.commands.specs.Words.{Command, Build, Replay, Trace, Show, Info, Gen}
+use Rattle.commands.specs.declared.stop.Stop.TheVariants as stop
+
+pub memory_answers : (before : Outside) (command : Option Command) → CommandAnswers before before command (Err stop.Memory)
+memory_answers before None = (inr refl, refl)
+memory_answers before (Some (Build oil code image)) = (building.stops stop.Memory (inl no_memory) (refl, refl), refl, refl)
+memory_answers before (Some (Replay image mode events)) = (replaying.stops stop.Memory no_memory refl, (refl, refl))
+memory_answers before (Some (Trace oil code mode events)) = (tracing.stops stop.Memory (inl no_memory) refl, (refl, refl))
+memory_answers before (Some (Show oil code)) = (showing.stops stop.Memory (inl no_memory) refl, (refl, refl))
+memory_answers before (Some (Info image)) = (informing.stops stop.Memory no_memory refl, (refl, refl))
+memory_answers before (Some (Gen seed tasks)) = (generating.no_memory refl, refl)

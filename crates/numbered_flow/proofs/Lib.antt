@@ -1,0 +1,4 @@
+pub mod Raising
+pub mod JoiningCells
+pub mod EvaluatedRows
+pub mod NumberedCells

@@ -1,0 +1,162 @@
+-- Cells of numbered entries: what may be joined to them, and that they stay as the pool grows.
+use Rattle.std.proofs.Common.{◌≡◌, ℕ, ◌+◌, ◌<◌, false, List, [], ◌∷◌, length, get_or, set, map, refl, sym, ap, ap₂, subst, ◌∙◌, inl, inr, arith, All}
+use Rattle.std.specs.Prelude.{Contains}
+use Rattle.std.proofs.lemmas.List.{length-map, map-set, get_or-map}
+use Rattle.osek_standard.specs.declared.app.App.{App}
+use Rattle.osek_standard.specs.declared.point.Point.{Point}
+use Rattle.osek_standard.proofs.Members.{Among, among_contained, among_map, contained_among}
+use Rattle.abstract_state.specs.declared.table.{Entry.{Entry}}
+use Rattle.numbered_sets.specs.declared.numbered_entry.NumberedEntry.{NumberedEntry}
+use Rattle.numbered_sets.specs.NumberedEntries.{entry_numbers, AreSoundNumbers, IsBelowNumbers}
+use Rattle.abstract_state.specs.declared.value.Domain.{Domain}
+use Rattle.numbered_sets.specs.Numbers.{Numbers}
+use Rattle.numbered_sets.specs.Pools.{Values, no_values, pool_domains, AreValues, IsLonger}
+use Rattle.numbered_sets.specs.Views.{plain_entry, AreNumbersOf}
+use Rattle.numbered_sets.proofs.ViewLaws.{same_view, still_known, same_heights}
+use Rattle.numbered_sets.proofs.KnownNumbers.{known_sound}
+use Rattle.state_flow.specs.declared.cells.Cell.{Cell}
+use Rattle.state_flow.specs.Cells.{cell_number, AreInOrder, IsWaitingAt, NoneWaitsFrom, MayJoin, IsJoined}
+use Rattle.state_flow.specs.Rows.{row_at, IsProperRow}
+use Rattle.state_flow.specs.Progress.{AreProperCells, AreJoined}
+use Rattle.state_flow.specs.Reaching.{Leads}
+use Rattle.state_flow.proofs.CellLists.{set_cases}
+use Rattle.state_flow.proofs.Joining.{may_join, joined_one}
+use Rattle.state_flow.proofs.Closing.{evaluated, evaluated_proper, progress_made}
+use Rattle.numbered_flow.specs.declared.evaluation.NumberedRow.{NumberedRow}
+use Rattle.numbered_flow.specs.PlainCells.{plain_cell, plain_cells, AreCellsOf}
+use Rattle.numbered_flow.specs.PlainRows.{plain_row, plain_rows, AreRowsOf}
+use Rattle.numbered_flow.specs.Numbering.{AreNumberedCells, IsNumberedRow, AreNumberedRows, HasProgress}
+use Rattle.numbered_flow.proofs.Raising.{AreAlikeNumbers}
+use Rattle.numbered_flow.proofs.JoiningCells.{among_plain, joined_known, joined_plain}
+
+plain_at : (pool : List Values) (cells : List (Cell NumberedEntry)) (k : ℕ) (d : Cell Entry) (some : Cell NumberedEntry) → k < length cells → get_or (plain_cells pool cells) k d ≡ plain_cell pool (get_or cells k some)
+plain_at pool cells k d some lt = get_or-map (plain_cell pool) cells k some d lt
+
+pub numbered_order : (pool : List Values) (cells : List (Cell NumberedEntry)) → AreInOrder (plain_cells pool cells) → AreInOrder cells
+numbered_order pool cells order = record {
+  before = λ i j d lt known.
+      (let first = ap cell_number (plain_at pool cells i (plain_cell pool d) d (omega (arith, lt, known))) in
+      let second = ap cell_number (plain_at pool cells j (plain_cell pool d) d known) in
+      let long = length-map cells (plain_cell pool) in
+      let before = order.before i j (plain_cell pool d) lt (omega (arith, known, long)) in
+      omega (arith, first, second, before));
+}
+
+-- cells that wait
+pub waits_plain : (pool : List Values) (cells : List (Cell NumberedEntry)) (place : ℕ) → IsWaitingAt cells place → IsWaitingAt (plain_cells pool cells) place
+waits_plain pool cells place h = record {
+  known = (let long = length-map cells (plain_cell pool) in omega (arith, h.known, long));
+  waits = λ d.
+      (let some : Cell NumberedEntry = record { point = d.point; entry = record { sets = [] }; waiting = false } in
+      ap (λ (x : Cell Entry). x.waiting) (plain_at pool cells place d some h.known) ∙ h.waits some);
+}
+
+pub none_waits_plain : (pool : List Values) (cells : List (Cell NumberedEntry)) (from : ℕ) → NoneWaitsFrom cells from → NoneWaitsFrom (plain_cells pool cells) from
+none_waits_plain pool cells from h k d le lt =
+    let long = length-map cells (plain_cell pool) in
+    let some : Cell NumberedEntry = record { point = d.point; entry = record { sets = [] }; waiting = false } in
+    let below : k < length cells = omega (arith, lt, long) in
+    ap (λ (x : Cell Entry). x.waiting) (plain_at pool cells k d some below) ∙ h k some le below
+
+pub among_rows : (pool : List Values) (rows : List NumberedRow) (row : NumberedRow) → Contains rows row → Contains (plain_rows pool rows) (plain_row pool row)
+among_rows pool rows row m = among_contained (plain_rows pool rows) (plain_row pool row) (among_map (plain_row pool) row rows (contained_among rows row m))
+
+module _ (app : App) (pool : List Values) (cells : List (Cell NumberedEntry)) (row : NumberedRow) (all : All AreValues pool) (numbered : AreNumberedCells app pool cells) (its : IsNumberedRow app pool row) where
+  sound_numbers : (entry : NumberedEntry) (p : Point) → AreNumbersOf pool entry → IsProperRow app (row_at p (plain_entry pool entry)) → AreSoundNumbers entry
+  sound_numbers entry p known proper = known_sound pool entry all known (let same = same_heights pool 0 entry.sets in let few = proper.row.sound.few in omega (arith, same, few))
+
+  pub numbered_may : MayJoin AreSoundNumbers AreAlikeNumbers cells row.point row.entry
+  numbered_may = record {
+    one = λ cell h e. (may_join app (plain_cells pool cells) (plain_row pool row) numbered.proper its.proper).one (plain_cell pool cell) (among_plain pool cells cell h) e;
+    elements = λ cell h. sound_numbers cell.entry cell.point (numbered.known.each cell h) (numbered.proper.each (plain_cell pool cell) (among_plain pool cells cell h));
+    alike = λ cell h. (numbered.known.each cell h).domains ∙ sym its.known.domains;
+    element = sound_numbers row.entry row.point its.known its.proper;
+  }
+
+  pub numbered_joined : (after : List (Cell NumberedEntry)) → IsJoined AreSoundNumbers AreAlikeNumbers IsBelowNumbers entry_numbers cells row.point row.entry after → AreJoined app (plain_cells pool cells) (plain_row pool row ∷ []) (plain_cells pool after)
+  numbered_joined after h =
+      joined_one app (plain_cells pool cells) (plain_row pool row) numbered.proper its.proper (plain_cells pool after) (joined_plain pool cells after row.point row.entry all numbered.known its.known h)
+
+  pub numbered_after : (after : List (Cell NumberedEntry)) → IsJoined AreSoundNumbers AreAlikeNumbers IsBelowNumbers entry_numbers cells row.point row.entry after → AreCellsOf pool after
+  numbered_after after h = joined_known pool cells after row.point row.entry all numbered.known its.known h
+
+-- ---- longer pools
+
+cells_by : (pool after : List Values) (cells : List (Cell NumberedEntry)) → IsLonger pool after → ((cell : Cell NumberedEntry) → Among cell cells → AreNumbersOf pool cell.entry) → plain_cells after cells ≡ plain_cells pool cells
+cells_by pool after [] longer known = refl
+cells_by pool after (x ∷ xs) longer known =
+    ap₂ (λ (e : Entry) (rest : List (Cell Entry)). record { point = x.point; entry = e; waiting = x.waiting } ∷ rest) (same_view pool after x.entry longer (known x (inl refl)))
+    (cells_by pool after xs longer (λ cell m. known cell (inr m)))
+
+pub cells_same : (pool after : List Values) (cells : List (Cell NumberedEntry)) → IsLonger pool after → AreCellsOf pool cells → plain_cells after cells ≡ plain_cells pool cells
+cells_same pool after cells longer known = cells_by pool after cells longer (λ cell m. known.each cell (among_contained cells cell m))
+
+pub cells_known : (pool after : List Values) (cells : List (Cell NumberedEntry)) → IsLonger pool after → AreCellsOf pool cells → AreCellsOf after cells
+cells_known pool after cells longer known = record { each = λ cell m. still_known pool after cell.entry longer (known.each cell m) }
+
+pub cells_on : (app : App) (pool after : List Values) (cells : List (Cell NumberedEntry)) → IsLonger pool after → AreNumberedCells app pool cells → AreNumberedCells app after cells
+cells_on app pool after cells longer h = record {
+  known = cells_known pool after cells longer h.known;
+  proper = subst (AreProperCells app) (sym (cells_same pool after cells longer h.known)) h.proper;
+}
+
+-- ---- an evaluation
+
+abbrev pub asked : Cell NumberedEntry → Cell NumberedEntry
+asked cell = record cell { waiting = false }
+
+module _ (app : App) (pool after : List Values) (cells : List (Cell NumberedEntry)) (place : ℕ) (cell : Cell NumberedEntry) (numbered : AreNumberedCells app pool cells) (waits : IsWaitingAt cells place) (is : get_or cells place cell ≡ cell) (longer : IsLonger pool after) where
+  among : Contains cells cell
+  among = (place, waits.known, is)
+
+  pub numbers_there : AreNumbersOf pool cell.entry
+  numbers_there = numbered.known.each cell among
+
+  pub proper_there : IsProperRow app (row_at cell.point (plain_entry pool cell.entry))
+  proper_there = numbered.proper.each (plain_cell pool cell) (among_plain pool cells cell among)
+
+  plain_known : place < length (plain_cells pool cells)
+  plain_known = (let long = length-map cells (plain_cell pool) in omega (arith, waits.known, long))
+
+  plain_is : get_or (plain_cells pool cells) place (plain_cell pool cell) ≡ plain_cell pool cell
+  plain_is = plain_at pool cells place (plain_cell pool cell) cell waits.known ∙ ap (plain_cell pool) is
+
+  asked_known : AreCellsOf pool (set cells place (asked cell))
+  asked_known = record {
+    each = λ x m. elim (set_cases cells place (asked cell) x m) [
+      | inl new ↦ subst (λ (y : Cell NumberedEntry). AreNumbersOf pool y.entry) (sym new) numbers_there
+      | inr old ↦ numbered.known.each x old
+    ];
+  }
+
+  asked_same : plain_cells after (set cells place (asked cell)) ≡ set (plain_cells pool cells) place (evaluated (plain_cell pool cell))
+  asked_same = cells_same pool after (set cells place (asked cell)) longer asked_known ∙ map-set (plain_cell pool) cells place (asked cell)
+
+  pub asked_cells : AreNumberedCells app after (set cells place (asked cell))
+  asked_cells = record {
+    known = cells_known pool after (set cells place (asked cell)) longer asked_known;
+    proper = subst (AreProperCells app) (sym asked_same) (evaluated_proper (plain_cells pool cells) place (plain_cell pool cell) plain_known plain_is app numbered.proper);
+  }
+
+  module _ (rows : List NumberedRow) (known : AreRowsOf after rows) (leads : Leads app cell.point (plain_entry pool cell.entry) (plain_rows after rows)) where
+    pub led_rows : AreNumberedRows app after rows
+    led_rows = record {
+      each = λ row m. record { known = known.each row m; proper = (leads.each (plain_row after row) (among_rows after rows row m)).proper };
+    }
+
+    pub progress_on : (end : List (Cell NumberedEntry)) → AreCellsOf after end → AreJoined app (plain_cells after (set cells place (asked cell))) (plain_rows after rows) (plain_cells after end)
+        → (n : ℕ) → HasProgress app pool cells n → HasProgress app after end (n + 1)
+    progress_on end end_known joined n progress = record {
+      known = end_known;
+      progress =
+          progress_made (plain_cells pool cells) place (plain_cell pool cell) plain_known plain_is app (plain_rows after rows) (plain_cells after end) (sym (ap (λ (x : Cell NumberedEntry). x.waiting) is) ∙ waits.waits cell) leads
+          (subst (λ (xs : List (Cell Entry)). AreJoined app xs (plain_rows after rows) (plain_cells after end)) asked_same joined) n progress.progress;
+    }
+
+-- an entry of the pool's numbers has a set for each of its components
+pub sets_as_many : (pool : List Values) (entry : NumberedEntry) → AreNumbersOf pool entry → length entry.sets ≡ length pool
+sets_as_many pool entry known = sym (length-map entry.sets (λ (x : Numbers). x.domain)) ∙ ap length known.domains ∙ length-map pool (λ (x : Values). x.domain)
+
+pub domains_kept : (ds : List Domain) → pool_domains (map no_values ds) ≡ ds
+domains_kept [] = refl
+domains_kept (d ∷ ds) = ap (λ (es : List Domain). d ∷ es) (domains_kept ds)

@@ -1,0 +1,17 @@
+-- The cells of plain entries that cells of numbered ones stand for.
+use Rattle.std.specs.Prelude.{List, map, Contains}
+use Rattle.abstract_state.specs.declared.table.Entry.{Entry}
+use Rattle.numbered_sets.specs.declared.numbered_entry.NumberedEntry.{NumberedEntry}
+use Rattle.numbered_sets.specs.Pools.{Values}
+use Rattle.numbered_sets.specs.Views.{plain_entry, AreNumbersOf}
+use Rattle.state_flow.specs.declared.cells.Cell.{Cell}
+
+abbrev pub plain_cell : List Values → Cell NumberedEntry → Cell Entry
+plain_cell pool cell = record { point = cell.point; entry = plain_entry pool cell.entry; waiting = cell.waiting }
+
+abbrev pub plain_cells : List Values → List (Cell NumberedEntry) → List (Cell Entry)
+plain_cells pool cells = map (plain_cell pool) cells
+
+-- the numbers of each cell are those of values of the pool
+pub record AreCellsOf (pool : List Values) (cells : List (Cell NumberedEntry)) : Type 0 where
+  pub each : (cell : Cell NumberedEntry) → Contains cells cell → AreNumbersOf pool cell.entry

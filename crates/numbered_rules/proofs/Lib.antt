@@ -1,0 +1,2 @@
+pub mod NumbersPassing
+pub mod KeptDomains

@@ -1,0 +1,55 @@
+-- What a rule makes of the values of numbered sets.
+use Rattle.std.specs.Prelude.{◌≡◌, ℕ, ◌<◌, Bool, not, List, length, IsTrue}
+use Rattle.std.specs.List.{list_any}
+use Rattle.abstract_state.specs.declared.value.{Domain.{Domain}, PartValue.{PartValue}}
+use Rattle.abstract_state.specs.declared.table.{ValueSet.{ValueSet}, Entry.{Entry}}
+use Rattle.abstract_state.specs.Domains.{IsWithin}
+use Rattle.abstract_state.specs.Tables.{set_at, is_member}
+use Rattle.flow_model.specs.declared.rule.Rule.{Rule}
+use Rattle.flow_model.specs.Tests.{is_failed, PassesAt, value_after}
+use Rattle.flow_model.specs.Rules.{Taken}
+use Rattle.flow_rules.specs.Passing.{ArePassed}
+use Rattle.numbered_sets.specs.Numbers.{Numbers, has_number}
+use Rattle.numbered_sets.specs.Pools.{Values, values_at, IsNumberOf, IsLonger}
+use Rattle.numbered_sets.specs.Views.{plain_set}
+
+-- each set has a value that the rule takes
+abbrev pub AreTaken : Rule → Entry → Type 0
+AreTaken rule entry = (c : ℕ) → c < length entry.sets → Taken rule entry c
+
+-- a value of the set passes
+pub record HasPassing (rule : Rule) (c : ℕ) (set : ValueSet) : Type 0 where
+  pub value : PartValue
+  pub there : IsTrue (is_member set value)
+  pub passes : PassesAt rule.conditions c value
+
+-- none does
+pub record HasNoPassing (rule : Rule) (c : ℕ) (set : ValueSet) : Type 0 where
+  pub none : (v : PartValue) → IsTrue (is_member set v) → PassesAt rule.conditions c v → ⊥
+
+-- whether the value with this number passes
+pub record IsPassing (rule : Rule) (c : ℕ) (values : List PartValue) (n : ℕ) (passes : Bool) : Type 0 where
+  pub value : PartValue
+  pub is : IsNumberOf values value n
+  pub tells : passes ≡ not (list_any (is_failed c value) rule.conditions)
+
+-- What the rule makes of the set's values that pass lies in their domain.
+pub record KeepsDomain (rule : Rule) (c : ℕ) (set : ValueSet) : Type 0 where
+  pub each : (v : PartValue) → IsTrue (is_member set v) → PassesAt rule.conditions c v → IsWithin set.domain (value_after rule.changes c v)
+
+-- So it is for each set, where each has a value that passes.
+pub record KeepsDomains (rule : Rule) (entry : Entry) : Type 0 where
+  pub sets : AreTaken rule entry → (c : ℕ) → c < length entry.sets → KeepsDomain rule c (set_at entry c)
+
+-- numbers of what the rule makes of the values of a list that pass, in a pool that grew
+pub record IsPassedSoFar (rule : Rule) (before : List Values) (c : ℕ) (d : Domain) (old : List PartValue) (pool : List Values) (x : Numbers) : Type 0 where
+  pub longer : IsLonger before pool
+  pub domain : x.domain ≡ d
+  pub known : (n : ℕ) → IsTrue (has_number x n) → n < length (values_at pool c)
+  pub passed : ArePassed rule c d old (plain_set (values_at pool c) x)
+
+-- the numbers of what the rule makes of the values of numbers that pass
+pub record IsPassedSet (rule : Rule) (before : List Values) (c : ℕ) (old : Numbers) (pool : List Values) (new : Numbers) : Type 0 where
+  pub domain : new.domain ≡ old.domain
+  pub known : (n : ℕ) → IsTrue (has_number new n) → n < length (values_at pool c)
+  pub passed : ArePassed rule c old.domain (plain_set (values_at before c) old).members (plain_set (values_at pool c) new)

@@ -1,0 +1,9 @@
+pub mod Counting
+pub mod BitCounts
+pub mod WordLaws
+pub mod NumberLattice
+pub mod PoolLaws
+pub mod PlainLaws
+pub mod ViewLaws
+pub mod KnownNumbers
+pub mod NumberingLaws

@@ -1,0 +1,36 @@
+use Rattle.std.proofs.Common.{◌+◌, List, get_or, sym, ap, subst, ◌∙◌, arith}
+use Rattle.std.proofs.Math.ListN.{get_or-map}
+use Rattle.abstract_state.specs.declared.value.Domain.{Domain}
+use Rattle.abstract_state.specs.declared.value.Domain.TheVariants as domain
+use Rattle.abstract_state.specs.declared.table.ValueSet.{ValueSet}
+use Rattle.abstract_state.specs.Tables.{empty_set}
+use Rattle.numbered_sets.specs.Pools.{Values, no_values}
+use Rattle.numbered_sets.proofs.NumberingLaws.{AreNumberedUpTo, numbered_next, numbered_known, numbered_plain, same_domain}
+use Rattle.numbered_sets.proofs.numbered_form.numbered.Goals as goal
+
+pub numbered_set-requires-clause-domain : goal.numbered_set-requires-clause-domain
+numbered_set-requires-clause-domain c =
+    let place = c.loop-component.component in
+    sym (ap (λ (s : ValueSet). s.domain) (c.at.ensures.item empty_set))
+    ∙ sym (get_or-map (λ (s : ValueSet). s.domain) c.args.entry.now.sets place empty_set)
+    ∙ ap (λ (ds : List Domain). get_or ds place domain.Alarm) c.requires.domains
+    ∙ get_or-map (λ (x : Values). x.domain) c.args.pool.now place (no_values domain.Alarm)
+    ∙ sym (same_domain c.args.pool.now c.loop-component.pool place c.loop-component.invariant.longer)
+
+pub loop-component-preserved : goal.loop-component-preserved
+loop-component-preserved c =
+    let place = c.loop-component.component in
+    let next = numbered_next c.args.pool.now c.args.entry.now place c.loop-component.pool c.numbered_set.new.pool c.loop-component.sets c.at.result.now c.in_ok-set.set c.loop-component.invariant
+    c.in_ok-set.ensures.pool (c.at.ensures.item empty_set) c.in_ok-set.ensures.set in
+    let pushed = c.in_ok-push.ensures.ok in
+    subst (AreNumberedUpTo c.args.pool.now c.args.entry.now (place + 1) c.numbered_set.new.pool) (sym pushed) next
+
+pub returns-clause-numbers : goal.returns-clause-numbers
+returns-clause-numbers c =
+    numbered_known c.args.pool.now c.args.entry.now c.loop-component.pool (record { sets = c.loop-component.sets }) c.loop-component.component
+    (omega (arith, c.loop-component-test.false, c.loop-component.auto.component-end, c.len-component-end.ensures)) c.requires.domains c.loop-component.invariant
+
+pub returns-clause-plain : goal.returns-clause-plain
+returns-clause-plain c =
+    numbered_plain c.args.pool.now c.args.entry.now c.loop-component.pool (record { sets = c.loop-component.sets }) c.loop-component.component
+    (omega (arith, c.loop-component-test.false, c.loop-component.auto.component-end, c.len-component-end.ensures)) c.requires.domains c.loop-component.invariant

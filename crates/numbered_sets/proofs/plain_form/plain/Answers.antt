@@ -1,0 +1,19 @@
+use Rattle.std.proofs.Common.{◌+◌, List, sym, subst, ap, arith}
+use Rattle.abstract_state.specs.declared.table.{ValueSet.{ValueSet}, Entry.{Entry}}
+use Rattle.numbered_sets.specs.NumberedEntries.{no_set}
+use Rattle.numbered_sets.proofs.PlainLaws.{AreFirstPlain, plain_next, all_plain}
+use Rattle.numbered_sets.proofs.plain_form.plain.Goals as goal
+
+pub loop-component-preserved : goal.loop-component-preserved
+loop-component-preserved c =
+    let next = plain_next c.args.pool.now c.args.entry.now c.loop-component.component c.loop-component.sets c.at.result.now c.in_ok-set.set c.loop-component.invariant (c.at.ensures.item no_set) c.in_ok-set.ensures in
+    let h = c.in_ok-push.ensures.ok in
+    subst (AreFirstPlain c.args.pool.now c.args.entry.now (c.loop-component.component + 1)) (sym h) next
+
+pub returns : goal.returns
+returns c =
+    let sets = all_plain c.args.pool.now c.args.entry.now c.loop-component.component c.loop-component.sets (omega (arith, c.loop-component-test.false, c.loop-component.auto.component-end, c.len-component-end.ensures)) c.loop-component.invariant in
+    ap (λ (xs : List ValueSet). of xs) sets
+  where
+    of : List ValueSet → Entry
+    of xs = record { sets = xs }

@@ -1,0 +1,5 @@
+pub mod Numbers
+pub mod NumberedEntries
+pub mod Pools
+pub mod SeenLaws
+pub mod Views

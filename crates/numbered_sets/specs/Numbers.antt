@@ -1,0 +1,42 @@
+-- Sets of numbers, each the number whose bits they are.
+use Rattle.std.specs.Prelude.{ℕ, ◌+◌, ◌*◌, ◌<◌, ◌^◌, Bool, List, [], ◌∷◌, bit_or, count_ones, All}
+use Rattle.osek_standard.specs.Kernel.{has_bit}
+use Rattle.abstract_state.specs.declared.value.Domain.{Domain}
+use Rattle.abstract_state.specs.Domains.{domain_size}
+
+-- Numbers of values of a domain: those whose bit is set.
+pub record Numbers : Type 0 where
+  pub domain : Domain
+  pub bits : ℕ
+
+-- each word is one of 64 bits
+abbrev pub AreWords : List ℕ → Type 0
+AreWords = All (λ w. w < 2 ^ 64)
+
+-- their bits, those of the first word lowest
+unfoldable pub bits_of_words : List ℕ → ℕ
+bits_of_words [] = 0
+bits_of_words (w ∷ ws) = w + 2 ^ 64 * bits_of_words ws
+
+abbrev pub numbers : Domain → ℕ → Numbers
+numbers d m = record { domain = d; bits = m }
+
+-- Whether a number is in the set.
+abbrev pub has_number : Numbers → ℕ → Bool
+has_number x n = has_bit x.bits n
+
+-- a number more
+abbrev pub with_number : Numbers → ℕ → Numbers
+with_number x n = numbers x.domain (bit_or x.bits (2 ^ n))
+
+-- The numbers of both.
+abbrev pub joined_numbers : Numbers → Numbers → Numbers
+joined_numbers x y = numbers x.domain (bit_or x.bits y.bits)
+
+-- How many numbers there are.
+abbrev pub number_count : Numbers → ℕ
+number_count x = count_ones x.bits
+
+-- each number is below the size of the domain
+abbrev pub AreSound : Numbers → Type 0
+AreSound x = x.bits < 2 ^ domain_size x.domain

@@ -1,0 +1,18 @@
+//! Sets of values by number: each value that a component was seen with has a number, and a set is the bits of its values'
+//! numbers. What such sets mean is the ordered form of `abstract_state`.
+#![tactic(auto)]
+
+pub mod laws;
+mod numbered_entry;
+mod numbered_form;
+mod numbered_set;
+mod plain_form;
+mod pool;
+mod seen;
+mod words;
+
+pub use numbered_entry::NumberedEntry;
+pub use numbered_form::numbered;
+pub use numbered_set::NumberedSet;
+pub use plain_form::plain;
+pub use pool::Pool;

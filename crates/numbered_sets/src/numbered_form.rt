@@ -1,0 +1,50 @@
+//! The numbered form of entries.
+ghost use Rattle.std.specs.Prelude.{◌≡◌, ◌<◌, length, IfOk, All};
+ghost use Rattle.abstract_state.specs.Domains.{domains, IsSound};
+ghost use Rattle.numbered_sets.specs.Pools.{domain_at, pool_domains, IsLonger};
+ghost use Rattle.numbered_sets.specs.Views.{plain_entry, AreNumbersOf, IsNumberedSet};
+
+use crate::numbered_entry::NumberedEntry;
+use crate::numbered_set::NumberedSet;
+use crate::pool::Pool;
+use abstract_state::{Entry, ValueSet};
+use osek_values::{Memory, Seq};
+use std::alloc::Global;
+
+/// The entry of the numbers that an entry's values have in the pool, to which those that it lacks are added. Where memory
+/// is wanted the pool may have more of them.
+pub fn numbered(alloc: Global, pool: &mut Pool, entry: &Entry) -> Result<NumberedEntry, Memory>
+    requires domains { domains entry.now ≡ pool_domains pool.old }
+    requires sound { All IsSound entry.now.sets }
+    ensures pool { IsLonger pool.old pool.new }
+    ensures numbers { IfOk result (AreNumbersOf pool.new) }
+    ensures plain { IfOk result (λ numbered. plain_entry pool.new numbered ≡ entry.now) }
+{
+    let mut sets = Seq::new(alloc);
+    for component in 0..entry.sets.len() {
+        let set = numbered_set(alloc, pool, component, entry.sets.at(component))?;
+        sets.push(set)?;
+    }
+    Ok(NumberedEntry { sets })
+}
+
+// the numbers that a component's values have
+fn numbered_set(
+    alloc: Global,
+    pool: &mut Pool,
+    component: usize,
+    set: &ValueSet,
+) -> Result<NumberedSet, Memory>
+    requires known { component < length pool.old }
+    requires domain { set.now.domain ≡ domain_at pool.old component }
+    requires sound { IsSound set.now }
+    ensures pool { IsLonger pool.old pool.new }
+    ensures set { IfOk result (IsNumberedSet pool.new component set.now) }
+{
+    let mut numbers = NumberedSet::new(alloc, set.domain);
+    for value in set.members.as_slice() {
+        let number = pool.number(component, value.copy())?;
+        numbers.insert(number)?;
+    }
+    Ok(numbers)
+}

@@ -1,0 +1,151 @@
+//! The values that the components were seen with, by number.
+ghost use Rattle.std.specs.Prelude.{◌≡◌};
+
+use crate::seen::Seen;
+use abstract_state::{Domain, PartValue};
+use indexmap::IndexSet;
+use osek_values::{Memory, Seq};
+use std::alloc::Global;
+use std::marker::Model;
+
+/// The values that a component was seen with.
+#[derive(Drop)]
+struct Numbering {
+    domain: Domain,
+    seen: IndexSet<Seen>,
+}
+
+impl Model for Numbering {
+    ghost use Rattle.std.specs.Prelude.{List, map};
+    ghost use Rattle.abstract_state.specs.declared.value.PartValue.{PartValue};
+    ghost use Rattle.numbered_sets.specs.declared.seen.Seen.{Seen};
+    ghost use Rattle.numbered_sets.specs.Pools.{Values, AreNumbered};
+
+    ghost Value = { Values };
+
+    ghost view = { λ n. record { domain = n.domain; values = map (λ (s : Seen). s.value) n.seen.keys } };
+
+    ghost invariant = { λ n. AreNumbered n.domain (map (λ (s : Seen). s.value) n.seen.keys) };
+}
+
+impl Numbering {
+    ghost use Rattle.std.specs.Prelude.{◌≡◌, ◌<◌, length, IfOk, OnOk, OnErr};
+    ghost use Rattle.abstract_state.specs.Domains.{IsWithin, domain_size};
+    ghost use Rattle.numbered_sets.specs.Pools.{no_values, value_seen, AreValues, IsNumberOf};
+
+    /// No value yet.
+    fn new(alloc: Global, domain: Domain) -> Numbering
+        ensures { result ≡ no_values domain }
+    {
+        Numbering {
+            domain,
+            seen: IndexSet::new(alloc),
+        }
+    }
+
+    /// The number of a value, which comes in last where it is new.
+    fn number(&mut self, value: PartValue) -> Result<usize, Memory>
+        requires { IsWithin self.old.domain value }
+        ensures values { OnOk result (self.new ≡ value_seen self.old value) }
+        ensures number { IfOk result (IsNumberOf self.new.values value) }
+        ensures below { IfOk result (λ n. n < domain_size self.old.domain) }
+        ensures err { OnErr result (self.new ≡ self.old) }
+    {
+        let (number, _is_new) = self.seen.insert_full(Seen { value })?;
+        Ok(number)
+    }
+
+    /// How many values there are.
+    fn len(&self) -> usize
+        ensures { result ≡ length self.now.values }
+    {
+        self.seen.len()
+    }
+
+    /// The value with a number.
+    fn value(&self, number: usize) -> &PartValue
+        requires { number < length self.now.values }
+        ensures { IsNumberOf self.now.values result.now number }
+    {
+        &self.seen.as_slice()[number].value
+    }
+
+    /// None stands twice, and each is one of the domain's.
+    fn are_values(&self)
+        ensures { AreValues self.now }
+    {
+        let _domain = self.domain;
+    }
+}
+
+/// The values that each component was seen with, in the order of first use. A value keeps its number as more come in.
+#[derive(Drop)]
+pub struct Pool {
+    numberings: Seq<Numbering>,
+}
+
+impl Model for Pool {
+    ghost use Rattle.std.specs.Prelude.{List};
+    ghost use Rattle.numbered_sets.specs.Pools.{Values};
+
+    ghost Value = { List Values };
+
+    ghost view = { λ p. p.numberings };
+}
+
+impl Pool {
+    ghost use Rattle.std.specs.Prelude.{◌≡◌, ◌<◌, length, map, slice_set, IfOk, OnOk, OnErr, All};
+    ghost use Rattle.abstract_state.specs.Domains.{IsWithin, domain_size};
+    ghost use Rattle.numbered_sets.specs.Pools.{no_values, value_seen, seen_at, values_at, domain_at, AreValues, IsNumberOf};
+
+    /// A pool without values, for a component of each domain.
+    pub fn new(alloc: Global, domains: &[Domain]) -> Result<Pool, Memory>
+        ensures { IfOk result (λ pool. pool ≡ map no_values domains.now) }
+    {
+        let mut numberings = Seq::new(alloc);
+        for domain in domains {
+            numberings.push(Numbering::new(alloc, *domain))?;
+        }
+        Ok(Pool { numberings })
+    }
+
+    /// The number of a component's value, which comes in last where it is new.
+    pub fn number(&mut self, component: usize, value: PartValue) -> Result<usize, Memory>
+        requires known { component < length self.old }
+        requires within { IsWithin (domain_at self.old component) value }
+        ensures pool { OnOk result (self.new ≡ slice_set self.old component (value_seen (seen_at self.old component) value)) }
+        ensures number { IfOk result (IsNumberOf (values_at self.new component) value) }
+        ensures below { IfOk result (λ n. n < domain_size (domain_at self.old component)) }
+        ensures err { OnErr result (self.new ≡ self.old) }
+    {
+        let numbering = self.numberings.at_mut(component);
+        let number = numbering.number(value)?;
+        Ok(number)
+    }
+
+    /// How many values a component was seen with.
+    pub fn len(&self, component: usize) -> usize
+        requires { component < length self.now }
+        ensures { result ≡ length (values_at self.now component) }
+    {
+        self.numberings.at(component).len()
+    }
+
+    /// A component's value with a number.
+    pub fn value(&self, component: usize, number: usize) -> &PartValue
+        requires known { component < length self.now }
+        requires given { number < length (values_at self.now component) }
+        ensures { IsNumberOf (values_at self.now component) result.now number }
+    {
+        self.numberings.at(component).value(number)
+    }
+
+    /// No value of a component has two numbers, and each is one of the component's domain.
+    pub fn are_values(&self)
+        ensures { All AreValues self.now }
+    {
+        for numbering in self.numberings.as_slice() {
+            numbering.are_values();
+        }
+    }
+}

@@ -1,0 +1,65 @@
+//! Values that were seen, as keys.
+ghost use Rattle.std.specs.Prelude.{◌≡◌};
+ghost use Rattle.numbered_sets.specs.SeenLaws.{block_of as block_of_part, depth_of as depth_of_part};
+
+use abstract_state::{PartValue, Val};
+use std::hash::{Hash, Hasher};
+
+/// A value that a component was seen with.
+#[derive(Drop)]
+pub struct Seen {
+    pub value: PartValue,
+}
+
+impl PartialEq for Seen {
+    ghost use Rattle.numbered_sets.specs.SeenLaws.{same_seen, seen_alike};
+
+    ghost eq = { same_seen };
+
+    ghost laws = { seen_alike };
+
+    fn eq(&self, other: &Seen) -> bool {
+        self.value.is(&other.value)
+    }
+}
+
+impl Eq for Seen {
+    ghost use Rattle.numbered_sets.specs.SeenLaws.{seen_equal};
+
+    ghost laws = { seen_equal };
+}
+
+impl Hash for Seen {
+    ghost use Rattle.numbered_sets.specs.SeenLaws.{seen_input, seen_fed};
+
+    ghost hash_input = { seen_input };
+
+    ghost respects_eq = { seen_fed };
+
+    // few values of a task stand at one block with as many resources
+    fn hash<H: Hasher>(&self, state: &mut H) {
+        block_of(&self.value).hash(state);
+        depth_of(&self.value).hash(state);
+    }
+}
+
+fn block_of(value: &PartValue) -> u16
+    ensures { result ≡ block_of_part value.now }
+{
+    match value {
+        PartValue::OfTask(Val::Live(live)) => live.block.0,
+        PartValue::OfTask(Val::Waiting(block)) => block.0,
+        PartValue::OfTask(Val::Suspended) => 0,
+        PartValue::OfEvent(_) | PartValue::OfAlarm(_) => 0,
+    }
+}
+
+fn depth_of(value: &PartValue) -> usize
+    ensures { result ≡ depth_of_part value.now }
+{
+    match value {
+        PartValue::OfTask(Val::Live(live)) => live.held.as_slice().len(),
+        PartValue::OfTask(Val::Suspended | Val::Waiting(_)) => 0,
+        PartValue::OfEvent(_) | PartValue::OfAlarm(_) => 0,
+    }
+}
