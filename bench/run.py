@@ -14,7 +14,7 @@ import shutil
 import subprocess
 import sys
 import tempfile
-import threading
+import time
 from collections import namedtuple
 
 import make_app
@@ -31,13 +31,29 @@ def run(words, folder, out, limit):
     """Runs a command with its output in a file, and stops it after `limit` seconds."""
     with open(os.path.join(folder, out), 'wb') as file:
         process = subprocess.Popen(words, cwd=folder, stdin=subprocess.DEVNULL, stdout=file, stderr=file)
-    timer = threading.Timer(limit, process.kill)
-    timer.start()
-    _, ended, usage = os.wait4(process.pid, 0)
-    timer.cancel()
+    end, kilobytes = time.monotonic() + limit, 0
+    while True:
+        kilobytes = max(kilobytes, memory_of(process.pid))
+        done, ended, usage = os.wait4(process.pid, os.WNOHANG)
+        if done:
+            break
+        if time.monotonic() > end:
+            process.kill()
+        time.sleep(0.005)
     process.returncode = ended
     status = os.WEXITSTATUS(ended) if os.WIFEXITED(ended) else None
-    return Run(status, usage.ru_utime + usage.ru_stime, usage.ru_maxrss / 1024)
+    return Run(status, usage.ru_utime + usage.ru_stime, kilobytes / 1024)
+
+
+def memory_of(process):
+    """The largest memory of a running process so far, in KB. (What wait4 says counts this program's own, before the other began.)"""
+    try:
+        with open('/proc/%d/status' % process, encoding='ascii', errors='replace') as file:
+            words = [line.split() for line in file if line.startswith(('Name:', 'VmHWM:'))]
+    except OSError:
+        return 0
+    mine = words and words[0][1].startswith('python')
+    return 0 if mine or len(words) < 2 else int(words[1][1])
 
 
 def counts_of(folder):
@@ -65,7 +81,7 @@ def measured(program, tasks, words, folder):
 
 def cells_of(one):
     seconds = '%.2f' % one.seconds if one.status == 0 else 'stopped' if one.status is None else 'status %d' % one.status
-    return [seconds, '%.0f' % one.megabytes]
+    return [seconds, '%.1f' % one.megabytes]
 
 
 def checksum_seconds(folder):

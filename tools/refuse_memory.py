@@ -3,8 +3,9 @@
 
 For each command and each k the program's k-th request for memory is refused, until a run meets no refusal. A run that met one
 has to end with status 7 and `memory` on standard error (nothing there where the words weren't there yet), having printed a prefix
-of what it prints with ample memory (`replay` and `trace`: nothing), with no file created or changed. Where the C library itself
-asked, the answer may be a failed read or write, with status 5 or 6; these are counted apart.
+of what it prints with ample memory (`replay` and `trace`: nothing), with no file created or changed. It may also get along without
+(std's `collect` asks for all its room at first, and then for less), and end as with ample memory. Where the C library itself asked,
+the answer may be a failed read or write, with status 5 or 6.
 
     tools/refuse_memory.py crates/osekfit/out/osekfit          needs cc: a library that is loaded first refuses the request
     tools/refuse_memory.py --try --every 10                    by `rt try --fail-alloc`, which needs no proved program, builds it
@@ -124,6 +125,8 @@ def read(name):
 def fault_of(words, answer, ample, texts):
     """What is wrong with the answer of a run that met a refusal, or None."""
     err = answer.err.decode('latin-1')
+    if answer.status == 0:
+        return None if answer._replace(refused=False) == ample else 'status 0, and not all was done'
     if answer.status == 7 and err not in ('memory\n', ''):
         return 'err is %r' % err
     if answer.status in (5, 6) and not re.fullmatch(r'([^\n:]+: (read|write)\n)?', err):

@@ -1,9 +1,10 @@
 //! Whole runs of the top call over files in memory.
+use crate::edge_rows::{MODE_ROWS, TEXT_ROWS};
 use crate::example_rows::EXAMPLE_ROWS;
 use crate::flow_rows::FLOW_ROWS;
 use crate::gen_rows::GEN_ROWS;
 use crate::long_rows::{LONG_ROWS, LongRow, Repeated};
-use crate::rows::{Act, EVENT_ROWS, MODE_ROWS, Row, TASK_ROWS, TEXT_ROWS};
+use crate::rows::{Act, EVENT_ROWS, Row, TASK_ROWS};
 use commands::osekfit;
 use osek_io::{MemShelf, MemSink};
 use osek_values::Memory;
