@@ -14,6 +14,7 @@ import sys
 from collections import namedtuple
 
 import task_code
+from given import contents
 
 Point = namedtuple('Point', 'kind block over')
 """Where the processor stands: kind is halt, idle, task or routine; over is the interrupted task's name, or `-`."""
@@ -187,13 +188,6 @@ def arguments():
     parser.add_argument('--svg', action='store_true', help='an SVG drawing in place of DOT; needs --code')
     parser.add_argument('--title', default='', help='a heading for the drawing')
     return parser.parse_args()
-
-
-def contents(name):
-    if name is None:
-        return sys.stdin.read()
-    with open(name, encoding='latin-1', newline='') as file:
-        return file.read()
 
 
 def main():

@@ -11,6 +11,8 @@ import argparse
 import sys
 from collections import namedtuple
 
+from given import contents
+
 STATES = {'S': 'suspended', 'Y': 'ready', 'R': 'running', 'W': 'waiting'}
 
 STATUSES = ['E_OK', 'E_OS_ACCESS', 'E_OS_CALLEVEL', 'E_OS_ID', 'E_OS_LIMIT', 'E_OS_NOFUNC', 'E_OS_RESOURCE', 'E_OS_STATE',
@@ -94,13 +96,6 @@ def arguments():
     parser.add_argument('--last', type=int, metavar='N', help='the last line that is drawn (in SVG at most %d lines are)' % MOST)
     parser.add_argument('--title', default='', help='a heading for the chart')
     return parser.parse_args()
-
-
-def contents(name):
-    if name is None:
-        return sys.stdin.read()
-    with open(name, encoding='latin-1', newline='') as file:
-        return file.read()
 
 
 def part_of(trace, first, last):
