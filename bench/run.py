@@ -3,7 +3,8 @@
 
 For each number of tasks it makes an application by a seed, runs `build` and `show` on it, and `replay` of as many random events
 as asked for, each in a process of its own. The table gives user and system time in seconds, the largest memory in MB, and the
-numbers that the program prints. The last line is the time that md5sum needs for 100 MB here, to compare machines by.
+numbers that the program prints; behind `replay` stands the time that md5sum needs for the trace. The last line is the time that it
+needs for 100 MB here, to compare machines by.
 
     bench/run.py crates/osekfit/out/osekfit
     bench/run.py --tasks 2,4 --events 10000 crates/osekfit/out/osekfit
@@ -74,9 +75,12 @@ def measured(program, tasks, words, folder):
             run([program, 'show', 'app.oil', 'app.code'], folder, 'show.out', words.limit)]
     if os.path.exists(os.path.join(folder, 'app.image')):
         runs.append(run([program, 'replay', 'app.image', MODE, 'app.events'], folder, 'replay.out', words.limit))
+        checked = ['%.2f' % run(['md5sum', 'replay.out'], folder, 'md5sum.out', words.limit).seconds]
+    else:
+        checked = []
     counts = counts_of(folder) if runs[1].status == 0 else {}
     cells = [str(tasks)] + [counts.get(name, '-') for name in ('points', 'values', 'edges', 'forms')]
-    return cells + [cell for one in runs for cell in cells_of(one)]
+    return cells + [cell for one in runs for cell in cells_of(one)] + checked
 
 
 def cells_of(one):
@@ -105,7 +109,7 @@ def arguments():
     return parser.parse_args()
 
 
-HEADINGS = ['tasks', 'points', 'values', 'edges', 'n/s/d/g', 'build s', 'MB', 'show s', 'MB', 'replay s', 'MB']
+HEADINGS = ['tasks', 'points', 'values', 'edges', 'n/s/d/g', 'build s', 'MB', 'show s', 'MB', 'replay s', 'MB', 'md5sum s']
 
 
 def main():
@@ -113,7 +117,7 @@ def main():
     program = os.path.abspath(words.program)
     folder = os.path.abspath(words.keep) if words.keep else tempfile.mkdtemp(prefix='osekfit-bench-')
     os.makedirs(folder, exist_ok=True)
-    widths = [5, 6, 9, 7, 15, 8, 5, 8, 5, 8, 5]
+    widths = [5, 6, 9, 7, 15, 8, 5, 8, 5, 8, 5, 8]
     print('forms: never/stay/direct/general; replay of %d events; seed %d' % (words.events, words.seed))
     printed(HEADINGS, widths)
     try:

@@ -35,7 +35,7 @@ PIECES = [b'{', b'}', b'(', b')', b';', b'=', b':', b'"', b'/*', b'*/', b'//', b
           b'TRUE', b'SuspendOSInterrupts();', b'ResumeOSInterrupts();', b'run 1', b'irq ', b'tick ', b'#', b'x' * 65, b' ' * 257]
 
 
-COUNTS = {'build': 4, 'replay': 4, 'trace': 5, 'show': 3, 'info': 2, 'gen': 3}
+COUNTS = {'build': 4, 'replay': 4, 'trace': 5, 'show': 3, 'info': 2, 'gen': 3, 'upgrade': 3}
 """How many words each command has."""
 
 WORDS = list(COUNTS) + ['a.oil', 'a.code', '1', '17', '-', '--help', '', 'x', '\u00e9']
@@ -170,6 +170,8 @@ def is_stated(trial, words, answer):
         return answer.out == b'' and err == MODE + ': no such mode\n'
     if answer.status == 2:
         return answer.out == b'' and err == 'usage\n'
+    if answer.status == 10:
+        return answer.out == b'' and err == 'a.image: version 2\n'
     return False
 
 
@@ -220,7 +222,7 @@ def agree(trial):
 
 def sites_agree(trial):
     shown, told = trial.run(['show', 'a.oil', 'a.code']), trial.run(['info', 'a.image'])
-    sites = [[line for line in answer.out.split(b'\n') if line.startswith(b'site ')] for answer in (shown, told)]
+    sites = [[line.partition(b' known ')[0] for line in answer.out.split(b'\n') if line.startswith(b'site ')] for answer in (shown, told)]
     if shown.status or told.status or sites[0] != sites[1]:
         raise Fault('show and info differ in their sites')
 
@@ -249,8 +251,9 @@ def try_image(rng, trial, texts, others, knows):
         told = trial.run(['info', 'a.image'])
         if told.status not in (0, 3) or (told.status == 3) != (replayed.status == 3) or told.status and told.err != replayed.err:
             raise Fault('info (status %d) judges the image otherwise than replay (status %d)' % (told.status, replayed.status))
-
-
+        upgraded = trial.run(['upgrade', 'a.image', 'b.image'], 'b.image')
+        if upgraded.status not in (0, 3, 10) or (upgraded.status == 3) != (told.status == 3) or upgraded.status == 3 and upgraded.err != told.err:
+            raise Fault('upgrade (status %d) judges the image otherwise than info (status %d)' % (upgraded.status, told.status))
 
 
 def try_words(rng, trial, texts, others, knows):

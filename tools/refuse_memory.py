@@ -2,10 +2,10 @@
 """Refuses a program its memory, one request at a time.
 
 For each command and each k the program's k-th request for memory is refused, until a run meets no refusal. A run that met one
-has to end with status 7 and `memory` on standard error (nothing there where the words weren't there yet), having printed a prefix
-of what it prints with ample memory (`replay` and `trace`: nothing), with no file created or changed. It may also get along without
-(std's `collect` asks for all its room at first, and then for less), and end as with ample memory. Where the C library itself asked,
-the answer may be a failed read or write, with status 5 or 6.
+has to end with status 7 and `memory` on standard error (nothing there where the words weren't there yet), having printed nothing,
+with no file created or changed. It may also get along without (std's `collect` asks for all its room at first, and then for less),
+and end as with ample memory. Where the C library itself asked, the answer may be a failed read or write, with status 5 or 6, after
+a prefix of what is printed with ample memory.
 
     tools/refuse_memory.py crates/osekfit/out/osekfit          needs cc: a library that is loaded first refuses the request
     tools/refuse_memory.py --try --every 10                    by `rt try --fail-alloc`, which needs no proved program, builds it
@@ -26,7 +26,13 @@ MODE = 'OSDEFAULTAPPMODE'
 
 COMMANDS = [['build', 'a.oil', 'a.code', 'a.image'], ['build', 'a.oil', 'a.code', 'new.image'],
             ['replay', 'a.image', MODE, 'a.events'], ['trace', 'a.oil', 'a.code', MODE, 'a.events'],
-            ['show', 'a.oil', 'a.code'], ['info', 'a.image'], ['gen', '1', '1']]
+            ['show', 'a.oil', 'a.code'], ['info', 'a.image'], ['gen', '1', '1'], ['upgrade', 'first.image', 'new.image']]
+
+FIRST_IMAGE = bytes.fromhex(
+    '4f53454b46495401' '00' '010000000101' '0002' '025431' '0001' '01' '0000000000000000' '01' '0000' '0002'
+    '0d5245535f5343484544554c4552' '00000003' '104f5344454641554c544150504d4f4445'
+    '04' '00' '00000001' '0001' '02ff' '16' '00' '00000001' '0000')
+"""An image of version 1: a task that ends itself."""
 
 SECONDS = 60
 MOST = 200000
@@ -71,21 +77,21 @@ Answer = collections.namedtuple('Answer', 'status out err refused files')
 class Built:
     """A built program, with a library loaded before the C library's own."""
 
-    def __init__(self, program, folder, texts):
+    def __init__(self, program, folder, texts, library=LIBRARY):
         self.program, self.folder, self.texts = os.path.abspath(program), folder, texts
         source, self.library = os.path.join(folder, 'refuse.c'), os.path.join(folder, 'refuse.so')
         with open(source, 'w', encoding='ascii') as file:
-            file.write(LIBRARY)
+            file.write(library)
         subprocess.run(['cc', '-O1', '-shared', '-fPIC', '-o', self.library, source], check=True)
 
-    def run(self, words, k):
-        """Runs the program with its k-th request refused; 0 refuses none."""
+    def run(self, words, k, how=''):
+        """Runs the program with its k-th request refused, in a way that the library knows; 0 refuses none."""
         place, mark = tempfile.mkdtemp(dir=self.folder), os.path.join(self.folder, 'mark')
         for name, data in self.texts.items():
             write(os.path.join(place, name), data)
         if os.path.exists(mark):
             os.remove(mark)
-        environment = {'LD_PRELOAD': self.library, 'REFUSE_AT': str(k), 'REFUSE_MARK': mark}
+        environment = {'LD_PRELOAD': self.library, 'REFUSE_AT': str(k), 'REFUSE_HOW': how, 'REFUSE_MARK': mark}
         done = subprocess.run([self.program] + words, cwd=place, env=environment, stdin=subprocess.DEVNULL, capture_output=True,
                               timeout=SECONDS, check=False)
         files = {name: read(os.path.join(place, name)) for name in os.listdir(place)}
@@ -133,11 +139,32 @@ def fault_of(words, answer, ample, texts):
         return 'err is %r' % err
     if answer.status not in (5, 6, 7):
         return 'status %d' % answer.status
-    if not ample.out.startswith(answer.out) or words[0] in ('replay', 'trace') and answer.out and answer.status == 7:
+    if not ample.out.startswith(answer.out) or answer.out and answer.status == 7:
         return '%d bytes on out' % len(answer.out)
     if answer.files is not None and answer.files != texts and answer.status != 6:
         return 'a file was created or changed'
     return None
+
+
+def refused_runs(runner, words, every=1):
+    """The runs of a command that met a refusal, each with the number of what was refused."""
+    for k in range(1, MOST, every):
+        answer = runner.run(words, k)
+        if not answer.refused:
+            return
+        yield k, answer
+
+
+def judge(runner, words, every, what, fault_of_answer, say):
+    """Judges each run of a command that met a refusal; the number of faults, and how often each status came."""
+    faults, statuses = 0, collections.Counter()
+    for k, answer in refused_runs(runner, words, every):
+        statuses[answer.status] += 1
+        fault = fault_of_answer(answer)
+        if fault:
+            faults += 1
+            say('%s: %s: %s' % (' '.join(words), what % k, fault))
+    return faults, ', '.join('%d times status %d' % (count, status) for status, count in sorted(statuses.items()))
 
 
 def refuse_all(runner, words, texts, every, say):
@@ -146,23 +173,10 @@ def refuse_all(runner, words, texts, every, say):
     if ample.status == 2:
         say('%s: no such command yet' % words[0])
         return 0
-    faults, statuses = 0, collections.Counter()
     if ample.status != 0:
         say('%s: status %d with ample memory' % (' '.join(words), ample.status))
         return 1
-    for k in range(1, MOST, every):
-        answer = runner.run(words, k)
-        if not answer.refused:
-            break
-        statuses[answer.status] += 1
-        fault = fault_of(words, answer, ample, texts)
-        if fault:
-            faults += 1
-            say('%s: request %d refused: %s' % (' '.join(words), k, fault))
-    if (answer.status, answer.out) != (0, ample.out):
-        faults += 1
-        say('%s: without a refusal, other than with ample memory' % ' '.join(words))
-    told = ', '.join('%d times status %d' % (count, status) for status, count in sorted(statuses.items()))
+    faults, told = judge(runner, words, every, 'request %d refused', lambda answer: fault_of(words, answer, ample, texts), say)
     say('%s: %s, then no refusal' % (' '.join(words), told or 'none'))
     return faults
 
@@ -187,6 +201,7 @@ def texts_of(words, folder):
         subprocess.run([os.path.abspath(words.program), 'build', example + '.oil', example + '.code', image], check=True)
     if image:
         texts['a.image'] = read(image)
+    texts['first.image'] = FIRST_IMAGE
     return texts
 
 

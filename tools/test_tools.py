@@ -9,6 +9,7 @@ sys.path.insert(0, os.path.dirname(os.path.abspath(__file__)))
 
 import graph
 import graph_chart
+import long_texts
 import task_code
 import timeline
 import timeline_chart
@@ -225,6 +226,16 @@ class Timelines(unittest.TestCase):
 
     def test_a_trace_that_traps_is_drawn(self):
         self.assertIn('trap', words_of(timeline_chart.chart(timeline.read_trace('0 T1 T1=R\ntrap 1\n'), [], '')))
+
+
+class LongTexts(unittest.TestCase):
+    def test_texts_fill_their_size(self):
+        for text in long_texts.OIL_TEXTS + [text for _, text in long_texts.CODE_TEXTS] + long_texts.EVENT_TEXTS:
+            size = len(long_texts.filled(text, 2000))
+            self.assertTrue(1400 < size <= 2000, '%s: %d' % (text.name, size))
+
+    def test_parts_are_numbered(self):
+        self.assertEqual(long_texts.filled(long_texts.Text('', '<', 'a%d;', '>'), 12), '<a0;a1;a2;>')
 
 
 if __name__ == '__main__':

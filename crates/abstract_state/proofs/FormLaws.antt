@@ -7,11 +7,12 @@ use Rattle.osek_values.specs.declared.status.Status.{Status}
 use Rattle.osek_values.specs.declared.status.Status.TheVariants as status
 use Rattle.osek_standard.specs.declared.app.App.{App}
 use Rattle.osek_standard.specs.Dispatch.{Outcome, Keep, To}
-use Rattle.image_model.specs.declared.site.Form.{Form}
+use Rattle.image_model.specs.declared.site.{Form.{Form}, Known.{Known}}
 use Rattle.image_model.specs.declared.site.Form.TheVariants as form
+use Rattle.image_model.specs.declared.site.Known.TheVariants as known
 use Rattle.osek_standard.specs.declared.point.Point.{Point}
 use Rattle.abstract_state.specs.Tables.{Sets, Inductive}
-use Rattle.abstract_state.specs.Forms.{Occurs, OccursAlone, OccurTwo, FormOf, Edge, Noted, NotedAlone, NotedTwo, Known, Unknown, Always, KnownOf}
+use Rattle.abstract_state.specs.Forms.{Occurs, OccursAlone, OccurTwo, FormOf, Edge, Noted, NotedAlone, NotedTwo, KnownOf}
 
 module _ (app : App) (table : Sets) (b : ℕ) where
   not_two : (o : Outcome) → OccursAlone app table b o → OccurTwo app table b → ⊥
@@ -46,15 +47,15 @@ module _ (app : App) (table : Sets) (p q : Point) where
   edge_ends h x = subst (λ (r : Point). IsTrue (table.entry r)) x.ends (h.step x.from x.event x.inside).entry
 
 module _ (app : App) (table : Sets) (b : ℕ) where
-  not_unknown : (x : Option Status) → NotedAlone app table b x → KnownOf app table b Unknown → ⊥
+  not_unknown : (x : Option Status) → NotedAlone app table b x → KnownOf app table b known.Any → ⊥
   not_unknown x h (inl none) = none x h.noted
   not_unknown x h (inr two) = two.differ (h.alone two.one two.one_noted ∙ sym (h.alone two.other two.other_noted))
 
   pub one_known : (f g : Known) → KnownOf app table b f → KnownOf app table b g → f ≡ g
-  one_known Unknown Unknown x y = refl
-  one_known Unknown (Always t) x y = absurd (not_unknown t y x)
-  one_known (Always t) Unknown x y = absurd (not_unknown t x y)
-  one_known (Always t) (Always u) x y = ap Always (y.alone t x.noted)
+  one_known known.Any known.Any x y = refl
+  one_known known.Any (known.Always t) x y = absurd (not_unknown t y x)
+  one_known (known.Always t) known.Any x y = absurd (not_unknown t x y)
+  one_known (known.Always t) (known.Always u) x y = ap known.Always (y.alone t x.noted)
 
 -- outcomes are the same or differ, and so are statuses
 tasks_decided : (t u : TaskNo) → (t ≡ u) ⊎ (t ≢ u)
@@ -126,4 +127,4 @@ module _ (app : App) (table : Sets) (b : ℕ) where
   }
 
   pub some_known : ((x : Known) → KnownOf app table b x → ⊥) → ⊥
-  some_known none = none Unknown (inl (λ x h. none (Always x) (noted_alone x h (λ two. none Unknown (inr two)))))
+  some_known none = none known.Any (inl (λ x h. none (known.Always x) (noted_alone x h (λ two. none known.Any (inr two)))))

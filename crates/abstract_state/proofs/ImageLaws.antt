@@ -1,6 +1,9 @@
--- An image whose sites have the forms that a table dictates runs as the kernel.
-use Rattle.std.proofs.Common.{◌≡◌, ◌<◌, Bool, true, false, List, length, Option, Some, None, refl, sym, ap, ◌∙◌}
-use Rattle.std.specs.Prelude.{option_map, if◌then◌else◌, nat_lt}
+-- An image whose sites have the forms that a table dictates, and know no more of their statuses, runs as the kernel.
+use Rattle.std.proofs.Common.{◌≡◌, ◌⊎◌, ℕ, ◌<◌, Bool, true, false, List, length, get_or, Option, Some, None, refl, sym, ap, subst, inl, inr, ◌∙◌}
+use Rattle.std.specs.Prelude.{option_map, if◌then◌else◌, nat_lt, All}
+use Rattle.std.proofs.lemmas.Bool.{cases_lt, eq-eqb}
+use Rattle.std.proofs.lemmas.List.{get_or_past}
+use Rattle.osek_values.specs.declared.status.Status.{Status}
 use Rattle.osek_values.specs.declared.status.Ask.{Ask}
 use Rattle.osek_values.specs.declared.status.Ask.TheVariants as ask
 use Rattle.osek_values.specs.declared.event.Event.{Event}
@@ -15,14 +18,18 @@ use Rattle.osek_standard.specs.Dispatch.{Outcome, Keep, To, outcome, outcome_by,
 use Rattle.osek_standard.specs.Kernel.{step}
 use Rattle.osek_standard.specs.Well.{IsActive}
 use Rattle.osek_standard.proofs.PriorityLaws.{best_is_live}
-use Rattle.image_model.specs.declared.site.{Form.{Form}, Site.{Site}}
+use Rattle.image_model.specs.declared.site.{Form.{Form}, Known.{Known}, Site.{Site}}
 use Rattle.image_model.specs.declared.site.Form.TheVariants as form
-use Rattle.image_model.specs.declared.image.Image.{Image}
+use Rattle.image_model.specs.declared.site.Known.TheVariants as known
+use Rattle.image_model.specs.declared.image.{Image.{Image}, Version.{Version}}
+use Rattle.image_model.specs.declared.image.Version.TheVariants as version
+use Rattle.image_model.specs.Statuses.{status_number, allows_status}
+use Rattle.image_model.specs.Versions.{IsUnknown, SaysNothing, FitsAlone}
 use Rattle.image_model.specs.ImageStep.{stays, kept_by, formed_at, formed_by, site_at, instructed, image_step}
 use Rattle.image_model.specs.Laws.{IsKernelsRun}
 use Rattle.image_model.proofs.KernelRuns.{runs_as_kernel as runs_inside, same_step as step_inside}
 use Rattle.abstract_state.specs.Tables.{Sets, In, Inductive}
-use Rattle.abstract_state.specs.Forms.{Occurs, FormOf, HasDictatedForms}
+use Rattle.abstract_state.specs.Forms.{Occurs, FormOf, Noted, KnownOf, HasDictatedForms, HasDictatedStatuses, KnowsAtMost}
 
 keep_or_some : (b : Bool) (t : TaskNo) → (if b then To (Some t) else Keep) ≡ To None → ⊥
 keep_or_some true t e = cc
@@ -78,6 +85,25 @@ module _ (app : App) (s : State) where
   live_right true t e = refl
   live_right false t e = absurd (cc)
 
+allows_itself : (x : Option Status) → allows_status (known.Always x) x ≡ true
+allows_itself None = refl
+allows_itself (Some x) = eq-eqb (status_number x) (status_number x) refl
+
+said_at : (sites : List (Option Site)) (b : ℕ) → All SaysNothing sites → SaysNothing (get_or sites b None)
+said_at sites b all =
+    elim (cases_lt b (length sites)) [
+      | inl lt ↦ all b None lt
+      | inr le ↦ subst SaysNothing (sym (get_or_past sites b None le)) tt
+    ]
+
+any_by : (x k : Known) → IsUnknown x → x ≡ k → k ≡ known.Any
+any_by known.Any k h e = sym e
+any_by (known.Always y) k h e = absurd h
+
+unknown_at : (x : Option Site) (k : Known) → SaysNothing x → option_map (λ (y : Site). y.known) x ≡ Some k → k ≡ known.Any
+unknown_at None k h e = absurd (cc)
+unknown_at (Some x) k h e = (let is : x.known ≡ k = cc in any_by x.known k h is)
+
 module _ (i : Image) (table : Sets) (s : State) (choice : Bool) (inside : In i.app table s) (active : IsActive s.processor) where
   occurs_here : Occurs i.app table (here s).block.0 (outcome i.app s choice)
   occurs_here = record { from = s; choice = choice; inside = inside; active = active; stands = refl; is = refl }
@@ -97,20 +123,42 @@ module _ (i : Image) (table : Sets) (s : State) (choice : Bool) (inside : In i.a
       live_right i.app s (is_live (task_state x.state t.0)) t live ∙ ap (λ (o : Outcome). Some o) (sym is)
   formed_right form.General h = refl
 
-  formed_at_right : HasDictatedForms table i → (x : Option Site) → site_at i (here s).block.0 ≡ x → formed_at i.app (effect i.app s choice) x ≡ Some (outcome i.app s choice)
-  formed_at_right forms None is = refl
-  formed_at_right forms (Some x) is = formed_right x.form (forms (here s).block.0 x.form (ap (option_map (λ (y : Site). y.form)) is))
+  noted_here : Noted i.app table (here s).block.0 (effect i.app s choice).notes.status
+  noted_here = record { from = s; choice = choice; inside = inside; active = active; stands = refl; is = refl }
 
-  same_instruction : HasDictatedForms table i → instructed i s choice ≡ Some (instruction i.app s choice)
+  allowed : (k : Known) → (k ≡ known.Any) ⊎ KnownOf i.app table (here s).block.0 k → allows_status k (effect i.app s choice).notes.status ≡ true
+  allowed known.Any h = refl
+  allowed (known.Always x) (inl e) = absurd (cc)
+  allowed (known.Always x) (inr h) =
+      let is : (effect i.app s choice).notes.status ≡ x = h.alone (effect i.app s choice).notes.status noted_here in
+      subst (λ (y : Option Status). allows_status (known.Always x) y ≡ true) (sym is) (allows_itself x)
+
+  formed_at_right : HasDictatedForms table i → KnowsAtMost table i → (x : Option Site) → site_at i (here s).block.0 ≡ x → formed_at i.app (effect i.app s choice) x ≡ Some (outcome i.app s choice)
+  formed_at_right forms known None is = refl
+  formed_at_right forms known (Some x) is =
+      let e = effect i.app s choice in
+      let allows = allowed x.known (known (here s).block.0 x.known (ap (option_map (λ (y : Site). y.known)) is)) in
+      ap (λ (b : Bool). if b then formed_by i.app e x.form else None) allows
+      ∙ formed_right x.form (forms (here s).block.0 x.form (ap (option_map (λ (y : Site). y.form)) is))
+
+  same_instruction : HasDictatedForms table i → KnowsAtMost table i → instructed i s choice ≡ Some (instruction i.app s choice)
   unfolding instructed instruction
-  same_instruction forms = ap (option_map (concluded i.app (effect i.app s choice))) (formed_at_right forms (site_at i (here s).block.0) refl)
+  same_instruction forms known = ap (option_map (concluded i.app (effect i.app s choice))) (formed_at_right forms known (site_at i (here s).block.0) refl)
 
 module _ (i : Image) (table : Sets) where
   -- from a state in the table, a step of the image is the kernel's
-  pub same_step : (s : State) (e : Event) → HasDictatedForms table i → In i.app table s → image_step i s e ≡ Some (step i.app s e)
-  same_step s e forms h = step_inside i (In i.app table) (λ s choice h active. same_instruction i table s choice h active forms) s e h
+  pub same_step : (s : State) (e : Event) → HasDictatedForms table i → KnowsAtMost table i → In i.app table s → image_step i s e ≡ Some (step i.app s e)
+  same_step s e forms known h = step_inside i (In i.app table) (λ s choice h active. same_instruction i table s choice h active forms known) s e h
 
   -- in each mode over each list of events, the image's trace is the kernel's
-  pub runs_as_kernel : (mode : ModeNo) (es : List Event) → Inductive i.app table → HasDictatedForms table i → mode.0 < length i.app.modes → IsKernelsRun i mode es
-  runs_as_kernel mode es ind forms known =
-      runs_inside i (In i.app table) (λ s choice h active. same_instruction i table s choice h active forms) ind.step mode es (ind.start mode known)
+  pub runs_as_kernel : (mode : ModeNo) (es : List Event) → Inductive i.app table → HasDictatedForms table i → KnowsAtMost table i → mode.0 < length i.app.modes → IsKernelsRun i mode es
+  runs_as_kernel mode es ind forms known there =
+      runs_inside i (In i.app table) (λ s choice h active. same_instruction i table s choice h active forms known) ind.step mode es (ind.start mode there)
+
+  -- statuses that a table dictates are known at most
+  pub dictated_statuses : HasDictatedStatuses table i → KnowsAtMost table i
+  dictated_statuses known b k is = inr (known b k is)
+
+  -- nothing is known in an image of version 1
+  pub statuses_of_version_1 : i.version ≡ version.One → KnowsAtMost table i
+  statuses_of_version_1 one b k is = inl (unknown_at (site_at i b) k (said_at i.sites b (subst (λ (v : Version). FitsAlone v i.sites) one i.its_version).unknown) is)

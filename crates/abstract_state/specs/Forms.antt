@@ -1,4 +1,4 @@
--- The forms and the edges that a table dictates.
+-- The forms, the known statuses and the edges that a table dictates.
 use Rattle.std.specs.Prelude.{◌≡◌, ◌≢◌, ◌⊎◌, ℕ, Bool, Some}
 use Rattle.std.specs.declared.option.Option.{Option}
 use Rattle.osek_values.specs.declared.event.Event.{Event}
@@ -12,10 +12,11 @@ use Rattle.osek_standard.specs.Effects.{effect}
 use Rattle.osek_standard.specs.Dispatch.{Outcome, Keep, To, outcome}
 use Rattle.osek_standard.specs.Kernel.{step}
 use Rattle.osek_standard.specs.Well.{IsActive}
-use Rattle.image_model.specs.declared.site.Form.{Form}
+use Rattle.image_model.specs.declared.site.{Form.{Form}, Known.{Known}}
 use Rattle.image_model.specs.declared.site.Form.TheVariants as form
+use Rattle.image_model.specs.declared.site.Known.TheVariants as known
 use Rattle.image_model.specs.declared.image.Image.{Image}
-use Rattle.image_model.specs.ImageStep.{form_at}
+use Rattle.image_model.specs.ImageStep.{form_at, known_at}
 use Rattle.osek_standard.specs.declared.point.Point.{Point}
 use Rattle.osek_standard.specs.Points.{point_of}
 use Rattle.osek_standard.specs.Outcomes.{Did, shows}
@@ -70,19 +71,23 @@ pub record NotedTwo (app : App) (table : Sets) (b : ℕ) : Type 0 where
   pub other_noted : Noted app table b other
   pub differ : one ≢ other
 
--- what is known of the status at a block: nothing, or that it is always this one, or none
-pub data Known : Type 0 where
-  Unknown : Known
-  Always : (status : Option Status) → Known
-
--- What a table says of the status at block b.
+-- What a table says of the status at block b: nothing where no state stands there or two differ in it, else the one that
+-- each notes, or that each notes none.
 abbrev pub KnownOf : App → Sets → ℕ → Known → Type 0
-KnownOf app table b Unknown = ((x : Option Status) → Noted app table b x → ⊥) ⊎ NotedTwo app table b
-KnownOf app table b (Always x) = NotedAlone app table b x
+KnownOf app table b known.Any = ((x : Option Status) → Noted app table b x → ⊥) ⊎ NotedTwo app table b
+KnownOf app table b (known.Always x) = NotedAlone app table b x
 
 -- each site of an image has the form that a table of its application dictates
 abbrev pub HasDictatedForms : Sets → Image → Type 0
 HasDictatedForms table i = (b : ℕ) (f : Form) → form_at i b ≡ Some f → FormOf i.app table b f
+
+-- of the status at each site is known what the table says
+abbrev pub HasDictatedStatuses : Sets → Image → Type 0
+HasDictatedStatuses table i = (b : ℕ) (k : Known) → known_at i b ≡ Some k → KnownOf i.app table b k
+
+-- of the status at each site is known what the table says, or nothing
+abbrev pub KnowsAtMost : Sets → Image → Type 0
+KnowsAtMost table i = (b : ℕ) (k : Known) → known_at i b ≡ Some k → (k ≡ known.Any) ⊎ KnownOf i.app table b k
 
 -- the step dispatches the task that runs anew
 pub record IsAnew (app : App) (s : State) (e : Event) : Type 0 where

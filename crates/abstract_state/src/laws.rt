@@ -13,8 +13,9 @@ ghost use Rattle.osek_standard.specs.Dispatch.{Outcome};
 ghost use Rattle.osek_standard.specs.Kernel.{step};
 ghost use Rattle.osek_standard.specs.Apps.{the_block, the_counter, source_count, max_of};
 ghost use Rattle.osek_standard.specs.Well.{Well, IsOffsetAt, IsArmed};
-ghost use Rattle.image_model.specs.declared.site.Form.{Form};
+ghost use Rattle.image_model.specs.declared.site.{Form.{Form}, Known.{Known}};
 ghost use Rattle.image_model.specs.declared.image.Image.{Image};
+ghost use Rattle.image_model.specs.declared.image.Version.TheVariants as version;
 ghost use Rattle.image_model.specs.ImageStep.{image_step};
 ghost use Rattle.image_model.specs.Laws.{IsKernelsRun};
 ghost use Rattle.osek_standard.specs.declared.point.Point.{Point};
@@ -33,7 +34,7 @@ ghost use Rattle.abstract_state.specs.Tables.{Sets, In, Inductive, IsContained, 
 ghost use Rattle.abstract_state.specs.ValueOrder.{same_part, part_order, IsAscending};
 ghost use Rattle.abstract_state.specs.Domains.{domains, IsSound, IsSoundEntry, IsBelow};
 ghost use Rattle.osek_standard.specs.Outcomes.{Silent, Arrived, Did, shows, IsInstruction, IsArrivalStep};
-ghost use Rattle.abstract_state.specs.Forms.{FormOf, Known, KnownOf, HasDictatedForms, Edge};
+ghost use Rattle.abstract_state.specs.Forms.{FormOf, KnownOf, HasDictatedForms, HasDictatedStatuses, KnowsAtMost, Edge};
 
 /// Containment is a partial order.
 pub fn containment_is_a_partial_order()
@@ -140,11 +141,18 @@ pub fn edges_lead_from_entry_to_entry()
     ensures ends { (app : App) (table : Sets) (p q : Point) → Inductive app table → Edge app table p q → IsTrue (table.entry q) }
 {}
 
-/// An image whose sites have the forms that a table dictates does the kernel's steps, and doesn't trap, from each state
-/// in the table; and where the table is inductive, its trace is the kernel's in every mode over every list of events.
+/// An image whose sites have the forms that a table dictates, and know of their statuses what it says or nothing, does the
+/// kernel's steps, and doesn't trap, from each state in the table; and where the table is inductive, its trace is the
+/// kernel's in every mode over every list of events.
 pub fn dictated_forms_are_the_kernel()
-    ensures step { (i : Image) (table : Sets) (s : State) (e : Event) → HasDictatedForms table i → In i.app table s → image_step i s e ≡ Some (step i.app s e) }
-    ensures run { (i : Image) (table : Sets) (mode : ModeNo) (es : List Event) → Inductive i.app table → HasDictatedForms table i → mode.0 < length i.app.modes → IsKernelsRun i mode es }
+    ensures step { (i : Image) (table : Sets) (s : State) (e : Event) → HasDictatedForms table i → KnowsAtMost table i → In i.app table s → image_step i s e ≡ Some (step i.app s e) }
+    ensures run { (i : Image) (table : Sets) (mode : ModeNo) (es : List Event) → Inductive i.app table → HasDictatedForms table i → KnowsAtMost table i → mode.0 < length i.app.modes → IsKernelsRun i mode es }
+{}
+
+/// An image that knows of its statuses what a table says, or that is of version 1, knows no more than that.
+pub fn dictated_statuses_are_no_more()
+    ensures dictated { (i : Image) (table : Sets) → HasDictatedStatuses table i → KnowsAtMost table i }
+    ensures version_1 { (i : Image) (table : Sets) → i.version ≡ version.One → KnowsAtMost table i }
 {}
 
 /// No block is without a form: that a table dictated none of them would be a contradiction.

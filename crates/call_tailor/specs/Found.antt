@@ -1,44 +1,84 @@
--- What is found of outcomes: that there are none, that there is one alone, or that there are several.
+-- What is found of the instructions at a block: of their outcomes and of the statuses that they note.
 use Rattle.std.specs.Prelude.{◌≡◌, ◌≢◌, ◌⊎◌, Some, None}
 use Rattle.std.specs.declared.option.Option.{Option}
+use Rattle.osek_values.specs.declared.status.Status.{Status}
 use Rattle.osek_standard.specs.Dispatch.{Outcome}
-use Rattle.image_model.specs.declared.site.{Form.{Form}, Site.{Site}}
+use Rattle.image_model.specs.declared.site.{Form.{Form}, Known.{Known}, Site.{Site}}
 use Rattle.image_model.specs.declared.site.Form.TheVariants as form
+use Rattle.image_model.specs.declared.site.Known.TheVariants as known
+use Rattle.flow_model.specs.declared.case.Decision.{Decision}
 use Rattle.flow_model.specs.declared.case.Decision.TheVariants as decision
 use Rattle.flow_model.specs.Scheduling.{outcome_of_decision}
-use Rattle.call_tailor.specs.declared.found.Found.{Found}
+use Rattle.call_tailor.specs.declared.found.{Found.{Found}, Findings.{Findings}}
 use Rattle.call_tailor.specs.declared.found.Found.TheVariants as found
 
-module _ (P : Outcome → Type 0) where
-  -- P holds of two outcomes
+-- what is seen so far: nothing, this alone, or several
+pub data Seen (V : Type 0) : Type 0 where
+  Nothing : Seen V
+  Alone : V → Seen V
+  Several : Seen V
+
+module _ {X : Type 0} (P : X → Type 0) where
+  -- P holds of two
   pub record HoldsOfTwo : Type 0 where
-    pub one : Outcome
-    pub other : Outcome
+    pub one : X
+    pub other : X
     pub one_holds : P one
     pub other_holds : P other
     pub differ : one ≢ other
 
-  -- this is found of the outcomes of which P holds
-  abbrev pub IsFound : Found → Type 0
-  IsFound found.None = (o : Outcome) → P o → ⊥
-  IsFound (found.One d) = P (outcome_of_decision d) × ((o : Outcome) → P o → o ≡ outcome_of_decision d)
-  IsFound found.Several = HoldsOfTwo
+module _ {X V : Type 0} (meant : V → X) (P : X → Type 0) where
+  -- this is seen of all of which P holds
+  abbrev pub IsSeen : Seen V → Type 0
+  IsSeen Nothing = (x : X) → P x → ⊥
+  IsSeen (Alone v) = P (meant v) × ((x : X) → P x → x ≡ meant v)
+  IsSeen Several = HoldsOfTwo P
+
+module _ {V : Type 0} where
+  -- what two searches saw together
+  abbrev pub AreJoined : Seen V → Seen V → Seen V → Type 0
+  AreJoined Nothing y z = z ≡ y
+  AreJoined (Alone v) Nothing z = z ≡ Alone v
+  AreJoined (Alone v) (Alone w) z = ((v ≡ w) × (z ≡ Alone v)) ⊎ ((v ≢ w) × (z ≡ Several))
+  AreJoined (Alone v) Several z = z ≡ Several
+  AreJoined Several y z = z ≡ Several
+
+abbrev pub outcome_seen : Found → Seen Decision
+outcome_seen found.None = Nothing
+outcome_seen (found.One d) = Alone d
+outcome_seen found.Several = Several
+
+abbrev pub status_seen : Option Known → Seen (Option Status)
+status_seen None = Nothing
+status_seen (Some known.Any) = Several
+status_seen (Some (known.Always x)) = Alone x
+
+-- P holds of these outcomes, and Q of these statuses
+pub record AreFindings (P : Outcome → Type 0) (Q : Option Status → Type 0) (x : Findings) : Type 0 where
+  pub outcome : IsSeen outcome_of_decision P (outcome_seen x.outcome)
+  pub status : IsSeen (λ (s : Option Status). s) Q (status_seen x.status)
 
 -- what two searches found together
-abbrev pub IsJoined : Found → Found → Found → Type 0
-IsJoined found.None y z = z ≡ y
-IsJoined (found.One d) found.None z = z ≡ found.One d
-IsJoined (found.One d) (found.One e) z = ((d ≡ e) × (z ≡ found.One d)) ⊎ ((d ≢ e) × (z ≡ found.Several))
-IsJoined (found.One d) found.Several z = z ≡ found.Several
-IsJoined found.Several y z = z ≡ found.Several
+pub record AreJoinedFindings (x y z : Findings) : Type 0 where
+  pub outcome : AreJoined (outcome_seen x.outcome) (outcome_seen y.outcome) (outcome_seen z.outcome)
+  pub status : AreJoined (status_seen x.status) (status_seen y.status) (status_seen z.status)
 
--- the form of a site where this is found
+-- one more instruction with this outcome and this status tells nothing new
+pub record IsTold (x : Findings) (d : Decision) (s : Option Status) : Type 0 where
+  pub outcome : AreJoined (outcome_seen x.outcome) (Alone d) (outcome_seen x.outcome)
+  pub status : AreJoined (status_seen x.status) (Alone s) (status_seen x.status)
+
+-- the form of a site where this is found, and what is known of its status
 abbrev pub form_of : Found → Form
 form_of found.None = form.Never
 form_of (found.One decision.Keep) = form.Stay
 form_of (found.One (decision.To x)) = form.Direct x
 form_of found.Several = form.General
 
-abbrev pub site_of : Option Found → Option Site
+abbrev pub known_of : Option Known → Known
+known_of None = known.Any
+known_of (Some x) = x
+
+abbrev pub site_of : Option Findings → Option Site
 site_of None = None
-site_of (Some x) = Some (record { form = form_of x })
+site_of (Some x) = Some (record { form = form_of x.outcome; known = known_of x.status })

@@ -1,11 +1,13 @@
--- The outcomes of the instructions at a block, by the rows of a table.
+-- The outcomes and the statuses of the instructions at a block, by the rows of a table.
 use Rattle.std.specs.Prelude.{◌≡◌, ℕ, ◌<◌, Bool, not, List, length, slice_index_or, IsTrue, Some, None, Contains, if◌then◌else◌}
 use Rattle.std.specs.declared.option.Option.{Option}
 use Rattle.osek_values.specs.Numbers.{block_no}
+use Rattle.osek_values.specs.declared.status.Status.{Status}
 use Rattle.osek_standard.specs.declared.app.App.{App}
 use Rattle.osek_standard.specs.declared.state.State.{State}
 use Rattle.osek_standard.specs.Apps.{is_site}
-use Rattle.osek_standard.specs.Dispatch.{Outcome, outcome}
+use Rattle.osek_standard.specs.Effects.{effect}
+use Rattle.osek_standard.specs.Dispatch.{outcome}
 use Rattle.osek_standard.specs.Points.{StandsAt}
 use Rattle.osek_standard.specs.Well.{IsActive}
 use Rattle.abstract_state.specs.declared.table.{Entry.{Entry}, TableRow.{TableRow}}
@@ -13,42 +15,62 @@ use Rattle.flow_model.specs.declared.{case.Decision.{Decision}, rule.Rule.{Rule}
 use Rattle.flow_model.specs.Effects.{IsAt}
 use Rattle.flow_model.specs.Rules.{Taken}
 use Rattle.flow_model.specs.Scheduling.{outcome_of_decision}
-use Rattle.call_tailor.specs.declared.found.Found.{Found}
+use Rattle.call_tailor.specs.declared.found.{Findings.{Findings}}
 use Rattle.call_tailor.specs.declared.found.Found.TheVariants as found
-use Rattle.call_tailor.specs.Found.{IsFound}
+use Rattle.call_tailor.specs.Found.{AreFindings}
 
--- the instruction of some state of the row has this outcome
-pub record Arises (app : App) (row : TableRow) (o : Outcome) : Type 0 where
-  pub from : State
-  pub choice : Bool
-  pub at : IsAt app row.point row.entry from
-  pub active : IsActive from.processor
-  pub is : outcome app from choice ≡ o
+-- the status that an instruction notes, if it notes one
+abbrev pub status_noted : App → State → Bool → Option Status
+status_noted app s choice = (effect app s choice).notes.status
 
--- and that of some state of a row at block b
-pub record ArisesAt (app : App) (rows : List TableRow) (b : ℕ) (o : Outcome) : Type 0 where
-  pub row : TableRow
-  pub among : Contains rows row
-  pub stands : StandsAt row.point (block_no b)
-  pub arises : Arises app row o
+module _ {X : Type 0} (app : App) (read : State → Bool → X) where
+  -- this is read of the instruction of some state of the row
+  pub record Arises (row : TableRow) (x : X) : Type 0 where
+    pub from : State
+    pub choice : Bool
+    pub at : IsAt app row.point row.entry from
+    pub active : IsActive from.processor
+    pub is : read from choice ≡ x
 
--- the rule is an instruction's with this outcome, and takes a value of each set of the entry
-pub record IsOfRule (rule : Rule) (entry : Entry) (o : Outcome) : Type 0 where
-  pub decision : Decision
-  pub decides : rule.decision ≡ Some decision
-  pub takes : (c : ℕ) → c < length entry.sets → Taken rule entry c
-  pub is : o ≡ outcome_of_decision decision
+  -- and of that of some state of a row at block b
+  pub record ArisesAt (rows : List TableRow) (b : ℕ) (x : X) : Type 0 where
+    pub row : TableRow
+    pub among : Contains rows row
+    pub stands : StandsAt row.point (block_no b)
+    pub arises : Arises row x
+
+module _ {X : Type 0} (told : Rule → Decision → X) where
+  -- the rule is an instruction's of which this is told, and takes a value of each set of the entry
+  pub record IsOfRule (rule : Rule) (entry : Entry) (x : X) : Type 0 where
+    pub decision : Decision
+    pub decides : rule.decision ≡ Some decision
+    pub takes : (c : ℕ) → c < length entry.sets → Taken rule entry c
+    pub is : x ≡ told rule decision
+
+  -- so it is of one of these rules
+  pub record IsOfRules (rules : List Rule) (entry : Entry) (x : X) : Type 0 where
+    pub rule : Rule
+    pub among : Contains rules rule
+    pub is : IsOfRule rule entry x
+
+-- what is found of the instructions of the states of a row
+abbrev pub AreOfRow : App → TableRow → Findings → Type 0
+AreOfRow app row x = AreFindings (Arises app (outcome app) row) (Arises app (status_noted app) row) x
+
+-- what is found of the rules of an entry
+abbrev pub AreOfRules : List Rule → Entry → Findings → Type 0
+AreOfRules rules entry x = AreFindings (IsOfRules (λ (rule : Rule) (d : Decision). outcome_of_decision d) rules entry) (IsOfRules (λ (rule : Rule) (d : Decision). rule.status) rules entry) x
 
 -- what is found at block b over these rows, where it is a site
-abbrev pub IsFoundAt : App → List TableRow → ℕ → Option Found → Type 0
+abbrev pub IsFoundAt : App → List TableRow → ℕ → Option Findings → Type 0
 IsFoundAt app rows b None = IsTrue (not (is_site app b))
-IsFoundAt app rows b (Some x) = IsTrue (is_site app b) × IsFound (ArisesAt app rows b) x
+IsFoundAt app rows b (Some x) = IsTrue (is_site app b) × AreFindings (ArisesAt app (outcome app) rows b) (ArisesAt app (status_noted app) rows b) x
 
 -- what is found at each block over these rows
-pub record AreFound (app : App) (rows : List TableRow) (sites : List (Option Found)) : Type 0 where
+pub record AreFound (app : App) (rows : List TableRow) (sites : List (Option Findings)) : Type 0 where
   pub count : length sites ≡ length app.blocks
   pub each : (b : ℕ) → b < length app.blocks → IsFoundAt app rows b (slice_index_or sites b None)
 
 -- what is found at a block before the first row
-abbrev pub first_found : App → ℕ → Option Found
-first_found app b = if is_site app b then Some found.None else None
+abbrev pub first_found : App → ℕ → Option Findings
+first_found app b = if is_site app b then Some (record { outcome = found.None; status = None }) else None

@@ -1,4 +1,4 @@
-//! The form that the least table of possible states dictates at each site of an application.
+//! The form, and what is known of the status, that the least table of possible states dictates at each site of an application.
 #![tactic(auto)]
 
 mod found;

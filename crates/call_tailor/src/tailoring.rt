@@ -2,37 +2,42 @@
 ghost use Rattle.std.specs.Prelude.{◌≡◌, ◌<◌, ℕ, List, length, map, IfOk};
 ghost use Rattle.osek_values.specs.declared.{event.Event.{Event}, numbers.ModeNo.{ModeNo}};
 ghost use Rattle.osek_standard.specs.Versions.{FitsVersion1};
+ghost use Rattle.image_model.specs.declared.image.Version.TheVariants as version;
 ghost use Rattle.image_model.specs.Laws.{IsKernelsRun};
 ghost use Rattle.abstract_state.specs.Tables.{Inductive, sets_of};
 ghost use Rattle.abstract_state.specs.Written.{IsWritten};
-ghost use Rattle.abstract_state.specs.Forms.{HasDictatedForms};
+ghost use Rattle.abstract_state.specs.Forms.{HasDictatedForms, HasDictatedStatuses};
 ghost use Rattle.call_tailor.specs.Found.{site_of as site_by};
 
-use crate::found::Found;
-use crate::outcomes::outcomes;
+use crate::found::Findings;
+use crate::outcomes::findings;
 use abstract_state::Table;
-use image_model::{Image, Site};
+use image_model::{Image, Site, Version};
 use osek_standard::App;
 use osek_values::{Memory, Seq};
 use std::alloc::Global;
 
-/// The image whose sites have the forms that a table dictates. Where the table is inductive it runs as the kernel.
+/// The image, of version 2, whose sites have the forms that a table dictates and know of their statuses what it says. Where
+/// the table is inductive it runs as the kernel.
 pub fn tailor(alloc: Global, app: App, table: &Table) -> Result<Image, Memory>
     requires written { IsWritten app table.now }
     requires version { FitsVersion1 app.tasks }
+    ensures version { IfOk result (λ i. i.version ≡ version.Two) }
     ensures app { IfOk result (λ i. i.app ≡ app) }
     ensures forms { IfOk result (HasDictatedForms (sets_of table.now)) }
+    ensures statuses { IfOk result (HasDictatedStatuses (sets_of table.now)) }
     ensures kernel { IfOk result (λ i. Inductive app (sets_of table.now) → (mode : ModeNo) (es : List Event) → mode.0 < length app.modes → IsKernelsRun i mode es) }
 {
-    let found = outcomes(alloc, &app, table)?;
+    let found = findings(alloc, &app, table)?;
     let sites = sites(alloc, found.as_slice())?;
     Ok(Image {
+        version: Version::Two,
         app,
         sites: Seq::of(sites),
     })
 }
 
-fn sites(alloc: Global, found: &[Option<Found>]) -> Result<Vec<Option<Site>>, Memory>
+fn sites(alloc: Global, found: &[Option<Findings>]) -> Result<Vec<Option<Site>>, Memory>
     ensures { IfOk result (λ sites. sites.items ≡ map site_by found.now) }
 {
     let mut sites = Vec::new(alloc);
@@ -42,11 +47,14 @@ fn sites(alloc: Global, found: &[Option<Found>]) -> Result<Vec<Option<Site>>, Me
     Ok(sites)
 }
 
-fn site_of(found: Option<Found>) -> Option<Site>
+fn site_of(found: Option<Findings>) -> Option<Site>
     ensures { result ≡ site_by found }
 {
     match found {
         None => None,
-        Some(found) => Some(Site { form: found.form() }),
+        Some(found) => Some(Site {
+            form: found.outcome.form(),
+            known: found.known(),
+        }),
     }
 }

@@ -14,17 +14,18 @@ const ACTIVATION: [(&str, &str); 3] = [
     ("e", "run 0\nrun 0\nrun 0\n"),
 ];
 
-/// The forms of its sites, as `info` tells them.
+/// The forms of its sites and what is known of their statuses, as `info` tells them.
 const ACTIVATION_INFO: &str = "\
-version 1 blocks 5 sites 5 never 2 stay 0 direct 3 general 0
-site b0 line 1 direct T2
-site b1 line 1 direct -
-site b2 line 1 never
-site b3 line 2 direct T1
-site b4 line 2 never
+version 2 blocks 5 sites 5 never 2 stay 0 direct 3 general 0
+site b0 line 1 direct T2 known E_OK
+site b1 line 1 direct - known none
+site b2 line 1 never known any
+site b3 line 2 direct T1 known none
+site b4 line 2 never known any
 ";
 
-pub const FLOW_ROWS: [Row; 4] = [
+/// What analysis and images dictate.
+pub const FLOW_ROWS: [Row; 6] = [
     Row {
         name: "show of activation preempts",
         files: &ACTIVATION,
@@ -46,7 +47,7 @@ points 7 height 17 values 8 edges 3
         )],
     },
     Row {
-        name: "info of activation preempts",
+        name: "activation's image",
         files: &ACTIVATION,
         acts: &[
             Act::Run(&["build", "a.oil", "a.c", "a.img"], 0, "", ""),
@@ -58,21 +59,21 @@ points 7 height 17 values 8 edges 3
         files: &ACTIVATION,
         acts: &[
             Act::Run(&["build", "a.oil", "a.c", "a.img"], 0, "", ""),
-            Act::Set("a.img", "b.img", 99, b"\x01\x00"),
+            Act::Set("a.img", "b.img", 106, b"\x01\x00"),
             Act::Run(
                 &["replay", "b.img", "OSDEFAULTAPPMODE", "e"],
                 0,
                 "0 T1 T1=R T2=S\n1 T1 T1=R T2=Y !E_OK\n2 - T1=S T2=Y\n3 - T1=S T2=Y\n",
                 "",
             ),
-            Act::Set("a.img", "b.img", 99, b"\x00\x00"),
+            Act::Set("a.img", "b.img", 106, b"\x00\x00"),
             Act::Run(
                 &["replay", "b.img", "OSDEFAULTAPPMODE", "e"],
                 8,
                 "0 T1 T1=R T2=S\ntrap 1\n",
                 "",
             ),
-            Act::Set("a.img", "b.img", 99, b"\x02\xff"),
+            Act::Set("a.img", "b.img", 106, b"\x02\xff"),
             Act::Run(
                 &["replay", "b.img", "OSDEFAULTAPPMODE", "e"],
                 8,
@@ -82,18 +83,68 @@ points 7 height 17 values 8 edges 3
         ],
     },
     Row {
+        name: "a wrong known status traps",
+        files: &ACTIVATION,
+        acts: &[
+            Act::Run(&["build", "a.oil", "a.c", "a.img"], 0, "", ""),
+            Act::Set("a.img", "b.img", 108, b"\x04"),
+            Act::Run(
+                &["replay", "b.img", "OSDEFAULTAPPMODE", "e"],
+                8,
+                "0 T1 T1=R T2=S\ntrap 1\n",
+                "",
+            ),
+            Act::Set("a.img", "b.img", 108, b"\x09"),
+            Act::Run(
+                &["replay", "b.img", "OSDEFAULTAPPMODE", "e"],
+                8,
+                "0 T1 T1=R T2=S\ntrap 1\n",
+                "",
+            ),
+            Act::Set("a.img", "b.img", 119, b"\x00"),
+            Act::Run(
+                &["replay", "b.img", "OSDEFAULTAPPMODE", "e"],
+                0,
+                "0 T1 T1=R T2=S\n1 T2 T1=Y T2=R !E_OK\n2 T1 T1=R T2=S\n3 - T1=S T2=S\n",
+                "",
+            ),
+            Act::Set("a.img", "b.img", 108, b"\xff"),
+            Act::Run(
+                &["replay", "b.img", "OSDEFAULTAPPMODE", "e"],
+                0,
+                "0 T1 T1=R T2=S\n1 T2 T1=Y T2=R !E_OK\n2 T1 T1=R T2=S\n3 - T1=S T2=S\n",
+                "",
+            ),
+        ],
+    },
+    Row {
+        name: "an image that is built isn't upgraded",
+        files: &ACTIVATION,
+        acts: &[
+            Act::Run(&["build", "a.oil", "a.c", "a.img"], 0, "", ""),
+            Act::Run(&["upgrade", "a.img", "x"], 10, "", "a.img: version 2\n"),
+            Act::Run(&["info", "x"], 5, "", "x: read\n"),
+            Act::Run(&["upgrade", "x", "a.img"], 5, "", "x: read\n"),
+            Act::Run(&["upgrade", "a.oil", "x"], 3, "", "a.oil:0: I2\n"),
+        ],
+    },
+    Row {
         name: "an image with one byte changed",
         files: &ACTIVATION,
         acts: &[
             Act::Run(&["build", "a.oil", "a.c", "a.img"], 0, "", ""),
-            Act::Set("a.img", "b", 40, b"\x01"),
-            Act::Run(&["info", "b"], 3, "", "b:39: I5\n"),
+            Act::Set("a.img", "b", 42, b"\x01"),
+            Act::Run(&["info", "b"], 3, "", "b:41: I5\n"),
             Act::Set("a.img", "b", 35, b"\x02"),
-            Act::Run(&["info", "b"], 3, "", "b:101: I5\n"),
-            Act::Set("a.img", "b", 100, b"\x02"),
-            Act::Run(&["info", "b"], 3, "", "b:99: I3\n"),
-            Act::Cut("a.img", "b", 136),
-            Act::Run(&["info", "b"], 3, "", "b:135: I1\n"),
+            Act::Run(&["info", "b"], 3, "", "b:109: I5\n"),
+            Act::Set("a.img", "b", 107, b"\x02"),
+            Act::Run(&["info", "b"], 3, "", "b:106: I3\n"),
+            Act::Set("a.img", "b", 108, b"\x0a"),
+            Act::Run(&["info", "b"], 3, "", "b:108: I3\n"),
+            Act::Set("a.img", "b", 36, b"\x02"),
+            Act::Run(&["info", "b"], 3, "", "b:36: I3\n"),
+            Act::Cut("a.img", "b", 148),
+            Act::Run(&["info", "b"], 3, "", "b:148: I1\n"),
             Act::Run(&["info", "x"], 5, "", "x: read\n"),
         ],
     },

@@ -1,6 +1,11 @@
 //! Rows of `gen`: what its line says of systems of which a model of the definitions says the same.
 use crate::rows::{Act, Row};
 
+/// The line of `gen 1 1`.
+pub const GEN_ONE: &str =
+    "points 22 height 65 values 130 never 0 stay 3 direct 1 general 2 bytes 15382 lines 1001\n";
+
+/// Rows of `gen`.
 pub const GEN_ROWS: [Row; 3] = [
     Row {
         name: "gen of one task",
@@ -11,16 +16,11 @@ pub const GEN_ROWS: [Row; 3] = [
                 "points 22 height 65 values ",
                 " lines 1001\n",
             ),
-            Act::Run(
-                &["gen", "1", "1"],
-                0,
-                "points 22 height 65 values 130 never 0 stay 3 direct 1 general 2 bytes 15382 lines 1001\n",
-                "",
-            ),
+            Act::Run(&["gen", "1", "1"], 0, GEN_ONE, ""),
             Act::Run(
                 &["gen", "00000000000000000001", "0000000000000000000000001"],
                 0,
-                "points 22 height 65 values 130 never 0 stay 3 direct 1 general 2 bytes 15382 lines 1001\n",
+                GEN_ONE,
                 "",
             ),
         ],
@@ -50,7 +50,7 @@ pub const GEN_ROWS: [Row; 3] = [
         ],
     },
     Row {
-        name: "gen of no such numbers",
+        name: "gen of no such numbers, and a command that isn't there",
         files: &[],
         acts: &[
             Act::Run(&["gen", "1", "17"], 2, "", "usage\n"),
@@ -61,6 +61,7 @@ pub const GEN_ROWS: [Row; 3] = [
             Act::Run(&["gen", "+1", "1"], 2, "", "usage\n"),
             Act::Run(&["gen", "1"], 2, "", "usage\n"),
             Act::Run(&["gen", "1", "1", "1"], 2, "", "usage\n"),
+            Act::Run(&["report", "a.oil", "a.c"], 2, "", "usage\n"),
         ],
     },
 ];

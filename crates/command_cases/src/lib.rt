@@ -6,9 +6,13 @@ mod edge_rows;
 #[cfg(test)]
 mod example_rows;
 #[cfg(test)]
+mod failing_calls;
+#[cfg(test)]
 mod flow_rows;
 #[cfg(test)]
 mod gen_rows;
+#[cfg(test)]
+mod hostile_images;
 #[cfg(test)]
 mod long_rows;
 #[cfg(test)]
@@ -19,3 +23,7 @@ mod rows;
 mod runs;
 #[cfg(test)]
 mod show_texts;
+#[cfg(test)]
+mod stored;
+#[cfg(test)]
+mod told_texts;

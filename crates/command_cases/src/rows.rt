@@ -19,7 +19,8 @@ pub enum Act {
     /// `build` of `a.oil` and `a.c` to `a.img`, which writes nothing, and then in this mode a `replay` of `a.img` and a
     /// `trace` of `a.oil` and `a.c`, both over `e`: so many lines, and these at their numbers, counted from 0.
     Plays(&'static str, usize, &'static [(usize, &'static str)]),
-    /// `show` of `a.oil` and `a.c`, and `info` of `a.img`, which was built: each has these lines, and others.
+    /// `show` of `a.oil` and `a.c`, and `info` of `a.img`, which was built: each has these lines, and others; those of `info`
+    /// go on with what is known of the status.
     Forms(&'static [&'static str]),
     /// A file is there, of exactly these bytes.
     Holds(&'static str, &'static [u8]),
@@ -31,28 +32,28 @@ pub enum Act {
     Add(&'static str, &'static str, &'static [u8]),
 }
 
-/// The image of one task: the header, the task, its resource, its mode, and two blocks, whose last two bytes are the
-/// form: direct to idle, and never.
+/// The image of one task: the header, the task, its resource, its mode, and two blocks, whose last three bytes are the
+/// form and the known status: direct to idle where none is noted, and never, with nothing known.
 const ONE_TASK_IMAGE: &[u8] = b"\
-    OSEKFIT\x01\x00\x01\x00\x00\x00\x01\x01\x00\x02\
-    \x02T1\x00\x01\x01\x00\x00\x00\x00\x00\x00\x00\x00\x01\x00\x00\x00\x02\
-    \x0dRES_SCHEDULER\x00\x00\x00\x03\
+    OSEKFIT\x02\x00\x01\x00\x00\x00\x01\x01\x00\x02\
+    \x02T1\x00\x01\x01\x00\x00\x00\x00\x00\x00\x00\x00\x01\x00\x00\x00\x02\x01\xff\
+    \x0dRES_SCHEDULER\x00\x00\x00\x03\x00\x00\x00\
     \x10OSDEFAULTAPPMODE\
-    \x04\x00\x00\x00\x00\x01\x00\x01\x02\xff\
-    \x16\x00\x00\x00\x00\x01\x00\x00";
+    \x04\x00\x00\x00\x00\x01\x00\x01\x02\xff\x09\
+    \x16\x00\x00\x00\x00\x01\x00\x00\xff";
 
 /// The same of two tasks, of which the first activates the second: five blocks, each of them a site.
-const ACTIVATION_IMAGE: &[u8] = b"\
-    OSEKFIT\x01\x00\x02\x00\x00\x00\x01\x01\x00\x05\
-    \x02T1\x00\x01\x01\x00\x00\x00\x00\x00\x00\x00\x00\x01\x00\x00\x00\x03\
-    \x02T2\x00\x02\x01\x00\x00\x00\x00\x00\x00\x00\x00\x00\x00\x03\x00\x02\
-    \x0dRES_SCHEDULER\x00\x00\x00\x05\
+pub const ACTIVATION_IMAGE: &[u8] = b"\
+    OSEKFIT\x02\x00\x02\x00\x00\x00\x01\x01\x00\x05\
+    \x02T1\x00\x01\x01\x00\x00\x00\x00\x00\x00\x00\x00\x01\x00\x00\x00\x03\x01\xff\
+    \x02T2\x00\x02\x01\x00\x00\x00\x00\x00\x00\x00\x00\x00\x00\x03\x00\x02\x01\xff\
+    \x0dRES_SCHEDULER\x00\x00\x00\x05\x00\x00\x00\
     \x10OSDEFAULTAPPMODE\
-    \x03\x00\x00\x00\x00\x01\x01\x00\x01\x02\x01\
-    \x04\x00\x00\x00\x00\x01\x00\x02\x02\xff\
-    \x16\x00\x00\x00\x00\x01\x00\x00\
-    \x04\x00\x00\x00\x00\x02\x00\x04\x02\x00\
-    \x16\x00\x00\x00\x00\x02\x00\x00";
+    \x03\x00\x00\x00\x00\x01\x01\x00\x01\x02\x01\x00\
+    \x04\x00\x00\x00\x00\x01\x00\x02\x02\xff\x09\
+    \x16\x00\x00\x00\x00\x01\x00\x00\xff\
+    \x04\x00\x00\x00\x00\x02\x00\x04\x02\x00\x09\
+    \x16\x00\x00\x00\x00\x02\x00\x00\xff";
 
 /// Rows of tasks, activation and resources.
 pub const TASK_ROWS: [Row; 10] = [
@@ -559,19 +560,19 @@ pub const EVENT_ROWS: [Row; 8] = [
         ],
         acts: &[
             Act::Run(&["build", "a.oil", "a.c", "a.img"], 0, "", ""),
-            Act::Cut("a.img", "b.img", 136),
+            Act::Cut("a.img", "b.img", 148),
             Act::Run(
                 &["replay", "b.img", "OSDEFAULTAPPMODE", "e"],
                 3,
                 "",
-                "b.img:135: I1\n",
+                "b.img:148: I1\n",
             ),
             Act::Add("a.img", "b.img", &[0x00]),
             Act::Run(
                 &["replay", "b.img", "OSDEFAULTAPPMODE", "e"],
                 3,
                 "",
-                "b.img:137: I6\n",
+                "b.img:149: I6\n",
             ),
             Act::Run(
                 &["replay", "i", "OSDEFAULTAPPMODE", "e"],

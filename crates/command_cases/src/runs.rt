@@ -36,6 +36,8 @@ enum Wanted<'a> {
     Frame(&'static str, &'static str),
     /// These lines, and others.
     Lines(&'static [&'static str]),
+    /// These lines, each with what is known of a status behind it, and others.
+    KnownLines(&'static [&'static str]),
     /// A trace of so many lines, and these at their numbers, counted from 0.
     Trace(usize, &'static [(usize, &'static str)]),
 }
@@ -77,6 +79,27 @@ fn has_each(text: &[u8], lines: &[&str]) -> bool {
     true
 }
 
+/// Whether a line is this one with what is known of a status behind it.
+fn is_known(line: &[u8], front: &[u8]) -> bool {
+    match line.strip_prefix(front) {
+        Some(rest) => rest.starts_with(b" known "),
+        None => false,
+    }
+}
+
+/// Whether a text has each of these lines, with what is known of a status behind it.
+fn has_each_known(text: &[u8], lines: &[&str]) -> bool {
+    for line in lines {
+        if !text
+            .split(is_break)
+            .any(|other| is_known(other, line.as_bytes()))
+        {
+            return false;
+        }
+    }
+    true
+}
+
 fn is_wanted(status: u8, out: &[u8], err: &[u8], wanted: Wanted) -> bool {
     match wanted {
         Wanted::Exactly(answer, text, told) => {
@@ -89,6 +112,7 @@ fn is_wanted(status: u8, out: &[u8], err: &[u8], wanted: Wanted) -> bool {
                 && out.ends_with(end.as_bytes())
         }
         Wanted::Lines(lines) => status == 0 && err.is_empty() && has_each(out, lines),
+        Wanted::KnownLines(lines) => status == 0 && err.is_empty() && has_each_known(out, lines),
         Wanted::Trace(count, lines) => {
             status == 0 && err.is_empty() && is_trace(out, count, lines)
         }
@@ -178,6 +202,57 @@ fn the_event_text_is_faulty(rt: HostRuntime) {
     assert_eq!(rt; right, Ok(true));
 }
 
+/// The same image after `upgrade`: of version 2, and nothing is known of a status.
+const ONE_TASK_UPGRADED: [u8; 96] = [
+    0x4f, 0x53, 0x45, 0x4b, 0x46, 0x49, 0x54, 0x02, 0x00, 0x01, 0x00, 0x00, 0x00, 0x01, 0x01, 0x00,
+    0x02, 0x02, 0x54, 0x31, 0x00, 0x01, 0x01, 0x00, 0x00, 0x00, 0x00, 0x00, 0x00, 0x00, 0x00, 0x01,
+    0x00, 0x00, 0x00, 0x02, 0x01, 0xff, 0x0d, 0x52, 0x45, 0x53, 0x5f, 0x53, 0x43, 0x48, 0x45, 0x44,
+    0x55, 0x4c, 0x45, 0x52, 0x00, 0x00, 0x00, 0x03, 0x00, 0x00, 0x00, 0x10, 0x4f, 0x53, 0x44, 0x45,
+    0x46, 0x41, 0x55, 0x4c, 0x54, 0x41, 0x50, 0x50, 0x4d, 0x4f, 0x44, 0x45, 0x04, 0x00, 0x00, 0x00,
+    0x00, 0x01, 0x00, 0x01, 0x02, 0xff, 0xff, 0x16, 0x00, 0x00, 0x00, 0x00, 0x01, 0x00, 0x00, 0xff,
+];
+
+/// What is done with the image of version 1 at `i`, and with what becomes of it at `x`, over itself at last.
+const UPGRADE_ACTS: [Act; 8] = [
+    Act::Run(
+        &["info", "i"],
+        0,
+        "version 1 blocks 2 sites 2 never 1 stay 0 direct 1 general 0\nsite b0 line 1 direct -\nsite b1 line 1 never\n",
+        "",
+    ),
+    Act::Run(&["upgrade", "i", "x"], 0, "", ""),
+    Act::Holds("x", &ONE_TASK_UPGRADED),
+    Act::Run(
+        &["replay", "x", "OSDEFAULTAPPMODE", "e"],
+        0,
+        "0 T1 T1=R\n1 - T1=S\n",
+        "",
+    ),
+    Act::Run(
+        &["info", "x"],
+        0,
+        "version 2 blocks 2 sites 2 never 1 stay 0 direct 1 general 0\nsite b0 line 1 direct - known any\nsite b1 line 1 never known any\n",
+        "",
+    ),
+    Act::Run(&["upgrade", "x", "a.img"], 10, "", "x: version 2\n"),
+    Act::Run(&["upgrade", "i", "i"], 0, "", ""),
+    Act::Holds("i", &ONE_TASK_UPGRADED),
+];
+
+fn upgrade_holds(alloc: Global) -> Result<bool, Memory> {
+    let mut shelf = MemShelf::new(alloc, Vec::new(alloc));
+    shelf.set("i", Some(ONE_TASK.as_slice()), ROOM)?;
+    shelf.set("e", Some(b"run 0\n".as_slice()), 0)?;
+    put_places(&mut shelf)?;
+    let right = all_hold(alloc, &mut shelf, &UPGRADE_ACTS)?;
+    Ok(right && shelf.bytes("a.img").is_none())
+}
+
+#[test]
+fn an_image_of_version_1_is_upgraded(rt: HostRuntime) {
+    assert_eq!(rt; upgrade_holds(rt.alloc()), Ok(true));
+}
+
 #[test]
 fn words_of_no_form_are_refused(rt: HostRuntime) {
     let words = ["replay", "i", "e"];
@@ -225,7 +300,7 @@ fn tells_forms(
         &["show", "a.oil", "a.c"],
         Wanted::Lines(lines),
     )?;
-    let told = gives(alloc, shelf, &["info", "a.img"], Wanted::Lines(lines))?;
+    let told = gives(alloc, shelf, &["info", "a.img"], Wanted::KnownLines(lines))?;
     Ok(shown && told)
 }
 

@@ -1,49 +1,46 @@
 -- What clap finds of words that are of a form.
-use Rattle.std.proofs.Common.{◌≡◌, ℕ, ◌<◌, Bool, true, false, ◌==◌, ◌||◌, List, [], ◌∷◌, Some, codes, length, drop, refl, sym, ap, subst, arith}
+use Rattle.std.proofs.Common.{◌≡◌, Bool, true, ◌==◌, List, [], ◌∷◌, Some, length, map, drop, refl, ap, subst}
 use Rattle.std.proofs.lemmas.Slice.Eq.{bytes_eq-Decides}
 use Rattle.std.specs.List.{list_all}
+use Rattle.std.specs.Prelude.{find}
 use Rattle.std.specs.Str.{bytes_eq}
+use Rattle.std.specs.declared.option.Option.{Option}
 use borrow.Author.Tests.{eqb-true}
-use Rattle.clap.specs.Walk.{Text}
-use Rattle.clap.specs.Simple.{subcommand_of}
-use Rattle.command_words.specs.Command.{the_app, words_row}
-use Rattle.command_words.specs.Forms.{is_plain, is_verb, is_form, takes}
+use Rattle.clap.specs.Walk.{Row, Text, answers_to, rows_after}
+use Rattle.clap.specs.Simple.{built, entered, subcommand_of}
+use Rattle.command_words.specs.Command.{the_app, built_rule, words_row}
+use Rattle.command_words.specs.Forms.{Verb, verbs, is_plain, is_verb, is_form, takes}
 use Rattle.command_words.proofs.Plain.{ArePlain, plain_words, both}
-use Rattle.command_words.proofs.TopWalk.{verb_rows, info_rows}
+use Rattle.command_words.proofs.TopWalk.{names, verb_rows}
+use Rattle.command_words.proofs.VerbLists.{any_of_each, each_equal}
+use Rattle.command_words.proofs.VerbWalks.{takes_some, rows}
 
 -- clap finds the words of a verb
 abbrev pub Finds : Text → Text → List Text → Type 0
 Finds program verb rest = (name : Text) × (subcommand_of the_app (program ∷ verb ∷ rest) ≡ Some (name, words_row rest ∷ []))
 
+-- what the walk meets at a verb, what it finds behind it, and whether there are words behind it
+abbrev met_at : List Text → Verb → Option (Text × List Text) × (Option (Text × List Row) × Bool)
+met_at rest v = (find (answers_to v.0) names, (entered (built the_app) (Some (v.0, rest)), takes_some v.1))
+
+abbrev is_met : List Text → Verb → Option (Text × List Text) × (Option (Text × List Row) × Bool)
+is_met rest v = (Some (v.0, []), (Some (v.0, rows_after (built_rule v.1 ∷ []) [] rest), true))
+
+-- computed for each verb of the table
+each_met : (rest : List Text) → map (met_at rest) verbs ≡ map (is_met rest) verbs
+each_met rest = refl
+
 module _ (program verb : Text) (rest : List Text) (p : ArePlain rest) where
-  by_name : (name : Text) (k : ℕ) → takes name k verb (length rest) ≡ true → (length rest ≡ k → Finds program name rest) → Finds program verb rest
-  by_name name k e finds =
-      let h = both (bytes_eq name verb) (length rest == k) e in
-      let same : name ≡ verb = (bytes_eq-Decides name verb).0 h.0 in
-      subst (λ (v : Text). Finds program v rest) same (finds (eqb-true (length rest) k h.1))
-
-  or_else : (a b : Bool) {P : Type 0} → (a || b) ≡ true → (a ≡ true → P) → (b ≡ true → P) → P
-  or_else true b e left right = left refl
-  or_else false b e left right = right e
-
-  one_word : (ws : List Text) → ArePlain ws → length ws ≡ 1 → Finds program (codes "info") ws
-  one_word (w ∷ []) q e = (codes "info", info_rows program w q)
-  one_word [] q e = absurd (omega arith)
-  one_word (w ∷ v ∷ ws) q e = absurd (omega arith)
+  by_verb : (v : Verb) → takes v verb (length rest) ≡ true → met_at rest v ≡ is_met rest v → Finds program verb rest
+  by_verb v e met =
+      let h = both (bytes_eq v.0 verb) (length rest == v.1) e in
+      let same : v.0 ≡ verb = (bytes_eq-Decides v.0 verb).0 h.0 in
+      let n : length rest ≡ v.1 = eqb-true (length rest) v.1 h.1 in
+      let are = rows v.1 rest (ap (λ m. m.1.1) met) n p in
+      subst (λ (w : Text). Finds program w rest) same (v.0, verb_rows v.0 v.1 rest (ap (λ m. m.0) met) (ap (λ m. m.1.0) met) are program)
 
   pub verb_finds : is_verb verb (length rest) ≡ true → Finds program verb rest
-  verb_finds e =
-      or_else (takes (codes "build") 3 verb (length rest)) _ e
-      (λ h. by_name (codes "build") 3 h (λ n. (codes "build", verb_rows (codes "build") 3 refl (λ r. refl) refl program rest (omega arith) p)))
-      (λ f. or_else (takes (codes "replay") 3 verb (length rest)) _ f
-      (λ h. by_name (codes "replay") 3 h (λ n. (codes "replay", verb_rows (codes "replay") 3 refl (λ r. refl) refl program rest (omega arith) p)))
-      (λ g. or_else (takes (codes "trace") 4 verb (length rest)) _ g
-      (λ h. by_name (codes "trace") 4 h (λ n. (codes "trace", verb_rows (codes "trace") 4 refl (λ r. refl) refl program rest (omega arith) p)))
-      (λ i. or_else (takes (codes "show") 2 verb (length rest)) _ i
-      (λ h. by_name (codes "show") 2 h (λ n. (codes "show", verb_rows (codes "show") 2 refl (λ r. refl) refl program rest (omega arith) p)))
-      (λ j. or_else (takes (codes "gen") 2 verb (length rest)) _ j
-      (λ h. by_name (codes "gen") 2 h (λ n. (codes "gen", verb_rows (codes "gen") 2 refl (λ r. refl) refl program rest (omega arith) p)))
-      (λ h. by_name (codes "info") 1 h (one_word rest p))))))
+  verb_finds e = any_of_each (λ v. takes v verb (length rest)) (λ v. met_at rest v ≡ is_met rest v) verbs (each_equal (met_at rest) (is_met rest) verbs (each_met rest)) e by_verb
 
 -- the words behind the first two
 pub form_finds : (ws : List Text) → is_form ws ≡ true → (name : Text) × (subcommand_of the_app ws ≡ Some (name, words_row (drop 2 ws) ∷ []))

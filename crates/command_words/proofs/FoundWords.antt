@@ -1,5 +1,5 @@
 -- What the matches of a verb hold.
-use Rattle.std.proofs.Common.{◌≡◌, List, [], ◌∷◌, Some, codes, map, option_map, sym, ◌∙◌, ap}
+use Rattle.std.proofs.Common.{◌≡◌, List, [], ◌∷◌, Some, codes, map, option_map, ◌∙◌, ap}
 use Rattle.std.specs.Borrow.{Bor}
 use Rattle.std.specs.declared.option.Option.{Option}
 use Rattle.clap.proofs.WalkLemmas.{raw_values-rows}

@@ -1,20 +1,21 @@
 -- The command that clap is given: each verb is a subcommand with one argument, which takes all the words behind it.
-use Rattle.std.specs.Prelude.{ℕ, true, List, Some, None, codes}
+use Rattle.std.specs.Prelude.{ℕ, true, fold, List, Some, None, codes}
 use Rattle.clap.specs.Walk.{reading_by}
 use Rattle.clap.specs.declared.builder.action.ArgAction.TheVariants.{Set}
 use Rattle.clap.specs.declared.builder.value_parser.ValueParser.TheVariants as parser
 use Rattle.clap.specs.declared.parser.matches.ValueSource.TheVariants.{CommandLine}
 use Rattle.clap.specs.Words.{App, Row, Rule, Shape, Text, new_app, new_rule, with_rule, with_subcommand}
+use Rattle.command_words.specs.Forms.{Verb, verbs}
 
 -- one argument of k values
 abbrev pub words_rule : ℕ → Rule
 words_rule k = record (new_rule (codes "words")) { value_names = k; required = true }
 
-abbrev pub verb_app : Text → ℕ → App
-verb_app name k = with_rule (new_app name) (words_rule k)
+abbrev pub verb_app : Verb → App
+verb_app v = with_rule (new_app v.0) (words_rule v.1)
 
-abbrev pub with_verb : App → Text → ℕ → App
-with_verb a name k = with_subcommand a (verb_app name k).top
+abbrev pub with_verb : App → Verb → App
+with_verb a v = with_subcommand a (verb_app v).top
 
 -- no flag and no subcommand of clap's own
 abbrev pub bare : Shape → Shape
@@ -24,8 +25,7 @@ abbrev pub bare_app : App
 bare_app = let a = new_app (codes "osekfit") in record a { top = bare a.top }
 
 abbrev pub the_app : App
-the_app =
-    with_verb (with_verb (with_verb (with_verb (with_verb (with_verb bare_app (codes "build") 3) (codes "replay") 3) (codes "trace") 4) (codes "show") 2) (codes "gen") 2) (codes "info") 1
+the_app = fold with_verb bare_app verbs
 
 -- the argument as building fills it in
 abbrev pub built_rule : ℕ → Rule

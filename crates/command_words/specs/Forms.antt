@@ -1,21 +1,34 @@
 -- The words of a command line by their number: a verb, and so many words behind it (this project's profile).
-use Rattle.std.specs.Prelude.{ℕ, ◌==◌, ◌&&◌, ◌||◌, Bool, false, not, List, [], ◌∷◌, length, codes}
-use Rattle.std.specs.List.{list_all}
+use Rattle.std.specs.Prelude.{ℕ, ◌==◌, ◌&&◌, Bool, false, not, List, [], ◌∷◌, length, codes}
+use Rattle.std.specs.List.{list_all, list_any}
 use Rattle.std.specs.Str.{bytes_eq}
+use Rattle.command_words.specs.declared.forms.Form.{Form}
+
+-- a verb, and how many words it takes
+abbrev pub Verb : Type 0
+Verb = List ℕ × ℕ
+
+-- the stated forms
+abbrev pub verbs : List Verb
+verbs =
+    (codes "build", 3) ∷ (codes "replay", 3) ∷ (codes "trace", 4) ∷ (codes "show", 2) ∷ (codes "gen", 2) ∷ (codes "info", 1)
+    ∷ (codes "upgrade", 2) ∷ []
+
+-- a row of the table of forms: its verb, and how many words it names
+abbrev pub verb_of : Form → Verb
+verb_of form = (form.verb.now, length form.words.now)
 
 -- neither empty nor beginning with a dash
 abbrev pub is_plain : List ℕ → Bool
 is_plain [] = false
 is_plain (c ∷ cs) = not (c == 45)
 
-abbrev pub takes : List ℕ → ℕ → List ℕ → ℕ → Bool
-takes name k verb n = bytes_eq name verb && (n == k)
+abbrev pub takes : Verb → List ℕ → ℕ → Bool
+takes v verb n = bytes_eq v.0 verb && (n == v.1)
 
 -- a verb takes so many words
 abbrev pub is_verb : List ℕ → ℕ → Bool
-is_verb verb n =
-    takes (codes "build") 3 verb n || (takes (codes "replay") 3 verb n || (takes (codes "trace") 4 verb n
-    || (takes (codes "show") 2 verb n || (takes (codes "gen") 2 verb n || takes (codes "info") 1 verb n))))
+is_verb verb n = list_any (λ v. takes v verb n) verbs
 
 -- the first word is the program's name, and isn't looked at
 abbrev pub is_form : List (List ℕ) → Bool

@@ -1,47 +1,48 @@
 //! The command, as clap has it.
-ghost use Rattle.std.specs.Prelude.{◌≡◌, ◌∷◌, [], IfOk, IsTrue, List, Some, map, length, drop, false};
+ghost use Rattle.std.specs.Prelude.{◌≡◌, ◌∷◌, [], IfOk, IsTrue, List, Some, map, fold, drop, false};
 ghost use Rattle.std.specs.String.{string_bytes};
 ghost use Rattle.std.specs.Borrow.{Bor};
 ghost use Rattle.clap.specs.Words.{Text, app_of, subcommand_rows_of};
 ghost use Rattle.clap.specs.declared.builder.command.Command.TheViews.{out-Command as fields_of};
-ghost use Rattle.command_words.specs.{Command.{verb_app, with_verb, bare_app, the_app, words_row}, Forms.{is_form}};
+ghost use Rattle.command_words.specs.{Command.{verb_app, with_verb, bare_app, the_app, words_row}, Forms.{is_form, verb_of}};
 
+use crate::forms::{Form, forms};
 use clap::{Arg, ArgMatches, Command};
 use osek_values::Memory;
 use std::alloc::{AllocError, Global};
 
-static BUILD: [&str; 3] = ["OIL", "CODE", "IMAGE"];
-
-static REPLAY: [&str; 3] = ["IMAGE", "MODE", "EVENTS"];
-
-static TRACE: [&str; 4] = ["OIL", "CODE", "MODE", "EVENTS"];
-
-static SHOW: [&str; 2] = ["OIL", "CODE"];
-
-static GEN: [&str; 2] = ["SEED", "TASKS"];
-
-static INFO: [&str; 1] = ["IMAGE"];
-
-/// A verb with so many words behind it.
-fn verb<'a>(alloc: Global, name: &'a str, words: &'a [&'a str]) -> Result<Command<'a>, AllocError>
-    ensures app { IfOk result (λ c. app_of c ≡ verb_app name.now (length words.now)) }
+/// The subcommand of a form: its verb, with one argument that takes all the words behind it.
+fn verb<'a>(alloc: Global, form: Form) -> Result<Command<'a>, AllocError>
+    ensures app { IfOk result (λ c. app_of c ≡ verb_app (verb_of form)) }
     ensures globals { IfOk result (λ c. (fields_of c).has_globals ≡ false) }
 {
-    let words = Arg::new(alloc, "words").value_names(words).required(true);
-    Command::new(alloc, name).arg(words)
+    let words = Arg::new(alloc, "words")
+        .value_names(form.words)
+        .required(true);
+    Command::new(alloc, form.verb).arg(words)
 }
 
 /// The same command with one verb more.
-fn add_verb<'a>(
+fn add_verb<'a>(alloc: Global, command: Command<'a>, form: Form) -> Result<Command<'a>, AllocError>
+    ensures { IfOk result (λ c. app_of c ≡ with_verb (app_of command.entry) (verb_of form)) }
+{
+    let verb = verb(alloc, form)?;
+    command.subcommand(verb)
+}
+
+/// The same command with the verbs of the forms.
+fn add_verbs<'a>(
     alloc: Global,
     command: Command<'a>,
-    name: &'a str,
-    words: &'a [&'a str],
+    forms: &[Form],
 ) -> Result<Command<'a>, AllocError>
-    ensures { IfOk result (λ c. app_of c ≡ with_verb (app_of command.entry) name.now (length words.now)) }
+    ensures { IfOk result (λ c. app_of c ≡ fold with_verb (app_of command.entry) (map verb_of forms.now)) }
 {
-    let verb = verb(alloc, name, words)?;
-    command.subcommand(verb)
+    let mut command = command;
+    for form in forms {
+        command = add_verb(alloc, command, *form)?;
+    }
+    Ok(command)
 }
 
 fn bare_command<'a>(alloc: Global) -> Command<'a>
@@ -56,13 +57,7 @@ fn bare_command<'a>(alloc: Global) -> Command<'a>
 fn whole_command<'a>(alloc: Global) -> Result<Command<'a>, AllocError>
     ensures { IfOk result (λ c. app_of c ≡ the_app) }
 {
-    let command = bare_command(alloc);
-    let command = add_verb(alloc, command, "build", BUILD.as_slice())?;
-    let command = add_verb(alloc, command, "replay", REPLAY.as_slice())?;
-    let command = add_verb(alloc, command, "trace", TRACE.as_slice())?;
-    let command = add_verb(alloc, command, "show", SHOW.as_slice())?;
-    let command = add_verb(alloc, command, "gen", GEN.as_slice())?;
-    add_verb(alloc, command, "info", INFO.as_slice())
+    add_verbs(alloc, bare_command(alloc), forms())
 }
 
 /// The words that clap has found behind the verb.

@@ -1,8 +1,54 @@
 //! Which words are of a form.
 ghost use Rattle.std.specs.Prelude.{◌≡◌, map, length};
-ghost use Rattle.std.specs.List.{list_all};
+ghost use Rattle.std.specs.List.{list_all, list_any};
 ghost use Rattle.std.specs.String.{string_bytes};
-ghost use Rattle.command_words.specs.Forms.{is_plain as is_plain_word, is_verb as is_a_verb, is_form};
+ghost use Rattle.command_words.specs.Forms.{is_plain as is_plain_word, is_verb as is_a_verb, is_form, takes as the_verb_takes, verb_of, verbs};
+
+/// A stated form: a verb, and what each word behind it names.
+#[derive(Clone, Copy)]
+pub struct Form {
+    pub verb: &'static str,
+    pub words: &'static [&'static str],
+}
+
+/// The table of forms: a row for each verb.
+static FORMS: [Form; 7] = [
+    Form {
+        verb: "build",
+        words: &["OIL", "CODE", "IMAGE"],
+    },
+    Form {
+        verb: "replay",
+        words: &["IMAGE", "MODE", "EVENTS"],
+    },
+    Form {
+        verb: "trace",
+        words: &["OIL", "CODE", "MODE", "EVENTS"],
+    },
+    Form {
+        verb: "show",
+        words: &["OIL", "CODE"],
+    },
+    Form {
+        verb: "gen",
+        words: &["SEED", "TASKS"],
+    },
+    Form {
+        verb: "info",
+        words: &["IMAGE"],
+    },
+    Form {
+        verb: "upgrade",
+        words: &["IN", "OUT"],
+    },
+];
+
+/// The stated forms, one of each verb.
+pub fn forms() -> &'static [Form]
+    ensures { map verb_of result.now ≡ verbs }
+{
+    FORMS.as_slice()
+}
 
 fn is_plain(word: &str) -> bool
     ensures { result ≡ is_plain_word word.now }
@@ -19,15 +65,24 @@ fn are_plain(words: &[String]) -> bool
     words.iter().all(|word| is_plain(word.as_str()))
 }
 
+/// Whether the verb is the form's, and takes so many words.
+fn takes(form: &Form, verb: &str, count: usize) -> bool
+    ensures { result ≡ the_verb_takes (verb_of form.now) verb.now count }
+{
+    form.verb == verb && count == form.words.len()
+}
+
+fn any_takes(forms: &[Form], verb: &str, count: usize) -> bool
+    ensures { result ≡ list_any (λ form. the_verb_takes (verb_of form) verb.now count) forms.now }
+{
+    forms.iter().any(|form| takes(form, verb, count))
+}
+
+#[tactic(auto, using(crate::proofs::VerbLists::any_of_map))]
 fn is_verb(verb: &str, count: usize) -> bool
     ensures { result ≡ is_a_verb verb.now count }
 {
-    ("build" == verb && count == 3)
-        || ("replay" == verb && count == 3)
-        || ("trace" == verb && count == 4)
-        || ("show" == verb && count == 2)
-        || ("gen" == verb && count == 2)
-        || ("info" == verb && count == 1)
+    any_takes(forms(), verb, count)
 }
 
 /// Whether there is a verb behind the program's name, and behind it as many words as it takes. No word is empty or

@@ -8,7 +8,7 @@ use Rattle.image_model.specs.ImageTrace.{has_trap}
 use Rattle.trace_text.specs.EventText.{read_text}
 use Rattle.trace_text.specs.declared.fault.FaultyLine.{FaultyLine}
 use Rattle.commands.specs.Due.{RunDue, ends, is_read}
-use Rattle.commands.specs.Running.{end_of}
+use Rattle.command_runs.specs.Running.{end_of}
 use Rattle.commands.specs.Laws.{WhatIsBuiltReplays}
 use Rattle.commands.proofs.NamedModes.{named_known}
 

@@ -5,7 +5,7 @@ use Rattle.std.specs.declared.result.Result.{Result}
 use Rattle.commands.specs.Answering.{Does}
 use Rattle.commands.specs.Statuses.{status_of, text_due}
 use Rattle.commands.specs.Words.{Command}
-use Rattle.commands.specs.declared.stop.Stop.{Stop}
+use Rattle.command_runs.specs.declared.stop.Stop.{Stop}
 
 pub does_of : (command given : Option Command) → given ≡ command → (answers : Option Command → Result (Unit {0}) Stop → Type 0) (tells : List ℕ → ℕ → Type 0) (r : Result (Unit {0}) Stop) →
     answers given r → tells (text_due given r) (status_of r) → Does command (answers command) tells

@@ -1,14 +1,13 @@
 -- From texts that were loaded and judged to the answers of `build` and `trace`.
-use Rattle.std.proofs.Common.{◌≡◌, List, ℕ, refl, sym, ◌∙◌, ap, subst}
+use Rattle.std.proofs.Common.{◌≡◌, List, ℕ, refl, sym, subst}
 use Rattle.std.specs.declared.option.Option.{Option}
 use Rattle.osek_standard.specs.declared.app.App.{App}
 use Rattle.oil_system.specs.declared.system.System.{System}
 use Rattle.front_end.specs.Texts.{DeclaresSystem, GivesApp}
-use Rattle.osek_io.specs.Files.{Files, with_file}
-use Rattle.osek_io.specs.Stored.{StoresPart}
+use Rattle.osek_io.specs.Files.{Files}
 use Rattle.commands.specs.Compiling.{OfSystem, OfApp}
-use Rattle.commands.specs.Inputs.{OfFile}
-use Rattle.commands.proofs.InputFiles.{of_map}
+use Rattle.command_runs.specs.Inputs.{OfFile}
+use Rattle.command_runs.proofs.InputFiles.{of_map}
 
 -- the system of the OIL text, and the application of both texts
 pub of_system : (files : Option Files) (oil : List ℕ) (P : System → Type 0) (s : System) → OfFile files oil (λ b. DeclaresSystem b s) → P s → OfSystem files oil P
@@ -20,11 +19,3 @@ of_app files oil code s a declares gives = of_system files oil _ s declares (of_
 -- what is true of that application
 pub over_app : (files : Option Files) (oil code : List ℕ) (P : App → Type 0) (a : App) → P a → OfApp files oil code (λ app. app ≡ a) → OfApp files oil code P
 over_app files oil code P a p h = of_map files oil _ _ (λ b s. (s.0, s.1, of_map files code _ _ (λ t g. (g.0, g.1, subst P (sym g.2) p)) s.2)) h
-
--- what was stored are the image's bytes
-pub stored_all : (files mid after : Option Files) (image bytes spelled : List ℕ) → mid ≡ files → bytes ≡ spelled → after ≡ with_file mid image bytes → after ≡ with_file files image spelled
-stored_all files mid after image bytes spelled same is h = h ∙ ap (λ (f : Option Files). with_file f image bytes) same ∙ ap (λ (b : List ℕ). with_file files image b) is
-
-pub stored_part : (files mid after : Option Files) (image bytes spelled : List ℕ) → mid ≡ files → bytes ≡ spelled → StoresPart mid after image bytes → StoresPart files after image spelled
-stored_part files mid after image bytes spelled same is h =
-    subst (λ (b : List ℕ). StoresPart files after image b) is (subst (λ (f : Option Files). StoresPart f after image bytes) same h)

@@ -12,7 +12,7 @@ use Rattle.osek_standard.specs.declared.app.App.{App}
 use Rattle.osek_standard.specs.TraceText.{kernel_trace}
 use Rattle.oil_system.specs.declared.system.System.{System}
 use Rattle.front_end.specs.Texts.{DeclaresSystem}
-use Rattle.image_model.specs.declared.image.Image.{Image}
+use Rattle.image_model.specs.declared.image.{Image.{Image}, Version.{Version}}
 use Rattle.image_model.specs.ImageTrace.{image_trace, has_trap, image_run}
 use Rattle.trace_text.specs.EventText.{Reading, fault_at, read_text}
 use Rattle.trace_text.specs.declared.fault.EventFault.TheVariants.{E4}
@@ -20,21 +20,22 @@ use Rattle.osek_io.specs.Files.{Files}
 use Rattle.commands.specs.Answering.{CommandAnswers}
 use Rattle.commands.specs.Building as building
 use Rattle.commands.specs.Compiling.{SystemStops, CodeStops, CompileStops, OfApp}
-use Rattle.commands.specs.Due.{IsCalm, RunDue, no_mode, no_events, ends, ImageDue, no_image, bad_image, is_read, ImageRuns, IsTold, TextsDue, no_oil, bad_oil, no_code, bad_code, goes_on, IsBuilt, GenDue, IsDue}
+use Rattle.commands.specs.Due.{IsCalm, RunDue, no_mode, no_events, ends, ImageDue, no_image, bad_image, is_read, ImageRuns, IsTold, Upgrades, upgrade_end, TextsDue, no_oil, bad_oil, no_code, bad_code, goes_on, IsBuilt, GenDue, IsDue}
 use Rattle.commands.specs.GeneratedFiles.{events_name, default_mode, generated_files}
 use Rattle.commands.specs.Generating as generating
-use Rattle.commands.specs.Inputs.{over_limit, unread, faulty, no_memory}
+use Rattle.command_runs.specs.Inputs.{over_limit, unread, faulty, no_memory}
 use Rattle.commands.specs.Informing as informing
-use Rattle.commands.specs.Outside.{Outside, beside}
-use Rattle.commands.specs.Replaying as replaying
-use Rattle.commands.specs.Running as running
-use Rattle.commands.specs.Running.{end_of, RunAnswers}
+use Rattle.command_runs.specs.Outside.{Outside, beside}
+use Rattle.command_runs.specs.Replaying as replaying
+use Rattle.command_runs.specs.Running as running
+use Rattle.command_runs.specs.Running.{end_of, RunAnswers}
 use Rattle.commands.specs.Showing as showing
 use Rattle.commands.specs.Printing.{PrintAnswers}
 use Rattle.commands.specs.Tracing as tracing
-use Rattle.commands.specs.Words.{Command, Build, Replay, Trace, Show, Info, Gen}
-use Rattle.commands.specs.declared.stop.{Input.TheVariants.{Events}, Stop.{Stop}}
-use Rattle.commands.specs.declared.stop.Stop.TheVariants as stop
+use Rattle.command_runs.specs.Upgrading as upgrading
+use Rattle.commands.specs.Words.{Command, Build, Replay, Trace, Show, Info, Gen, Upgrade}
+use Rattle.command_runs.specs.declared.stop.{Input.TheVariants.{Events}, Stop.{Stop}}
+use Rattle.command_runs.specs.declared.stop.Stop.TheVariants as stop
 
 -- memory ran out, or P is true of the answer
 abbrev OrMemory : (Result (Unit {0}) Stop → Type 0) → Result (Unit {0}) Stop → Type 0
@@ -92,6 +93,12 @@ module _ (files : Files) (after : Outside) (reads : List ℕ → ℕ) (writes fa
     info_due image _ (informing.stops s h same) = image_stops image IsTold s h
     info_due image _ (informing.tells r h) = of_image image IsTold _ r (λ i answers. inr (printed_due _ r answers)) h
 
+    upgrade_due : (image upgraded : List ℕ) (r : Result (Unit {0}) Stop) → upgrading.UpgradeAnswers before after image upgraded r → OrMemory (ImageDue files image Upgrades) r
+    upgrade_due image upgraded _ (upgrading.stops s h same) = image_stops image Upgrades s h
+    upgrade_due image upgraded _ (upgrading.already h same) = of_image image Upgrades _ (Err stop.AlreadyNew) (λ i new. inr (sym (ap upgrade_end new))) h
+    upgrade_due image upgraded _ (upgrading.fails rose h) = absurd (calm.writes rose)
+    upgrade_due image upgraded _ (upgrading.stores h) = of_image image Upgrades _ (Ok tt) (λ i stored. inr (sym (ap upgrade_end stored.1.upgraded.was_one))) h
+
     module _ (oil code : List ℕ) (Next : App → Result (Unit {0}) Stop → Type 0) where
       abbrev Due : Result (Unit {0}) Stop → Type 0
       Due = OrMemory (TextsDue files oil code Next)
@@ -148,3 +155,4 @@ module _ (files : Files) (after : Outside) (reads : List ℕ → ℕ) (writes fa
     command_due (Some (Show oil code)) r h = show_due oil code r h.0
     command_due (Some (Info image)) r h = info_due image r h.0
     command_due (Some (Gen seed tasks)) r h = gen_due seed tasks r h.0
+    command_due (Some (Upgrade image upgraded)) r h = upgrade_due image upgraded r h.0

@@ -7,10 +7,10 @@ use Rattle.osek_io.specs.Counts.{Rose}
 use Rattle.osek_io.specs.Files.{Files}
 use Rattle.commands.specs.Answering.{CommandAnswers, Does, Tells}
 use Rattle.commands.specs.Due.{IsCalm, IsDue}
-use Rattle.commands.specs.Outside.{Outside, beside}
+use Rattle.command_runs.specs.Outside.{Outside, beside}
 use Rattle.commands.specs.Statuses.{status_of}
 use Rattle.commands.specs.Words.{Command}
-use Rattle.commands.specs.declared.stop.Stop.{Stop}
+use Rattle.command_runs.specs.declared.stop.Stop.{Stop}
 use Rattle.commands.proofs.Dues.{command_due}
 use Rattle.commands.proofs.OneDue.{one_due}
 

@@ -8,11 +8,11 @@ use Rattle.flow_text.specs.GeneratedLine.{text_size, gen_line}
 use Rattle.osek_io.specs.Files.{Files}
 use Rattle.commands.specs.GeneratedFiles.{oil_name, code_name, events_name, generated_files}
 use Rattle.commands.specs.Generating.{AreLeastCounts, IsDefaultTrace, TellsRun, OfOwn, GenAnswers, no_memory, stops, tells}
-use Rattle.commands.specs.Outside.{Outside}
+use Rattle.command_runs.specs.Outside.{Outside}
 use Rattle.commands.specs.Printing.{PrintAnswers}
-use Rattle.commands.specs.declared.stop.Stop.{Stop}
-use Rattle.commands.specs.declared.stop.Stop.TheVariants as stop
-use Rattle.commands.proofs.InputFiles.{of_map}
+use Rattle.command_runs.specs.declared.stop.Stop.{Stop}
+use Rattle.command_runs.specs.declared.stop.Stop.TheVariants as stop
+use Rattle.command_runs.proofs.InputFiles.{of_map}
 use Rattle.commands.proofs.OwnRuns.{OwnStops}
 
 module _ (before after : Outside) (seed tasks : ℕ) where

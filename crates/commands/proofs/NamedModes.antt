@@ -7,7 +7,7 @@ use Rattle.osek_values.specs.Numbers.{mode_no}
 use Rattle.osek_values.specs.declared.numbers.ModeNo.{ModeNo}
 use Rattle.osek_standard.specs.declared.app.App.{App}
 use Rattle.osek_io.proofs.FirstOf.{position_at}
-use Rattle.commands.specs.Running.{mode_named}
+use Rattle.command_runs.specs.Running.{mode_named}
 
 at_place : (place : Option ℕ) (m : ModeNo) → option_map mode_no place ≡ Some m → place ≡ Some m.0
 at_place None m e = absurd cc

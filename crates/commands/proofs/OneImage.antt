@@ -7,34 +7,50 @@ use Rattle.osek_standard.specs.Apps.{is_site}
 use Rattle.oil_system.specs.declared.system.System.{System}
 use Rattle.front_end.specs.Texts.{DeclaresSystem, GivesApp}
 use Rattle.front_end.proofs.OneAnswer.{one_oil, one_code}
-use Rattle.image_model.specs.declared.{image.Image.{Image}, site.{Form.{Form}, Site.{Site}}}
+use Rattle.image_model.specs.declared.{image.Image.{Image}, site.{Form.{Form}, Known.{Known}, Site.{Site}}}
 use Rattle.image_model.specs.Sites.{IsSiteAt}
 use Rattle.image_model.specs.ImageStep.{form_at}
 use Rattle.image_codec.specs.ImageReading.{parts_of}
 use Rattle.image_codec.specs.Spelling.{spelling}
 use Rattle.image_codec.proofs.DecodeLaws.{image_ext}
-use Rattle.abstract_state.specs.{Forms.{FormOf, HasDictatedForms}, Tables.{Sets}}
-use Rattle.abstract_state.proofs.{ContainmentLaws.{one_least}, FormLaws.{one_form}}
+use Rattle.abstract_state.specs.{Forms.{FormOf, KnownOf, HasDictatedForms, HasDictatedStatuses}, Tables.{Sets}}
+use Rattle.abstract_state.proofs.{ContainmentLaws.{one_least}, FormLaws.{one_form, one_known}}
 use Rattle.commands.specs.Fitting.{IsFitted}
 use Rattle.commands.specs.Laws.{AreBuiltFrom, OneImageIsBuilt}
 
 abbrev form_of_site : Option Site → Option Form
 form_of_site x = option_map (λ (s : Site). s.form) x
 
--- two sites of one block, each with a form that the table dictates
+abbrev known_of_site : Option Site → Option Known
+known_of_site x = option_map (λ (s : Site). s.known) x
+
+-- the form and the status that the table dictates of a site, if it is one
+abbrev Dictated : App → Sets → ℕ → Option Site → Type 0
+Dictated app table b x = (s : Site) → x ≡ Some s → FormOf app table b s.form × KnownOf app table b s.known
+
+-- two sites of one block, each as the table dictates
 same_site : (app : App) (table : Sets) (b : ℕ) (is : Bool) (x y : Option Site) → IsSiteAt app is x → IsSiteAt app is y →
-    ((s : Site) → x ≡ Some s → FormOf app table b s.form) → ((s : Site) → y ≡ Some s → FormOf app table b s.form) → x ≡ y
+    Dictated app table b x → Dictated app table b y → x ≡ y
 same_site app table b is None None p q f g = refl
 same_site app table b true None (Some t) p q f g = absurd cc
 same_site app table b false None (Some t) p q f g = absurd cc
 same_site app table b true (Some s) None p q f g = absurd cc
 same_site app table b false (Some s) None p q f g = absurd cc
-same_site app table b is (Some s) (Some t) p q f g = ap (λ (form : Form). Some (record { form = form })) (one_form app table b s.form t.form (f s refl) (g t refl))
+same_site app table b is (Some s) (Some t) p q f g =
+    let forms = one_form app table b s.form t.form (f s refl).0 (g t refl).0 in
+    let knowns = one_known app table b s.known t.known (f s refl).1 (g t refl).1 in
+    (λ j. Some (record { form = forms j; known = knowns j }))
 
 module _ (app : App) (table : Sets) where
-  -- the sites of two images with the forms that the table dictates
-  same_sites : (i j : Image) → i.app ≡ app → j.app ≡ app → HasDictatedForms table i → HasDictatedForms table j → i.sites ≡ j.sites
-  same_sites i j x y f g =
+  dictated : (i : Image) → i.app ≡ app → HasDictatedForms table i → HasDictatedStatuses table i → (b : ℕ) → Dictated app table b (get_or i.sites b None)
+  dictated i is forms statuses b s e = (
+    subst (λ (a : App). FormOf a table b s.form) is (forms b s.form (ap (λ (o : Option Site). form_of_site o) e)),
+    subst (λ (a : App). KnownOf a table b s.known) is (statuses b s.known (ap (λ (o : Option Site). known_of_site o) e)),
+  )
+
+  -- the sites of two images with the forms and the statuses that the table dictates
+  same_sites : (i j : Image) → i.app ≡ app → j.app ≡ app → HasDictatedForms table i → HasDictatedForms table j → HasDictatedStatuses table i → HasDictatedStatuses table j → i.sites ≡ j.sites
+  same_sites i j x y f g h k =
       let blocks : length i.app.blocks ≡ length j.app.blocks = ap (λ (a : App). length a.blocks) (x ∙ sym y) in
       ext_get_or None i.sites j.sites (i.valid.count ∙ blocks ∙ sym j.valid.count)
       (λ b lt.
@@ -42,16 +58,18 @@ module _ (app : App) (table : Sets) where
       same_site app table b (is_site app b) (get_or i.sites b None) (get_or j.sites b None)
       (subst (λ (a : App). IsSiteAt a (is_site a b) (get_or i.sites b None)) x (i.valid.each b within))
       (subst (λ (a : App). IsSiteAt a (is_site a b) (get_or j.sites b None)) y (j.valid.each b (subst (λ (n : ℕ). b < n) blocks within)))
-      (λ s e. subst (λ (a : App). FormOf a table b s.form) x (f b s.form (ap (λ (o : Option Site). form_of_site o) e)))
-      (λ s e. subst (λ (a : App). FormOf a table b s.form) y (g b s.form (ap (λ (o : Option Site). form_of_site o) e))))
+      (dictated i x f h b) (dictated j y g k b))
 
 -- the image that is fitted is one
 pub one_fitted : (app : App) (i j : Image) → IsFitted app i → IsFitted app j → i ≡ j
 one_fitted app i j x y =
     let tables = one_least app x.forms.table y.forms.table x.forms.least y.forms.least in
     let apps : i.app ≡ j.app = x.kernel.is ∙ sym y.kernel.is in
-    let sites : i.sites ≡ j.sites = same_sites app y.forms.table i j x.kernel.is y.kernel.is (subst (λ (t : Sets). HasDictatedForms t i) tables x.forms.forms) y.forms.forms in
+    let sites : i.sites ≡ j.sites = same_sites app y.forms.table i j x.kernel.is y.kernel.is (subst (λ (t : Sets). HasDictatedForms t i) tables x.forms.forms) y.forms.forms
+    (subst (λ (t : Sets). HasDictatedStatuses t i) tables x.forms.statuses) y.forms.statuses in
+    let versions : i.version ≡ j.version = x.forms.version ∙ sym y.forms.version in
     image_ext i j (λ k. record {
+      version = versions k;
       hooks = (apps k).hooks;
       tables = record { tasks = (apps k).tasks; isrs = (apps k).isrs; counters = (apps k).counters; alarms = (apps k).alarms; resources = (apps k).resources; modes = (apps k).modes };
       blocks = (apps k).blocks;

@@ -21,16 +21,16 @@ use Rattle.commands.specs.Due.{RunDue, no_mode, no_events, ends, TextsDue, bad_o
 use Rattle.commands.specs.Fitting.{IsKernelImage}
 use Rattle.commands.specs.GeneratedFiles.{oil_name, code_name, events_name, default_mode, own_stop}
 use Rattle.commands.specs.Generating.{IsDefaultTrace}
-use Rattle.commands.specs.Inputs.{OfFile, unread, faulty, no_memory}
-use Rattle.commands.specs.Outside.{Told, Outside}
-use Rattle.commands.specs.Playing.{PlayAnswers}
-use Rattle.commands.specs.Running as running
-use Rattle.commands.specs.Running.{mode_named, end_of, RunAnswers}
+use Rattle.command_runs.specs.Inputs.{OfFile, unread, faulty, no_memory}
+use Rattle.command_runs.specs.Outside.{Told, Outside}
+use Rattle.command_runs.specs.Playing.{PlayAnswers}
+use Rattle.command_runs.specs.Running as running
+use Rattle.command_runs.specs.Running.{mode_named, end_of, RunAnswers}
 use Rattle.commands.specs.Tracing.{never}
-use Rattle.commands.specs.declared.stop.Stop.{Stop}
-use Rattle.commands.specs.declared.stop.Stop.TheVariants as stop
+use Rattle.command_runs.specs.declared.stop.Stop.{Stop}
+use Rattle.command_runs.specs.declared.stop.Stop.TheVariants as stop
 use Rattle.commands.proofs.Dues.{over_ends}
-use Rattle.commands.proofs.InputFiles.{of_bytes}
+use Rattle.command_runs.proofs.InputFiles.{of_bytes}
 use Rattle.commands.proofs.NamedModes.{named_known}
 
 -- memory ran out, or the own texts are due the stop

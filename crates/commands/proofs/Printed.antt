@@ -5,8 +5,8 @@ use Rattle.std.specs.declared.option.Option.{Option}
 use Rattle.std.proofs.lemmas.List.{take-append-drop}
 use Rattle.std.proofs.lemmas.Grind.{flat_map-append}
 use Rattle.osek_io.specs.{Pieces.{grown}, Stored.{WritesPart}}
-use Rattle.commands.specs.Telling.{WritesFront}
-use Rattle.commands.proofs.Fronts.{grown-grown, front_of_part, front_of_first, front_behind}
+use Rattle.command_runs.specs.Telling.{WritesFront}
+use Rattle.command_runs.proofs.Fronts.{grown-grown, front_of_part, front_of_first, front_behind}
 
 -- a text that was written, and one behind it
 pub written_behind : (old between new : Option (List ℕ)) (first second : List ℕ) → between ≡ grown old first → new ≡ grown between second → new ≡ grown old (first ++ second)

@@ -19,7 +19,8 @@ use Rattle.osek_standard.specs.Apps.{tables}
 use Rattle.osek_standard.specs.Validity.{IsValid}
 use Rattle.image_model.specs.CallNames as call
 use Rattle.image_model.specs.declared.site.Site.{Site}
-use Rattle.image_model.specs.declared.image.Image.{Image}
+use Rattle.image_model.specs.declared.image.{Image.{Image}, Version.{Version}}
+use Rattle.image_model.specs.declared.image.Version.TheVariants as version
 use Rattle.image_codec.specs.Spelling.{four, name_bytes, range_bytes, task_bytes, isr_bytes, counter_bytes, action_bytes, alarm_bytes, resource_bytes, operand_bytes, way_bytes, site_bytes, block_bytes, spelling}
 
 -- ---- fields
@@ -27,11 +28,13 @@ use Rattle.image_codec.specs.Spelling.{four, name_bytes, range_bytes, task_bytes
 name_within : (name : List ℕ) → is_name name ≡ true → length name ≤ MAX_NAME
 name_within name e = leb-true _ _ (and_parts (is_word name) (nat_le (length name) MAX_NAME) e).1
 
-task_within : (x : Task) → length x.name ≤ MAX_NAME → length (task_bytes x) ≤ 100
-task_within x le = grind (arith, le, length-append)
+task_within : (v : Version) (x : Task) → length x.name ≤ MAX_NAME → length (task_bytes v x) ≤ 100
+task_within version.One x le = grind (arith, le, length-append)
+task_within version.Two x le = grind (arith, le, length-append)
 
-isr_within : (x : Isr) → length x.name ≤ MAX_NAME → length (isr_bytes x) ≤ 100
-isr_within x le = omega (arith, le, length-append (name_bytes x.name) (range_bytes x.first x.count))
+isr_within : (v : Version) (x : Isr) → length x.name ≤ MAX_NAME → length (isr_bytes v x) ≤ 100
+isr_within version.One x le = grind (arith, le, length-append)
+isr_within version.Two x le = grind (arith, le, length-append)
 
 counter_within : (x : Counter) → length x.name ≤ MAX_NAME → length (counter_bytes x) ≤ 100
 counter_within x le = grind (arith, le, length-append)
@@ -43,8 +46,9 @@ action_len (action.SetEvent t m) = refl
 alarm_within : (x : Alarm) → length x.name ≤ MAX_NAME → length (alarm_bytes x) ≤ 100
 alarm_within x le = grind (arith, le, action_len x.action, length-append)
 
-resource_within : (x : Resource) → length x.name ≤ MAX_NAME → length (resource_bytes x) ≤ 100
-resource_within x le = omega (arith, le, length-append x.name (four x.ceiling))
+resource_within : (v : Version) (x : Resource) → length x.name ≤ MAX_NAME → length (resource_bytes v x) ≤ 100
+resource_within version.One x le = grind (arith, le, length-append)
+resource_within version.Two x le = grind (arith, le, length-append)
 
 mode_within : (name : List ℕ) → length name ≤ MAX_NAME → length (name_bytes name) ≤ 100
 mode_within name le = omega (arith, le)
@@ -73,12 +77,13 @@ ways_within kind.TaskEnd next = omega arith
 ways_within kind.IsrEnd next = omega arith
 ways_within _ next = omega arith
 
-site_within : (x : Option Site) → length (site_bytes x) ≤ 2
-site_within None = omega arith
-site_within (Some x) = omega arith
+site_within : (v : Version) (x : Option Site) → length (site_bytes v x) ≤ 3
+site_within v None = omega arith
+site_within version.One (Some x) = omega arith
+site_within version.Two (Some x) = omega arith
 
-block_within : (x : Block × Option Site) → length (block_bytes x) ≤ 29
-block_within x = grind (arith, operands_within x.0.kind, ways_within x.0.kind x.0.next, site_within x.1, length-append)
+block_within : (v : Version) (x : Block × Option Site) → length (block_bytes v x) ≤ 30
+block_within v x = grind (arith, operands_within x.0.kind, ways_within x.0.kind x.0.next, site_within v x.1, length-append)
 
 -- ---- tables
 
@@ -107,8 +112,8 @@ zip_within [] xs = omega arith
 zip_within (k ∷ ks) [] = omega arith
 zip_within (k ∷ ks) (x ∷ xs) = omega (arith, zip_within ks xs)
 
-blocks_within : (xs : List (Block × Option Site)) → length xs ≤ MAX_BLOCKS → length (flat_map block_bytes xs) ≤ 30624
-blocks_within xs few = omega (arith, few, entries_within block_bytes 29 xs (λ k d lt. block_within (get_or xs k d)))
+blocks_within : (v : Version) (xs : List (Block × Option Site)) → length xs ≤ MAX_BLOCKS → length (flat_map (block_bytes v) xs) ≤ 31680
+blocks_within v xs few = omega (arith, few, entries_within (block_bytes v) 30 xs (λ k d lt. block_within v (get_or xs k d)))
 
 -- ---- the whole
 
@@ -116,19 +121,20 @@ pub small : (i : Image) → length (spelling i) ≤ MAX_FILE
 unfolding spelling
 small i =
     let a = i.app in
-    let v : IsValid (tables a) = a.valid in
-    let tasks = flat_map task_bytes a.tasks in
-    let isrs = flat_map isr_bytes a.isrs in
+    let valid : IsValid (tables a) = a.valid in
+    let v : Version = i.version in
+    let tasks = flat_map (task_bytes v) a.tasks in
+    let isrs = flat_map (isr_bytes v) a.isrs in
     let counters = flat_map counter_bytes a.counters in
     let alarms = flat_map alarm_bytes a.alarms in
-    let resources = flat_map resource_bytes a.resources in
+    let resources = flat_map (resource_bytes v) a.resources in
     let modes = flat_map name_bytes a.modes in
-    let blocks = flat_map block_bytes (zip a.blocks i.sites) in
-    let of_blocks : length blocks ≤ 30624 = blocks_within (zip a.blocks i.sites) (omega (arith, v.few_blocks, zip_within a.blocks i.sites)) in
-    let of_modes : length modes ≤ 1600 = omega (arith, v.few_modes, entries_within name_bytes 100 a.modes (modes_within a.modes v.mode_names.each)) in
-    let of_resources : length resources ≤ 1600 = table_within resource_bytes (λ x. x.name) resource_within a.resources (omega (arith, v.few_resources)) v.resource_names.each in
-    let of_alarms : length alarms ≤ 1600 = table_within alarm_bytes (λ x. x.name) alarm_within a.alarms (omega (arith, v.few_alarms)) v.alarm_names.each in
-    let of_counters : length counters ≤ 1600 = table_within counter_bytes (λ x. x.name) counter_within a.counters (omega (arith, v.few_counters)) v.counter_names.each in
-    let of_isrs : length isrs ≤ 1600 = table_within isr_bytes (λ x. x.name) isr_within a.isrs (omega (arith, v.few_isrs)) v.isr_names.each in
-    let of_tasks : length tasks ≤ 1600 = table_within task_bytes (λ x. x.name) task_within a.tasks (omega (arith, v.few_tasks)) v.task_names.each in
+    let blocks = flat_map (block_bytes v) (zip a.blocks i.sites) in
+    let of_blocks : length blocks ≤ 31680 = blocks_within v (zip a.blocks i.sites) (omega (arith, valid.few_blocks, zip_within a.blocks i.sites)) in
+    let of_modes : length modes ≤ 1600 = omega (arith, valid.few_modes, entries_within name_bytes 100 a.modes (modes_within a.modes valid.mode_names.each)) in
+    let of_resources : length resources ≤ 1600 = table_within (resource_bytes v) (λ x. x.name) (resource_within v) a.resources (omega (arith, valid.few_resources)) valid.resource_names.each in
+    let of_alarms : length alarms ≤ 1600 = table_within alarm_bytes (λ x. x.name) alarm_within a.alarms (omega (arith, valid.few_alarms)) valid.alarm_names.each in
+    let of_counters : length counters ≤ 1600 = table_within counter_bytes (λ x. x.name) counter_within a.counters (omega (arith, valid.few_counters)) valid.counter_names.each in
+    let of_isrs : length isrs ≤ 1600 = table_within (isr_bytes v) (λ x. x.name) (isr_within v) a.isrs (omega (arith, valid.few_isrs)) valid.isr_names.each in
+    let of_tasks : length tasks ≤ 1600 = table_within (task_bytes v) (λ x. x.name) (task_within v) a.tasks (omega (arith, valid.few_tasks)) valid.task_names.each in
     grind (arith, of_blocks, of_modes, of_resources, of_alarms, of_counters, of_isrs, of_tasks, length-append)

@@ -5,13 +5,14 @@ use Rattle.commands.specs.Answering.{CommandAnswers}
 use Rattle.commands.specs.Building as building
 use Rattle.commands.specs.Generating as generating
 use Rattle.commands.specs.Informing as informing
-use Rattle.commands.specs.Inputs.{no_memory}
-use Rattle.commands.specs.Outside.{Outside}
-use Rattle.commands.specs.Replaying as replaying
+use Rattle.command_runs.specs.Inputs.{no_memory}
+use Rattle.command_runs.specs.Outside.{Outside}
+use Rattle.command_runs.specs.Replaying as replaying
 use Rattle.commands.specs.Showing as showing
 use Rattle.commands.specs.Tracing as tracing
-use Rattle.commands.specs.Words.{Command, Build, Replay, Trace, Show, Info, Gen}
-use Rattle.commands.specs.declared.stop.Stop.TheVariants as stop
+use Rattle.command_runs.specs.Upgrading as upgrading
+use Rattle.commands.specs.Words.{Command, Build, Replay, Trace, Show, Info, Gen, Upgrade}
+use Rattle.command_runs.specs.declared.stop.Stop.TheVariants as stop
 
 pub memory_answers : (before : Outside) (command : Option Command) → CommandAnswers before before command (Err stop.Memory)
 memory_answers before None = (inr refl, refl)
@@ -21,3 +22,4 @@ memory_answers before (Some (Trace oil code mode events)) = (tracing.stops stop.
 memory_answers before (Some (Show oil code)) = (showing.stops stop.Memory (inl no_memory) refl, (refl, refl))
 memory_answers before (Some (Info image)) = (informing.stops stop.Memory no_memory refl, (refl, refl))
 memory_answers before (Some (Gen seed tasks)) = (generating.no_memory refl, refl)
+memory_answers before (Some (Upgrade image upgraded)) = (upgrading.stops stop.Memory no_memory (refl, refl), refl, refl)

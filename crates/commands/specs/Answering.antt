@@ -2,18 +2,19 @@
 use Rattle.std.specs.Prelude.{◌≡◌, ◌⊎◌, ℕ, List, Option, Some, None, Result, Err}
 use Rattle.osek_io.specs.Counts.{Rose}
 use Rattle.osek_io.specs.Pieces.{grown}
-use Rattle.commands.specs.declared.stop.Stop.{Stop}
-use Rattle.commands.specs.declared.stop.Stop.TheVariants as stop
+use Rattle.command_runs.specs.declared.stop.Stop.{Stop}
+use Rattle.command_runs.specs.declared.stop.Stop.TheVariants as stop
 use Rattle.commands.specs.Building.{BuildAnswers}
 use Rattle.commands.specs.Generating.{GenAnswers}
 use Rattle.commands.specs.Informing.{InfoAnswers}
-use Rattle.commands.specs.Outside.{Outside, SameFiles}
-use Rattle.commands.specs.Replaying.{ReplayAnswers}
+use Rattle.command_runs.specs.Outside.{Outside, SameFiles}
+use Rattle.command_runs.specs.Replaying.{ReplayAnswers}
 use Rattle.commands.specs.Showing.{ShowAnswers}
 use Rattle.commands.specs.Statuses.{status_of, text_due}
-use Rattle.commands.specs.Telling.{WritesFront}
+use Rattle.command_runs.specs.Telling.{WritesFront}
+use Rattle.command_runs.specs.Upgrading.{UpgradeAnswers}
 use Rattle.commands.specs.Tracing.{TraceAnswers}
-use Rattle.commands.specs.Words.{Command, Build, Replay, Trace, Show, Info, Gen}
+use Rattle.commands.specs.Words.{Command, Build, Replay, Trace, Show, Info, Gen, Upgrade}
 
 -- err gained the text, and the status is as given; or a write on err failed: it gained a front, and the status is 6
 abbrev pub Tells : (faults faults_after : ℕ) → Option (List ℕ) → Option (List ℕ) → (text : List ℕ) → (status answered : ℕ) → Type 0
@@ -21,7 +22,8 @@ Tells faults faults_after told told_after text status answered =
     ((answered ≡ status) × (told_after ≡ grown told text))
     ⊎ ((answered ≡ 6) × Rose faults faults_after × WritesFront told told_after text)
 
--- Words of no stated form leave all as it was, also where memory ran out as they were read; `build` prints nothing; the others write no file.
+-- Words of no stated form leave all as it was, also where memory ran out as they were read; `build` and `upgrade` print nothing;
+-- the others write no file.
 abbrev pub CommandAnswers : (before after : Outside) → Option Command → Result (Unit {0}) Stop → Type 0
 CommandAnswers before after None r = ((r ≡ Err stop.Usage) ⊎ (r ≡ Err stop.Memory)) × (after ≡ before)
 CommandAnswers before after (Some (Build oil code image)) r = BuildAnswers before after oil code image r × (after.printed ≡ before.printed) × (after.faults ≡ before.faults)
@@ -30,6 +32,7 @@ CommandAnswers before after (Some (Trace oil code mode events)) r = TraceAnswers
 CommandAnswers before after (Some (Show oil code)) r = ShowAnswers before after oil code r × SameFiles before.shelf after.shelf
 CommandAnswers before after (Some (Info image)) r = InfoAnswers before after image r × SameFiles before.shelf after.shelf
 CommandAnswers before after (Some (Gen seed tasks)) r = GenAnswers before after seed tasks r × (after.shelf ≡ before.shelf)
+CommandAnswers before after (Some (Upgrade image upgraded)) r = UpgradeAnswers before after image upgraded r × (after.printed ≡ before.printed) × (after.faults ≡ before.faults)
 
 -- The command of the words answers r, of which err has the text and the call the status.
 pub record Does (command : Option Command) (answers : Result (Unit {0}) Stop → Type 0) (tells : List ℕ → ℕ → Type 0) : Type 0 where

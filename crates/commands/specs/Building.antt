@@ -6,9 +6,9 @@ use Rattle.image_codec.specs.Spelling.{spelling}
 use Rattle.osek_io.specs.{Counts.{Rose}, Files.{with_file}, Stored.{StoresPart}}
 use Rattle.commands.specs.Compiling.{OfApp, CompileStops}
 use Rattle.commands.specs.Fitting.{IsFitted}
-use Rattle.commands.specs.Outside.{Outside, SameFiles}
-use Rattle.commands.specs.declared.stop.Stop.{Stop}
-use Rattle.commands.specs.declared.stop.Stop.TheVariants as stop
+use Rattle.command_runs.specs.Outside.{Outside, SameFiles}
+use Rattle.command_runs.specs.declared.stop.Stop.{Stop}
+use Rattle.command_runs.specs.declared.stop.Stop.TheVariants as stop
 
 -- the bytes of the image that is fitted to the application
 pub record SpellsFitted (app : App) (bytes : List ℕ) : Type 0 where

@@ -5,11 +5,11 @@ use Rattle.oil_system.specs.declared.system.System.{System}
 use Rattle.front_end.specs.Texts.{DeclaresSystem, GivesApp}
 use Rattle.front_end.specs.Answers.{IsOilRefusal, IsCodeRefusal}
 use Rattle.osek_io.specs.Files.{Files}
-use Rattle.commands.specs.Inputs.{OfFile, InputStops}
-use Rattle.commands.specs.Outside.{Told}
-use Rattle.commands.specs.declared.stop.Input.TheVariants as input
-use Rattle.commands.specs.declared.stop.Stop.{Stop}
-use Rattle.commands.specs.declared.stop.Stop.TheVariants as stop
+use Rattle.command_runs.specs.Inputs.{OfFile, InputStops}
+use Rattle.command_runs.specs.Outside.{Told}
+use Rattle.command_runs.specs.declared.stop.Input.TheVariants as input
+use Rattle.command_runs.specs.declared.stop.Stop.{Stop}
+use Rattle.command_runs.specs.declared.stop.Stop.TheVariants as stop
 
 -- of the system that the OIL text declares P is true
 abbrev pub OfSystem : Option Files → (oil : List ℕ) → (System → Type 0) → Type 0

@@ -9,20 +9,21 @@ use Rattle.osek_standard.specs.declared.app.App.{App}
 use Rattle.oil_system.specs.declared.system.System.{System}
 use Rattle.front_end.specs.Texts.{DeclaresSystem, GivesApp}
 use Rattle.front_end.specs.Answers.{IsOilRefusal, IsCodeRefusal}
-use Rattle.image_model.specs.declared.image.Image.{Image}
+use Rattle.image_model.specs.declared.image.{Image.{Image}, Version.{Version}}
+use Rattle.image_model.specs.declared.image.Version.TheVariants as version
 use Rattle.image_codec.specs.declared.fault.ImageFault.{ImageFault}
 use Rattle.image_model.specs.ImageTrace.{has_trap}
 use Rattle.trace_text.specs.EventText.{read_text}
 use Rattle.osek_io.specs.Counts.{Rose}
 use Rattle.osek_io.specs.Files.{Files}
 use Rattle.commands.specs.GeneratedFiles.{oil_name, code_name, events_name, default_mode, generated_files}
-use Rattle.commands.specs.Outside.{Outside}
-use Rattle.commands.specs.Replaying.{SpellImage, IsImageFault}
-use Rattle.commands.specs.Running.{mode_named, end_of}
+use Rattle.command_runs.specs.Outside.{Outside}
+use Rattle.command_runs.specs.Replaying.{SpellImage, IsImageFault}
+use Rattle.command_runs.specs.Running.{mode_named, end_of}
 use Rattle.commands.specs.Tracing.{never}
-use Rattle.commands.specs.Words.{Command, Build, Replay, Trace, Show, Info, Gen}
-use Rattle.commands.specs.declared.stop.{Input.TheVariants.{Oil, Code, Image as image_file, Events}, Stop.{Stop}}
-use Rattle.commands.specs.declared.stop.Stop.TheVariants as stop
+use Rattle.commands.specs.Words.{Command, Build, Replay, Trace, Show, Info, Gen, Upgrade}
+use Rattle.command_runs.specs.declared.stop.{Input.TheVariants.{Oil, Code, Image as image_file, Events}, Stop.{Stop}}
+use Rattle.command_runs.specs.declared.stop.Stop.TheVariants as stop
 
 -- no count of faults rose
 pub record IsCalm (before after : Outside) : Type 0 where
@@ -42,9 +43,17 @@ pub data ImageDue (files : Files) (image : List ℕ) (Next : Image → Result (U
   bad_image : (bytes : List ℕ) (fault : ImageFault) → get files image ≡ Some bytes → IsImageFault bytes fault → ImageDue files image Next (Err (stop.Image fault))
   is_read : (bytes : List ℕ) (i : Image) (r : Result (Unit {0}) Stop) → get files image ≡ Some bytes → SpellImage bytes i → Next i r → ImageDue files image Next r
 
--- `replay` runs the image, `info` is done
+-- `replay` runs the image, `info` is done, `upgrade` is done where it is of version 1
 abbrev pub ImageRuns : Files → (mode events : List ℕ) → Image → Result (Unit {0}) Stop → Type 0
 ImageRuns files mode events i r = RunDue files i.app (has_trap i) mode events r
+
+-- an image of version 1 is upgraded, and one of version 2 is new already
+abbrev pub upgrade_end : Version → Result (Unit {0}) Stop
+upgrade_end version.One = Ok tt
+upgrade_end version.Two = Err stop.AlreadyNew
+
+abbrev pub Upgrades : Image → Result (Unit {0}) Stop → Type 0
+Upgrades i r = r ≡ upgrade_end i.version
 
 abbrev pub IsTold : Image → Result (Unit {0}) Stop → Type 0
 IsTold i r = r ≡ Ok tt
@@ -77,5 +86,6 @@ IsDue files (Some (Replay image mode events)) r = ImageDue files image (ImageRun
 IsDue files (Some (Trace oil code mode events)) r = TextsDue files oil code (λ app. RunDue files app never mode events) r
 IsDue files (Some (Show oil code)) r = TextsDue files oil code IsBuilt r
 IsDue files (Some (Info image)) r = ImageDue files image IsTold r
+IsDue files (Some (Upgrade image upgraded)) r = ImageDue files image Upgrades r
 -- over its own texts `gen` is due what `trace` is
 IsDue files (Some (Gen seed tasks)) r = GenDue seed tasks r

@@ -2,12 +2,12 @@
 use Rattle.std.specs.Prelude.{◌≡◌, ◌<◌, List, length}
 use Rattle.osek_values.specs.declared.{event.Event.{Event}, numbers.ModeNo.{ModeNo}}
 use Rattle.osek_standard.specs.declared.app.App.{App}
-use Rattle.image_model.specs.declared.image.Image.{Image}
+use Rattle.image_model.specs.declared.image.{Image.{Image}, Version.TheVariants.{Two}}
 use Rattle.image_model.specs.Laws.{IsKernelsRun}
 use Rattle.image_codec.specs.Spelling.{spelling}
 use Rattle.abstract_state.specs.declared.table.Table.{Table}
-use Rattle.abstract_state.specs.{Forms.{HasDictatedForms}, Tables.{Sets, Least, sets_of}, Written.{IsWritten}}
-use Rattle.commands.specs.Replaying.{SpellImage}
+use Rattle.abstract_state.specs.{Forms.{HasDictatedForms, HasDictatedStatuses}, Tables.{Sets, Least, sets_of}, Written.{IsWritten}}
+use Rattle.command_runs.specs.Replaying.{SpellImage}
 
 -- the least table of an application, as the analysis writes it
 pub record IsLeastTable (app : App) (table : Table) : Type 0 where
@@ -21,13 +21,16 @@ pub record IsKernelImage (app : App) (i : Image) : Type 0 where
   pub spelled : SpellImage (spelling i) i
   pub runs : (mode : ModeNo) (events : List Event) → mode.0 < length app.modes → IsKernelsRun i mode events
 
--- Each call site has the form that the least table of the application dictates.
+-- It is of version 2, and each call site has the form that the least table of the application dictates, and knows of the
+-- status what that table says.
 pub record HasLeastForms (app : App) (i : Image) : Type 0 where
   pub table : Sets
   pub least : Least app table
   pub forms : HasDictatedForms table i
+  pub statuses : HasDictatedStatuses table i
+  pub version : i.version ≡ Two
 
--- The image that `build` writes: it is the kernel, and each call site has the form that the least table dictates.
+-- The image that `build` writes: it is the kernel, and each call site has what the least table dictates.
 pub record IsFitted (app : App) (i : Image) : Type 0 where
   pub kernel : IsKernelImage app i
   pub forms : HasLeastForms app i

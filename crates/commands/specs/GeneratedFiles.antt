@@ -4,8 +4,8 @@ use Rattle.std.specs.FinMap.{empty, insert}
 use Rattle.osek_vectors.specs.declared.generated.Generated.{Generated}
 use Rattle.osek_vectors.specs.GeneratedTexts.{generated_texts}
 use Rattle.osek_io.specs.Files.{Files}
-use Rattle.commands.specs.declared.stop.Stop.{Stop}
-use Rattle.commands.specs.declared.stop.Stop.TheVariants as stop
+use Rattle.command_runs.specs.declared.stop.Stop.{Stop}
+use Rattle.command_runs.specs.declared.stop.Stop.TheVariants as stop
 
 abbrev pub oil_name : List ℕ
 oil_name = codes "oil"

@@ -14,12 +14,12 @@ use Rattle.commands.specs.Compiling.{OfApp}
 use Rattle.commands.specs.Due.{GenDue}
 use Rattle.commands.specs.Fitting.{IsLeastTable}
 use Rattle.commands.specs.GeneratedFiles.{oil_name, code_name, events_name, default_mode, generated_files}
-use Rattle.commands.specs.Inputs.{OfFile}
-use Rattle.commands.specs.Outside.{Outside}
+use Rattle.command_runs.specs.Inputs.{OfFile}
+use Rattle.command_runs.specs.Outside.{Outside}
 use Rattle.commands.specs.Printing.{PrintAnswers}
-use Rattle.commands.specs.Running.{mode_named}
-use Rattle.commands.specs.declared.stop.Stop.{Stop}
-use Rattle.commands.specs.declared.stop.Stop.TheVariants as stop
+use Rattle.command_runs.specs.Running.{mode_named}
+use Rattle.command_runs.specs.declared.stop.Stop.{Stop}
+use Rattle.command_runs.specs.declared.stop.Stop.TheVariants as stop
 
 -- what the least table of an application counts, and the forms that it dictates
 pub record AreLeastCounts (app : App) (counts : AnalysisCounts) : Type 0 where

@@ -1,10 +1,10 @@
 -- The answers of `info`, each with its cause and what it leaves.
 use Rattle.std.specs.Prelude.{◌≡◌, ℕ, List, Result, Err}
 use Rattle.flow_text.specs.Texts.{info_text}
-use Rattle.commands.specs.Outside.{Outside}
+use Rattle.command_runs.specs.Outside.{Outside}
 use Rattle.commands.specs.Printing.{PrintAnswers}
-use Rattle.commands.specs.Replaying.{OfImage, ImageStops}
-use Rattle.commands.specs.declared.stop.Stop.{Stop}
+use Rattle.command_runs.specs.Replaying.{OfImage, ImageStops}
+use Rattle.command_runs.specs.declared.stop.Stop.{Stop}
 
 -- `info` stops at the image and prints nothing, or prints its counts and its forms.
 pub data InfoAnswers (before after : Outside) (image : List ℕ) : Result (Unit {0}) Stop → Type 0 where

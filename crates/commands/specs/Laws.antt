@@ -14,9 +14,9 @@ use Rattle.trace_text.specs.EventText.{read_text}
 use Rattle.osek_io.specs.Files.{Files}
 use Rattle.commands.specs.Fitting.{IsKernelImage, IsFitted}
 use Rattle.commands.specs.Due.{ImageDue, ImageRuns, IsDue}
-use Rattle.commands.specs.Running.{mode_named}
+use Rattle.command_runs.specs.Running.{mode_named}
 use Rattle.commands.specs.Words.{Command}
-use Rattle.commands.specs.declared.stop.Stop.{Stop}
+use Rattle.command_runs.specs.declared.stop.Stop.{Stop}
 
 -- Where the image's file holds what `build` stores, the mode is named, and the event text has no fault, `replay` is done.
 abbrev pub WhatIsBuiltReplays : Type 0

@@ -1,9 +1,9 @@
 -- A text that is printed line by line.
 use Rattle.std.specs.Prelude.{◌≡◌, ◌⊎◌, List, ℕ, Option, Result, Ok, Err}
-use Rattle.commands.specs.Outside.{Outside}
-use Rattle.commands.specs.Playing.{played, PlayAnswers}
-use Rattle.commands.specs.declared.stop.Stop.{Stop}
-use Rattle.commands.specs.declared.stop.Stop.TheVariants as stop
+use Rattle.command_runs.specs.Outside.{Outside}
+use Rattle.command_runs.specs.Playing.{played, PlayAnswers}
+use Rattle.command_runs.specs.declared.stop.Stop.{Stop}
+use Rattle.command_runs.specs.declared.stop.Stop.TheVariants as stop
 
 -- all of the text was printed, or a front of it where a write failed; or nothing, as memory ran out
 abbrev pub PrintsWhole : (faults faults_after : ℕ) → Option (List ℕ) → Option (List ℕ) → (text : List ℕ) → Result (Unit {0}) Stop → Type 0

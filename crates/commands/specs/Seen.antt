@@ -10,3 +10,4 @@ seen (command.Trace oil code mode events) = words.Trace oil.now code.now mode.no
 seen (command.Show oil code) = words.Show oil.now code.now
 seen (command.Info image) = words.Info image.now
 seen (command.Gen seed tasks) = words.Gen seed tasks
+seen (command.Upgrade image upgraded) = words.Upgrade image.now upgraded.now

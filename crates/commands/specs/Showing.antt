@@ -8,9 +8,10 @@ use Rattle.global_cfg.specs.Edges.{flow_edge, AreAscending}
 use Rattle.flow_text.specs.Texts.{show_text}
 use Rattle.commands.specs.Compiling.{OfApp, CompileStops}
 use Rattle.commands.specs.Fitting.{IsLeastTable}
-use Rattle.commands.specs.Outside.{Outside}
+use Rattle.command_runs.specs.Outside.{Outside}
 use Rattle.commands.specs.Printing.{PrintAnswers}
-use Rattle.commands.specs.declared.{showing.Dictated.{Dictated}, stop.Stop.{Stop}}
+use Rattle.command_runs.specs.declared.stop.Stop.{Stop}
+use Rattle.commands.specs.declared.showing.Dictated.{Dictated}
 
 -- these are the edges of the global control-flow graph, in order, none twice
 pub record AreEdges (app : App) (table : Table) (edges : List FlowEdge) : Type 0 where

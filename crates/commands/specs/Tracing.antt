@@ -4,9 +4,9 @@ use Rattle.osek_values.specs.declared.event.Event.{Event}
 use Rattle.osek_values.specs.declared.numbers.ModeNo.{ModeNo}
 use Rattle.osek_standard.specs.TraceText.{kernel_trace}
 use Rattle.commands.specs.Compiling.{OfApp, CompileStops}
-use Rattle.commands.specs.Outside.{Outside}
-use Rattle.commands.specs.Running.{RunAnswers}
-use Rattle.commands.specs.declared.stop.Stop.{Stop}
+use Rattle.command_runs.specs.Outside.{Outside}
+use Rattle.command_runs.specs.Running.{RunAnswers}
+use Rattle.command_runs.specs.declared.stop.Stop.{Stop}
 
 -- the kernel never traps
 abbrev pub never : ModeNo → List Event → Bool

@@ -3,11 +3,11 @@ ghost use Rattle.std.specs.Prelude.{ℕ, List, Option, IfOk};
 ghost use Rattle.osek_standard.specs.Versions.{FitsVersion1};
 ghost use Rattle.commands.specs.Building.{BuildAnswers, SpellsFitted};
 ghost use Rattle.commands.specs.Fitting.{IsFitted};
-ghost use Rattle.commands.specs.Outside.{beside, told};
+ghost use Rattle.command_runs.specs.Outside.{beside, told};
 
 use crate::compiling::compile;
 use crate::fitting::{fitted, least_table};
-use crate::stop::Stop;
+use command_runs::Stop;
 use image_codec::encode;
 use image_model::Image;
 use osek_io::{PutError, Shelf, store};

@@ -5,12 +5,11 @@ ghost use Rattle.osek_io.specs.Counts.{Same};
 ghost use Rattle.osek_io.specs.Reads.{OnlyReads};
 ghost use Rattle.osek_standard.specs.Versions.{FitsVersion1};
 ghost use Rattle.front_end.specs.Texts.{DeclaresSystem, GivesApp};
-ghost use Rattle.commands.specs.Inputs.{OfFile};
-ghost use Rattle.commands.specs.Outside.{told};
+ghost use Rattle.command_runs.specs.Inputs.{OfFile};
+ghost use Rattle.command_runs.specs.Outside.{told};
 ghost use Rattle.commands.specs.Compiling.{OfApp, SystemStops, CodeStops, CompileStops};
 
-use crate::inputs::load_input;
-use crate::stop::{Input, Stop};
+use command_runs::{Input, Stop, load_input};
 use front_end::{TextError, read_app, read_system};
 use oil_system::System;
 use osek_io::Shelf;

@@ -34,7 +34,7 @@ pub fn least_table(alloc: Global, app: &App) -> Result<Table, Memory>
     solved::<Brand>(alloc, app, Blank::new(1))
 }
 
-/// The image of an application in which each call site has the form that the least table dictates.
+/// The image of an application in which each call site has the form and the known status that the least table dictates.
 pub fn fitted(alloc: Global, app: App, table: &Table) -> Result<Image, Memory>
     requires version { FitsVersion1 app.tasks }
     requires table { IsLeastTable app table.now }

@@ -3,19 +3,18 @@ ghost use Rattle.std.specs.Prelude.{◌≡◌, ◌⊎◌, ◌≤◌, ◌<◌, le
 ghost use Rattle.osek_io.specs.Files.{Files};
 ghost use Rattle.osek_standard.specs.Versions.{FitsVersion1};
 ghost use Rattle.flow_text.specs.GeneratedLine.{text_size, gen_line};
-ghost use Rattle.commands.specs.declared.stop.Stop.TheVariants as a_stop;
+ghost use Rattle.command_runs.specs.declared.stop.Stop.TheVariants as a_stop;
 ghost use Rattle.commands.specs.Due.{OwnDue};
 ghost use Rattle.commands.specs.Fitting.{IsKernelImage};
 ghost use Rattle.commands.specs.GeneratedFiles.{text_files, generated_files, own_stop as the_own_stop};
 ghost use Rattle.commands.specs.Generating.{AreLeastCounts, IsDefaultTrace, OfOwn, GenAnswers};
-ghost use Rattle.commands.specs.Outside.{beside, Told};
+ghost use Rattle.command_runs.specs.Outside.{beside, Told};
 ghost use Rattle.commands.specs.Printing.{PrintAnswers};
 
 use crate::compiling::compile;
 use crate::fitting::{fitted, least_table};
 use crate::kept_text::KeptText;
-use crate::running::{line_room, run};
-use crate::stop::Stop;
+use command_runs::{Stop, line_room, run};
 use flow_text::{AnalysisCounts, TextSize, analysis_counts, write_gen_line};
 use image_model::Image;
 use osek_io::{MemShelf, PutError, Shelf, Sink, put_all};

@@ -3,15 +3,13 @@ ghost use Rattle.std.specs.Prelude.{◌≡◌, ◌≤◌, length, OnOk, OnErr};
 ghost use Rattle.osek_io.specs.Reads.{OnlyReads};
 ghost use Rattle.flow_text.specs.Texts.{info_text};
 ghost use Rattle.commands.specs.Informing.{InfoAnswers};
-ghost use Rattle.commands.specs.Outside.{outside};
+ghost use Rattle.command_runs.specs.Outside.{outside};
 ghost use Rattle.commands.specs.Printing.{PrintsWhole};
 ghost use Rattle.osek_io.specs.{Counts.{Rose}, Pieces.{grown}};
-ghost use Rattle.commands.specs.Telling.{WritesFront};
+ghost use Rattle.command_runs.specs.Telling.{WritesFront};
 
 use crate::printing::{print_info, print_sites};
-use crate::replaying::load_image;
-use crate::running::line_room;
-use crate::stop::Stop;
+use command_runs::{Stop, line_room, load_image};
 use image_model::Image;
 use osek_io::{PutError, Shelf, Sink};
 use osek_values::limits::LINE_MAX;
@@ -26,7 +24,7 @@ fn print_image<O: Sink>(out: &mut O, image: &Image, line: &mut [u8]) -> Result<(
     ensures never_falls { O.faults out.old ≤ O.faults out.new }
 {
     print_info(out, image, line)?;
-    print_sites(out, image, line)?;
+    print_sites(out, image, image.version, line)?;
     Ok(())
 }
 

@@ -5,12 +5,12 @@ ghost use Rattle.global_cfg.specs.declared.graph.FlowEdge.{FlowEdge as AnEdge};
 ghost use Rattle.flow_text.specs.{FlowLines.{edge_line, counts_line, info_line}, Texts.{site_text, sites_text, edges_text}};
 ghost use Rattle.image_model.specs.ImageStep.{site_at as site_of};
 ghost use Rattle.osek_io.specs.{Counts.{Rose}, Pieces.{grown}};
-ghost use Rattle.commands.specs.Telling.{WritesFront};
+ghost use Rattle.command_runs.specs.Telling.{WritesFront};
 
-use crate::playing::front;
+use command_runs::front;
 use flow_text::{write_counts_line, write_edge_line, write_info_line, write_site_line};
 use global_cfg::FlowEdge;
-use image_model::{Image, site_at};
+use image_model::{Image, Version, site_at};
 use osek_io::{PutError, Sink, put_all};
 use osek_standard::App;
 use osek_values::BlockNo;
@@ -20,13 +20,14 @@ use osek_values::limits::LINE_MAX;
 fn print_site<O: Sink>(
     out: &mut O,
     image: &Image,
+    version: Version,
     block: BlockNo,
     line: &mut [u8],
 ) -> Result<(), PutError>
     requires known { block.0 < length image.now.app.blocks }
     requires room { LINE_MAX ≤ length line.old }
-    ensures ok { OnOk result (O.written out.new ≡ grown (O.written out.old) (site_text image.now.app block.0 (site_of image.now block.0))) }
-    ensures front { OnErr result (WritesFront (O.written out.old) (O.written out.new) (site_text image.now.app block.0 (site_of image.now block.0))) }
+    ensures ok { OnOk result (O.written out.new ≡ grown (O.written out.old) (site_text image.now.app version block.0 (site_of image.now block.0))) }
+    ensures front { OnErr result (WritesFront (O.written out.old) (O.written out.new) (site_text image.now.app version block.0 (site_of image.now block.0))) }
     ensures cause { OnErr result (Rose (O.faults out.old) (O.faults out.new)) }
     ensures never_falls { O.faults out.old ≤ O.faults out.new }
     ensures room { length line.new ≡ length line.old }
@@ -34,23 +35,28 @@ fn print_site<O: Sink>(
     match site_at(image, block) {
         None => Ok(()),
         Some(site) => {
-            let size = write_site_line(&image.app, block, site.form, line);
+            let size = write_site_line(&image.app, version, block, site, line);
             put_all(out, front(line, size))?;
             Ok(())
         }
     }
 }
 
-/// Prints the lines of an image's sites.
-pub fn print_sites<O: Sink>(out: &mut O, image: &Image, line: &mut [u8]) -> Result<(), PutError>
+/// Prints the lines of an image's sites, as they are told of an image of this version.
+pub fn print_sites<O: Sink>(
+    out: &mut O,
+    image: &Image,
+    version: Version,
+    line: &mut [u8],
+) -> Result<(), PutError>
     requires room { LINE_MAX ≤ length line.old }
-    ensures ok { OnOk result (O.written out.new ≡ grown (O.written out.old) (sites_text image.now.app image.now.sites)) }
-    ensures front { OnErr result (WritesFront (O.written out.old) (O.written out.new) (sites_text image.now.app image.now.sites)) }
+    ensures ok { OnOk result (O.written out.new ≡ grown (O.written out.old) (sites_text image.now.app version image.now.sites)) }
+    ensures front { OnErr result (WritesFront (O.written out.old) (O.written out.new) (sites_text image.now.app version image.now.sites)) }
     ensures cause { OnErr result (Rose (O.faults out.old) (O.faults out.new)) }
     ensures never_falls { O.faults out.old ≤ O.faults out.new }
 {
     for block in 0..image.app.blocks.len() {
-        print_site(out, image, BlockNo(block as u16), line)?;
+        print_site(out, image, version, BlockNo(block as u16), line)?;
     }
     Ok(())
 }

@@ -6,20 +6,19 @@ ghost use Rattle.global_cfg.specs.declared.graph.FlowEdge.{FlowEdge as AnEdge};
 ghost use Rattle.osek_io.specs.Reads.{OnlyReads};
 ghost use Rattle.flow_text.specs.Texts.{show_text};
 ghost use Rattle.commands.specs.Fitting.{IsLeastTable};
-ghost use Rattle.commands.specs.Outside.{outside};
+ghost use Rattle.command_runs.specs.Outside.{outside};
 ghost use Rattle.osek_io.specs.{Counts.{Rose}, Pieces.{grown}};
-ghost use Rattle.commands.specs.Telling.{WritesFront};
+ghost use Rattle.command_runs.specs.Telling.{WritesFront};
 ghost use Rattle.commands.specs.Printing.{PrintsWhole};
 ghost use Rattle.commands.specs.Showing.{IsDictated, ShowAnswers};
 
 use crate::compiling::compile;
 use crate::fitting::{fitted, least_table};
 use crate::printing::{print_counts, print_edges, print_sites};
-use crate::running::line_room;
-use crate::stop::Stop;
 use abstract_state::Table;
+use command_runs::{Stop, line_room};
 use global_cfg::{FlowEdge, edges};
-use image_model::Image;
+use image_model::{Image, Version};
 use osek_io::{PutError, Shelf, Sink};
 use osek_standard::App;
 use osek_values::limits::LINE_MAX;
@@ -80,7 +79,7 @@ fn print_dictated<O: Sink>(
 {
     let app = &dictated.image.app;
     let edges = dictated.edges.as_slice();
-    print_sites(out, &dictated.image, line)?;
+    print_sites(out, &dictated.image, Version::One, line)?;
     print_edges(out, app, edges, line)?;
     print_counts(out, app, dictated.values, edges.len(), line)?;
     Ok(())

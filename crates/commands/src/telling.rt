@@ -4,12 +4,11 @@ ghost use Rattle.osek_io.specs.Counts.{Rose};
 ghost use Rattle.osek_io.specs.Pieces.{grown};
 ghost use Rattle.commands.specs.Answering.{Tells};
 ghost use Rattle.commands.specs.Seen.{seen};
-ghost use Rattle.commands.specs.Statuses.{stop_status, stop_text, names_of, mode_of, text_input as the_text_input};
-ghost use Rattle.commands.specs.Telling.{WritesFront, fault_text};
+ghost use Rattle.commands.specs.Statuses.{stop_status, stop_text, names_of, output_of, mode_of, text_input as the_text_input};
+ghost use Rattle.command_runs.specs.Telling.{WritesFront, fault_text};
 
-use crate::stop::{Input, Stop};
-use crate::tell::{put_two, tell_fault};
-use crate::words::{Command, input_name, mode_name};
+use crate::words::{Command, input_name, mode_name, output_name};
+use command_runs::{Input, Stop, put_two, tell_fault};
 use osek_io::{PutError, Sink};
 use osek_values::TextFile;
 
@@ -31,6 +30,7 @@ fn status(stop: &Stop) -> u8
         Stop::Memory => 7,
         Stop::Trapped => 8,
         Stop::NoMode => 9,
+        Stop::AlreadyNew => 10,
     }
 }
 
@@ -54,6 +54,16 @@ fn name_of<'a>(command: &Option<Command<'a>>, input: Input) -> &'a str
     }
 }
 
+/// The word that names the file that is written; empty where there is none.
+fn output_word<'a>(command: &Option<Command<'a>>) -> &'a str
+    ensures { result.now ≡ output_of (option_map seen command.now) }
+{
+    match command {
+        Some(command) => output_name(command),
+        None => "",
+    }
+}
+
 /// The word that names the mode; empty where there is none.
 fn mode_word<'a>(command: &Option<Command<'a>>) -> &'a str
     ensures { result.now ≡ mode_of (option_map seen command.now) }
@@ -62,6 +72,17 @@ fn mode_word<'a>(command: &Option<Command<'a>>) -> &'a str
         Some(command) => mode_name(command),
         None => "",
     }
+}
+
+/// Tells that the file that is written can't be.
+fn tell_output<E: Sink>(err: &mut E, command: &Option<Command<'_>>) -> Result<(), PutError>
+    ensures ok { OnOk result (E.written err.new ≡ grown (E.written err.old) (output_of (option_map seen command.now) ++ codes ": write\n")) }
+    ensures front { OnErr result (WritesFront (E.written err.old) (E.written err.new) (output_of (option_map seen command.now) ++ codes ": write\n")) }
+    ensures cause { OnErr result (Rose (E.faults err.old) (E.faults err.new)) }
+{
+    let output = output_word(command);
+    put_two(err, output.as_bytes(), b": write\n")?;
+    Ok(())
 }
 
 /// Tells that there is no mode of the name.
@@ -110,8 +131,8 @@ fn tell_stop<E: Sink>(
     command: &Option<Command<'_>>,
     stop: &Stop,
 ) -> Result<(), PutError>
-    ensures ok { OnOk result (E.written err.new ≡ grown (E.written err.old) (stop_text (names_of (option_map seen command.now)) (mode_of (option_map seen command.now)) stop.now)) }
-    ensures front { OnErr result (WritesFront (E.written err.old) (E.written err.new) (stop_text (names_of (option_map seen command.now)) (mode_of (option_map seen command.now)) stop.now)) }
+    ensures ok { OnOk result (E.written err.new ≡ grown (E.written err.old) (stop_text (names_of (option_map seen command.now)) (output_of (option_map seen command.now)) (mode_of (option_map seen command.now)) stop.now)) }
+    ensures front { OnErr result (WritesFront (E.written err.old) (E.written err.new) (stop_text (names_of (option_map seen command.now)) (output_of (option_map seen command.now)) (mode_of (option_map seen command.now)) stop.now)) }
     ensures cause { OnErr result (Rose (E.faults err.old) (E.faults err.new)) }
 {
     match stop {
@@ -140,17 +161,18 @@ fn tell_stop<E: Sink>(
             fault.rule.name(),
         ),
         Stop::Unread(input) => tell_of(err, command, *input, b": read\n"),
-        Stop::Unstored => tell_of(err, command, Input::Image, b": write\n"),
+        Stop::Unstored => tell_output(err, command),
         Stop::Unprinted => put_two(err, b"out", b": write\n"),
         Stop::Memory => put_two(err, b"memory", b"\n"),
         Stop::Trapped => Ok(()),
         Stop::NoMode => tell_mode(err, command),
+        Stop::AlreadyNew => tell_of(err, command, Input::Image, b": version 2\n"),
     }
 }
 
 /// Tells why a command stopped.
 pub fn refuse<E: Sink>(err: &mut E, command: &Option<Command<'_>>, stop: &Stop) -> u8
-    ensures { Tells (E.faults err.old) (E.faults err.new) (E.written err.old) (E.written err.new) (stop_text (names_of (option_map seen command.now)) (mode_of (option_map seen command.now)) stop.now) (stop_status stop.now) result }
+    ensures { Tells (E.faults err.old) (E.faults err.new) (E.written err.old) (E.written err.new) (stop_text (names_of (option_map seen command.now)) (output_of (option_map seen command.now)) (mode_of (option_map seen command.now)) stop.now) (stop_status stop.now) result }
 {
     match tell_stop(err, command, stop) {
         Ok(()) => status(stop),

@@ -3,23 +3,22 @@ ghost use Rattle.std.specs.Prelude.{◌≡◌, ◌⊎◌, map, option_map, Resul
 ghost use Rattle.std.specs.String.{string_bytes};
 ghost use Rattle.osek_io.specs.Counts.{Rose};
 ghost use Rattle.osek_io.specs.Files.{Files};
-ghost use Rattle.commands.specs.declared.stop.Stop.{Stop};
+ghost use Rattle.command_runs.specs.declared.stop.Stop.{Stop};
 ghost use Rattle.commands.specs.Due.{IsCalm, IsDue};
 ghost use Rattle.commands.specs.Statuses.{status_of};
 ghost use Rattle.commands.specs.Answering.{CommandAnswers, Does, Tells};
-ghost use Rattle.commands.specs.Outside.{outside};
+ghost use Rattle.command_runs.specs.Outside.{outside};
 ghost use Rattle.commands.specs.Seen.{seen};
 ghost use Rattle.commands.specs.Words.{command_of};
 
 use crate::building::build;
 use crate::generating::generate_and_run;
 use crate::informing::info;
-use crate::replaying::replay;
 use crate::showing::show;
-use crate::stop::Stop;
 use crate::telling::refuse;
 use crate::tracing::trace;
 use crate::words::{Command, command_from};
+use command_runs::{Stop, replay, upgrade};
 use osek_io::{Shelf, Sink};
 use std::alloc::Global;
 
@@ -48,6 +47,7 @@ fn carry_out<F: Shelf, O: Sink>(
         Command::Show { oil, code } => show(alloc, shelf, out, oil, code),
         Command::Info { image } => info(alloc, shelf, out, image),
         Command::Gen { seed, tasks } => generate_and_run(alloc, out, *seed, *tasks),
+        Command::Upgrade { image, upgraded } => upgrade(alloc, shelf, image, upgraded),
     }
 }
 
@@ -95,8 +95,9 @@ fn run_command<F: Shelf, O: Sink, E: Sink>(
 /// `replay IMAGE MODE EVENTS` prints on `out` the trace of an image, from a start in a mode, under an event text;
 /// `trace OIL CODE MODE EVENTS` prints the kernel's trace of the application of the two texts;
 /// `show OIL CODE` prints the form of each of its call sites, its control-flow graph and its counts;
-/// `info IMAGE` prints the forms of an image;
-/// `gen SEED TASKS` makes a system from a number, runs it in memory, and prints what its analysis counts and how long its trace is.
+/// `info IMAGE` prints the forms of an image, and of version 2 what it knows of statuses;
+/// `gen SEED TASKS` makes a system from a number, runs it in memory, and prints what its analysis counts and how long its trace is;
+/// `upgrade IN OUT` stores the image of version 2 that becomes of an image of version 1.
 /// It tells on `err` why the status isn't 0.
 pub fn osekfit<F: Shelf, O: Sink, E: Sink>(
     alloc: Global,

@@ -1,11 +1,10 @@
 //! The command `trace`: the kernel's trace of an application under an event text.
 ghost use Rattle.osek_io.specs.Reads.{OnlyReads};
-ghost use Rattle.commands.specs.Outside.{outside};
+ghost use Rattle.command_runs.specs.Outside.{outside};
 ghost use Rattle.commands.specs.Tracing.{TraceAnswers};
 
 use crate::compiling::compile;
-use crate::running::run;
-use crate::stop::Stop;
+use command_runs::{Stop, run};
 use image_model::general;
 use osek_io::{Shelf, Sink};
 use std::alloc::Global;

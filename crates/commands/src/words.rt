@@ -2,12 +2,11 @@
 ghost use Rattle.std.specs.Prelude.{◌≡◌, ◌∷◌, [], ℕ, List, IfOk, map, option_map};
 ghost use Rattle.std.specs.Borrow.{Bor};
 ghost use Rattle.std.specs.String.{string_bytes};
-ghost use Rattle.commands.specs.Words.{command_of, gen_of as the_gen_of, command_of_words as the_command_of_words, input_name, mode_name};
+ghost use Rattle.commands.specs.Words.{command_of, gen_of as the_gen_of, command_of_words as the_command_of_words, input_name, output_name, mode_name};
 ghost use Rattle.commands.specs.Seen.{seen};
 
-use crate::numerals::{seed_of, tasks_of};
-use crate::stop::Input;
-use command_words::{has_form, parse_words};
+use command_runs::Input;
+use command_words::{has_form, parse_words, seed_of, tasks_of};
 use osek_values::Memory;
 use std::alloc::Global;
 
@@ -47,6 +46,11 @@ pub enum Command<'a> {
         seed: u64,
         tasks: u32,
     },
+    /// `upgrade IN OUT`
+    Upgrade {
+        image: &'a str,
+        upgraded: &'a str,
+    },
 }
 
 /// The word that names an input; empty where the command has none of the kind.
@@ -54,10 +58,14 @@ pub fn input_name<'a>(command: &Command<'a>, input: Input) -> &'a str
     ensures { result.now ≡ input_name (seen command.now) input }
 {
     match command {
-        Command::Build { oil, code, image } => match input {
+        Command::Build {
+            oil,
+            code,
+            image: _,
+        } => match input {
             Input::Oil => oil,
             Input::Code => code,
-            Input::Image => image,
+            Input::Image => "",
             Input::Events => "",
         },
         Command::Replay {
@@ -94,6 +102,40 @@ pub fn input_name<'a>(command: &Command<'a>, input: Input) -> &'a str
             Input::Events => "",
         },
         Command::Gen { seed: _, tasks: _ } => "",
+        Command::Upgrade { image, upgraded: _ } => match input {
+            Input::Oil => "",
+            Input::Code => "",
+            Input::Image => image,
+            Input::Events => "",
+        },
+    }
+}
+
+/// The word that names the file that is written; empty where the command writes none.
+pub fn output_name<'a>(command: &Command<'a>) -> &'a str
+    ensures { result.now ≡ output_name (seen command.now) }
+{
+    match command {
+        Command::Build {
+            oil: _,
+            code: _,
+            image,
+        } => image,
+        Command::Replay {
+            image: _,
+            mode: _,
+            events: _,
+        } => "",
+        Command::Trace {
+            oil: _,
+            code: _,
+            mode: _,
+            events: _,
+        } => "",
+        Command::Show { oil: _, code: _ } => "",
+        Command::Info { image: _ } => "",
+        Command::Gen { seed: _, tasks: _ } => "",
+        Command::Upgrade { image: _, upgraded } => upgraded,
     }
 }
 
@@ -121,6 +163,10 @@ pub fn mode_name<'a>(command: &Command<'a>) -> &'a str
         Command::Show { oil: _, code: _ } => "",
         Command::Info { image: _ } => "",
         Command::Gen { seed: _, tasks: _ } => "",
+        Command::Upgrade {
+            image: _,
+            upgraded: _,
+        } => "",
     }
 }
 
@@ -138,6 +184,11 @@ fn command_of_two<'a>(verb: &str, a: &'a str, b: &'a str) -> Option<Command<'a>>
 {
     if verb == "show" {
         Some(Command::Show { oil: a, code: b })
+    } else if verb == "upgrade" {
+        Some(Command::Upgrade {
+            image: a,
+            upgraded: b,
+        })
     } else {
         gen_of(seed_of(a), tasks_of(b))
     }

@@ -9,10 +9,10 @@ use call_tailor::tailor;
 use flow_text::{write_counts_line, write_edge_line, write_info_line, write_site_line};
 use front_end::{TextError, read_app, read_system};
 use global_cfg::FlowEdge;
-use image_model::{Form, Image, general, is_within};
+use image_model::{Form, Image, Known, Site, Version, general, is_within, site_at};
 use osek_standard::App;
 use osek_values::limits::LINE_MAX;
-use osek_values::{BlockNo, Memory, Steps, TaskNo};
+use osek_values::{BlockNo, Memory, Status, Steps, TaskNo};
 use state_flow::solve;
 use std::alloc::Global;
 use std::marker::Brand;
@@ -27,28 +27,66 @@ const CODE: &[u8] = b"\
 TASK(T1) { ActivateTask(T2); TerminateTask(); }\n\
 TASK(T2) { TerminateTask(); }\n";
 
-fn is_site_line(app: &App, block: u16, form: Form, want: &[u8]) -> bool
+fn is_site_line(app: &App, version: Version, block: u16, site: Site, want: &[u8]) -> bool
+    requires block { block < length app.now.blocks }
+    requires form { IsForm (length app.now.tasks) site.form }
+{
+    let mut buf = [0; LINE_MAX];
+    let length = write_site_line(app, version, BlockNo(block), site, &mut buf);
+    &buf[..length] == want
+}
+
+// the line of a site of version 1
+fn is_form_line(app: &App, block: u16, form: Form, want: &[u8]) -> bool
     requires block { block < length app.now.blocks }
     requires form { IsForm (length app.now.tasks) form }
 {
-    let mut buf = [0; LINE_MAX];
-    let length = write_site_line(app, BlockNo(block), form, &mut buf);
-    &buf[..length] == want
+    let known = Known::Any;
+    is_site_line(app, Version::One, block, Site { form, known }, want)
+}
+
+fn are_form_lines(app: &App) -> bool
+    requires blocks { length app.now.blocks ≡ 5 }
+    requires tasks { length app.now.tasks ≡ 2 }
+{
+    is_form_line(
+        app,
+        0,
+        Form::Direct(Some(TaskNo(1))),
+        b"site b0 line 1 direct T2\n",
+    ) && is_form_line(app, 1, Form::Direct(None), b"site b1 line 1 direct -\n")
+        && is_form_line(app, 2, Form::Never, b"site b2 line 1 never\n")
+        && is_form_line(app, 3, Form::Stay, b"site b3 line 2 stay\n")
+        && is_form_line(app, 4, Form::General, b"site b4 line 2 general\n")
+}
+
+// the line of a site of version 2 and of the form Stay
+fn is_known_line(app: &App, block: u16, known: Known, want: &[u8]) -> bool
+    requires { block < length app.now.blocks }
+{
+    let form = Form::Stay;
+    is_site_line(app, Version::Two, block, Site { form, known }, want)
+}
+
+fn are_known_lines(app: &App) -> bool
+    requires blocks { length app.now.blocks ≡ 5 }
+{
+    let ok = Known::Always(Some(Status::Ok));
+    is_known_line(app, 0, ok, b"site b0 line 1 stay known E_OK\n")
+        && is_known_line(
+            app,
+            1,
+            Known::Always(None),
+            b"site b1 line 1 stay known none\n",
+        )
+        && is_known_line(app, 3, Known::Any, b"site b3 line 2 stay known any\n")
 }
 
 fn are_site_lines(app: &App) -> bool
     requires blocks { length app.now.blocks ≡ 5 }
     requires tasks { length app.now.tasks ≡ 2 }
 {
-    is_site_line(
-        app,
-        0,
-        Form::Direct(Some(TaskNo(1))),
-        b"site b0 line 1 direct T2\n",
-    ) && is_site_line(app, 1, Form::Direct(None), b"site b1 line 1 direct -\n")
-        && is_site_line(app, 2, Form::Never, b"site b2 line 1 never\n")
-        && is_site_line(app, 3, Form::Stay, b"site b3 line 2 stay\n")
-        && is_site_line(app, 4, Form::General, b"site b4 line 2 general\n")
+    are_form_lines(app) && are_known_lines(app)
 }
 
 /// The point at a block of a task, if the task has the block.
@@ -117,6 +155,28 @@ fn is_told_of_general(alloc: Global, app: App, want: &[u8]) -> Result<bool, Memo
     Ok(told)
 }
 
+// whether a site of a tailored image is this one
+fn is_site(image: &Image, block: u16, form: Form, known: Known) -> bool
+    requires { block < length image.now.app.blocks }
+{
+    site_at(image, BlockNo(block)) == Some(Site { form, known })
+}
+
+// what the least table dictates of the two tasks: T2 is activated always, and ends always
+fn are_sites(image: &Image) -> bool {
+    image.app.blocks.len() == 5
+        && is_site(
+            image,
+            0,
+            Form::Direct(Some(TaskNo(1))),
+            Known::Always(Some(Status::Ok)),
+        )
+        && is_site(image, 1, Form::Direct(None), Known::Always(None))
+        && is_site(image, 2, Form::Never, Known::Any)
+        && is_site(image, 3, Form::Direct(Some(TaskNo(0))), Known::Always(None))
+        && is_site(image, 4, Form::Never, Known::Any)
+}
+
 fn is_told_by<L: Ledger>(alloc: Global, app: App, want: &[u8], blank: Blank) -> Result<bool, Memory>
     requires name { blank.name ≡ L.name }
     requires parts { blank.parts ≡ L.parts }
@@ -126,7 +186,7 @@ fn is_told_by<L: Ledger>(alloc: Global, app: App, want: &[u8], blank: Blank) -> 
     let mut steps = Steps::<L>::of(blank);
     let table = solve(alloc, &app, &mut steps)?;
     let image = tailor(alloc, app, &table)?;
-    let told = is_info_line(&image, want);
+    let told = is_info_line(&image, want) && are_sites(&image);
     drop(image);
     drop(table);
     Ok(told)
@@ -153,13 +213,13 @@ fn prints_lines(rt: HostRuntime) {
 
 fn general_is_told(alloc: Global) -> Result<bool, TextError> {
     let app = read(alloc)?;
-    let want = b"version 1 blocks 5 sites 5 never 0 stay 0 direct 0 general 5\n";
+    let want = b"version 2 blocks 5 sites 5 never 0 stay 0 direct 0 general 5\n";
     Ok(is_told_of_general(alloc, app, want)?)
 }
 
 fn tailored_is_told(alloc: Global) -> Result<bool, TextError> {
     let app = read(alloc)?;
-    let want = b"version 1 blocks 5 sites 5 never 2 stay 0 direct 3 general 0\n";
+    let want = b"version 2 blocks 5 sites 5 never 2 stay 0 direct 3 general 0\n";
     Ok(is_told_by::<Brand>(alloc, app, want, Blank::new(1))?)
 }
 

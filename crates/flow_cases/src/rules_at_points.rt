@@ -8,7 +8,7 @@ use abstract_state::{Domain, Entry, TableRow};
 use flow_model::{Decision, Rule};
 use flow_rules::{apply, rules};
 use front_end::{TextError, read_app, read_system};
-use generic_kernel::{start, step};
+use generic_kernel::{Ready, start, step};
 use numbered_sets::{Pool, numbered};
 use osek_standard::{App, State};
 use osek_values::{Event, Memory, ModeNo, Steps, TaskNo};
@@ -35,8 +35,9 @@ fn run_twice<L: Ledger>(app: &App, state: &mut State, blank: Blank)
     ensures { Well app.now state.new }
 {
     let mut scans = Steps::<L>::of(blank);
-    step(app, state, Event::Run(false), &mut scans);
-    step(app, state, Event::Run(false), &mut scans);
+    let mut ready = Ready::of(app, state);
+    step(app, state, &mut ready, Event::Run(false), &mut scans);
+    step(app, state, &mut ready, Event::Run(false), &mut scans);
 }
 
 /// The row of the state after two runs.

@@ -5,8 +5,9 @@ ghost use Rattle.osek_standard.specs.declared.point.Point.TheVariants as point;
 ghost use Rattle.osek_standard.specs.Validity.{IsValid};
 ghost use Rattle.image_model.specs.declared.image.Image.{Image};
 ghost use Rattle.image_model.specs.declared.site.Form.TheVariants as form;
-ghost use Rattle.flow_text.specs.FlowLines.{form_text, info_line, point_text};
-ghost use Rattle.flow_text.specs.Texts.{show_text};
+ghost use Rattle.image_model.specs.declared.image.Version.TheVariants as version;
+ghost use Rattle.flow_text.specs.FlowLines.{form_text, point_text};
+ghost use Rattle.flow_text.specs.Texts.{info_text, show_text};
 ghost use Rattle.worked_cases.specs.WorkedApps.{activation, app_of, lines};
 ghost use Rattle.flow_cases.specs.Shown.{activation_sites, activation_edges, site};
 
@@ -22,10 +23,18 @@ pub fn activation_preempts()
         ∷ codes "edge b1 idle"
         ∷ codes "edge b3 b1"
         ∷ codes "points 7 height 17 values 8 edges 3" ∷ []) }
-    ensures told { (m : IsValid activation) (i : Image) → i.app ≡ app_of activation m → i.sites ≡ activation_sites →
-        info_line i ≡ lines (codes "version 1 blocks 5 sites 5 never 2 stay 0 direct 3 general 0" ∷ []) }
-    ensures general { (m : IsValid activation) (i : Image) → i.app ≡ app_of activation m → i.sites ≡ site form.General ∷ None ∷ site form.Stay ∷ site form.General ∷ [] →
-        info_line i ≡ lines (codes "version 1 blocks 5 sites 3 never 0 stay 1 direct 0 general 2" ∷ []) }
+    ensures told { (m : IsValid activation) (i : Image) → i.version ≡ version.Two → i.app ≡ app_of activation m → i.sites ≡ activation_sites → info_text i ≡ lines (
+        codes "version 2 blocks 5 sites 5 never 2 stay 0 direct 3 general 0"
+        ∷ codes "site b0 line 1 direct T2 known E_OK"
+        ∷ codes "site b1 line 1 direct - known none"
+        ∷ codes "site b2 line 1 never known any"
+        ∷ codes "site b3 line 2 direct T1 known none"
+        ∷ codes "site b4 line 2 never known any" ∷ []) }
+    ensures version_1 { (m : IsValid activation) (i : Image) → i.version ≡ version.One → i.app ≡ app_of activation m → i.sites ≡ site form.General ∷ None ∷ site form.Stay ∷ site form.General ∷ [] → info_text i ≡ lines (
+        codes "version 1 blocks 5 sites 3 never 0 stay 1 direct 0 general 2"
+        ∷ codes "site b0 line 1 general"
+        ∷ codes "site b2 line 1 stay"
+        ∷ codes "site b3 line 2 general" ∷ []) }
 {}
 
 /// The other points and forms, as they would be shown of it.

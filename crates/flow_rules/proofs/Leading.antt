@@ -15,6 +15,43 @@ use Rattle.flow_model.specs.declared.rule.Rule.{Rule}
 use Rattle.flow_model.specs.Tests.{PassesAt, PassesAll, value_after}
 use Rattle.flow_model.specs.Effects.{AreIn, IsAt}
 use Rattle.flow_model.specs.Rules.{Matches, Exact, Shown, Applies, HasNone, IsMadeBy}
+use Rattle.flow_rules.specs.Passing.{AreTaken}
+
+-- a state of the entry whose step is the rule's
+pub record HasStep (app : App) (p : Point) (entry : Entry) (rule : Rule) : Type 0 where
+  pub from : State
+  pub event : Event
+  pub at : IsAt app p entry from
+  pub matches : Matches app rule from event
+
+-- a rule that takes a value of each set
+module _ (app : App) (p : Point) (entry : Entry) (rule : Rule) (size : length entry.sets ≡ component_count app) (taken : AreTaken rule entry) where
+  -- a value of a set that passes
+  record Pick (k : ℕ) : Type 0 where
+    pick : PartValue
+    there : k < component_count app → IsTrue (is_member (set_at entry k) pick)
+    passes : k < component_count app → PassesAt rule.conditions k pick
+
+  some_picked : (k : ℕ) → Pick k
+  some_picked k = elim (cases_lt k (component_count app)) [
+    | inl below ↦ (let t = taken k (subst (λ (n : ℕ). k < n) (sym size) below) in record { pick = t.was; there = λ lt. t.there; passes = λ lt. t.passes })
+    | inr above ↦ record { pick = OfAlarm false; there = λ lt. absurd (omega (arith, lt, above)); passes = λ lt. absurd (omega (arith, lt, above)) }
+  ]
+
+  module _ (rules : List Rule) (listed : Contains rules rule) (exact : Exact app p entry rules) where
+    -- picked values are a state's, whose step is the rule's
+    picked_shown : (picks : (k : ℕ) → Pick k) → Shown app p rule (λ k. (picks k).pick)
+    picked_shown picks = exact rule (λ k. (picks k).pick) listed (λ k lt. (picks k).there lt) (λ k lt. (picks k).passes lt)
+
+    picked_at : (picks : (k : ℕ) → Pick k) → IsAt app p entry (picked_shown picks).from
+    picked_at picks = record {
+      well = (picked_shown picks).has.well;
+      point = (picked_shown picks).has.point;
+      within = λ k lt. subst (λ (w : PartValue). IsTrue (is_member (set_at entry k) w)) (sym ((picked_shown picks).has.parts k lt)) ((picks k).there lt);
+    }
+
+    pub taken_shown : HasStep app p entry rule
+    taken_shown = record { from = (picked_shown some_picked).from; event = (picked_shown some_picked).event; at = picked_at some_picked; matches = (picked_shown some_picked).matches }
 
 module _ (app : App) (p : Point) (entry new : Entry) (rule : Rule) (size : length entry.sets ≡ component_count app) (made : Applies rule entry new) where
   in_sets : (k : ℕ) → k < component_count app → k < length entry.sets
@@ -24,21 +61,12 @@ module _ (app : App) (p : Point) (entry new : Entry) (rule : Rule) (size : lengt
   pub steps_in : (s : State) (e : Event) → IsAt app p entry s → Matches app rule s e → AreIn app new (abstract_of app (step app s e).state)
   steps_in s e at m c lt = subst (λ (v : PartValue). IsTrue (is_member (set_at new c) v)) (sym (m.parts c lt)) (made.to c (abstract_of app s c) (in_sets c lt) (at.within c lt) (m.passes c lt))
 
-  -- a value of a set that passes
-  record Pick (k : ℕ) : Type 0 where
-    pick : PartValue
-    there : k < component_count app → IsTrue (is_member (set_at entry k) pick)
-    passes : k < component_count app → PassesAt rule.conditions k pick
-
-  some_picked : (k : ℕ) → Pick k
-  some_picked k = elim (cases_lt k (component_count app)) [
-    | inl below ↦ (let t = made.filled k (in_sets k below) in record { pick = t.was; there = λ lt. t.there; passes = λ lt. t.passes })
-    | inr above ↦ record { pick = OfAlarm false; there = λ lt. absurd (omega (arith, lt, above)); passes = λ lt. absurd (omega (arith, lt, above)) }
-  ]
+  abbrev PickAt : ℕ → Type 0
+  PickAt k = Pick app p entry rule size made.filled k
 
   -- a value of each set that passes, with a chosen one at component c
   record PickWith (c : ℕ) (was : PartValue) (k : ℕ) : Type 0 where
-    pick : Pick k
+    pick : PickAt k
     chosen : k ≡ c → pick.pick ≡ was
 
   picked : (c : ℕ) (was : PartValue) → IsTrue (is_member (set_at entry c) was) → PassesAt rule.conditions c was → (k : ℕ) → PickWith c was k
@@ -51,42 +79,23 @@ module _ (app : App) (p : Point) (entry new : Entry) (rule : Rule) (size : lengt
       };
       chosen = λ e. refl;
     }
-    | inr other ↦ record { pick = some_picked k; chosen = λ e. absurd (other e) }
+    | inr other ↦ record { pick = some_picked app p entry rule size made.filled k; chosen = λ e. absurd (other e) }
   ]
 
-  -- picked values are a state's, whose step is the rule's
   module _ (rules : List Rule) (listed : Contains rules rule) (exact : Exact app p entry rules) where
-    module _ (picks : (k : ℕ) → Pick k) where
-      shown : Shown app p rule (λ k. (picks k).pick)
-      shown = exact rule (λ k. (picks k).pick) listed (λ k lt. (picks k).there lt) (λ k lt. (picks k).passes lt)
-
-      shown_at : IsAt app p entry shown.from
-      shown_at = record {
-        well = shown.has.well;
-        point = shown.has.point;
-        within = λ k lt. subst (λ (w : PartValue). IsTrue (is_member (set_at entry k) w)) (sym (shown.has.parts k lt)) ((picks k).there lt);
-      }
-
-    -- a state of the entry whose step is the rule's
-    pub record HasStep : Type 0 where
-      pub from : State
-      pub event : Event
-      pub at : IsAt app p entry from
-      pub matches : Matches app rule from event
-
-    pub rule_shown : HasStep
-    rule_shown = record { from = (shown some_picked).from; event = (shown some_picked).event; at = shown_at some_picked; matches = (shown some_picked).matches }
+    pub rule_shown : HasStep app p entry rule
+    rule_shown = taken_shown app p entry rule size made.filled rules listed exact
 
     -- each value of a new set is made by a state of the entry
     pub value_shown : (c : ℕ) (v : PartValue) → c < component_count app → IsTrue (is_member (set_at new c) v) → IsMadeBy app p entry rule c v
     value_shown c v lt m =
         let o = made.from c v (in_sets c lt) m in
-        let picks : (k : ℕ) → Pick k = λ k. (picked c o.taken.was o.taken.there o.taken.passes k).pick in
-        let x = shown picks in
+        let picks : (k : ℕ) → PickAt k = λ k. (picked c o.taken.was o.taken.there o.taken.passes k).pick in
+        let x = picked_shown app p entry rule size made.filled rules listed exact picks in
         record {
           from = x.from;
           event = x.event;
-          at = shown_at picks;
+          at = picked_at app p entry rule size made.filled rules listed exact picks;
           target = x.matches.target;
           value = x.matches.parts c lt ∙ ap (value_after rule.changes c) (x.has.parts c lt ∙ (picked c o.taken.was o.taken.there o.taken.passes c).chosen refl) ∙ o.becomes;
         }

@@ -1,4 +1,5 @@
 pub mod Passing
+pub mod TakenValues
 pub mod Arriving
 pub mod Assembling
 pub mod PointRules

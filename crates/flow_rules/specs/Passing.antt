@@ -1,12 +1,14 @@
 -- What a rule makes of the values of one component.
-use Rattle.std.specs.Prelude.{◌≡◌, ℕ, List, IsTrue}
+use Rattle.std.specs.Prelude.{◌≡◌, ◌<◌, ◌==◌, ◌||◌, ℕ, Bool, not, List, length, nat_le, IsTrue}
 use Rattle.std.specs.List.{list_any}
 use Rattle.abstract_state.specs.declared.value.{PartValue.{PartValue}, Domain.{Domain}}
-use Rattle.abstract_state.specs.declared.table.ValueSet.{ValueSet}
+use Rattle.abstract_state.specs.declared.table.{ValueSet.{ValueSet}, Entry.{Entry}}
 use Rattle.abstract_state.specs.ValueOrder.{same_part, IsAscending}
-use Rattle.abstract_state.specs.Tables.{is_member}
+use Rattle.abstract_state.specs.Tables.{set_at, is_member}
+use Rattle.flow_model.specs.declared.test.Condition.{Condition}
 use Rattle.flow_model.specs.declared.rule.Rule.{Rule}
-use Rattle.flow_model.specs.Tests.{PassesAt, value_after}
+use Rattle.flow_model.specs.Tests.{is_failed, PassesAt, value_after}
+use Rattle.flow_model.specs.Rules.{Taken}
 
 -- a value of a list that the rule takes, and what it makes of it
 pub record Origin (rule : Rule) (c : ℕ) (old : List PartValue) (v : PartValue) : Type 0 where
@@ -21,3 +23,18 @@ pub record ArePassed (rule : Rule) (c : ℕ) (d : Domain) (old : List PartValue)
   pub ascending : IsAscending new.members
   pub from : (v : PartValue) → IsTrue (is_member new v) → Origin rule c old v
   pub to : (v : PartValue) → IsTrue (list_any (same_part v) old) → PassesAt rule.conditions c v → IsTrue (is_member new (value_after rule.changes c v))
+
+-- each set has a value that the rule takes
+abbrev pub AreTaken : Rule → Entry → Type 0
+AreTaken rule entry = (c : ℕ) → c < length entry.sets → Taken rule entry c
+
+-- the rule takes the value of component c
+abbrev pub is_taken : Rule → ℕ → PartValue → Bool
+is_taken rule c v = not (list_any (is_failed c v) rule.conditions)
+
+abbrev pub is_filled : ValueSet → Bool
+is_filled set = not (length set.members == 0)
+
+-- the rule takes some value of the component that the condition names, if the entry has it
+abbrev pub can_pass : Rule → Entry → Condition → Bool
+can_pass rule entry x = nat_le (length entry.sets) x.component.0 || list_any (is_taken rule x.component.0) (set_at entry x.component.0).members

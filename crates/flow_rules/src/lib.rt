@@ -4,7 +4,9 @@
 mod applying;
 mod arrivals;
 pub mod laws;
+mod possible;
 mod ruling;
 
 pub use applying::apply;
+pub use possible::is_possible;
 pub use ruling::rules;

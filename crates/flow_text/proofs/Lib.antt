@@ -1,3 +1,4 @@
+pub mod KnownTexts
 pub mod LinesApart
 pub mod Parting
 pub mod TextsApart

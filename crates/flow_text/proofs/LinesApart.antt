@@ -6,13 +6,14 @@ use Rattle.std.proofs.lemmas.List.{append_cancel_left, append_cancel_right}
 use Rattle.osek_standard.specs.declared.{app.App.{App}, point.Point.{Point}}
 use Rattle.osek_standard.specs.Apps.{the_block}
 use Rattle.osek_standard.specs.Points.{IsPoint}
-use Rattle.image_model.specs.declared.site.Form.{Form}
+use Rattle.image_model.specs.declared.site.{Form.{Form}, Site.{Site}}
 use Rattle.image_model.specs.Sites.{IsForm}
 use Rattle.global_cfg.specs.Edges.{flow_edge}
 use Rattle.global_cfg.specs.declared.graph.FlowEdge.{FlowEdge}
-use Rattle.flow_text.specs.FlowLines.{block_text, edge_line, form_text, point_text, site_line}
+use Rattle.flow_text.specs.FlowLines.{block_text, edge_line, form_text, known_line, known_text, point_text, site_line}
+use Rattle.flow_text.proofs.KnownTexts.{known_once}
 use Rattle.flow_text.proofs.Parting.{parted}
-use Rattle.flow_text.proofs.TextsApart.{block_lacks, block_once, few, form_once, point_lacks, point_once}
+use Rattle.flow_text.proofs.TextsApart.{block_lacks, block_once, few, form_first, form_once, point_lacks, point_once}
 
 abbrev lf : List ℕ
 lf = 10 ∷ []
@@ -55,3 +56,35 @@ site_once app b c x y known known_too form form_too same =
     let forms : front c ++ form_text app x ≡ front c ++ form_text app y =
     ap (λ (k : ℕ). front k ++ form_text app x) (sym block) ∙ append_cancel_right (front b ++ form_text app x) (front c ++ form_text app y) lf parts.1 in
     (block, form_once app x y form form_too (append_cancel_left (front c) (form_text app x) (form_text app y) forms))
+
+-- what stands behind the block, where what is known of the status is told
+abbrev behind_known : App → ℕ → Site → List ℕ
+behind_known app b x = codes "line " ++ decimal (the_block app b).line ++ codes " " ++ (form_text app x.form ++ 32 ∷ (codes "known " ++ known_text x.known ++ lf))
+
+known_tail : (x d k : List ℕ) → x ++ d ++ codes " known " ++ k ++ lf ≡ x ++ (d ++ 32 ∷ (codes "known " ++ k ++ lf))
+known_tail x d k = simp append_assoc
+
+known_front : (w a b r : List ℕ) → w ++ a ++ codes " line " ++ b ++ codes " " ++ r ≡ w ++ (a ++ 32 ∷ (codes "line " ++ b ++ codes " " ++ r))
+known_front w a b r = simp append_assoc
+
+known_regrouped : (w a b d k : List ℕ) → w ++ a ++ codes " line " ++ b ++ codes " " ++ d ++ codes " known " ++ k ++ lf ≡ w ++ (a ++ 32 ∷ (codes "line " ++ b ++ codes " " ++ (d ++ 32 ∷ (codes "known " ++ k ++ lf))))
+known_regrouped w a b d k = known_tail (w ++ a ++ codes " line " ++ b ++ codes " ") d k ∙ known_front w a b (d ++ 32 ∷ (codes "known " ++ k ++ lf))
+
+pub known_site_once : (app : App) (b c : ℕ) (x y : Site) → b < length app.blocks → c < length app.blocks → IsForm (length app.tasks) x.form → IsForm (length app.tasks) y.form →
+    known_line app b x ≡ known_line app c y → (b ≡ c) × (x ≡ y)
+known_site_once app b c x y known known_too form form_too same =
+    let low = few app b known in
+    let high = few app c known_too in
+    let line_of : ℕ → List ℕ = λ (k : ℕ). decimal (the_block app k).line in
+    let word = codes "site " in
+    let whole = append_cancel_left word (block_text b ++ 32 ∷ behind_known app b x) (block_text c ++ 32 ∷ behind_known app c y)
+    (sym (known_regrouped word (block_text b) (line_of b) (form_text app x.form) (known_text x.known)) ∙ same ∙ known_regrouped word (block_text c) (line_of c) (form_text app y.form) (known_text y.known)) in
+    let parts = parted 32 (block_text b) (block_text c) (behind_known app b x) (behind_known app c y) (block_lacks 32 b (omega arith) low) (block_lacks 32 c (omega arith) high) whole in
+    let block = block_once b c low high parts.0 in
+    let front : ℕ → List ℕ = λ (k : ℕ). codes "line " ++ line_of k ++ codes " " in
+    let rest : Site → List ℕ = λ (s : Site). codes "known " ++ known_text s.known ++ lf in
+    let forms : front c ++ (form_text app x.form ++ 32 ∷ rest x) ≡ front c ++ (form_text app y.form ++ 32 ∷ rest y) = ap (λ (k : ℕ). front k ++ (form_text app x.form ++ 32 ∷ rest x)) (sym block) ∙ parts.1 in
+    let two = form_first app x.form y.form (rest x) (rest y) form form_too (append_cancel_left (front c) (form_text app x.form ++ 32 ∷ rest x) (form_text app y.form ++ 32 ∷ rest y) forms) in
+    let texts = append_cancel_left (codes "known ") (known_text x.known) (known_text y.known) (append_cancel_right (codes "known " ++ known_text x.known) (codes "known " ++ known_text y.known) lf two.1) in
+    let statuses = known_once x.known y.known texts in
+    (block, λ j. record { form = two.0 j; known = statuses j })

@@ -1,5 +1,5 @@
 -- A point and a form have each a text of their own.
-use Rattle.std.proofs.Common.{◌≡◌, ℕ, ◌<◌, ◌^◌, true, List, [], ◌++◌, map, length, refl, sym, ◌∙◌, ap, subst, arith, append_assoc, Option, Some, None}
+use Rattle.std.proofs.Common.{◌≡◌, ℕ, ◌<◌, ◌^◌, true, List, [], ◌∷◌, ◌++◌, map, length, refl, sym, ◌∙◌, ap, subst, arith, append_assoc, Option, Some, None}
 use Rattle.std.specs.Prelude.{codes, IfSome}
 use Rattle.std.specs.Fmt.{decimal}
 use Rattle.std.proofs.Math.ListN.{get_or-map}
@@ -71,6 +71,28 @@ module _ (app : App) where
   form_once form.General form.Stay h k e = absurd (heads_differ _ _ e refl)
   form_once form.General (form.Direct y) h k e = absurd (heads_differ _ _ e refl)
   form_once form.General form.General h k e = refl
+
+  -- a form, a blank, and what stands behind it
+  pub form_first : (x y : Form) (r s : List ℕ) → IsForm (length app.tasks) x → IsForm (length app.tasks) y → form_text app x ++ 32 ∷ r ≡ form_text app y ++ 32 ∷ s → (x ≡ y) × (r ≡ s)
+  form_first form.Never form.Never r s h k e = (refl, append_cancel_left (codes "never ") r s e)
+  form_first form.Never form.Stay r s h k e = absurd (heads_differ _ _ e refl)
+  form_first form.Never (form.Direct y) r s h k e = absurd (heads_differ _ _ e refl)
+  form_first form.Never form.General r s h k e = absurd (heads_differ _ _ e refl)
+  form_first form.Stay form.Never r s h k e = absurd (heads_differ _ _ e refl)
+  form_first form.Stay form.Stay r s h k e = (refl, append_cancel_left (codes "stay ") r s e)
+  form_first form.Stay (form.Direct y) r s h k e = absurd (heads_differ _ _ e refl)
+  form_first form.Stay form.General r s h k e = absurd (heads_differ _ _ e refl)
+  form_first (form.Direct x) form.Never r s h k e = absurd (heads_differ _ _ e refl)
+  form_first (form.Direct x) form.Stay r s h k e = absurd (heads_differ _ _ e refl)
+  form_first (form.Direct x) (form.Direct y) r s h k e =
+      let parts = parted 32 (task_or_dash app x) (task_or_dash app y) r s (task_lacks x (direct_known x h)) (task_lacks y (direct_known y k))
+      (append_cancel_left (codes "direct ") (task_or_dash app x ++ 32 ∷ r) (task_or_dash app y ++ 32 ∷ s) e) in
+      (ap form.Direct (task_once x y (direct_known x h) (direct_known y k) parts.0), parts.1)
+  form_first (form.Direct x) form.General r s h k e = absurd (heads_differ _ _ e refl)
+  form_first form.General form.Never r s h k e = absurd (heads_differ _ _ e refl)
+  form_first form.General form.Stay r s h k e = absurd (heads_differ _ _ e refl)
+  form_first form.General (form.Direct y) r s h k e = absurd (heads_differ _ _ e refl)
+  form_first form.General form.General r s h k e = (refl, append_cancel_left (codes "general ") r s e)
 
   pub few : (b : ℕ) → b < length app.blocks → b < 2 ^ 64
   few b h = omega (arith, h, app.valid.few_blocks)

@@ -17,13 +17,25 @@ pub struct SiteCounts {
 fn is_never(site: Option<Site>) -> bool
     ensures { result ≡ is_site_with is_never site }
 {
-    matches!(site, Some(Site { form: Form::Never }))
+    matches!(
+        site,
+        Some(Site {
+            form: Form::Never,
+            known: _
+        })
+    )
 }
 
 fn is_stay(site: Option<Site>) -> bool
     ensures { result ≡ is_site_with is_stay site }
 {
-    matches!(site, Some(Site { form: Form::Stay }))
+    matches!(
+        site,
+        Some(Site {
+            form: Form::Stay,
+            known: _
+        })
+    )
 }
 
 fn is_direct(site: Option<Site>) -> bool
@@ -32,7 +44,8 @@ fn is_direct(site: Option<Site>) -> bool
     matches!(
         site,
         Some(Site {
-            form: Form::Direct(_)
+            form: Form::Direct(_),
+            known: _
         })
     )
 }
@@ -43,7 +56,8 @@ fn is_general(site: Option<Site>) -> bool
     matches!(
         site,
         Some(Site {
-            form: Form::General
+            form: Form::General,
+            known: _
         })
     )
 }

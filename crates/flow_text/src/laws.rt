@@ -3,10 +3,10 @@ ghost use Rattle.std.specs.Prelude.{◌≡◌, ℕ, ◌<◌, length};
 ghost use Rattle.osek_standard.specs.declared.app.App.{App};
 ghost use Rattle.osek_standard.specs.declared.point.Point.{Point};
 ghost use Rattle.osek_standard.specs.Points.{IsPoint};
-ghost use Rattle.image_model.specs.declared.site.Form.{Form};
+ghost use Rattle.image_model.specs.declared.site.{Form.{Form}, Site.{Site}};
 ghost use Rattle.image_model.specs.Sites.{IsForm};
 ghost use Rattle.global_cfg.specs.declared.graph.FlowEdge.{FlowEdge};
-ghost use Rattle.flow_text.specs.FlowLines.{point_text, form_text, edge_line, site_line};
+ghost use Rattle.flow_text.specs.FlowLines.{point_text, form_text, edge_line, site_line, known_line};
 
 /// The text of a point of an application is that of no other of its points, and so with forms.
 pub fn a_text_tells_one_point_or_form()
@@ -23,4 +23,10 @@ pub fn a_line_tells_one_edge()
 pub fn a_line_tells_one_site()
     ensures { (app : App) (b c : ℕ) (x y : Form) → b < length app.blocks → c < length app.blocks → IsForm (length app.tasks) x → IsForm (length app.tasks) y →
         site_line app b x ≡ site_line app c y → (b ≡ c) × (x ≡ y) }
+{}
+
+/// A line that says what is known of a site's status tells its block, its form and that.
+pub fn a_line_tells_one_known_status()
+    ensures { (app : App) (b c : ℕ) (x y : Site) → b < length app.blocks → c < length app.blocks → IsForm (length app.tasks) x.form → IsForm (length app.tasks) y.form →
+        known_line app b x ≡ known_line app c y → (b ≡ c) × (x ≡ y) }
 {}

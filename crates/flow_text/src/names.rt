@@ -2,13 +2,14 @@
 ghost use Rattle.std.specs.Prelude.{◌≡◌, ◌+◌, ◌<◌, ◌≤◌, ◌++◌, length, take, IfSome};
 ghost use Rattle.osek_standard.specs.Points.{IsPoint};
 ghost use Rattle.image_model.specs.Sites.{IsForm};
-ghost use Rattle.flow_text.specs.FlowLines.{block_text, form_text, point_text, task_or_dash};
+ghost use Rattle.flow_text.specs.FlowLines.{block_text, form_text, known_text, point_text, task_or_dash};
 
-use image_model::Form;
+use image_model::{Form, Known};
 use osek_standard::{App, Point};
 use osek_values::limits::MAX_NAME;
 use osek_values::{BlockNo, TaskNo};
 use text_pieces::{MAX_DECIMAL, put, put_decimal, put_name};
+use trace_text::status_name;
 
 /// The most bytes of a block: a mark and a number.
 pub(crate) const MAX_BLOCK: usize = 1 + MAX_DECIMAL;
@@ -16,6 +17,8 @@ pub(crate) const MAX_BLOCK: usize = 1 + MAX_DECIMAL;
 pub(crate) const MAX_POINT: usize = MAX_BLOCK + 1 + MAX_NAME;
 /// The most bytes of a form: `direct ` and a name.
 pub(crate) const MAX_FORM: usize = 7 + MAX_NAME;
+/// The most bytes of what is known of a status: E_OS_CALLEVEL or E_OS_RESOURCE.
+pub(crate) const MAX_KNOWN: usize = 13;
 
 /// A block, by its number.
 pub(crate) fn put_block(buf: &mut [u8], at: usize, block: BlockNo) -> usize
@@ -73,5 +76,18 @@ pub(crate) fn put_form(buf: &mut [u8], at: usize, app: &App, form: Form) -> usiz
             put_task(buf, at, app, task)
         }
         Form::General => put(buf, at, b"general"),
+    }
+}
+
+/// What is known of the status that a site's instruction notes.
+pub(crate) fn put_known(buf: &mut [u8], at: usize, known: Known) -> usize
+    requires room { at + MAX_KNOWN ≤ length buf.old }
+    ensures text { take result buf.new ≡ take at buf.old ++ known_text known }
+    ensures most { result ≤ at + MAX_KNOWN }
+{
+    match known {
+        Known::Any => put(buf, at, b"any"),
+        Known::Always(None) => put(buf, at, b"none"),
+        Known::Always(Some(status)) => put(buf, at, status_name(status)),
     }
 }

@@ -1,5 +1,5 @@
--- The best of the tasks below a number, and the comparisons that lead to it.
-use Rattle.std.specs.Prelude.{◌≡◌, ℕ, ◌<◌, Bool, true, false, MatchOption, Some, None}
+-- The best of the tasks below a number, and whether there is one.
+use Rattle.std.specs.Prelude.{◌≡◌, ℕ, ◌<◌, true, false, MatchOption, Some, None}
 use Rattle.std.specs.declared.option.Option.{Option}
 use Rattle.osek_values.specs.declared.numbers.TaskNo.{TaskNo}
 use Rattle.osek_standard.specs.declared.app.App.{App}
@@ -7,12 +7,6 @@ use Rattle.osek_standard.specs.declared.state.State.{State}
 use Rattle.osek_standard.specs.TaskStates.{is_live}
 use Rattle.osek_standard.specs.States.{task_state}
 use Rattle.osek_standard.specs.Priority.{goes_before}
-
--- one comparison, where a task was found and the next is Live
-abbrev pub scans_at : Bool → Option TaskNo → ℕ
-scans_at false found = 0
-scans_at true None = 0
-scans_at true (Some t) = 1
 
 -- 1 where there is a task
 abbrev pub some_of : Option TaskNo → ℕ

@@ -1,2 +1,5 @@
 pub mod BestBelow
+pub mod CallNames
+pub mod Changes
+pub mod Levels
 pub mod Moves

@@ -73,6 +73,7 @@ pub fn take_arrival(app: &App, state: &mut State) -> bool
     ensures entered { result ≡ is_some (arrival_of app.now state.old) }
     ensures state { entered_if app.now state.old (arrival_of app.now state.old) ≡ state.new }
     ensures well { Well app.now state.new }
+    ensures tasks { state.new.tasks ≡ state.old.tasks }
 {
     let Some(source) = arrival(app, state) else {
         return false;

@@ -1,12 +1,15 @@
 //! What a step does with the processor after the effect of its instruction.
-ghost use Rattle.std.specs.Prelude.{◌≡◌, ◌+◌, ◌≤◌, length, IfSome};
+ghost use Rattle.std.specs.Prelude.{◌≡◌, ◌+◌, ◌≤◌, length, nat_lt, IfSome};
+ghost use Rattle.osek_standard.specs.Priority.{best, current_priority};
 ghost use Rattle.osek_standard.specs.Effects.{wanted};
 ghost use Rattle.osek_standard.specs.Dispatch.{dispatched, dispatch_hooks, settled, outcome_by, outcome_hooks, instruction, stepped};
 ghost use Rattle.osek_standard.specs.Well.{Well, AreOut, HasProcessor, IsActive};
+ghost use Rattle.generic_kernel.specs.BestBelow.{some_of};
+ghost use Rattle.generic_kernel.specs.Levels.{IsReady};
 ghost use Rattle.generic_kernel.specs.Moves.{MayDispatch};
 
-use crate::best::{is_lower, pick};
 use crate::effects::effect;
+use crate::ready::Ready;
 use osek_standard::{App, Caller, Processor, State};
 use osek_values::{Ask, HookSet, Notes, Steps, TaskNo};
 use std::sync::ledger::Ledger;
@@ -32,13 +35,56 @@ pub fn switch_to(app: &App, state: &mut State, task: Option<TaskNo>, ask: Ask) -
     app.hooks.among(due)
 }
 
+/// The Live task that is to run, after one scan fewer than there are Live tasks.
+pub fn best_task<L: Ledger>(
+    app: &App,
+    state: &State,
+    ready: &Ready,
+    scans: &mut Steps<L>,
+) -> Option<TaskNo>
+    requires well { Well app.now state.now }
+    requires ready { IsReady app.now state.now ready.now }
+    ensures best { result ≡ best app.now state.now }
+    ensures live { IfSome result (HasProcessor app.now state.now) }
+    ensures few { scans.new + some_of result ≤ scans.old + length app.now.tasks }
+{
+    ready.best(scans)
+}
+
+/// Whether the first task has a lower current priority. A scan is one such comparison.
+fn is_lower<L: Ledger>(
+    app: &App,
+    state: &State,
+    ready: &Ready,
+    first: TaskNo,
+    second: TaskNo,
+    scans: &mut Steps<L>,
+) -> bool
+    requires well { Well app.now state.now }
+    requires ready { IsReady app.now state.now ready.now }
+    requires first { HasProcessor app.now state.now first }
+    requires second { HasProcessor app.now state.now second }
+    ensures lower { result ≡ nat_lt (current_priority app.now state.now first.0) (current_priority app.now state.now second.0) }
+    ensures scan { scans.new ≡ scans.old + 1 }
+{
+    ready.is_lower(first, second, scans)
+}
+
 /// Dispatches what the ask of an effect leads to, and answers the hooks of it.
-pub fn conclude<L: Ledger>(app: &App, state: &mut State, ask: Ask, scans: &mut Steps<L>) -> HookSet
+pub fn conclude<L: Ledger>(
+    app: &App,
+    state: &mut State,
+    ready: &Ready,
+    ask: Ask,
+    scans: &mut Steps<L>,
+) -> HookSet
     requires well { Well app.now state.old }
+    requires ready { IsReady app.now state.old ready.now }
     requires dispatch { MayDispatch app.now state.old ask }
     ensures state { settled app.now state.old (outcome_by app.now state.old ask) ≡ state.new }
     ensures hooks { result ≡ wanted app.now (outcome_hooks state.old ask (outcome_by app.now state.old ask)) }
     ensures well { Well app.now state.new }
+    ensures tasks { state.new.tasks ≡ state.old.tasks }
     ensures scans { scans.new ≤ scans.old + length app.now.tasks }
 {
     let kept = app.hooks.among(HookSet::none());
@@ -48,21 +94,21 @@ pub fn conclude<L: Ledger>(app: &App, state: &mut State, ask: Ask, scans: &mut S
             let Caller::Task(caller) = state.caller() else {
                 return kept;
             };
-            let Some(task) = pick(app, state, scans) else {
+            let Some(task) = best_task(app, state, ready, scans) else {
                 return kept;
             };
-            if is_lower(app, state, caller, task, scans) {
+            if is_lower(app, state, ready, caller, task, scans) {
                 switch_to(app, state, Some(task), ask)
             } else {
                 kept
             }
         }
         Ask::Left => {
-            let task = pick(app, state, scans);
+            let task = best_task(app, state, ready, scans);
             switch_to(app, state, task, ask)
         }
         Ask::Free => {
-            let Some(task) = pick(app, state, scans) else {
+            let Some(task) = best_task(app, state, ready, scans) else {
                 return kept;
             };
             switch_to(app, state, Some(task), ask)
@@ -75,17 +121,20 @@ pub fn conclude<L: Ledger>(app: &App, state: &mut State, ask: Ask, scans: &mut S
 pub fn instruct<L: Ledger>(
     app: &App,
     state: &mut State,
+    ready: &mut Ready,
     choice: bool,
     scans: &mut Steps<L>,
 ) -> Notes
     requires well { Well app.now state.old }
+    requires ready { IsReady app.now state.old ready.old }
     requires active { IsActive state.old.processor }
     ensures instruction { instruction app.now state.old choice ≡ stepped state.new result }
     ensures well { Well app.now state.new }
+    ensures ready { IsReady app.now state.new ready.new }
     ensures scans { scans.new ≤ scans.old + length app.now.tasks }
 {
-    let done = effect(app, state, choice);
-    let hooks = conclude(app, state, done.ask, scans);
+    let done = effect(app, state, ready, choice);
+    let hooks = conclude(app, state, ready, done.ask, scans);
     Notes {
         hooks: done.notes.hooks.with(hooks),
         ..done.notes

@@ -7,10 +7,14 @@ ghost use Rattle.osek_standard.specs.Services.{answer, wait_event as wait_event_
 ghost use Rattle.osek_standard.specs.Effects.{effected, moved_to, asked_by as asked_by_row, called, asks_as, goes_on_unless_left, returned as returned_row, shut_down as shut_down_row, effect_at as effect_at_row, effect as effect_row};
 ghost use Rattle.osek_standard.specs.Well.{Well, IsActive, InOwner, IsWaitEvent};
 ghost use Rattle.event_alarm.specs.Waiting.{StandsAtWaitEvent};
+ghost use Rattle.generic_kernel.specs.Changes.{ChangesOwn};
+ghost use Rattle.generic_kernel.specs.Levels.{IsReady};
 ghost use Rattle.generic_kernel.specs.Moves.{IsKnownCaller, MayDispatch};
 
 use crate::calls::call;
+use crate::changes::named_here;
 use crate::places::{here, move_to};
+use crate::ready::Ready;
 use crate::replies::{Effect, Reply, noted};
 use crate::services::end_task;
 use event_alarm::wait_event;
@@ -182,10 +186,8 @@ fn effect_at(app: &App, state: &mut State, choice: bool, place: Place) -> Effect
     }
 }
 
-/// The effect of the instruction at the processor, with the choice that an opaque condition takes. A non-preemptive
-/// caller asks Maybe at Schedule alone. A caller that left, and a routine that ended over no task, leave the processor
-/// idle; a routine that ended over a task gives it back to that task.
-pub fn effect(app: &App, state: &mut State, choice: bool) -> Effect
+/// The effect of the instruction at the processor, on the state.
+fn perform(app: &App, state: &mut State, choice: bool) -> Effect
     requires well { Well app.now state.old }
     requires active { IsActive state.old.processor }
     ensures row { effect_row app.now state.old choice ≡ effected state.new result.notes result.ask }
@@ -194,4 +196,24 @@ pub fn effect(app: &App, state: &mut State, choice: bool) -> Effect
 {
     let place = here(app, state);
     effect_at(app, state, choice, place)
+}
+
+/// The effect of the instruction at the processor, with the choice that an opaque condition takes. A non-preemptive
+/// caller asks Maybe at Schedule alone. A caller that left, and a routine that ended over no task, leave the processor
+/// idle; a routine that ended over a task gives it back to that task. The Live tasks stay those of the state.
+pub fn effect(app: &App, state: &mut State, ready: &mut Ready, choice: bool) -> Effect
+    requires well { Well app.now state.old }
+    requires ready { IsReady app.now state.old ready.old }
+    requires active { IsActive state.old.processor }
+    ensures row { effect_row app.now state.old choice ≡ effected state.new result.notes result.ask }
+    ensures well { Well app.now state.new }
+    ensures ready { IsReady app.now state.new ready.new }
+    ensures dispatch { MayDispatch app.now state.new result.ask }
+    ensures own { ChangesOwn app.now state.old state.new }
+{
+    let own = state.current();
+    let named = named_here(app, state);
+    let done = perform(app, state, choice);
+    ready.take_in(app, state, own, named);
+    done
 }

@@ -3,21 +3,23 @@
 #![tactic(auto)]
 
 mod arrivals;
-mod best;
 mod calls;
+mod changes;
 mod dispatch;
 mod effects;
 mod places;
+mod ready;
 mod replies;
 mod services;
 mod startup;
 mod steps;
 
 pub use arrivals::take_arrival;
-pub use best::pick;
+pub use changes::named_here;
 pub use dispatch::{conclude, switch_to};
 pub use effects::effect;
 pub use places::here;
+pub use ready::Ready;
 pub use replies::Effect;
 pub use startup::start;
 pub use steps::{nothing, step, take_event};

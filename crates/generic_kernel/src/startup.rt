@@ -5,8 +5,8 @@ ghost use Rattle.osek_standard.specs.Dispatch.{stepped};
 ghost use Rattle.osek_standard.specs.Kernel.{has_bit, started_task as started_task_of, started_alarm as started_alarm_of, initial, start as start_of};
 ghost use Rattle.osek_standard.specs.Well.{Well};
 
-use crate::best::pick;
-use crate::dispatch::switch_to;
+use crate::dispatch::{best_task, switch_to};
+use crate::ready::Ready;
 use osek_standard::{
     Activity, Alarm, AlarmState, App, Place, Processor, Source, Standing, State, Task, TaskState,
 };
@@ -138,7 +138,8 @@ fn start_from<L: Ledger>(
     let mut scans = Steps::<L>::of(blank);
     let mut state = begin(alloc, app, mode)?;
     let started = app.hooks.among(HookSet::STARTUP);
-    let hooks = match pick(app, &state, &mut scans) {
+    let ready = Ready::of(app, &state);
+    let hooks = match best_task(app, &state, &ready, &mut scans) {
         None => app.hooks.among(HookSet::none()),
         Some(task) => switch_to(app, &mut state, Some(task), Ask::No),
     };

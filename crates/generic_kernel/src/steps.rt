@@ -5,10 +5,12 @@ ghost use Rattle.osek_standard.specs.Kernel.{step as step_of};
 ghost use Rattle.osek_standard.specs.Arrivals.{arrival as arrival_of};
 ghost use Rattle.osek_standard.specs.Well.{Well, IsActive};
 ghost use Rattle.osek_standard.specs.Apps.{IsDeclared};
+ghost use Rattle.generic_kernel.specs.Levels.{IsReady};
 ghost use Rattle.generic_kernel.specs.Moves.{instruction_due, event_taken, due_by, run_taken};
 
 use crate::arrivals::take_arrival;
 use crate::dispatch::instruct;
+use crate::ready::Ready;
 use osek_standard::{App, Processor, State};
 use osek_values::{Event, HookSet, Notes, Steps};
 use std::sync::ledger::Ledger;
@@ -32,6 +34,7 @@ fn take_run(app: &App, state: &mut State, choice: bool) -> Option<bool>
     ensures well { Well app.now state.new }
     ensures instruction { IfSome result (λ c. IsActive state.new.processor) }
     ensures unchanged { IfSome result (λ c. state.new ≡ state.old) }
+    ensures tasks { state.new.tasks ≡ state.old.tasks }
 {
     match state.processor {
         Processor::Halted => None,
@@ -59,6 +62,7 @@ pub fn take_event(app: &App, state: &mut State, event: Event) -> Option<bool>
     ensures well { Well app.now state.new }
     ensures instruction { IfSome result (λ c. IsActive state.new.processor) }
     ensures unchanged { IfSome result (λ c. state.new ≡ state.old) }
+    ensures tasks { state.new.tasks ≡ state.old.tasks }
 {
     match event {
         Event::Run(choice) => take_run(app, state, choice),
@@ -74,15 +78,23 @@ pub fn take_event(app: &App, state: &mut State, event: Event) -> Option<bool>
 }
 
 /// One step of the kernel, with at most one scan for each task.
-pub fn step<L: Ledger>(app: &App, state: &mut State, event: Event, scans: &mut Steps<L>) -> Notes
+pub fn step<L: Ledger>(
+    app: &App,
+    state: &mut State,
+    ready: &mut Ready,
+    event: Event,
+    scans: &mut Steps<L>,
+) -> Notes
     requires well { Well app.now state.old }
+    requires ready { IsReady app.now state.old ready.old }
     requires declared { IsDeclared app.now event }
     ensures step { step_of app.now state.old event ≡ stepped state.new result }
     ensures well { Well app.now state.new }
+    ensures ready { IsReady app.now state.new ready.new }
     ensures scans { scans.new ≤ scans.old + length app.now.tasks }
 {
     match take_event(app, state, event) {
         None => nothing(),
-        Some(choice) => instruct(app, state, choice, scans),
+        Some(choice) => instruct(app, state, ready, choice, scans),
     }
 }

@@ -86,7 +86,7 @@ module _ (app : App) (p : Point) (entry : Entry) (s : State) (e : Event) (at : I
       }
 
   module _ (rule : Rule) (matches : Matches app rule s e) where
-    target_point : IsPoint app rule.target
+    pub target_point : IsPoint app rule.target
     target_point = subst (IsPoint app) matches.target (well_point app next next_well)
 
     -- the step of a rule by which control flow leads on is an edge

@@ -6,11 +6,15 @@ use Rattle.std.proofs.lemmas.Bool.{cases_eq, lt-ltb, ltb-true, ltb-false}
 use Rattle.std.proofs.lemmas.List.Elements.{Contains-get_or}
 use Rattle.osek_standard.specs.declared.point.Point.{Point}
 use Rattle.osek_standard.specs.Points.{point_number}
-use Rattle.global_cfg.specs.PointOrder.{IsLower, AreInOrder, IsPlaceOf, IsGapFor, IsPut}
+use Rattle.global_cfg.specs.PointOrder.{IsLower, AreInOrder, IsPlaceOf, IsGapFor, HasNumber, IsPut}
 use Rattle.global_cfg.proofs.Pairs.{insert_has, insert_stays, insert_cases, pairs_insert}
 
 pub order_none : AreInOrder []
 order_none = record { pairs = λ i j d lt below. absurd (omega (arith, below)) }
+
+-- a point with the number is there
+pub number_there : (points : List Point) (point : Point) (place : ℕ) → IsPlaceOf points (point_number point) place → HasNumber points (point_number point)
+number_there points point place at = record { point = get_or points place point; listed = Contains-get_or points place point at.known; is = at.is point }
 
 module _ (points : List Point) (order : AreInOrder points) where
   -- the points below a number come first
@@ -34,15 +38,6 @@ module _ (points : List Point) (order : AreInOrder points) where
           | inl same ↦ subst (λ (m : ℕ). n < point_number (get_or points m d)) same (omega (arith, here, differ))
           | inr further ↦ omega (arith, here, order.pairs gap k d (omega (arith, from, further)) lt, differ)
         ];
-  }
-
-  -- a point with the number is there
-  pub put_there : (point : Point) (place : ℕ) → IsPlaceOf points (point_number point) place → IsPut points point points
-  put_there point place at = record {
-    order = order;
-    kept = λ q h. h;
-    from = λ q h. inl h;
-    there = record { point = get_or points place point; listed = Contains-get_or points place point at.known; is = at.is point };
   }
 
   -- it was put in its gap

@@ -7,7 +7,7 @@ use Rattle.osek_values.specs.declared.event.Event.{Event}
 use Rattle.osek_standard.specs.declared.app.App.{App}
 use Rattle.osek_standard.specs.declared.state.State.{State}
 use Rattle.osek_standard.specs.declared.point.Point.{Point}
-use Rattle.osek_standard.specs.Points.{IsPoint}
+use Rattle.osek_standard.specs.Points.{point_number, IsPoint}
 use Rattle.osek_standard.specs.Kernel.{step}
 use Rattle.osek_standard.proofs.PointLaws.{one_number}
 use Rattle.abstract_state.specs.declared.table.{ValueSet.{ValueSet}, Entry.{Entry}}
@@ -18,11 +18,12 @@ use Rattle.abstract_state.proofs.AllowedLaws.{well_point}
 use Rattle.flow_model.specs.declared.rule.Rule.{Rule}
 use Rattle.flow_model.specs.Effects.{IsAt}
 use Rattle.flow_model.specs.Rules.{Matches, Covering, Exact, HasNone}
-use Rattle.flow_rules.proofs.Leading.{rule_shown, passing_state}
-use Rattle.global_cfg.specs.PointOrder.{AreInOrder, IsPut}
-use Rattle.global_cfg.specs.Targets.{leads_on, IsTaken, LeadsTo, AreTargets}
+use Rattle.flow_rules.specs.Passing.{AreTaken}
+use Rattle.flow_rules.proofs.Leading.{taken_shown, passing_state}
+use Rattle.global_cfg.specs.PointOrder.{AreInOrder, HasNumber, IsPut}
+use Rattle.global_cfg.specs.Targets.{leads_on, IsPutFor, LeadsTo, AreTargets}
 use Rattle.global_cfg.proofs.PointPlaces.{order_none}
-use Rattle.global_cfg.proofs.LeadingOn.{next_well, moves_on, leads_where_it_moves, stays_silent}
+use Rattle.global_cfg.proofs.LeadingOn.{next_well, target_point, moves_on, leads_where_it_moves, stays_silent}
 
 -- Edges lead to each of these, and to the targets of the first rules by which control flow leads on.
 pub record LeadSo (app : App) (p : Point) (entry : Entry) (done : List Rule) (targets : List Point) : Type 0 where
@@ -61,13 +62,27 @@ module _ (app : App) (p : Point) (entry : Entry) where
     pub lead_past : leads_on rule p ≡ false → LeadSo app p entry (done ++ rule ∷ []) targets
     lead_past off = lead_skip (λ s e at m moves. let on : leads_on rule p ≡ true = leads_where_it_moves app p entry s e at rule m moves in cc)
 
-    pub lead_nowhere : domains entry ≡ domains_of app → HasNone rule entry → LeadSo app p entry (done ++ rule ∷ []) targets
+    lead_nowhere : domains entry ≡ domains_of app → HasNone rule entry → LeadSo app p entry (done ++ rule ∷ []) targets
     lead_nowhere same none = lead_skip (λ s e at m moves. passing_state app p entry rule s (as_many_sets same) at m.passes none)
 
+    -- its target is among these
+    lead_there : HasNumber targets (point_number rule.target) → LeadSo app p entry (done ++ rule ∷ []) targets
+    lead_there has = record {
+      order = so_far.order;
+      each = so_far.each;
+      all = λ other s e h at m moves. elim (Contains-push_cases done rule other h) [
+        | inl old ↦ so_far.all other s e old at m moves
+        | inr equal ↦
+            (let known : IsPoint app rule.target = target_point app p entry s e at rule (subst (λ (r : Rule). Matches app r s e) (sym equal) m) in
+            let same : has.point ≡ rule.target = one_number app has.point rule.target (leads_to_point has.point (so_far.each has.point has.listed)) known has.is in
+            subst (Contains targets) (same ∙ ap (λ (r : Rule). r.target) equal) has.listed)
+      ];
+    }
+
     -- a rule that leads to its target
-    pub lead_more : (rules : List Rule) (after : List Point) → domains entry ≡ domains_of app → Contains rules rule → Exact app p entry rules → leads_on rule p ≡ true → IsTaken rule entry → IsPut targets rule.target after → LeadSo app p entry (done ++ rule ∷ []) after
+    lead_more : (rules : List Rule) (after : List Point) → domains entry ≡ domains_of app → Contains rules rule → Exact app p entry rules → leads_on rule p ≡ true → AreTaken rule entry → IsPut targets rule.target after → LeadSo app p entry (done ++ rule ∷ []) after
     lead_more rules after same listed exact on taken put =
-        let x = rule_shown app p entry taken.new rule (as_many_sets same) taken.applies rules listed exact in
+        let x = taken_shown app p entry rule (as_many_sets same) taken rules listed exact in
         let here : LeadsTo app p entry rule.target = record {
           from = x.from;
           event = x.event;
@@ -88,6 +103,10 @@ module _ (app : App) (p : Point) (entry : Entry) where
             | inr equal ↦ subst (Contains after) (there ∙ ap (λ (r : Rule). r.target) equal) put.there.listed
           ];
         }
+
+    pub lead_by : (rules : List Rule) (after : List Point) → domains entry ≡ domains_of app → Contains rules rule → Exact app p entry rules → leads_on rule p ≡ true → IsPutFor rule entry targets after → LeadSo app p entry (done ++ rule ∷ []) after
+    lead_by rules after same listed exact on (inl put) = lead_more rules after same listed exact on put.0 put.1
+    lead_by rules after same listed exact on (inr stays) = subst (LeadSo app p entry (done ++ rule ∷ [])) (sym stays.0) (elim stays.1 [ inl has ↦ lead_there has | inr none ↦ lead_nowhere same none ])
 
   -- all rules are done
   pub lead_all : (rules : List Rule) (targets : List Point) → Covering app p entry rules → LeadSo app p entry rules targets → AreTargets app p entry targets

@@ -13,8 +13,9 @@ use Rattle.flow_model.specs.declared.case.Decision.{Decision}
 use Rattle.flow_model.specs.declared.case.Decision.TheVariants as decision
 use Rattle.flow_model.specs.declared.rule.Rule.{Rule}
 use Rattle.flow_model.specs.Effects.{IsAt}
-use Rattle.flow_model.specs.Rules.{Applies}
-use Rattle.global_cfg.specs.PointOrder.{AreInOrder}
+use Rattle.flow_model.specs.Rules.{HasNone}
+use Rattle.flow_rules.specs.Passing.{AreTaken}
+use Rattle.global_cfg.specs.PointOrder.{AreInOrder, HasNumber, IsPut}
 
 -- the scheduler gives the processor to a task
 abbrev pub dispatches : Option Decision → Bool
@@ -27,10 +28,9 @@ dispatches (Some (decision.To (Some t))) = true
 abbrev pub leads_on : Rule → Point → Bool
 leads_on rule p = not (point_number rule.target == point_number p) || dispatches rule.decision
 
--- the rule has a result for the entry
-pub record IsTaken (rule : Rule) (entry : Entry) : Type 0 where
-  pub new : Entry
-  pub applies : Applies rule entry new
+-- The rule's target is put in where some state takes the rule; else all stay, as it is there or no state takes the rule.
+abbrev pub IsPutFor : Rule → Entry → List Point → List Point → Type 0
+IsPutFor rule entry before after = (AreTaken rule entry × IsPut before rule.target after) ⊎ ((after ≡ before) × (HasNumber before (point_number rule.target) ⊎ HasNone rule entry))
 
 -- some state of the entry at p steps to a state at q, and q is another point or the task of p is dispatched anew
 pub record LeadsTo (app : App) (p : Point) (entry : Entry) (q : Point) : Type 0 where

@@ -1,16 +1,14 @@
 //! The points to which edges lead from one point.
 ghost use Rattle.std.specs.Prelude.{◌≡◌, IfOk, IfErr, OnOk};
-ghost use Rattle.std.specs.Bool.{OnTrue, OnFalse};
 ghost use Rattle.osek_standard.specs.Points.{point_number, IsPoint};
 ghost use Rattle.abstract_state.specs.Domains.{domains, domains_of};
 ghost use Rattle.flow_model.specs.Effects.{AreAllAllowed};
-ghost use Rattle.flow_model.specs.Rules.{HasNone};
-ghost use Rattle.global_cfg.specs.Targets.{dispatches, leads_on, IsTaken, AreTargets};
-ghost use Rattle.global_cfg.specs.PointOrder.{AreInOrder, IsPlaceOf, IsGapFor, IsPut};
+ghost use Rattle.global_cfg.specs.Targets.{dispatches, leads_on, IsPutFor, AreTargets};
+ghost use Rattle.global_cfg.specs.PointOrder.{AreInOrder, IsPlaceOf, IsGapFor};
 
 use abstract_state::{Entry, Point};
 use flow_model::{Decision, Rule};
-use flow_rules::{apply, rules};
+use flow_rules::{is_possible, rules};
 use osek_standard::App;
 use osek_values::Memory;
 use std::alloc::Global;
@@ -25,8 +23,8 @@ pub fn targets(alloc: Global, app: &App, point: Point, entry: &Entry) -> Result<
     let found = rules(alloc, app, point, entry)?;
     let mut targets = Vec::new(alloc);
     for rule in found.as_slice() {
-        if leads_on(rule, point) && is_taken(alloc, rule, entry)? {
-            put_in(&mut targets, rule.target)?;
+        if leads_on(rule, point) {
+            put_target(&mut targets, rule, entry)?;
         }
     }
     Ok(targets)
@@ -50,17 +48,6 @@ fn dispatches(decision: Option<Decision>) -> bool
     }
 }
 
-/// Whether some state of an entry takes a rule.
-fn is_taken(alloc: Global, rule: &Rule, entry: &Entry) -> Result<bool, Memory>
-    ensures taken { IfOk result (λ taken. OnTrue taken (IsTaken rule.now entry.now)) }
-    ensures none { IfOk result (λ taken. OnFalse taken (HasNone rule.now entry.now)) }
-{
-    match apply(alloc, rule, entry)? {
-        Some(_) => Ok(true),
-        None => Ok(false),
-    }
-}
-
 /// The place of a point, or the one where it belongs.
 fn place_of(points: &[Point], point: Point) -> Result<usize, usize>
     requires { AreInOrder points.now }
@@ -76,13 +63,18 @@ fn place_of(points: &[Point], point: Point) -> Result<usize, usize>
     }
 }
 
-/// Puts a point in at its place, unless it is there.
-fn put_in(points: &mut Vec<Point>, point: Point) -> Result<(), Memory>
+/// Puts the target of a rule in at its place, if some state of the entry takes the rule. That isn't asked where the target
+/// is there.
+fn put_target(points: &mut Vec<Point>, rule: &Rule, entry: &Entry) -> Result<(), Memory>
     requires { AreInOrder points.old.items }
-    ensures { OnOk result (IsPut points.old.items point points.new.items) }
+    ensures { OnOk result (IsPutFor rule.now entry.now points.old.items points.new.items) }
 {
-    if let Err(gap) = place_of(points.as_slice(), point) {
-        points.insert(gap, point)?;
+    let Err(gap) = place_of(points.as_slice(), rule.target) else {
+        return Ok(());
+    };
+    if !is_possible(rule, entry) {
+        return Ok(());
     }
+    points.insert(gap, rule.target)?;
     Ok(())
 }

@@ -9,16 +9,19 @@ use Rattle.osek_standard.specs.declared.block.Kind.TheVariants as kind
 use Rattle.osek_standard.specs.declared.call.{Call.{Call}, Lock.{Lock}}
 use Rattle.osek_standard.specs.declared.call.Lock.TheVariants as lock
 use Rattle.image_model.specs.CallNames as call
-use Rattle.image_model.specs.declared.site.{Form.{Form}, Site.{Site}}
+use Rattle.image_model.specs.declared.site.{Form.{Form}, Known.{Known}, Site.{Site}}
+use Rattle.image_model.specs.declared.site.Known.TheVariants as known
+use Rattle.image_model.specs.declared.image.Version.{Version}
+use Rattle.image_model.specs.declared.image.Version.TheVariants as version
 use Rattle.osek_standard.specs.Apps.{is_routine_end, call_may_dispatch, may_dispatch, is_task_block_in, is_site_in}
 use Rattle.image_codec.specs.declared.fault.{ImageRule.TheVariants.{I3, I5, I6}, Fault.{Fault}}
 use Rattle.image_codec.specs.declared.parts.{Header.{Header}, Tables.{Tables}, Parts.{Parts}}
 use Rattle.image_codec.specs.Laws.{BlocksFaults, ImageFaults}
 use Rattle.image_codec.specs.ImageReading.{placed, read_image}
 use Rattle.image_codec.specs.TableReading.{tables_at}
-use Rattle.image_codec.specs.Reading.{Read, ◌>>=◌, kept, number_at, tested_at, byte_below_at, flag_at, entries_at}
-use Rattle.image_codec.specs.BlockReading.{blank_kinds, is_allowed, is_due, is_way, judged_at, kind_at, task_no_at, resource_no_at, alarm_no_at, events_at, locks, lock_of, lock_at, due_at, operands_at, way_at, ways_at, form_of, formed_site, site_at, block_at, blocks_at, parts_at, all_at}
-use Rattle.image_codec.specs.FieldTable.{fault_of, Field, field, any, some, below, or_later, first_broken, behind, kind_of_number, is_form, kind_field, task_field, resource_field, alarm_field, events_field, ticks_field, way_field, call_fields, way_fields, form_fields, block_fields, or_else, blocks_fault}
+use Rattle.image_codec.specs.Reading.{Read, ◌>>=◌, kept, found_at, number_at, tested_at, byte_below_at, flag_at, entries_at}
+use Rattle.image_codec.specs.BlockReading.{blank_kinds, is_allowed, is_due, is_way, judged_at, kind_at, task_no_at, resource_no_at, alarm_no_at, events_at, locks, lock_of, lock_at, due_at, operands_at, way_at, ways_at, form_of, form_at, knowns, known_of, known_at, stated_at, site_at, block_at, blocks_at, parts_at, all_at}
+use Rattle.image_codec.specs.FieldTable.{fault_of, Field, field, any, some, below, or_later, first_broken, behind, kind_of_number, is_form, kind_field, task_field, resource_field, alarm_field, events_field, ticks_field, way_field, call_fields, way_fields, further_field, is_known, site_fields, block_fields, or_else, blocks_fault}
 use Rattle.image_codec.proofs.BlockLaws.{Entry, blank_call, blank_of}
 use Rattle.image_codec.proofs.BlockLoop.{read_block}
 use Rattle.image_codec.proofs.FieldFaults.{CoversAt, Covers, Any, Numbered, covers_then, covers_made, rule_of, kept_cross, number, number_covers, tested_covers, crossed_covers, long, tested_byte_is, byte_covers, Found, found_in}
@@ -34,19 +37,63 @@ form_chain false false false true e v w x y z = refl
 form_chain false false false false true v w x y z = refl
 form_chain false false false false false v w x y z = refl
 
-formed_by : (bytes rest : List ℕ) (o : Option Form) (test : Bool) → is_some o ≡ test → CoversAt Any (or_later (rule_of false test true) bytes None) rest (formed_site bytes rest o)
-formed_by bytes rest None test e = subst (λ (b : Bool). CoversAt Any (or_later (rule_of false b true) bytes None) rest (formed_site bytes rest None)) e refl
-formed_by bytes rest (Some f) test e =
-    subst (λ (b : Bool). CoversAt Any (or_later (rule_of false b true) bytes None) rest (formed_site bytes rest (Some f))) e (Some (record { form = f }), refl, tt)
+-- what stands for a number, where something does
+found_by : {X : Type 0} (bytes rest : List ℕ) (o : Option X) (test : Bool) → is_some o ≡ test → CoversAt Any (or_later (rule_of false test true) bytes None) rest (found_at I3 bytes rest o)
+found_by {X} bytes rest None test e = subst (λ (b : Bool). CoversAt {A = X} Any (or_later (rule_of false b true) bytes None) rest (found_at I3 bytes rest None)) e refl
+found_by bytes rest (Some x) test e =
+    subst (λ (b : Bool). CoversAt Any (or_later (rule_of false b true) bytes None) rest (found_at I3 bytes rest (Some x))) e (x, refl, tt)
 
 module _ (tasks : ℕ) (bytes rest : List ℕ) (n : ℕ) where
-  form_by : (short : Bool) → CoversAt Any (or_later (rule_of short (is_form tasks n) true) bytes None) rest (number bytes rest n short >>= λ m. formed_site bytes m.1 (form_of tasks m.0))
+  form_by : (short : Bool) → CoversAt Any (or_later (rule_of short (is_form tasks n) true) bytes None) rest (number bytes rest n short >>= λ m. found_at I3 bytes m.1 (form_of tasks m.0))
   form_by true = refl
-  form_by false = formed_by bytes rest (form_of tasks n) (is_form tasks n) (form_chain (nat_eq n 0x0000) (nat_eq n 0x0100) (nat_eq n 0x02ff) (nat_eq n 0x0300) _ _ _ _ _ _)
+  form_by false = found_by bytes rest (form_of tasks n) (is_form tasks n) (form_chain (nat_eq n 0x0000) (nat_eq n 0x0100) (nat_eq n 0x02ff) (nat_eq n 0x0300) _ _ _ _ _ _)
 
-site_by : (tasks : ℕ) (is : Bool) (bytes : List ℕ) → Covers Any (cond is (field w16 (is_form tasks) any ∷ []) []) bytes (cond is (number_at w16 bytes >>= λ n. formed_site bytes n.1 (form_of tasks n.0)) (Ok (None, bytes)))
-site_by tasks true bytes = form_by tasks bytes (drop 2 bytes) (from_be_bytes w16 (take 2 bytes)) (nat_lt (length bytes) 2)
-site_by tasks false bytes = (None, refl, tt)
+form_covers : (tasks : ℕ) (bytes : List ℕ) → Covers Any (field w16 (is_form tasks) any ∷ []) bytes (form_at tasks bytes)
+unfolding form_at
+form_covers tasks bytes = form_by tasks bytes (drop 2 bytes) (from_be_bytes w16 (take 2 bytes)) (nat_lt (length bytes) 2)
+
+-- ---- known statuses
+
+found_some : {X : Type 0} (test : Bool) (x : X) (o : Option X) → Found test x o → is_some o ≡ test
+found_some true x o e = ap is_some e
+found_some false x o e = ap is_some e
+
+any_or : (is_any test : Bool) (o : Option Known) → is_some o ≡ test → is_some (cond is_any (Some known.Any) o) ≡ (is_any || test)
+any_or true test o e = refl
+any_or false test o e = e
+
+known_test : (n : ℕ) → is_some (known_of n) ≡ is_known n
+known_test n = any_or (nat_eq n 0xff) (nat_lt n 10) (slice_get knowns n) (found_some (nat_lt n 10) (get_or knowns n known.Any) (slice_get knowns n) (found_in knowns known.Any n))
+
+known_covers : (v : Version) (bytes : List ℕ) → Covers Any (further_field v (field w8 is_known any)) bytes (known_at v bytes)
+unfolding known_at
+known_covers version.One bytes = (known.Any, refl, tt)
+known_covers version.Two [] = refl
+known_covers version.Two (n ∷ rest) =
+    subst (λ (short : Bool). CoversAt Any (or_later (rule_of short (is_known n) true) (n ∷ rest) None) rest (found_at I3 (n ∷ rest) rest (known_of n))) (sym (long n rest))
+    (found_by (n ∷ rest) rest (known_of n) (is_known n) (known_test n))
+
+-- ---- sites
+
+abbrev a_site : Form → Known → Site
+a_site f k = record { form = f; known = k }
+
+module _ (v : Version) (tasks : ℕ) (bytes : List ℕ) where
+  abbrev form_field : Field
+  form_field = field w16 (is_form tasks) any
+
+  abbrev known_field : List Field
+  known_field = further_field v (field w8 is_known any)
+
+  stated_covers : Covers Any (form_field ∷ known_field) bytes (stated_at v tasks bytes)
+  unfolding stated_at
+  stated_covers =
+      covers_then Any Any (form_field ∷ []) known_field bytes (form_at tasks bytes) (λ f rest. known_at v rest >>= λ k. Ok (a_site f k.0, k.1)) (form_covers tasks bytes)
+      (λ f _. let rest = behind (form_field ∷ []) bytes in covers_made Any Any known_field rest (known_at v rest) (a_site f) (λ _ _. tt) (known_covers v rest))
+
+  site_by : (is : Bool) → Covers Any (cond is (form_field ∷ known_field) []) bytes (cond is (stated_at v tasks bytes >>= λ x. Ok (Some x.0, x.1)) (Ok (None, bytes)))
+  site_by true = covers_made Any Any (form_field ∷ known_field) bytes (stated_at v tasks bytes) (λ (x : Site). Some x) (λ _ _. tt) stated_covers
+  site_by false = (None, refl, tt)
 
 -- ---- a block
 
@@ -78,22 +125,23 @@ end_blank : (k : Kind) → is_routine_end (blank_of k) ≡ is_routine_end k
 end_blank (kind.Choice o) = refl
 end_blank k = refl
 
-module _ (t : Tables) (blocks b : ℕ) where
+module _ (t : Tables) (blocks b : ℕ) (v : Version) where
   abbrev Fills : Kind → Kind → Type 0
   Fills k filled = blank_of filled ≡ blank_of k
 
-  form_blank : (k : Kind) → form_fields t blocks b (blank_of k) ≡ form_fields t blocks b k
-  form_blank k =
-      ap (λ (e : Bool). cond (cond e true (cond (may_dispatch (blank_of k)) (is_task_block_in t.tasks b) false)) (field w16 (is_form (length t.tasks)) any ∷ []) []) (end_blank k)
-      ∙ ap (λ (m : Bool). cond (cond (is_routine_end k) true (cond m (is_task_block_in t.tasks b) false)) (field w16 (is_form (length t.tasks)) any ∷ []) []) (dispatch_blank k)
+  site_blank : (k : Kind) → site_fields t blocks b v (blank_of k) ≡ site_fields t blocks b v k
+  site_blank k =
+      let fs = field w16 (is_form (length t.tasks)) any ∷ further_field v (field w8 is_known any) in
+      ap (λ (e : Bool). cond (cond e true (cond (may_dispatch (blank_of k)) (is_task_block_in t.tasks b) false)) fs []) (end_blank k)
+      ∙ ap (λ (m : Bool). cond (cond (is_routine_end k) true (cond m (is_task_block_in t.tasks b) false)) fs []) (dispatch_blank k)
 
   way_blank : (k : Kind) → way_fields t blocks b (blank_of k) ≡ way_fields t blocks b k
   way_blank (kind.Choice o) = refl
   way_blank k = refl
 
   -- kinds with the same blank have the same fields
-  form_same : (k m : Kind) → Fills k m → form_fields t blocks b m ≡ form_fields t blocks b k
-  form_same k m e = sym (form_blank m) ∙ ap (form_fields t blocks b) e ∙ form_blank k
+  site_same : (k m : Kind) → Fills k m → site_fields t blocks b v m ≡ site_fields t blocks b v k
+  site_same k m e = sym (site_blank m) ∙ ap (site_fields t blocks b v) e ∙ site_blank k
 
   way_same : (k m : Kind) → Fills k m → way_fields t blocks b m ≡ way_fields t blocks b k
   way_same k m e = sym (way_blank m) ∙ ap (way_fields t blocks b) e ∙ way_blank k
@@ -195,9 +243,9 @@ module _ (t : Tables) (blocks b : ℕ) where
       covers_made (Numbered w16 rest) (Leads (kind.Choice o)) (way_field t blocks b ∷ []) rest (way_at t blocks b rest) (a_choice next) (λ _ _. refl) (way_covers rest))
   ways_cover k bytes = plainly k bytes
 
-  site_covers : (k : Kind) (bytes : List ℕ) → Covers Any (form_fields t blocks b k) bytes (site_at t b k bytes)
+  site_covers : (k : Kind) (bytes : List ℕ) → Covers Any (site_fields t blocks b v k) bytes (site_at t b v k bytes)
   unfolding site_at
-  site_covers k bytes = site_by (length t.tasks) (is_site_in t.tasks b k) bytes
+  site_covers k bytes = site_by v (length t.tasks) bytes (is_site_in t.tasks b k)
 
   flag_covers : (bytes : List ℕ) → Covers Any (field w8 (below 2) any ∷ []) bytes (flag_at bytes)
   unfolding flag_at
@@ -207,7 +255,7 @@ module _ (t : Tables) (blocks b : ℕ) where
   an_entry locked line w site = (record { kind = w.0; locked = locked; line = line; next = block_no w.1 }, site)
 
   abbrev with_site : Bool → ℕ → Kind × ℕ → List ℕ → Read Entry
-  with_site locked line w rest = site_at t b w.0 rest >>= λ site. Ok (an_entry locked line w site.0, site.1)
+  with_site locked line w rest = site_at t b v w.0 rest >>= λ site. Ok (an_entry locked line w site.0, site.1)
 
   abbrev with_ways : Bool → ℕ → Kind → List ℕ → Read Entry
   with_ways locked line filled rest = ways_at t blocks b filled rest >>= λ w. with_site locked line w.0 w.1
@@ -222,17 +270,17 @@ module _ (t : Tables) (blocks b : ℕ) where
   with_flag k rest = flag_at rest >>= λ locked. with_line k locked.0 locked.1
 
   abbrev fields_of : Kind → List Field
-  fields_of k = call_fields t blocks b k ++ (way_fields t blocks b k ++ form_fields t blocks b k)
+  fields_of k = call_fields t blocks b k ++ (way_fields t blocks b k ++ site_fields t blocks b v k)
 
-  site_rest : (locked : Bool) (line : ℕ) (k : Kind) (w : Kind × ℕ) → Leads k w → (rest : List ℕ) → Covers Any (form_fields t blocks b k) rest (with_site locked line w rest)
+  site_rest : (locked : Bool) (line : ℕ) (k : Kind) (w : Kind × ℕ) → Leads k w → (rest : List ℕ) → Covers Any (site_fields t blocks b v k) rest (with_site locked line w rest)
   site_rest locked line k w e rest =
-      subst (λ (fs : List Field). Covers Any fs rest (with_site locked line w rest)) (form_same k w.0 e)
-      (covers_made Any Any (form_fields t blocks b w.0) rest (site_at t b w.0 rest) (an_entry locked line w) (λ _ _. tt) (site_covers w.0 rest))
+      subst (λ (fs : List Field). Covers Any fs rest (with_site locked line w rest)) (site_same k w.0 e)
+      (covers_made Any Any (site_fields t blocks b v w.0) rest (site_at t b v w.0 rest) (an_entry locked line w) (λ _ _. tt) (site_covers w.0 rest))
 
-  ways_rest : (locked : Bool) (line : ℕ) (k filled : Kind) → Fills k filled → (rest : List ℕ) → Covers Any (way_fields t blocks b k ++ form_fields t blocks b k) rest (with_ways locked line filled rest)
+  ways_rest : (locked : Bool) (line : ℕ) (k filled : Kind) → Fills k filled → (rest : List ℕ) → Covers Any (way_fields t blocks b k ++ site_fields t blocks b v k) rest (with_ways locked line filled rest)
   ways_rest locked line k filled e rest =
-      subst (λ (fs : List Field). Covers Any (fs ++ form_fields t blocks b k) rest (with_ways locked line filled rest)) (way_same k filled e)
-      (covers_then (Leads filled) Any (way_fields t blocks b filled) (form_fields t blocks b k) rest (ways_at t blocks b filled rest) (with_site locked line) (ways_cover filled rest)
+      subst (λ (fs : List Field). Covers Any (fs ++ site_fields t blocks b v k) rest (with_ways locked line filled rest)) (way_same k filled e)
+      (covers_then (Leads filled) Any (way_fields t blocks b filled) (site_fields t blocks b v k) rest (ways_at t blocks b filled rest) (with_site locked line) (ways_cover filled rest)
       (λ w q. site_rest locked line k w (q ∙ e) (behind (way_fields t blocks b filled) rest)))
 
   fields_rest : (k : Kind) (rest : List ℕ) → Covers Any (field w8 (below 2) any ∷ field w32 any any ∷ fields_of k) rest (with_flag k rest)
@@ -241,11 +289,11 @@ module _ (t : Tables) (blocks b : ℕ) where
       let behind_flag = behind (field w8 (below 2) any ∷ []) rest in
       covers_then (Numbered w32 behind_flag) Any (field w32 any any ∷ []) (fields_of k) behind_flag (number_at w32 behind_flag) (with_operands k locked) (number_covers w32 behind_flag) (λ line _.
       let behind_line = behind (field w32 any any ∷ []) behind_flag in
-      covers_then (Fills k) Any (call_fields t blocks b k) (way_fields t blocks b k ++ form_fields t blocks b k) behind_line (operands_at t b k behind_line) (with_ways locked line) (operands_cover k behind_line)
+      covers_then (Fills k) Any (call_fields t blocks b k) (way_fields t blocks b k ++ site_fields t blocks b v k) behind_line (operands_at t b k behind_line) (with_ways locked line) (operands_cover k behind_line)
       (λ filled e. ways_rest locked line k filled e (behind (call_fields t blocks b k) behind_line))))
 
   -- the first fault of a block is that of the first field that breaks a rule
-  pub block_covers : (bytes : List ℕ) → Covers Any (block_fields t blocks b bytes) bytes (block_at t blocks b bytes)
+  pub block_covers : (bytes : List ℕ) → Covers Any (block_fields t blocks b v bytes) bytes (block_at t blocks b v bytes)
   unfolding block_at
   block_covers bytes =
       let k = kind_of_number (slice_index bytes 0) in
@@ -260,26 +308,26 @@ fault_then : {A B : Type 0} (P : A → Type 0) (o later : Option Fault) (rest : 
 fault_then {A} P None later rest r k h more = ap (λ (s : Read A). fault_of (s >>= λ x. k x.0 x.1)) h.1 ∙ more h.0
 fault_then {A} P (Some f) later rest r k h more = ap (λ (s : Read A). fault_of (s >>= λ x. k x.0 x.1)) h
 
-module _ (t : Tables) (blocks : ℕ) where
-  faults_from : (k : ℕ) (earlier : List Entry) (b : ℕ) (bytes : List ℕ) → length earlier ≡ b → fault_of (entries_at (read_block t blocks) earlier k bytes) ≡ blocks_fault t blocks k b bytes
+module _ (v : Version) (t : Tables) (blocks : ℕ) where
+  faults_from : (k : ℕ) (earlier : List Entry) (b : ℕ) (bytes : List ℕ) → length earlier ≡ b → fault_of (entries_at (read_block v t blocks) earlier k bytes) ≡ blocks_fault v t blocks k b bytes
   unfolding entries_at
   faults_from zero earlier b bytes e = refl
   faults_from (suc k) earlier b bytes e =
-      let fs = block_fields t blocks b bytes in
-      ap (λ (n : ℕ). fault_of (block_at t blocks n bytes >>= λ x. entries_at (read_block t blocks) (earlier ++ x.0 ∷ []) k x.1)) e
-      ∙ fault_then Any (first_broken fs bytes) (blocks_fault t blocks k (b + 1) (behind fs bytes)) (behind fs bytes) (block_at t blocks b bytes)
-      (λ x rest. entries_at (read_block t blocks) (earlier ++ x ∷ []) k rest) (block_covers t blocks b bytes)
+      let fs = block_fields t blocks b v bytes in
+      ap (λ (n : ℕ). fault_of (block_at t blocks n v bytes >>= λ x. entries_at (read_block v t blocks) (earlier ++ x.0 ∷ []) k x.1)) e
+      ∙ fault_then Any (first_broken fs bytes) (blocks_fault v t blocks k (b + 1) (behind fs bytes)) (behind fs bytes) (block_at t blocks b v bytes)
+      (λ x rest. entries_at (read_block v t blocks) (earlier ++ x ∷ []) k rest) (block_covers t blocks b v bytes)
       (λ x. faults_from k (earlier ++ x ∷ []) (b + 1) (behind fs bytes) (length_push earlier x ∙ ap (λ n. n + 1) e))
 
 pub blocks_faults : BlocksFaults
-blocks_faults t blocks bytes = faults_from t blocks blocks [] 0 bytes refl
+blocks_faults v t blocks bytes = faults_from v t blocks blocks [] 0 bytes refl
 
 fault_is : {A : Type 0} (r : Read A) (f : Fault) → fault_of r ≡ Some f → r ≡ Err f
 fault_is (Ok x) f e = absurd cc
 fault_is (Err g) f e = cc
 
 abbrev with_blocks : Header → Tables → Read (List Entry) → Read Parts
-with_blocks h t r = r >>= λ b. Ok (record { hooks = h.hooks; tables = t; blocks = map (λ (x : Entry). x.0) b.0; sites = map (λ (x : Entry). x.1) b.0 }, b.1)
+with_blocks h t r = r >>= λ b. Ok (record { version = h.version; hooks = h.hooks; tables = t; blocks = map (λ (x : Entry). x.0) b.0; sites = map (λ (x : Entry). x.1) b.0 }, b.1)
 
 abbrev whole : Read Parts → Read Parts
 whole r = r >>= λ p. kept (length p.1 == 0) I6 p.1 p
@@ -287,7 +335,7 @@ whole r = r >>= λ p. kept (length p.1 == 0) I6 p.1 p
 pub image_faults : ImageFaults
 unfolding read_image all_at parts_at
 image_faults bytes h t r1 r2 f e1 e2 e3 =
-    let e : blocks_at t h.blocks r2 ≡ Err f = fault_is (blocks_at t h.blocks r2) f (blocks_faults t h.blocks r2 ∙ e3) in
-    ap (λ (r : Read Header). placed (length bytes) (whole (r >>= λ n. tables_at n.0 n.1 >>= λ u. with_blocks n.0 u.0 (blocks_at u.0 n.0.blocks u.1)))) e1
-    ∙ ap (λ (r : Read Tables). placed (length bytes) (whole (r >>= λ u. with_blocks h u.0 (blocks_at u.0 h.blocks u.1)))) e2
+    let e : blocks_at h.version t h.blocks r2 ≡ Err f = fault_is (blocks_at h.version t h.blocks r2) f (blocks_faults h.version t h.blocks r2 ∙ e3) in
+    ap (λ (r : Read Header). placed (length bytes) (whole (r >>= λ n. tables_at n.0 n.1 >>= λ u. with_blocks n.0 u.0 (blocks_at n.0.version u.0 n.0.blocks u.1)))) e1
+    ∙ ap (λ (r : Read Tables). placed (length bytes) (whole (r >>= λ u. with_blocks h u.0 (blocks_at h.version u.0 h.blocks u.1)))) e2
     ∙ ap (λ (r : Read (List Entry)). placed (length bytes) (whole (with_blocks h t r))) e

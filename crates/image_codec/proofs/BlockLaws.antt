@@ -1,8 +1,7 @@
 -- Readers of whole blocks, and their spelling.
-use Rattle.std.proofs.Common.{◌≡◌, ℕ, ◌+◌, ◌-◌, ◌^◌, ◌<◌, ◌≤◌, Bool, true, false, cond, ◌&&◌, eqb, leb, ltb, List, [], ◌++◌, length, Option, Some, None, Ok, refl, sym, ap, subst, ◌∙◌, arith, inl, inr, ◌⊎◌}
+use Rattle.std.proofs.Common.{◌≡◌, ℕ, ◌^◌, ◌<◌, Bool, cond, eqb, List, [], ◌++◌, length, Option, Some, Ok, refl, sym, ap, subst, ◌∙◌}
 use Rattle.std.specs.Prelude.{nat_lt, slice_get, slice_index_or}
 use Rattle.std.specs.Int.{w16, w32}
-use Rattle.std.proofs.lemmas.Bool.{eqb-true, leb-true, and_parts}
 use Rattle.std.proofs.lemmas.Option.{same_Some, get_or_from_slice_get}
 use Rattle.osek_values.specs.Numbers.{task_no, alarm_no, res_no, block_no, mask}
 use Rattle.osek_values.specs.declared.numbers.BlockNo.{BlockNo}
@@ -12,17 +11,18 @@ use Rattle.osek_standard.specs.declared.call.Call.{Call}
 use Rattle.image_model.specs.CallNames as call
 use Rattle.osek_standard.specs.declared.call.Lock.TheVariants as lock
 use Rattle.image_codec.specs.declared.fault.ImageRule.TheVariants.{I3, I5}
-use Rattle.image_model.specs.declared.site.{Form.{Form}, Site.{Site}}
-use Rattle.image_model.specs.declared.site.Form.TheVariants as form
+use Rattle.image_model.specs.declared.site.Site.{Site}
+use Rattle.image_model.specs.declared.image.Version.{Version}
 use Rattle.image_codec.specs.declared.parts.Tables.{Tables}
 use Rattle.osek_standard.specs.Apps.{is_site_in}
-use Rattle.image_codec.specs.Spelling.{one, two, four, eight, kind_number, lock_number, operand_bytes, way_bytes, form_number, site_bytes, flag_number, block_bytes}
+use Rattle.image_codec.specs.Spelling.{one, two, four, eight, kind_number, lock_number, operand_bytes, way_bytes, site_bytes, flag_number, block_bytes}
 use Rattle.image_codec.specs.Reading.{AreBytes, Read, ◌>>=◌, number_at, tested_at, flag_at}
-use Rattle.image_codec.specs.BlockReading.{blank_kinds, is_way, kind_at, task_no_at, resource_no_at, alarm_no_at, events_at, lock_at, due_at, operands_at, way_at, ways_at, direct_form, form_of, formed_site, site_at, block_at}
-use Rattle.image_codec.proofs.Spells.{bind_ok, ok_is, done_with, Takes, Spells, nothing_more, and_then, said, wide16, wide32, number_law, Tested, tested_law, tested_number_law}
+use Rattle.image_codec.specs.BlockReading.{blank_kinds, is_way, kind_at, task_no_at, resource_no_at, alarm_no_at, events_at, lock_at, due_at, operands_at, way_at, ways_at, site_at, block_at}
+use Rattle.image_codec.proofs.Spells.{ok_is, done_with, Takes, Spells, nothing_more, and_then, said, wide16, wide32, number_law, Tested, tested_law, tested_number_law}
 use Rattle.image_codec.proofs.FieldLaws.{flag_law}
 use Rattle.image_codec.proofs.KindLaws.{GoodBlank, kind_law, other_of, GoodOperands, GoodFilled, operands_take, task_no_law, resource_no_law, alarm_no_law, events_law, due_law, lock_law, ticks_law, set_event_law, made_of}
-use Rattle.image_codec.proofs.TableLaws.{joined6}
+use Rattle.image_codec.proofs.Spells.{joined6}
+use Rattle.image_codec.proofs.SiteLaws.{GoodSite, site_law}
 
 -- the kind of a number, with blank operands but for where choice 0 leads
 abbrev kind_by : ℕ → ℕ → Kind
@@ -171,75 +171,6 @@ module _ (tables : Tables) (blocks b : ℕ) where
         same_ways filled bytes ∙ ap (λ (k : Kind). ways_at tables blocks b k bytes) (sym good.same) ∙ sym (same_ways w.0 bytes) ∙ ways_again w.0 w.1 rest good.leads;
   }
 
--- ---- forms
-
-pub first_choice : {A : Type 0} (test : Bool) (x : A) (o : Option A) (y : A) → cond test (Some x) o ≡ Some y → ((test ≡ true) × (x ≡ y)) ⊎ (o ≡ Some y)
-first_choice true x o y e = inl (refl, same_Some x y e)
-first_choice false x o y e = inr e
-
-direct_back : (tasks n : ℕ) (f : Form) → direct_form tasks n ≡ Some f → form_number f ≡ n
-direct_back tasks n f e =
-    elim (first_choice (leb 0x0200 n && ltb n (0x0200 + tasks)) (form.Direct (Some (task_no (n - 0x0200)))) None f e) [
-      | inl h ↦
-          let enough : 0x0200 ≤ n = leb-true _ _ (and_parts (leb 0x0200 n) (ltb n (0x0200 + tasks)) h.0).0 in
-          let back : 0x0200 + (n - 0x0200) ≡ n = omega (arith, enough) in
-          ap form_number (sym h.1) ∙ back
-      | inr h ↦ absurd cc
-    ]
-
-pub form_back : (tasks n : ℕ) (f : Form) → form_of tasks n ≡ Some f → form_number f ≡ n
-form_back tasks n f e =
-    elim (first_choice (eqb n 0x0000) form.Never _ f e) [
-      | inl h ↦ ap form_number (sym h.1) ∙ sym (eqb-true n 0x0000 h.0)
-      | inr e1 ↦ elim (first_choice (eqb n 0x0100) form.Stay _ f e1) [
-        | inl h ↦ ap form_number (sym h.1) ∙ sym (eqb-true n 0x0100 h.0)
-        | inr e2 ↦ elim (first_choice (eqb n 0x02ff) (form.Direct None) _ f e2) [
-          | inl h ↦ ap form_number (sym h.1) ∙ sym (eqb-true n 0x02ff h.0)
-          | inr e3 ↦ elim (first_choice (eqb n 0x0300) form.General _ f e3) [
-            | inl h ↦ ap form_number (sym h.1) ∙ sym (eqb-true n 0x0300 h.0)
-            | inr e4 ↦ direct_back tasks n f e4
-          ]
-        ]
-      ]
-    ]
-
--- what stands for a block that is a site, or isn't
-abbrev pub GoodSite : ℕ → Bool → Option Site → Type 0
-GoodSite tasks is None = is ≡ false
-GoodSite tasks is (Some x) = (is ≡ true) × ((form_of tasks (form_number x.form) ≡ Some x.form) × (form_number x.form < 2 ^ 16))
-
-formed_ok : (bytes rest : List ℕ) (o : Option Form) (x : Option Site × List ℕ) → formed_site bytes rest o ≡ Ok x → (f : Form) × (o ≡ Some f) × ((Some (record { form = f }), rest) ≡ x)
-formed_ok bytes rest None x e = absurd cc
-formed_ok bytes rest (Some f) x e = (f, refl, ok_is (Some (record { form = f }), rest) x e)
-
-abbrev site_reader : ℕ → Bool → List ℕ → Read (Option Site)
-site_reader tasks is bytes = cond is (number_at w16 bytes >>= (λ n. formed_site bytes n.1 (form_of tasks n.0))) (Ok (None, bytes))
-
-site_takes : (tasks : ℕ) (is : Bool) (bytes : List ℕ) (x : Option Site) (rest : List ℕ) → AreBytes bytes → site_reader tasks is bytes ≡ Ok (x, rest) → Takes bytes (site_bytes x) rest × GoodSite tasks is x
-site_takes tasks true bytes x rest fits e =
-    let a = bind_ok (number_at w16 bytes) (λ n. formed_site bytes n.1 (form_of tasks n.0)) (x, rest) e in
-    let g = formed_ok bytes a.0.1 (form_of tasks a.0.0) (x, rest) a.2 in
-    let u = (number_law w16 (2 ^ 16) wide16).takes bytes a.0.0 a.0.1 fits a.1 in
-    let f = g.0 in
-    let same : form_number f ≡ a.0.0 = form_back tasks a.0.0 f g.1 in
-    subst (λ (p : Option Site × List ℕ). Takes bytes (site_bytes p.0) p.1 × GoodSite tasks true p.0) g.2
-    (subst (λ (n : ℕ). Takes bytes (two n) a.0.1) (sym same) u.0, (refl, (ap (form_of tasks) same ∙ g.1, subst (λ (n : ℕ). n < 2 ^ 16) (sym same) u.1)))
-site_takes tasks false bytes x rest fits e =
-    subst (λ (p : Option Site × List ℕ). Takes bytes (site_bytes p.0) p.1 × GoodSite tasks false p.0) (ok_is (None, bytes) (x, rest) e) (record { parts = refl; rest_fits = fits }, refl)
-
-site_again : (tasks : ℕ) (is : Bool) (x : Option Site) (rest : List ℕ) → GoodSite tasks is x → site_reader tasks is (site_bytes x ++ rest) ≡ Ok (x, rest)
-site_again tasks true None rest good = absurd cc
-site_again tasks false None rest good = refl
-site_again tasks true (Some x) rest good =
-    let bytes = two (form_number x.form) ++ rest in
-    ap (λ (r : Read ℕ). r >>= λ n. formed_site bytes n.1 (form_of tasks n.0)) ((number_law w16 (2 ^ 16) wide16).again (form_number x.form) rest good.1.1)
-    ∙ ap (formed_site bytes rest) good.1.0
-site_again tasks false (Some x) rest good = absurd (cc (good.0))
-
-pub site_law : (t : Tables) (b : ℕ) (k : Kind) → Spells (site_at t b k) site_bytes (GoodSite (length t.tasks) (is_site_in t.tasks b k))
-unfolding site_at
-site_law t b k = record { takes = site_takes (length t.tasks) (is_site_in t.tasks b k); again = site_again (length t.tasks) (is_site_in t.tasks b k) }
-
 -- ---- blocks
 
 abbrev pub Entry : Type 0
@@ -309,26 +240,26 @@ blank_other : (k : Kind) → slice_get blank_kinds (kind_number k) ≡ Some k �
 blank_other (kind.Choice o) e = ap other_of (sym (same_Some (kind.Choice (block_no 0)) (kind.Choice o) e))
 blank_other k e = refl
 
-module _ (t : Tables) (blocks b : ℕ) where
+module _ (t : Tables) (blocks b : ℕ) (v : Version) where
   -- a block is good beside the tables
   pub record GoodBlock (y : Entry) : Type 0 where
     pub blank : GoodBlank t b (blank_of y.0.kind)
     pub line : y.0.line < 2 ^ 32
     pub filled : GoodFilled t b (blank_of y.0.kind) (unwayed y.0.kind)
     pub leads : LeadsWell t blocks b y.0.kind y.0.next.0
-    pub site : GoodSite (length t.tasks) (is_site_in t.tasks b y.0.kind) y.1
+    pub site : GoodSite v (length t.tasks) (is_site_in t.tasks b y.0.kind) y.1
 
-  pub block_law : Spells (block_at t blocks b) block_bytes GoodBlock
+  pub block_law : Spells (block_at t blocks b v) (block_bytes v) GoodBlock
   unfolding block_at
   block_law =
-      said (block_at t blocks b) _ _ block_bytes GoodBlock
+      said (block_at t blocks b v) _ _ (block_bytes v) GoodBlock
       (and_then (kind_at t b) (λ k. one (kind_number k)) (GoodBlank t b) (λ (y : Entry). blank_of y.0.kind) _ _ _ (kind_law t b) (λ blank blank_good.
       and_then flag_at (λ f. one (flag_number f)) _ (λ (y : Entry). y.0.locked) _ _ _ flag_law (λ locked _.
       and_then (number_at w32) four (λ n. n < 2 ^ 32) (λ (y : Entry). y.0.line) _ _ _ (number_law w32 (2 ^ 32) wide32) (λ line _.
       and_then (operands_at t b blank) operand_bytes (GoodFilled t b blank) (λ (y : Entry). unwayed y.0.kind) _ _ _ (operands_law t b blank) (λ filled filled_good.
       and_then (ways_at t blocks b filled) (λ w. way_bytes w.0 (block_no w.1)) (GoodWays t blocks b filled) (λ (y : Entry). (y.0.kind, y.0.next.0)) _ _ _ (ways_law t blocks b filled) (λ w _.
-      and_then (site_at t b w.0) site_bytes _ (λ (y : Entry). y.1) (λ site rest. Ok (an_entry locked line w site, rest)) (λ _. []) (λ site y. y ≡ an_entry locked line w site)
-      (site_law t b w.0) (λ site _. nothing_more (an_entry locked line w site))
+      and_then (site_at t b v w.0) (site_bytes v) _ (λ (y : Entry). y.1) (λ site rest. Ok (an_entry locked line w site, rest)) (λ _. []) (λ site y. y ≡ an_entry locked line w site)
+      (site_law t b v w.0) (λ site _. nothing_more (an_entry locked line w site))
       (λ site y _ is. ap (λ (z : Entry). z.1) is))
       (λ w y _ good. ap (λ (z : Entry). (z.0.kind, z.0.next.0)) good.1))
       (λ filled y filled_good good.
@@ -341,8 +272,8 @@ module _ (t : Tables) (blocks b : ℕ) where
       sym (get_or_from_slice_get blank_kinds (kind_number y.0.kind) (blank_of y.0.kind) kind.Loop (listed_blank y.0.kind))
       ∙ ap (λ (n : ℕ). slice_index_or blank_kinds n kind.Loop) same ∙ get_or_from_slice_get blank_kinds (kind_number blank) blank kind.Loop blank_good.blank))
       (λ y.
-      ap (λ (n : ℕ). one n ++ (one (flag_number y.0.locked) ++ (four y.0.line ++ (operand_bytes (unwayed y.0.kind) ++ (way_bytes y.0.kind y.0.next ++ (site_bytes y.1 ++ [])))))) (number_blank y.0.kind)
-      ∙ ap (λ (s : List ℕ). one (kind_number y.0.kind) ++ (one (flag_number y.0.locked) ++ (four y.0.line ++ (s ++ (way_bytes y.0.kind y.0.next ++ (site_bytes y.1 ++ [])))))) (operands_unwayed y.0.kind)
-      ∙ joined6 (one (kind_number y.0.kind)) (one (flag_number y.0.locked)) (four y.0.line) (operand_bytes y.0.kind) (way_bytes y.0.kind y.0.next) (site_bytes y.1))
+      ap (λ (n : ℕ). one n ++ (one (flag_number y.0.locked) ++ (four y.0.line ++ (operand_bytes (unwayed y.0.kind) ++ (way_bytes y.0.kind y.0.next ++ (site_bytes v y.1 ++ [])))))) (number_blank y.0.kind)
+      ∙ ap (λ (s : List ℕ). one (kind_number y.0.kind) ++ (one (flag_number y.0.locked) ++ (four y.0.line ++ (s ++ (way_bytes y.0.kind y.0.next ++ (site_bytes v y.1 ++ [])))))) (operands_unwayed y.0.kind)
+      ∙ joined6 (one (kind_number y.0.kind)) (one (flag_number y.0.locked)) (four y.0.line) (operand_bytes y.0.kind) (way_bytes y.0.kind y.0.next) (site_bytes v y.1))
       (λ y good. record { blank = good.0; line = good.1.1.0; filled = good.1.1.1.0; leads = good.1.1.1.1.0.leads; site = good.1.1.1.1.1.0 })
       (λ y good. (good.blank, (tt, (good.line, (good.filled, (record { same = unwayed_twice y.0.kind; leads = good.leads }, (good.site, refl)))))))

@@ -6,6 +6,7 @@ use Rattle.osek_standard.specs.declared.block.Block.{Block}
 use Rattle.osek_values.specs.declared.refused.Refused.{Refused}
 use Rattle.image_codec.specs.declared.fault.Fault.{Fault}
 use Rattle.image_model.specs.declared.site.Site.{Site}
+use Rattle.image_model.specs.declared.image.Version.{Version}
 use Rattle.image_codec.specs.declared.parts.Tables.{Tables}
 use Rattle.image_codec.specs.Reading.{Read, Fails, entries_at}
 use Rattle.image_codec.specs.BlockReading.{block_at}
@@ -36,30 +37,30 @@ zip_seconds (k ∷ ks) (x ∷ xs) e = ap (λ zs. x ∷ zs) (zip_seconds ks xs (o
 abbrev Entry : Type 0
 Entry = Block × Option Site
 
-abbrev pub read_block : Tables → ℕ → List Entry → List ℕ → Read Entry
-read_block t count earlier = block_at t count (length earlier)
+abbrev pub read_block : Version → Tables → ℕ → List Entry → List ℕ → Read Entry
+read_block v t count earlier = block_at t count (length earlier) v
 
 -- the first so many blocks, and what stands for each among the sites
 pub record AreFirst (blocks : List Block) (sites : List (Option Site)) (n : ℕ) : Type 0 where
   pub block_count : length blocks ≡ n
   pub site_count : length sites ≡ n
 
-module _ (t : Tables) (blocks : List Block) (sites : List (Option Site)) (total : Read (List Entry)) (count i : ℕ) (bytes : List ℕ) where
-  pub block_ends : (e : Refused Fault) → AreFirst blocks sites i → i < count → Fails e (block_at t count i bytes) → entries_at (read_block t count) (zip blocks sites) (count - i) bytes ≡ total → Fails e total
+module _ (v : Version) (t : Tables) (blocks : List Block) (sites : List (Option Site)) (total : Read (List Entry)) (count i : ℕ) (bytes : List ℕ) where
+  pub block_ends : (e : Refused Fault) → AreFirst blocks sites i → i < count → Fails e (block_at t count i v bytes) → entries_at (read_block v t count) (zip blocks sites) (count - i) bytes ≡ total → Fails e total
   block_ends e first lt failed so_far =
       let len : length (zip blocks sites) ≡ i = length-zip blocks sites (first.block_count ∙ sym first.site_count) ∙ first.block_count in
-      ends (read_block t count) (zip blocks sites) total e count i bytes lt (subst (λ n. Fails e (block_at t count n bytes)) (sym len) failed) so_far
+      ends (read_block v t count) (zip blocks sites) total e count i bytes lt (subst (λ n. Fails e (block_at t count n v bytes)) (sym len) failed) so_far
 
-  pub block_goes_on : (b : Block) (s : Option Site) (after : List ℕ) → AreFirst blocks sites i → i < count → block_at t count i bytes ≡ Ok ((b, s), after)
-      → entries_at (read_block t count) (zip blocks sites) (count - i) bytes ≡ total → entries_at (read_block t count) (zip (blocks ++ b ∷ []) (sites ++ s ∷ [])) (count - (i + 1)) after ≡ total
+  pub block_goes_on : (b : Block) (s : Option Site) (after : List ℕ) → AreFirst blocks sites i → i < count → block_at t count i v bytes ≡ Ok ((b, s), after)
+      → entries_at (read_block v t count) (zip blocks sites) (count - i) bytes ≡ total → entries_at (read_block v t count) (zip (blocks ++ b ∷ []) (sites ++ s ∷ [])) (count - (i + 1)) after ≡ total
   block_goes_on b s after first lt read so_far =
       let same : length blocks ≡ length sites = first.block_count ∙ sym first.site_count in
       let len : length (zip blocks sites) ≡ i = length-zip blocks sites same ∙ first.block_count in
-      ap (λ earlier. entries_at (read_block t count) earlier (count - (i + 1)) after) (zip_push blocks sites b s same)
-      ∙ goes_on (read_block t count) (zip blocks sites) total count i bytes (b, s) after lt (ap (λ n. block_at t count n bytes) len ∙ read) so_far
+      ap (λ earlier. entries_at (read_block v t count) earlier (count - (i + 1)) after) (zip_push blocks sites b s same)
+      ∙ goes_on (read_block v t count) (zip blocks sites) total count i bytes (b, s) after lt (ap (λ n. block_at t count n v bytes) len ∙ read) so_far
 
-  pub block_done : count ≤ i → entries_at (read_block t count) (zip blocks sites) (count - i) bytes ≡ total → total ≡ Ok (zip blocks sites, bytes)
-  block_done le so_far = is_done (read_block t count) (zip blocks sites) total count i bytes le so_far
+  pub block_done : count ≤ i → entries_at (read_block v t count) (zip blocks sites) (count - i) bytes ≡ total → total ≡ Ok (zip blocks sites, bytes)
+  block_done le so_far = is_done (read_block v t count) (zip blocks sites) total count i bytes le so_far
 
 pub one_more : (blocks : List Block) (sites : List (Option Site)) (i : ℕ) (more_blocks : List Block) (more_sites : List (Option Site)) (b : Block) (s : Option Site)
     → AreFirst blocks sites i → more_blocks ≡ blocks ++ b ∷ [] → more_sites ≡ sites ++ s ∷ [] → AreFirst more_blocks more_sites (i + 1)

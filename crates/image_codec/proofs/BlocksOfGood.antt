@@ -102,7 +102,7 @@ module _ (p : Parts) (b : ℕ) where
   tick_may_from due place k dues g order = absurd cc
 
 module _ (p : Parts) (same : length p.blocks ≡ length p.sites)
-    (fact : (b : ℕ) (d : Block) (e : Option Site) → b < length p.blocks → GoodBlock p.tables (length p.blocks) b (get_or p.blocks b d, get_or p.sites b e)) where
+    (fact : (b : ℕ) (d : Block) (e : Option Site) → b < length p.blocks → GoodBlock p.tables (length p.blocks) b p.version (get_or p.blocks b d, get_or p.sites b e)) where
   abbrev t : Tables
   t = p.tables
 
@@ -115,7 +115,7 @@ module _ (p : Parts) (same : length p.blocks ≡ length p.sites)
   abbrev next_of : ℕ → ℕ
   next_of b = (get_or blocks b no_block).next.0
 
-  abbrev the_fact : (b : ℕ) → b < length blocks → GoodBlock t (length blocks) b (get_or blocks b no_block, get_or p.sites b None)
+  abbrev the_fact : (b : ℕ) → b < length blocks → GoodBlock t (length blocks) b p.version (get_or blocks b no_block, get_or p.sites b None)
   the_fact b lt = fact b no_block None lt
 
   allowed_parts : (b : ℕ) → b < length blocks → (is_owned t b ≡ true) × (tasks_allow t b (blank_of (kind_of b)) ≡ true) × (isrs_allow t b (blank_of (kind_of b)) ≡ true) × (counters_allow t b (blank_of (kind_of b)) ≡ true)

@@ -10,15 +10,20 @@ use Rattle.osek_standard.specs.declared.block.{Block.{Block}, Kind.{Kind}}
 use Rattle.osek_standard.specs.declared.block.Kind.TheVariants as kind
 use Rattle.image_model.specs.CallNames as call
 use Rattle.osek_standard.specs.Validity.{no_block, no_counter, no_task, no_isr, IsAmong, is_within, is_own_next, due_of, tick_may, NamesEntries, IsOtherWay, IsBlock, IsOwner, IsTickCode, IsValid}
-use Rattle.image_model.specs.declared.site.{Form.{Form}, Site.{Site}}
+use Rattle.image_model.specs.declared.site.{Form.{Form}, Known.{Known}, Site.{Site}}
 use Rattle.image_model.specs.declared.site.Form.TheVariants as form
+use Rattle.image_model.specs.declared.site.Known.TheVariants as known
+use Rattle.image_model.specs.declared.image.Version.{Version}
+use Rattle.image_model.specs.declared.image.Version.TheVariants as version
+use Rattle.image_model.specs.Versions.{IsUnknown, SaysNothing, FitsAlone}
 use Rattle.image_codec.specs.declared.parts.{Tables.{Tables}, Parts.{Parts}}
 use Rattle.image_model.specs.Sites.{IsForm}
 use Rattle.image_codec.specs.Spelling.{kind_number, form_number}
 use Rattle.image_codec.specs.Fits.{FitsKind}
 use Rattle.image_codec.specs.BlockReading.{blank_kinds, tick_order, where_has, task_range, isr_range, counter_range, tasks_allow, isrs_allow, counter_allows, counters_allow, is_owned, is_allowed, is_due_in, is_due, form_of}
 use Rattle.image_codec.proofs.KindLaws.{other_of, GoodOperands, GoodNo, GoodBlank, GoodFilled}
-use Rattle.image_codec.proofs.BlockLaws.{unwayed, blank_of, listed_blank, number_unwayed, number_blank, GoodWay, LeadsWell, GoodSite}
+use Rattle.image_codec.proofs.BlockLaws.{unwayed, blank_of, listed_blank, number_unwayed, number_blank, GoodWay, LeadsWell}
+use Rattle.image_codec.proofs.SiteLaws.{GoodKnown, GoodSite}
 use Rattle.image_codec.proofs.OwnerTests.{any_of_owners}
 use Rattle.image_codec.proofs.WholeTables.{tables_of_parts}
 use Rattle.image_codec.proofs.Places.{all_numbered, among_within, within_among, among_where}
@@ -318,11 +323,27 @@ module _ (p : Parts) (v : IsValid (tables_of_parts p)) where
         leads_from t (length blocks) b k n (here.owner.ends b here.among)
         (ways_weaker _ (GoodWay t (length blocks) b) way_from k n (ways_both _ _ k n (ways_both (λ m. IsAmong m here.first here.count) StaysInTask k n within in_task) (ways_both StaysInIsr Follows k n in_isr in_order)))
 
--- a site that is there exactly where it is one
+-- a site that is there exactly where it is one, and that says what its version has a place for
 abbrev pub FitsSite : ℕ → Bool → Option Site → Type 0
 FitsSite tasks is None = IsTrue (not is)
 FitsSite tasks is (Some x) = IsTrue is × IsForm tasks x.form
 
-pub good_site : (tasks : ℕ) (is : Bool) (x : Option Site) → tasks ≤ 16 → FitsSite tasks is x → GoodSite tasks is x
-good_site tasks is None few fits = not-true is fits
-good_site tasks is (Some x) few fits = (fits.0, (form_again tasks x.form few fits.1, form_small tasks x.form few fits.1))
+abbrev pub SaysItsOwn : Version → Option Site → Type 0
+SaysItsOwn version.One x = SaysNothing x
+SaysItsOwn version.Two x = Unit {0}
+
+known_any : (k : Known) → IsUnknown k → k ≡ known.Any
+known_any known.Any h = refl
+known_any (known.Always x) h = absurd h
+
+good_known : (v : Version) (x : Site) → SaysItsOwn v (Some x) → GoodKnown v x.known
+good_known version.One x says = known_any x.known says
+good_known version.Two x says = tt
+
+pub good_site : (v : Version) (tasks : ℕ) (is : Bool) (x : Option Site) → tasks ≤ 16 → FitsSite tasks is x → SaysItsOwn v x → GoodSite v tasks is x
+good_site v tasks is None few fits says = not-true is fits
+good_site v tasks is (Some x) few fits says = (fits.0, ((form_again tasks x.form few fits.1, form_small tasks x.form few fits.1), good_known v x says))
+
+pub says_its_own : (v : Version) (sites : List (Option Site)) (b : ℕ) → b < length sites → FitsAlone v sites → SaysItsOwn v (get_or sites b None)
+says_its_own version.One sites b lt alone = alone.unknown b None lt
+says_its_own version.Two sites b lt alone = tt

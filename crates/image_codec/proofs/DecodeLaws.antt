@@ -1,10 +1,11 @@
 -- From what was read of all bytes to the image.
 use Rattle.std.proofs.Common.{◌≡◌, ℕ, ◌-◌, List, length, map, Option, Result, Ok, Err, sym, ap, subst, ◌∙◌}
 use Rattle.std.specs.List.{zip}
+use Rattle.std.proofs.Props.{props}
 use Rattle.osek_standard.specs.declared.app.App.{App}
 use Rattle.osek_standard.specs.declared.block.Block.{Block}
 use Rattle.osek_standard.specs.Validity.{IsValid, IsValid-prop}
-use Rattle.osek_standard.specs.Versions.{FitsVersion1, FitsVersion1-prop}
+use Rattle.image_model.specs.Versions.{FitsBothVersions, FitsBothVersions-prop, FitsAlone, FitsAlone-prop}
 use Rattle.image_codec.specs.declared.fault.{Fault.{Fault}, ImageFault.{ImageFault}}
 use Rattle.image_model.specs.declared.site.Site.{Site}
 use Rattle.image_model.specs.declared.image.Image.{Image}
@@ -21,18 +22,18 @@ use Rattle.image_codec.proofs.PartsLaws.{spelling_is, all_takes}
 use Rattle.image_codec.proofs.WholeTables.{tables_of_parts}
 
 abbrev some_parts : Header → Tables → List Block → List (Option Site) → List ℕ → Read Parts
-some_parts h t bs ss rest = Ok (record { hooks = h.hooks; tables = t; blocks = bs; sites = ss }, rest)
+some_parts h t bs ss rest = Ok (record { version = h.version; hooks = h.hooks; tables = t; blocks = bs; sites = ss }, rest)
 
 with_lists : (h : Header) (t : Tables) {bs bs' : List Block} {ss ss' : List (Option Site)} (rest : List ℕ) → bs ≡ bs' → ss ≡ ss' → some_parts h t bs ss rest ≡ some_parts h t bs' ss' rest
 with_lists h t rest e f = cc
 
 -- the parts in order
 pub parts_read : (bytes : List ℕ) (h : Header) (r1 : List ℕ) (t : Tables) (r2 : List ℕ) (bs : List Block) (ss : List (Option Site)) (r3 : List ℕ) → header_at bytes ≡ Ok (h, r1) → tables_at h r1 ≡ Ok (t, r2)
-    → blocks_at t h.blocks r2 ≡ Ok (zip bs ss, r3) → length bs ≡ length ss → parts_at bytes ≡ Ok (record { hooks = h.hooks; tables = t; blocks = bs; sites = ss }, r3)
+    → blocks_at h.version t h.blocks r2 ≡ Ok (zip bs ss, r3) → length bs ≡ length ss → parts_at bytes ≡ Ok (record { version = h.version; hooks = h.hooks; tables = t; blocks = bs; sites = ss }, r3)
 unfolding parts_at
 parts_read bytes h r1 t r2 bs ss r3 e1 e2 e3 same =
-    ap (λ (r : Read Header). r >>= λ n. tables_at n.0 n.1 >>= λ u. blocks_at u.0 n.0.blocks u.1 >>= λ b. some_parts n.0 u.0 (map (λ (x : Entry). x.0) b.0) (map (λ (x : Entry). x.1) b.0) b.1) e1
-    ∙ ap (λ (r : Read Tables). r >>= λ u. blocks_at u.0 h.blocks u.1 >>= λ b. some_parts h u.0 (map (λ (x : Entry). x.0) b.0) (map (λ (x : Entry). x.1) b.0) b.1) e2
+    ap (λ (r : Read Header). r >>= λ n. tables_at n.0 n.1 >>= λ u. blocks_at n.0.version u.0 n.0.blocks u.1 >>= λ b. some_parts n.0 u.0 (map (λ (x : Entry). x.0) b.0) (map (λ (x : Entry). x.1) b.0) b.1) e1
+    ∙ ap (λ (r : Read Tables). r >>= λ u. blocks_at h.version u.0 h.blocks u.1 >>= λ b. some_parts h u.0 (map (λ (x : Entry). x.0) b.0) (map (λ (x : Entry). x.1) b.0) b.1) e2
     ∙ ap (λ (r : Read (List Entry)). r >>= λ b. some_parts h t (map (λ (x : Entry). x.0) b.0) (map (λ (x : Entry). x.1) b.0) b.1) e3
     ∙ with_lists h t r3 (zip_firsts bs ss same) (zip_seconds bs ss same)
 
@@ -68,17 +69,29 @@ app_of p v = record {
   valid = v;
 }
 
-abbrev pub image_of : (p : Parts) (v : IsValidOf p) (w : FitsVersion1 p.tables.tasks) → AreSites (app_of p v) p.sites → Image
-image_of p v w s = record { app = app_of p v; sites = p.sites; version_1 = w; valid = s }
+-- what an image of these parts keeps besides
+pub record Keeps (p : Parts) (app : App) : Type 0 where
+  pub both_versions : FitsBothVersions app
+  pub its_version : FitsAlone p.version p.sites
+  pub sites : AreSites app p.sites
 
-module _ (p : Parts) (v : IsValidOf p) (w : FitsVersion1 p.tables.tasks) (s : AreSites (app_of p v) p.sites) where
-  same_facts : (v' : IsValidOf p) (w' : FitsVersion1 p.tables.tasks) (s' : AreSites (app_of p v') p.sites) → image_of p v w s ≡ image_of p v' w' s'
-  same_facts v' w' =
-      subst (λ (u : IsValidOf p). (s' : AreSites (app_of p u) p.sites) → image_of p v w s ≡ image_of p u w' s') (IsValid-prop (tables_of_parts p) v v')
-      (λ s'. ap (λ (u : FitsVersion1 p.tables.tasks). image_of p v u s) (FitsVersion1-prop p.tables.tasks w w') ∙ ap (image_of p v w') (AreSites-prop (app_of p v) p.sites s s'))
+abbrev pub image_of : (p : Parts) (v : IsValidOf p) → Keeps p (app_of p v) → Image
+image_of p v k = record { version = p.version; app = app_of p v; sites = p.sites; both_versions = k.both_versions; its_version = k.its_version; valid = k.sites }
 
-  same_image : (q : Parts) → p ≡ q → (v' : IsValidOf q) (w' : FitsVersion1 q.tables.tasks) (s' : AreSites (app_of q v') q.sites) → image_of p v w s ≡ image_of q v' w' s'
-  same_image q e = subst (λ (r : Parts). (v' : IsValidOf r) (w' : FitsVersion1 r.tables.tasks) (s' : AreSites (app_of r v') r.sites) → image_of p v w s ≡ image_of r v' w' s') e same_facts
+Keeps-prop : (p : Parts) (app : App) → IsProp (Keeps p app)
+Keeps-prop p app = hlevel (props, FitsBothVersions-prop, FitsAlone-prop, AreSites-prop)
+
+module _ (p : Parts) (v : IsValidOf p) (k : Keeps p (app_of p v)) where
+  same_facts : (v' : IsValidOf p) (k' : Keeps p (app_of p v')) → image_of p v k ≡ image_of p v' k'
+  same_facts v' =
+      subst (λ (u : IsValidOf p). (k' : Keeps p (app_of p u)) → image_of p v k ≡ image_of p u k') (IsValid-prop (tables_of_parts p) v v')
+      (λ k'. ap (image_of p v) (Keeps-prop p (app_of p v) k k'))
+
+  same_image : (q : Parts) → p ≡ q → (v' : IsValidOf q) (k' : Keeps q (app_of q v')) → image_of p v k ≡ image_of q v' k'
+  same_image q e = subst (λ (r : Parts). (v' : IsValidOf r) (k' : Keeps r (app_of r v')) → image_of p v k ≡ image_of r v' k') e same_facts
+
+abbrev kept_by : (i : Image) → Keeps (parts_of i) i.app
+kept_by i = record { both_versions = i.both_versions; its_version = i.its_version; sites = i.valid }
 
 pub image_ext : (i j : Image) → parts_of i ≡ parts_of j → i ≡ j
-image_ext i j e = same_image (parts_of i) i.app.valid i.version_1 i.valid (parts_of j) e j.app.valid j.version_1 j.valid
+image_ext i j e = same_image (parts_of i) i.app.valid (kept_by i) (parts_of j) e j.app.valid (kept_by j)

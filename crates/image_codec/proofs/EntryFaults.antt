@@ -7,14 +7,14 @@ use Rattle.osek_values.specs.Hooks.{hook_set}
 use Rattle.osek_values.specs.Numbers.{counter_no, mask}
 use Rattle.osek_standard.specs.declared.objects.{Task.{Task}, Isr.{Isr}, Counter.{Counter}, Alarm.{Alarm}, Resource.{Resource}, Schedule.{Schedule}, Action.{Action}}
 use Rattle.osek_standard.specs.Validity.{no_counter, owners, greatest_ceiling}
-use Rattle.image_codec.specs.declared.fault.ImageRule.TheVariants.{I2, I3, I5}
+use Rattle.image_codec.specs.declared.fault.ImageRule.TheVariants.{I3, I5}
 use Rattle.image_codec.specs.declared.parts.{Header.{Header}, Range.{Range}}
-use Rattle.image_codec.specs.Spelling.{magic}
+use Rattle.image_model.specs.declared.image.Version.{Version}
 use Rattle.image_codec.specs.Laws.{HeaderFaults, EntryFaults}
-use Rattle.image_codec.specs.Reading.{Read, ◌>>=◌, exactly_at, name_at, number_at, tested_byte_at, tested_at, byte_below_at, modes_at, range_at}
-use Rattle.image_codec.specs.TableReading.{header_at, schedule_of, schedule_at, task_at, isr_at, counter_at, is_action_mask, action_of, action_at, is_start_time, is_start_cycle, alarm_at, resource_at}
-use Rattle.image_codec.specs.FieldTable.{fault_of, Field, field, any, some, below, at_most, none_of, first_broken, behind, magic_field, name_field, header_fields, range_fields, modes_field, task_head, task_fields, isr_head, isr_fields, counter_fields, action_fields, start_fields, alarm_fields, resource_fields}
-use Rattle.image_codec.proofs.FieldFaults.{Covers, Any, Numbered, covers_then, covers_made, number_covers, tested_covers, cross_covers, byte_covers, magic_covers, name_covers, range_covers, fault_covered}
+use Rattle.image_codec.specs.Reading.{Read, ◌>>=◌, unused_byte_at, unused_16_at, name_at, number_at, tested_byte_at, tested_at, byte_below_at, modes_at, range_at}
+use Rattle.image_codec.specs.TableReading.{version_at, header_at, schedule_of, schedule_at, task_at, isr_at, counter_at, is_action_mask, action_of, action_at, is_start_time, is_start_cycle, alarm_at, resource_at}
+use Rattle.image_codec.specs.FieldTable.{fault_of, Field, field, any, some, below, at_most, none_of, first_broken, behind, magic_field, further_field, unused_field, name_field, header_fields, range_fields, modes_field, task_head, task_fields, isr_head, isr_fields, counter_fields, action_fields, start_fields, alarm_fields, resource_fields}
+use Rattle.image_codec.proofs.FieldFaults.{Covers, Any, Numbered, covers_then, covers_made, number_covers, tested_covers, cross_covers, byte_covers, magic_covers, unused_byte_covers, unused_16_covers, name_covers, range_covers, fault_covered}
 
 -- what is read follows the fields, and the value is so
 record Follows {A : Type 0} (P : A → Type 0) (fs : List Field) (bytes : List ℕ) (read : Read A) : Type 0 where
@@ -40,7 +40,7 @@ a_tested w test bytes = record { covers = tested_covers w bytes test }
 a_cross : (w : Width) (refers : ℕ → Bool) (bytes : List ℕ) → Follows (Numbered w bytes) (field w any refers ∷ []) bytes (tested_at w refers I5 bytes)
 a_cross w refers bytes = record { covers = cross_covers w bytes refers }
 
-a_magic : (bytes : List ℕ) → Follows Any (magic_field ∷ []) bytes (exactly_at magic I2 bytes)
+a_magic : (bytes : List ℕ) → Follows Any (magic_field ∷ []) bytes (version_at bytes)
 a_magic bytes = record { covers = magic_covers bytes }
 
 a_name : (earlier : List (List ℕ)) (bytes : List ℕ) → Follows Any (name_field earlier ∷ []) bytes (name_at earlier bytes)
@@ -49,19 +49,34 @@ a_name earlier bytes = record { covers = name_covers earlier bytes }
 a_code : (blocks : ℕ) (earlier : List (ℕ × ℕ)) (bytes : List ℕ) → Follows Any (range_fields blocks earlier bytes) bytes (range_at blocks earlier bytes)
 a_code blocks earlier bytes = record { covers = range_covers blocks earlier bytes }
 
+an_unused_byte : (v : Version) (value : ℕ) (bytes : List ℕ) → Follows Any (further_field v (unused_field w8 value)) bytes (unused_byte_at v value bytes)
+an_unused_byte v value bytes = record { covers = unused_byte_covers v value bytes }
+
+an_unused_16 : (v : Version) (value : ℕ) (bytes : List ℕ) → Follows Any (further_field v (unused_field w16 value)) bytes (unused_16_at v value bytes)
+an_unused_16 v value bytes = record { covers = unused_16_covers v value bytes }
+
+-- fields, and what follows them
+rest_of : {A B : Type 0} {fs gs : List Field} {bytes : List ℕ} {r : Read A} (k : A × List ℕ → Read B) → Follows Any fs bytes r
+    → ((a : A) → Follows Any gs (behind fs bytes) (k (a, behind fs bytes))) → Follows Any (fs ++ gs) bytes (r >>= k)
+rest_of {fs = fs} {gs = gs} {bytes = bytes} {r = r} k first second = record { covers = covers_then Any Any fs gs bytes r (λ a rest. k (a, rest)) first.covers (λ a _. (second a).covers) }
+
+-- the value is what was made before
+done_by : {A B : Type 0} {fs : List Field} {bytes : List ℕ} {r : Read A} (b : B) → Follows Any fs bytes r → Follows Any fs bytes (r >>= λ x. Ok (b, x.1))
+done_by b h = made (λ _. b) h
+
 covered : {A : Type 0} {fs : List Field} {bytes : List ℕ} {r : Read A} → Follows Any fs bytes r → fault_of r ≡ first_broken fs bytes
 covered {fs = fs} {bytes = bytes} {r = r} h = fault_covered Any (first_broken fs bytes) (behind fs bytes) r h.covers
 
 -- ---- the header
 
-abbrev a_header : ℕ → ℕ → ℕ → ℕ → ℕ → ℕ → ℕ → ℕ → Header
-a_header hooks tasks isrs counters alarms resources modes blocks =
-    record { hooks = hook_set hooks; tasks = tasks; isrs = isrs; counters = counters; alarms = alarms; resources = resources; modes = modes; blocks = blocks }
+abbrev a_header : Version → ℕ → ℕ → ℕ → ℕ → ℕ → ℕ → ℕ → ℕ → Header
+a_header v hooks tasks isrs counters alarms resources modes blocks =
+    record { version = v; hooks = hook_set hooks; tasks = tasks; isrs = isrs; counters = counters; alarms = alarms; resources = resources; modes = modes; blocks = blocks }
 
 header_covers : (bytes : List ℕ) → Follows Any header_fields bytes (header_at bytes)
 unfolding header_at
 header_covers bytes =
-    next _ (a_magic bytes) (λ start _.
+    next _ (a_magic bytes) (λ v _.
     next _ (a_byte (below 32) _) (λ hooks _.
     next _ (a_byte (below (MAX_TASKS + 1)) _) (λ tasks _.
     next _ (a_byte (below (MAX_ISRS + 1)) _) (λ isrs _.
@@ -69,7 +84,7 @@ header_covers bytes =
     next _ (a_byte (below (MAX_ALARMS + 1)) _) (λ alarms _.
     next _ (a_byte (below (MAX_RESOURCES + 1)) _) (λ resources _.
     next _ (a_byte (λ n. some n && at_most MAX_MODES n) _) (λ modes _.
-    made (a_header hooks tasks isrs counters alarms resources modes) (a_tested w16 (at_most MAX_BLOCKS) _)))))))))
+    made (a_header v hooks tasks isrs counters alarms resources modes) (a_tested w16 (at_most MAX_BLOCKS) _)))))))))
 
 pub header_faults : HeaderFaults
 header_faults bytes = covered (header_covers bytes)
@@ -92,7 +107,9 @@ task_covers n earlier bytes =
     next _ (schedule_covers _) (λ schedule _.
     next _ (a_number w64 _) (λ own _.
     next _ (a_byte (below (2 ^ n.modes)) _) (λ autostart _.
-    made (a_task name priority schedule own autostart) (a_code n.blocks (owners earlier [] []) (behind (task_head n earlier) bytes)))))))
+    rest_of _ (a_code n.blocks (owners earlier [] []) (behind (task_head n earlier) bytes)) (λ code.
+    rest_of _ (an_unused_byte n.version 1 _) (λ activation.
+    done_by (a_task name priority schedule own autostart code) (an_unused_byte n.version 0xff _))))))))
 
 abbrev an_isr : List ℕ → Range → Isr
 an_isr name code = record { name = name; first = code.first; count = code.count }
@@ -101,7 +118,8 @@ isr_covers : (n : Header) (tasks : List Task) (earlier : List Isr) (bytes : List
 unfolding isr_at
 isr_covers n tasks earlier bytes =
     next _ (a_name (map (λ (x : Isr). x.name) earlier) bytes) (λ name _.
-    made (an_isr name) (a_code n.blocks (owners tasks earlier []) (behind (isr_head earlier) bytes)))
+    rest_of _ (a_code n.blocks (owners tasks earlier []) (behind (isr_head earlier) bytes)) (λ code.
+    done_by (an_isr name code) (an_unused_byte n.version 0 _)))
 
 -- ---- counters
 
@@ -200,11 +218,13 @@ module _ (n : Header) (counters : List Counter) (earlier : List Alarm) where
 abbrev a_resource : List ℕ → ℕ → Resource
 a_resource name ceiling = record { name = name; ceiling = ceiling }
 
-resource_covers : (earlier : List Resource) (bytes : List ℕ) → Follows Any (resource_fields earlier) bytes (resource_at earlier bytes)
+resource_covers : (v : Version) (earlier : List Resource) (bytes : List ℕ) → Follows Any (resource_fields v earlier) bytes (resource_at v earlier bytes)
 unfolding resource_at
-resource_covers earlier bytes =
+resource_covers v earlier bytes =
     next _ (a_name (map (λ (x : Resource). x.name) earlier) bytes) (λ name _.
-    made (a_resource name) (a_tested w32 (at_most greatest_ceiling) _))
+    next _ (a_tested w32 (at_most greatest_ceiling) _) (λ ceiling _.
+    rest_of _ (an_unused_byte v 0 _) (λ property.
+    done_by (a_resource name ceiling) (an_unused_16 v 0 _))))
 
 pub entry_faults : EntryFaults
 entry_faults = record {
@@ -212,6 +232,6 @@ entry_faults = record {
   isr = λ n tasks earlier bytes. covered (isr_covers n tasks earlier bytes);
   counter = λ n tasks isrs earlier bytes. covered (counter_covers n tasks isrs earlier bytes);
   alarm = λ n counters earlier bytes. covered (alarm_covers n counters earlier bytes);
-  resource = λ earlier bytes. covered (resource_covers earlier bytes);
+  resource = λ v earlier bytes. covered (resource_covers v earlier bytes);
   mode = λ earlier bytes. covered (a_name earlier bytes);
 }

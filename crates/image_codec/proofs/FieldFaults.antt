@@ -1,6 +1,6 @@
 -- What reading a field gives is what the table of fields says.
-use Rattle.std.proofs.Common.{◌≡◌, ℕ, suc, ◌+◌, Bool, true, false, cond, ◌&&◌, List, [], ◌∷◌, ◌++◌, length, take, drop, get_or, Option, Some, None, Ok, Err, refl, sym, ap, subst, ◌∙◌, inl, inr, arith}
-use Rattle.std.specs.Prelude.{⊤, nat_lt, slice_get}
+use Rattle.std.proofs.Common.{◌≡◌, ℕ, suc, ◌+◌, Bool, true, false, cond, ◌&&◌, ◌||◌, List, [], ◌∷◌, ◌++◌, length, take, drop, get_or, Option, Some, None, Ok, Err, refl, sym, ap, subst, ◌∙◌, inl, inr, arith}
+use Rattle.std.specs.Prelude.{⊤, nat_lt, ◌==◌, slice_get}
 use Rattle.std.specs.Int.{Width, w8, w16, byte_len, from_be_bytes}
 use Rattle.std.specs.Str.{bytes_eq}
 use Rattle.std.proofs.lemmas.Bool.{cases_lt, lt-ltb, le-ltb}
@@ -11,8 +11,11 @@ use Rattle.osek_standard.specs.Validity.{meet}
 use Rattle.image_codec.specs.declared.fault.{ImageRule.{ImageRule}, ImageRule.TheVariants.{I1, I2, I3, I4, I5}, Fault.{Fault}}
 use Rattle.image_codec.specs.declared.parts.Range.{Range}
 use Rattle.image_codec.specs.Spelling.{magic}
-use Rattle.image_codec.specs.Reading.{Read, ◌>>=◌, fault_at, kept, exactly_at, text_at, name_at, byte_at, number_at, tested_byte_at, tested_at, count_at, range_at}
-use Rattle.image_codec.specs.FieldTable.{fault_of, Field, field, any, some, below, at_most, none_of, broken_at, or_later, first_broken, behind, front, magic_field, is_name_len, name_broken, name_field, first_field, count_field, range_fields, or_else}
+use Rattle.image_model.specs.declared.image.Version.{Version}
+use Rattle.image_model.specs.declared.image.Version.TheVariants as version
+use Rattle.image_codec.specs.TableReading.{version_of, version_at}
+use Rattle.image_codec.specs.Reading.{Read, ◌>>=◌, fault_at, kept, found_at, unused_byte_at, unused_16_at, text_at, name_at, byte_at, number_at, tested_byte_at, tested_at, count_at, range_at}
+use Rattle.image_codec.specs.FieldTable.{fault_of, Field, field, any, some, below, at_most, none_of, broken_at, or_later, first_broken, behind, front, magic_field, further_field, unused_field, is_name_len, name_broken, name_field, first_field, count_field, range_fields, or_else}
 
 -- reading gives this fault, or a value that is so, and leaves the rest
 abbrev pub CoversAt : {A : Type 0} → (A → Type 0) → Option Fault → List ℕ → Read A → Type 0
@@ -61,6 +64,14 @@ module _ {A B : Type 0} (P : A → Type 0) (Q : B → Type 0) where
 
   pub covers_made : (fs : List Field) (bytes : List ℕ) (r : Read A) (make : A → B) → ((a : A) → P a → Q (make a)) → Covers P fs bytes r → Covers Q fs bytes (r >>= λ x. Ok (make x.0, x.1))
   covers_made fs bytes r make so h = made_at (first_broken fs bytes) (behind fs bytes) r make so h
+
+-- whatever is read
+any_at : {A : Type 0} (P : A → Type 0) (o : Option Fault) (rest : List ℕ) (r : Read A) → CoversAt P o rest r → CoversAt Any o rest r
+any_at P None rest r h = (h.0, h.1, tt)
+any_at P (Some f) rest r h = h
+
+pub covers_any : {A : Type 0} (P : A → Type 0) (fs : List Field) (bytes : List ℕ) (r : Read A) → Covers P fs bytes r → Covers Any fs bytes r
+covers_any P fs bytes r h = any_at P (first_broken fs bytes) (behind fs bytes) r h
 
 -- ---- one field
 
@@ -156,15 +167,36 @@ found_in {X} xs d n =
 
 -- ---- the magic, and a name
 
-magic_by : (bytes rest : List ℕ) (same short : Bool)
-    → CoversAt Any (or_later (cond short (Some I1) (cond same None (Some I2))) bytes None) rest (cond short (Err (fault_at I1 bytes)) (kept same I2 bytes (magic, rest)))
-magic_by bytes rest same true = refl
-magic_by bytes rest true false = (magic, refl, tt)
-magic_by bytes rest false false = refl
+version_by : (bytes rest : List ℕ) (one two : Bool)
+    → CoversAt Any (or_later (cond (one || two) None (Some I2)) bytes None) rest (found_at I2 bytes rest (cond one (Some version.One) (cond two (Some version.Two) None)))
+version_by bytes rest true two = (version.One, refl, tt)
+version_by bytes rest false true = (version.Two, refl, tt)
+version_by bytes rest false false = refl
 
-pub magic_covers : (bytes : List ℕ) → Covers Any (magic_field ∷ []) bytes (exactly_at magic I2 bytes)
-unfolding exactly_at
-magic_covers bytes = magic_by bytes (drop (length magic) bytes) (bytes_eq (take (length magic) bytes) magic) (nat_lt (length bytes) (length magic))
+abbrev eight_read : List ℕ → List ℕ → List ℕ → Bool → Read (List ℕ)
+eight_read bytes text rest short = cond short (Err (fault_at I1 bytes)) (Ok (text, rest))
+
+magic_by : (bytes text rest : List ℕ) (short : Bool)
+    → CoversAt Any (or_later (cond short (Some I1) (cond (bytes_eq text (magic version.One) || bytes_eq text (magic version.Two)) None (Some I2))) bytes None) rest
+    (eight_read bytes text rest short >>= λ x. found_at I2 bytes x.1 (version_of x.0))
+magic_by bytes text rest true = refl
+magic_by bytes text rest false = version_by bytes rest (bytes_eq text (magic version.One)) (bytes_eq text (magic version.Two))
+
+pub magic_covers : (bytes : List ℕ) → Covers Any (magic_field ∷ []) bytes (version_at bytes)
+unfolding version_at
+magic_covers bytes = magic_by bytes (take 8 bytes) (drop 8 bytes) (nat_lt (length bytes) 8)
+
+-- ---- fields of version 2 alone
+
+pub unused_byte_covers : (v : Version) (value : ℕ) (bytes : List ℕ) → Covers Any (further_field v (unused_field w8 value)) bytes (unused_byte_at v value bytes)
+unfolding unused_byte_at
+unused_byte_covers version.One value bytes = (value, refl, tt)
+unused_byte_covers version.Two value bytes = covers_any (Numbered w8 bytes) (unused_field w8 value ∷ []) bytes _ (byte_covers (λ n. n == value) bytes)
+
+pub unused_16_covers : (v : Version) (value : ℕ) (bytes : List ℕ) → Covers Any (further_field v (unused_field w16 value)) bytes (unused_16_at v value bytes)
+unfolding unused_16_at
+unused_16_covers version.One value bytes = (value, refl, tt)
+unused_16_covers version.Two value bytes = covers_any (Numbered w16 bytes) (unused_field w16 value ∷ []) bytes _ (tested_covers w16 bytes (λ n. n == value))
 
 short_same : (n k : ℕ) → nat_lt (suc n) (suc k) ≡ nat_lt n k
 short_same n k =

@@ -1,5 +1,5 @@
 -- Readers of fields and their spellings.
-use Rattle.std.proofs.Common.{◌≡◌, ℕ, zero, suc, ◌+◌, ◌^◌, ◌<◌, ◌≤◌, Bool, true, false, cond, not, ◌&&◌, eqb, ltb, List, [], ◌∷◌, ◌++◌, length, take, drop, Result, Ok, Err, refl, sym, ap, subst, ◌∙◌, arith}
+use Rattle.std.proofs.Common.{◌≡◌, ℕ, zero, suc, ◌+◌, ◌^◌, ◌<◌, ◌≤◌, Bool, true, false, not, ◌&&◌, eqb, ltb, List, [], ◌∷◌, ◌++◌, length, take, drop, Ok, refl, sym, ap, subst, ◌∙◌, arith}
 use Rattle.std.specs.Prelude.{nat_lt, nat_le}
 use Rattle.std.specs.Int.{w16}
 use Rattle.std.specs.List.{list_any}
@@ -11,40 +11,15 @@ use Rattle.osek_values.specs.Names.{is_word, is_name}
 use Rattle.osek_values.specs.Numbers.{block_no}
 use Rattle.osek_standard.specs.declared.objects.{Schedule.{Schedule}, Schedule.TheVariants.{Non, Full}}
 use Rattle.osek_standard.specs.Validity.{meet}
-use Rattle.image_codec.specs.declared.fault.{ImageRule.{ImageRule}, ImageRule.TheVariants.{I1, I3, I4, I5}, Fault.{Fault}}
+use Rattle.image_codec.specs.declared.fault.{ImageRule.TheVariants.{I1, I3, I4, I5}}
 use Rattle.image_codec.specs.declared.parts.Range.{Range}
 use Rattle.image_codec.specs.Spelling.{one, two, name_bytes, range_bytes, schedule_number, flag_number}
-use Rattle.image_codec.specs.Reading.{Read, ◌>>=◌, fault_at, kept, tested_byte_at, tested_at, byte_below_at, exactly_at, text_at, name_at, count_at, range_at, flag_at}
+use Rattle.image_codec.specs.Reading.{Read, ◌>>=◌, kept, tested_byte_at, tested_at, byte_below_at, text_at, name_at, count_at, range_at, flag_at}
 use Rattle.image_codec.specs.TableReading.{schedule_of, schedule_at}
 use Rattle.image_codec.proofs.Spells.{AreBytes-drop, bind_ok, kept_ok, kept_again, enough_ok, Takes, Takes-then, Spells, nothing_more, and_then, said, wide16, Tested, tested_law, tested_byte_law, tested_number_law}
 
-bytes_eq_refl : (xs : List ℕ) → bytes_eq xs xs ≡ true
-bytes_eq_refl xs = (bytes_eq-Decides xs xs).1 refl
-
-bytes_eq_is : (xs ys : List ℕ) → bytes_eq xs ys ≡ true → xs ≡ ys
+pub bytes_eq_is : (xs ys : List ℕ) → bytes_eq xs ys ≡ true → xs ≡ ys
 bytes_eq_is xs ys e = (bytes_eq-Decides xs ys).0 e
-
--- a field that is long enough
-long_ok : {A : Type 0} (short : Bool) (d : Fault) (r : Result A Fault) (y : A) → cond short (Err d) r ≡ Ok y → (short ≡ false) × (r ≡ Ok y)
-long_ok true d r y e = absurd cc
-long_ok false d r y e = (refl, e)
-
-pub exactly_law : (wanted : List ℕ) (rule : ImageRule) → Spells (exactly_at wanted rule) (λ _. wanted) (λ x. x ≡ wanted)
-unfolding exactly_at
-exactly_law wanted rule = record {
-  takes = λ bytes x rest fits e.
-      let n = length wanted in
-      let g = long_ok (ltb (length bytes) n) (fault_at I1 bytes) (kept (bytes_eq (take n bytes) wanted) rule bytes (wanted, drop n bytes)) (x, rest) e in
-      let h = kept_ok (bytes_eq (take n bytes) wanted) rule bytes (wanted, drop n bytes) (x, rest) g.1 in
-      let front : take n bytes ≡ wanted = bytes_eq_is (take n bytes) wanted h.0 in
-      subst (λ (p : List ℕ × List ℕ). Takes bytes wanted p.1 × (p.0 ≡ wanted)) h.1
-      (record { parts = sym (take-append-drop n bytes) ∙ ap (λ (t : List ℕ). t ++ drop n bytes) front; rest_fits = AreBytes-drop n bytes fits }, refl);
-  again = λ x rest good.
-      let n = length wanted in
-      let long : ltb (length (wanted ++ rest)) n ≡ false = le-ltb _ _ (omega (arith, length-append wanted rest)) in
-      let same : bytes_eq (take n (wanted ++ rest)) wanted ≡ true = ap (λ (t : List ℕ). bytes_eq t wanted) (take_at wanted rest n refl) ∙ bytes_eq_refl wanted in
-      rw (long, same, drop_at wanted rest n refl, good) refl;
-}
 
 -- ---- names
 

@@ -31,7 +31,7 @@ use Rattle.image_codec.proofs.OwnerTests.{any_of_map, map_same}
 use Rattle.image_codec.proofs.WholeTables.{tables_of_parts}
 use Rattle.image_codec.proofs.Places.{get_or-zip}
 use Rattle.image_codec.proofs.BlockLoop.{length-zip}
-use Rattle.image_codec.proofs.BlocksOfValid.{good_blank, good_filled, good_leads, FitsSite, good_site}
+use Rattle.image_codec.proofs.BlocksOfValid.{good_blank, good_filled, good_leads, FitsSite, good_site, says_its_own}
 use Rattle.image_codec.proofs.DecodeLaws.{image_ext}
 
 modes_fit : (m : ℕ) → m ≤ 8 → 2 ^ m ≤ 256
@@ -126,7 +126,7 @@ module _ (i : Image) (fits : FitsFormat i) where
       let all : IsDistinct meet (([] ++ ranges_t t.tasks) ++ (ranges_i t.isrs ++ ranges_c t.counters)) = subst (IsDistinct meet) (append_assoc (ranges_t t.tasks) (ranges_i t.isrs) (ranges_c t.counters)) v.apart in
       let apart = here_distinct meet (λ (y : Task). (y.first.0, y.count)) [] (ranges_i t.isrs ++ ranges_c t.counters) t.tasks e x l same all in
       let earlier : owners e [] [] ≡ ranges_t e = append-nil (ranges_t e ++ []) ∙ append-nil (ranges_t e) in
-      let priorities : IsDistinct nat_eq (([] ++ map (λ (y : Task). y.priority) t.tasks) ++ []) = subst (IsDistinct nat_eq) (sym (append-nil (map (λ (y : Task). y.priority) t.tasks))) i.version_1.priorities in
+      let priorities : IsDistinct nat_eq (([] ++ map (λ (y : Task). y.priority) t.tasks) ++ []) = subst (IsDistinct nat_eq) (sym (append-nil (map (λ (y : Task). y.priority) t.tasks))) i.both_versions.priorities.priorities in
       let own = here_distinct nat_eq (λ (y : Task). y.priority) [] [] t.tasks e x l same priorities in
       record {
         fresh = here_fresh (λ (y : Task). y.name) t.tasks e x l same v.task_names;
@@ -208,7 +208,7 @@ module _ (i : Image) (fits : FitsFormat i) where
     modes = (refl, each_of GoodMode t.modes mode_here);
   }
 
-  good_block : (b : ℕ) → b < length p.blocks → GoodBlock t (length p.blocks) b (get_or p.blocks b no_block, get_or p.sites b None)
+  good_block : (b : ℕ) → b < length p.blocks → GoodBlock t (length p.blocks) b p.version (get_or p.blocks b no_block, get_or p.sites b None)
   good_block b lt =
       let f = All-get_or FitsBlock p.blocks b no_block lt fits.each_block in
       record {
@@ -216,23 +216,24 @@ module _ (i : Image) (fits : FitsFormat i) where
         line = f.line;
         filled = good_filled p v b lt f.kind;
         leads = good_leads p v b lt;
-        site = good_site (length t.tasks) (is_site_in t.tasks b (get_or p.blocks b no_block).kind) (get_or p.sites b None) v.few_tasks (fits_site i.app (is_site_in t.tasks b (get_or p.blocks b no_block).kind) (get_or p.sites b None) (i.valid.each b lt));
+        site = good_site i.version (length t.tasks) (is_site_in t.tasks b (get_or p.blocks b no_block).kind) (get_or p.sites b None) v.few_tasks (fits_site i.app (is_site_in t.tasks b (get_or p.blocks b no_block).kind) (get_or p.sites b None) (i.valid.each b lt))
+            (says_its_own i.version i.sites b (omega (arith, lt, i.valid.count)) i.its_version);
       }
 
   same_lengths : length p.blocks ≡ length p.sites
   same_lengths = sym i.valid.count
 
-  block_here : (e : List Entry) (y : Entry) (l : List Entry) → e ++ y ∷ l ≡ zip p.blocks p.sites → GoodBlock t (length p.blocks) (length e) y
+  block_here : (e : List Entry) (y : Entry) (l : List Entry) → e ++ y ∷ l ≡ zip p.blocks p.sites → GoodBlock t (length p.blocks) (length e) p.version y
   block_here e y l same =
       let within : length e < length p.blocks = omega (arith, length-append e (y ∷ l), ap length same, length-zip p.blocks p.sites same_lengths) in
       let item : get_or (zip p.blocks p.sites) (length e) (no_block, None) ≡ y = ap (λ ys. get_or ys (length e) (no_block, None)) (sym same) ∙ get_or-append_seam e y l (no_block, None) in
-      subst (GoodBlock t (length p.blocks) (length e)) (sym (get_or-zip p.blocks p.sites (length e) no_block None same_lengths within) ∙ item) (good_block (length e) within)
+      subst (GoodBlock t (length p.blocks) (length e) p.version) (sym (get_or-zip p.blocks p.sites (length e) no_block None same_lengths within) ∙ item) (good_block (length e) within)
 
   pub good_of_valid : GoodParts p
   good_of_valid = record {
     header = good_header;
     tables = good_tables;
-    blocks = (length-zip p.blocks p.sites same_lengths, each_of (λ (e : List Entry). GoodBlock t (length p.blocks) (length e)) (zip p.blocks p.sites) block_here);
+    blocks = (length-zip p.blocks p.sites same_lengths, each_of (λ (e : List Entry). GoodBlock t (length p.blocks) (length e) p.version) (zip p.blocks p.sites) block_here);
     same = same_lengths;
   }
 

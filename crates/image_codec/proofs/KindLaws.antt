@@ -21,7 +21,7 @@ use Rattle.image_codec.proofs.Spells.{bind_ok, kept_ok, kept_again, ok_is, Takes
 -- ---- the kind
 
 -- the number of a place in a list of things that are listed by their numbers
-listed : {X : Type 0} (number : X → ℕ) (xs : List X) (len : ℕ) → map number xs ≡ range_with_len 0 len → length xs ≡ len → (n : ℕ) (x : X) → slice_get xs n ≡ Some x → number x ≡ n
+pub listed : {X : Type 0} (number : X → ℕ) (xs : List X) (len : ℕ) → map number xs ≡ range_with_len 0 len → length xs ≡ len → (n : ℕ) (x : X) → slice_get xs n ≡ Some x → number x ≡ n
 listed number xs len in_order many n x e =
     let numbered : slice_get (map number xs) n ≡ Some (number x) = slice_get-map number xs n ∙ ap (option_map number) e in
     let within : n < len = omega (arith, slice_get_within xs n x e, many) in

@@ -9,6 +9,7 @@ pub mod EachLaws
 pub mod EntryFaults
 pub mod FieldFaults
 pub mod FieldLaws
+pub mod FoundLaws
 pub mod GoodOfValid
 pub mod KindLaws
 pub mod Loop
@@ -16,8 +17,10 @@ pub mod NameReading
 pub mod OwnerTests
 pub mod PartsLaws
 pub mod Places
+pub mod SiteLaws
 pub mod SomeImage
 pub mod Spells
 pub mod TableLaws
 pub mod ValidOfGood
+pub mod VersionLaws
 pub mod WholeTables

@@ -8,17 +8,17 @@ use Rattle.std.proofs.lemmas.List.{append-nil, nil_from_length, length-map}
 use Rattle.osek_values.specs.declared.hooks.HookSet.{HookSet}
 use Rattle.osek_values.specs.Hooks.{hook_set}
 use Rattle.osek_standard.specs.declared.block.Block.{Block}
-use Rattle.image_codec.specs.declared.fault.ImageRule.TheVariants.{I2, I3, I6}
+use Rattle.image_codec.specs.declared.fault.ImageRule.TheVariants.{I3, I6}
 use Rattle.image_model.specs.declared.site.Site.{Site}
 use Rattle.image_codec.specs.declared.parts.{Header.{Header}, Tables.{Tables}, Parts.{Parts}}
-use Rattle.image_model.specs.declared.image.Image.{Image}
+use Rattle.image_model.specs.declared.image.{Image.{Image}, Version.{Version}}
 use Rattle.image_codec.specs.Spelling.{one, two, magic, block_bytes, spelling, task_bytes, isr_bytes, counter_bytes, alarm_bytes, resource_bytes, name_bytes}
-use Rattle.image_codec.specs.Reading.{AreBytes, Read, ◌>>=◌, kept, byte_below_at, tested_byte_at, tested_at, exactly_at}
-use Rattle.image_codec.specs.TableReading.{header_at, tables_at}
+use Rattle.image_codec.specs.Reading.{AreBytes, Read, ◌>>=◌, kept, byte_below_at, tested_byte_at, tested_at}
+use Rattle.image_codec.specs.TableReading.{version_at, header_at, tables_at}
 use Rattle.image_codec.specs.BlockReading.{blocks_at, parts_at, all_at}
 use Rattle.image_codec.specs.ImageReading.{parts_of}
-use Rattle.image_codec.proofs.Spells.{bind_ok, kept_ok, Spells, nothing_more, and_then, said, wide16, Tested, tested_byte_law, tested_number_law, GoodEntries, entries_law}
-use Rattle.image_codec.proofs.FieldLaws.{exactly_law}
+use Rattle.image_codec.proofs.Spells.{bind_ok, kept_ok, Spells, nothing_more, and_then, and_then_by, said, wide16, Tested, tested_byte_law, tested_number_law, GoodEntries, entries_law}
+use Rattle.image_codec.proofs.VersionLaws.{version_law}
 use Rattle.image_codec.proofs.TableLaws.{GoodTables, tables_bytes, tables_law}
 use Rattle.image_codec.proofs.BlockLaws.{Entry, GoodBlock, block_law}
 use Rattle.image_codec.proofs.BlockLoop.{read_block, zip_firsts, zip_seconds}
@@ -32,8 +32,8 @@ is_mode_count n = nat_lt 0 n && nat_le n 8
 abbrev is_block_count : ℕ → Bool
 is_block_count n = nat_le n 1056
 
-abbrev pub a_header : HookSet → ℕ → ℕ → ℕ → ℕ → ℕ → ℕ → ℕ → Header
-a_header hooks tasks isrs counters alarms resources modes blocks = record { hooks = hooks; tasks = tasks; isrs = isrs; counters = counters; alarms = alarms; resources = resources; modes = modes; blocks = blocks }
+abbrev pub a_header : Version → HookSet → ℕ → ℕ → ℕ → ℕ → ℕ → ℕ → ℕ → Header
+a_header v hooks tasks isrs counters alarms resources modes blocks = record { version = v; hooks = hooks; tasks = tasks; isrs = isrs; counters = counters; alarms = alarms; resources = resources; modes = modes; blocks = blocks }
 
 abbrev pub header_spelled : Header → List ℕ
 header_spelled h = one h.hooks.0 ++ one h.tasks ++ one h.isrs ++ one h.counters ++ one h.alarms ++ one h.resources ++ one h.modes ++ two h.blocks
@@ -57,11 +57,11 @@ pub record GoodHeader (h : Header) : Type 0 where
 few_law : (limit : ℕ) → Spells (byte_below_at limit) one (Few limit)
 few_law limit = tested_byte_law (is_below limit) I3
 
-pub header_law : Spells header_at (λ h. magic ++ header_spelled h) GoodHeader
+pub header_law : Spells header_at (λ h. magic h.version ++ header_spelled h) GoodHeader
 unfolding header_at
 header_law =
-    said header_at _ _ (λ h. magic ++ header_spelled h) GoodHeader
-    (and_then (exactly_at magic I2) (λ _. magic) (λ x. x ≡ magic) (λ (_ : Header). magic) _ _ _ (exactly_law magic I2) (λ start _.
+    said header_at _ _ (λ h. magic h.version ++ header_spelled h) GoodHeader
+    (and_then version_at magic (λ _. Unit {0}) (λ (h : Header). h.version) _ _ _ version_law (λ v _.
     and_then (byte_below_at 32) one (Few 32) (λ (h : Header). h.hooks.0) _ _ _ (few_law 32) (λ hooks _.
     and_then (byte_below_at 17) one (Few 17) (λ (h : Header). h.tasks) _ _ _ (few_law 17) (λ tasks _.
     and_then (byte_below_at 9) one (Few 9) (λ (h : Header). h.isrs) _ _ _ (few_law 9) (λ isrs _.
@@ -70,8 +70,8 @@ header_law =
     and_then (byte_below_at 9) one (Few 9) (λ (h : Header). h.resources) _ _ _ (few_law 9) (λ resources _.
     and_then (tested_byte_at is_mode_count I3) one (Tested is_mode_count (λ n. n < 256)) (λ (h : Header). h.modes) _ _ _ (tested_byte_law is_mode_count I3) (λ modes _.
     and_then (tested_at w16 is_block_count I3) two (Tested is_block_count (λ n. n < 2 ^ 16)) (λ (h : Header). h.blocks)
-    (λ blocks rest. Ok (a_header (hook_set hooks) tasks isrs counters alarms resources modes blocks, rest)) (λ _. []) (λ blocks h. h ≡ a_header (hook_set hooks) tasks isrs counters alarms resources modes blocks)
-    (tested_number_law w16 (2 ^ 16) wide16 is_block_count I3) (λ blocks _. nothing_more (a_header (hook_set hooks) tasks isrs counters alarms resources modes blocks))
+    (λ blocks rest. Ok (a_header v (hook_set hooks) tasks isrs counters alarms resources modes blocks, rest)) (λ _. []) (λ blocks h. h ≡ a_header v (hook_set hooks) tasks isrs counters alarms resources modes blocks)
+    (tested_number_law w16 (2 ^ 16) wide16 is_block_count I3) (λ blocks _. nothing_more (a_header v (hook_set hooks) tasks isrs counters alarms resources modes blocks))
     (λ blocks h _ is. ap (λ (g : Header). g.blocks) is))
     (λ modes h _ good. ap (λ (g : Header). g.modes) good.1))
     (λ resources h _ good. ap (λ (g : Header). g.resources) good.1.1))
@@ -80,64 +80,64 @@ header_law =
     (λ isrs h _ good. ap (λ (g : Header). g.isrs) good.1.1.1.1.1))
     (λ tasks h _ good. ap (λ (g : Header). g.tasks) good.1.1.1.1.1.1))
     (λ hooks h _ good. ap (λ (g : Header). g.hooks.0) good.1.1.1.1.1.1.1))
-    (λ start h good _. sym good))
-    (λ h. joined9 magic (one h.hooks.0) (one h.tasks) (one h.isrs) (one h.counters) (one h.alarms) (one h.resources) (one h.modes) (two h.blocks))
+    (λ v h _ good. ap (λ (g : Header). g.version) good.1.1.1.1.1.1.1.1))
+    (λ h. joined9 (magic h.version) (one h.hooks.0) (one h.tasks) (one h.isrs) (one h.counters) (one h.alarms) (one h.resources) (one h.modes) (two h.blocks))
     (λ h good. record { hooks = good.1.0; tasks = good.1.1.0; isrs = good.1.1.1.0; counters = good.1.1.1.1.0; alarms = good.1.1.1.1.1.0; resources = good.1.1.1.1.1.1.0; modes = good.1.1.1.1.1.1.1.0; blocks = good.1.1.1.1.1.1.1.1.0 })
-    (λ h good. (refl, (good.hooks, (good.tasks, (good.isrs, (good.counters, (good.alarms, (good.resources, (good.modes, (good.blocks, refl))))))))))
+    (λ h good. (tt, (good.hooks, (good.tasks, (good.isrs, (good.counters, (good.alarms, (good.resources, (good.modes, (good.blocks, refl))))))))))
 
 -- ---- all parts
 
 abbrev pub header_of : Parts → Header
-header_of p = a_header p.hooks (length p.tables.tasks) (length p.tables.isrs) (length p.tables.counters) (length p.tables.alarms) (length p.tables.resources) (length p.tables.modes) (length p.blocks)
+header_of p = a_header p.version p.hooks (length p.tables.tasks) (length p.tables.isrs) (length p.tables.counters) (length p.tables.alarms) (length p.tables.resources) (length p.tables.modes) (length p.blocks)
 
 abbrev the_parts : Header → Tables → List Entry → Parts
-the_parts h t es = record { hooks = h.hooks; tables = t; blocks = map (λ (x : Entry). x.0) es; sites = map (λ (x : Entry). x.1) es }
+the_parts h t es = record { version = h.version; hooks = h.hooks; tables = t; blocks = map (λ (x : Entry). x.0) es; sites = map (λ (x : Entry). x.1) es }
 
 zip_again : (es : List Entry) → zip (map (λ (x : Entry). x.0) es) (map (λ (x : Entry). x.1) es) ≡ es
 zip_again [] = refl
 zip_again (x ∷ es) = ap (λ ys. x ∷ ys) (zip_again es)
 
-header_is : (h g : HookSet) (a b c d e f i j k l m n o q : ℕ) → h ≡ g → a ≡ b → c ≡ d → e ≡ f → i ≡ j → k ≡ l → m ≡ n → o ≡ q → a_header h a c e i k m o ≡ a_header g b d f j l n q
-header_is h g a b c d e f i j k l m n o q e0 e1 e2 e3 e4 e5 e6 e7 = cc
+header_is : (v : Version) (h g : HookSet) (a b c d e f i j k l m n o q : ℕ) → h ≡ g → a ≡ b → c ≡ d → e ≡ f → i ≡ j → k ≡ l → m ≡ n → o ≡ q → a_header v h a c e i k m o ≡ a_header v g b d f j l n q
+header_is v h g a b c d e f i j k l m n o q e0 e1 e2 e3 e4 e5 e6 e7 = cc
 
-abbrev pub GoodBlocks : Tables → ℕ → List Entry → Type 0
-GoodBlocks t count = GoodEntries (λ (earlier : List Entry). GoodBlock t count (length earlier)) count
+abbrev pub GoodBlocks : Version → Tables → ℕ → List Entry → Type 0
+GoodBlocks v t count = GoodEntries (λ (earlier : List Entry). GoodBlock t count (length earlier) v) count
 
-blocks_law : (t : Tables) (count : ℕ) → Spells (blocks_at t count) (flat_map block_bytes) (GoodBlocks t count)
-blocks_law t count = entries_law (read_block t count) block_bytes (λ (earlier : List Entry). GoodBlock t count (length earlier)) (λ earlier. block_law t count (length earlier)) count
+blocks_law : (v : Version) (t : Tables) (count : ℕ) → Spells (blocks_at v t count) (flat_map (block_bytes v)) (GoodBlocks v t count)
+blocks_law v t count = entries_law (read_block v t count) (block_bytes v) (λ (earlier : List Entry). GoodBlock t count (length earlier) v) (λ earlier. block_law t count (length earlier) v) count
 
 pub record GoodParts (p : Parts) : Type 0 where
   pub header : GoodHeader (header_of p)
   pub tables : GoodTables (header_of p) p.tables
-  pub blocks : GoodBlocks p.tables (length p.blocks) (zip p.blocks p.sites)
+  pub blocks : GoodBlocks p.version p.tables (length p.blocks) (zip p.blocks p.sites)
   pub same : length p.blocks ≡ length p.sites
 
 abbrev pub parts_bytes : Parts → List ℕ
-parts_bytes p = (magic ++ header_spelled (header_of p)) ++ (tables_bytes p.tables ++ (flat_map block_bytes (zip p.blocks p.sites) ++ []))
+parts_bytes p = (magic p.version ++ header_spelled (header_of p)) ++ (tables_bytes p.version p.tables ++ (flat_map (block_bytes p.version) (zip p.blocks p.sites) ++ []))
 
-module _ (h : Header) (t : Tables) (es : List Entry) (p : Parts) (tables : GoodTables h t) (blocks : GoodBlocks t h.blocks es) (is : p ≡ the_parts h t es) where
+module _ (h : Header) (t : Tables) (es : List Entry) (p : Parts) (tables : GoodTables h t) (blocks : GoodBlocks h.version t h.blocks es) (is : p ≡ the_parts h t es) where
   its_header : header_of p ≡ h
   its_header =
-      ap header_of is ∙ header_is h.hooks h.hooks (length t.tasks) h.tasks (length t.isrs) h.isrs (length t.counters) h.counters (length t.alarms) h.alarms (length t.resources) h.resources (length t.modes) h.modes
+      ap header_of is ∙ header_is h.version h.hooks h.hooks (length t.tasks) h.tasks (length t.isrs) h.isrs (length t.counters) h.counters (length t.alarms) h.alarms (length t.resources) h.resources (length t.modes) h.modes
       (length (map (λ (x : Entry). x.0) es)) h.blocks refl tables.tasks.0 tables.isrs.0 tables.counters.0 tables.alarms.0 tables.resources.0 tables.modes.0 (length-map es (λ (x : Entry). x.0) ∙ blocks.0)
 
-abbrev some_parts : HookSet → Tables → List Block → List (Option Site) → Parts
-some_parts hooks t bs ss = record { hooks = hooks; tables = t; blocks = bs; sites = ss }
+abbrev some_parts : Version → HookSet → Tables → List Block → List (Option Site) → Parts
+some_parts v hooks t bs ss = record { version = v; hooks = hooks; tables = t; blocks = bs; sites = ss }
 
-with_lists : (hooks : HookSet) (t : Tables) {bs bs' : List Block} {ss ss' : List (Option Site)} → bs' ≡ bs → ss' ≡ ss → some_parts hooks t bs ss ≡ some_parts hooks t bs' ss'
-with_lists hooks t e f = cc
+with_lists : (v : Version) (hooks : HookSet) (t : Tables) {bs bs' : List Block} {ss ss' : List (Option Site)} → bs' ≡ bs → ss' ≡ ss → some_parts v hooks t bs ss ≡ some_parts v hooks t bs' ss'
+with_lists v hooks t e f = cc
 
 parts_again : (p : Parts) → length p.blocks ≡ length p.sites → p ≡ the_parts (header_of p) p.tables (zip p.blocks p.sites)
-parts_again p same = with_lists p.hooks p.tables (zip_firsts p.blocks p.sites same) (zip_seconds p.blocks p.sites same)
+parts_again p same = with_lists p.version p.hooks p.tables (zip_firsts p.blocks p.sites same) (zip_seconds p.blocks p.sites same)
 
 pub parts_law : Spells parts_at parts_bytes GoodParts
 unfolding parts_at
 parts_law =
     said parts_at _ _ parts_bytes GoodParts
-    (and_then header_at (λ h. magic ++ header_spelled h) GoodHeader header_of _ _ _ header_law (λ h _.
-    and_then (tables_at h) tables_bytes (GoodTables h) (λ (p : Parts). p.tables) _ _ _ (tables_law h) (λ t _.
-    and_then (blocks_at t h.blocks) (flat_map block_bytes) (GoodBlocks t h.blocks) (λ (p : Parts). zip p.blocks p.sites) (λ es rest. Ok (the_parts h t es, rest)) (λ _. []) (λ es p. p ≡ the_parts h t es)
-    (blocks_law t h.blocks) (λ es _. nothing_more (the_parts h t es))
+    (and_then_by header_at (λ h. magic h.version ++ header_spelled h) GoodHeader header_of _ _ _ header_law (λ h _.
+    and_then (tables_at h) (tables_bytes h.version) (GoodTables h) (λ (p : Parts). p.tables) _ _ _ (tables_law h) (λ t _.
+    and_then (blocks_at h.version t h.blocks) (flat_map (block_bytes h.version)) (GoodBlocks h.version t h.blocks) (λ (p : Parts). zip p.blocks p.sites) (λ es rest. Ok (the_parts h t es, rest)) (λ _. []) (λ es p. p ≡ the_parts h t es)
+    (blocks_law h.version t h.blocks) (λ es _. nothing_more (the_parts h t es))
     (λ es p _ is. ap (λ (q : Parts). zip q.blocks q.sites) is ∙ zip_again es))
     (λ t p _ good. ap (λ (q : Parts). q.tables) good.1))
     (λ h p _ good. its_header h p.tables (zip p.blocks p.sites) p good.0 good.1.0 good.1.1))
@@ -156,8 +156,8 @@ regroup m h a b c d e f g = simp (append_assoc, append-nil)
 
 pub spelling_is : (i : Image) → spelling i ≡ parts_bytes (parts_of i)
 unfolding spelling
-spelling_is i = regroup magic (header_spelled (header_of (parts_of i))) (flat_map task_bytes i.app.tasks) (flat_map isr_bytes i.app.isrs) (flat_map counter_bytes i.app.counters) (flat_map alarm_bytes i.app.alarms)
-    (flat_map resource_bytes i.app.resources) (flat_map name_bytes i.app.modes) (flat_map block_bytes (zip i.app.blocks i.sites))
+spelling_is i = regroup (magic i.version) (header_spelled (header_of (parts_of i))) (flat_map (task_bytes i.version) i.app.tasks) (flat_map (isr_bytes i.version) i.app.isrs) (flat_map counter_bytes i.app.counters) (flat_map alarm_bytes i.app.alarms)
+    (flat_map (resource_bytes i.version) i.app.resources) (flat_map name_bytes i.app.modes) (flat_map (block_bytes i.version) (zip i.app.blocks i.sites))
 
 -- what is read of all bytes
 pub record IsAllOf (bytes : List ℕ) (p : Parts) (rest : List ℕ) : Type 0 where

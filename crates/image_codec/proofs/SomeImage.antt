@@ -12,10 +12,10 @@ use Rattle.image_codec.specs.Spelling.{spelling}
 use Rattle.image_codec.proofs.DecodeLaws.{image_of, its_spelling, its_reading, its_fault}
 use Rattle.image_codec.proofs.GoodOfValid.{read_again}
 use Rattle.image_codec.proofs.PartsLaws.{GoodParts, all_takes}
-use Rattle.image_codec.proofs.ValidOfGood.{valid_parts, version_1_parts, fits_parts, sites_parts}
+use Rattle.image_codec.proofs.ValidOfGood.{valid_parts, both_parts, alone_parts, fits_parts, sites_parts}
 
 abbrev of_parts : (p : Parts) → GoodParts p → Image
-of_parts p good = image_of p (valid_parts p good) (version_1_parts p good) (sites_parts p good _ refl refl)
+of_parts p good = image_of p (valid_parts p good) (record { both_versions = both_parts p good _ refl; its_version = alone_parts p good; sites = sites_parts p good _ refl refl })
 
 answer_of : (bytes : List ℕ) → AreBytes bytes → (read : Read Parts) → all_at bytes ≡ read → ((i : Image) × FitsFormat i × (spelling i ≡ bytes)) ⊎ ((f : ImageFault) × (read_image bytes ≡ Err f))
 answer_of bytes are (Ok (p, rest)) e =

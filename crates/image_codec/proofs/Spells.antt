@@ -69,23 +69,30 @@ nothing_more {Y} v = record {
   again = λ y rest good. ap (λ (z : Y). done_with (z, rest)) (sym good);
 }
 
--- a field, and what follows it: `part` is the field of the whole
-pub and_then : {A Y : Type 0} (ra : List ℕ → Read A) (sa : A → List ℕ) (Ga : A → Type 0) (part : Y → A)
-    (k : A → List ℕ → Read Y) (sk : Y → List ℕ) (Gk : A → Y → Type 0)
-    → Spells ra sa Ga → ((a : A) → Ga a → Spells (k a) sk (Gk a)) → ((a : A) (y : Y) → Ga a → Gk a y → part y ≡ a)
-    → Spells (λ bytes. ra bytes >>= λ x. k x.0 x.1) (λ y. sa (part y) ++ sk y) (λ y. Ga (part y) × Gk (part y) y)
-and_then {A} {Y} ra sa Ga part k sk Gk first second is_part = record {
+-- a field, and what follows it, whose spelling depends on it: `part` is the field of the whole
+pub and_then_by : {A Y : Type 0} (ra : List ℕ → Read A) (sa : A → List ℕ) (Ga : A → Type 0) (part : Y → A)
+    (k : A → List ℕ → Read Y) (sk : A → Y → List ℕ) (Gk : A → Y → Type 0)
+    → Spells ra sa Ga → ((a : A) → Ga a → Spells (k a) (sk a) (Gk a)) → ((a : A) (y : Y) → Ga a → Gk a y → part y ≡ a)
+    → Spells (λ bytes. ra bytes >>= λ x. k x.0 x.1) (λ y. sa (part y) ++ sk (part y) y) (λ y. Ga (part y) × Gk (part y) y)
+and_then_by {A} {Y} ra sa Ga part k sk Gk first second is_part = record {
   takes = λ bytes y rest fits e.
       let a = bind_ok (ra bytes) (λ x. k x.0 x.1) (y, rest) e in
       let t = first.takes bytes a.0.0 a.0.1 fits a.1 in
       let u = (second a.0.0 t.1).takes a.0.1 y rest t.0.rest_fits a.2 in
-      let whole : Takes bytes (sa a.0.0 ++ sk y) rest = Takes-then bytes (sa a.0.0) a.0.1 (sk y) rest t.0 u.0 in
-      subst (λ (z : A). Takes bytes (sa z ++ sk y) rest × (Ga z × Gk z y)) (sym (is_part a.0.0 y t.1 u.1)) (whole, (t.1, u.1));
+      let whole : Takes bytes (sa a.0.0 ++ sk a.0.0 y) rest = Takes-then bytes (sa a.0.0) a.0.1 (sk a.0.0 y) rest t.0 u.0 in
+      subst (λ (z : A). Takes bytes (sa z ++ sk z y) rest × (Ga z × Gk z y)) (sym (is_part a.0.0 y t.1 u.1)) (whole, (t.1, u.1));
   again = λ y rest good.
-      ap (λ (b : List ℕ). ra b >>= λ x. k x.0 x.1) (append_assoc (sa (part y)) (sk y) rest)
-      ∙ ap (λ (r : Read A). r >>= λ x. k x.0 x.1) (first.again (part y) (sk y ++ rest) good.0)
+      ap (λ (b : List ℕ). ra b >>= λ x. k x.0 x.1) (append_assoc (sa (part y)) (sk (part y) y) rest)
+      ∙ ap (λ (r : Read A). r >>= λ x. k x.0 x.1) (first.again (part y) (sk (part y) y ++ rest) good.0)
       ∙ (second (part y) good.0).again y rest good.1;
 }
+
+-- the same where its spelling doesn't
+pub and_then : {A Y : Type 0} (ra : List ℕ → Read A) (sa : A → List ℕ) (Ga : A → Type 0) (part : Y → A)
+    (k : A → List ℕ → Read Y) (sk : Y → List ℕ) (Gk : A → Y → Type 0)
+    → Spells ra sa Ga → ((a : A) → Ga a → Spells (k a) sk (Gk a)) → ((a : A) (y : Y) → Ga a → Gk a y → part y ≡ a)
+    → Spells (λ bytes. ra bytes >>= λ x. k x.0 x.1) (λ y. sa (part y) ++ sk y) (λ y. Ga (part y) × Gk (part y) y)
+and_then ra sa Ga part k sk Gk first second is_part = and_then_by ra sa Ga part k (λ _. sk) Gk first second is_part
 
 -- the same with another word for the bytes and for what is good
 pub said : {X : Type 0} (read : List ℕ → Read X) (spell : X → List ℕ) (Good : X → Type 0) (spell' : X → List ℕ) (Good' : X → Type 0)
@@ -94,6 +101,23 @@ said read spell Good spell' Good' law same to back = record {
   takes = λ bytes x rest fits e. let t = law.takes bytes x rest fits e in (subst (λ (s : List ℕ). Takes bytes s rest) (same x) t.0, to x t.1);
   again = λ x rest good. ap (λ (s : List ℕ). read (s ++ rest)) (sym (same x)) ∙ law.again x rest (back x good);
 }
+
+-- ---- bytes of several fields
+
+pub joined2 : (a b : List ℕ) → a ++ (b ++ []) ≡ a ++ b
+joined2 a b = ap (λ (l : List ℕ). a ++ l) (append-nil b)
+
+pub joined4 : (a b c d : List ℕ) → a ++ (b ++ (c ++ (d ++ []))) ≡ a ++ b ++ c ++ d
+joined4 a b c d = simp (append_assoc, append-nil)
+
+pub joined6 : (a b c d e f : List ℕ) → a ++ (b ++ (c ++ (d ++ (e ++ (f ++ []))))) ≡ a ++ b ++ c ++ d ++ e ++ f
+joined6 a b c d e f = simp (append_assoc, append-nil)
+
+pub joined3 : (a b c : List ℕ) → a ++ (b ++ (c ++ [])) ≡ a ++ b ++ c
+joined3 a b c = simp (append_assoc, append-nil)
+
+pub joined8 : (a b c d e f g h : List ℕ) → a ++ (b ++ (c ++ (d ++ (e ++ (f ++ (g ++ (h ++ []))))))) ≡ a ++ b ++ c ++ d ++ e ++ f ++ g ++ h
+joined8 a b c d e f g h = simp (append_assoc, append-nil)
 
 -- ---- numbers
 

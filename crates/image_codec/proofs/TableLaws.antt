@@ -1,30 +1,22 @@
 -- Readers of the header and the tables, and their spellings.
-use Rattle.std.proofs.Common.{◌≡◌, ℕ, zero, suc, ◌^◌, ◌<◌, Bool, true, false, cond, not, eqb, List, [], ◌++◌, map, Ok, refl, sym, ap, ◌∙◌, append_assoc, arith}
+use Rattle.std.proofs.Common.{◌≡◌, ℕ, zero, suc, ◌^◌, ◌<◌, Bool, true, false, cond, not, eqb, List, [], ◌++◌, map, Ok, refl, sym, ap, ◌∙◌, arith}
 use Rattle.std.specs.Prelude.{nat_lt, nat_le, nat_eq, slice_index_or}
 use Rattle.std.specs.Int.{w16, w32, w64}
 use Rattle.std.specs.List.{list_any, flat_map}
 use Rattle.std.proofs.lemmas.Bool.{ltb-true, lt-ltb, eqb-true}
-use Rattle.std.proofs.lemmas.List.{append-nil}
 use Rattle.osek_values.specs.Numbers.{task_no, counter_no, mask}
 use Rattle.osek_standard.specs.declared.objects.{Task.{Task}, Isr.{Isr}, Counter.{Counter}, Alarm.{Alarm}, Resource.{Resource}, Action.{Action}, Schedule.{Schedule}}
 use Rattle.osek_standard.specs.declared.objects.Action.TheVariants as action
 use Rattle.osek_standard.specs.Validity.{no_counter, owners}
 use Rattle.image_codec.specs.declared.fault.ImageRule.TheVariants.{I3, I5}
 use Rattle.image_codec.specs.declared.parts.{Header.{Header}, Range.{Range}, Tables.{Tables}}
-use Rattle.image_codec.specs.Spelling.{one, two, four, eight, name_bytes, range_bytes, schedule_number, task_bytes, isr_bytes, counter_bytes, action_bytes, alarm_bytes, resource_bytes}
-use Rattle.image_codec.specs.Reading.{number_at, tested_at, byte_below_at, name_at, modes_at, range_at, entries_at}
+use Rattle.image_model.specs.declared.image.Version.{Version}
+use Rattle.image_codec.specs.Spelling.{one, two, four, eight, further, name_bytes, range_bytes, schedule_number, task_bytes, isr_bytes, counter_bytes, action_bytes, alarm_bytes, resource_bytes}
+use Rattle.image_codec.specs.Reading.{number_at, tested_at, byte_below_at, unused_byte_at, unused_16_at, name_at, modes_at, range_at, entries_at}
 use Rattle.image_codec.specs.TableReading.{schedule_at, task_at, isr_at, counter_at, is_action_mask, action_of, action_at, is_start_time, is_start_cycle, alarm_at, resource_at, tables_at}
-use Rattle.image_codec.proofs.Spells.{Spells, nothing_more, and_then, said, wide16, wide32, wide64, number_law, Tested, tested_byte_law, tested_number_law, GoodEntries, entries_law}
+use Rattle.image_codec.proofs.VersionLaws.{unused_byte_law, unused_16_law}
+use Rattle.image_codec.proofs.Spells.{joined3, joined4, joined6, joined8, Spells, nothing_more, and_then, said, wide16, wide32, wide64, number_law, Tested, tested_byte_law, tested_number_law, GoodEntries, entries_law}
 use Rattle.image_codec.proofs.FieldLaws.{is_fresh, name_law, GoodRange, range_law, schedule_law}
-
-pub joined2 : (a b : List ℕ) → a ++ (b ++ []) ≡ a ++ b
-joined2 a b = ap (λ (l : List ℕ). a ++ l) (append-nil b)
-
-pub joined4 : (a b c d : List ℕ) → a ++ (b ++ (c ++ (d ++ []))) ≡ a ++ b ++ c ++ d
-joined4 a b c d = simp (append_assoc, append-nil)
-
-pub joined6 : (a b c d e f : List ℕ) → a ++ (b ++ (c ++ (d ++ (e ++ (f ++ []))))) ≡ a ++ b ++ c ++ d ++ e ++ f
-joined6 a b c d e f = simp (append_assoc, append-nil)
 
 abbrev is_below : ℕ → ℕ → Bool
 is_below limit n = nat_lt n limit
@@ -50,26 +42,30 @@ pub record GoodTask (n : Header) (earlier : List Task) (x : Task) : Type 0 where
   pub autostart : is_below (2 ^ n.modes) x.autostart ≡ true
   pub code : GoodRange n.blocks (owners earlier [] []) (range_of x)
 
-pub task_law : (n : Header) (earlier : List Task) → Spells (task_at n earlier) task_bytes (GoodTask n earlier)
+pub task_law : (n : Header) (earlier : List Task) → Spells (task_at n earlier) (task_bytes n.version) (GoodTask n earlier)
 unfolding task_at
 task_law n earlier =
-    said (task_at n earlier) _ _ task_bytes (GoodTask n earlier)
+    said (task_at n earlier) _ _ (task_bytes n.version) (GoodTask n earlier)
     (and_then (name_at (task_names earlier)) name_bytes _ (λ (x : Task). x.name) _ _ _ (name_law (task_names earlier)) (λ name _.
     and_then (tested_at w16 (is_own_priority earlier) I5) two _ (λ (x : Task). x.priority) _ _ _ (tested_number_law w16 (2 ^ 16) wide16 (is_own_priority earlier) I5) (λ priority _.
     and_then schedule_at (λ s. one (schedule_number s)) _ (λ (x : Task). x.schedule) _ _ _ schedule_law (λ schedule _.
     and_then (number_at w64) eight _ (λ (x : Task). x.own.0) _ _ _ (number_law w64 (2 ^ 64) wide64) (λ own _.
     and_then (modes_at n.modes) one _ (λ (x : Task). x.autostart) _ _ _ (tested_byte_law (is_below (2 ^ n.modes)) I3) (λ autostart _.
-    and_then (range_at n.blocks (owners earlier [] [])) (λ (r : Range). range_bytes r.first r.count) _ range_of (λ code rest. Ok (a_task name priority schedule own autostart code, rest)) (λ _. []) (λ code x. x ≡ a_task name priority schedule own autostart code)
-    (range_law n.blocks (owners earlier [] [])) (λ code _. nothing_more (a_task name priority schedule own autostart code))
-    (λ code x _ is. ap range_of is))
-    (λ autostart x _ good. ap (λ (y : Task). y.autostart) good.1))
-    (λ own x _ good. ap (λ (y : Task). y.own.0) good.1.1))
-    (λ schedule x _ good. ap (λ (y : Task). y.schedule) good.1.1.1))
-    (λ priority x _ good. ap (λ (y : Task). y.priority) good.1.1.1.1))
-    (λ name x _ good. ap (λ (y : Task). y.name) good.1.1.1.1.1))
-    (λ x. joined6 (name_bytes x.name) (two x.priority) (one (schedule_number x.schedule)) (eight x.own.0) (one x.autostart) (range_bytes x.first x.count))
+    and_then (range_at n.blocks (owners earlier [] [])) (λ (r : Range). range_bytes r.first r.count) _ range_of _ _ _ (range_law n.blocks (owners earlier [] [])) (λ code _.
+    and_then (unused_byte_at n.version 1) (λ k. further n.version (one k)) (λ k. k ≡ 1) (λ (_ : Task). 1) _ _ _ (unused_byte_law n.version 1 (omega arith)) (λ activation _.
+    and_then (unused_byte_at n.version 0xff) (λ k. further n.version (one k)) (λ k. k ≡ 0xff) (λ (_ : Task). 0xff) (λ _ rest. Ok (a_task name priority schedule own autostart code, rest)) (λ _. []) (λ _ x. x ≡ a_task name priority schedule own autostart code)
+    (unused_byte_law n.version 0xff (omega arith)) (λ _ _. nothing_more (a_task name priority schedule own autostart code))
+    (λ k x good _. sym good))
+    (λ k x good _. sym good))
+    (λ code x _ good. ap range_of good.1.1))
+    (λ autostart x _ good. ap (λ (y : Task). y.autostart) good.1.1.1))
+    (λ own x _ good. ap (λ (y : Task). y.own.0) good.1.1.1.1))
+    (λ schedule x _ good. ap (λ (y : Task). y.schedule) good.1.1.1.1.1))
+    (λ priority x _ good. ap (λ (y : Task). y.priority) good.1.1.1.1.1.1))
+    (λ name x _ good. ap (λ (y : Task). y.name) good.1.1.1.1.1.1.1))
+    (λ x. joined8 (name_bytes x.name) (two x.priority) (one (schedule_number x.schedule)) (eight x.own.0) (one x.autostart) (range_bytes x.first x.count) (further n.version (one 1)) (further n.version (one 0xff)))
     (λ x good. record { fresh = good.0; priority_fits = good.1.0.0; priority_own = good.1.0.1; own_fits = good.1.1.1.0; autostart_fits = good.1.1.1.1.0.0; autostart = good.1.1.1.1.0.1; code = good.1.1.1.1.1.0 })
-    (λ x good. (good.fresh, ((good.priority_fits, good.priority_own), (tt, (good.own_fits, ((good.autostart_fits, good.autostart), (good.code, refl)))))))
+    (λ x good. (good.fresh, ((good.priority_fits, good.priority_own), (tt, (good.own_fits, ((good.autostart_fits, good.autostart), (good.code, (refl, (refl, refl)))))))))
 
 -- ---- ISRs
 
@@ -86,18 +82,20 @@ pub record GoodIsr (n : Header) (tasks : List Task) (earlier : List Isr) (x : Is
   pub fresh : is_fresh (isr_names earlier) x.name ≡ true
   pub code : GoodRange n.blocks (owners tasks earlier []) (isr_range_of x)
 
-pub isr_law : (n : Header) (tasks : List Task) (earlier : List Isr) → Spells (isr_at n tasks earlier) isr_bytes (GoodIsr n tasks earlier)
+pub isr_law : (n : Header) (tasks : List Task) (earlier : List Isr) → Spells (isr_at n tasks earlier) (isr_bytes n.version) (GoodIsr n tasks earlier)
 unfolding isr_at
 isr_law n tasks earlier =
-    said (isr_at n tasks earlier) _ _ isr_bytes (GoodIsr n tasks earlier)
+    said (isr_at n tasks earlier) _ _ (isr_bytes n.version) (GoodIsr n tasks earlier)
     (and_then (name_at (isr_names earlier)) name_bytes _ (λ (x : Isr). x.name) _ _ _ (name_law (isr_names earlier)) (λ name _.
-    and_then (range_at n.blocks (owners tasks earlier [])) (λ (r : Range). range_bytes r.first r.count) _ isr_range_of (λ code rest. Ok (an_isr name code, rest)) (λ _. []) (λ code x. x ≡ an_isr name code)
-    (range_law n.blocks (owners tasks earlier [])) (λ code _. nothing_more (an_isr name code))
-    (λ code x _ is. ap isr_range_of is))
-    (λ name x _ good. ap (λ (y : Isr). y.name) good.1))
-    (λ x. joined2 (name_bytes x.name) (range_bytes x.first x.count))
+    and_then (range_at n.blocks (owners tasks earlier [])) (λ (r : Range). range_bytes r.first r.count) _ isr_range_of _ _ _ (range_law n.blocks (owners tasks earlier [])) (λ code _.
+    and_then (unused_byte_at n.version 0) (λ k. further n.version (one k)) (λ k. k ≡ 0) (λ (_ : Isr). 0) (λ _ rest. Ok (an_isr name code, rest)) (λ _. []) (λ _ x. x ≡ an_isr name code)
+    (unused_byte_law n.version 0 (omega arith)) (λ _ _. nothing_more (an_isr name code))
+    (λ k x good _. sym good))
+    (λ code x _ good. ap isr_range_of good.1))
+    (λ name x _ good. ap (λ (y : Isr). y.name) good.1.1))
+    (λ x. joined3 (name_bytes x.name) (range_bytes x.first x.count) (further n.version (one 0)))
     (λ x good. record { fresh = good.0; code = good.1.0 })
-    (λ x good. (good.fresh, (good.code, refl)))
+    (λ x good. (good.fresh, (good.code, (refl, refl))))
 
 -- ---- counters
 
@@ -261,18 +259,22 @@ pub record GoodResource (earlier : List Resource) (x : Resource) : Type 0 where
   pub ceiling_fits : x.ceiling < 2 ^ 32
   pub ceiling : is_at_most 131071 x.ceiling ≡ true
 
-pub resource_law : (earlier : List Resource) → Spells (resource_at earlier) resource_bytes (GoodResource earlier)
+pub resource_law : (v : Version) (earlier : List Resource) → Spells (resource_at v earlier) (resource_bytes v) (GoodResource earlier)
 unfolding resource_at
-resource_law earlier =
-    said (resource_at earlier) _ _ resource_bytes (GoodResource earlier)
+resource_law v earlier =
+    said (resource_at v earlier) _ _ (resource_bytes v) (GoodResource earlier)
     (and_then (name_at (resource_names earlier)) name_bytes _ (λ (x : Resource). x.name) _ _ _ (name_law (resource_names earlier)) (λ name _.
-    and_then (tested_at w32 (is_at_most 131071) I3) four _ (λ (x : Resource). x.ceiling) (λ ceiling rest. Ok (a_resource name ceiling, rest)) (λ _. []) (λ ceiling x. x ≡ a_resource name ceiling)
-    (tested_number_law w32 (2 ^ 32) wide32 (is_at_most 131071) I3) (λ ceiling _. nothing_more (a_resource name ceiling))
-    (λ ceiling x _ is. ap (λ (y : Resource). y.ceiling) is))
-    (λ name x _ good. ap (λ (y : Resource). y.name) good.1))
-    (λ x. joined2 (name_bytes x.name) (four x.ceiling))
+    and_then (tested_at w32 (is_at_most 131071) I3) four _ (λ (x : Resource). x.ceiling) _ _ _ (tested_number_law w32 (2 ^ 32) wide32 (is_at_most 131071) I3) (λ ceiling _.
+    and_then (unused_byte_at v 0) (λ k. further v (one k)) (λ k. k ≡ 0) (λ (_ : Resource). 0) _ _ _ (unused_byte_law v 0 (omega arith)) (λ property _.
+    and_then (unused_16_at v 0) (λ k. further v (two k)) (λ k. k ≡ 0) (λ (_ : Resource). 0) (λ _ rest. Ok (a_resource name ceiling, rest)) (λ _. []) (λ _ x. x ≡ a_resource name ceiling)
+    (unused_16_law v 0 (omega arith)) (λ _ _. nothing_more (a_resource name ceiling))
+    (λ k x good _. sym good))
+    (λ k x good _. sym good))
+    (λ ceiling x _ good. ap (λ (y : Resource). y.ceiling) good.1.1))
+    (λ name x _ good. ap (λ (y : Resource). y.name) good.1.1.1))
+    (λ x. joined4 (name_bytes x.name) (four x.ceiling) (further v (one 0)) (further v (two 0)))
     (λ x good. record { fresh = good.0; ceiling_fits = good.1.0.0; ceiling = good.1.0.1 })
-    (λ x good. (good.fresh, ((good.ceiling_fits, good.ceiling), refl)))
+    (λ x good. (good.fresh, ((good.ceiling_fits, good.ceiling), (refl, (refl, refl)))))
 
 -- ---- modes
 
@@ -292,20 +294,20 @@ pub record GoodTables (n : Header) (t : Tables) : Type 0 where
   pub resources : GoodEntries GoodResource n.resources t.resources
   pub modes : GoodEntries GoodMode n.modes t.modes
 
-abbrev pub tables_bytes : Tables → List ℕ
-tables_bytes t =
-    flat_map task_bytes t.tasks ++ flat_map isr_bytes t.isrs ++ flat_map counter_bytes t.counters ++ flat_map alarm_bytes t.alarms
-    ++ flat_map resource_bytes t.resources ++ flat_map name_bytes t.modes
+abbrev pub tables_bytes : Version → Tables → List ℕ
+tables_bytes v t =
+    flat_map (task_bytes v) t.tasks ++ flat_map (isr_bytes v) t.isrs ++ flat_map counter_bytes t.counters ++ flat_map alarm_bytes t.alarms
+    ++ flat_map (resource_bytes v) t.resources ++ flat_map name_bytes t.modes
 
-pub tables_law : (n : Header) → Spells (tables_at n) tables_bytes (GoodTables n)
+pub tables_law : (n : Header) → Spells (tables_at n) (tables_bytes n.version) (GoodTables n)
 unfolding tables_at
 tables_law n =
-    said (tables_at n) _ _ tables_bytes (GoodTables n)
-    (and_then (entries_at (task_at n) [] n.tasks) (flat_map task_bytes) _ (λ (t : Tables). t.tasks) _ _ _ (entries_law (task_at n) task_bytes (GoodTask n) (task_law n) n.tasks) (λ tasks _.
-    and_then (entries_at (isr_at n tasks) [] n.isrs) (flat_map isr_bytes) _ (λ (t : Tables). t.isrs) _ _ _ (entries_law (isr_at n tasks) isr_bytes (GoodIsr n tasks) (isr_law n tasks) n.isrs) (λ isrs _.
+    said (tables_at n) _ _ (tables_bytes n.version) (GoodTables n)
+    (and_then (entries_at (task_at n) [] n.tasks) (flat_map (task_bytes n.version)) _ (λ (t : Tables). t.tasks) _ _ _ (entries_law (task_at n) (task_bytes n.version) (GoodTask n) (task_law n) n.tasks) (λ tasks _.
+    and_then (entries_at (isr_at n tasks) [] n.isrs) (flat_map (isr_bytes n.version)) _ (λ (t : Tables). t.isrs) _ _ _ (entries_law (isr_at n tasks) (isr_bytes n.version) (GoodIsr n tasks) (isr_law n tasks) n.isrs) (λ isrs _.
     and_then (entries_at (counter_at n tasks isrs) [] n.counters) (flat_map counter_bytes) _ (λ (t : Tables). t.counters) _ _ _ (entries_law (counter_at n tasks isrs) counter_bytes (GoodCounter n tasks isrs) (counter_law n tasks isrs) n.counters) (λ counters _.
     and_then (entries_at (alarm_at n counters) [] n.alarms) (flat_map alarm_bytes) _ (λ (t : Tables). t.alarms) _ _ _ (entries_law (alarm_at n counters) alarm_bytes (GoodAlarm n counters) (alarm_law n counters) n.alarms) (λ alarms _.
-    and_then (entries_at resource_at [] n.resources) (flat_map resource_bytes) _ (λ (t : Tables). t.resources) _ _ _ (entries_law resource_at resource_bytes GoodResource resource_law n.resources) (λ resources _.
+    and_then (entries_at (resource_at n.version) [] n.resources) (flat_map (resource_bytes n.version)) _ (λ (t : Tables). t.resources) _ _ _ (entries_law (resource_at n.version) (resource_bytes n.version) GoodResource (resource_law n.version) n.resources) (λ resources _.
     and_then (entries_at name_at [] n.modes) (flat_map name_bytes) _ (λ (t : Tables). t.modes)
     (λ modes rest. Ok (the_tables tasks isrs counters alarms resources modes, rest)) (λ _. []) (λ modes t. t ≡ the_tables tasks isrs counters alarms resources modes)
     (entries_law name_at name_bytes GoodMode name_law n.modes) (λ modes _. nothing_more (the_tables tasks isrs counters alarms resources modes))
@@ -315,6 +317,6 @@ tables_law n =
     (λ counters t _ good. ap (λ (u : Tables). u.counters) good.1.1.1))
     (λ isrs t _ good. ap (λ (u : Tables). u.isrs) good.1.1.1.1))
     (λ tasks t _ good. ap (λ (u : Tables). u.tasks) good.1.1.1.1.1))
-    (λ t. joined6 (flat_map task_bytes t.tasks) (flat_map isr_bytes t.isrs) (flat_map counter_bytes t.counters) (flat_map alarm_bytes t.alarms) (flat_map resource_bytes t.resources) (flat_map name_bytes t.modes))
+    (λ t. joined6 (flat_map (task_bytes n.version) t.tasks) (flat_map (isr_bytes n.version) t.isrs) (flat_map counter_bytes t.counters) (flat_map alarm_bytes t.alarms) (flat_map (resource_bytes n.version) t.resources) (flat_map name_bytes t.modes))
     (λ t good. record { tasks = good.0; isrs = good.1.0; counters = good.1.1.0; alarms = good.1.1.1.0; resources = good.1.1.1.1.0; modes = good.1.1.1.1.1.0 })
     (λ t good. (good.tasks, (good.isrs, (good.counters, (good.alarms, (good.resources, (good.modes, refl)))))))

@@ -13,8 +13,12 @@ use Rattle.osek_standard.specs.declared.app.App.{App}
 use Rattle.osek_standard.specs.Validity.{no_block, no_counter, AreNames, meet, owners, is_cycle_of, IsAction, IsAlarmOf, IsValid}
 use Rattle.osek_standard.specs.Versions.{FitsVersion1}
 use Rattle.osek_standard.specs.Apps.{is_site, is_site_in}
-use Rattle.image_model.specs.declared.site.{Form.{Form}, Site.{Site}}
+use Rattle.image_model.specs.declared.site.{Form.{Form}, Known.{Known}, Site.{Site}}
 use Rattle.image_model.specs.declared.site.Form.TheVariants as form
+use Rattle.image_model.specs.declared.site.Known.TheVariants as known
+use Rattle.image_model.specs.declared.image.Version.{Version}
+use Rattle.image_model.specs.declared.image.Version.TheVariants as version
+use Rattle.image_model.specs.Versions.{IsUnknown, SaysNothing, FitsBothVersions, FitsAlone}
 use Rattle.image_codec.specs.declared.parts.{Header.{Header}, Tables.{Tables}, Parts.{Parts}}
 use Rattle.image_model.specs.Sites.{IsForm, IsSiteAt, AreSites}
 use Rattle.image_codec.specs.Spelling.{form_number}
@@ -23,7 +27,9 @@ use Rattle.image_codec.specs.BlockReading.{form_of}
 use Rattle.image_codec.proofs.FieldLaws.{is_fresh, is_inside}
 use Rattle.image_codec.proofs.TableLaws.{GoodTask, GoodIsr, GoodCounter, GoodAction, GoodAlarm, GoodResource, GoodMode}
 use Rattle.image_codec.proofs.KindLaws.{GoodOperands}
-use Rattle.image_codec.proofs.BlockLaws.{unwayed, GoodBlock, GoodSite, first_choice}
+use Rattle.image_codec.proofs.FoundLaws.{first_choice}
+use Rattle.image_codec.proofs.SiteLaws.{GoodSite}
+use Rattle.image_codec.proofs.BlockLaws.{unwayed, GoodBlock}
 use Rattle.image_codec.proofs.PartsLaws.{header_of, GoodParts}
 use Rattle.image_codec.proofs.EachLaws.{each_all, each_distinct, each_named, distinct_nil}
 use Rattle.image_codec.proofs.OwnerTests.{any_of_map, map_same}
@@ -58,9 +64,21 @@ form_within tasks (form.Direct (Some x)) e =
       ]
     ]
 
-site_of_good : (app : App) (is : Bool) (x : Option Site) → GoodSite (length app.tasks) is x → IsSiteAt app is x
-site_of_good app is None good = ap not good
-site_of_good app is (Some s) good = (good.0, form_within (length app.tasks) s.form good.1.0)
+site_of_good : (app : App) (v : Version) (is : Bool) (x : Option Site) → GoodSite v (length app.tasks) is x → IsSiteAt app is x
+site_of_good app v is None good = ap not good
+site_of_good app v is (Some s) good = (good.0, form_within (length app.tasks) s.form good.1.0.0)
+
+-- version 1 says nothing of a status
+unknown_by : (k : Known) → k ≡ known.Any → IsUnknown k
+unknown_by k e = subst IsUnknown (sym e) tt
+
+says_nothing : (tasks : ℕ) (is : Bool) (x : Option Site) → GoodSite version.One tasks is x → SaysNothing x
+says_nothing tasks is None good = tt
+says_nothing tasks is (Some s) good = unknown_by s.known good.1.1
+
+alone_by : (v : Version) (sites : List (Option Site)) → (v ≡ version.One → All SaysNothing sites) → FitsAlone v sites
+alone_by version.One sites h = record { unknown = h refl }
+alone_by version.Two sites h = tt
 
 -- ---- alarms
 
@@ -113,10 +131,10 @@ module _ (p : Parts) (good : GoodParts p) where
   abbrev blocks : List Block
   blocks = p.blocks
 
-  block_fact : (b : ℕ) (d : Block) (e : Option Site) → b < length blocks → GoodBlock t (length blocks) b (get_or blocks b d, get_or p.sites b e)
+  block_fact : (b : ℕ) (d : Block) (e : Option Site) → b < length blocks → GoodBlock t (length blocks) b p.version (get_or blocks b d, get_or p.sites b e)
   block_fact b d e lt =
-      subst (GoodBlock t (length blocks) b) (get_or-zip blocks p.sites b d e good.same lt)
-      (each_at (GoodBlock t (length blocks)) (zip blocks p.sites) good.blocks.1 b (d, e) (omega (arith, lt, length-zip blocks p.sites good.same)))
+      subst (GoodBlock t (length blocks) b p.version) (get_or-zip blocks p.sites b d e good.same lt)
+      (each_at (λ k. GoodBlock t (length blocks) k p.version) (zip blocks p.sites) good.blocks.1 b (d, e) (omega (arith, lt, length-zip blocks p.sites good.same)))
 
   tasks_inside : All (λ (x : Task). GoodCode (length blocks) x.first.0 x.count) t.tasks
   tasks_inside = each_all (GoodTask n) (λ (x : Task). GoodCode (length blocks) x.first.0 x.count) (λ e x g. g.code.inside) t.tasks good.tables.tasks.1
@@ -199,11 +217,22 @@ module _ (p : Parts) (good : GoodParts p) where
     owned = block_owned p good.same block_fact;
   }
 
-  pub version_1_parts : FitsVersion1 t.tasks
-  version_1_parts = record {
+  priorities_parts : FitsVersion1 t.tasks
+  priorities_parts = record {
     priorities = each_distinct (GoodTask n) nat_eq (λ (x : Task). x.priority) []
         (λ e x g. any_of_map (λ k. nat_eq k x.priority) (λ (y : Task). y.priority) e ∙ not-true _ g.priority_own) t.tasks (distinct_nil nat_eq) good.tables.tasks.1;
   }
+
+  pub both_parts : (app : App) → app.tasks ≡ t.tasks → FitsBothVersions app
+  both_parts app same = record { priorities = subst FitsVersion1 (sym same) priorities_parts }
+
+  pub alone_parts : FitsAlone p.version p.sites
+  alone_parts =
+      alone_by p.version p.sites (λ one b d lt.
+      let below : b < length blocks = omega (arith, lt, good.same) in
+      let is = is_site_in t.tasks b (get_or blocks b no_block).kind in
+      says_nothing (length t.tasks) is (get_or p.sites b d)
+      (subst (λ (v : Version). GoodSite v (length t.tasks) is (get_or p.sites b d)) one (block_fact b no_block d below).site))
 
   pub fits_parts : FitsParts t.tasks t.counters t.alarms blocks
   fits_parts = record {
@@ -220,7 +249,7 @@ module _ (p : Parts) (good : GoodParts p) where
         let below : b < length blocks = omega (arith, lt, ap length same_blocks) in
         let f = (block_fact b no_block None below).site in
         let is : is_site app b ≡ is_site_in t.tasks b (get_or blocks b no_block).kind = ap (λ (xs : List Task). is_site_in xs b (get_or app.blocks b no_block).kind) same_tasks ∙ ap (λ (xs : List Block). is_site_in t.tasks b (get_or xs b no_block).kind) same_blocks in
-        site_of_good app (is_site app b) (get_or p.sites b None)
-        (subst (λ (k : ℕ). GoodSite k (is_site app b) (get_or p.sites b None)) (ap (λ (xs : List Task). length xs) (sym same_tasks))
-        (subst (λ (e : Bool). GoodSite (length t.tasks) e (get_or p.sites b None)) (sym is) f));
+        site_of_good app p.version (is_site app b) (get_or p.sites b None)
+        (subst (λ (k : ℕ). GoodSite p.version k (is_site app b) (get_or p.sites b None)) (ap (λ (xs : List Task). length xs) (sym same_tasks))
+        (subst (λ (e : Bool). GoodSite p.version (length t.tasks) e (get_or p.sites b None)) (sym is) f));
   }

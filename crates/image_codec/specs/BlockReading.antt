@@ -11,10 +11,14 @@ use Rattle.osek_standard.specs.declared.block.Kind.TheVariants as kind
 use Rattle.image_model.specs.CallNames as call
 use Rattle.osek_standard.specs.Validity.{owners, is_within, task_may, isr_may, due_of}
 use Rattle.image_codec.specs.declared.fault.ImageRule.TheVariants.{I3, I5, I6}
-use Rattle.image_model.specs.declared.site.{Form.{Form}, Site.{Site}}
+use Rattle.image_model.specs.declared.site.{Form.{Form}, Known.{Known}, Site.{Site}}
 use Rattle.image_model.specs.declared.site.Form.TheVariants as form
+use Rattle.image_model.specs.declared.site.Known.TheVariants as known
+use Rattle.image_model.specs.declared.image.Version.{Version}
+use Rattle.image_model.specs.declared.image.Version.TheVariants as version
+use Rattle.osek_values.specs.declared.status.Status.TheVariants as status
 use Rattle.image_codec.specs.declared.parts.{Tables.{Tables}, Parts.{Parts}}
-use Rattle.image_codec.specs.Reading.{Read, ◌>>=◌, fault_at, kept, byte_at, number_at, tested_at, byte_below_at, flag_at, entries_at}
+use Rattle.image_codec.specs.Reading.{Read, ◌>>=◌, fault_at, kept, byte_at, number_at, tested_at, byte_below_at, found_at, flag_at, entries_at}
 use Rattle.osek_standard.specs.Apps.{is_site_in}
 use Rattle.image_codec.specs.TableReading.{header_at, tables_at}
 
@@ -88,9 +92,35 @@ form_of tasks n =
     else if n == 0x0300 then Some form.General
     else direct_form tasks n
 
-abbrev pub formed_site : List ℕ → List ℕ → Option Form → Read (Option Site)
-formed_site bytes rest None = Err (fault_at I3 bytes)
-formed_site bytes rest (Some f) = Ok (Some (record { form = f }), rest)
+unfoldable pub form_at : ℕ → List ℕ → Read Form
+form_at tasks bytes = do
+  n ← number_at w16 bytes
+  found_at I3 bytes n.1 (form_of tasks n.0)
+
+-- what is known of a status, by its number
+abbrev pub knowns : List Known
+knowns =
+    known.Always (Some status.Ok) ∷ known.Always (Some status.Access) ∷ known.Always (Some status.CallLevel)
+    ∷ known.Always (Some status.Id) ∷ known.Always (Some status.Limit) ∷ known.Always (Some status.NoFunc)
+    ∷ known.Always (Some status.Resource) ∷ known.Always (Some status.State) ∷ known.Always (Some status.Value)
+    ∷ known.Always None ∷ []
+
+abbrev pub known_of : ℕ → Option Known
+known_of n = if n == 0xff then Some known.Any else slice_get knowns n
+
+-- version 1 says nothing of it
+unfoldable pub known_at : Version → List ℕ → Read Known
+known_at version.One bytes = Ok (known.Any, bytes)
+known_at version.Two bytes = do
+  n ← byte_at bytes
+  found_at I3 bytes n.1 (known_of n.0)
+
+-- a site, where there are so many tasks
+unfoldable pub stated_at : Version → ℕ → List ℕ → Read Site
+stated_at v tasks bytes = do
+  form ← form_at tasks bytes
+  known ← known_at v form.1
+  Ok (record { form = form.0; known = known.0 }, known.1)
 
 module _ (t : Tables) (b : ℕ) where
   -- whoever has block b allows a block of this kind there
@@ -190,9 +220,9 @@ module _ (t : Tables) (b : ℕ) where
     a ← due_at bytes
     Ok (kind.Expire (alarm_no a.0), a.1)
 
-  -- the form, where the block is a site
-  unfoldable pub site_at : Kind → List ℕ → Read (Option Site)
-  site_at k bytes = if is_site_in t.tasks b k then number_at w16 bytes >>= (λ n. formed_site bytes n.1 (form_of (length t.tasks) n.0)) else Ok (None, bytes)
+  -- the site, where the block is one
+  unfoldable pub site_at : Version → Kind → List ℕ → Read (Option Site)
+  site_at v k bytes = if is_site_in t.tasks b k then stated_at v (length t.tasks) bytes >>= (λ x. Ok (Some x.0, x.1)) else Ok (None, bytes)
 
 module _ (t : Tables) (blocks b : ℕ) where
   -- the number of one of the blocks, where block b may lead
@@ -213,27 +243,27 @@ module _ (t : Tables) (blocks b : ℕ) where
     next ← way_at bytes
     Ok ((k, next.0), next.1)
 
-  unfoldable pub block_at : List ℕ → Read (Block × Option Site)
-  block_at bytes = do
+  unfoldable pub block_at : Version → List ℕ → Read (Block × Option Site)
+  block_at v bytes = do
     blank ← kind_at t b bytes
     locked ← flag_at blank.1
     line ← number_at w32 locked.1
     filled ← operands_at t b blank.0 line.1
     ways ← ways_at filled.0 filled.1
-    site ← site_at t b ways.0.0 ways.1
+    site ← site_at t b v ways.0.0 ways.1
     Ok ((record { kind = ways.0.0; locked = locked.0; line = line.0; next = block_no ways.0.1 }, site.0), site.1)
 
 -- the blocks in order, with their sites
-abbrev pub blocks_at : Tables → ℕ → List ℕ → Read (List (Block × Option Site))
-blocks_at t count bytes = entries_at (λ earlier. block_at t count (length earlier)) [] count bytes
+abbrev pub blocks_at : Version → Tables → ℕ → List ℕ → Read (List (Block × Option Site))
+blocks_at v t count bytes = entries_at (λ earlier. block_at t count (length earlier) v) [] count bytes
 
 -- an image at the front of bytes
 unfoldable pub parts_at : List ℕ → Read Parts
 parts_at bytes = do
   n ← header_at bytes
   tables ← tables_at n.0 n.1
-  blocks ← blocks_at tables.0 n.0.blocks tables.1
-  Ok (record { hooks = n.0.hooks; tables = tables.0; blocks = map (λ (x : Block × Option Site). x.0) blocks.0; sites = map (λ (x : Block × Option Site). x.1) blocks.0 }, blocks.1)
+  blocks ← blocks_at n.0.version tables.0 n.0.blocks tables.1
+  Ok (record { version = n.0.version; hooks = n.0.hooks; tables = tables.0; blocks = map (λ (x : Block × Option Site). x.0) blocks.0; sites = map (λ (x : Block × Option Site). x.1) blocks.0 }, blocks.1)
 
 -- an image that is all of the bytes
 unfoldable pub all_at : List ℕ → Read Parts

@@ -15,6 +15,8 @@ use Rattle.osek_standard.specs.Validity.{no_counter, meet, owners, greatest_ceil
 use Rattle.image_codec.specs.declared.fault.{ImageRule.{ImageRule}, ImageRule.TheVariants.{I1, I2, I3, I4, I5}, Fault.{Fault}}
 use Rattle.image_codec.specs.declared.parts.{Header.{Header}, Tables.{Tables}}
 use Rattle.image_codec.specs.Spelling.{magic}
+use Rattle.image_model.specs.declared.image.Version.{Version}
+use Rattle.image_model.specs.declared.image.Version.TheVariants as version
 use Rattle.image_codec.specs.TableReading.{is_action_mask, is_start_time, is_start_cycle}
 use Rattle.image_codec.specs.Reading.{Read, fault_at}
 use Rattle.image_codec.specs.BlockReading.{blank_kinds, is_allowed, is_due, is_way}
@@ -56,7 +58,16 @@ none_of test xs = not (list_any test xs)
 
 -- the magic and the version
 abbrev pub magic_field : Field
-magic_field = record { size = λ _. length magic; broken = λ bytes. if bytes_eq bytes magic then None else Some I2 }
+magic_field = record { size = λ _. 8; broken = λ bytes. if bytes_eq bytes (magic version.One) || bytes_eq bytes (magic version.Two) then None else Some I2 }
+
+-- a field that version 2 alone has
+abbrev pub further_field : Version → Field → List Field
+further_field version.One f = []
+further_field version.Two f = f ∷ []
+
+-- a number that nothing uses yet is always this one
+abbrev pub unused_field : Width → ℕ → Field
+unused_field w value = field w (λ n. n == value) any
 
 -- a name: its length, and so many bytes, where it is the length of a name
 abbrev pub is_name_len : ℕ → Bool
@@ -127,13 +138,17 @@ task_head n earlier =
     ∷ field w64 any any ∷ modes_field n.modes ∷ []
 
 abbrev pub task_fields : Header → List Task → List ℕ → List Field
-task_fields n earlier bytes = task_head n earlier ++ range_fields n.blocks (owners earlier [] []) (behind (task_head n earlier) bytes)
+task_fields n earlier bytes =
+    task_head n earlier ++ (range_fields n.blocks (owners earlier [] []) (behind (task_head n earlier) bytes)
+    ++ (further_field n.version (unused_field w8 1) ++ further_field n.version (unused_field w8 0xff)))
 
 abbrev pub isr_head : List Isr → List Field
 isr_head earlier = name_field (map (λ (x : Isr). x.name) earlier) ∷ []
 
 abbrev pub isr_fields : Header → List Task → List Isr → List ℕ → List Field
-isr_fields n tasks earlier bytes = isr_head earlier ++ range_fields n.blocks (owners tasks earlier []) (behind (isr_head earlier) bytes)
+isr_fields n tasks earlier bytes =
+    isr_head earlier ++ (range_fields n.blocks (owners tasks earlier []) (behind (isr_head earlier) bytes)
+    ++ further_field n.version (unused_field w8 0))
 
 -- MINCYCLE is at most MAXALLOWEDVALUE
 abbrev pub counter_head : List Counter → List ℕ → List Field
@@ -161,8 +176,10 @@ alarm_fields n counters earlier bytes =
     let action = action_fields n (behind (name ∷ counter ∷ []) bytes) in
     name ∷ counter ∷ (action ++ start_fields n of (behind (name ∷ counter ∷ action) bytes))
 
-abbrev pub resource_fields : List Resource → List Field
-resource_fields earlier = name_field (map (λ (x : Resource). x.name) earlier) ∷ field w32 (at_most greatest_ceiling) any ∷ []
+abbrev pub resource_fields : Version → List Resource → List Field
+resource_fields v earlier =
+    name_field (map (λ (x : Resource). x.name) earlier) ∷ field w32 (at_most greatest_ceiling) any
+    ∷ (further_field v (unused_field w8 0) ++ further_field v (unused_field w16 0))
 
 -- ---- block b of so many, beside the tables
 
@@ -173,6 +190,10 @@ kind_of_number n = slice_index_or blank_kinds n kind.Loop
 abbrev pub is_form : ℕ → ℕ → Bool
 is_form tasks n =
     (n == 0x0000) || (n == 0x0100) || (n == 0x02ff) || (n == 0x0300) || (nat_le 0x0200 n && nat_lt n (0x0200 + tasks))
+
+-- a status, that none is noted, or nothing
+abbrev pub is_known : ℕ → Bool
+is_known n = (n == 0xff) || nat_lt n 10
 
 module _ (t : Tables) (blocks b : ℕ) where
   abbrev pub kind_field : Field
@@ -215,21 +236,22 @@ module _ (t : Tables) (blocks b : ℕ) where
   way_fields (kind.Choice o) = way_field ∷ way_field ∷ []
   way_fields _ = way_field ∷ []
 
-  abbrev pub form_fields : Kind → List Field
-  form_fields k = if is_site_in t.tasks b k then field w16 (is_form (length t.tasks)) any ∷ [] else []
+  -- the form, and in version 2 what is known of the status
+  abbrev pub site_fields : Version → Kind → List Field
+  site_fields v k = if is_site_in t.tasks b k then field w16 (is_form (length t.tasks)) any ∷ further_field v (field w8 is_known any) else []
 
-  -- the fields of the block that begins with these bytes: kind, locked, line, operands, ways and form
-  abbrev pub block_fields : List ℕ → List Field
-  block_fields bytes =
+  -- the fields of the block that begins with these bytes: kind, locked, line, operands, ways and site
+  abbrev pub block_fields : Version → List ℕ → List Field
+  block_fields v bytes =
       let k = kind_of_number (slice_index bytes 0) in
-      kind_field ∷ field w8 (below 2) any ∷ field w32 any any ∷ (call_fields k ++ (way_fields k ++ form_fields k))
+      kind_field ∷ field w8 (below 2) any ∷ field w32 any any ∷ (call_fields k ++ (way_fields k ++ site_fields v k))
 
 -- the first fault of so many blocks from block b on
 abbrev pub or_else : Option Fault → Option Fault → Option Fault
 or_else None later = later
 or_else (Some f) later = Some f
 
-abbrev pub blocks_fault : Tables → ℕ → ℕ → ℕ → List ℕ → Option Fault
-blocks_fault t blocks zero b bytes = None
-blocks_fault t blocks (suc k) b bytes =
-    or_else (first_broken (block_fields t blocks b bytes) bytes) (blocks_fault t blocks k (b + 1) (behind (block_fields t blocks b bytes) bytes))
+abbrev pub blocks_fault : Version → Tables → ℕ → ℕ → ℕ → List ℕ → Option Fault
+blocks_fault v t blocks zero b bytes = None
+blocks_fault v t blocks (suc k) b bytes =
+    or_else (first_broken (block_fields t blocks b v bytes) bytes) (blocks_fault v t blocks k (b + 1) (behind (block_fields t blocks b v bytes) bytes))

@@ -22,6 +22,7 @@ read_image bytes = placed (length bytes) (all_at bytes)
 
 abbrev pub parts_of : Image → Parts
 parts_of i = record {
+  version = i.version;
   hooks = i.app.hooks;
   tables = record { tasks = i.app.tasks; isrs = i.app.isrs; counters = i.app.counters; alarms = i.app.alarms; resources = i.app.resources; modes = i.app.modes };
   blocks = i.app.blocks;

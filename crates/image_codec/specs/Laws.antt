@@ -1,6 +1,6 @@
 -- What holds of all spellings, and of the first fault of bytes.
 use Rattle.std.specs.Prelude.{◌≡◌, ◌⊎◌, List, [], ◌∷◌, ℕ, ◌++◌, length, Some, Ok, Err}
-use Rattle.image_model.specs.declared.image.Image.{Image}
+use Rattle.image_model.specs.declared.image.{Image.{Image}, Version.{Version}}
 use Rattle.image_codec.specs.declared.fault.{ImageFault.{ImageFault}, Fault.{Fault}}
 use Rattle.image_codec.specs.Spelling.{spelling}
 use Rattle.image_codec.specs.Fits.{FitsFormat}
@@ -35,15 +35,15 @@ pub record EntryFaults : Type 0 where
   pub counter : (n : Header) (tasks : List Task) (isrs : List Isr) (earlier : List Counter) (bytes : List ℕ)
       → fault_of (counter_at n tasks isrs earlier bytes) ≡ first_broken (counter_fields n tasks isrs earlier bytes) bytes
   pub alarm : (n : Header) (counters : List Counter) (earlier : List Alarm) (bytes : List ℕ) → fault_of (alarm_at n counters earlier bytes) ≡ first_broken (alarm_fields n counters earlier bytes) bytes
-  pub resource : (earlier : List Resource) (bytes : List ℕ) → fault_of (resource_at earlier bytes) ≡ first_broken (resource_fields earlier) bytes
+  pub resource : (v : Version) (earlier : List Resource) (bytes : List ℕ) → fault_of (resource_at v earlier bytes) ≡ first_broken (resource_fields v earlier) bytes
   pub mode : (earlier : List (List ℕ)) (bytes : List ℕ) → fault_of (name_at earlier bytes) ≡ first_broken (name_field earlier ∷ []) bytes
 
 -- that of the blocks behind the tables,
 abbrev pub BlocksFaults : Type 0
-BlocksFaults = (t : Tables) (blocks : ℕ) (bytes : List ℕ) → fault_of (blocks_at t blocks bytes) ≡ blocks_fault t blocks blocks 0 bytes
+BlocksFaults = (v : Version) (t : Tables) (blocks : ℕ) (bytes : List ℕ) → fault_of (blocks_at v t blocks bytes) ≡ blocks_fault v t blocks blocks 0 bytes
 
 -- and where the tables have none, it is the image's.
 abbrev pub ImageFaults : Type 0
 ImageFaults = (bytes : List ℕ) (h : Header) (t : Tables) (behind_header behind_tables : List ℕ) (f : Fault)
     → header_at bytes ≡ Ok (h, behind_header) → tables_at h behind_header ≡ Ok (t, behind_tables)
-    → blocks_fault t h.blocks h.blocks 0 behind_tables ≡ Some f → read_image bytes ≡ Err (located (length bytes) f)
+    → blocks_fault h.version t h.blocks h.blocks 0 behind_tables ≡ Some f → read_image bytes ≡ Err (located (length bytes) f)

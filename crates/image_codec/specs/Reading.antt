@@ -1,5 +1,5 @@
 -- Reading the fields of bytes in order, with the first fault that is met.
-use Rattle.std.specs.Prelude.{◌≡◌, ℕ, zero, suc, ◌+◌, ◌^◌, ◌<◌, Bool, not, ◌&&◌, nat_lt, nat_le, ◌==◌, List, [], ◌∷◌, ◌++◌, length, take, drop, slice_index, Result, Ok, Err, if◌then◌else◌}
+use Rattle.std.specs.Prelude.{◌≡◌, ℕ, zero, suc, ◌+◌, ◌^◌, ◌<◌, Bool, not, ◌&&◌, nat_lt, nat_le, ◌==◌, List, [], ◌∷◌, ◌++◌, length, take, drop, slice_index, Option, Some, None, Result, Ok, Err, if◌then◌else◌}
 use Rattle.std.specs.Int.{Width, w16, byte_len, from_be_bytes}
 use Rattle.std.specs.List.{list_any}
 use Rattle.std.specs.Str.{bytes_eq}
@@ -11,6 +11,8 @@ use Rattle.image_codec.specs.declared.fault.{ImageRule.{ImageRule}, ImageRule.Th
 use Rattle.osek_values.specs.declared.refused.Refused.{Refused}
 use Rattle.osek_values.specs.declared.refused.Refused.TheVariants as errors
 use Rattle.image_codec.specs.declared.parts.Range.{Range}
+use Rattle.image_model.specs.declared.image.Version.{Version}
+use Rattle.image_model.specs.declared.image.Version.TheVariants as version
 
 -- each is a byte
 abbrev pub AreBytes : List ℕ → Type 0
@@ -67,11 +69,19 @@ tested_at w test rule bytes = do
 abbrev pub byte_below_at : ℕ → List ℕ → Read ℕ
 byte_below_at limit bytes = tested_byte_at (λ n. nat_lt n limit) I3 bytes
 
--- bytes that are these
-unfoldable pub exactly_at : List ℕ → ImageRule → List ℕ → Read (List ℕ)
-exactly_at wanted rule bytes =
-    if nat_lt (length bytes) (length wanted) then Err (fault_at I1 bytes)
-    else kept (bytes_eq (take (length wanted) bytes) wanted) rule bytes (wanted, drop (length wanted) bytes)
+-- what stands for the field that was read, if anything does
+abbrev pub found_at : {X : Type 0} → ImageRule → List ℕ → List ℕ → Option X → Read X
+found_at rule bytes rest None = Err (fault_at rule bytes)
+found_at rule bytes rest (Some x) = Ok (x, rest)
+
+-- A number that version 2 alone has, and that is this one as long as nothing uses it.
+unfoldable pub unused_byte_at : Version → ℕ → List ℕ → Read ℕ
+unused_byte_at version.One value bytes = Ok (value, bytes)
+unused_byte_at version.Two value bytes = tested_byte_at (λ n. n == value) I3 bytes
+
+unfoldable pub unused_16_at : Version → ℕ → List ℕ → Read ℕ
+unused_16_at version.One value bytes = Ok (value, bytes)
+unused_16_at version.Two value bytes = tested_at w16 (λ n. n == value) I3 bytes
 
 -- so many bytes, in a field before which so many were left
 abbrev pub text_at : ℕ → ℕ → List ℕ → Read (List ℕ)

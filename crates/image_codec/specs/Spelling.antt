@@ -1,5 +1,5 @@
--- The bytes of an image, format version 1: the fields in order, without gaps, numbers big-endian (this project's
--- profile).
+-- The bytes of an image, of the format's versions 1 and 2: the fields in order, without gaps, numbers big-endian (this
+-- project's profile).
 use Rattle.std.specs.Prelude.{ℕ, ◌+◌, Bool, List, [], ◌∷◌, ◌++◌, length, Option, Some, None, if◌then◌else◌, codes}
 use Rattle.std.specs.List.{flat_map, zip}
 use Rattle.std.specs.Int.{to_be_bytes, w16, w32, w64}
@@ -12,9 +12,12 @@ use Rattle.osek_standard.specs.declared.call.{Lock.{Lock}, PlainService.{PlainSe
 use Rattle.osek_standard.specs.declared.call.Lock.TheVariants as lock
 use Rattle.osek_standard.specs.declared.block.Kind.TheVariants as kind
 use Rattle.image_model.specs.CallNames as call
-use Rattle.image_model.specs.declared.site.{Form.{Form}, Site.{Site}}
+use Rattle.image_model.specs.declared.site.{Form.{Form}, Known.{Known}, Site.{Site}}
 use Rattle.image_model.specs.declared.site.Form.TheVariants as form
-use Rattle.image_model.specs.declared.image.Image.{Image}
+use Rattle.image_model.specs.declared.site.Known.TheVariants as known
+use Rattle.image_model.specs.declared.image.{Image.{Image}, Version.{Version}}
+use Rattle.image_model.specs.declared.image.Version.TheVariants as version
+use Rattle.image_model.specs.Statuses.{status_number}
 
 abbrev pub one : ℕ → List ℕ
 one n = n ∷ []
@@ -28,9 +31,18 @@ four n = to_be_bytes w32 n
 abbrev pub eight : ℕ → List ℕ
 eight n = to_be_bytes w64 n
 
+abbrev pub version_number : Version → ℕ
+version_number version.One = 1
+version_number version.Two = 2
+
 -- OSEKFIT and the version
-abbrev pub magic : List ℕ
-magic = codes "OSEKFIT" ++ one 1
+abbrev pub magic : Version → List ℕ
+magic v = codes "OSEKFIT" ++ one (version_number v)
+
+-- a field that version 2 alone has
+abbrev pub further : Version → List ℕ → List ℕ
+further version.One bytes = []
+further version.Two bytes = bytes
 
 -- a length byte, and so many bytes
 abbrev pub name_bytes : List ℕ → List ℕ
@@ -44,13 +56,15 @@ abbrev pub schedule_number : Schedule → ℕ
 schedule_number Non = 0
 schedule_number Full = 1
 
-abbrev pub task_bytes : Task → List ℕ
-task_bytes x =
+-- In version 2 a task has besides how often it may be activated, which is 1, and its internal resource, which is none;
+abbrev pub task_bytes : Version → Task → List ℕ
+task_bytes v x =
     name_bytes x.name ++ two x.priority ++ one (schedule_number x.schedule) ++ eight x.own.0 ++ one x.autostart
-    ++ range_bytes x.first x.count
+    ++ range_bytes x.first x.count ++ further v (one 1) ++ further v (one 0xff)
 
-abbrev pub isr_bytes : Isr → List ℕ
-isr_bytes x = name_bytes x.name ++ range_bytes x.first x.count
+-- an ISR has its priority, which is 0;
+abbrev pub isr_bytes : Version → Isr → List ℕ
+isr_bytes v x = name_bytes x.name ++ range_bytes x.first x.count ++ further v (one 0)
 
 abbrev pub counter_bytes : Counter → List ℕ
 counter_bytes x = name_bytes x.name ++ four x.max ++ four x.min_cycle ++ range_bytes x.first x.count
@@ -63,8 +77,9 @@ abbrev pub alarm_bytes : Alarm → List ℕ
 alarm_bytes x =
     name_bytes x.name ++ one x.counter.0 ++ action_bytes x.action ++ one x.autostart ++ four x.time ++ four x.cycle
 
-abbrev pub resource_bytes : Resource → List ℕ
-resource_bytes x = name_bytes x.name ++ four x.ceiling
+-- and a resource its property, which is 0 for an ordinary one, and the ceiling of the interrupts, which is 0.
+abbrev pub resource_bytes : Version → Resource → List ℕ
+resource_bytes v x = name_bytes x.name ++ four x.ceiling ++ further v (one 0) ++ further v (two 0)
 
 abbrev pub lock_number : Lock → ℕ
 lock_number lock.SuspendAll = 0
@@ -153,17 +168,24 @@ form_number (form.Direct (Some t)) = 0x0200 + t.0
 form_number (form.Direct None) = 0x02ff
 form_number form.General = 0x0300
 
-abbrev pub site_bytes : Option Site → List ℕ
-site_bytes None = []
-site_bytes (Some x) = two (form_number x.form)
+-- the number of a status, 9 where none is noted, ff where nothing is known
+abbrev pub known_number : Known → ℕ
+known_number known.Any = 0xff
+known_number (known.Always None) = 9
+known_number (known.Always (Some x)) = status_number x
+
+-- version 2 alone has what is known of the status
+abbrev pub site_bytes : Version → Option Site → List ℕ
+site_bytes v None = []
+site_bytes v (Some x) = two (form_number x.form) ++ further v (one (known_number x.known))
 
 abbrev pub flag_number : Bool → ℕ
 flag_number b = if b then 1 else 0
 
-abbrev pub block_bytes : Block × Option Site → List ℕ
-block_bytes x =
+abbrev pub block_bytes : Version → Block × Option Site → List ℕ
+block_bytes v x =
     one (kind_number x.0.kind) ++ one (flag_number x.0.locked) ++ four x.0.line ++ operand_bytes x.0.kind
-    ++ way_bytes x.0.kind x.0.next ++ site_bytes x.1
+    ++ way_bytes x.0.kind x.0.next ++ site_bytes v x.1
 
 -- the hooks, how many entries each table has, and how many blocks there are
 abbrev pub header_bytes : App → List ℕ
@@ -171,10 +193,10 @@ header_bytes a =
     one a.hooks.0 ++ one (length a.tasks) ++ one (length a.isrs) ++ one (length a.counters) ++ one (length a.alarms)
     ++ one (length a.resources) ++ one (length a.modes) ++ two (length a.blocks)
 
--- The one spelling of an image.
+-- The one spelling of an image, in its version.
 unfoldable pub spelling : Image → List ℕ
 spelling i =
-    magic ++ header_bytes i.app ++ flat_map task_bytes i.app.tasks ++ flat_map isr_bytes i.app.isrs
-    ++ flat_map counter_bytes i.app.counters ++ flat_map alarm_bytes i.app.alarms
-    ++ flat_map resource_bytes i.app.resources ++ flat_map name_bytes i.app.modes
-    ++ flat_map block_bytes (zip i.app.blocks i.sites)
+    magic i.version ++ header_bytes i.app ++ flat_map (task_bytes i.version) i.app.tasks
+    ++ flat_map (isr_bytes i.version) i.app.isrs ++ flat_map counter_bytes i.app.counters
+    ++ flat_map alarm_bytes i.app.alarms ++ flat_map (resource_bytes i.version) i.app.resources
+    ++ flat_map name_bytes i.app.modes ++ flat_map (block_bytes i.version) (zip i.app.blocks i.sites)

@@ -1,7 +1,8 @@
 -- Reading the header and the tables of an image.
-use Rattle.std.specs.Prelude.{ℕ, ◌+◌, ◌≤◌, Bool, not, ◌&&◌, nat_lt, nat_le, nat_eq, ◌==◌, List, [], map, Ok, slice_index_or, if◌then◌else◌}
+use Rattle.std.specs.Prelude.{ℕ, ◌+◌, ◌≤◌, Bool, not, ◌&&◌, nat_lt, nat_le, nat_eq, ◌==◌, List, [], length, map, Option, Some, None, Ok, slice_index_or, if◌then◌else◌}
 use Rattle.std.specs.Int.{w16, w32, w64}
 use Rattle.std.specs.List.{list_any}
+use Rattle.std.specs.Str.{bytes_eq}
 use Rattle.osek_values.specs.declared.limits.TheConstants.{MAX_TASKS, MAX_ISRS, MAX_COUNTERS, MAX_ALARMS, MAX_RESOURCES, MAX_MODES, MAX_BLOCKS}
 use Rattle.osek_values.specs.Hooks.{hook_set}
 use Rattle.osek_values.specs.Numbers.{task_no, counter_no, mask}
@@ -11,7 +12,9 @@ use Rattle.osek_standard.specs.Validity.{no_counter, greatest_ceiling, is_cycle_
 use Rattle.image_codec.specs.declared.fault.ImageRule.TheVariants.{I2, I3, I5}
 use Rattle.image_codec.specs.declared.parts.{Header.{Header}, Tables.{Tables}}
 use Rattle.image_codec.specs.Spelling.{magic}
-use Rattle.image_codec.specs.Reading.{Read, ◌>>=◌, number_at, tested_byte_at, tested_at, byte_below_at, exactly_at, name_at, modes_at, range_at, entries_at}
+use Rattle.image_codec.specs.Reading.{Read, ◌>>=◌, number_at, tested_byte_at, tested_at, byte_below_at, text_at, found_at, unused_byte_at, unused_16_at, name_at, modes_at, range_at, entries_at}
+use Rattle.image_model.specs.declared.image.Version.{Version}
+use Rattle.image_model.specs.declared.image.Version.TheVariants as version
 
 -- the numbers of entries are within their limits
 pub record HasFew (n : Header) : Type 0 where
@@ -20,9 +23,22 @@ pub record HasFew (n : Header) : Type 0 where
   pub resources : n.resources ≤ MAX_RESOURCES
   pub modes : n.modes ≤ MAX_MODES
 
+-- the version that the first eight bytes name
+abbrev pub version_of : List ℕ → Option Version
+version_of front =
+    if bytes_eq front (magic version.One) then Some version.One
+    else if bytes_eq front (magic version.Two) then Some version.Two
+    else None
+
+-- the magic and the version, which are one field
+unfoldable pub version_at : List ℕ → Read Version
+version_at bytes = do
+  front ← text_at 8 (length bytes) bytes
+  found_at I2 bytes front.1 (version_of front.0)
+
 unfoldable pub header_at : List ℕ → Read Header
 header_at bytes = do
-  start ← exactly_at magic I2 bytes
+  start ← version_at bytes
   hooks ← byte_below_at 32 start.1
   tasks ← byte_below_at (MAX_TASKS + 1) hooks.1
   isrs ← byte_below_at (MAX_ISRS + 1) tasks.1
@@ -31,7 +47,7 @@ header_at bytes = do
   resources ← byte_below_at (MAX_RESOURCES + 1) alarms.1
   modes ← tested_byte_at (λ n. nat_lt 0 n && nat_le n MAX_MODES) I3 resources.1
   blocks ← tested_at w16 (λ n. nat_le n MAX_BLOCKS) I3 modes.1
-  Ok (record { hooks = hook_set hooks.0; tasks = tasks.0; isrs = isrs.0; counters = counters.0; alarms = alarms.0; resources = resources.0; modes = modes.0; blocks = blocks.0 }, blocks.1)
+  Ok (record { version = start.0; hooks = hook_set hooks.0; tasks = tasks.0; isrs = isrs.0; counters = counters.0; alarms = alarms.0; resources = resources.0; modes = modes.0; blocks = blocks.0 }, blocks.1)
 
 abbrev pub schedule_of : ℕ → Schedule
 schedule_of n = if n == 0 then Non else Full
@@ -50,13 +66,16 @@ task_at n earlier bytes = do
   own ← number_at w64 schedule.1
   autostart ← modes_at n.modes own.1
   code ← range_at n.blocks (owners earlier [] []) autostart.1
-  Ok (record { name = name.0; priority = priority.0; schedule = schedule.0; own = mask own.0; autostart = autostart.0; first = code.0.first; count = code.0.count }, code.1)
+  activation ← unused_byte_at n.version 1 code.1
+  internal ← unused_byte_at n.version 0xff activation.1
+  Ok (record { name = name.0; priority = priority.0; schedule = schedule.0; own = mask own.0; autostart = autostart.0; first = code.0.first; count = code.0.count }, internal.1)
 
 unfoldable pub isr_at : Header → List Task → List Isr → List ℕ → Read Isr
 isr_at n tasks earlier bytes = do
   name ← name_at (map (λ (x : Isr). x.name) earlier) bytes
   code ← range_at n.blocks (owners tasks earlier []) name.1
-  Ok (record { name = name.0; first = code.0.first; count = code.0.count }, code.1)
+  priority ← unused_byte_at n.version 0 code.1
+  Ok (record { name = name.0; first = code.0.first; count = code.0.count }, priority.1)
 
 unfoldable pub counter_at : Header → List Task → List Isr → List Counter → List ℕ → Read Counter
 counter_at n tasks isrs earlier bytes = do
@@ -97,11 +116,13 @@ alarm_at n counters earlier bytes = do
   cycle ← tested_at w32 (λ c. is_start_cycle (slice_index_or counters counter.0 no_counter) autostart.0 c) I3 time.1
   Ok (record { name = name.0; counter = counter_no counter.0; action = act.0; autostart = autostart.0; time = time.0; cycle = cycle.0 }, cycle.1)
 
-unfoldable pub resource_at : List Resource → List ℕ → Read Resource
-resource_at earlier bytes = do
+unfoldable pub resource_at : Version → List Resource → List ℕ → Read Resource
+resource_at v earlier bytes = do
   name ← name_at (map (λ (x : Resource). x.name) earlier) bytes
   ceiling ← tested_at w32 (λ c. nat_le c greatest_ceiling) I3 name.1
-  Ok (record { name = name.0; ceiling = ceiling.0 }, ceiling.1)
+  property ← unused_byte_at v 0 ceiling.1
+  interrupt_ceiling ← unused_16_at v 0 property.1
+  Ok (record { name = name.0; ceiling = ceiling.0 }, interrupt_ceiling.1)
 
 -- the tables in order
 unfoldable pub tables_at : Header → List ℕ → Read Tables
@@ -110,6 +131,6 @@ tables_at n bytes = do
   isrs ← entries_at (isr_at n tasks.0) [] n.isrs tasks.1
   counters ← entries_at (counter_at n tasks.0 isrs.0) [] n.counters isrs.1
   alarms ← entries_at (alarm_at n counters.0) [] n.alarms counters.1
-  resources ← entries_at resource_at [] n.resources alarms.1
+  resources ← entries_at (resource_at n.version) [] n.resources alarms.1
   modes ← entries_at name_at [] n.modes resources.1
   Ok (record { tasks = tasks.0; isrs = isrs.0; counters = counters.0; alarms = alarms.0; resources = resources.0; modes = modes.0 }, modes.1)

@@ -4,19 +4,19 @@ ghost use Rattle.std.specs.Int.{w16, w64};
 ghost use Rattle.std.specs.List.{list_any, list_all, zip};
 ghost use Rattle.osek_standard.specs.Validity.{is_within as is_among, task_may as may_in_task, isr_may as may_in_isr, due_of};
 ghost use Rattle.image_codec.specs.Reading.{Gives, byte_below_at, tested_at};
-ghost use Rattle.image_codec.specs.BlockReading.{blank_kinds, AreSmall, tick_order as order_of_ticks, where_has, task_range, isr_range, counter_range, tasks_allow as do_tasks_allow, isrs_allow as do_isrs_allow, counter_allows as does_counter_allow, counters_allow as do_counters_allow, is_owned as has_owner, is_allowed as may_stand, is_due_in as is_due_in_counter, is_due as is_the_due, is_way as may_lead_to, kind_at, lock_at, locks, due_at, operands_at, way_at, ways_at, direct_form, form_of as form_of_number, site_at, block_at, blocks_at};
+ghost use Rattle.image_codec.specs.BlockReading.{blank_kinds, AreSmall, tick_order as order_of_ticks, where_has, task_range, isr_range, counter_range, tasks_allow as do_tasks_allow, isrs_allow as do_isrs_allow, counter_allows as does_counter_allow, counters_allow as do_counters_allow, is_owned as has_owner, is_allowed as may_stand, is_due_in as is_due_in_counter, is_due as is_the_due, is_way as may_lead_to, kind_at, lock_at, locks, due_at, operands_at, way_at, ways_at, direct_form, form_of as form_of_number, form_at, knowns, known_of as known_of_number, known_at, stated_at, site_at, block_at, blocks_at};
 ghost use Rattle.image_codec.specs.declared.fault.ImageRule.TheVariants.{I3, I5};
 ghost use Rattle.osek_standard.specs.declared.block.Kind.TheVariants as kind;
 
 use crate::fault::{ImageRule, ReadError};
 use crate::parts::Tables;
 use crate::reader::{Reader, fault};
-use image_model::{Form, Site, is_site, is_task_block, is_within};
+use image_model::{Form, Known, Site, Version, is_site, is_task_block, is_within};
 use osek_standard::{
     Alarm, AlarmService, ArmService, Block, Call, Counter, Isr, Kind, Lock, MaskService,
     PlainService, ResourceService, Task, TaskService,
 };
-use osek_values::{AlarmNo, BlockNo, Mask, ResNo, Seq, TaskNo};
+use osek_values::{AlarmNo, BlockNo, Mask, ResNo, Seq, Status, TaskNo};
 use std::alloc::Global;
 
 /// Each kind at the place of its number, its operands still blank.
@@ -57,6 +57,20 @@ const LOCKS: [Lock; 6] = [
     Lock::ResumeOs,
     Lock::DisableAll,
     Lock::EnableAll,
+];
+
+/// What is known of a status, each at the place of its number.
+const KNOWNS: [Known; 10] = [
+    Known::Always(Some(Status::Ok)),
+    Known::Always(Some(Status::Access)),
+    Known::Always(Some(Status::CallLevel)),
+    Known::Always(Some(Status::Id)),
+    Known::Always(Some(Status::Limit)),
+    Known::Always(Some(Status::NoFunc)),
+    Known::Always(Some(Status::Resource)),
+    Known::Always(Some(Status::State)),
+    Known::Always(Some(Status::Value)),
+    Known::Always(None),
 ];
 
 fn kind_of(kinds: &[Kind], number: u8) -> Option<Kind>
@@ -550,44 +564,100 @@ fn direct(number: u16, tasks: usize) -> Option<Form>
     Some(Form::Direct(Some(TaskNo((number - 0x0200) as u8))))
 }
 
+/// A site's form, where there are so many tasks.
+#[tactic(auto, unfolding(crate::specs::BlockReading::form_at))]
+fn form(reader: &mut Reader, tasks: usize) -> Result<Form, ReadError>
+    requires { tasks ≤ 255 }
+    ensures { Gives (λ x. x) result reader.new (form_at tasks reader.old) }
+{
+    let left = reader.left();
+    let number = reader.number_16()?;
+    match form_of(number, tasks) {
+        None => Err(fault(ImageRule::I3, left)),
+        Some(form) => Ok(form),
+    }
+}
+
+/// What is known of a status, by its number.
+fn known_of(number: u8) -> Option<Known>
+    ensures { result ≡ known_of_number number }
+{
+    if number == 0xff {
+        return Some(Known::Any);
+    }
+    listed_known(number)
+}
+
+fn listed_known(number: u8) -> Option<Known>
+    ensures { result ≡ slice_get knowns number }
+{
+    KNOWNS.get(number as usize).copied()
+}
+
+/// What is known of a site's status: nothing in version 1.
+#[tactic(auto, unfolding(crate::specs::BlockReading::known_at))]
+fn known(reader: &mut Reader, version: Version) -> Result<Known, ReadError>
+    ensures { Gives (λ x. x) result reader.new (known_at version reader.old) }
+{
+    match version {
+        Version::One => Ok(Known::Any),
+        Version::Two => {
+            let left = reader.left();
+            let number = reader.byte()?;
+            match known_of(number) {
+                None => Err(fault(ImageRule::I3, left)),
+                Some(known) => Ok(known),
+            }
+        }
+    }
+}
+
+/// A site, where there are so many tasks.
+#[tactic(auto, unfolding(crate::specs::BlockReading::stated_at))]
+fn stated(reader: &mut Reader, version: Version, tasks: usize) -> Result<Site, ReadError>
+    requires { tasks ≤ 255 }
+    ensures { Gives (λ x. x) result reader.new (stated_at version tasks reader.old) }
+{
+    let form = form(reader, tasks)?;
+    let known = known(reader, version)?;
+    Ok(Site { form, known })
+}
+
 /// A block's site, if it is one.
 #[tactic(auto, unfolding(crate::specs::BlockReading::site_at))]
 fn site(
     reader: &mut Reader,
+    version: Version,
     tables: &Tables,
     block: u16,
     kind: Kind,
 ) -> Result<Option<Site>, ReadError>
     requires { AreSmall tables.now }
-    ensures { Gives (λ x. x) result reader.new (site_at tables.now block kind reader.old) }
+    ensures { Gives (λ x. x) result reader.new (site_at tables.now block version kind reader.old) }
 {
     if !is_site(tables.tasks.as_slice(), block, kind) {
         return Ok(None);
     }
-    let left = reader.left();
-    let number = reader.number_16()?;
-    match form_of(number, tables.tasks.len()) {
-        None => Err(fault(ImageRule::I3, left)),
-        Some(form) => Ok(Some(Site { form })),
-    }
+    Ok(Some(stated(reader, version, tables.tasks.len())?))
 }
 
 #[tactic(auto, unfolding(crate::specs::BlockReading::block_at))]
 fn block(
     reader: &mut Reader,
+    version: Version,
     tables: &Tables,
     blocks: u16,
     block: u16,
 ) -> Result<(Block, Option<Site>), ReadError>
     requires { AreSmall tables.now }
-    ensures { Gives (λ x. x) result reader.new (block_at tables.now blocks block reader.old) }
+    ensures { Gives (λ x. x) result reader.new (block_at tables.now blocks block version reader.old) }
 {
     let blank = kind(reader, tables, block)?;
     let locked = reader.flag()?;
     let line = reader.number_32()?;
     let filled = operands(reader, tables, block, blank)?;
     let (kind, next) = ways(reader, tables, blocks, block, filled)?;
-    let site = site(reader, tables, block, kind)?;
+    let site = site(reader, version, tables, block, kind)?;
     let block = Block {
         kind,
         locked,
@@ -601,17 +671,18 @@ fn block(
 pub(crate) fn blocks(
     alloc: Global,
     reader: &mut Reader,
+    version: Version,
     tables: &Tables,
     count: u16,
 ) -> Result<(Seq<Block>, Seq<Option<Site>>), ReadError>
     requires { AreSmall tables.now }
-    ensures gives { Gives (λ x. zip x.0 x.1) result reader.new (blocks_at tables.now count reader.old) }
+    ensures gives { Gives (λ x. zip x.0 x.1) result reader.new (blocks_at version tables.now count reader.old) }
     ensures same { IfOk result (λ x. length x.0 ≡ length x.1) }
 {
     let mut blocks = Seq::new(alloc);
     let mut sites = Seq::new(alloc);
     for number in 0..count {
-        let (block, site) = block(reader, tables, count, number)?;
+        let (block, site) = block(reader, version, tables, count, number)?;
         blocks.push(block)?;
         sites.push(site)?;
     }

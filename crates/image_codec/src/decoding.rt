@@ -23,8 +23,9 @@ fn parts(alloc: Global, reader: &mut Reader) -> Result<Parts, ReadError>
 {
     let header = header(reader)?;
     let tables = tables(alloc, reader, header)?;
-    match blocks(alloc, reader, &tables, header.blocks) {
+    match blocks(alloc, reader, header.version, &tables, header.blocks) {
         Ok((blocks, sites)) => Ok(Parts {
+            version: header.version,
             hooks: header.hooks,
             tables,
             blocks,
@@ -76,6 +77,7 @@ pub fn decode(alloc: Global, bytes: &[u8]) -> Result<Image, ImageError>
                 blocks: parts.blocks,
             };
             Ok(Image {
+                version: parts.version,
                 app,
                 sites: parts.sites,
             })

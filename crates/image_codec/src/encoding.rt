@@ -1,10 +1,10 @@
 //! The bytes of an image.
 ghost use Rattle.std.specs.Prelude.{◌≡◌, ◌++◌, ◌<◌, length, OnOk, IfOk};
 ghost use Rattle.std.specs.List.{flat_map, zip};
-ghost use Rattle.image_codec.specs.Spelling.{one, eight, spelling, header_bytes, name_bytes, range_bytes, schedule_number as number_of_schedule, task_bytes, isr_bytes, counter_bytes, action_bytes, alarm_bytes, resource_bytes, lock_number as number_of_lock, kind_number as number_of_kind, operand_bytes, way_bytes, form_number as number_of_form, site_bytes, block_bytes};
+ghost use Rattle.image_codec.specs.Spelling.{one, eight, magic as magic_of, further, spelling, header_bytes, name_bytes, range_bytes, schedule_number as number_of_schedule, task_bytes, isr_bytes, counter_bytes, action_bytes, alarm_bytes, resource_bytes, lock_number as number_of_lock, kind_number as number_of_kind, operand_bytes, way_bytes, form_number as number_of_form, known_number as number_of_known, site_bytes, block_bytes};
 ghost use Rattle.osek_standard.specs.declared.block.Kind.TheVariants as kind;
 
-use image_model::{Form, Image, Site};
+use image_model::{Form, Image, Known, Site, Version, status_number};
 use osek_standard::{
     Action, Alarm, AlarmService, App, ArmService, Block, Call, Counter, Isr, Kind, Lock,
     MaskService, PlainService, Resource, ResourceService, Schedule, Task, TaskService,
@@ -13,7 +13,24 @@ use osek_values::{AlarmNo, BlockNo, Memory, Name};
 use std::alloc::{AllocError, Global};
 
 /// OSEKFIT and the version.
-pub(crate) const MAGIC: [u8; 8] = *b"OSEKFIT\x01";
+pub(crate) fn magic(version: Version) -> &'static [u8]
+    ensures { result.now ≡ magic_of version }
+{
+    match version {
+        Version::One => b"OSEKFIT\x01",
+        Version::Two => b"OSEKFIT\x02",
+    }
+}
+
+/// Bytes that version 2 alone has.
+fn put_further(out: &mut Vec<u8>, version: Version, bytes: &[u8]) -> Result<(), AllocError>
+    ensures { OnOk result (out.new.items ≡ out.old.items ++ further version bytes.now) }
+{
+    match version {
+        Version::One => Ok(()),
+        Version::Two => out.extend_from_slice(bytes),
+    }
+}
 
 fn put_name(out: &mut Vec<u8>, name: &Name) -> Result<(), AllocError>
     ensures { OnOk result (out.new.items ≡ out.old.items ++ name_bytes name.now) }
@@ -39,22 +56,27 @@ fn schedule_number(schedule: Schedule) -> u8
     }
 }
 
-fn put_task(out: &mut Vec<u8>, task: &Task) -> Result<(), AllocError>
-    ensures { OnOk result (out.new.items ≡ out.old.items ++ task_bytes task.now) }
+/// Each task may be activated once and has no internal resource.
+fn put_task(out: &mut Vec<u8>, version: Version, task: &Task) -> Result<(), AllocError>
+    ensures { OnOk result (out.new.items ≡ out.old.items ++ task_bytes version task.now) }
 {
     put_name(out, &task.name)?;
     out.extend_from_slice(&task.priority.to_be_bytes())?;
     out.push(schedule_number(task.schedule))?;
     out.extend_from_slice(&task.own.0.to_be_bytes())?;
     out.push(task.autostart)?;
-    put_range(out, task.first, task.count)
+    put_range(out, task.first, task.count)?;
+    put_further(out, version, &[1])?;
+    put_further(out, version, &[0xff])
 }
 
-fn put_isr(out: &mut Vec<u8>, isr: &Isr) -> Result<(), AllocError>
-    ensures { OnOk result (out.new.items ≡ out.old.items ++ isr_bytes isr.now) }
+/// Each ISR has priority 0.
+fn put_isr(out: &mut Vec<u8>, version: Version, isr: &Isr) -> Result<(), AllocError>
+    ensures { OnOk result (out.new.items ≡ out.old.items ++ isr_bytes version isr.now) }
 {
     put_name(out, &isr.name)?;
-    put_range(out, isr.first, isr.count)
+    put_range(out, isr.first, isr.count)?;
+    put_further(out, version, &[0])
 }
 
 fn put_counter(out: &mut Vec<u8>, counter: &Counter) -> Result<(), AllocError>
@@ -94,11 +116,14 @@ fn put_alarm(out: &mut Vec<u8>, alarm: &Alarm) -> Result<(), AllocError>
     out.extend_from_slice(&alarm.cycle.to_be_bytes())
 }
 
-fn put_resource(out: &mut Vec<u8>, resource: &Resource) -> Result<(), AllocError>
-    ensures { OnOk result (out.new.items ≡ out.old.items ++ resource_bytes resource.now) }
+/// Each resource is an ordinary one, without a ceiling of interrupts.
+fn put_resource(out: &mut Vec<u8>, version: Version, resource: &Resource) -> Result<(), AllocError>
+    ensures { OnOk result (out.new.items ≡ out.old.items ++ resource_bytes version resource.now) }
 {
     put_name(out, &resource.name)?;
-    out.extend_from_slice(&resource.ceiling.to_be_bytes())
+    out.extend_from_slice(&resource.ceiling.to_be_bytes())?;
+    put_further(out, version, &[0])?;
+    put_further(out, version, &0u16.to_be_bytes())
 }
 
 fn lock_number(lock: Lock) -> u8
@@ -212,40 +237,58 @@ fn form_number(form: Form) -> u16
     }
 }
 
-fn put_site(out: &mut Vec<u8>, site: Option<Site>) -> Result<(), AllocError>
-    ensures { OnOk result (out.new.items ≡ out.old.items ++ site_bytes site) }
+fn known_number(known: Known) -> u8
+    ensures { result ≡ number_of_known known }
 {
-    match site {
-        None => Ok(()),
-        Some(site) => out.extend_from_slice(&form_number(site.form).to_be_bytes()),
+    match known {
+        Known::Any => 0xff,
+        Known::Always(None) => 9,
+        Known::Always(Some(status)) => status_number(status),
     }
 }
 
-fn put_block(out: &mut Vec<u8>, block: &Block, site: Option<Site>) -> Result<(), AllocError>
-    ensures { OnOk result (out.new.items ≡ out.old.items ++ block_bytes (block.now, site)) }
+fn put_site(out: &mut Vec<u8>, version: Version, site: Option<Site>) -> Result<(), AllocError>
+    ensures { OnOk result (out.new.items ≡ out.old.items ++ site_bytes version site) }
+{
+    match site {
+        None => Ok(()),
+        Some(site) => {
+            out.extend_from_slice(&form_number(site.form).to_be_bytes())?;
+            put_further(out, version, &[known_number(site.known)])
+        }
+    }
+}
+
+fn put_block(
+    out: &mut Vec<u8>,
+    version: Version,
+    block: &Block,
+    site: Option<Site>,
+) -> Result<(), AllocError>
+    ensures { OnOk result (out.new.items ≡ out.old.items ++ block_bytes version (block.now, site)) }
 {
     out.push(kind_number(block.kind))?;
     out.push(block.locked as u8)?;
     out.extend_from_slice(&block.line.to_be_bytes())?;
     put_operands(out, block.kind)?;
     put_ways(out, block.kind, block.next)?;
-    put_site(out, site)
+    put_site(out, version, site)
 }
 
-fn put_tasks(out: &mut Vec<u8>, tasks: &[Task]) -> Result<(), AllocError>
-    ensures { OnOk result (out.new.items ≡ out.old.items ++ flat_map task_bytes tasks.now) }
+fn put_tasks(out: &mut Vec<u8>, version: Version, tasks: &[Task]) -> Result<(), AllocError>
+    ensures { OnOk result (out.new.items ≡ out.old.items ++ flat_map (task_bytes version) tasks.now) }
 {
     for task in tasks {
-        put_task(out, task)?;
+        put_task(out, version, task)?;
     }
     Ok(())
 }
 
-fn put_isrs(out: &mut Vec<u8>, isrs: &[Isr]) -> Result<(), AllocError>
-    ensures { OnOk result (out.new.items ≡ out.old.items ++ flat_map isr_bytes isrs.now) }
+fn put_isrs(out: &mut Vec<u8>, version: Version, isrs: &[Isr]) -> Result<(), AllocError>
+    ensures { OnOk result (out.new.items ≡ out.old.items ++ flat_map (isr_bytes version) isrs.now) }
 {
     for isr in isrs {
-        put_isr(out, isr)?;
+        put_isr(out, version, isr)?;
     }
     Ok(())
 }
@@ -268,11 +311,15 @@ fn put_alarms(out: &mut Vec<u8>, alarms: &[Alarm]) -> Result<(), AllocError>
     Ok(())
 }
 
-fn put_resources(out: &mut Vec<u8>, resources: &[Resource]) -> Result<(), AllocError>
-    ensures { OnOk result (out.new.items ≡ out.old.items ++ flat_map resource_bytes resources.now) }
+fn put_resources(
+    out: &mut Vec<u8>,
+    version: Version,
+    resources: &[Resource],
+) -> Result<(), AllocError>
+    ensures { OnOk result (out.new.items ≡ out.old.items ++ flat_map (resource_bytes version) resources.now) }
 {
     for resource in resources {
-        put_resource(out, resource)?;
+        put_resource(out, version, resource)?;
     }
     Ok(())
 }
@@ -286,12 +333,17 @@ fn put_modes(out: &mut Vec<u8>, modes: &[Name]) -> Result<(), AllocError>
     Ok(())
 }
 
-fn put_blocks(out: &mut Vec<u8>, blocks: &[Block], sites: &[Option<Site>]) -> Result<(), AllocError>
+fn put_blocks(
+    out: &mut Vec<u8>,
+    version: Version,
+    blocks: &[Block],
+    sites: &[Option<Site>],
+) -> Result<(), AllocError>
     requires { length sites.now ≡ length blocks.now }
-    ensures { OnOk result (out.new.items ≡ out.old.items ++ flat_map block_bytes (zip blocks.now sites.now)) }
+    ensures { OnOk result (out.new.items ≡ out.old.items ++ flat_map (block_bytes version) (zip blocks.now sites.now)) }
 {
     for at in 0..blocks.len() {
-        put_block(out, &blocks[at], sites[at])?;
+        put_block(out, version, &blocks[at], sites[at])?;
     }
     Ok(())
 }
@@ -309,21 +361,27 @@ fn put_header(out: &mut Vec<u8>, app: &App) -> Result<(), AllocError>
     out.extend_from_slice(&(app.blocks.len() as u16).to_be_bytes())
 }
 
-/// The one spelling of an image.
+/// The one spelling of an image, in its version.
 #[tactic(auto, unfolding(crate::specs::Spelling::spelling))]
 pub fn encode(alloc: Global, image: &Image) -> Result<Vec<u8>, Memory>
     ensures { IfOk result (λ v. v.items ≡ spelling image.now) }
 {
     let app = &image.app;
+    let version = image.version;
     let mut out = Vec::new(alloc);
-    out.extend_from_slice(&MAGIC)?;
+    out.extend_from_slice(magic(version))?;
     put_header(&mut out, app)?;
-    put_tasks(&mut out, app.tasks.as_slice())?;
-    put_isrs(&mut out, app.isrs.as_slice())?;
+    put_tasks(&mut out, version, app.tasks.as_slice())?;
+    put_isrs(&mut out, version, app.isrs.as_slice())?;
     put_counters(&mut out, app.counters.as_slice())?;
     put_alarms(&mut out, app.alarms.as_slice())?;
-    put_resources(&mut out, app.resources.as_slice())?;
+    put_resources(&mut out, version, app.resources.as_slice())?;
     put_modes(&mut out, app.modes.as_slice())?;
-    put_blocks(&mut out, app.blocks.as_slice(), image.sites.as_slice())?;
+    put_blocks(
+        &mut out,
+        version,
+        app.blocks.as_slice(),
+        image.sites.as_slice(),
+    )?;
     Ok(out)
 }

@@ -1,4 +1,4 @@
-//! The bytes of images, format version 1.
+//! The bytes of images, of the format's versions 1 and 2.
 #![tactic(auto)]
 
 mod block_reading;
@@ -14,5 +14,8 @@ mod table_reading;
 pub use decoding::decode;
 pub use encoding::encode;
 pub use fault::{ImageError, ImageFault, ImageRule};
-pub use image_model::{Form, Image, Site, form, general, general_is_the_kernel, site_at};
+pub use image_model::{
+    AlreadyNew, Form, Image, Known, Site, Version, form, general, general_is_the_kernel, site_at,
+    upgrade,
+};
 pub use laws::{first_fault_by_fields, one_answer, one_spelling};

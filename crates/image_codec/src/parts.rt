@@ -1,11 +1,12 @@
 //! The parts of an image while it is read.
-use image_model::Site;
+use image_model::{Site, Version};
 use osek_standard::{Alarm, Block, Counter, Isr, Resource, Task};
 use osek_values::{BlockNo, HookSet, Name, Seq};
 
-/// The hooks, how many entries each table has, and how many blocks there are.
+/// The version, the hooks, how many entries each table has, and how many blocks there are.
 #[derive(Clone, Copy)]
 pub(crate) struct Header {
+    pub version: Version,
     pub hooks: HookSet,
     pub tasks: u8,
     pub isrs: u8,
@@ -37,6 +38,7 @@ pub(crate) struct Tables {
 /// All that an image's bytes hold.
 #[derive(Drop)]
 pub(crate) struct Parts {
+    pub version: Version,
     pub hooks: HookSet,
     pub tables: Tables,
     pub blocks: Seq<Block>,

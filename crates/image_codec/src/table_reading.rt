@@ -4,14 +4,15 @@ ghost use Rattle.std.specs.Int.{w16, w32, w64};
 ghost use Rattle.std.specs.List.{list_any};
 ghost use Rattle.osek_standard.specs.Validity.{meet, owners, no_counter, is_cycle_of};
 ghost use Rattle.image_codec.specs.Reading.{Gives, byte_below_at, tested_at, tested_byte_at, count_at, range_at, entries_at, name_at};
-ghost use Rattle.image_codec.specs.TableReading.{HasFew, header_at, schedule_of as schedule_of_number, schedule_at, task_at, isr_at, counter_at, is_action_mask as is_mask_of_action, action_of as action_of_numbers, action_at, is_start_time as is_time_of_start, is_start_cycle as is_cycle_of_start, alarm_at, resource_at, tables_at};
+ghost use Rattle.image_codec.specs.TableReading.{HasFew, version_of as version_of_front, version_at, header_at, schedule_of as schedule_of_number, schedule_at, task_at, isr_at, counter_at, is_action_mask as is_mask_of_action, action_of as action_of_numbers, action_at, is_start_time as is_time_of_start, is_start_cycle as is_cycle_of_start, alarm_at, resource_at, tables_at};
 ghost use Rattle.image_codec.specs.BlockReading.{AreSmall};
 ghost use Rattle.image_codec.specs.declared.fault.ImageRule.TheVariants.{I3, I5};
 
-use crate::encoding::MAGIC;
+use crate::encoding::magic;
 use crate::fault::{ImageRule, ReadError};
 use crate::parts::{Header, Range, Tables};
 use crate::reader::{Reader, fault};
+use image_model::Version;
 use osek_standard::{Action, Alarm, Counter, Isr, Resource, Schedule, Task};
 use osek_values::limits::{
     MAX_ALARMS, MAX_BLOCKS, MAX_COUNTERS, MAX_ISRS, MAX_MODES, MAX_RESOURCES, MAX_TASKS,
@@ -58,12 +59,38 @@ fn block_count(reader: &mut Reader) -> Result<u16, ReadError>
     Ok(blocks)
 }
 
+/// The version that the first eight bytes name.
+fn version_of(front: &[u8]) -> Option<Version>
+    ensures { result ≡ version_of_front front.now }
+{
+    if front == magic(Version::One) {
+        Some(Version::One)
+    } else if front == magic(Version::Two) {
+        Some(Version::Two)
+    } else {
+        None
+    }
+}
+
+/// The magic and the version.
+#[tactic(auto, unfolding(crate::specs::TableReading::version_at))]
+fn version(reader: &mut Reader) -> Result<Version, ReadError>
+    ensures { Gives (λ x. x) result reader.new (version_at reader.old) }
+{
+    let left = reader.left();
+    let front = reader.text(8, left)?;
+    match version_of(front) {
+        None => Err(fault(ImageRule::I2, left)),
+        Some(version) => Ok(version),
+    }
+}
+
 #[tactic(auto, unfolding(crate::specs::TableReading::header_at))]
 pub(crate) fn header(reader: &mut Reader) -> Result<Header, ReadError>
     ensures gives { Gives (λ x. x) result reader.new (header_at reader.old) }
     ensures few { IfOk result HasFew }
 {
-    reader.exactly(&MAGIC, ImageRule::I2)?;
+    let version = version(reader)?;
     let hooks = HookSet(reader.byte_below(32)?);
     let tasks = entry_count(reader, MAX_TASKS)?;
     let isrs = entry_count(reader, MAX_ISRS)?;
@@ -73,6 +100,7 @@ pub(crate) fn header(reader: &mut Reader) -> Result<Header, ReadError>
     let modes = mode_count(reader)?;
     let blocks = block_count(reader)?;
     Ok(Header {
+        version,
         hooks,
         tasks,
         isrs,
@@ -228,6 +256,8 @@ fn task(
     let own = Mask(reader.number_64()?);
     let autostart = reader.modes(header.modes)?;
     let code = range(reader, header.blocks, earlier, &[], &[])?;
+    let _activation = reader.unused_byte(header.version, 1)?;
+    let _internal = reader.unused_byte(header.version, 0xff)?;
     Ok(Task {
         name,
         priority,
@@ -251,6 +281,7 @@ fn isr(
 {
     let name = reader.name(alloc, earlier)?;
     let code = range(reader, header.blocks, tasks, earlier, &[])?;
+    let _priority = reader.unused_byte(header.version, 0)?;
     Ok(Isr {
         name,
         first: code.first,
@@ -436,11 +467,18 @@ fn alarm(
 }
 
 #[tactic(auto, unfolding(crate::specs::TableReading::resource_at))]
-fn resource(alloc: Global, reader: &mut Reader, earlier: &[Resource]) -> Result<Resource, ReadError>
-    ensures { Gives (λ x. x) result reader.new (resource_at earlier.now reader.old) }
+fn resource(
+    alloc: Global,
+    reader: &mut Reader,
+    version: Version,
+    earlier: &[Resource],
+) -> Result<Resource, ReadError>
+    ensures { Gives (λ x. x) result reader.new (resource_at version earlier.now reader.old) }
 {
     let name = reader.name(alloc, earlier)?;
     let ceiling = at_most(reader, GREATEST_CEILING)?;
+    let _property = reader.unused_byte(version, 0)?;
+    let _interrupt_ceiling = reader.unused_16(version, 0)?;
     Ok(Resource { name, ceiling })
 }
 
@@ -513,11 +551,11 @@ fn read_resources(
     reader: &mut Reader,
     header: Header,
 ) -> Result<Seq<Resource>, ReadError>
-    ensures { Gives (λ x. x) result reader.new (entries_at resource_at [] header.resources reader.old) }
+    ensures { Gives (λ x. x) result reader.new (entries_at (resource_at header.version) [] header.resources reader.old) }
 {
     let mut resources = Seq::new(alloc);
     for _ in 0..header.resources {
-        let resource = resource(alloc, reader, resources.as_slice())?;
+        let resource = resource(alloc, reader, header.version, resources.as_slice())?;
         resources.push(resource)?;
     }
     Ok(resources)

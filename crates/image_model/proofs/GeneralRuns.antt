@@ -10,16 +10,16 @@ use Rattle.osek_standard.specs.declared.state.State.{State}
 use Rattle.osek_standard.specs.States.{here}
 use Rattle.osek_standard.specs.Effects.{Effect, effect}
 use Rattle.osek_standard.specs.Dispatch.{outcome_of, concluded, instruction}
-use Rattle.image_model.specs.declared.site.Form.TheVariants as form
 use Rattle.image_model.specs.declared.site.Site.{Site}
 use Rattle.image_model.specs.declared.image.Image.{Image}
-use Rattle.image_model.specs.ImageStep.{formed_by, formed_at, instructed}
+use Rattle.image_model.specs.Sites.{general}
+use Rattle.image_model.specs.ImageStep.{formed, formed_at, instructed}
 use Rattle.image_model.specs.ImageTrace.{AreGeneral}
 use Rattle.image_model.specs.Laws.{IsKernelsRun}
 use Rattle.image_model.proofs.KernelRuns.{runs_as_kernel}
 
 abbrev IsGeneralSite : Option Site → Type 0
-IsGeneralSite x = IfSome x (λ s. s.form ≡ form.General)
+IsGeneralSite x = IfSome x (λ s. s ≡ general)
 
 general_at : (sites : List (Option Site)) (b : ℕ) → AreGeneral sites → IsGeneralSite (get_or sites b None)
 general_at sites b all =
@@ -30,7 +30,7 @@ general_at sites b all =
 
 same_outcome : (app : App) (e : Effect) (x : Option Site) → IsGeneralSite x → formed_at app e x ≡ Some (outcome_of app e)
 same_outcome app e None h = refl
-same_outcome app e (Some s) h = ap (formed_by app e) h
+same_outcome app e (Some s) h = ap (formed app e) h
 
 same_instruction : (i : Image) (s : State) (choice : Bool) → AreGeneral i.sites → instructed i s choice ≡ Some (instruction i.app s choice)
 unfolding instructed instruction

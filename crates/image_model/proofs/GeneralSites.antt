@@ -6,9 +6,8 @@ use Rattle.std.proofs.lemmas.List.{get_or_append_left, get_or_push, length_push}
 use Rattle.std.proofs.lemmas.List.Elements.{All-push}
 use Rattle.osek_standard.specs.declared.app.App.{App}
 use Rattle.osek_standard.specs.Apps.{is_site}
-use Rattle.image_model.specs.declared.site.Form.TheVariants as form
 use Rattle.image_model.specs.declared.site.Site.{Site}
-use Rattle.image_model.specs.Sites.{IsSiteAt, general_site}
+use Rattle.image_model.specs.Sites.{IsSiteAt, general, general_site}
 use Rattle.image_model.specs.ImageTrace.{AreGeneral}
 
 -- the sites of the first n blocks
@@ -18,7 +17,7 @@ pub record AreFirstSites (app : App) (n : ℕ) (sites : List (Option Site)) : Ty
   pub general : AreGeneral sites
 
 abbrev IsGeneralSite : Option Site → Type 0
-IsGeneralSite x = IfSome x (λ s. s.form ≡ form.General)
+IsGeneralSite x = IfSome x (λ s. s ≡ general)
 
 is_general : (is : Bool) → IsGeneralSite (general_site is)
 is_general true = refl

@@ -1,3 +1,4 @@
 pub mod GeneralRuns
 pub mod GeneralSites
 pub mod KernelRuns
+pub mod UpgradedRuns

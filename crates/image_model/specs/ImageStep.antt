@@ -1,4 +1,5 @@
--- One step of an image: as the kernel's, but at a site the form gives the outcome, or a trap.
+-- One step of an image: as the kernel's, but at a site the form gives the outcome, or a trap, and another status than the
+-- known one is a trap.
 use Rattle.std.specs.Prelude.{ℕ, Bool, true, false, slice_index_or, Option, Some, None, option_map, if◌then◌else◌}
 use Rattle.osek_values.specs.declared.status.Ask.{Ask}
 use Rattle.osek_values.specs.declared.status.Ask.TheVariants as ask
@@ -10,16 +11,20 @@ use Rattle.osek_standard.specs.States.{task_state, here}
 use Rattle.osek_standard.specs.Effects.{Effect, effect}
 use Rattle.osek_standard.specs.Dispatch.{Outcome, Keep, To, outcome_of, Stepped, concluded}
 use Rattle.osek_standard.specs.Kernel.{step_with}
-use Rattle.image_model.specs.declared.site.{Form.{Form}, Site.{Site}}
+use Rattle.image_model.specs.declared.site.{Form.{Form}, Known.{Known}, Site.{Site}}
 use Rattle.image_model.specs.declared.site.Form.TheVariants as form
 use Rattle.image_model.specs.declared.image.Image.{Image}
+use Rattle.image_model.specs.Statuses.{allows_status}
 
--- the site at a block, and its form
+-- the site at a block, its form, and what is known of its status
 abbrev pub site_at : Image → ℕ → Option Site
 site_at i b = slice_index_or i.sites b None
 
 abbrev pub form_at : Image → ℕ → Option Form
 form_at i b = option_map (λ (x : Site). x.form) (site_at i b)
+
+abbrev pub known_at : Image → ℕ → Option Known
+known_at i b = option_map (λ (x : Site). x.known) (site_at i b)
 
 -- the caller, or the task that a routine interrupted, is there and hasn't left
 abbrev pub stays : Ask → Bool
@@ -45,7 +50,7 @@ formed_by app e form.General = Some (outcome_of app e)
 
 -- the outcome that a site gives
 abbrev pub formed : App → Effect → Site → Option Outcome
-formed app e x = formed_by app e x.form
+formed app e x = if allows_status x.known e.notes.status then formed_by app e x.form else None
 
 -- a block that is no site does as in the kernel
 abbrev pub formed_at : App → Effect → Option Site → Option Outcome

@@ -7,9 +7,9 @@ use Rattle.osek_standard.specs.declared.state.State.{State}
 use Rattle.osek_standard.specs.Dispatch.{Stepped}
 use Rattle.osek_standard.specs.Kernel.{start}
 use Rattle.osek_standard.specs.TraceText.{lines_from}
-use Rattle.image_model.specs.declared.site.Form.TheVariants as form
 use Rattle.image_model.specs.declared.site.Site.{Site}
 use Rattle.image_model.specs.declared.image.Image.{Image}
+use Rattle.image_model.specs.Sites.{general}
 use Rattle.image_model.specs.ImageStep.{image_step}
 
 -- what a run did, and whether it ended with a trap
@@ -54,6 +54,6 @@ unfoldable pub image_trace : Image → ModeNo → List Event → List ℕ
 image_trace i mode es =
     let r = image_run i mode es in lines_from i.app 0 r.steps ++ trap_text r.trapped (length r.steps)
 
--- each site has the general form
+-- each site has the general form, and nothing is known of its status
 abbrev pub AreGeneral : List (Option Site) → Type 0
-AreGeneral sites = All (λ (x : Option Site). IfSome x (λ s. s.form ≡ form.General)) sites
+AreGeneral sites = All (λ (x : Option Site). IfSome x (λ s. s ≡ general)) sites

@@ -6,6 +6,7 @@ use Rattle.osek_standard.specs.declared.app.App.{App}
 use Rattle.osek_standard.specs.Apps.{is_site}
 use Rattle.image_model.specs.declared.site.{Form.{Form}, Site.{Site}}
 use Rattle.image_model.specs.declared.site.Form.TheVariants as form
+use Rattle.image_model.specs.declared.site.Known.TheVariants as known
 
 -- a task that a form names is one of the application's
 abbrev pub IsForm : ℕ → Form → Type 0
@@ -38,6 +39,10 @@ IsSiteAt-prop app is (Some x) = hlevel (props, IsForm-prop)
 pub AreSites-prop : (app : App) (sites : List (Option Site)) → IsProp (AreSites app sites)
 AreSites-prop app sites = hlevel (props, IsSiteAt-prop)
 
--- the site that stands with the general form, if the block is one
+-- a site of the general form, of which nothing is known
+abbrev pub general : Site
+general = record { form = form.General; known = known.Any }
+
+-- it stands if the block is a site
 abbrev pub general_site : Bool → Option Site
-general_site is = if is then Some (record { form = form.General }) else None
+general_site is = if is then Some general else None

@@ -2,9 +2,10 @@
 ghost use Rattle.std.specs.Prelude.{◌≡◌};
 ghost use Rattle.osek_standard.specs.Validity.{is_within};
 ghost use Rattle.osek_standard.specs.Apps.{may_dispatch as may_dispatch_by, call_may_dispatch as call_may_dispatch_by, is_routine_end as is_end_of_routine, is_task_block_in, is_site_in};
+ghost use Rattle.image_model.specs.Statuses.{status_number as number_of_status, allows_status};
 
 use osek_standard::{Call, Kind, MaskService, PlainService, ResourceService, Task, TaskService};
-use osek_values::{BlockNo, TaskNo};
+use osek_values::{BlockNo, Status, TaskNo};
 
 /// What the replayer does with the processor after the effect of a site's call.
 #[derive(Clone, Copy, PartialEq, Eq, Debug)]
@@ -19,10 +20,52 @@ pub enum Form {
     General,
 }
 
+/// What is known of the status that a site's instruction notes.
+#[derive(Clone, Copy, PartialEq, Eq, Debug)]
+pub enum Known {
+    /// Nothing.
+    Any,
+    /// That no other status is noted than this one, or none at all.
+    Always(Option<Status>),
+}
+
 /// A site: a task's call after which the kernel may dispatch, the end of a task, or the end of a routine.
 #[derive(Clone, Copy, PartialEq, Eq, Debug)]
 pub struct Site {
     pub form: Form,
+    pub known: Known,
+}
+
+/// The number of a status, 0 to 8.
+pub fn status_number(status: Status) -> u8
+    ensures { result ≡ number_of_status status }
+{
+    match status {
+        Status::Ok => 0,
+        Status::Access => 1,
+        Status::CallLevel => 2,
+        Status::Id => 3,
+        Status::Limit => 4,
+        Status::NoFunc => 5,
+        Status::Resource => 6,
+        Status::State => 7,
+        Status::Value => 8,
+    }
+}
+
+impl Known {
+    /// Whether an instruction may note this status, or none. Where it is to note a status it may also note none.
+    pub fn allows(self, noted: Option<Status>) -> bool
+        ensures { result ≡ allows_status self noted }
+    {
+        match (self, noted) {
+            (Known::Any, _) | (Known::Always(_), None) => true,
+            (Known::Always(None), Some(_)) => false,
+            (Known::Always(Some(known)), Some(noted)) => {
+                status_number(known) == status_number(noted)
+            }
+        }
+    }
 }
 
 fn call_may_dispatch(call: Call) -> bool

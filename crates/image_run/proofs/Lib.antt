@@ -2,3 +2,5 @@ pub mod Apart
 pub mod SiteEffects
 pub mod OtherEffects
 pub mod SiteForms
+pub mod SiteChanges
+pub mod UndoLaws

@@ -25,7 +25,7 @@ use Rattle.osek_standard.proofs.RoutineKeeps.{ended_out}
 use Rattle.image_run.proofs.Apart.{routine_is_no_task_block}
 
 -- a task has the processor
-abbrev TaskRuns : Processor → Type 0
+abbrev pub TaskRuns : Processor → Type 0
 TaskRuns processor.Halted = ⊥
 TaskRuns processor.Idle = ⊥
 TaskRuns (processor.Running t) = ⊤
@@ -63,7 +63,7 @@ wait_leaves app s (Task c) m next h =
     either_way P (not (is_extended app c.0)) _ _ h (either_way P (holds_some s c.0) _ _ h (either_way P (share (task_state s c.0).events.0 m) _ _ h refl))
 
 -- an instruction of a task leaves the sources as they are
-task_leaves : (app : App) (s : State) → TaskRuns s.processor → (choice : Bool) (p : Place) (b : Block) (k : Kind) → (effect_at app s choice p b k).state.sources ≡ s.sources
+pub task_leaves : (app : App) (s : State) → TaskRuns s.processor → (choice : Bool) (p : Place) (b : Block) (k : Kind) → (effect_at app s choice p b k).state.sources ≡ s.sources
 task_leaves app s r choice p b (kind.Work n) =
     either_way (λ (a : Answer). a.state.sources ≡ s.sources) (nat_lt (p.offset + 1) n) _ _ (moved_leaves s (place_at p.block (p.offset + 1)) s.processor r) (moved_leaves s (place_at b.next 0) s.processor r)
 task_leaves app s r choice p b (kind.Choice other) = moved_leaves s (place_at (if choice then b.next else other) 0) s.processor r
@@ -99,7 +99,7 @@ end_or_task false true task e f = e
 end_or_task false false task e f = absurd (cc)
 
 -- in a routine its end alone is a site
-routine_site : (app : App) (k b : ℕ) → k < source_count app → IsOfRoutine app k b → is_site app b ≡ true → (the_block app b).kind ≡ kind.IsrEnd
+pub routine_site : (app : App) (k b : ℕ) → k < source_count app → IsOfRoutine app k b → is_site app b ≡ true → (the_block app b).kind ≡ kind.IsrEnd
 routine_site app k b known own site = elim (cases_Bool (is_routine_end (the_block app b).kind)) [
   | inl e ↦ end_kind (the_block app b).kind e
   | inr e ↦ absurd (routine_is_no_task_block app k b known own (end_or_task (is_routine_end (the_block app b).kind) (may_dispatch (the_block app b).kind) (is_task_block app b) site e))

@@ -1,2 +1,3 @@
+pub mod Befores
 pub mod Machines
 pub mod Scans

@@ -1,5 +1,5 @@
 -- A machine at work, and what an event makes of it.
-use Rattle.std.specs.Prelude.{Bool, true, Option, Some, None, Ok, Err, refl, if◌then◌else◌}
+use Rattle.std.specs.Prelude.{ℕ, List, Bool, true, Option, Some, None, Ok, Err, refl, if◌then◌else◌}
 use Rattle.std.specs.Coded.{Coded, code_by, coded×, coded_bool}
 use Rattle.std.specs.declared.result.Result.{Result}
 use Rattle.osek_values.specs.declared.event.Event.{Event}
@@ -10,6 +10,7 @@ use Rattle.osek_standard.specs.Well.{Well}
 use Rattle.image_model.specs.declared.image.Image.{Image}
 use Rattle.image_model.specs.contracts.image.Image.{the_row as image_row}
 use Rattle.osek_standard.specs.contracts.state.State.{the_row as state_row}
+use Rattle.generic_kernel.specs.Levels.{IsReady}
 use Rattle.image_model.specs.ImageStep.{image_step}
 
 -- the image that it replays, the state, and whether it trapped
@@ -48,7 +49,7 @@ abbrev pub noted : {X : Type 0} → Result Notes X → Option Notes
 noted (Ok n) = Some n
 noted (Err e) = None
 
--- both states of a machine are states of its application
-pub record AreWell (i : Image) (s r : State) : Type 0 where
+-- the state of a machine is one of its application, and the Live tasks are those of the state
+pub record AreWell (i : Image) (s : State) (levels : List (Option ℕ)) : Type 0 where
   pub state : Well i.app s
-  pub spare : Well i.app r
+  pub ready : IsReady i.app s levels

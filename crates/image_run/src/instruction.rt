@@ -1,16 +1,19 @@
 //! One instruction of an image.
-ghost use Rattle.std.specs.Prelude.{◌≡◌, ◌+◌, ◌≤◌, length, Option, Some, None, IfSome, option_map};
+ghost use Rattle.std.specs.Prelude.{◌≡◌, ◌≢◌, ◌+◌, ◌≤◌, length, Option, Some, None, IfSome, IfNone, option_map};
 ghost use Rattle.osek_standard.specs.States.{here as here_of};
-ghost use Rattle.osek_standard.specs.Effects.{effected};
+ghost use Rattle.osek_standard.specs.Effects.{effected, effect as effect_of};
 ghost use Rattle.osek_standard.specs.Dispatch.{concluded, stepped, with_hooks as with_hooks_of};
 ghost use Rattle.osek_standard.specs.Well.{Well, AreOut, IsActive};
 ghost use Rattle.osek_standard.specs.Apps.{IsDeclared};
+ghost use Rattle.generic_kernel.specs.Levels.{IsReady};
 ghost use Rattle.generic_kernel.specs.Moves.{MayDispatch, instruction_due};
 ghost use Rattle.image_model.specs.Sites.{IsForm};
-ghost use Rattle.image_model.specs.ImageStep.{form_at, formed_at, instructed, image_step as image_step_of};
+ghost use Rattle.image_model.specs.ImageStep.{form_at, formed_by, formed_at, instructed, image_step as image_step_of, site_at as site_at_of};
+ghost use Rattle.image_run.specs.Befores.{put_back, IsAfter};
 ghost use Rattle.image_run.specs.Scans.{scans_at, scans_due};
 
-use generic_kernel::{Effect, conclude, effect, here, nothing, switch_to, take_event};
+use crate::before::{Before, task_of};
+use generic_kernel::{Effect, Ready, conclude, effect, here, nothing, switch_to, take_event};
 use image_model::{Form, Image, Site, site_at};
 use osek_standard::{App, State};
 use osek_values::{Ask, Event, HookSet, Notes, Steps};
@@ -26,98 +29,178 @@ fn with_hooks(notes: Notes, hooks: HookSet) -> Notes
     }
 }
 
-/// The outcome that the site at the block gives after the effect of its instruction. `None` is a trap.
-fn conclude_by<L: Ledger>(
+/// The outcome that a form gives after the effect of its site's instruction. `None` is a trap.
+fn conclude_formed<L: Ledger>(
     app: &App,
     state: &mut State,
+    ready: &Ready,
     done: Effect,
-    site: Option<Site>,
+    form: Form,
     scans: &mut Steps<L>,
 ) -> Option<Notes>
     requires well { Well app.now state.old }
+    requires ready { IsReady app.now state.old ready.now }
     requires dispatch { MayDispatch app.now state.old done.ask }
-    requires site { IfSome site (λ x. AreOut app.now state.old) }
-    requires names { IfSome site (λ x. IsForm (length app.now.tasks) x.form) }
-    requires other { site ≡ None → done.ask ≡ Ask.No }
-    ensures step { option_map (concluded app.now (effected state.old done.notes done.ask)) (formed_at app.now (effected state.old done.notes done.ask) site) ≡ option_map (stepped state.new) result }
+    requires out { AreOut app.now state.old }
+    requires names { IsForm (length app.now.tasks) form }
+    ensures step { option_map (concluded app.now (effected state.old done.notes done.ask)) (formed_by app.now (effected state.old done.notes done.ask) form) ≡ option_map (stepped state.new) result }
     ensures well { Well app.now state.new }
-    ensures scans { scans.new ≤ scans.old + scans_at (option_map (λ x. x.form) site) (length app.now.tasks) }
+    ensures tasks { state.new.tasks ≡ state.old.tasks }
+    ensures trap { IfNone result (state.new ≡ state.old) }
+    ensures scans { scans.new ≤ scans.old + scans_at (Some form) (length app.now.tasks) }
 {
     let none = app.hooks.among(HookSet::none());
-    match site {
-        None => Some(with_hooks(done.notes, none)),
-        Some(Site { form: Form::Never }) => None,
-        Some(Site { form: Form::Stay }) => match done.ask {
+    match form {
+        Form::Never => None,
+        Form::Stay => match done.ask {
             Ask::No | Ask::Maybe | Ask::Free => Some(with_hooks(done.notes, none)),
             Ask::Left => None,
         },
-        Some(
-            Site {
-                form: Form::Direct(None),
-            },
-        ) => match done.ask {
+        Form::Direct(None) => match done.ask {
             Ask::No | Ask::Maybe => None,
             Ask::Left | Ask::Free => {
                 let hooks = switch_to(app, state, None, done.ask);
                 Some(with_hooks(done.notes, hooks))
             }
         },
-        Some(
-            Site {
-                form: Form::Direct(Some(task)),
-            },
-        ) => {
+        Form::Direct(Some(task)) => {
             if !state.task(task).is_live() {
                 return None;
             }
             let hooks = switch_to(app, state, Some(task), done.ask);
             Some(with_hooks(done.notes, hooks))
         }
-        Some(
-            Site {
-                form: Form::General,
-            },
-        ) => {
-            let hooks = conclude(app, state, done.ask, scans);
+        Form::General => {
+            let hooks = conclude(app, state, ready, done.ask, scans);
             Some(with_hooks(done.notes, hooks))
         }
     }
 }
 
-/// One instruction, with what the form of its block makes of it. `None` is a trap.
+/// The outcome that the site at the block gives after the effect of its instruction. `None` is a trap.
+fn conclude_by<L: Ledger>(
+    app: &App,
+    state: &mut State,
+    ready: &Ready,
+    done: Effect,
+    site: Option<Site>,
+    scans: &mut Steps<L>,
+) -> Option<Notes>
+    requires well { Well app.now state.old }
+    requires ready { IsReady app.now state.old ready.now }
+    requires dispatch { MayDispatch app.now state.old done.ask }
+    requires site { IfSome site (λ x. AreOut app.now state.old) }
+    requires names { IfSome site (λ x. IsForm (length app.now.tasks) x.form) }
+    requires other { site ≡ None → done.ask ≡ Ask.No }
+    ensures step { option_map (concluded app.now (effected state.old done.notes done.ask)) (formed_at app.now (effected state.old done.notes done.ask) site) ≡ option_map (stepped state.new) result }
+    ensures well { Well app.now state.new }
+    ensures tasks { state.new.tasks ≡ state.old.tasks }
+    ensures trap { IfNone result ((site ≢ None) × (state.new ≡ state.old)) }
+    ensures scans { scans.new ≤ scans.old + scans_at (option_map (λ x. x.form) site) (length app.now.tasks) }
+{
+    match site {
+        None => Some(with_hooks(done.notes, app.hooks.among(HookSet::none()))),
+        Some(site) => {
+            if !site.known.allows(done.notes.status) {
+                return None;
+            }
+            conclude_formed(app, state, ready, done, site.form, scans)
+        }
+    }
+}
+
+/// One instruction, with what the site at its block makes of it. `None` is a trap, which leaves the effect done.
+fn attempt<L: Ledger>(
+    image: &Image,
+    state: &mut State,
+    ready: &mut Ready,
+    choice: bool,
+    site: Option<Site>,
+    scans: &mut Steps<L>,
+) -> Option<Notes>
+    requires well { Well image.now.app state.old }
+    requires ready { IsReady image.now.app state.old ready.old }
+    requires active { IsActive state.old.processor }
+    requires site { site ≡ site_at_of image.now (here_of state.old).block.0 }
+    ensures step { instructed image.now state.old choice ≡ option_map (stepped state.new) result }
+    ensures well { Well image.now.app state.new }
+    ensures ready { IsReady image.now.app state.new ready.new }
+    ensures trap { IfNone result ((site ≢ None) × (state.new ≡ (effect_of image.now.app state.old choice).state)) }
+    ensures scans { scans.new ≤ scans.old + scans_at (form_at image.now (here_of state.old).block.0) (length image.now.app.tasks) }
+{
+    let done = effect(&image.app, state, ready, choice);
+    conclude_by(&image.app, state, ready, done, site, scans)
+}
+
+/// Undoes the effect of an instruction at a site.
+fn undo(image: &Image, state: &mut State, ready: &mut Ready, before: Before)
+    requires well { Well image.now.app state.old }
+    requires ready { IsReady image.now.app state.old ready.old }
+    requires before { IsAfter image.now state.old before }
+    ensures state { put_back before state.old ≡ state.new }
+    ensures well { Well image.now.app state.new }
+    ensures ready { IsReady image.now.app state.new ready.new }
+{
+    let own = task_of(&before.own);
+    let named = task_of(&before.named);
+    before.put_back(state);
+    ready.take_in(&image.app, state, own, named);
+}
+
+/// One instruction, with what the site of its block makes of it. `None` is a trap, which changes nothing.
 fn instruct<L: Ledger>(
     image: &Image,
     state: &mut State,
+    ready: &mut Ready,
     choice: bool,
     scans: &mut Steps<L>,
 ) -> Option<Notes>
     requires well { Well image.now.app state.old }
+    requires ready { IsReady image.now.app state.old ready.old }
     requires active { IsActive state.old.processor }
     ensures step { instructed image.now state.old choice ≡ option_map (stepped state.new) result }
+    ensures trap { IfNone result (state.new ≡ state.old) }
     ensures well { Well image.now.app state.new }
+    ensures ready { IsReady image.now.app state.new ready.new }
     ensures scans { scans.new ≤ scans.old + scans_at (form_at image.now (here_of state.old).block.0) (length image.now.app.tasks) }
 {
     let place = here(&image.app, state);
     let site = site_at(image, place.block);
-    let done = effect(&image.app, state, choice);
-    conclude_by(&image.app, state, done, site, scans)
+    if site.is_none() {
+        return attempt(image, state, ready, choice, site, scans);
+    }
+    let before = Before::of(&image.app, state);
+    match attempt(image, state, ready, choice, site, scans) {
+        Some(notes) => {
+            drop(before);
+            Some(notes)
+        }
+        None => {
+            undo(image, state, ready, before);
+            None
+        }
+    }
 }
 
-/// One step of an image. `None` is a trap.
+/// One step of an image. `None` is a trap, which changes nothing.
 pub fn image_step<L: Ledger>(
     image: &Image,
     state: &mut State,
+    ready: &mut Ready,
     event: Event,
     scans: &mut Steps<L>,
 ) -> Option<Notes>
     requires well { Well image.now.app state.old }
+    requires ready { IsReady image.now.app state.old ready.old }
     requires declared { IsDeclared image.now.app event }
     ensures step { image_step_of image.now state.old event ≡ option_map (stepped state.new) result }
+    ensures trap { IfNone result (state.new ≡ state.old) }
     ensures well { Well image.now.app state.new }
+    ensures ready { IsReady image.now.app state.new ready.new }
     ensures scans { scans.new ≤ scans.old + scans_due image.now state.old (instruction_due image.now.app state.old event) }
 {
     match take_event(&image.app, state, event) {
         None => Some(nothing()),
-        Some(choice) => instruct(image, state, choice, scans),
+        Some(choice) => instruct(image, state, ready, choice, scans),
     }
 }

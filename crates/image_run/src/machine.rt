@@ -9,13 +9,12 @@ ghost use Rattle.image_run.specs.Scans.{most_scans};
 
 use crate::instruction::image_step;
 use crate::trap::Trap;
-use generic_kernel::start;
+use generic_kernel::{Ready, start};
 use image_model::Image;
 use osek_standard::{App, State};
 use osek_values::{Event, Memory, ModeNo, Notes, Steps};
 use std::alloc::Global;
 use std::marker::Model;
-use std::mem;
 use std::sync::ledger::Ledger;
 
 /// An image at work. It takes all its memory at the start.
@@ -23,8 +22,8 @@ use std::sync::ledger::Ledger;
 pub struct Machine {
     image: Image,
     state: State,
-    /// On which a step is tried, so that a trap leaves the state as it was.
-    spare: State,
+    /// The Live tasks of the state.
+    ready: Ready,
     trapped: bool,
 }
 
@@ -37,7 +36,7 @@ impl Model for Machine {
 
     ghost view = { λ m. at_work m.image m.state m.trapped };
 
-    ghost invariant = { λ m. AreWell m.image m.state m.spare };
+    ghost invariant = { λ m. AreWell m.image m.state m.ready };
 }
 
 impl Machine {
@@ -54,22 +53,14 @@ impl Machine {
                 return Err(memory);
             }
         };
-        match start(alloc, &image.app, mode) {
-            Ok((spare, _)) => {
-                let machine = Machine {
-                    image,
-                    state,
-                    spare,
-                    trapped: false,
-                };
-                Ok((machine, notes))
-            }
-            Err(memory) => {
-                drop(state);
-                drop(image);
-                Err(memory)
-            }
-        }
+        let ready = Ready::of(&image.app, &state);
+        let machine = Machine {
+            image,
+            state,
+            ready,
+            trapped: false,
+        };
+        Ok((machine, notes))
     }
 
     /// One step of the image. A trap leaves the state as it was, and every later step answers it again. It takes no
@@ -82,16 +73,12 @@ impl Machine {
         if self.trapped {
             return Err(Trap);
         }
-        self.spare.assign(&self.state);
-        match image_step(&self.image, &mut self.spare, event, scans) {
+        match image_step(&self.image, &mut self.state, &mut self.ready, event, scans) {
             None => {
                 self.trapped = true;
                 Err(Trap)
             }
-            Some(notes) => {
-                mem::swap(&mut self.state, &mut self.spare);
-                Ok(notes)
-            }
+            Some(notes) => Ok(notes),
         }
     }
 

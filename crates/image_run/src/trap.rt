@@ -3,7 +3,8 @@
 use std::error::Error;
 use std::fmt;
 
-/// What runs doesn't fit the form of a site: no state was to come there, or not the one that came.
+/// What runs doesn't fit a site: no state was to come there, or not the one that came, or another status is noted than the
+/// known one.
 #[derive(Clone, Copy, PartialEq, Eq, Debug)]
 pub struct Trap;
 

@@ -6,7 +6,7 @@ use std::alloc::Global;
 use std::test::*;
 
 /// One task, which terminates.
-const ONE_TASK: [u8; 89] = [
+pub const ONE_TASK: [u8; 89] = [
     0x4f, 0x53, 0x45, 0x4b, 0x46, 0x49, 0x54, 0x01, 0x00, 0x01, 0x00, 0x00, 0x00, 0x01, 0x01, 0x00,
     0x02, 0x02, 0x54, 0x31, 0x00, 0x01, 0x01, 0x00, 0x00, 0x00, 0x00, 0x00, 0x00, 0x00, 0x00, 0x01,
     0x00, 0x00, 0x00, 0x02, 0x0d, 0x52, 0x45, 0x53, 0x5f, 0x53, 0x43, 0x48, 0x45, 0x44, 0x55, 0x4c,
@@ -48,7 +48,7 @@ fn fault_of(alloc: Global, bytes: &[u8]) -> Option<(ImageRule, usize)> {
 }
 
 /// Whether bytes have this fault.
-fn is_fault(alloc: Global, bytes: &[u8], rule: ImageRule, offset: usize) -> bool {
+pub fn is_fault(alloc: Global, bytes: &[u8], rule: ImageRule, offset: usize) -> bool {
     fault_of(alloc, bytes) == Some((rule, offset))
 }
 
@@ -62,7 +62,7 @@ fn changed(at: usize, byte: u8) -> [u8; 137] {
 }
 
 /// Whether the bytes are the image's.
-fn spells(alloc: Global, image: &Image, bytes: &[u8]) -> bool {
+pub fn spells(alloc: Global, image: &Image, bytes: &[u8]) -> bool {
     encode(alloc, image).is_ok_and(|found| found.as_slice() == bytes)
 }
 
@@ -82,7 +82,7 @@ fn is_of_one_task(image: &Image) -> bool {
 }
 
 /// Whether the sites have these forms, one after the other.
-fn has_forms(image: &Image, forms: &[Form]) -> bool {
+pub fn has_forms(image: &Image, forms: &[Form]) -> bool {
     image.sites.len() == forms.len()
         && image.sites.as_slice().iter().zip(forms).all(|(site, form)| match site {
             Some(site) => site.form == *form,
@@ -91,7 +91,7 @@ fn has_forms(image: &Image, forms: &[Form]) -> bool {
 }
 
 /// Whether bytes are an image that is so, and are what it is spelled with.
-fn reads<T: Fn(&Image) -> bool>(alloc: Global, bytes: &[u8], is_so: T) -> bool
+pub fn reads<T: Fn(&Image) -> bool>(alloc: Global, bytes: &[u8], is_so: T) -> bool
     requires { T.IsAlwaysCallable is_so }
 {
     match decode(alloc, bytes) {
@@ -216,9 +216,10 @@ fn a_byte_after_the_end(rt: HostRuntime) {
 }
 
 /// A byte of the two tasks' image at an offset, and the fault with it: its rule and its offset.
-const HOSTILE: [(&str, usize, u8, ImageRule, usize); 19] = [
+const HOSTILE: [(&str, usize, u8, ImageRule, usize); 20] = [
     ("no magic", 0, 0x4e, ImageRule::I2, 0),
-    ("another version", 7, 2, ImageRule::I2, 0),
+    ("another version", 7, 3, ImageRule::I2, 0),
+    ("version 2 without its fields", 7, 2, ImageRule::I3, 36),
     ("a sixth hook", 8, 32, ImageRule::I3, 8),
     ("seventeen tasks", 9, 17, ImageRule::I3, 9),
     ("no mode", 14, 0, ImageRule::I3, 14),

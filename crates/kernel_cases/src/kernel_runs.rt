@@ -3,7 +3,7 @@ ghost use Rattle.std.specs.Prelude.{◌≡◌, ◌<◌, length};
 ghost use Rattle.osek_standard.specs.Well.{Well};
 
 use crate::two_tasks::activation;
-use generic_kernel::{nothing, start, step};
+use generic_kernel::{Ready, nothing, start, step};
 use osek_standard::{App, Processor, State};
 use osek_values::{Event, ModeNo, Notes, Status, Steps, TaskNo};
 use std::alloc::Global;
@@ -17,12 +17,13 @@ fn three_runs<L: Ledger>(app: &App, state: &mut State, blank: Blank) -> [(Proces
     requires well { Well app.now state.old }
 {
     let mut scans = Steps::<L>::of(blank);
+    let mut ready = Ready::of(app, state);
     let run = Event::Run(false);
-    let first = step(app, state, run, &mut scans);
+    let first = step(app, state, &mut ready, run, &mut scans);
     let after_first = state.processor;
-    let second = step(app, state, run, &mut scans);
+    let second = step(app, state, &mut ready, run, &mut scans);
     let after_second = state.processor;
-    let third = step(app, state, run, &mut scans);
+    let third = step(app, state, &mut ready, run, &mut scans);
     [
         (after_first, first),
         (after_second, second),

@@ -3,6 +3,8 @@
 #![tactic(auto)]
 
 #[cfg(test)]
+mod changed_images;
+#[cfg(test)]
 mod event_feeds;
 #[cfg(test)]
 mod image_bytes;
@@ -19,6 +21,10 @@ mod points;
 #[cfg(test)]
 mod shelves_and_sinks;
 #[cfg(test)]
+mod stored_images;
+#[cfg(test)]
 mod trace_lines;
 #[cfg(test)]
 mod two_tasks;
+#[cfg(test)]
+mod version_2_bytes;

@@ -1,8 +1,10 @@
-//! Two tasks, of which one activates the other: as the kernel runs them, and with a form that traps.
-ghost use Rattle.std.specs.Prelude.{◌≡◌, ◌<◌, length, IfOk};
+//! Two tasks, of which one activates the other: as the kernel runs them, and with a site that traps.
+ghost use Rattle.std.specs.Prelude.{◌≡◌, ◌<◌, ℕ, length, IfOk};
+ghost use Rattle.image_model.specs.Sites.{IsForm};
+ghost use Rattle.image_model.specs.declared.image.Version.TheVariants as version;
 
 use crate::two_tasks::activation;
-use image_model::{Form, Image, Site, general, site_at};
+use image_model::{Form, Image, Known, Site, general, site_at};
 use image_run::{Machine, Trap};
 use osek_standard::Processor;
 use osek_values::{BlockNo, Event, HookSet, Memory, ModeNo, Notes, Status, Steps, TaskNo};
@@ -12,20 +14,22 @@ use std::sync::ledger::{Blank, Ledger};
 
 /// The image of general forms.
 fn image(alloc: Global) -> Result<Image, Memory>
-    ensures { IfOk result (λ i. (length i.app.modes ≡ 1) × (0 < length i.app.blocks)) }
+    ensures version { IfOk result (λ i. i.version ≡ version.Two) }
+    ensures app { IfOk result (λ i. (length i.app.modes ≡ 1) × (0 < length i.app.blocks)) }
 {
     general(alloc, activation(alloc)?)
 }
 
-/// The same, but that no state is to come to the first block.
-fn image_that_traps(alloc: Global) -> Result<Image, Memory>
+/// The same, but for the site of the first block, which activates the second task.
+fn image_with(alloc: Global, form: Form, known: Known) -> Result<Image, Memory>
+    requires { (n : ℕ) → IsForm n form }
     ensures { IfOk result (λ i. (length i.app.modes ≡ 1) × (0 < length i.app.blocks)) }
 {
     let mut image = image(alloc)?;
     let Some(_site) = site_at(&image, BlockNo(0)) else {
         return Ok(image);
     };
-    image.sites.put(0, Some(Site { form: Form::Never }));
+    image.sites.put(0, Some(Site { form, known }));
     Ok(image)
 }
 
@@ -84,21 +88,50 @@ fn starts_and_runs_as(alloc: Global, image: Image, wanted: &[Turn; 3]) -> bool
     }
 }
 
-#[test]
-fn general_forms_run_as_the_kernel(rt: HostRuntime) {
-    let image = image(rt.alloc()).expect(&rt, "memory");
+/// As the kernel does: the second task is dispatched, ends, and the first one ends.
+fn kernels_runs() -> [Turn; 3] {
     let (low, high) = (TaskNo(0), TaskNo(1));
-    let wanted = [
+    [
         (Processor::Running(high), noted(Some(Status::Ok))),
         (Processor::Running(low), noted(None)),
         (Processor::Idle, noted(None)),
-    ];
-    assert!(rt; starts_and_runs_as(rt.alloc(), image, &wanted));
+    ]
+}
+
+/// The first task stays where it is.
+fn traps() -> [Turn; 3] {
+    [(Processor::Running(TaskNo(0)), Err(Trap)); 3]
+}
+
+#[test]
+fn general_forms_run_as_the_kernel(rt: HostRuntime) {
+    let image = image(rt.alloc()).expect(&rt, "memory");
+    assert!(rt; starts_and_runs_as(rt.alloc(), image, &kernels_runs()));
 }
 
 #[test]
 fn a_trap_is_answered_again(rt: HostRuntime) {
-    let image = image_that_traps(rt.alloc()).expect(&rt, "memory");
-    let trapped = (Processor::Running(TaskNo(0)), Err(Trap));
-    assert!(rt; starts_and_runs_as(rt.alloc(), image, &[trapped; 3]));
+    let image = image_with(rt.alloc(), Form::Never, Known::Any).expect(&rt, "memory");
+    assert!(rt; starts_and_runs_as(rt.alloc(), image, &traps()));
+}
+
+#[test]
+fn the_known_status_is_noted(rt: HostRuntime) {
+    let known = Known::Always(Some(Status::Ok));
+    let image = image_with(rt.alloc(), Form::General, known).expect(&rt, "memory");
+    assert!(rt; starts_and_runs_as(rt.alloc(), image, &kernels_runs()));
+}
+
+#[test]
+fn another_status_than_the_known_one_traps(rt: HostRuntime) {
+    let known = Known::Always(Some(Status::Limit));
+    let image = image_with(rt.alloc(), Form::General, known).expect(&rt, "memory");
+    assert!(rt; starts_and_runs_as(rt.alloc(), image, &traps()));
+}
+
+#[test]
+fn a_status_where_none_is_known_traps(rt: HostRuntime) {
+    let known = Known::Always(None);
+    let image = image_with(rt.alloc(), Form::General, known).expect(&rt, "memory");
+    assert!(rt; starts_and_runs_as(rt.alloc(), image, &traps()));
 }

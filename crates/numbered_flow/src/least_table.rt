@@ -5,6 +5,7 @@ ghost use Rattle.abstract_state.specs.Domains.{HasMasks, domains as domains_of_e
 ghost use Rattle.abstract_state.specs.Tables.{Least, sets_of, value_count};
 ghost use Rattle.abstract_state.specs.Written.{IsWritten};
 ghost use Rattle.numbered_sets.specs.Pools.{no_values, pool_domains, IsLonger};
+ghost use Rattle.numbered_sets.specs.Shown.{IsShown};
 ghost use Rattle.state_flow.specs.Cells.{IsWaitingAt};
 ghost use Rattle.state_flow.specs.Progress.{Progress};
 ghost use Rattle.numbered_flow.specs.PlainCells.{plain_cells, AreCellsOf};
@@ -13,7 +14,7 @@ ghost use Rattle.numbered_flow.specs.Numbering.{AreNumberedCells, HasProgress};
 use crate::evaluation::{NumberedRow, evaluate};
 use crate::numbered_cells::{put_all, put_in, rows};
 use abstract_state::{Domain, Entry, Table, masks_are_few};
-use numbered_sets::{NumberedEntry, Pool, numbered};
+use numbered_sets::{NumberedEntry, Pool, ShownEntry, numbered};
 use osek_standard::App;
 use osek_values::{Memory, ModeNo, Seq, Steps};
 use state_flow::{Cell, next_waiting, place_behind, start_row};
@@ -33,13 +34,14 @@ pub fn solve<L: Ledger>(alloc: Global, app: &App, steps: &mut Steps<L>) -> Resul
 {
     masks_are_few(app);
     let mut pool = pool_of(alloc, app)?;
+    let mut shown = nothing_shown(alloc, app, &pool)?;
     let mut cells = started(alloc, app, &mut pool)?;
     let mut from = 0;
     // sweeps upward over the points: what a point leads to stands mostly above it
     while let Some(place) = next_waiting(cells.as_slice(), from) {
         steps.tick();
         let point = cells[place].point;
-        turn(alloc, app, &mut pool, &mut cells, place)?;
+        turn(alloc, app, &mut pool, &mut cells, &mut shown, place)?;
         from = place_behind(cells.as_slice(), point);
     }
     Ok(Table {
@@ -51,10 +53,29 @@ pub fn solve<L: Ledger>(alloc: Global, app: &App, steps: &mut Steps<L>) -> Resul
 fn pool_of(alloc: Global, app: &App) -> Result<Pool, Memory>
     ensures { IfOk result (λ pool. pool ≡ map no_values (domains_of app.now)) }
 {
-    let row = start_row(alloc, app, ModeNo(0))?;
-    let domains = domains(alloc, &row.entry)?;
+    let domains = component_domains(alloc, app)?;
     let pool = Pool::new(alloc, domains.as_slice())?;
     Ok(pool)
+}
+
+/// The entry without a value, as the first that is shown.
+fn nothing_shown(alloc: Global, app: &App, pool: &Pool) -> Result<ShownEntry, Memory>
+    requires { pool_domains pool.now ≡ domains_of app.now }
+    ensures { IfOk result (IsShown pool.now) }
+{
+    let domains = component_domains(alloc, app)?;
+    let none = NumberedEntry::new(alloc, domains.as_slice())?;
+    let shown = ShownEntry::new(alloc, pool, none)?;
+    Ok(shown)
+}
+
+/// What the values of each of the application's components are values of.
+fn component_domains(alloc: Global, app: &App) -> Result<Vec<Domain>, Memory>
+    ensures { IfOk result (λ all. all.items ≡ domains_of app.now) }
+{
+    let row = start_row(alloc, app, ModeNo(0))?;
+    let domains = domains(alloc, &row.entry)?;
+    Ok(domains)
 }
 
 fn domains(alloc: Global, entry: &Entry) -> Result<Vec<Domain>, Memory>
@@ -70,7 +91,8 @@ fn domains(alloc: Global, entry: &Entry) -> Result<Vec<Domain>, Memory>
 /// The points of the starts, which wait.
 fn started(alloc: Global, app: &App, pool: &mut Pool) -> Result<Vec<Cell<NumberedEntry>>, Memory>
     requires { pool_domains pool.old ≡ domains_of app.now }
-    ensures { IfOk result (λ cells. HasProgress app.now pool.new cells.items 0) }
+    ensures pool { OnOk result (IsLonger pool.old pool.new) }
+    ensures progress { IfOk result (λ cells. HasProgress app.now pool.new cells.items 0) }
 {
     let mut cells = Vec::new(alloc);
     for mode in 0..app.modes.len() {
@@ -96,15 +118,18 @@ fn turn(
     app: &App,
     pool: &mut Pool,
     cells: &mut Vec<Cell<NumberedEntry>>,
+    shown: &mut ShownEntry,
     place: usize,
 ) -> Result<(), Memory>
     requires masks { HasMasks app.now }
+    requires shown { IsShown pool.old shown.old }
     requires cells { AreNumberedCells app.now pool.old cells.old.items }
     requires waits { IsWaitingAt cells.old.items place }
-    ensures { OnOk result ((n : ℕ) → HasProgress app.now pool.old cells.old.items n → HasProgress app.now pool.new cells.new.items (n + 1)) }
+    ensures shown { OnOk result (IsShown pool.new shown.new) }
+    ensures progress { OnOk result ((n : ℕ) → HasProgress app.now pool.old cells.old.items n → HasProgress app.now pool.new cells.new.items (n + 1)) }
 {
     let cell = &mut cells[place];
-    let reached = evaluate(alloc, app, cell.point, pool, &cell.entry)?;
+    let reached = evaluate(alloc, app, cell.point, pool, &cell.entry, shown)?;
     cell.waiting = false;
     pool.are_values();
     put_all(app, pool, cells, reached)

@@ -1,2 +1,4 @@
 pub mod NumbersPassing
 pub mod KeptDomains
+pub mod SiftedSets
+pub mod ChangedSets

@@ -1,67 +1,34 @@
--- Numbers of values that pass, and of what a rule makes of them.
-use Rattle.std.proofs.Common.{◌≡◌, ℕ, suc, ◌+◌, ◌^◌, ◌<◌, ◌≤◌, Bool, true, false, not, ◌||◌, List, [], ◌∷◌, ◌++◌, length, get_or, set, take, map, refl, sym, ap, ap₂, subst, ◌∙◌, inl, inr, arith, IsTrue}
+-- Numbers of what a rule makes of the values that pass, set by set.
+use Rattle.std.proofs.Common.{◌≡◌, ℕ, suc, ◌+◌, ◌^◌, ◌<◌, ◌≤◌, Bool, true, false, ◌||◌, List, [], ◌∷◌, ◌++◌, length, get_or, set, take, map, refl, sym, ap, ap₂, subst, ◌∙◌, inl, inr, arith, IsTrue}
 use Rattle.std.specs.Prelude.{if◌then◌else◌}
 use Rattle.std.specs.List.{list_any}
 use Rattle.std.proofs.Math.ListN.{get_or-map, get_or-eq_default}
-use Rattle.std.proofs.Math.Seq.{get_or-append_seam}
 use Rattle.std.proofs.lemmas.Bool.{cases_lt, or_cases, eqb-true}
 use Rattle.std.proofs.lemmas.List.{length-append, get_or_append_left, get_or_default, take_all}
-use Rattle.std.proofs.lemmas.List.Folds.{list_any-append}
 use Rattle.std.proofs.lemmas.List.Elements.{All-from_get_or}
 use Rattle.osek_standard.specs.Kernel.{has_bit}
 use Rattle.abstract_state.specs.declared.value.{Domain.{Domain}, PartValue.{PartValue}, PartValue.TheVariants.{OfAlarm}}
 use Rattle.abstract_state.specs.declared.value.Domain.TheVariants as domain
-use Rattle.abstract_state.specs.declared.table.{ValueSet.{ValueSet}, Entry.{Entry}}
+use Rattle.abstract_state.specs.declared.table.{ValueSet.{ValueSet}}
 use Rattle.abstract_state.specs.ValueOrder.{same_part, IsAscending}
-use Rattle.abstract_state.specs.Tables.{empty_set, set_at, is_member}
-use Rattle.abstract_state.proofs.OrderLaws.{part_right}
+use Rattle.abstract_state.specs.Tables.{empty_set, set_at}
 use Rattle.flow_model.specs.declared.rule.Rule.{Rule}
-use Rattle.flow_model.specs.Tests.{is_failed, PassesAt, value_after}
-use Rattle.flow_model.specs.Rules.{Taken, Applies, HasNone}
+use Rattle.flow_model.specs.Tests.{is_failed, value_after}
+use Rattle.flow_model.specs.Rules.{Applies}
 use Rattle.flow_rules.specs.Passing.{ArePassed}
-use Rattle.flow_rules.proofs.Passing.{each_passes, none_fails, IsWithValue, passed_over, passed_one, passed_none}
+use Rattle.flow_rules.proofs.Passing.{IsWithValue, passed_one, passed_none}
 use Rattle.numbered_sets.specs.declared.numbered_entry.NumberedEntry.{NumberedEntry}
 use Rattle.numbered_sets.specs.Numbers.{Numbers, numbers, has_number, with_number}
 use Rattle.numbered_sets.specs.NumberedEntries.{no_set, numbers_at, number_domains}
 use Rattle.numbered_sets.specs.Pools.{Values, no_values, value_seen, seen_at, values_at, domain_at, IsNumberOf, IsLonger}
 use Rattle.numbered_sets.specs.Views.{values_with, in_order, plain_set, plain_entry, AreNumbersOf}
 use Rattle.numbered_sets.proofs.BitCounts.{has_either, has_one}
-use Rattle.numbered_sets.proofs.PlainLaws.{ascending_in_order, any_in_order, has_value, member_of_plain, values_with_none, values_more, value_with_number, value_of_either, plain_set_at, length_plain}
+use Rattle.numbered_sets.proofs.PlainLaws.{ascending_in_order, any_in_order, has_value, member_of_plain, values_with_none, values_more, value_of_either, plain_set_at, length_plain}
 use Rattle.numbered_sets.proofs.ViewLaws.{false_unless, longer_with, only_value, same_domains}
 use Rattle.numbered_sets.proofs.KnownNumbers.{no_bit_of_none}
 use Rattle.numbered_sets.proofs.NumberingLaws.{longer_itself, longer_onward, known_on, values_on}
-use Rattle.numbered_rules.specs.Applying.{AreTaken, HasPassing, HasNoPassing, IsPassing, KeepsDomain, IsPassedSoFar, IsPassedSet}
-
--- ---- whether some value passes
-
-or_end : (a b : Bool) → (a || (b || false)) ≡ (a || b)
-or_end a true = refl
-or_end a false = refl
-
-any_end : (test : PartValue → Bool) (xs : List PartValue) (v : PartValue) → list_any test (xs ++ v ∷ []) ≡ (list_any test xs || test v)
-any_end test xs v = list_any-append test xs (v ∷ []) ∙ or_end (list_any test xs) (test v)
-
--- no value of the list passes
-pub record NonePass (rule : Rule) (c : ℕ) (xs : List PartValue) : Type 0 where
-  pub none : (v : PartValue) → IsTrue (list_any (same_part v) xs) → PassesAt rule.conditions c v → ⊥
-
-pub none_at_first : (rule : Rule) (c : ℕ) → NonePass rule c []
-none_at_first rule c = record { none = λ v m p. absurd (cc) }
-
-not_both : (b some : Bool) → b ≡ not some → b ≡ true → some ≡ false
-not_both b true e f = absurd (cc)
-not_both b false e f = refl
-
-not_neither : (b some : Bool) → b ≡ not some → b ≡ false → some ≡ true
-not_neither b true e f = refl
-not_neither b false e f = absurd (cc)
-
-pub one_passes : (rule : Rule) (c : ℕ) (vs : List PartValue) (x : Numbers) (n : ℕ) (passes : Bool) → IsPassing rule c vs n passes → passes ≡ true → has_number x n ≡ true → HasPassing rule c (plain_set vs x)
-one_passes rule c vs x n passes h said has = record {
-  value = h.value;
-  there = member_of_plain vs x h.value ∙ value_with_number vs (has_number x) n h.value h.is.known (h.is.is h.value) has;
-  passes = each_passes rule.conditions c h.value (not_both passes (list_any (is_failed c h.value) rule.conditions) h.tells said);
-}
+use Rattle.numbered_rules.specs.Applying.{AreTaken, IsPassedSoFar, IsPassedSet}
+use Rattle.numbered_rules.specs.Changing.{AreAllPassed}
 
 -- the values of the numbers up to one, with the next one or without
 pub next_value : (vs : List PartValue) (has : ℕ → Bool) (k : ℕ) (v : PartValue) → IsNumberOf vs v k → has k ≡ true → values_with (take (k + 1) vs) has ≡ values_with (take k vs) has ++ v ∷ []
@@ -76,53 +43,6 @@ pub no_next_value : (vs : List PartValue) (has : ℕ → Bool) (k : ℕ) → k <
 no_next_value vs has k lt none =
     let v = get_or vs k (OfAlarm false) in
     values_more vs k v has lt (get_or_default vs k v (OfAlarm false) lt) ∙ ap (λ (b : Bool). values_with (take k vs) has ++ (if b then v ∷ [] else [])) none ∙ append_none (values_with (take k vs) has)
-
-pub none_next : (rule : Rule) (c : ℕ) (vs : List PartValue) (x : Numbers) (k : ℕ) (passes : Bool) → NonePass rule c (values_with (take k vs) (has_number x)) → IsPassing rule c vs k passes → passes ≡ false → has_number x k ≡ true → NonePass rule c (values_with (take (k + 1) vs) (has_number x))
-none_next rule c vs x k passes h is said has = record {
-  none = λ v m p.
-      (let fails = not_neither passes (list_any (is_failed c is.value) rule.conditions) is.tells said in
-      let there : list_any (same_part v) (values_with (take k vs) (has_number x) ++ is.value ∷ []) ≡ true = sym (ap (list_any (same_part v)) (next_value vs (has_number x) k is.value is.is has)) ∙ m in
-      elim (or_cases (list_any (same_part v) (values_with (take k vs) (has_number x))) (same_part v is.value) (sym (any_end (same_part v) (values_with (take k vs) (has_number x)) is.value) ∙ there)) [
-        | inl old ↦ h.none v old p
-        | inr new ↦
-            (let same = part_right v is.value new in
-            let f : list_any (is_failed c is.value) rule.conditions ≡ false = subst (λ (w : PartValue). list_any (is_failed c w) rule.conditions ≡ false) same (none_fails rule.conditions c v p) in
-            absurd (cc))
-      ]);
-}
-
-pub none_here : (rule : Rule) (c : ℕ) (vs : List PartValue) (x : Numbers) (k : ℕ) → k < length vs → NonePass rule c (values_with (take k vs) (has_number x)) → has_number x k ≡ false → NonePass rule c (values_with (take (k + 1) vs) (has_number x))
-none_here rule c vs x k lt h none = subst (NonePass rule c) (sym (no_next_value vs (has_number x) k lt none)) h
-
-pub none_of_all : (rule : Rule) (c : ℕ) (vs : List PartValue) (x : Numbers) (k : ℕ) → length vs ≤ k → NonePass rule c (values_with (take k vs) (has_number x)) → HasNoPassing rule c (plain_set vs x)
-none_of_all rule c vs x k whole h = record {
-  none = λ v m p. h.none v (ap (λ (us : List PartValue). has_value us (has_number x) v) (take_all k vs whole) ∙ sym (member_of_plain vs x v) ∙ m) p;
-}
-
--- ---- a whole entry
-
--- each of the first sets has one
-abbrev pub AreTakenUpTo : Rule → Entry → ℕ → Type 0
-AreTakenUpTo rule entry k = (c : ℕ) → c < k → Taken rule entry c
-
-pub taken_next : (rule : Rule) (pool : List Values) (entry : NumberedEntry) (k : ℕ) (x : Numbers) → numbers_at entry k ≡ x → AreTakenUpTo rule (plain_entry pool entry) k → HasPassing rule k (plain_set (values_at pool k) x) → AreTakenUpTo rule (plain_entry pool entry) (k + 1)
-taken_next rule pool entry k x at h some c lt = elim (cases_lt c k) [
-  | inl below ↦ h c below
-  | inr above ↦
-      (let same : k ≡ c = omega (arith, lt, above) in
-      let here : set_at (plain_entry pool entry) k ≡ plain_set (values_at pool k) x = plain_set_at pool entry k ∙ ap (plain_set (values_at pool k)) at in
-      let taken : Taken rule (plain_entry pool entry) k = record { was = some.value; there = ap (λ (s : ValueSet). is_member s some.value) here ∙ some.there; passes = some.passes } in
-      subst (Taken rule (plain_entry pool entry)) same taken)
-]
-
-pub none_there : (rule : Rule) (pool : List Values) (entry : NumberedEntry) (k : ℕ) (x : Numbers) → numbers_at entry k ≡ x → k < length entry.sets → HasNoPassing rule k (plain_set (values_at pool k) x) → HasNone rule (plain_entry pool entry)
-none_there rule pool entry k x at lt none = record {
-  component = k;
-  known = omega (arith, lt, length_plain pool 0 entry.sets);
-  none = λ v m p.
-      (let here : set_at (plain_entry pool entry) k ≡ plain_set (values_at pool k) x = plain_set_at pool entry k ∙ ap (plain_set (values_at pool k)) at in
-      none.none v (sym (ap (λ (s : ValueSet). is_member s v) here) ∙ m) p);
-}
 
 -- ---- what is made
 
@@ -147,14 +67,6 @@ passed_begun rule pool c d =
       known = λ n h. absurd (no_bit_of_none n h);
       passed = subst (ArePassed rule c d []) (sym none) (passed_none rule c d);
     }
-
-pub passed_by : (rule : Rule) (before : List Values) (c : ℕ) (d : Domain) (done : List PartValue) (pool : List Values) (x : Numbers) (v : PartValue) → IsPassedSoFar rule before c d done pool x → list_any (is_failed c v) rule.conditions ≡ true → IsPassedSoFar rule before c d (done ++ v ∷ []) pool x
-passed_by rule before c d done pool x v h fails = record {
-  longer = h.longer;
-  domain = h.domain;
-  known = h.known;
-  passed = passed_over rule c d done v (plain_set (values_at pool c) x) h.passed fails;
-}
 
 module _ (rule : Rule) (before : List Values) (c : ℕ) (d : Domain) (done : List PartValue) (pool : List Values) (x : Numbers) (v : PartValue) (n : ℕ) (after : List Values) (h : IsPassedSoFar rule before c d done pool x)
     (known : c < length pool) (grown : after ≡ set pool c (value_seen (seen_at pool c) (value_after rule.changes c v))) (is : IsNumberOf (values_at after c) (value_after rule.changes c v) n) where
@@ -225,41 +137,6 @@ passed_on rule before c old pool after x longer h =
       passed = subst (ArePassed rule c old.domain (plain_set (values_at before c) old).members) same h.passed;
     }
 
-pub passed_of_longer : (rule : Rule) (before pool : List Values) (c : ℕ) (old : Numbers) (after : List Values) (x : Numbers) → IsLonger before pool → ((n : ℕ) → IsTrue (has_number old n) → n < length (values_at before c)) → IsPassedSet rule pool c old after x → IsPassedSet rule before c old after x
-passed_of_longer rule before pool c old after x longer known h =
-    let values = values_on (values_at before c) (values_at pool c) old (longer.values c) known in
-    record {
-      domain = h.domain;
-      known = h.known;
-      passed = subst (λ (us : List PartValue). ArePassed rule c old.domain (in_order us) (plain_set (values_at after c) x)) values h.passed;
-    }
-
-pub record AreAllPassed (rule : Rule) (before : List Values) (entry : NumberedEntry) (k : ℕ) (pool : List Values) (sets : List Numbers) : Type 0 where
-  pub longer : IsLonger before pool
-  pub size : length sets ≡ k
-  pub each : (c : ℕ) → c < k → IsPassedSet rule before c (numbers_at entry c) pool (get_or sets c no_set)
-
-pub none_made : (rule : Rule) (pool : List Values) (entry : NumberedEntry) → AreAllPassed rule pool entry 0 pool []
-none_made rule pool entry = record { longer = longer_itself pool; size = refl; each = λ c lt. absurd (omega (arith, lt)) }
-
-pub passed_next : (rule : Rule) (before : List Values) (entry : NumberedEntry) (k : ℕ) (pool after : List Values) (sets : List Numbers) (old x : Numbers) → AreNumbersOf before entry → AreAllPassed rule before entry k pool sets → IsLonger pool after → numbers_at entry k ≡ old
-    → IsPassedSet rule pool k old after x → AreAllPassed rule before entry (k + 1) after (sets ++ x ∷ [])
-passed_next rule before entry k pool after sets old x known h longer at is = record {
-  longer = longer_onward before pool after h.longer longer;
-  size = omega (arith, length-append sets (x ∷ []), h.size);
-  each = λ c lt. elim (cases_lt c k) [
-    | inl below ↦
-        subst (IsPassedSet rule before c (numbers_at entry c) after) (sym (get_or_append_left sets (x ∷ []) no_set c (omega (arith, below, h.size))))
-        (passed_on rule before c (numbers_at entry c) pool after (get_or sets c no_set) longer (h.each c below))
-    | inr above ↦
-        (let same : c ≡ k = omega (arith, lt, above) in
-        let last : get_or (sets ++ x ∷ []) k no_set ≡ x = ap (λ (n : ℕ). get_or (sets ++ x ∷ []) n no_set) (sym h.size) ∙ get_or-append_seam sets x [] no_set in
-        let here : IsPassedSet rule pool k (numbers_at entry k) after x = subst (λ (y : Numbers). IsPassedSet rule pool k y after x) (sym at) is in
-        subst (λ (j : ℕ). IsPassedSet rule before j (numbers_at entry j) after (get_or (sets ++ x ∷ []) j no_set)) (sym same)
-        (subst (IsPassedSet rule before k (numbers_at entry k) after) (sym last) (passed_of_longer rule before pool k (numbers_at entry k) after x h.longer (known.known k) here)))
-  ];
-}
-
 domains_alike : (xs ys : List Numbers) → length xs ≡ length ys → ((c : ℕ) → (get_or xs c no_set).domain ≡ (get_or ys c no_set).domain) → map (λ (x : Numbers). x.domain) xs ≡ map (λ (x : Numbers). x.domain) ys
 domains_alike [] [] e h = refl
 domains_alike [] (y ∷ ys) e h = absurd (omega (arith, e))
@@ -317,10 +194,3 @@ module _ (before pool : List Values) (entry : NumberedEntry) (k : ℕ) (x : Numb
 
   pub known_there : (n : ℕ) → IsTrue (has_number x n) → n < length (values_at pool k)
   known_there = known_on (values_at before k) (values_at pool k) x (longer.values k) known_then
-
-  pub keeps_there : (rule : Rule) → KeepsDomain rule k (set_at (plain_entry before entry) k) → KeepsDomain rule k (plain_set (values_at pool k) x)
-  keeps_there rule h =
-      let values = values_on (values_at before k) (values_at pool k) x (longer.values k) known_then in
-      let same : set_at (plain_entry before entry) k ≡ plain_set (values_at pool k) x =
-      plain_set_at before entry k ∙ ap (plain_set (values_at before k)) at ∙ (λ i. record { domain = x.domain; members = in_order (sym values i) }) in
-      subst (KeepsDomain rule k) same h

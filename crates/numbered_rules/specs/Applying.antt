@@ -1,37 +1,20 @@
 -- What a rule makes of the values of numbered sets.
-use Rattle.std.specs.Prelude.{◌≡◌, ℕ, ◌<◌, Bool, not, List, length, IsTrue}
-use Rattle.std.specs.List.{list_any}
+use Rattle.std.specs.Prelude.{◌≡◌, ℕ, ◌<◌, List, length, IsTrue}
 use Rattle.abstract_state.specs.declared.value.{Domain.{Domain}, PartValue.{PartValue}}
 use Rattle.abstract_state.specs.declared.table.{ValueSet.{ValueSet}, Entry.{Entry}}
 use Rattle.abstract_state.specs.Domains.{IsWithin}
 use Rattle.abstract_state.specs.Tables.{set_at, is_member}
 use Rattle.flow_model.specs.declared.rule.Rule.{Rule}
-use Rattle.flow_model.specs.Tests.{is_failed, PassesAt, value_after}
+use Rattle.flow_model.specs.Tests.{PassesAt, value_after}
 use Rattle.flow_model.specs.Rules.{Taken}
 use Rattle.flow_rules.specs.Passing.{ArePassed}
 use Rattle.numbered_sets.specs.Numbers.{Numbers, has_number}
-use Rattle.numbered_sets.specs.Pools.{Values, values_at, IsNumberOf, IsLonger}
+use Rattle.numbered_sets.specs.Pools.{Values, values_at, IsLonger}
 use Rattle.numbered_sets.specs.Views.{plain_set}
 
 -- each set has a value that the rule takes
 abbrev pub AreTaken : Rule → Entry → Type 0
 AreTaken rule entry = (c : ℕ) → c < length entry.sets → Taken rule entry c
-
--- a value of the set passes
-pub record HasPassing (rule : Rule) (c : ℕ) (set : ValueSet) : Type 0 where
-  pub value : PartValue
-  pub there : IsTrue (is_member set value)
-  pub passes : PassesAt rule.conditions c value
-
--- none does
-pub record HasNoPassing (rule : Rule) (c : ℕ) (set : ValueSet) : Type 0 where
-  pub none : (v : PartValue) → IsTrue (is_member set v) → PassesAt rule.conditions c v → ⊥
-
--- whether the value with this number passes
-pub record IsPassing (rule : Rule) (c : ℕ) (values : List PartValue) (n : ℕ) (passes : Bool) : Type 0 where
-  pub value : PartValue
-  pub is : IsNumberOf values value n
-  pub tells : passes ≡ not (list_any (is_failed c value) rule.conditions)
 
 -- What the rule makes of the set's values that pass lies in their domain.
 pub record KeepsDomain (rule : Rule) (c : ℕ) (set : ValueSet) : Type 0 where

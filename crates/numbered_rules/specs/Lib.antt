@@ -1,1 +1,3 @@
 pub mod Applying
+pub mod Changing
+pub mod Sifting

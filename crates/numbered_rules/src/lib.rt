@@ -3,9 +3,9 @@
 
 mod applying;
 pub mod laws;
-mod possible;
 mod ruling;
+mod sifting;
+mod updating;
 
 pub use applying::apply;
-pub use possible::is_possible;
 pub use ruling::rules;

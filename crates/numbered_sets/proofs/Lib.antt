@@ -7,3 +7,6 @@ pub mod PlainLaws
 pub mod ViewLaws
 pub mod KnownNumbers
 pub mod NumberingLaws
+pub mod KeptWords
+pub mod SiftLaws
+pub mod ShownLaws

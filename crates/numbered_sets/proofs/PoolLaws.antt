@@ -1,5 +1,5 @@
 -- The values of a pool: what comes in, and how many there can be.
-use Rattle.std.proofs.Common.{◌≡◌, ℕ, ◌<◌, ◌≤◌, Bool, true, false, ◌||◌, List, [], ◌∷◌, ◌++◌, length, map, cond, refl, sym, ap, ap₂, subst, ◌∙◌, inl, inr, arith}
+use Rattle.std.proofs.Common.{◌≡◌, ℕ, ◌<◌, ◌≤◌, Bool, true, false, ◌||◌, List, [], ◌∷◌, ◌++◌, length, cond, refl, sym, ap, ap₂, subst, ◌∙◌, inl, inr, arith}
 use Rattle.std.specs.Prelude.{Some, slice_get}
 use Rattle.std.specs.List.{list_any, IsDistinct}
 use Rattle.std.proofs.Math.ListN.{get_or-map}
@@ -18,11 +18,8 @@ use Rattle.abstract_state.proofs.DomainValues.{domain_counted}
 use Rattle.abstract_state.proofs.OrderLaws.{part_laws, part_right}
 use Rattle.numbered_sets.specs.declared.seen.Seen.{Seen}
 use Rattle.numbered_sets.specs.SeenLaws.{same_seen}
+use Rattle.numbered_sets.specs.Filters.{seen_values}
 use Rattle.numbered_sets.specs.Pools.{with_value, AreNumbered, IsNumberOf}
-
--- the values of keys
-abbrev pub seen_values : List Seen → List PartValue
-seen_values = map (λ (s : Seen). s.value)
 
 pub none_numbered : (d : Domain) → AreNumbered d []
 unfolding IsDistinct

@@ -71,7 +71,7 @@ append_none (x ∷ xs) = ap (λ (ys : List PartValue). x ∷ ys) (append_none xs
 pub extended_by_none : (vs : List PartValue) → IsExtended vs vs
 extended_by_none vs = record { more = []; is = append_none vs }
 
-extended_with : (vs : List PartValue) (v : PartValue) → IsExtended vs (with_value vs v)
+pub extended_with : (vs : List PartValue) (v : PartValue) → IsExtended vs (with_value vs v)
 extended_with vs v = elim (cases_Bool (list_any (same_part v) vs)) [
   | inl there ↦ subst (λ (b : Bool). IsExtended vs (if b then vs else vs ++ v ∷ [])) (sym there) (extended_by_none vs)
   | inr none ↦ subst (λ (b : Bool). IsExtended vs (if b then vs else vs ++ v ∷ [])) (sym none) (record { more = v ∷ []; is = refl })
@@ -242,7 +242,7 @@ length_with (v ∷ vs) has =
     omega (arith, rest, first, passing)
 
 -- a number is below a power of two with itself as the exponent
-below_power : (n : ℕ) → n < 2 ^ n
+pub below_power : (n : ℕ) → n < 2 ^ n
 below_power zero = lit< tt
 below_power (suc n) = (let rest = below_power n in omega (arith, rest, pow-suc 2 n))
 

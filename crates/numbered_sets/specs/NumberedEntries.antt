@@ -32,6 +32,16 @@ pub record AreSoundNumbers (entry : NumberedEntry) : Type 0 where
   pub sets : All AreSound entry.sets
   pub few : numbers_height entry < 2 ^ 64
 
+-- each set has a number
+pub record AreFilled (entry : NumberedEntry) : Type 0 where
+  pub each : (c : ℕ) → c < length entry.sets → 0 < (numbers_at entry c).bits
+
+-- some set has none
+pub record HasEmptySet (entry : NumberedEntry) : Type 0 where
+  pub component : ℕ
+  pub known : component < length entry.sets
+  pub none : (numbers_at entry component).bits ≡ 0
+
 -- The order of numbered entries: each number of a set is one of the other's.
 pub record IsBelowNumbers (entry other : NumberedEntry) : Type 0 where
   pub each : (c n : ℕ) → IsTrue (has_number (numbers_at entry c) n) → IsTrue (has_number (numbers_at other c) n)

@@ -1,5 +1,5 @@
 -- Sets of numbers, each the number whose bits they are.
-use Rattle.std.specs.Prelude.{ℕ, ◌+◌, ◌*◌, ◌<◌, ◌^◌, Bool, List, [], ◌∷◌, bit_or, count_ones, All}
+use Rattle.std.specs.Prelude.{ℕ, ◌+◌, ◌*◌, ◌<◌, ◌^◌, Bool, List, [], ◌∷◌, bit_and, bit_or, count_ones, All}
 use Rattle.osek_standard.specs.Kernel.{has_bit}
 use Rattle.abstract_state.specs.declared.value.Domain.{Domain}
 use Rattle.abstract_state.specs.Domains.{domain_size}
@@ -32,6 +32,10 @@ with_number x n = numbers x.domain (bit_or x.bits (2 ^ n))
 -- The numbers of both.
 abbrev pub joined_numbers : Numbers → Numbers → Numbers
 joined_numbers x y = numbers x.domain (bit_or x.bits y.bits)
+
+-- The numbers that the other has too.
+abbrev pub kept_numbers : Numbers → Numbers → Numbers
+kept_numbers x y = numbers x.domain (bit_and x.bits y.bits)
 
 -- How many numbers there are.
 abbrev pub number_count : Numbers → ℕ

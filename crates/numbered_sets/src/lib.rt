@@ -2,6 +2,7 @@
 //! numbers. What such sets mean is the ordered form of `abstract_state`.
 #![tactic(auto)]
 
+mod filter;
 pub mod laws;
 mod numbered_entry;
 mod numbered_form;
@@ -9,6 +10,7 @@ mod numbered_set;
 mod plain_form;
 mod pool;
 mod seen;
+mod shown;
 mod words;
 
 pub use numbered_entry::NumberedEntry;
@@ -16,3 +18,4 @@ pub use numbered_form::numbered;
 pub use numbered_set::NumberedSet;
 pub use plain_form::plain;
 pub use pool::Pool;
+pub use shown::ShownEntry;

@@ -15,7 +15,8 @@ pub struct NumberedEntry {
 impl NumberedEntry {
     ghost use Rattle.std.specs.Prelude.{◌≡◌, ◌<◌, ◌≤◌, ◌+◌, ◌^◌, not, length, map, slice_set, IfOk, OnOk, OnErr};
     ghost use Rattle.numbered_sets.specs.Numbers.{numbers, has_number, with_number, joined_numbers, number_count};
-    ghost use Rattle.numbered_sets.specs.NumberedEntries.{numbers_at, entry_numbers, IsNumberJoin, IsPartOfNumberJoin};
+    ghost use Rattle.std.specs.Bool.{OnTrue, OnFalse};
+    ghost use Rattle.numbered_sets.specs.NumberedEntries.{numbers_at, entry_numbers, AreFilled, HasEmptySet, IsNumberJoin, IsPartOfNumberJoin};
 
     /// The entry without a number, for a component of each domain.
     pub fn new(alloc: Global, domains: &[Domain]) -> Result<NumberedEntry, Memory>
@@ -68,5 +69,29 @@ impl NumberedEntry {
             added += self.join_set(place, other.sets.at(place))?;
         }
         Ok(added)
+    }
+
+    /// Another entry with the same numbers.
+    pub fn copy(&self, alloc: Global) -> Result<NumberedEntry, Memory>
+        ensures { IfOk result (λ entry. entry ≡ self.now) }
+    {
+        let mut sets = Seq::of(Vec::with_capacity(alloc, self.sets.len())?);
+        for set in self.sets.as_slice() {
+            sets.push(set.copy(alloc)?)?;
+        }
+        Ok(NumberedEntry { sets })
+    }
+
+    /// Whether each set has a number.
+    pub fn is_filled(&self) -> bool
+        ensures filled { OnTrue result (AreFilled self.now) }
+        ensures none { OnFalse result (HasEmptySet self.now) }
+    {
+        for set in self.sets.as_slice() {
+            if set.is_empty() {
+                return false;
+            }
+        }
+        true
     }
 }

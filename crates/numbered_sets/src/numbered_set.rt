@@ -4,14 +4,16 @@ ghost use Rattle.std.specs.Prelude.{◌≡◌};
 use crate::words;
 use abstract_state::Domain;
 use osek_values::Memory;
+use smallvec::SmallVec;
 use std::alloc::Global;
 use std::marker::Model;
 
-/// A set of numbers of values of a domain, each a bit. The words end at the last one that was needed.
+/// A set of numbers of values of a domain, each a bit. The words end at the last one that was needed, and the first two
+/// stand in the set itself: most tasks have no more values, and events and alarms have two.
 #[derive(Drop)]
 pub struct NumberedSet {
     domain: Domain,
-    words: Vec<u64>,
+    words: SmallVec<u64, 2>,
 }
 
 impl Model for NumberedSet {
@@ -23,8 +25,9 @@ impl Model for NumberedSet {
 }
 
 impl NumberedSet {
-    ghost use Rattle.std.specs.Prelude.{◌≡◌, ◌<◌, ◌≤◌, ◌+◌, ◌^◌, not, IfOk, OnOk, OnErr};
-    ghost use Rattle.numbered_sets.specs.Numbers.{numbers, has_number, with_number, joined_numbers, number_count};
+    ghost use Rattle.std.specs.Prelude.{◌≡◌, ◌<◌, ◌≤◌, ◌+◌, ◌^◌, ◌==◌, not, IfOk, OnOk, OnErr};
+    ghost use Rattle.std.specs.Bool.{OnTrue};
+    ghost use Rattle.numbered_sets.specs.Numbers.{numbers, has_number, with_number, joined_numbers, kept_numbers, number_count};
 
     /// The set without a number. It takes no memory yet.
     pub fn new(alloc: Global, domain: Domain) -> NumberedSet
@@ -32,7 +35,7 @@ impl NumberedSet {
     {
         NumberedSet {
             domain,
-            words: Vec::new(alloc),
+            words: SmallVec::new(alloc),
         }
     }
 
@@ -75,5 +78,36 @@ impl NumberedSet {
         words::widen(&mut self.words, other.words.len())?;
         let added = words::join(self.words.as_mut_slice(), other.words.as_slice());
         Ok(added)
+    }
+
+    /// Leaves out the numbers that another set lacks.
+    pub fn keep(&mut self, other: &NumberedSet)
+        ensures { self.new ≡ kept_numbers self.old other.now }
+    {
+        words::keep(self.words.as_mut_slice(), other.words.as_slice());
+    }
+
+    /// Whether there is no number.
+    pub fn is_empty(&self) -> bool
+        ensures { result ≡ (self.now.bits == 0) }
+    {
+        words::are_clear(self.words.as_slice())
+    }
+
+    /// Whether another set has its words: then it has its numbers.
+    pub fn has_same(&self, other: &NumberedSet) -> bool
+        ensures { OnTrue result (self.now.bits ≡ other.now.bits) }
+    {
+        self.words.as_slice() == other.words.as_slice()
+    }
+
+    /// Another set of the same numbers.
+    pub fn copy(&self, alloc: Global) -> Result<NumberedSet, Memory>
+        ensures { IfOk result (λ set. set ≡ self.now) }
+    {
+        Ok(NumberedSet {
+            domain: self.domain,
+            words: SmallVec::from_slice(alloc, self.words.as_slice())?,
+        })
     }
 }

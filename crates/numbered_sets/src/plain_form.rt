@@ -23,8 +23,8 @@ pub fn plain(alloc: Global, pool: &Pool, entry: &NumberedEntry) -> Result<Entry,
     Ok(Entry { sets })
 }
 
-// the set of a component's values that have these numbers
-fn plain_set(
+/// The set of a component's values that have these numbers.
+pub fn plain_set(
     alloc: Global,
     pool: &Pool,
     component: usize,

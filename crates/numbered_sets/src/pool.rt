@@ -1,36 +1,41 @@
 //! The values that the components were seen with, by number.
 ghost use Rattle.std.specs.Prelude.{◌≡◌};
 
+use crate::filter::Filters;
+use crate::numbered_set::NumberedSet;
 use crate::seen::Seen;
 use abstract_state::{Domain, PartValue};
+use flow_model::Test;
 use indexmap::IndexSet;
 use osek_values::{Memory, Seq};
 use std::alloc::Global;
 use std::marker::Model;
 
-/// The values that a component was seen with.
+/// The values that a component was seen with, and the tests that were asked of them.
 #[derive(Drop)]
 struct Numbering {
     domain: Domain,
     seen: IndexSet<Seen>,
+    filters: Filters,
+    // those of single values apart, since there are many of them
+    of_values: Filters,
 }
 
 impl Model for Numbering {
-    ghost use Rattle.std.specs.Prelude.{List, map};
-    ghost use Rattle.abstract_state.specs.declared.value.PartValue.{PartValue};
-    ghost use Rattle.numbered_sets.specs.declared.seen.Seen.{Seen};
+    ghost use Rattle.numbered_sets.specs.Filters.{seen_values, AreFilters};
     ghost use Rattle.numbered_sets.specs.Pools.{Values, AreNumbered};
 
     ghost Value = { Values };
 
-    ghost view = { λ n. record { domain = n.domain; values = map (λ (s : Seen). s.value) n.seen.keys } };
+    ghost view = { λ n. record { domain = n.domain; values = seen_values n.seen.keys } };
 
-    ghost invariant = { λ n. AreNumbered n.domain (map (λ (s : Seen). s.value) n.seen.keys) };
+    ghost invariant = { λ n. AreNumbered n.domain (seen_values n.seen.keys) × AreFilters (seen_values n.seen.keys) n.filters × AreFilters (seen_values n.seen.keys) n.of_values };
 }
 
 impl Numbering {
     ghost use Rattle.std.specs.Prelude.{◌≡◌, ◌<◌, length, IfOk, OnOk, OnErr};
     ghost use Rattle.abstract_state.specs.Domains.{IsWithin, domain_size};
+    ghost use Rattle.numbered_sets.specs.Filters.{IsSifted};
     ghost use Rattle.numbered_sets.specs.Pools.{no_values, value_seen, AreValues, IsNumberOf};
 
     /// No value yet.
@@ -40,6 +45,8 @@ impl Numbering {
         Numbering {
             domain,
             seen: IndexSet::new(alloc),
+            filters: Filters::new(alloc),
+            of_values: Filters::new(alloc),
         }
     }
 
@@ -70,12 +77,36 @@ impl Numbering {
         &self.seen.as_slice()[number].value
     }
 
+    /// Leaves out the numbers of the values that don't pass a test.
+    fn keep_passing(
+        &mut self,
+        alloc: Global,
+        test: &Test,
+        numbers: &mut NumberedSet,
+    ) -> Result<(), Memory>
+        ensures same { self.new ≡ self.old }
+        ensures passing { OnOk result (IsSifted self.old.values test.now numbers.old numbers.new) }
+    {
+        let seen = self.seen.as_slice();
+        if is_of_value(test) {
+            self.of_values.keep_passing(alloc, seen, test, numbers)?;
+            return Ok(());
+        }
+        self.filters.keep_passing(alloc, seen, test, numbers)?;
+        Ok(())
+    }
+
     /// None stands twice, and each is one of the domain's.
     fn are_values(&self)
         ensures { AreValues self.now }
     {
         let _domain = self.domain;
     }
+}
+
+// Whether a test is for one value. Where it is looked for makes no difference to what it says.
+fn is_of_value(test: &Test) -> bool {
+    matches!(test, Test::Is(_) | Test::IsNot(_))
 }
 
 /// The values that each component was seen with, in the order of first use. A value keeps its number as more come in.
@@ -96,6 +127,7 @@ impl Model for Pool {
 impl Pool {
     ghost use Rattle.std.specs.Prelude.{◌≡◌, ◌<◌, length, map, slice_set, IfOk, OnOk, OnErr, All};
     ghost use Rattle.abstract_state.specs.Domains.{IsWithin, domain_size};
+    ghost use Rattle.numbered_sets.specs.Filters.{IsSifted};
     ghost use Rattle.numbered_sets.specs.Pools.{no_values, value_seen, seen_at, values_at, domain_at, AreValues, IsNumberOf};
 
     /// A pool without values, for a component of each domain.
@@ -138,6 +170,23 @@ impl Pool {
         ensures { IsNumberOf (values_at self.now component) result.now number }
     {
         self.numberings.at(component).value(number)
+    }
+
+    /// Leaves out the numbers of a component's values that don't pass a test. It keeps what it learnt of the test.
+    pub fn keep_passing(
+        &mut self,
+        alloc: Global,
+        component: usize,
+        test: &Test,
+        numbers: &mut NumberedSet,
+    ) -> Result<(), Memory>
+        requires { component < length self.old }
+        ensures same { self.new ≡ self.old }
+        ensures passing { OnOk result (IsSifted (values_at self.old component) test.now numbers.old numbers.new) }
+    {
+        let numbering = self.numberings.at_mut(component);
+        numbering.keep_passing(alloc, test, numbers)?;
+        Ok(())
     }
 
     /// No value of a component has two numbers, and each is one of the component's domain.

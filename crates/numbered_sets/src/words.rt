@@ -1,9 +1,10 @@
 //! Words of 64 bits, with a bit for each number.
-ghost use Rattle.std.specs.Prelude.{◌≡◌, ◌<◌, ◌≤◌, ◌+◌, ◌/◌, ◌^◌, bit_or, count_ones, length, OnOk};
+ghost use Rattle.std.specs.Prelude.{◌≡◌, ◌<◌, ◌≤◌, ◌+◌, ◌/◌, ◌^◌, ◌==◌, bit_and, bit_or, count_ones, length, slice_index_or, OnOk};
 ghost use Rattle.osek_standard.specs.Kernel.{has_bit as has_bit_of};
 ghost use Rattle.numbered_sets.specs.Numbers.{AreWords, bits_of_words};
 
 use osek_values::Memory;
+use smallvec::SmallVec;
 
 fn has_bit(bits: u64, bit: usize) -> bool
     requires { bit < 64 }
@@ -26,12 +27,12 @@ pub fn has(words: &[u64], number: usize) -> bool
 }
 
 /// Makes room for so many words. No bit changes.
-pub fn widen(words: &mut Vec<u64>, count: usize) -> Result<(), Memory>
+pub fn widen(words: &mut SmallVec<u64, 2>, count: usize) -> Result<(), Memory>
     ensures room { OnOk result (count ≤ length words.new.items) }
     ensures same { bits_of_words words.new.items ≡ bits_of_words words.old.items }
 {
-    if words.len() < count {
-        words.resize(count, 0)?;
+    for _length in words.len()..count {
+        words.push(0)?;
     }
     Ok(())
 }
@@ -71,4 +72,33 @@ pub fn join(words: &mut [u64], other: &[u64]) -> u64
         words[place] = word | other[place];
     }
     added
+}
+
+fn word_at(words: &[u64], place: usize) -> u64
+    ensures { result ≡ slice_index_or words.now place 0 }
+{
+    if place < words.len() { words[place] } else { 0 }
+}
+
+/// Clears the bits that other words lack.
+pub fn keep(words: &mut [u64], other: &[u64])
+    ensures { bits_of_words words.new ≡ bit_and (bits_of_words words.old) (bits_of_words other.now) }
+{
+    are_words(words);
+    are_words(other);
+    for place in 0..words.len() {
+        words[place] = words[place] & word_at(other, place);
+    }
+}
+
+/// Whether no bit is set.
+pub fn are_clear(words: &[u64]) -> bool
+    ensures { result ≡ (bits_of_words words.now == 0) }
+{
+    for word in words {
+        if *word != 0 {
+            return false;
+        }
+    }
+    true
 }

@@ -61,10 +61,11 @@ impl AttrList {
     ghost use Rattle.std.specs.Prelude.{◌≡◌};
     ghost use Rattle.oil_tree.specs.AttrLists.{attr_list, list_of};
 
-    /// The attributes of a `Vec`. It takes no memory.
-    pub fn from_vec(attrs: Vec<Attr>) -> Self
+    /// The attributes of a `Vec`. It takes no memory, and keeps no room for more: most lists are short.
+    pub fn from_vec(mut attrs: Vec<Attr>) -> Self
         ensures { result ≡ list_of attrs.items }
     {
+        attrs.shrink_to_fit();
         AttrList { attrs }
     }
 

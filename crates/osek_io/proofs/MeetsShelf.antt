@@ -43,7 +43,7 @@ read_cause s t None at len r range a f =
     let same = ap (λ (x : ShelfState). x.read_faults) f in
     subst (λ (x : Result ℕ Failed). CanMiss s.read_faults t.read_faults (nothing ≡ None) x) (sym a) (record { cause = inr refl; refused = λ _. refl; uncounted = λ _. same; no_fault = tt })
 read_cause s t (Some bytes) at len r range a f =
-    elim (is_listed s.fails s.calls) as (λ b. r ≡ cond b bad (good (min len (length bytes - at))) → t ≡ cond b (after_failed_read s) (after_call s) → CanMiss s.read_faults t.read_faults (something bytes ≡ None) r) [
+    elim (is_listed s.fails s.calls) as (λ b. r ≡ cond b bad (good (min (min len (length bytes - at)) s.most)) → t ≡ cond b (after_failed_read s) (after_call s) → CanMiss s.read_faults t.read_faults (something bytes ≡ None) r) [
       | true ↦ λ a' f'.
           let count = ap (λ (x : ShelfState). x.read_faults) f' in
           subst (λ (x : Result ℕ Failed). CanMiss s.read_faults t.read_faults (something bytes ≡ None) x) (sym a')
@@ -53,28 +53,28 @@ read_cause s t (Some bytes) at len r range a f =
           (record { cause = tt; refused = λ h. absurd (none_some bytes (sym h)); uncounted = λ h. absurd (none_some bytes (sym h)); no_fault = ap (λ (x : ShelfState). x.read_faults) f' })
     ] a f
 
-read_meets : (s : ShelfState) (at : ℕ) (into bytes : List ℕ) (o : Option (List ℕ)) (n : ℕ) → o ≡ Some bytes → good n ≡ read_answer s o at (length into)
+read_meets : (s : ShelfState) (at : ℕ) (into bytes : List ℕ) (o : Option (List ℕ)) (n : ℕ) → 0 < s.most → o ≡ Some bytes → good n ≡ read_answer s o at (length into)
     → take n into ≡ take n (drop at (unwrap_or o [])) → ReadsPiece bytes at into n
-read_meets s at into bytes None n e r front = absurd cc
-read_meets s at into bytes (Some b) n e r front =
+read_meets s at into bytes None n most e r front = absurd cc
+read_meets s at into bytes (Some b) n most e r front =
     let same : b ≡ bytes = cc in
-    elim (is_listed s.fails s.calls) as (λ t. good n ≡ cond t bad (good (min (length into) (length b - at))) → ReadsPiece bytes at into n) [
+    elim (is_listed s.fails s.calls) as (λ t. good n ≡ cond t bad (good (min (min (length into) (length b - at)) s.most)) → ReadsPiece bytes at into n) [
       | true ↦ λ k. absurd (not_bad n k)
       | false ↦ λ k.
-          let is : n ≡ min (length into) (length b - at) = same_count _ _ k in
+          let is : n ≡ min (min (length into) (length b - at)) s.most = same_count _ _ k in
           let len = ap length same in
           record {
             front = front ∙ ap (λ (x : List ℕ). take n (drop at x)) same;
             within = omega (arith, length-drop at bytes);
-            some = λ lt none. omega arith;
+            some = λ lt none. let here : 0 < s.most = most in omega arith;
           }
     ] r
 
 -- The bytes that a read gives are those of the file.
-pub read_pieces : (s : ShelfState) (o : Option (List ℕ)) (at : ℕ) (into : List ℕ) (len : ℕ) (r : Result ℕ Failed) → len ≡ length into → r ≡ read_answer s o at len
+pub read_pieces : (s : ShelfState) (o : Option (List ℕ)) (at : ℕ) (into : List ℕ) (len : ℕ) (r : Result ℕ Failed) → 0 < s.most → len ≡ length into → r ≡ read_answer s o at len
     → IfOk r (λ n. take n into ≡ take n (drop at (unwrap_or o []))) → IfOk r (λ n. (bytes : List ℕ) → o ≡ Some bytes → ReadsPiece bytes at into n)
-read_pieces s o at into len (Ok n) same e front = λ bytes h. read_meets s at into bytes o n h (e ∙ ap (read_answer s o at) same) front
-read_pieces s o at into len (Err f) same e front = tt
+read_pieces s o at into len (Ok n) most same e front = λ bytes h. read_meets s at into bytes o n most h (e ∙ ap (read_answer s o at) same) front
+read_pieces s o at into len (Err f) most same e front = tt
 
 -- A `create` that is Ok made the file hold nothing, and one that isn't counted a fault.
 abbrev Creates : ShelfState → ShelfState → List ℕ → Result (Unit {0}) Failed → Type 0
@@ -105,14 +105,14 @@ append_meets s t name None room piece r range here a f =
     subst (λ (x : Result ℕ Failed). Appends s t name piece x) (sym a) (tt, record { cause = inr here; refused = λ _. refl; uncounted = λ _. same; no_fault = tt })
 append_meets s t name (Some bytes) room piece r range here a f =
     let there : IsMissing (Some s.files) name → ⊥ = λ h. none_some bytes (sym h ∙ here) in
-    elim (is_listed s.fails s.calls || is_full room bytes piece) as (λ b. r ≡ cond b bad (good (fitting_count room bytes piece)) → t ≡ cond b (after_failed_write s) (after_write s name (bytes ++ take (fitting_count room bytes piece) piece)) → Appends s t name piece r) [
+    elim (is_listed s.fails s.calls || is_full room bytes piece) as (λ b. r ≡ cond b bad (good (fitting_count s.most room bytes piece)) → t ≡ cond b (after_failed_write s) (after_write s name (bytes ++ take (fitting_count s.most room bytes piece) piece)) → Appends s t name piece r) [
       | true ↦ λ a' f'.
           let count = ap (λ (x : ShelfState). x.write_faults) f' in
           subst (λ (x : Result ℕ Failed). Appends s t name piece x) (sym a')
           (tt, record { cause = inl (omega arith); refused = λ h. absurd (there h); uncounted = λ h. absurd (there h); no_fault = tt })
       | false ↦ λ a' f'.
           subst (λ (x : Result ℕ Failed). Appends s t name piece x) (sym a') (
-            ap (λ (x : ShelfState). Some x.files) f' ∙ ap (λ (o : Option (List ℕ)). Some (insert s.files name (unwrap_or o [] ++ take (fitting_count room bytes piece) piece))) (sym here),
+            ap (λ (x : ShelfState). Some x.files) f' ∙ ap (λ (o : Option (List ℕ)). Some (insert s.files name (unwrap_or o [] ++ take (fitting_count s.most room bytes piece) piece))) (sym here),
             record { cause = tt; refused = λ h. absurd (there h); uncounted = λ h. absurd (there h); no_fault = ap (λ (x : ShelfState). x.write_faults) f' },
           )
     ] a f

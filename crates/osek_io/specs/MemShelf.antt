@@ -12,11 +12,13 @@ use Rattle.osek_io.specs.declared.failed.Failed.{Failed}
 abbrev pub Rooms : Type 0
 Rooms = FinMap (slice_cmp nat_cmp) ℕ
 
--- the numbers of the calls that are to fail, the files that are there, the room of each place, and the counts of calls and of faults
+-- the numbers of the calls that are to fail, the files that are there, the room of each place, how many bytes a call moves at
+-- most, and the counts of calls and of faults
 pub record ShelfState : Type 0 where
   pub fails : List ℕ
   pub files : Files
   pub rooms : Rooms
+  pub most : ℕ
   pub calls : ℕ
   pub read_faults : ℕ
   pub write_faults : ℕ
@@ -40,7 +42,7 @@ after_write s name bytes = record s { calls = one_more s.calls; files = insert s
 -- what `read` answers at a place to a slice of a length, where the file holds these bytes or isn't there
 abbrev pub read_answer : ShelfState → Option (List ℕ) → ℕ → ℕ → Result ℕ Failed
 read_answer s None at len = Err (record {})
-read_answer s (Some bytes) at len = if is_listed s.fails s.calls then Err (record {}) else Ok (min len (length bytes - at))
+read_answer s (Some bytes) at len = if is_listed s.fails s.calls then Err (record {}) else Ok (min (min len (length bytes - at)) s.most)
 
 -- what `read` leaves
 abbrev pub after_read : ShelfState → Option (List ℕ) → ShelfState
@@ -61,7 +63,7 @@ after_create s name (Some room) = if is_listed s.fails s.calls then after_failed
 abbrev pub append_answer : ShelfState → Option (List ℕ) → ℕ → List ℕ → Result ℕ Failed
 append_answer s None room piece = Err (record {})
 append_answer s (Some bytes) room piece =
-    if is_listed s.fails s.calls || is_full room bytes piece then Err (record {}) else Ok (fitting_count room bytes piece)
+    if is_listed s.fails s.calls || is_full room bytes piece then Err (record {}) else Ok (fitting_count s.most room bytes piece)
 
 -- what `append` leaves
 abbrev pub after_append : ShelfState → List ℕ → Option (List ℕ) → ℕ → List ℕ → ShelfState
@@ -69,4 +71,4 @@ after_append s name None room piece = after_call s
 after_append s name (Some bytes) room piece =
     if is_listed s.fails s.calls || is_full room bytes piece
     then after_failed_write s
-    else after_write s name (bytes ++ take (fitting_count room bytes piece) piece)
+    else after_write s name (bytes ++ take (fitting_count s.most room bytes piece) piece)

@@ -14,34 +14,37 @@ use osek_values::Memory;
 use std::alloc::Global;
 use std::marker::Model;
 
-/// Copies what fits of the bytes from a place on.
-fn copy_from(bytes: &[u8], at: u64, into: &mut [u8]) -> usize
-    ensures count { result ≡ min (length into.old) (length bytes.now - at) }
+/// Copies what fits of the bytes from a place on, and no more than `most`.
+fn copy_from(bytes: &[u8], at: u64, most: usize, into: &mut [u8]) -> usize
+    ensures count { result ≡ min (min (length into.old) (length bytes.now - at)) most }
     ensures front { take result into.new ≡ take result (drop at bytes.now) }
 {
     if at >= bytes.len() as u64 {
         return 0;
     }
     let rest = &bytes[at as usize..];
-    let count = rest.len().min(into.len());
+    let count = into.len().min(rest.len()).min(most);
     into[..count].copy_from_slice(&rest[..count]);
     count
 }
 
 /// A shelf in memory. A call fails exactly where its number is listed, counted from 1 over all calls, or: a
 /// `read` or an `append`, where the name isn't there; a `create`, where the name has no place; an `append` of a
-/// piece that isn't empty, where the room is full. Else an `append` takes what fits. No call but `set` takes memory.
+/// piece that isn't empty, where the room is full. Else a `read` gives and an `append` takes what fits, and no more
+/// than was set by `limit`. No call but `set` takes memory.
 #[derive(Drop)]
 pub struct MemShelf {
     alloc: Global,
     fails: Vec<u64>,
     places: Vec<Place>,
+    most: usize,
     calls: u64,
     read_faults: u64,
     write_faults: u64,
 }
 
 impl Model for MemShelf {
+    ghost use Rattle.std.specs.Prelude.{◌<◌};
     ghost use Rattle.osek_io.specs.MemShelf.{ShelfState};
     ghost use Rattle.osek_io.specs.ShelfCode.{shelf_code};
     ghost use Rattle.osek_io.specs.Place.{files_of, rooms_of};
@@ -50,20 +53,23 @@ impl Model for MemShelf {
 
     ghost coded = { shelf_code };
 
-    ghost view = { λ s. record { fails = s.fails.items; files = files_of s.places.items; rooms = rooms_of s.places.items; calls = s.calls; read_faults = s.read_faults; write_faults = s.write_faults } };
+    ghost view = { λ s. record { fails = s.fails.items; files = files_of s.places.items; rooms = rooms_of s.places.items; most = s.most; calls = s.calls; read_faults = s.read_faults; write_faults = s.write_faults } };
+
+    ghost invariant = { λ s. 0 < s.most };
 }
 
 impl MemShelf {
     ghost use Rattle.osek_io.specs.MemShelf.{ShelfState};
 
-    /// A shelf without places. The calls of these numbers fail, counted from 1.
+    /// A shelf without places or a limit. The calls of these numbers fail, counted from 1.
     pub fn new(alloc: Global, fails: Vec<u64>) -> MemShelf
-        ensures { result ≡ record { fails = fails.items; files = empty; rooms = empty; calls = 0; read_faults = 0; write_faults = 0 } }
+        ensures { result ≡ record { fails = fails.items; files = empty; rooms = empty; most = 2 ^ 64 - 1; calls = 0; read_faults = 0; write_faults = 0 } }
     {
         MemShelf {
             alloc,
             fails,
             places: Vec::new(alloc),
+            most: usize::MAX,
             calls: 0,
             read_faults: 0,
             write_faults: 0,
@@ -79,6 +85,14 @@ impl MemShelf {
     {
         let place = Place::new(self.alloc, name, bytes, room)?;
         put_place(&mut self.places, name, place)
+    }
+
+    /// Lets each later `read` and `append` move at most so many bytes.
+    pub fn limit(&mut self, most: usize)
+        requires { 0 < most }
+        ensures { self.new ≡ record self.old { most = most } }
+    {
+        self.most = most;
     }
 
     /// The bytes at a name.
@@ -104,6 +118,7 @@ impl MemShelf {
         ensures answer { result ≡ read_answer self.old (get self.old.files name.now) at (length into.old) }
         ensures after { self.new ≡ after_read self.old (get self.old.files name.now) }
         ensures range { self.old.read_faults < 2 ^ 64 }
+        ensures some { 0 < self.old.most }
         ensures piece { IfOk result (λ n. take n into.new ≡ take n (drop at (unwrap_or (get self.old.files name.now) []))) }
     {
         let _reads = self.read_faults;
@@ -115,7 +130,7 @@ impl MemShelf {
                 self.read_faults = one_more(self.read_faults);
                 Err(Failed)
             }
-            Some(bytes) => Ok(copy_from(bytes, at, into)),
+            Some(bytes) => Ok(copy_from(bytes, at, self.most, into)),
         }
     }
 
@@ -142,6 +157,7 @@ impl MemShelf {
         ensures after { self.new ≡ after_append self.old name.now (get self.old.files name.now) (unwrap_or (get self.old.rooms name.now) 0) piece.now }
         ensures range { self.old.write_faults < 2 ^ 64 }
         ensures room { IfSome (get self.old.files name.now) (λ b. length b ≤ unwrap_or (get self.old.rooms name.now) 0) }
+        ensures some { 0 < self.old.most }
     {
         let _writes = self.write_faults;
         let listed = is_listed(&self.fails, self.calls);
@@ -154,7 +170,8 @@ impl MemShelf {
             self.write_faults = one_more(self.write_faults);
             return Err(Failed);
         }
-        let count = piece.len().min(room - len);
+        let fits = piece.len().min(room - len);
+        let count = fits.min(self.most);
         add_to_file(&mut self.places, name, &piece[..count]);
         Ok(count)
     }

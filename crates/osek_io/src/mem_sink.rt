@@ -1,5 +1,5 @@
 //! A sink in memory, whose failing calls are listed.
-ghost use Rattle.std.specs.Prelude.{◌≡◌, ◌≤◌, [], length, take, Some, IfOk, OnErr};
+ghost use Rattle.std.specs.Prelude.{◌≡◌, ◌≤◌, ◌<◌, ◌^◌, ◌-◌, [], length, take, Some, IfOk, OnErr};
 ghost use Rattle.osek_io.specs.Counts.{Rose};
 ghost use Rattle.osek_io.specs.Pieces.{grown};
 
@@ -11,41 +11,51 @@ use std::alloc::Global;
 use std::marker::Model;
 
 /// A sink in memory. A call fails exactly where its number is listed, counted from 1, or where a piece
-/// that isn't empty finds the room full; else it takes what fits.
+/// that isn't empty finds the room full; else it takes what fits, and no more than was set by `limit`.
 #[derive(Drop)]
 pub struct MemSink {
     fails: Vec<u64>,
     bytes: Vec<u8>,
     room: usize,
+    most: usize,
     calls: u64,
     faults: u64,
 }
 
 impl Model for MemSink {
-    ghost use Rattle.std.specs.Prelude.{◌≤◌, vec_capacity, vec_len};
+    ghost use Rattle.std.specs.Prelude.{◌≤◌, ◌<◌, vec_capacity, vec_len};
     ghost use Rattle.osek_io.specs.MemSink.{SinkState};
 
     ghost Value = { SinkState };
 
-    ghost view = { λ s. record { fails = s.fails.items; bytes = s.bytes.items; room = s.room; calls = s.calls; faults = s.faults } };
+    ghost view = { λ s. record { fails = s.fails.items; bytes = s.bytes.items; room = s.room; most = s.most; calls = s.calls; faults = s.faults } };
 
-    ghost invariant = { λ s. (vec_len s.bytes ≤ s.room) × (s.room ≤ vec_capacity s.bytes) };
+    ghost invariant = { λ s. (vec_len s.bytes ≤ s.room) × (s.room ≤ vec_capacity s.bytes) × (0 < s.most) };
 }
 
 impl MemSink {
     ghost use Rattle.osek_io.specs.MemSink.{SinkState};
 
-    /// An empty sink with room for so many bytes. The calls of these numbers fail.
+    /// An empty sink with room for so many bytes, without a limit. The calls of these numbers fail.
     pub fn new(alloc: Global, fails: Vec<u64>, room: usize) -> Result<MemSink, Memory>
-        ensures { IfOk result (λ s. s ≡ record { fails = fails.items; bytes = []; room = room; calls = 0; faults = 0 }) }
+        ensures { IfOk result (λ s. s ≡ record { fails = fails.items; bytes = []; room = room; most = 2 ^ 64 - 1; calls = 0; faults = 0 }) }
     {
         Ok(MemSink {
             fails,
             bytes: Vec::with_capacity(alloc, room)?,
             room,
+            most: usize::MAX,
             calls: 0,
             faults: 0,
         })
+    }
+
+    /// Lets each later `put` take at most so many bytes.
+    pub fn limit(&mut self, most: usize)
+        requires { 0 < most }
+        ensures { self.new ≡ record self.old { most = most } }
+    {
+        self.most = most;
     }
 
     /// What was written.
@@ -89,7 +99,7 @@ impl Sink for MemSink {
             self.faults = one_more(self.faults);
             return Err(Failed);
         }
-        let count = piece.len().min(self.room - self.bytes.len());
+        let count = piece.len().min(self.room - self.bytes.len()).min(self.most);
         self.bytes.extend_from_slice(&piece[..count]).unwrap();
         Ok(count)
     }

@@ -70,10 +70,12 @@ impl StatementList {
     ghost use Rattle.task_code.specs.Statements.{closing_line};
     ghost use Rattle.task_code.specs.StatementLists.{list_of};
 
-    /// The statements of a `Vec` and the line of the closing brace. It takes no memory.
-    pub fn from_vec(statements: Vec<Statement>, close: u32) -> Self
+    /// The statements of a `Vec` and the line of the closing brace. It takes no memory, and keeps no room for more: most
+    /// lists are short.
+    pub fn from_vec(mut statements: Vec<Statement>, close: u32) -> Self
         ensures { result ≡ list_of statements.items close }
     {
+        statements.shrink_to_fit();
         StatementList { statements, close }
     }
 

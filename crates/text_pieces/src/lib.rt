@@ -3,4 +3,6 @@
 
 mod pieces;
 
-pub use pieces::{MAX_DECIMAL, MAX_HEXADECIMAL, put, put_decimal, put_hexadecimal, put_name};
+pub use pieces::{
+    MAX_DECIMAL, MAX_HEXADECIMAL, put, put_byte, put_decimal, put_hexadecimal, put_name,
+};

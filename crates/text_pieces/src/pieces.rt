@@ -1,6 +1,6 @@
 //! Pieces of text. Each call puts its piece at a place of a buffer and answers the place behind it; what stood before
 //! the place stays, and what stands behind the piece has no meaning. No call takes memory.
-ghost use Rattle.std.specs.Prelude.{◌≡◌, ◌+◌, ◌<◌, ◌≤◌, false, ◌++◌, length, take, decimal};
+ghost use Rattle.std.specs.Prelude.{◌≡◌, ◌+◌, ◌<◌, ◌≤◌, false, [], ◌∷◌, ◌++◌, length, take, decimal};
 ghost use Rattle.std.specs.Fmt.{digit_glyph};
 ghost use Rattle.osek_standard.specs.TraceText.{hexadecimal};
 
@@ -21,6 +21,16 @@ pub fn put(buf: &mut [u8], at: usize, bytes: &[u8]) -> usize
     let end = at + bytes.len();
     buf[at..end].copy_from_slice(bytes);
     end
+}
+
+/// Puts one byte.
+pub fn put_byte(buf: &mut [u8], at: usize, byte: u8) -> usize
+    requires room { at < length buf.old }
+    ensures text { take result buf.new ≡ take at buf.old ++ byte ∷ [] }
+    ensures end { result ≡ at + 1 }
+{
+    buf[at] = byte;
+    at + 1
 }
 
 /// Puts a name.
@@ -59,6 +69,9 @@ pub fn put_hexadecimal(buf: &mut [u8], at: usize, n: u64) -> usize
     ensures text { take result buf.new ≡ take at buf.old ++ hexadecimal n }
     ensures most { result ≤ at + MAX_HEXADECIMAL }
 {
+    if n < 16 {
+        return put_byte(buf, at, hexadecimal_digit(n));
+    }
     let mut digits = [0; MAX_HEXADECIMAL];
     let mut first = MAX_HEXADECIMAL - 1;
     let mut left = n;

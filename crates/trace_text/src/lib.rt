@@ -14,3 +14,4 @@ pub use event_words::read_event;
 pub use fault::{EventFault, FaultyLine};
 pub use feed::{FEED_ROOM, Feed, FeedStep};
 pub use trace_line::write_line;
+pub use trace_notes::status_name;

@@ -12,7 +12,7 @@ use crate::trace_notes::{letter, put_notes};
 use osek_standard::{Activity, App, Processor, State, Task, TaskState};
 use osek_values::limits::{LINE_MAX, MAX_NAME, MAX_RESOURCES, MAX_TASKS};
 use osek_values::{Notes, ResNo, SourceNo, TaskNo};
-use text_pieces::{MAX_DECIMAL, MAX_HEXADECIMAL, put, put_decimal, put_hexadecimal, put_name};
+use text_pieces::{MAX_DECIMAL, MAX_HEXADECIMAL, put_byte, put_decimal, put_hexadecimal, put_name};
 
 /// The most bytes of who has the processor: a mark and a name.
 const MAX_WHO: usize = 1 + MAX_NAME;
@@ -31,10 +31,10 @@ fn put_source(buf: &mut [u8], at: usize, app: &App, source: SourceNo) -> usize
 {
     let counters = app.counters.len();
     if source.index() < counters {
-        let at = put(buf, at, b"%");
+        let at = put_byte(buf, at, b'%');
         put_name(buf, at, &app.counters.at(source.index()).name)
     } else {
-        let at = put(buf, at, b"@");
+        let at = put_byte(buf, at, b'@');
         put_name(buf, at, &app.isrs.at(source.index() - counters).name)
     }
 }
@@ -46,8 +46,8 @@ fn put_who(buf: &mut [u8], at: usize, app: &App, state: &State) -> usize
     ensures most { result ≤ at + MAX_WHO }
 {
     match state.processor {
-        Processor::Halted => put(buf, at, b"#"),
-        Processor::Idle => put(buf, at, b"-"),
+        Processor::Halted => put_byte(buf, at, b'#'),
+        Processor::Idle => put_byte(buf, at, b'-'),
         Processor::Running(task) => put_name(buf, at, &app.task(task).name),
         Processor::Interrupted { source, .. } => put_source(buf, at, app, source),
     }
@@ -61,7 +61,7 @@ fn put_events(buf: &mut [u8], at: usize, task: &Task, state: &TaskState) -> usiz
     if task.own.is_empty() || state.is_suspended() {
         return at;
     }
-    let at = put(buf, at, b":");
+    let at = put_byte(buf, at, b':');
     put_hexadecimal(buf, at, state.events.0)
 }
 
@@ -71,7 +71,7 @@ fn put_resource(buf: &mut [u8], at: usize, app: &App, resource: ResNo) -> usize
     ensures text { take result buf.new ≡ take at buf.old ++ resource_text app.now resource }
     ensures most { result ≤ at + MAX_RESOURCE }
 {
-    let at = put(buf, at, b"+");
+    let at = put_byte(buf, at, b'+');
     put_name(buf, at, &app.resource(resource).name)
 }
 
@@ -110,10 +110,10 @@ fn put_task(buf: &mut [u8], at: usize, app: &App, state: &State, task: TaskNo) -
     ensures most { result ≤ at + MAX_TASK }
 {
     let declared = app.task(task);
-    let at = put(buf, at, b" ");
+    let at = put_byte(buf, at, b' ');
     let at = put_name(buf, at, &declared.name);
-    let at = put(buf, at, b"=");
-    let at = put(buf, at, letter(state.letter(task)));
+    let at = put_byte(buf, at, b'=');
+    let at = put_byte(buf, at, letter(state.letter(task)));
     let at = put_events(buf, at, declared, state.task(task));
     put_held(buf, at, app, state.task(task))
 }
@@ -140,9 +140,9 @@ pub fn write_line(app: &App, n: u64, state: &State, notes: &Notes, buf: &mut [u8
     ensures most { result ≤ LINE_MAX }
 {
     let at = put_decimal(buf, 0, n);
-    let at = put(buf, at, b" ");
+    let at = put_byte(buf, at, b' ');
     let at = put_who(buf, at, app, state);
     let at = put_tasks(buf, at, app, state);
     let at = put_notes(buf, at, app, notes);
-    put(buf, at, b"\n")
+    put_byte(buf, at, b'\n')
 }

@@ -1,11 +1,11 @@
 //! What a step noted, in a line of the trace.
-ghost use Rattle.std.specs.Prelude.{◌≡◌, ◌+◌, ◌≤◌, ◌++◌, length, take};
+ghost use Rattle.std.specs.Prelude.{◌≡◌, ◌+◌, ◌≤◌, Some, [], ◌∷◌, ◌++◌, length, take};
 ghost use Rattle.osek_standard.specs.TraceText.{status_name as name_of_status, letter as letter_text, has_hook as is_hook_in, hook_text, status_text, value_text, value_note, notes_text};
 
 use osek_standard::App;
 use osek_values::limits::MAX_NAME;
 use osek_values::{HookSet, Letter, ModeNo, Notes, Status, TaskNo, Value};
-use text_pieces::{put, put_decimal, put_hexadecimal, put_name};
+use text_pieces::{put, put_byte, put_decimal, put_hexadecimal, put_name};
 
 /// The most bytes of a status: ` !` and E_OS_CALLEVEL or E_OS_RESOURCE.
 const MAX_STATUS: usize = 15;
@@ -16,33 +16,41 @@ const MAX_HOOK: usize = 10;
 /// The most bytes of all notes of a step.
 pub(crate) const MAX_NOTES: usize = 131;
 
-fn status_name(status: Status) -> &'static [u8]
-    ensures name { result.now ≡ name_of_status status }
-    ensures short { length result.now ≤ 13 }
+// The mark and the name of a status.
+fn status_note(status: Status) -> &'static [u8]
+    ensures text { result.now ≡ status_text (Some status) }
+    ensures short { length result.now ≤ MAX_STATUS }
 {
     match status {
-        Status::Ok => b"E_OK",
-        Status::Access => b"E_OS_ACCESS",
-        Status::CallLevel => b"E_OS_CALLEVEL",
-        Status::Id => b"E_OS_ID",
-        Status::Limit => b"E_OS_LIMIT",
-        Status::NoFunc => b"E_OS_NOFUNC",
-        Status::Resource => b"E_OS_RESOURCE",
-        Status::State => b"E_OS_STATE",
-        Status::Value => b"E_OS_VALUE",
+        Status::Ok => b" !E_OK",
+        Status::Access => b" !E_OS_ACCESS",
+        Status::CallLevel => b" !E_OS_CALLEVEL",
+        Status::Id => b" !E_OS_ID",
+        Status::Limit => b" !E_OS_LIMIT",
+        Status::NoFunc => b" !E_OS_NOFUNC",
+        Status::Resource => b" !E_OS_RESOURCE",
+        Status::State => b" !E_OS_STATE",
+        Status::Value => b" !E_OS_VALUE",
     }
 }
 
+/// The name of a status, as it is printed.
+pub fn status_name(status: Status) -> &'static [u8]
+    ensures name { result.now ≡ name_of_status status }
+    ensures short { length result.now ≤ 13 }
+{
+    &status_note(status)[2..]
+}
+
 /// The letter of a task's state, as it is printed.
-pub(crate) fn letter(letter: Letter) -> &'static [u8]
-    ensures text { result.now ≡ letter_text letter }
-    ensures one { length result.now ≡ 1 }
+pub(crate) fn letter(letter: Letter) -> u8
+    ensures { result ∷ [] ≡ letter_text letter }
 {
     match letter {
-        Letter::S => b"S",
-        Letter::Y => b"Y",
-        Letter::R => b"R",
-        Letter::W => b"W",
+        Letter::S => b'S',
+        Letter::Y => b'Y',
+        Letter::R => b'R',
+        Letter::W => b'W',
     }
 }
 
@@ -53,10 +61,7 @@ fn put_status(buf: &mut [u8], at: usize, status: Option<Status>) -> usize
 {
     match status {
         None => at,
-        Some(status) => {
-            let at = put(buf, at, b" !");
-            put(buf, at, status_name(status))
-        }
+        Some(status) => put(buf, at, status_note(status)),
     }
 }
 
@@ -109,9 +114,9 @@ fn put_value(buf: &mut [u8], at: usize, app: &App, value: Value) -> usize
     match value {
         Value::Number(ticks) => put_decimal(buf, at, ticks),
         Value::Mask(mask) => put_hexadecimal(buf, at, mask.0),
-        Value::Task(None) => put(buf, at, b"-"),
+        Value::Task(None) => put_byte(buf, at, b'-'),
         Value::Task(Some(task)) => put_task_name(buf, at, app, task),
-        Value::State(state) => put(buf, at, letter(state)),
+        Value::State(state) => put_byte(buf, at, letter(state)),
         Value::Mode(mode) => put_mode(buf, at, app, mode),
     }
 }

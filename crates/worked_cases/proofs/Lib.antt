@@ -4,3 +4,4 @@ pub mod WorkedForms
 pub mod WorkedLaws
 pub mod WorkedLeast
 pub mod WorkedStates
+pub mod WorkedStatuses

@@ -8,10 +8,12 @@ ghost use Rattle.osek_standard.specs.Kernel.{run};
 ghost use Rattle.osek_standard.specs.Validity.{IsValid};
 ghost use Rattle.worked_cases.specs.WorkedApps.{activation, app_of, times};
 ghost use Rattle.image_model.specs.declared.site.Form.TheVariants as form;
+ghost use Rattle.image_model.specs.declared.site.Known.TheVariants as known;
+ghost use Rattle.osek_values.specs.declared.status.Status.TheVariants as status;
 ghost use Rattle.abstract_state.specs.Components.{component_count};
 ghost use Rattle.abstract_state.specs.Tables.{In, IsProper, Least, sets_of, value_count};
 ghost use Rattle.abstract_state.specs.Written.{IsWritten};
-ghost use Rattle.abstract_state.specs.Forms.{FormOf, Edge};
+ghost use Rattle.abstract_state.specs.Forms.{FormOf, KnownOf, Edge};
 ghost use Rattle.worked_cases.specs.WorkedTables.{activation_table, IsEdgeOfActivation};
 
 /// A task that activates a higher one: the table has four entries with eight values, and each state of the run to the
@@ -39,6 +41,16 @@ pub fn the_forms_of_activation()
     ensures past_the_end { (m : IsValid activation) → FormOf (app_of activation m) (sets_of activation_table) 2 form.Never }
     ensures returns { (m : IsValid activation) → FormOf (app_of activation m) (sets_of activation_table) 3 (form.Direct (Some (task_no 0))) }
     ensures past_the_second_end { (m : IsValid activation) → FormOf (app_of activation m) (sets_of activation_table) 4 form.Never }
+{}
+
+/// What it says of the statuses: E_OK is noted where T1 activates T2, none at the two ends, and nothing is known where no
+/// state stands.
+pub fn the_known_statuses_of_activation()
+    ensures activates { (m : IsValid activation) → KnownOf (app_of activation m) (sets_of activation_table) 0 (known.Always (Some status.Ok)) }
+    ensures ends { (m : IsValid activation) → KnownOf (app_of activation m) (sets_of activation_table) 1 (known.Always None) }
+    ensures past_the_end { (m : IsValid activation) → KnownOf (app_of activation m) (sets_of activation_table) 2 known.Any }
+    ensures returns { (m : IsValid activation) → KnownOf (app_of activation m) (sets_of activation_table) 3 (known.Always None) }
+    ensures past_the_second_end { (m : IsValid activation) → KnownOf (app_of activation m) (sets_of activation_table) 4 known.Any }
 {}
 
 /// Its edges: from T1's first block to T2's, back to T1's second, from there to idle, and no other.

@@ -1,8 +1,7 @@
-use Rattle.std.proofs.Common.{◌≡◌, List, true, map, drop, refl, ap, sym, ◌∙◌}
+use Rattle.std.proofs.Common.{map, drop, ap, ◌∙◌}
 use Rattle.std.proofs.lemmas.Result.{IfOk-weaker}
 use Rattle.std.specs.String.{string_bytes}
-use Rattle.clap.specs.Words.{App, app_of, is_simple, subcommand_of}
-use Rattle.command_words.specs.Command.{the_app}
+use Rattle.clap.specs.Words.{App, is_simple, subcommand_of}
 use Rattle.command_words.proofs.FormRows.{form_finds}
 use Rattle.command_words.proofs.command.parse_words.Goals as goal
 

@@ -1,7 +1,6 @@
-use Rattle.std.proofs.Common.{◌≡◌, ℕ, Bool, true, false, ◌&&◌, List, length, sym, ap, ◌∙◌}
-use Rattle.std.specs.List.{list_all}
+use Rattle.std.proofs.Common.{ℕ, Bool, ◌&&◌, List, length, sym, ap, ◌∙◌}
 use Rattle.std.specs.String.{string_bytes}
-use Rattle.command_words.specs.Forms.{is_plain, is_verb}
+use Rattle.command_words.specs.Forms.{is_verb}
 use Rattle.command_words.proofs.FormParts.{behind, form_parts, of_no_form}
 use Rattle.command_words.proofs.forms.has_form.Goals as goal
 

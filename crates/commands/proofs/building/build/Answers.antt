@@ -3,9 +3,10 @@ use Rattle.std.proofs.Common.{ℕ, ◌∙◌, subst, inl}
 use Rattle.image_codec.specs.Spelling.{spelling}
 use Rattle.osek_io.specs.Counts.{Rose}
 use Rattle.commands.specs.Building.{stops, fails, stores, Stores, StoresFront}
-use Rattle.commands.specs.Inputs.{no_memory}
-use Rattle.commands.specs.Outside.{beside, told}
-use Rattle.commands.proofs.Compiles.{over_app, stored_all, stored_part}
+use Rattle.command_runs.specs.Inputs.{no_memory}
+use Rattle.command_runs.specs.Outside.{beside, told}
+use Rattle.command_runs.proofs.StoredFiles.{stored_all, stored_part}
+use Rattle.commands.proofs.Compiles.{over_app}
 use Rattle.commands.proofs.building.build.Goals as goal
 
 pub returns-in-Ok-store : goal.returns-in-Ok-store

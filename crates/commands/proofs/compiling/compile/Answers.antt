@@ -2,10 +2,10 @@
 use Rattle.std.proofs.Common.{ℕ, List, inl, inr}
 use Rattle.front_end.specs.Texts.{GivesApp}
 use Rattle.commands.specs.Compiling.{CodeStops}
-use Rattle.commands.specs.Inputs.{OfFile}
-use Rattle.commands.specs.Outside.{Told, told}
+use Rattle.command_runs.specs.Inputs.{OfFile}
+use Rattle.command_runs.specs.Outside.{Told, told}
 use Rattle.commands.proofs.Compiles.{of_system, of_app}
-use Rattle.commands.proofs.FaultlessReads.{earlier, then_reads, then_same}
+use Rattle.command_runs.proofs.FaultlessReads.{earlier, then_reads, then_same}
 use Rattle.commands.proofs.compiling.compile.Goals as goal
 
 pub returns-in-Ok-load_code-clause-app : goal.returns-in-Ok-load_code-clause-app

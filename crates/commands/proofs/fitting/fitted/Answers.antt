@@ -1,4 +1,4 @@
--- the table is inductive, so the image is the kernel; its forms are those that the table dictates
+-- the table is inductive, so the image is the kernel; its forms and statuses are those that the table dictates
 use Rattle.std.proofs.Common.{refl}
 use Rattle.abstract_state.specs.Tables.{sets_of}
 use Rattle.commands.proofs.SmallImages.{small}
@@ -11,5 +11,5 @@ returns-clause-fitted c = let i = c.in_ok-image.image in record {
     spelled = record { within = small i; fits = c.read_numbers.ensures; spelled = refl };
     runs = c.in_ok-image.ensures.kernel c.requires.table.least.inductive;
   };
-  forms = record { table = sets_of c.args.table.now; least = c.requires.table.least; forms = c.in_ok-image.ensures.forms };
+  forms = record { table = sets_of c.args.table.now; least = c.requires.table.least; forms = c.in_ok-image.ensures.forms; statuses = c.in_ok-image.ensures.statuses; version = c.in_ok-image.ensures.version };
 }

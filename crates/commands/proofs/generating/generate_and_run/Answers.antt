@@ -2,7 +2,7 @@ use Rattle.std.proofs.Common.{ap, Some, refl}
 use Rattle.osek_io.specs.Files.{Files}
 use Rattle.commands.specs.GeneratedFiles.{generated_files}
 use Rattle.commands.specs.Generating.{no_memory}
-use Rattle.commands.specs.Outside.{beside}
+use Rattle.command_runs.specs.Outside.{beside}
 use Rattle.commands.proofs.GeneratedRuns.{own_answers, own_tells}
 use Rattle.commands.proofs.generating.generate_and_run.Goals as goal
 

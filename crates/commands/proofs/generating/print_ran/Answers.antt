@@ -2,7 +2,7 @@ use Rattle.std.proofs.Common.{◌≡◌, ℕ, List, Option, inr, refl, ap, subst
 use Rattle.flow_text.specs.declared.gen_line.TextSize.{TextSize}
 use Rattle.flow_text.specs.GeneratedLine.{gen_line, text_size}
 use Rattle.osek_io.specs.Stored.{WritesPart}
-use Rattle.commands.proofs.Fronts.{front_of_part}
+use Rattle.command_runs.proofs.Fronts.{front_of_part}
 use Rattle.commands.proofs.generating.print_ran.Goals as goal
 
 pub returns-in-Err-Write : goal.returns-in-Err-Write

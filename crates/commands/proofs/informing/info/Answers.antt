@@ -4,9 +4,10 @@ use Rattle.std.specs.Prelude.{◌⊎◌}
 use Rattle.std.specs.declared.result.Result.{Result}
 use Rattle.image_model.specs.declared.image.Image.{Image}
 use Rattle.flow_text.specs.Texts.{info_text}
-use Rattle.commands.specs.{Informing.{InfoAnswers, stops, tells}, Inputs.{OfFile, no_memory}, Outside.{Outside, outside}, Printing.{PrintsWhole}, Replaying.{SpellImage}}
-use Rattle.commands.specs.declared.stop.Stop.{Stop}
-use Rattle.commands.proofs.InputFiles.{of_map}
+use Rattle.command_runs.specs.{Inputs.{OfFile, no_memory}, Outside.{Outside, outside}, Replaying.{SpellImage}}
+use Rattle.commands.specs.{Informing.{InfoAnswers, stops, tells}, Printing.{PrintsWhole}}
+use Rattle.command_runs.specs.declared.stop.Stop.{Stop}
+use Rattle.command_runs.proofs.InputFiles.{of_map}
 use Rattle.commands.proofs.informing.info.Goals as goal
 
 -- what was printed of an image that was loaded

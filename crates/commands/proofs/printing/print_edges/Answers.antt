@@ -2,7 +2,7 @@
 use Rattle.std.proofs.Common.{◌<◌, length, refl, arith}
 use Rattle.flow_text.specs.FlowLines.{edge_line}
 use Rattle.commands.proofs.Printed.{front_of_lines}
-use Rattle.commands.proofs.Results.{on_err}
+use Rattle.command_runs.proofs.Results.{on_err}
 use Rattle.commands.proofs.printing.print_edges.Goals as goal
 
 pub returns-in_err-print_edge-clause-front : goal.returns-in_err-print_edge-clause-front

@@ -3,7 +3,7 @@ use Rattle.std.proofs.Common.{ℕ, List, ap, ◌∙◌}
 use Rattle.osek_io.specs.Pieces.{grown}
 use Rattle.flow_text.specs.FlowLines.{info_line}
 use Rattle.commands.proofs.Printed.{front_of_buffer}
-use Rattle.commands.proofs.Results.{on_err}
+use Rattle.command_runs.proofs.Results.{on_err}
 use Rattle.commands.proofs.printing.print_info.Goals as goal
 
 pub returns-in_err-put_all-clause-front : goal.returns-in_err-put_all-clause-front

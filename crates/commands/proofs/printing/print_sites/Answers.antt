@@ -4,16 +4,16 @@ use Rattle.std.specs.List.{flat_map, enumerate_from}
 use Rattle.std.specs.declared.option.Option.{Option}
 use Rattle.std.proofs.lemmas.List.{take_all}
 use Rattle.std.proofs.lemmas.List.FromFn.{get_or-enumerate_from, length-enumerate_from}
-use Rattle.image_model.specs.declared.{image.Image.{Image}, site.Site.{Site}}
+use Rattle.image_model.specs.declared.{image.{Image.{Image}, Version.{Version}}, site.Site.{Site}}
 use Rattle.image_model.specs.ImageStep.{site_at}
 use Rattle.osek_io.specs.Pieces.{grown}
 use Rattle.flow_text.specs.Texts.{site_text}
 use Rattle.commands.proofs.Printed.{next_written, front_of_lines}
-use Rattle.commands.proofs.Results.{on_err}
+use Rattle.command_runs.proofs.Results.{on_err}
 use Rattle.commands.proofs.printing.print_sites.Goals as goal
 
-abbrev line_of : Image → ℕ × Option Site → List ℕ
-line_of i d = site_text i.app d.0 d.1
+abbrev line_of : Image → Version → ℕ × Option Site → List ℕ
+line_of i v d = site_text i.app v d.0 d.1
 
 abbrev sites_of : Image → List (ℕ × Option Site)
 sites_of i = enumerate_from 0 i.sites
@@ -21,17 +21,17 @@ sites_of i = enumerate_from 0 i.sites
 counted : (i : Image) → length (sites_of i) ≡ length i.app.blocks
 counted i = length-enumerate_from 0 i.sites ∙ i.valid.count
 
-line_at : (i : Image) (b : ℕ) → b < length i.app.blocks → site_text i.app b (site_at i b) ≡ line_of i (get_or (sites_of i) b (0, None))
-line_at i b lt =
+line_at : (i : Image) (v : Version) (b : ℕ) → b < length i.app.blocks → site_text i.app v b (site_at i b) ≡ line_of i v (get_or (sites_of i) b (0, None))
+line_at i v b lt =
     let number : b ≡ 0 + b = omega arith in
-    ap (λ (n : ℕ). site_text i.app n (site_at i b)) number ∙ ap (line_of i) (sym (get_or-enumerate_from 0 i.sites b (0, None) (omega (arith, lt, i.valid.count))))
+    ap (λ (n : ℕ). site_text i.app v n (site_at i b)) number ∙ ap (line_of i v) (sym (get_or-enumerate_from 0 i.sites b (0, None) (omega (arith, lt, i.valid.count))))
 
 pub returns-in_err-print_site-clause-front : goal.returns-in_err-print_site-clause-front
 returns-in_err-print_site-clause-front g c =
     let i = c.args.image.now in
     let b = c.loop-block.block in
     let lt : b < length i.app.blocks = omega (arith, c.loop-block-test.true, c.loop-block.auto.block-end, c.len-block-end.ensures) in
-    on_err _ _ (front_of_lines (line_of i) (sites_of i) _ _ _ b (0, None) _ (omega (arith, lt, counted i)) (line_at i b lt) c.loop-block.invariant.written c.in_err-print_site.ensures.front)
+    on_err _ _ (front_of_lines (line_of i c.args.version) (sites_of i) _ _ _ b (0, None) _ (omega (arith, lt, counted i)) (line_at i c.args.version b lt) c.loop-block.invariant.written c.in_err-print_site.ensures.front)
 
 pub loop-block-preserved : goal.loop-block-preserved
 loop-block-preserved g c =
@@ -40,7 +40,7 @@ loop-block-preserved g c =
     let lt : b < length i.app.blocks = omega (arith, c.loop-block-test.true, c.loop-block.auto.block-end, c.len-block-end.ensures) in
     record {
       later = omega (arith, c.loop-block.invariant.later, c.in_ok-print_site.ensures.never_falls);
-      written = next_written (line_of i) (sites_of i) _ _ _ b (b + 1) (0, None) _ (omega (arith, lt, counted i)) (omega arith) (line_at i b lt) c.loop-block.invariant.written c.in_ok-print_site.ensures.ok;
+      written = next_written (line_of i c.args.version) (sites_of i) _ _ _ b (b + 1) (0, None) _ (omega (arith, lt, counted i)) (omega arith) (line_at i c.args.version b lt) c.loop-block.invariant.written c.in_ok-print_site.ensures.ok;
       room = c.in_ok-print_site.ensures.room ∙ c.loop-block.invariant.room;
     }
 
@@ -48,4 +48,4 @@ pub returns-clause-ok : goal.returns-clause-ok
 returns-clause-ok g c =
     let i = c.args.image.now in
     let all : length (sites_of i) ≤ c.loop-block.block = omega (arith, c.loop-block-test.false, c.len-block-end.ensures, counted i) in
-    c.loop-block.invariant.written ∙ ap (λ (l : List (ℕ × Option Site)). grown (g.O.Sink.written c.args.out.now) (flat_map (line_of i) l)) (take_all c.loop-block.block (sites_of i) all)
+    c.loop-block.invariant.written ∙ ap (λ (l : List (ℕ × Option Site)). grown (g.O.Sink.written c.args.out.now) (flat_map (line_of i c.args.version) l)) (take_all c.loop-block.block (sites_of i) all)

@@ -4,8 +4,9 @@ use Rattle.std.specs.Prelude.{◌⊎◌}
 use Rattle.std.specs.declared.result.Result.{Result}
 use Rattle.osek_standard.specs.declared.app.App.{App}
 use Rattle.flow_text.specs.Texts.{show_text}
-use Rattle.commands.specs.{Compiling.{OfApp, CompileStops}, Inputs.{no_memory}, Outside.{Told, Outside, beside, outside}, Printing.{PrintsWhole, PrintAnswers}, Showing.{IsDictated, TellsLeast, ShowAnswers, stops, tells}}
-use Rattle.commands.specs.declared.{showing.Dictated.{Dictated}, stop.Stop.{Stop}}
+use Rattle.command_runs.specs.{Inputs.{no_memory}, Outside.{Told, Outside, beside, outside}, declared.stop.Stop.{Stop}}
+use Rattle.commands.specs.{Compiling.{OfApp, CompileStops}, Printing.{PrintsWhole, PrintAnswers}, Showing.{IsDictated, TellsLeast, ShowAnswers, stops, tells}}
+use Rattle.commands.specs.declared.showing.Dictated.{Dictated}
 use Rattle.commands.proofs.Compiles.{over_app}
 use Rattle.commands.proofs.ShownEdges.{begin_at_points, end_at_points}
 use Rattle.commands.proofs.showing.show.Goals as goal

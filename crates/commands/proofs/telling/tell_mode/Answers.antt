@@ -1,8 +1,8 @@
 -- the mode's name as the words have it
 use Rattle.std.proofs.Common.{◌≡◌, List, ℕ, ◌++◌, ◌∙◌, subst, codes}
 use Rattle.osek_io.specs.Pieces.{grown}
-use Rattle.commands.specs.Telling.{WritesFront}
-use Rattle.commands.proofs.Results.{on_err}
+use Rattle.command_runs.specs.Telling.{WritesFront}
+use Rattle.command_runs.proofs.Results.{on_err}
 use Rattle.commands.proofs.telling.tell_mode.Goals as goal
 
 pub returns-in_err-put_two-clause-front : goal.returns-in_err-put_two-clause-front

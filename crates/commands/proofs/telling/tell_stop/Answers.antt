@@ -32,10 +32,10 @@ pub returns-in-Unread-clause-front : goal.returns-in-Unread-clause-front
 returns-in-Unread-clause-front g c = rw c.in-Unread.is c.tell_of.ensures.front
 
 pub returns-in-Unstored-clause-ok : goal.returns-in-Unstored-clause-ok
-returns-in-Unstored-clause-ok g c = rw c.in-Unstored.is c.tell_of-in-Unstored.ensures.ok
+returns-in-Unstored-clause-ok g c = rw c.in-Unstored.is c.tell_output.ensures.ok
 
 pub returns-in-Unstored-clause-front : goal.returns-in-Unstored-clause-front
-returns-in-Unstored-clause-front g c = rw c.in-Unstored.is c.tell_of-in-Unstored.ensures.front
+returns-in-Unstored-clause-front g c = rw c.in-Unstored.is c.tell_output.ensures.front
 
 pub returns-in-Unprinted-clause-ok : goal.returns-in-Unprinted-clause-ok
 returns-in-Unprinted-clause-ok g c = rw c.in-Unprinted.is c.put_two-in-Unprinted.ensures.ok
@@ -54,3 +54,9 @@ returns-in-NoMode-clause-ok g c = rw c.in-NoMode.is c.tell_mode.ensures.ok
 
 pub returns-in-NoMode-clause-front : goal.returns-in-NoMode-clause-front
 returns-in-NoMode-clause-front g c = rw c.in-NoMode.is c.tell_mode.ensures.front
+
+pub returns-in-AlreadyNew-clause-ok : goal.returns-in-AlreadyNew-clause-ok
+returns-in-AlreadyNew-clause-ok g c = rw c.in-AlreadyNew.is c.tell_of-in-AlreadyNew.ensures.ok
+
+pub returns-in-AlreadyNew-clause-front : goal.returns-in-AlreadyNew-clause-front
+returns-in-AlreadyNew-clause-front g c = rw c.in-AlreadyNew.is c.tell_of-in-AlreadyNew.ensures.front

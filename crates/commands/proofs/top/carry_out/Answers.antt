@@ -1,7 +1,7 @@
 -- the answer of the command that it is
 use Rattle.std.proofs.Common.{refl, sym, subst, Some}
 use Rattle.commands.specs.Answering.{CommandAnswers}
-use Rattle.commands.specs.Outside.{outside}
+use Rattle.command_runs.specs.Outside.{outside}
 use Rattle.commands.specs.Seen.{seen}
 use Rattle.commands.specs.declared.words.Command.{Command}
 use Rattle.commands.proofs.top.carry_out.Goals as goal
@@ -26,3 +26,10 @@ returns-in-Trace g c =
     (outside g.F.Shelf g.O.Sink c.args.shelf.now c.args.out.now)
     (outside g.F.Shelf g.O.Sink c.trace.new.shelf c.trace.new.out)
     (Some (seen k)) c.trace.result) (sym c.in-Trace.is) (c.trace.ensures.answer, (c.trace.ensures.same.files, c.trace.ensures.same.writes))
+
+pub returns-in-Upgrade : goal.returns-in-Upgrade
+returns-in-Upgrade g c =
+    subst (λ (k : Command). CommandAnswers
+    (outside g.F.Shelf g.O.Sink c.args.shelf.now c.args.out.now)
+    (outside g.F.Shelf g.O.Sink c.upgrade.new.shelf c.args.out.now)
+    (Some (seen k)) c.upgrade.result) (sym c.in-Upgrade.is) (c.upgrade.ensures.answer (g.O.Sink.faults c.args.out.now) (g.O.Sink.written c.args.out.now), refl, refl)

@@ -4,9 +4,9 @@ use Rattle.std.specs.String.{string_bytes}
 use Rattle.std.specs.declared.option.Option.{Option}
 use Rattle.commands.specs.Answering.{CommandAnswers, Does, Tells}
 use Rattle.commands.specs.Due.{IsDue}
-use Rattle.commands.specs.Outside.{outside}
+use Rattle.command_runs.specs.Outside.{outside}
 use Rattle.commands.specs.Words.{Command, command_of}
-use Rattle.commands.specs.declared.stop.Stop.TheVariants as stop
+use Rattle.command_runs.specs.declared.stop.Stop.TheVariants as stop
 use Rattle.commands.proofs.Exact.{exact_of}
 use Rattle.commands.proofs.WantOfMemory.{memory_answers}
 use Rattle.commands.proofs.top.osekfit.Goals as goal

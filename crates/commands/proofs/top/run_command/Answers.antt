@@ -3,13 +3,13 @@ use Rattle.std.proofs.Common.{ℕ, List, refl, option_map, inl, Ok, Err}
 use Rattle.std.specs.declared.option.Option.{Option}
 use Rattle.std.specs.declared.result.Result.{Result}
 use Rattle.commands.specs.Answering.{CommandAnswers, Tells}
-use Rattle.commands.specs.Outside.{outside}
+use Rattle.command_runs.specs.Outside.{outside}
 use Rattle.commands.specs.Seen.{seen}
 use Rattle.commands.specs.Words.{Command}
-use Rattle.commands.specs.declared.stop.Stop.{Stop}
+use Rattle.command_runs.specs.declared.stop.Stop.{Stop}
 use Rattle.commands.proofs.Commands.{does_of}
 use Rattle.commands.proofs.Exact.{exact_of}
-use Rattle.commands.proofs.GivenTexts.{grown-nil}
+use Rattle.command_runs.proofs.GivenTexts.{grown-nil}
 use Rattle.commands.proofs.top.run_command.Goals as goal
 
 pub returns-in-Ok-clause-does : goal.returns-in-Ok-clause-does

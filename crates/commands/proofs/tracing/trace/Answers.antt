@@ -3,13 +3,13 @@ use Rattle.std.proofs.Common.{refl, inl}
 use Rattle.osek_standard.specs.TraceText.{kernel_trace}
 use Rattle.osek_standard.specs.declared.app.App.{App}
 use Rattle.image_model.specs.ImageTrace.{image_trace, has_trap}
-use Rattle.commands.specs.Inputs.{no_memory}
-use Rattle.commands.specs.Outside.{Told, beside, outside}
-use Rattle.commands.specs.Running.{RunAnswers}
+use Rattle.command_runs.specs.Inputs.{no_memory}
+use Rattle.command_runs.specs.Outside.{Told, beside, outside}
+use Rattle.command_runs.specs.Running.{RunAnswers}
 use Rattle.commands.specs.Tracing.{never, stops, runs}
 use Rattle.commands.proofs.Compiles.{over_app}
-use Rattle.commands.proofs.FaultlessReads.{earlier, then_reads}
-use Rattle.commands.proofs.Runs.{kernel_runs}
+use Rattle.command_runs.proofs.FaultlessReads.{earlier, then_reads}
+use Rattle.commands.proofs.KernelRuns.{kernel_runs}
 use Rattle.commands.proofs.tracing.trace.Goals as goal
 
 pub returns-clause-answer : goal.returns-clause-answer

@@ -8,9 +8,9 @@ unfolding digits ones
 returns-clause-shown c = λ m. refl
 
 pub returns-clause-told : goal.returns-clause-told
-unfolding digits
-returns-clause-told c = λ m i app sites. rw (app, sites) refl
+unfolding digits ones
+returns-clause-told c = λ m i version app sites. rw (version, app, sites) refl
 
-pub returns-clause-general : goal.returns-clause-general
-unfolding digits
-returns-clause-general c = λ m i app sites. rw (app, sites) refl
+pub returns-clause-version_1 : goal.returns-clause-version_1
+unfolding digits ones
+returns-clause-version_1 c = λ m i version app sites. rw (version, app, sites) refl

@@ -1,26 +1,21 @@
--- the effect is that of the instruction where the caller stands; it keeps the state well-formed, and asks for the
--- processor only where no routine runs
-use Rattle.std.proofs.Common.{◌∙◌, ap, subst}
+-- an instruction changes its own tasks alone
+use Rattle.std.proofs.Common.{◌∙◌, sym, ap, subst}
+use Rattle.std.specs.declared.option.Option.{Option}
+use Rattle.osek_values.specs.declared.numbers.TaskNo.{TaskNo}
 use Rattle.osek_standard.specs.Effects.{Effect}
-use Rattle.osek_standard.specs.Well.{Well}
-use Rattle.osek_standard.proofs.EffectKeeps.{effect_keeps}
-use Rattle.osek_standard.proofs.AskLaws.{MayDispatch, effect_may}
-use Rattle.generic_kernel.proofs.EffectLaws.{effect_here, may_dispatch_as}
+use Rattle.osek_standard.specs.States.{is_that_task}
+use Rattle.generic_kernel.specs.Changes.{ChangesOwn}
+use Rattle.generic_kernel.proofs.TaskLaws.{effect_changes_own}
 use Rattle.generic_kernel.proofs.effects.effect.Goals as goal
 
-pub returns-clause-row : goal.returns-clause-row
-returns-clause-row c = effect_here c.args.app.now c.args.state.now c.args.choice c.here-place.result c.requires.active c.here-place.ensures.place ∙ c.effect_at.ensures
+pub returns-clause-own : goal.returns-clause-own
+returns-clause-own c =
+    subst (ChangesOwn c.args.app.now c.args.state.now) (ap (λ (e : Effect). e.state) c.perform-done.ensures.row) (effect_changes_own c.args.app.now c.args.state.now c.args.choice)
 
-pub returns-clause-well : goal.returns-clause-well
-returns-clause-well c =
+pub returns-clause-ready : goal.returns-clause-ready
+returns-clause-ready c =
     let app = c.args.app.now in
     let s = c.args.state.now in
-    let row = effect_here app s c.args.choice c.here-place.result c.requires.active c.here-place.ensures.place ∙ c.effect_at.ensures in
-    subst (Well app) (ap (λ (e : Effect). e.state) row) (effect_keeps app s c.requires.well c.args.choice)
-
-pub returns-clause-dispatch : goal.returns-clause-dispatch
-returns-clause-dispatch c =
-    let app = c.args.app.now in
-    let s = c.args.state.now in
-    let row = effect_here app s c.args.choice c.here-place.result c.requires.active c.here-place.ensures.place ∙ c.effect_at.ensures in
-    may_dispatch_as app c.effect_at.new.state c.effect_at.result.ask (subst (MayDispatch app) row (effect_may app s c.requires.well c.args.choice))
+    let changes : ChangesOwn app s c.perform-done.new.state = subst (ChangesOwn app s) (ap (λ (e : Effect). e.state) c.perform-done.ensures.row) (effect_changes_own app s c.args.choice) in
+    c.take_in.ensures s c.requires.ready (λ u n m. changes u
+    (ap (λ (o : Option TaskNo). is_that_task o u) (sym c.current-own.ensures) ∙ n) (ap (λ (o : Option TaskNo). is_that_task o u) (sym c.named_here-named.ensures.named) ∙ m))

@@ -1,11 +1,10 @@
 use Rattle.std.proofs.Common.{◌∙◌, List, sym, subst, take}
 use Rattle.std.specs.Prelude.{Contains}
-use Rattle.std.proofs.lemmas.Bool.{OnTrue_at, OnFalse_at}
 use Rattle.std.proofs.lemmas.List.{take_all}
 use Rattle.flow_model.specs.declared.rule.Rule.{Rule}
 use Rattle.global_cfg.proofs.ListTurns.{turn_done, turn_listed}
-use Rattle.global_cfg.proofs.Targeting.{LeadSo, lead_past, lead_nowhere, lead_more, lead_all}
-use Rattle.global_cfg.proofs.targets.targets.Goals.{then-leads_on+in_ok-is_taken+then-branch+in_ok-put_in, else-leads_on, else-leads_on-via-then-leads_on+in_ok-is_taken+else-branch, else-leads_on-via-else-leads_on}
+use Rattle.global_cfg.proofs.Targeting.{LeadSo, lead_past, lead_by, lead_all}
+use Rattle.global_cfg.proofs.targets.targets.Goals.{then-leads_on+in_ok-put_target, else-leads_on}
 use Rattle.global_cfg.proofs.targets.targets.Goals as goal
 
 pub loop-rule-preserved : goal.loop-rule-preserved
@@ -21,15 +20,11 @@ loop-rule-preserved c =
     let listed : Contains c.in_ok-found.found rule = subst (λ (xs : List Rule). Contains xs rule) c.as_slice-rule-items.ensures (turn_listed items i rule c.loop-rule-test.true c.rule-item.is) in
     subst (λ (d : List Rule). LeadSo app p entry d c.if-leads_on.targets.items) (turn_done items i rule c.loop-rule-test.true c.rule-item.is)
     (elim c.if-leads_on.branch [
-      | then-leads_on+in_ok-is_taken+then-branch+in_ok-put_in w ↦
+      | then-leads_on+in_ok-put_target w ↦
           rw w.targets-is
-          (lead_more app p entry done targets rule c.loop-rule.invariant c.in_ok-found.found w.put_in.new.points.items c.requires.domains listed (c.in_ok-found.ensures.exact c.requires.allowed)
-          (sym c.leads_on.ensures ∙ w.if-leads_on.true) (OnTrue_at w.if-branch.true w.in_ok-is_taken.ensures.taken) w.in_ok-put_in.ensures)
-      | else-leads_on w ↦
-          rw w.targets-is (elim w.else-leads_on.branch [
-            | else-leads_on-via-then-leads_on+in_ok-is_taken+else-branch v ↦ lead_nowhere app p entry done targets rule c.loop-rule.invariant c.requires.domains (OnFalse_at v.if-branch.false v.in_ok-is_taken.ensures.none)
-            | else-leads_on-via-else-leads_on v ↦ lead_past app p entry done targets rule c.loop-rule.invariant (sym c.leads_on.ensures ∙ v.if-leads_on.false)
-          ])
+          (lead_by app p entry done targets rule c.loop-rule.invariant c.in_ok-found.found w.put_target.new.points.items c.requires.domains listed (c.in_ok-found.ensures.exact c.requires.allowed)
+          (sym c.leads_on.ensures ∙ w.if-leads_on.true) w.in_ok-put_target.ensures)
+      | else-leads_on w ↦ rw w.targets-is (lead_past app p entry done targets rule c.loop-rule.invariant (sym c.leads_on.ensures ∙ w.if-leads_on.false))
     ])
 
 pub returns : goal.returns

@@ -8,5 +8,5 @@ use Rattle.image_codec.proofs.block_reading.blocks.Given as goal
 abbrev pub invariant-loop-number : goal.invariant-loop-number
 invariant-loop-number l = record {
   first : AreFirst l.blocks l.sites l.number;
-  reads : entries_at (read_block l.tables l.count) (zip l.blocks l.sites) (l.count - l.number) l.reader ≡ blocks_at l.tables l.count l.fn.reader;
+  reads : entries_at (read_block l.version l.tables l.count) (zip l.blocks l.sites) (l.count - l.number) l.reader ≡ blocks_at l.version l.tables l.count l.fn.reader;
 }

@@ -4,4 +4,4 @@ use Rattle.image_codec.specs.Spelling.{task_bytes}
 use Rattle.image_codec.proofs.encoding.put_tasks.Given as goal
 
 abbrev pub invariant-loop-task : goal.invariant-loop-task
-invariant-loop-task l = l.out.items ≡ l.fn.out.items ++ flat_map task_bytes (take l.task-index l.tasks)
+invariant-loop-task l = l.out.items ≡ l.fn.out.items ++ flat_map (task_bytes l.version) (take l.task-index l.tasks)

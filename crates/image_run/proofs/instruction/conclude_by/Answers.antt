@@ -1,4 +1,4 @@
--- what each form makes of an effect
+-- another status than the known one is a trap, and else the form says what comes
 use Rattle.std.proofs.Common.{rules, arith}
 use Rattle.image_run.proofs.instruction.conclude_by.Goals as goal
 
@@ -8,26 +8,8 @@ returns-in-None-clause-step g c = search rules
 pub returns-in-None-clause-scans : goal.returns-in-None-clause-scans
 returns-in-None-clause-scans g c = omega arith
 
-pub returns-in-Some-Never-clause-step : goal.returns-in-Some-Never-clause-step
-returns-in-Some-Never-clause-step g c = search rules
+pub returns-then-not-allows-clause-step : goal.returns-then-not-allows-clause-step
+returns-then-not-allows-clause-step g c = search rules
 
-pub returns-in-No-clause-step : goal.returns-in-No-clause-step
-returns-in-No-clause-step g c = search rules
-
-pub returns-in-No-clause-scans : goal.returns-in-No-clause-scans
-returns-in-No-clause-scans g c = omega arith
-
-pub returns-in-Left-clause-step : goal.returns-in-Left-clause-step
-returns-in-Left-clause-step g c = search rules
-
-pub returns-in-No-ask-clause-step : goal.returns-in-No-ask-clause-step
-returns-in-No-ask-clause-step g c = search rules
-
-pub returns-else-not-is_live-clause-step : goal.returns-else-not-is_live-clause-step
-returns-else-not-is_live-clause-step g c = search rules
-
-pub returns-else-not-is_live-clause-scans : goal.returns-else-not-is_live-clause-scans
-returns-else-not-is_live-clause-scans g c = omega arith
-
-pub switch_to-hooks-requires-in-Some-Direct-2-clause-live : goal.switch_to-hooks-requires-in-Some-Direct-2-clause-live
-switch_to-hooks-requires-in-Some-Direct-2-clause-live g c = (search rules, search rules)
+pub returns-then-not-allows-clause-scans : goal.returns-then-not-allows-clause-scans
+returns-then-not-allows-clause-scans g c = omega arith

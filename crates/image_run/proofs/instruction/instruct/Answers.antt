@@ -1,51 +1,32 @@
--- after the effect of a site no routine runs, and elsewhere nothing is asked; so the form gives the outcome
-use Rattle.std.proofs.Common.{◌≡◌, ◌∙◌, true, sym, ap, subst, IfSome}
-use Rattle.std.specs.Prelude.{option_map}
+-- a trap's effect is undone
+use Rattle.std.proofs.Common.{◌≡◌, ◌≢◌, refl, ◌∙◌, true, sym, ap, Some, None, IfSome, subst}
 use Rattle.std.specs.declared.option.Option.{Option}
 use Rattle.osek_standard.specs.declared.task_state.Place.{Place}
 use Rattle.osek_standard.specs.Apps.{is_site}
 use Rattle.osek_standard.specs.States.{here}
-use Rattle.osek_standard.specs.Effects.{Effect, effected}
-use Rattle.osek_standard.specs.Well.{AreOut}
-use Rattle.osek_standard.specs.Dispatch.{concluded}
 use Rattle.osek_standard.proofs.WellLaws.{in_owner_known}
 use Rattle.osek_standard.proofs.Keeps.{here_own}
 use Rattle.image_model.specs.declared.site.Site.{Site}
-use Rattle.image_model.specs.ImageStep.{site_at, formed_at, instructed}
-use Rattle.image_run.proofs.SiteEffects.{out_after_site}
-use Rattle.image_run.proofs.OtherEffects.{asks_none_elsewhere}
-use Rattle.image_run.proofs.SiteForms.{is_of_site, no_site_there, if_some_onward}
+use Rattle.image_model.specs.ImageStep.{site_at}
+use Rattle.image_run.specs.declared.before.Before.{Before}
+use Rattle.image_run.specs.Befores.{before, put_back}
+use Rattle.image_run.proofs.SiteForms.{is_of_site}
+use Rattle.image_run.proofs.UndoLaws.{undone}
 use Rattle.image_run.proofs.instruction.instruct.Goals as goal
 
-pub conclude_by-requires-clause-site : goal.conclude_by-requires-clause-site
-conclude_by-requires-clause-site g c =
+where_some : (P : Type 0) (o : Option Site) → IfSome o (λ (x : Site). P) → o ≢ None → P
+where_some P None h n = absurd (n refl)
+where_some P (Some x) h n = h
+
+pub returns-in-None-clause-trap : goal.returns-in-None-clause-trap
+returns-in-None-clause-trap g c =
     let i = c.args.image.now in
     let s = c.args.state.now in
     let b = (here s).block.0 in
     let known = in_owner_known i.app s s.processor c.requires.well.processor b (here_own i.app s c.requires.well c.requires.active) in
     let same : c.site_at-site.result ≡ site_at i b = c.site_at-site.ensures.site ∙ ap (λ (p : Place). site_at i p.block.0) c.here-place.ensures.place in
-    let out : is_site i.app b ≡ true → AreOut i.app c.effect-done.new.state
-    = λ site. subst (AreOut i.app) (ap (λ (e : Effect). e.state) c.effect-done.ensures.row) (out_after_site i.app s c.requires.well c.args.choice site) in
-    if_some_onward (is_site i.app b ≡ true) (AreOut i.app c.effect-done.new.state) c.site_at-site.result out
-    (subst (λ (o : Option Site). IfSome o (λ (x : Site). is_site i.app b ≡ true)) (sym same) (is_of_site i b known))
-
-pub conclude_by-requires-clause-other : goal.conclude_by-requires-clause-other
-conclude_by-requires-clause-other g c =
-    let i = c.args.image.now in
-    let s = c.args.state.now in
-    let b = (here s).block.0 in
-    let known = in_owner_known i.app s s.processor c.requires.well.processor b (here_own i.app s c.requires.well c.requires.active) in
-    let same : c.site_at-site.result ≡ site_at i b = c.site_at-site.ensures.site ∙ ap (λ (p : Place). site_at i p.block.0) c.here-place.ensures.place in
-    λ none. sym (ap (λ (e : Effect). e.ask) c.effect-done.ensures.row) ∙ asks_none_elsewhere i.app s c.requires.well c.args.choice (no_site_there i b known (sym same ∙ none))
-
-pub returns-clause-step : goal.returns-clause-step
-unfolding instructed
-returns-clause-step g c =
-    let i = c.args.image.now in
-    let s = c.args.state.now in
-    let b = (here s).block.0 in
-    let same : c.site_at-site.result ≡ site_at i b = c.site_at-site.ensures.site ∙ ap (λ (p : Place). site_at i p.block.0) c.here-place.ensures.place in
-    let done : Effect = effected c.effect-done.new.state c.effect-done.result.notes c.effect-done.result.ask in
-    ap (λ (e : Effect). option_map (concluded i.app e) (formed_at i.app e (site_at i b))) c.effect-done.ensures.row
-    ∙ ap (λ (o : Option Site). option_map (concluded i.app done) (formed_at i.app done o)) (sym same)
-    ∙ c.conclude_by.ensures.step
+    let site : is_site i.app b ≡ true = where_some (is_site i.app b ≡ true) (site_at i b) (is_of_site i b known) (subst (λ (o : Option Site). o ≢ None) same c.in-None.ensures.trap.0) in
+    sym c.undo.ensures.state
+    ∙ ap (λ (x : Before). put_back x c.attempt-2.new.state) c.of-before.ensures
+    ∙ ap (put_back (before i.app s)) c.in-None.ensures.trap.1
+    ∙ undone i.app s c.requires.well c.args.choice site

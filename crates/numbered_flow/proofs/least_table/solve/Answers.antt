@@ -6,6 +6,7 @@ use Rattle.abstract_state.specs.Tables.{Least, sets_of, value_count}
 use Rattle.abstract_state.specs.Written.{IsWritten}
 use Rattle.numbered_sets.specs.declared.numbered_entry.NumberedEntry.{NumberedEntry}
 use Rattle.numbered_sets.specs.Pools.{pool_domains}
+use Rattle.numbered_sets.proofs.ShownLaws.{shown_on}
 use Rattle.state_flow.specs.declared.cells.Cell.{Cell}
 use Rattle.state_flow.specs.Cells.{AreInOrder, IsWaitingAt, IsNextWaiting, NoneWaitsFrom}
 use Rattle.state_flow.specs.Rows.{row_of, table_of}
@@ -20,9 +21,15 @@ use Rattle.numbered_flow.proofs.least_table.solve.Goals as goal
 pub started-requires : goal.started-requires
 started-requires g c = ap pool_domains c.in_ok-pool.ensures ∙ domains_kept (domains_of c.args.app.now)
 
+pub nothing_shown-requires : goal.nothing_shown-requires
+nothing_shown-requires g c = ap pool_domains c.in_ok-pool.ensures ∙ domains_kept (domains_of c.args.app.now)
+
+pub loop-place-init : goal.loop-place-init
+loop-place-init g c = (0, omega arith, c.in_ok-cells.ensures.progress, shown_on c.in_ok-pool.pool c.started.new.pool c.in_ok-shown.shown c.in_ok-cells.ensures.pool c.in_ok-shown.ensures)
+
 pub place_behind-from-requires : goal.place_behind-from-requires
 place_behind-from-requires g c =
-    let turned = c.in_ok-turn.ensures c.loop-place.invariant.0 c.loop-place.invariant.2 in
+    let turned = c.in_ok-turn.ensures.progress c.loop-place.invariant.0 c.loop-place.invariant.2 in
     subst (λ (xs : List (Cell NumberedEntry)). AreInOrder xs) (sym c.as_slice-in-Some.ensures.value) (numbered_order c.turn.new.pool c.turn.new.cells.items turned.progress.cells_proper.order)
 
 pub loop-place-smaller : goal.loop-place-smaller
@@ -38,7 +45,7 @@ loop-place-smaller g c =
 pub loop-place-preserved : goal.loop-place-preserved
 loop-place-preserved g c =
     let steps = c.loop-place.invariant.1 in
-    (c.loop-place.invariant.0 + 1, omega (arith, c.tick.ensures, steps), c.in_ok-turn.ensures c.loop-place.invariant.0 c.loop-place.invariant.2)
+    (c.loop-place.invariant.0 + 1, omega (arith, c.tick.ensures, steps), c.in_ok-turn.ensures.progress c.loop-place.invariant.0 c.loop-place.invariant.2, c.in_ok-turn.ensures.shown)
 
 pub returns-clause-written : goal.returns-clause-written
 returns-clause-written g c =

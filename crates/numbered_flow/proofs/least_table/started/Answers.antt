@@ -38,8 +38,8 @@ loop-mode-preserved c =
           (omega (arith, c.loop-mode-test.true, c.len-mode-end.ensures)) c.loop-mode.invariant.2 c.in_ok-row.ensures joined,
     )
 
-pub returns : goal.returns
-returns c = record {
+pub returns-clause-progress : goal.returns-clause-progress
+returns-clause-progress c = record {
   known = c.loop-mode.invariant.1;
   progress = started_all c.args.app.now c.loop-mode.mode (plain_cells c.loop-mode.pool c.loop-mode.cells.items) (omega (arith, c.loop-mode-test.false, c.len-mode-end.ensures)) c.loop-mode.invariant.2;
 }

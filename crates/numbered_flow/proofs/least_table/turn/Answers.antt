@@ -26,8 +26,8 @@ both : {T E P Q R : Type 0} (r : Result T E) → (P → Q → R) → OnOk r P �
 both (Ok x) f p q = f p q
 both (Err e) f p q = tt
 
-pub returns : goal.returns
-returns c = both c.put_all.result
+pub returns-clause-progress : goal.returns-clause-progress
+returns-clause-progress c = both c.put_all.result
     (λ known joined. progress_on c.args.app.now c.args.pool.now c.evaluate.new.pool c.args.cells.now.items c.args.place c.index_mut-cell.result.now c.requires.cells c.requires.waits (sym c.index_mut-cell.ensures.value)
     c.in_ok-reached.ensures.pool c.in_ok-reached.reached.items c.in_ok-reached.ensures.numbers c.in_ok-reached.ensures.leads c.put_all.new.cells.items known joined)
     c.put_all.ensures.cells c.put_all.ensures.joined

@@ -1,9 +1,18 @@
-use Rattle.std.proofs.Common.{◌≡◌, ◌<◌, ◌+◌, ◌-◌, ◌/◌, ◌^◌, refl, sym, ◌∙◌, ap, subst, arith, ◌++◌, take, length}
+use Rattle.std.proofs.Common.{◌≡◌, ℕ, false, List, [], ◌∷◌, ◌<◌, ◌+◌, ◌-◌, ◌/◌, ◌^◌, refl, sym, ◌∙◌, ap, subst, arith, ◌++◌, take, length}
 use Rattle.std.proofs.Math.ListN.{length-set}
-use Rattle.std.specs.Fmt.{digits}
+use Rattle.std.specs.Fmt.{digits, digit_glyph}
 use Rattle.osek_standard.specs.TraceText.{hexadecimal}
-use Rattle.text_pieces.proofs.HexadecimalLaws.{fewer, turn, written, some_place}
+use Rattle.text_pieces.proofs.HexadecimalLaws.{digit_first, fewer, turn, written, some_place}
 use Rattle.text_pieces.proofs.pieces.put_hexadecimal.Goals as goal
+
+one_digit : (n : ℕ) → n < 16 → digit_glyph false n ∷ [] ≡ hexadecimal n
+unfolding digits
+one_digit n few = sym (digit_first 63 n [] few)
+
+pub returns-then-n-lt16-clause-text : goal.returns-then-n-lt16-clause-text
+returns-then-n-lt16-clause-text c =
+    let before : List ℕ = take c.args.at c.args.buf.now in
+    c.put_byte.ensures.text ∙ ap (λ (d : ℕ). before ++ d ∷ []) c.hexadecimal_digit.ensures ∙ ap (λ (t : List ℕ). before ++ t) (one_digit c.args.n c.if-n-lt16.true)
 
 pub loop-left-init : goal.loop-left-init
 unfolding digits
@@ -18,9 +27,9 @@ loop-left-preserved c =
     let place : i - 1 + 1 ≡ i = omega (arith, some) in
     record {
       few = omega (arith, c.loop-left.invariant.few);
-      size = length-set c.loop-left.digits i c.hexadecimal_digit.result ∙ c.loop-left.invariant.size;
+      size = length-set c.loop-left.digits i c.hexadecimal_digit-in-loop-left.result ∙ c.loop-left.invariant.size;
       small = subst (λ m. n / 16 < 16 ^ m) (sym place) (fewer n i c.loop-left.invariant.small);
-      text = rw c.hexadecimal_digit.ensures (turn c.loop-left.digits _ i n (hexadecimal c.args.n) c.loop-left-test.true some within refl c.loop-left.invariant.text);
+      text = rw c.hexadecimal_digit-in-loop-left.ensures (turn c.loop-left.digits _ i n (hexadecimal c.args.n) c.loop-left-test.true some within refl c.loop-left.invariant.text);
     }
 
 pub returns-clause-text : goal.returns-clause-text

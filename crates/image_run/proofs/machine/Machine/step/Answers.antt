@@ -1,7 +1,8 @@
--- a step of the image on the spare, and at a trap the state as it was
-use Rattle.std.proofs.Common.{rules, ◌≡◌, ◌∙◌, Bool, true, false, Option, None, Some, ap, subst}
+-- a step of the image, and at a trap the state as it was
+use Rattle.std.proofs.Common.{rules, ◌≡◌, ◌∙◌, Bool, true, false, Option, None, Some, ap, subst, sym}
 use Rattle.std.specs.Prelude.{option_map, if◌then◌else◌}
 use Rattle.osek_values.specs.declared.event.Event.{Event}
+use Rattle.osek_standard.specs.declared.state.State.{State}
 use Rattle.osek_standard.specs.Dispatch.{Stepped, stepped}
 use Rattle.image_model.specs.ImageStep.{image_step}
 use Rattle.image_run.specs.Machines.{AtWork, at_work, turn, turned, turned_by}
@@ -16,8 +17,10 @@ returns-in-None-clause-step g c =
     let i = c.self.inside.image in
     let s = c.self.inside.state in
     let step : image_step i s c.args.event ≡ None = cc (c.image_step.ensures.step ∙ ap (option_map (stepped c.image_step.new.state)) c.in-None.is) in
-    subst (λ (m : AtWork). turn m c.args.event ≡ turned (at_work i s true) None) c.self.view_is
-    (goes (at_work i s c.self.inside.trapped) c.args.event None c.if-self.false step)
+    let same : s ≡ c.image_step.new.state = sym c.in-None.ensures.trap in
+    subst (λ (r : State). turn c.args.self.now c.args.event ≡ turned (at_work i r true) None) same
+    (subst (λ (m : AtWork). turn m c.args.event ≡ turned (at_work i s true) None) c.self.view_is
+    (goes (at_work i s c.self.inside.trapped) c.args.event None c.if-self.false step))
 
 pub returns-in-Some-clause-step : goal.returns-in-Some-clause-step
 returns-in-Some-clause-step g c =

@@ -1,8 +1,15 @@
 use Rattle.std.proofs.Common.{subst, sym, List}
 use Rattle.numbered_sets.specs.declared.seen.Seen.{Seen}
+use Rattle.numbered_sets.specs.Filters.{seen_values}
 use Rattle.numbered_sets.specs.Pools.{AreNumbered}
-use Rattle.numbered_sets.proofs.PoolLaws.{seen_values, none_numbered}
+use Rattle.numbered_sets.proofs.PoolLaws.{none_numbered}
+use Rattle.numbered_sets.proofs.SiftLaws.{no_filters}
 use Rattle.numbered_sets.proofs.pool.Numbering.new.Goals as goal
 
 pub invariant_of-result : goal.invariant_of-result
-invariant_of-result c = let h = c.new.ensures.empty in subst (λ (ks : List Seen). AreNumbered c.args.domain (seen_values ks)) (sym h) (none_numbered c.args.domain)
+invariant_of-result c =
+    let h = c.new.ensures.empty in (
+      subst (λ (ks : List Seen). AreNumbered c.args.domain (seen_values ks)) (sym h) (none_numbered c.args.domain),
+      no_filters (seen_values c.new.result.keys) c.new-2.result c.new-2.ensures,
+      no_filters (seen_values c.new.result.keys) c.new-3.result c.new-3.ensures,
+    )

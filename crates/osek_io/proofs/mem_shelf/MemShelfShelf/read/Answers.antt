@@ -27,4 +27,4 @@ returns-clause-no_fault c =
 
 pub returns-clause-piece : goal.returns-clause-piece
 returns-clause-piece c =
-    read_pieces c.args.self.now (get c.args.self.now.files c.args.name.now) c.args.at c.read_piece.new.into (length c.args.into.now) c.read_piece.result (sym c.read_piece.auto.into) c.read_piece.ensures.answer c.read_piece.ensures.piece
+    read_pieces c.args.self.now (get c.args.self.now.files c.args.name.now) c.args.at c.read_piece.new.into (length c.args.into.now) c.read_piece.result c.read_piece.ensures.some (sym c.read_piece.auto.into) c.read_piece.ensures.answer c.read_piece.ensures.piece

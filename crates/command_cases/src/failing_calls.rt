@@ -1,0 +1,507 @@
+//! Commands whose calls on the shelf, on out and on err fail: each stops with the status and the text of the call that
+//! failed, and leaves a front of what it would have written.
+use crate::gen_rows::GEN_ONE;
+use crate::rows::ACTIVATION_IMAGE;
+use crate::stored::{CODE, EVENTS, IMAGE, INFO, OIL, SHOW, TRACE, UPGRADED_IMAGE};
+use commands::osekfit;
+use osek_io::{MemShelf, MemSink};
+use osek_values::Memory;
+use std::alloc::Global;
+
+/// Where a call is made.
+#[derive(Clone, Copy, PartialEq, Eq, Debug)]
+enum Side {
+    Shelf,
+    Out,
+    Err,
+}
+
+/// A call that is to fail: its number among those of its side, from 1.
+#[derive(Clone, Copy, PartialEq, Eq, Debug)]
+struct Fault {
+    side: Side,
+    call: u64,
+}
+
+/// Calls on the shelf, one after the other, for one file: what a fault of each of them makes of the run.
+#[derive(Clone, Copy)]
+struct Turn {
+    status: u8,
+    told: &'static str,
+    /// The bytes that the calls move: in one call, or in as many as they are where each moves one.
+    moved: &'static [u8],
+    /// How many calls besides move none: the one that finds a file's end, `create`, the one that judges an event
+    /// text's length.
+    others: u64,
+}
+
+/// A command over the files, and what it does where no call fails.
+#[derive(Clone, Copy)]
+struct Case {
+    words: &'static [&'static str],
+    turns: &'static [Turn],
+    text: &'static str,
+    /// In how many calls it writes the text: one a line of `show` and `info`; a trace comes before each read of events.
+    puts: u64,
+    /// The image that it stores in `x`, in the last of its turns.
+    stored: Option<&'static [u8]>,
+}
+
+const READS_OIL: Turn = Turn {
+    status: 5,
+    told: "a.oil: read\n",
+    moved: OIL,
+    others: 1,
+};
+
+const READS_CODE: Turn = Turn {
+    status: 5,
+    told: "a.c: read\n",
+    moved: CODE,
+    others: 1,
+};
+
+const READS_IMAGE: Turn = Turn {
+    status: 5,
+    told: "i: read\n",
+    moved: IMAGE,
+    others: 1,
+};
+
+const READS_EVENTS: Turn = Turn {
+    status: 5,
+    told: "e: read\n",
+    moved: EVENTS,
+    others: 2,
+};
+
+const CREATES_IMAGE: Turn = Turn {
+    status: 6,
+    told: "x: write\n",
+    moved: b"",
+    others: 1,
+};
+
+const ADDS_IMAGE: Turn = Turn {
+    status: 6,
+    told: "x: write\n",
+    moved: ACTIVATION_IMAGE,
+    others: 0,
+};
+
+const ADDS_UPGRADED: Turn = Turn {
+    status: 6,
+    told: "x: write\n",
+    moved: UPGRADED_IMAGE,
+    others: 0,
+};
+
+const BUILD: Case = Case {
+    words: &["osekfit", "build", "a.oil", "a.c", "x"],
+    turns: &[READS_OIL, READS_CODE, CREATES_IMAGE, ADDS_IMAGE],
+    text: "",
+    puts: 0,
+    stored: Some(ACTIVATION_IMAGE),
+};
+
+const UPGRADES: Case = Case {
+    words: &["osekfit", "upgrade", "i", "x"],
+    turns: &[READS_IMAGE, CREATES_IMAGE, ADDS_UPGRADED],
+    text: "",
+    puts: 0,
+    stored: Some(UPGRADED_IMAGE),
+};
+
+const REPLAY: Case = Case {
+    words: &["osekfit", "replay", "i", "OSDEFAULTAPPMODE", "e"],
+    turns: &[READS_IMAGE, READS_EVENTS],
+    text: TRACE,
+    puts: 2,
+    stored: None,
+};
+
+const TRACES: Case = Case {
+    words: &["osekfit", "trace", "a.oil", "a.c", "OSDEFAULTAPPMODE", "e"],
+    turns: &[READS_OIL, READS_CODE, READS_EVENTS],
+    text: TRACE,
+    puts: 2,
+    stored: None,
+};
+
+const SHOWS: Case = Case {
+    words: &["osekfit", "show", "a.oil", "a.c"],
+    turns: &[READS_OIL, READS_CODE],
+    text: SHOW,
+    puts: 9,
+    stored: None,
+};
+
+const INFORMS: Case = Case {
+    words: &["osekfit", "info", "i"],
+    turns: &[READS_IMAGE],
+    text: INFO,
+    puts: 6,
+    stored: None,
+};
+
+const GENERATES: Case = Case {
+    words: &["osekfit", "gen", "1", "1"],
+    turns: &[],
+    text: GEN_ONE,
+    puts: 1,
+    stored: None,
+};
+
+/// How a case is run: what `x` holds before, and whether each call moves one byte at most.
+#[derive(Clone, Copy)]
+struct Setting {
+    before: Option<&'static [u8]>,
+    by_bytes: bool,
+}
+
+/// What a run left.
+#[derive(Clone, Copy)]
+struct Seen<'a> {
+    status: u8,
+    out: &'a [u8],
+    err: &'a [u8],
+    /// Whether `x` is there, and its bytes.
+    is_stored: bool,
+    image: &'a [u8],
+}
+
+fn image_in<'a>(seen: &Seen<'a>) -> Option<&'a [u8]> {
+    if seen.is_stored {
+        Some(seen.image)
+    } else {
+        None
+    }
+}
+
+fn calls_of(turn: &Turn, by_bytes: bool) -> u64 {
+    let bytes = turn.moved.len();
+    let moving = if by_bytes { bytes } else { bytes.min(1) };
+    turn.others.saturating_add(moving as u64)
+}
+
+fn calls_of_all(turns: &[Turn], by_bytes: bool) -> u64 {
+    let mut calls = 0u64;
+    for turn in turns {
+        calls = calls.saturating_add(calls_of(turn, by_bytes));
+    }
+    calls
+}
+
+fn puts_of(case: &Case, by_bytes: bool) -> u64 {
+    if by_bytes {
+        case.text.len() as u64
+    } else {
+        case.puts
+    }
+}
+
+/// The turn of a call on the shelf.
+fn turn_at(turns: &[Turn], call: u64, by_bytes: bool) -> Option<Turn> {
+    let mut calls = 0u64;
+    for turn in turns {
+        calls = calls.saturating_add(calls_of(turn, by_bytes));
+        if call <= calls {
+            return Some(*turn);
+        }
+    }
+    None
+}
+
+/// The status and the text that a fault is due, where the run comes to its call.
+fn due(case: &Case, fault: Fault, by_bytes: bool) -> Option<(u8, &'static str)> {
+    match fault.side {
+        Side::Shelf => match turn_at(case.turns, fault.call, by_bytes) {
+            Some(turn) => Some((turn.status, turn.told)),
+            None => None,
+        },
+        Side::Out if fault.call <= puts_of(case, by_bytes) => Some((6, "out: write\n")),
+        _ => None,
+    }
+}
+
+/// The first call on err that is to fail.
+fn first_on_err(faults: &[Fault]) -> Option<u64> {
+    let mut first = None;
+    for fault in faults {
+        if fault.side == Side::Err {
+            first = Some(fault.call.min(first.unwrap_or(u64::MAX)));
+        }
+    }
+    first
+}
+
+/// Whether a text stands on err with its status, or a front of it with status 6 where a call on err is to fail.
+fn is_told(seen: &Seen, status: u8, told: &str, faults: &[Fault]) -> bool {
+    let whole = seen.status == status && seen.err == told.as_bytes();
+    let front = seen.status == 6
+        && seen.err.len() < told.len()
+        && told.as_bytes().starts_with(seen.err);
+    match first_on_err(faults) {
+        None => whole,
+        Some(1) => front && seen.err.is_empty(),
+        // A text may come in a single call.
+        Some(_) => whole || front,
+    }
+}
+
+/// Whether the run stopped as one of the faults is due. None: the run comes to none of them.
+fn stopped(case: &Case, faults: &[Fault], by_bytes: bool, seen: &Seen) -> Option<bool> {
+    let mut found = None;
+    for fault in faults {
+        if let Some((status, told)) = due(case, *fault, by_bytes) {
+            found = Some(found == Some(true) || is_told(seen, status, told, faults));
+        }
+    }
+    found
+}
+
+/// Whether `x` is as it was, or holds a front of the image.
+fn is_left(case: &Case, before: Option<&[u8]>, image: Option<&[u8]>) -> bool {
+    let begun = match (case.stored, image) {
+        (Some(stored), Some(bytes)) => stored.starts_with(bytes),
+        _ => false,
+    };
+    begun || image == before
+}
+
+fn is_right(case: &Case, faults: &[Fault], setting: Setting, seen: &Seen) -> bool {
+    match stopped(case, faults, setting.by_bytes, seen) {
+        Some(right) => {
+            right
+                && case.text.as_bytes().starts_with(seen.out)
+                && is_left(case, setting.before, image_in(seen))
+        }
+        None => {
+            seen.status == 0
+                && seen.err.is_empty()
+                && seen.out == case.text.as_bytes()
+                && image_in(seen) == case.stored.or(setting.before)
+        }
+    }
+}
+
+/// Where each call moves a byte: whether a fault on out stopped the text there, and one on the shelf the image.
+fn stops_there(case: &Case, fault: Fault, before: Option<&[u8]>, seen: &Seen) -> bool {
+    let first = match case.turns.split_last() {
+        Some((_, turns)) => calls_of_all(turns, true),
+        None => 0,
+    };
+    let size = match case.stored {
+        Some(stored) => stored.len(),
+        None => 0,
+    };
+    match (fault.side, image_in(seen)) {
+        (Side::Out, _) => seen.out.len()
+            == case.text.len().min((fault.call as usize).saturating_sub(1)),
+        (Side::Shelf, Some(image)) if case.stored.is_some() && fault.call > first => {
+            let added = (fault.call - first) as usize;
+            image.len() == size.min(added.saturating_sub(1))
+        }
+        (Side::Shelf, image) => image == before,
+        (Side::Err, _) => true,
+    }
+}
+
+/// The calls of a side that are to fail.
+fn fails_of(alloc: Global, faults: &[Fault], side: Side) -> Result<Vec<u64>, Memory> {
+    let mut calls = Vec::new(alloc);
+    for fault in faults {
+        if fault.side == side {
+            calls.push(fault.call)?;
+        }
+    }
+    Ok(calls)
+}
+
+const FILES: [(&str, &[u8]); 4] = [("a.oil", OIL), ("a.c", CODE), ("i", IMAGE), ("e", EVENTS)];
+
+/// Room for an image, and for what a run writes.
+const ROOM: usize = 1_000;
+
+fn shelf_of(alloc: Global, faults: &[Fault], setting: Setting) -> Result<MemShelf, Memory> {
+    let mut shelf = MemShelf::new(alloc, fails_of(alloc, faults, Side::Shelf)?);
+    for (name, bytes) in &FILES {
+        shelf.set(name, Some(*bytes), 0)?;
+    }
+    shelf.set("x", setting.before, ROOM)?;
+    if setting.by_bytes {
+        shelf.limit(1);
+    }
+    Ok(shelf)
+}
+
+fn sink_of(alloc: Global, faults: &[Fault], side: Side, by_bytes: bool) -> Result<MemSink, Memory> {
+    let mut sink = MemSink::new(alloc, fails_of(alloc, faults, side)?, ROOM)?;
+    if by_bytes {
+        sink.limit(1);
+    }
+    Ok(sink)
+}
+
+/// The words of a command line.
+pub fn words_of(alloc: Global, words: &[&str]) -> Result<Vec<String>, Memory> {
+    let mut list = Vec::new(alloc);
+    for word in words {
+        list.push(String::from_str(alloc, word)?)?;
+    }
+    Ok(list)
+}
+
+/// Whether a case where these calls fail ends as is due.
+fn holds(alloc: Global, case: &Case, faults: &[Fault], setting: Setting) -> Result<bool, Memory> {
+    let words = words_of(alloc, case.words)?;
+    let mut shelf = shelf_of(alloc, faults, setting)?;
+    let mut out = sink_of(alloc, faults, Side::Out, setting.by_bytes)?;
+    let mut err = sink_of(alloc, faults, Side::Err, setting.by_bytes)?;
+    let status = osekfit(alloc, &words, &mut shelf, &mut out, &mut err);
+    let seen = Seen {
+        status,
+        out: out.bytes(),
+        err: err.bytes(),
+        is_stored: shelf.bytes("x").is_some(),
+        image: shelf.bytes("x").unwrap_or(b""),
+    };
+    let there = match faults {
+        [fault] if setting.by_bytes => stops_there(case, *fault, setting.before, &seen),
+        _ => true,
+    };
+    Ok(there && is_right(case, faults, setting, &seen))
+}
+
+/// Each call of a case on the shelf and on out, and one more, which isn't made; and two on err.
+fn faults_of(alloc: Global, case: &Case, by_bytes: bool) -> Result<Vec<Fault>, Memory> {
+    let counts = [
+        (Side::Shelf, calls_of_all(case.turns, by_bytes)),
+        (Side::Out, puts_of(case, by_bytes)),
+        (Side::Err, 1),
+    ];
+    let mut faults = Vec::new(alloc);
+    for (side, count) in counts {
+        for call in 1..=count.saturating_add(1) {
+            faults.push(Fault { side, call })?;
+        }
+    }
+    Ok(faults)
+}
+
+/// The first two calls with which a case doesn't end as is due; the same one twice is one.
+fn first_wrong_two(
+    alloc: Global,
+    case: &Case,
+    before: Option<&'static [u8]>,
+) -> Result<Option<(Fault, Fault)>, Memory> {
+    let faults = faults_of(alloc, case, false)?;
+    let setting = Setting {
+        before,
+        by_bytes: false,
+    };
+    for one in &faults {
+        for other in &faults {
+            if !holds(alloc, case, &[*one, *other], setting)? {
+                return Ok(Some((*one, *other)));
+            }
+        }
+    }
+    Ok(None)
+}
+
+/// The first call with which a case doesn't end as is due, where each call moves one byte.
+fn first_wrong_byte(
+    alloc: Global,
+    case: &Case,
+    before: Option<&'static [u8]>,
+) -> Result<Option<Fault>, Memory> {
+    let faults = faults_of(alloc, case, true)?;
+    let setting = Setting {
+        before,
+        by_bytes: true,
+    };
+    for fault in &faults {
+        if !holds(alloc, case, &[*fault], setting)? {
+            return Ok(Some(*fault));
+        }
+    }
+    Ok(None)
+}
+
+#[test]
+fn calls_that_fail_stop_build(rt: HostRuntime) {
+    assert_eq!(rt; first_wrong_two(rt.alloc(), &BUILD, None), Ok(None));
+    assert_eq!(rt;
+        first_wrong_two(rt.alloc(), &BUILD, Some(b"before")),
+        Ok(None)
+    );
+}
+
+#[test]
+fn calls_that_fail_stop_upgrade(rt: HostRuntime) {
+    assert_eq!(rt; first_wrong_two(rt.alloc(), &UPGRADES, None), Ok(None));
+    assert_eq!(rt;
+        first_wrong_two(rt.alloc(), &UPGRADES, Some(b"before")),
+        Ok(None)
+    );
+}
+
+#[test]
+fn calls_that_fail_stop_what_prints(rt: HostRuntime) {
+    for case in &[REPLAY, TRACES, SHOWS, INFORMS, GENERATES] {
+        assert_eq!(rt;
+            first_wrong_two(rt.alloc(), case, None),
+            Ok(None),
+            "{:?}",
+            case.words
+        );
+    }
+}
+
+#[test]
+fn bytes_that_fail_stop_build(rt: HostRuntime) {
+    assert_eq!(rt; first_wrong_byte(rt.alloc(), &BUILD, None), Ok(None));
+    assert_eq!(rt;
+        first_wrong_byte(rt.alloc(), &BUILD, Some(b"before")),
+        Ok(None)
+    );
+}
+
+#[test]
+fn bytes_that_fail_stop_upgrade(rt: HostRuntime) {
+    assert_eq!(rt; first_wrong_byte(rt.alloc(), &UPGRADES, None), Ok(None));
+    assert_eq!(rt;
+        first_wrong_byte(rt.alloc(), &UPGRADES, Some(b"before")),
+        Ok(None)
+    );
+}
+
+#[test]
+fn bytes_that_fail_stop_what_runs(rt: HostRuntime) {
+    for case in &[REPLAY, TRACES] {
+        assert_eq!(rt;
+            first_wrong_byte(rt.alloc(), case, None),
+            Ok(None),
+            "{:?}",
+            case.words
+        );
+    }
+}
+
+#[test]
+fn bytes_that_fail_stop_what_tells_of_forms(rt: HostRuntime) {
+    for case in &[SHOWS, INFORMS] {
+        assert_eq!(rt;
+            first_wrong_byte(rt.alloc(), case, None),
+            Ok(None),
+            "{:?}",
+            case.words
+        );
+    }
+}
+
+#[test]
+fn bytes_that_fail_stop_gen(rt: HostRuntime) {
+    assert_eq!(rt; first_wrong_byte(rt.alloc(), &GENERATES, None), Ok(None));
+}

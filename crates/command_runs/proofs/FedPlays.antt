@@ -1,0 +1,175 @@
+-- A play of the lines that come out of a feed is the play of the text's lines.
+use Rattle.std.proofs.Common.{◌≡◌, ℕ, ◌+◌, ◌<◌, ◌≤◌, Bool, true, false, cond, ltb, List, [], ◌∷◌, ◌++◌, length, take, drop, Option, Some, None, Ok, Err, refl, sym, ◌∙◌, ap, subst, inl, inr, append_assoc, arith}
+use Rattle.std.specs.List.{enumerate_from}
+use Rattle.std.specs.declared.result.Result.{Result}
+use Rattle.std.proofs.lemmas.Bool.{ltb-true}
+use Rattle.std.proofs.lemmas.List.{append-nil, drop_all, length-append, length-take-le, take-append-drop}
+use Rattle.std.proofs.Math.Seq.{take-add}
+use Rattle.osek_values.specs.declared.limits.TheConstants.{MAX_EVENT_TEXT}
+use Rattle.osek_standard.specs.declared.state.State.{State}
+use Rattle.image_model.specs.declared.image.Image.{Image}
+use Rattle.trace_text.specs.declared.feed.FeedStep.TheVariants.{Line}
+use Rattle.trace_text.specs.EventText.{text_lines, numbered_lines}
+use Rattle.trace_text.specs.EventWords.{read_line}
+use Rattle.trace_text.specs.Feeds.{FeedState, next_answer, after_next, lines_to_long}
+use Rattle.trace_text.proofs.FeedLaws.{line_is_first, too_long}
+use Rattle.osek_io.specs.Files.{Files, Holds}
+use Rattle.command_runs.specs.Inputs.{OfFile, ReadsOn}
+use Rattle.command_runs.specs.Playing.{Given, Puts, PutsFront, Played, printing, plays, plays_fed, played_line, MayFollow, PlaysOn, GoesOn, HeldAnswers, HeldReadAnswers}
+use Rattle.command_runs.specs.declared.stop.Stop.{Stop}
+use Rattle.command_runs.proofs.GivenTexts.{puts_nothing, puts_both, puts_all, puts_front_of_first, puts_front_behind}
+use Rattle.command_runs.proofs.InputFiles.{of_map}
+use Rattle.command_runs.proofs.Plays.{came_to_end, printed_first, printing-printing}
+
+-- nothing is played behind a line that is too long
+plays_to_long : (i : Image) (k : ℕ) (lines : List (List ℕ)) (n : ℕ) (s : State) → plays i (enumerate_from k (lines_to_long lines)) n s ≡ plays i (enumerate_from k lines) n s
+plays_to_long i k [] n s = refl
+plays_to_long i k (line ∷ more) n s = by_length (ltb 256 (length line)) refl (plays_to_long i (k + 1) more)
+  where
+    by_length : (b : Bool) → ltb 256 (length line) ≡ b → ((m : ℕ) (t : State) → plays i (enumerate_from (k + 1) (lines_to_long more)) m t ≡ plays i (enumerate_from (k + 1) more) m t) →
+        plays i (enumerate_from k (cond b (take 257 line ∷ []) (line ∷ lines_to_long more))) n s ≡ plays i (enumerate_from k (line ∷ more)) n s
+    by_length true e later =
+        let many : 256 < length line = ltb-true 256 (length line) e in
+        let size : length (take 257 line) ≡ 257 = length-take-le 257 line (omega (arith, many)) in
+        ap (played_line i n s k (plays i [])) (too_long i.app (take 257 line) (omega (arith, size)))
+        ∙ sym (ap (played_line i n s k (plays i (enumerate_from (k + 1) more))) (too_long i.app line many))
+    by_length false e later =
+        let same : ◌≡◌ {A = ℕ → State → Played} (plays i (enumerate_from (k + 1) (lines_to_long more))) (plays i (enumerate_from (k + 1) more)) = (λ j m t. later m t j) in
+        ap (λ (rest : ℕ → State → Played). played_line i n s k rest (read_line i.app line)) same
+
+-- the lines behind the one that came out
+abbrev behind : FeedState → (rest : List ℕ) → ℕ → List (ℕ × List ℕ)
+behind f rest k = enumerate_from (k + 1) (text_lines ((after_next f).ahead ++ rest))
+
+-- the line that came out is played, and then those behind it
+line_fed : (i : Image) (f : FeedState) (rest : List ℕ) (k n : ℕ) (s : State) (line : List ℕ) → MayFollow f rest → next_answer f ≡ Line → line ≡ (after_next f).line →
+    plays_fed i f rest k n s ≡ plays i ((k, line) ∷ behind f rest k) n s
+line_fed i f rest k n s line may is same =
+    sym (plays_to_long i k (text_lines (f.ahead ++ rest)) n s) ∙ ap (λ (ls : List (List ℕ)). plays i (enumerate_from k ls) n s) (line_is_first f rest may is)
+    ∙ plays_to_long i k ((after_next f).line ∷ text_lines ((after_next f).ahead ++ rest)) n s
+    ∙ ap (λ (l : List ℕ). plays i ((k, l) ∷ behind f rest k) n s) (sym same)
+
+-- nothing was played yet
+pub starts_on : (first : Given) (i : Image) (f : FeedState) (k n : ℕ) (s : State) → PlaysOn first first i f f k n s k n s
+starts_on first i f k n s = record { text = []; prints = puts_nothing first; goes_on = λ rest may. refl }
+
+-- a line more
+pub one_line_on : (first now next : Given) (i : Image) (f g : FeedState) (k n : ℕ) (s : State) (l m : ℕ) (t : State) (line : List ℕ) (o : ℕ) (u : State) → g.finished ≡ f.finished → next_answer g ≡ Line → line ≡ (after_next g).line →
+    GoesOn now next (λ more. played_line i m t l more (read_line i.app line)) o u → PlaysOn first now i f g k n s l m t → PlaysOn first next i f (after_next g) k n s (l + 1) o u
+one_line_on first now next i f g k n s l m t line o u done is same goes on = record {
+  text = on.text ++ goes.text;
+  prints = puts_both first now next on.text goes.text on.prints goes.prints;
+  goes_on = λ rest may. on.goes_on rest may ∙ ap (printing on.text) (line_fed i g rest l m t line (λ e. may (sym done ∙ e)) is same ∙ goes.goes_on (plays i (behind g rest l)))
+      ∙ printing-printing on.text goes.text (plays_fed i (after_next g) rest (l + 1) o u);
+}
+
+-- the bytes ahead stay
+pub kept_on : (first now : Given) (i : Image) (f g h : FeedState) (k n : ℕ) (s : State) (l m : ℕ) (t : State) → h.ahead ≡ g.ahead → PlaysOn first now i f g k n s l m t → PlaysOn first now i f h k n s l m t
+kept_on first now i f g h k n s l m t same on = record {
+  text = on.text;
+  prints = on.prints;
+  goes_on = λ rest may. on.goes_on rest may ∙ ap (λ (xs : List ℕ). printing on.text (plays i (enumerate_from l (text_lines (xs ++ rest))) m t)) (sym same);
+}
+
+-- a line at which the play ends
+pub line_ends_on : (faults between faults_after : ℕ) → faults ≤ between → (first now next : Given) (i : Image) (f g : FeedState) (k n : ℕ) (s : State) (l m : ℕ) (t : State) (line : List ℕ) (end : Stop) → g.finished ≡ f.finished → next_answer g ≡ Line → line ≡ (after_next g).line →
+    ((more : ℕ → State → Played) → HeldAnswers between faults_after now next (played_line i m t l more (read_line i.app line)) (Err end)) → PlaysOn first now i f g k n s l m t →
+    (rest : List ℕ) → MayFollow f rest → HeldAnswers faults faults_after first next (plays_fed i f rest k n s) (Err end)
+line_ends_on faults between faults_after later first now next i f g k n s l m t line end done is same answers on rest may =
+    came_to_end faults between faults_after later first now next (plays_fed i f rest k n s) i ((l, line) ∷ behind g rest l) m t (Err end) (answers (plays i (behind g rest l)))
+    (record { text = on.text; prints = on.prints; rest = on.goes_on rest may ∙ ap (printing on.text) (line_fed i g rest l m t line (λ e. may (sym done ∙ e)) is same) })
+
+-- which bytes of a file came, and how far their play has come
+pub record HasCome (files : Option Files) (name : List ℕ) (first now : Given) (i : Image) (start : State) (taken : ℕ) (f : FeedState) (k n : ℕ) (s : State) : Type 0 where
+  pub came : List ℕ
+  pub size : length came ≡ taken
+  pub held : (bytes : List ℕ) → Holds files name bytes → came ≡ take taken bytes
+  pub text : List ℕ
+  pub prints : Puts first now text
+  pub goes_on : (rest : List ℕ) → MayFollow f rest → plays i (numbered_lines (came ++ rest)) 1 start ≡ printing text (plays_fed i f rest k n s)
+
+pub nothing_came : (files : Option Files) (name : List ℕ) (first : Given) (i : Image) (start : State) (f : FeedState) → f.ahead ≡ [] → HasCome files name first first i start 0 f 1 1 start
+nothing_came files name first i start f none = record {
+  came = [];
+  size = refl;
+  held = λ bytes holds. refl;
+  text = [];
+  prints = puts_nothing first;
+  goes_on = λ rest may. ap (λ (xs : List ℕ). plays i (enumerate_from 1 (text_lines (xs ++ rest))) 1 start) (sym none);
+}
+
+-- more bytes came, or none
+pub more_came : (files : Option Files) (name : List ℕ) (first now : Given) (i : Image) (start : State) (taken c : ℕ) (f g : FeedState) (k n : ℕ) (s : State) → f.finished ≡ false → ReadsOn files name taken f.ahead g.ahead c →
+    HasCome files name first now i start taken f k n s → HasCome files name first now i start (taken + c) g k n s
+more_came files name first now i start taken c f g k n s open_yet r h = record {
+  came = h.came ++ r.more;
+  size = length-append h.came r.more ∙ ap (λ (x : ℕ). x + length r.more) h.size ∙ ap (λ (x : ℕ). taken + x) (sym r.count);
+  held = λ bytes holds. ap (λ (xs : List ℕ). xs ++ r.more) (h.held bytes holds) ∙ ap (λ (xs : List ℕ). take taken bytes ++ xs) (r.held bytes holds) ∙ sym (take-add taken c bytes);
+  text = h.text;
+  prints = h.prints;
+  goes_on = λ rest may. ap (λ (xs : List ℕ). plays i (numbered_lines xs) 1 start) (append_assoc h.came r.more rest) ∙ h.goes_on (r.more ++ rest) (λ e. absurd (cc (open_yet, e)))
+      ∙ ap (λ (xs : List ℕ). printing h.text (plays i (enumerate_from k (text_lines xs)) n s)) (sym (append_assoc f.ahead r.more rest) ∙ ap (λ (xs : List ℕ). xs ++ rest) (sym r.joins));
+}
+
+-- lines of them were played
+pub more_played : (files : Option Files) (name : List ℕ) (first now next : Given) (i : Image) (start : State) (taken : ℕ) (f g : FeedState) (k n : ℕ) (s : State) (l m : ℕ) (t : State) → g.finished ≡ f.finished → PlaysOn now next i f g k n s l m t →
+    HasCome files name first now i start taken f k n s → HasCome files name first next i start taken g l m t
+more_played files name first now next i start taken f g k n s l m t done on h = record {
+  came = h.came;
+  size = h.size;
+  held = h.held;
+  text = h.text ++ on.text;
+  prints = puts_both first now next h.text on.text h.prints on.prints;
+  goes_on = λ rest may. let before : MayFollow f rest = (λ e. may (done ∙ e)) in
+      h.goes_on rest before ∙ ap (printing h.text) (on.goes_on rest before) ∙ printing-printing h.text on.text (plays_fed i g rest l m t);
+}
+
+-- what was held back was written meanwhile
+pub held_played : (files : Option Files) (name : List ℕ) (first now next : Given) (i : Image) (start : State) (taken : ℕ) (f : FeedState) (k n : ℕ) (s : State) → Puts now next [] →
+    HasCome files name first now i start taken f k n s → HasCome files name first next i start taken f k n s
+held_played files name first now next i start taken f k n s on h = more_played files name first now next i start taken f f k n s k n s refl (record { text = []; prints = on; goes_on = λ rest may. refl }) h
+
+-- what is true of the bytes that came, whatever may follow, is true of the file's
+pub of_come : (files : Option Files) (name : List ℕ) (P : List ℕ → Type 0) → OfFile files name (λ t. length t ≤ MAX_EVENT_TEXT) → (came : List ℕ) (taken : ℕ) (f : FeedState) → length came ≡ taken → taken ≤ MAX_EVENT_TEXT →
+    ((bytes : List ℕ) → Holds files name bytes → came ≡ take taken bytes) → (f.finished ≡ true → (bytes : List ℕ) → Holds files name bytes → length bytes ≤ taken) →
+    ((rest : List ℕ) → MayFollow f rest → P (came ++ rest)) → OfFile files name (λ t. (length t ≤ MAX_EVENT_TEXT) × P t)
+of_come None name P text came taken f size within held last p = (came ++ [], tt, (omega (arith, ap length (append-nil came), size, within), p [] (λ e. refl)))
+of_come (Some files) name P (bytes, holds, short) came taken f size within held last p =
+    let whole : came ++ drop taken bytes ≡ bytes = ap (λ (xs : List ℕ). xs ++ drop taken bytes) (held bytes holds) ∙ take-append-drop taken bytes in
+    (bytes, holds, (short, subst P whole (p (drop taken bytes) (λ e. drop_all taken bytes (last e bytes holds)))))
+
+module _ (files : Option Files) (name : List ℕ) (faults between faults_after : ℕ) (later : faults ≤ between) (first now next : Given) (i : Image) (start : State) (taken : ℕ) (f : FeedState) (k n : ℕ) (s : State)
+    (text : OfFile files name (λ t. length t ≤ MAX_EVENT_TEXT)) (within : taken ≤ MAX_EVENT_TEXT) (last : f.finished ≡ true → (bytes : List ℕ) → Holds files name bytes → length bytes ≤ taken) (h : HasCome files name first now i start taken f k n s) where
+  -- the play ends with an answer to the lines that are ahead, whatever follows
+  pub ends_there : (r : Result (Unit {0}) Stop) → ((rest : List ℕ) → MayFollow f rest → HeldAnswers between faults_after now next (plays_fed i f rest k n s) r) →
+      OfFile files name (λ t. (length t ≤ MAX_EVENT_TEXT) × HeldAnswers faults faults_after first next (plays i (numbered_lines t) 1 start) r)
+  ends_there r answers =
+      of_come files name (λ t. HeldAnswers faults faults_after first next (plays i (numbered_lines t) 1 start) r) text h.came taken f h.size within h.held last
+      (λ rest may. came_to_end faults between faults_after later first now next (plays i (numbered_lines (h.came ++ rest)) 1 start) i (enumerate_from k (text_lines (f.ahead ++ rest))) n s r (answers rest may)
+      (record { text = h.text; prints = h.prints; rest = h.goes_on rest may }))
+
+  -- a front of the play was printed
+  pub front_there : now.held ≡ [] → OfFile files name (λ t. (length t ≤ MAX_EVENT_TEXT) × PutsFront first now (plays i (numbered_lines t) 1 start).text)
+  front_there none =
+      of_come files name (λ t. PutsFront first now (plays i (numbered_lines t) 1 start).text) text h.came taken f h.size within h.held last
+      (λ rest may. subst (PutsFront first now) (sym (ap (λ (p : Played). p.text) (h.goes_on rest may))) (puts_front_of_first first now h.text (plays_fed i f rest k n s).text (puts_all first now h.text none h.prints)))
+
+  -- the text is at its end, and nothing is ahead
+  pub ends_with_text : f.finished ≡ true → f.ahead ≡ [] → OfFile files name (λ t. (length t ≤ MAX_EVENT_TEXT) × HeldAnswers faults faults_after first now (plays i (numbered_lines t) 1 start) (Ok tt))
+  ends_with_text done none =
+      of_come files name (λ t. HeldAnswers faults faults_after first now (plays i (numbered_lines t) 1 start) (Ok tt)) text h.came taken f h.size within h.held last
+      (λ rest may.
+      let all : plays i (numbered_lines (h.came ++ rest)) 1 start ≡ printing h.text (plays i [] n s) =
+      h.goes_on rest may ∙ ap (λ (xs : List ℕ). printing h.text (plays i (enumerate_from k (text_lines xs)) n s)) (ap (λ (xs : List ℕ). xs ++ rest) none ∙ may done) in
+      inl (
+        sym (ap (λ (p : Played). p.end) all),
+        subst (Puts first now) (sym (append-nil h.text) ∙ sym (ap (λ (p : Played). p.text) all)) h.prints,
+      ))
+
+-- a text is printed first, and then a play is read
+pub read_behind : (files : Option Files) (events : List ℕ) (reads reads_after faults between faults_after : ℕ) → faults ≤ between → (first now next : Given) (text : List ℕ) (p : List ℕ → Played) (r : Result (Unit {0}) Stop) → Puts first now text →
+    HeldReadAnswers files events reads reads_after between faults_after now next p r → HeldReadAnswers files events reads reads_after faults faults_after first next (λ t. printing text (p t)) r
+read_behind files events reads reads_after faults between faults_after later first now next text p r e (inl h) =
+    inl (of_map files events _ _ (λ t x. (x.0, printed_first faults between faults_after later first now next text (p t) r e x.1)) h)
+read_behind files events reads reads_after faults between faults_after later first now next text p r e (inr h) =
+    inr (h.0, h.1, of_map files events _ _ (λ t x. (x.0, puts_front_behind first now next text (p t).text e x.1)) h.2)

@@ -1,0 +1,14 @@
+pub mod EventSteps
+pub mod FaultlessReads
+pub mod FedPlays
+pub mod Fronts
+pub mod GivenTexts
+pub mod InputFiles
+pub mod PlayEnds
+pub mod PlayedTrace
+pub mod Plays
+pub mod Results
+pub mod Runs
+pub mod StoredFiles
+pub mod TextReads
+pub mod Unloaded

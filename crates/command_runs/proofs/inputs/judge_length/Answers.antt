@@ -1,0 +1,29 @@
+-- the text has no byte at its limit, has one, or isn't there
+use Rattle.std.proofs.Common.{◌≡◌, ◌≢◌, ◌<◌, ◌≤◌, ℕ, List, length, drop, sym, subst, arith}
+use Rattle.std.proofs.lemmas.List.{length-drop}
+use Rattle.command_runs.specs.Inputs.{unread, faulty, NotLoaded}
+use Rattle.command_runs.specs.Outside.{told}
+use Rattle.command_runs.specs.declared.stop.Input.TheVariants.{Events}
+use Rattle.command_runs.proofs.InputFiles.{of_told, of_longer}
+use Rattle.command_runs.proofs.inputs.judge_length.Goals as goal
+
+-- a byte stands at the limit
+over_by : (bytes : List ℕ) (n : ℕ) → n ≤ length (drop 16777216 bytes) → n ≢ 0 → 16777216 < length bytes
+over_by bytes n within some = omega (arith, within, some, length-drop 16777216 bytes)
+
+pub returns-in-Ok-eq0-clause-within : goal.returns-in-Ok-eq0-clause-within
+returns-in-Ok-eq0-clause-within g c =
+    of_told _ _ (λ (t : List ℕ). length t ≤ 16777216) (omega arith)
+    (λ bytes holds. (c.in-Ok-eq0.ensures.piece bytes holds).some (omega arith) c.in-Ok-eq0.field-0-test)
+    (λ missing. let e = c.in-Ok-eq0.ensures.missing missing in absurd (cc e))
+
+pub returns-in-Ok-clause-stop : goal.returns-in-Ok-clause-stop
+returns-in-Ok-clause-stop g c =
+    let some : c.in-Ok.field-0 ≡ 0 → ⊥ = c.in-Ok.field-0-test.1 in
+    subst (NotLoaded (told g.F.Shelf c.args.shelf.now) (told g.F.Shelf c.read.new.self) Events c.args.name.now) (sym c.over_limit.ensures)
+    (faulty tt (of_longer _ _ 16777216 (λ (b : List ℕ). 16777216 < length b) (λ b over. over)
+    (λ bytes holds. over_by bytes c.in-Ok.field-0 (c.in-Ok.ensures.piece bytes holds).within some)
+    (λ missing. let e = c.in-Ok.ensures.missing missing in absurd (cc e))))
+
+pub returns-in-Err-clause-stop : goal.returns-in-Err-clause-stop
+returns-in-Err-clause-stop g c = unread c.in-Err.ensures.cause

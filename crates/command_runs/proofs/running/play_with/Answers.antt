@@ -1,0 +1,16 @@
+-- what is played of a machine that has just started is the whole
+use Rattle.std.proofs.Common.{◌≡◌, List, ℕ, ap, inr, subst}
+use Rattle.osek_standard.specs.Dispatch.{stepped}
+use Rattle.image_run.specs.Machines.{AtWork}
+use Rattle.trace_text.specs.EventText.{numbered_lines}
+use Rattle.command_runs.specs.Playing.{Played, printing, plays, line_of, ReadAnswers, whole_play}
+use Rattle.command_runs.proofs.Runs.{whole_started}
+use Rattle.command_runs.proofs.running.play_with.Goals as goal
+
+pub returns-in-Ok-clause-answer : goal.returns-in-Ok-clause-answer
+returns-in-Ok-clause-answer g c =
+    let m = c.in-Ok.machine in
+    let same : ◌≡◌ {A = List ℕ → Played} (λ t. printing (line_of m.image 0 (stepped m.state c.in-Ok.notes)) (plays m.image (numbered_lines t) 1 m.state)) (whole_play c.args.image c.args.mode) =
+    (λ j t. whole_started c.args.image m.image c.args.mode m.state c.in-Ok.notes (ap (λ (w : AtWork). w.image) c.in-Ok.ensures.machine) c.in-Ok.ensures.start t j) in
+    inr (subst (λ (p : List ℕ → Played). ReadAnswers (g.F.Shelf.contents c.args.shelf.now) c.args.events.now (g.F.Shelf.read_faults c.args.shelf.now c.args.events.now) (g.F.Shelf.read_faults c.play_machine.new.shelf c.args.events.now)
+    (g.O.Sink.faults c.args.out.now) (g.O.Sink.faults c.play_machine.new.out) (g.O.Sink.written c.args.out.now) (g.O.Sink.written c.play_machine.new.out) p c.play_machine.result) same c.play_machine.ensures.answer)

@@ -1,0 +1,140 @@
+-- What a machine prints for the lines of an event text that are ahead, and how it ends.
+use Rattle.std.specs.Prelude.{◌≡◌, ◌⊎◌, ℕ, ◌+◌, ◌≤◌, true, List, [], ◌∷◌, ◌++◌, length, Option, Some, None, Result, Ok, Err}
+use Rattle.std.specs.List.{enumerate_from}
+use Rattle.osek_values.specs.declared.limits.TheConstants.{MAX_EVENT_TEXT}
+use Rattle.osek_values.specs.declared.event.Event.{Event}
+use Rattle.osek_values.specs.declared.numbers.ModeNo.{ModeNo}
+use Rattle.osek_standard.specs.declared.state.State.{State}
+use Rattle.osek_standard.specs.Dispatch.{Stepped}
+use Rattle.osek_standard.specs.Kernel.{start}
+use Rattle.osek_standard.specs.TraceText.{line_text}
+use Rattle.image_model.specs.declared.image.Image.{Image}
+use Rattle.image_model.specs.ImageStep.{image_step}
+use Rattle.image_model.specs.ImageTrace.{trap_line}
+use Rattle.trace_text.specs.EventText.{text_lines, numbered_lines}
+use Rattle.trace_text.specs.Feeds.{FeedState}
+use Rattle.trace_text.specs.EventWords.{read_line}
+use Rattle.trace_text.specs.declared.fault.EventFault.{EventFault}
+use Rattle.osek_io.specs.Counts.{Rose}
+use Rattle.osek_io.specs.Files.{Files}
+use Rattle.osek_io.specs.HeldBytes.{PassesOn}
+use Rattle.osek_io.specs.Pieces.{grown}
+use Rattle.command_runs.specs.Inputs.{OfFile}
+use Rattle.command_runs.specs.Telling.{WritesFront}
+use Rattle.command_runs.specs.declared.stop.Input.TheVariants as input
+use Rattle.command_runs.specs.declared.stop.Stop.{Stop}
+use Rattle.command_runs.specs.declared.stop.Stop.TheVariants as stop
+
+-- what a sink was given, where it tells it, and what a buffer holds back from it
+pub record Given : Type 0 where
+  pub written : Option (List ℕ)
+  pub held : List ℕ
+
+abbrev pub given : Option (List ℕ) → List ℕ → Given
+given written held = record { written = written; held = held }
+
+-- The text was put behind what was held back: a front of both was written, and the rest is held back.
+abbrev pub Puts : Given → Given → (text : List ℕ) → Type 0
+Puts old new text = PassesOn old.written new.written (old.held ++ text) new.held
+
+-- A write failed: a front of both was written, and nothing is held back.
+abbrev pub PutsFront : Given → Given → (text : List ℕ) → Type 0
+PutsFront old new text = WritesFront old.written new.written (old.held ++ text) × (new.held ≡ [])
+
+-- what is printed, and at a stop why
+pub record Played : Type 0 where
+  pub text : List ℕ
+  pub end : Result (Unit {0}) Stop
+
+abbrev pub played : List ℕ → Result (Unit {0}) Stop → Played
+played text end = record { text = text; end = end }
+
+abbrev pub printing : List ℕ → Played → Played
+printing text p = played (text ++ p.text) p.end
+
+abbrev pub line_of : Image → ℕ → Stepped → List ℕ
+line_of i n x = line_text i.app n x ++ 10 ∷ []
+
+-- event n: its line and then the rest, or the line of a trap
+abbrev pub played_after : Image → ℕ → (State → Played) → Option Stepped → Played
+played_after i n more None = played (trap_line n) (Err stop.Trapped)
+played_after i n more (Some x) = printing (line_of i n x) (more x.state)
+
+-- a line: no event, a fault that ends all, or event n in a state, with what comes after it
+abbrev pub played_line : Image → ℕ → State → ℕ → (ℕ → State → Played) → Result (Option Event) EventFault → Played
+played_line i n s line more (Ok None) = more n s
+played_line i n s line more (Ok (Some e)) = played_after i n (more (n + 1)) (image_step i s e)
+played_line i n s line more (Err rule) = played [] (Err (stop.Events (record { line = line; rule = rule })))
+
+abbrev pub plays : Image → List (ℕ × List ℕ) → ℕ → State → Played
+plays i [] n s = played [] (Ok tt)
+plays i (line ∷ more) n s = played_line i n s line.0 (plays i more) (read_line i.app line.1)
+
+-- What playing event n answers and leaves: the line of the step, or of a trap, was printed; or a front of it, where a
+-- write failed.
+abbrev pub AnswersEvent : (faults faults_after : ℕ) → Given → Given → Image → ℕ → State → Option Stepped → Result (Unit {0}) Stop → Type 0
+AnswersEvent faults faults_after printed printed_after i n s None r =
+    ((r ≡ Err stop.Trapped) × Puts printed printed_after (trap_line n))
+    ⊎ ((r ≡ Err stop.Unprinted) × Rose faults faults_after × PutsFront printed printed_after (trap_line n))
+AnswersEvent faults faults_after printed printed_after i n s (Some x) r =
+    ((r ≡ Ok tt) × (s ≡ x.state) × Puts printed printed_after (line_of i n x))
+    ⊎ ((r ≡ Err stop.Unprinted) × Rose faults faults_after × PutsFront printed printed_after (line_of i n x))
+
+-- What playing a line answers and leaves, whatever comes after it: how many events there were next, in which state, what
+-- was printed; or an end of the play.
+pub record GoesOn (printed printed_after : Given) (line : (ℕ → State → Played) → Played) (next : ℕ) (s : State) : Type 0 where
+  pub text : List ℕ
+  pub prints : Puts printed printed_after text
+  pub goes_on : (more : ℕ → State → Played) → line more ≡ printing text (more next s)
+
+-- What is left of a play: all was printed, to its end, or a write failed.
+abbrev pub PlayAnswers : (faults faults_after : ℕ) → Option (List ℕ) → Option (List ℕ) → Played → Result (Unit {0}) Stop → Type 0
+PlayAnswers faults faults_after printed printed_after p r =
+    ((r ≡ p.end) × (printed_after ≡ grown printed p.text))
+    ⊎ ((r ≡ Err stop.Unprinted) × Rose faults faults_after × WritesFront printed printed_after p.text)
+
+-- the same of a play whose texts are held back
+abbrev pub HeldAnswers : (faults faults_after : ℕ) → Given → Given → Played → Result (Unit {0}) Stop → Type 0
+HeldAnswers faults faults_after printed printed_after p r =
+    ((r ≡ p.end) × Puts printed printed_after p.text)
+    ⊎ ((r ≡ Err stop.Unprinted) × Rose faults faults_after × PutsFront printed printed_after p.text)
+
+abbrev pub AnswersLine : (faults faults_after : ℕ) → Given → Given → ((ℕ → State → Played) → Played) → State → Result ℕ Stop → Type 0
+AnswersLine faults faults_after printed printed_after line s (Ok next) = GoesOn printed printed_after line next s
+AnswersLine faults faults_after printed printed_after line s (Err e) = (more : ℕ → State → Played) → HeldAnswers faults faults_after printed printed_after (line more) (Err e)
+
+-- what is played of the lines that a feed has ahead, where this rest of the text comes behind them: line k is the next one
+abbrev pub plays_fed : Image → FeedState → (rest : List ℕ) → (k n : ℕ) → State → Played
+plays_fed i f rest k n s = plays i (enumerate_from k (text_lines (f.ahead ++ rest))) n s
+
+-- What may come behind what a feed has ahead: nothing once it is finished.
+abbrev pub MayFollow : FeedState → (rest : List ℕ) → Type 0
+MayFollow f rest = f.finished ≡ true → rest ≡ []
+
+-- The play went on from one feed, line, event and state to another ones: what it printed is the same whatever follows.
+pub record PlaysOn (printed printed_after : Given) (i : Image) (f g : FeedState) (k n : ℕ) (s : State) (l m : ℕ) (t : State) : Type 0 where
+  pub text : List ℕ
+  pub prints : Puts printed printed_after text
+  pub goes_on : (rest : List ℕ) → MayFollow f rest → plays_fed i f rest k n s ≡ printing text (plays_fed i g rest l m t)
+
+-- what is left of a play of an event text that is read as it goes: it was played to its end, or a read failed at which
+-- a front of it had been printed
+abbrev pub ReadAnswers : Option Files → (events : List ℕ) → (reads reads_after faults faults_after : ℕ) → Option (List ℕ) → Option (List ℕ) → (play : List ℕ → Played) → Result (Unit {0}) Stop → Type 0
+ReadAnswers files events reads reads_after faults faults_after printed printed_after play r =
+    OfFile files events (λ text. (length text ≤ MAX_EVENT_TEXT) × PlayAnswers faults faults_after printed printed_after (play text) r)
+    ⊎ ((r ≡ Err (stop.Unread input.Events)) × Rose reads reads_after × OfFile files events (λ text. (length text ≤ MAX_EVENT_TEXT) × WritesFront printed printed_after (play text).text))
+
+-- the same of a play whose texts are held back
+abbrev pub HeldReadAnswers : Option Files → (events : List ℕ) → (reads reads_after faults faults_after : ℕ) → Given → Given → (play : List ℕ → Played) → Result (Unit {0}) Stop → Type 0
+HeldReadAnswers files events reads reads_after faults faults_after printed printed_after play r =
+    OfFile files events (λ text. (length text ≤ MAX_EVENT_TEXT) × HeldAnswers faults faults_after printed printed_after (play text) r)
+    ⊎ ((r ≡ Err (stop.Unread input.Events)) × Rose reads reads_after × OfFile files events (λ text. (length text ≤ MAX_EVENT_TEXT) × PutsFront printed printed_after (play text).text))
+
+-- what is printed of an image from its start in a mode, under the lines of an event text
+abbrev pub whole_play : Image → ModeNo → List ℕ → Played
+whole_play i m text = printing (line_of i 0 (start i.app m)) (plays i (numbered_lines text) 1 (start i.app m).state)
+
+-- The text was played as it was read, or nothing as memory ran out.
+abbrev pub PlaysWhole : Option Files → (events : List ℕ) → (reads reads_after faults faults_after : ℕ) → Option (List ℕ) → Option (List ℕ) → Image → ModeNo → Result (Unit {0}) Stop → Type 0
+PlaysWhole files events reads reads_after faults faults_after printed printed_after i m r =
+    ((r ≡ Err stop.Memory) × (printed_after ≡ printed)) ⊎ ReadAnswers files events reads reads_after faults faults_after printed printed_after (whole_play i m) r

@@ -1,0 +1,19 @@
+//! What a command does with the files that it is handed: inputs within their limits, images that run under an event text or
+//! are upgraded, and texts that are told piece by piece.
+#![tactic(auto)]
+
+mod inputs;
+mod playing;
+mod replaying;
+mod running;
+mod stop;
+mod tell;
+mod upgrading;
+
+pub use inputs::load_input;
+pub use playing::front;
+pub use replaying::{load_image, replay};
+pub use running::{line_room, run};
+pub use stop::{Input, Stop};
+pub use tell::{put_two, tell_fault};
+pub use upgrading::upgrade;

@@ -1,0 +1,17 @@
+-- the best of the tasks so far, after one scan fewer than there were Live tasks
+use Rattle.std.proofs.Common.{◌≡◌, ◌+◌, ◌<◌, take, IfSome}
+use Rattle.std.specs.List.{count_by}
+use Rattle.osek_values.specs.declared.numbers.TaskNo.{TaskNo}
+use Rattle.osek_standard.specs.declared.app.App.{App}
+use Rattle.osek_standard.specs.declared.state.State.{State}
+use Rattle.osek_standard.specs.TaskStates.{is_live}
+use Rattle.generic_kernel.specs.BestBelow.{IsBestBelow, some_of}
+use Rattle.generic_kernel.specs.Levels.{IsReady}
+use Rattle.generic_kernel.proofs.ready.Ready.best.Given as goal
+
+abbrev pub invariant-loop-task : goal.invariant-loop-task
+invariant-loop-task g l = record {
+  below : IfSome l.found (λ (t : TaskNo). t.0 < l.task);
+  best : (app : App) (s : State) → IsReady app s l.self → IsBestBelow app s l.task l.found;
+  scans : (app : App) (s : State) → IsReady app s l.self → l.scans + some_of l.found ≡ l.fn.scans + count_by is_live (take l.task s.tasks);
+}

@@ -1,0 +1,9 @@
+-- The services and the shapes of their calls, under one name: `use Rattle.generic_kernel.specs.CallNames as call`. (What
+-- osek_standard gives on of its own types is not seen outside it.)
+pub use Rattle.osek_standard.specs.declared.call.Call.TheVariants.{Plain, Task, Resource, SetEvent, Mask, Alarm, Arm, Lock, ShutdownOs}
+pub use Rattle.osek_standard.specs.declared.call.PlainService.TheVariants.{TerminateTask, Schedule, GetTaskId, GetActiveApplicationMode}
+pub use Rattle.osek_standard.specs.declared.call.TaskService.TheVariants.{ActivateTask, ChainTask, GetEvent, GetTaskState}
+pub use Rattle.osek_standard.specs.declared.call.ResourceService.TheVariants.{GetResource, ReleaseResource}
+pub use Rattle.osek_standard.specs.declared.call.MaskService.TheVariants.{ClearEvent, WaitEvent}
+pub use Rattle.osek_standard.specs.declared.call.AlarmService.TheVariants.{CancelAlarm, GetAlarm}
+pub use Rattle.osek_standard.specs.declared.call.ArmService.TheVariants.{SetRelAlarm, SetAbsAlarm}

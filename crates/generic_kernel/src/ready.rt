@@ -1,0 +1,170 @@
+//! The tasks that are ready or running, kept from step to step, and the best of them.
+ghost use Rattle.std.specs.Prelude.{◌≡◌, ◌≢◌, ◌+◌, ◌<◌, ◌≤◌, length, nat_lt, ℕ, None, IfSome, IfNone, true, false, slice_index_or};
+ghost use Rattle.std.specs.List.{count_by};
+ghost use Rattle.osek_standard.specs.declared.app.App.{App};
+ghost use Rattle.osek_standard.specs.declared.state.State.{State};
+ghost use Rattle.osek_standard.specs.TaskStates.{is_live};
+ghost use Rattle.osek_standard.specs.States.{is_that_task, task_state};
+ghost use Rattle.osek_standard.specs.Priority.{best};
+ghost use Rattle.osek_standard.specs.Well.{Well, HasProcessor};
+ghost use Rattle.generic_kernel.specs.BestBelow.{IsBestBelow, some_of};
+ghost use Rattle.generic_kernel.specs.Changes.{ChangesOnly};
+ghost use Rattle.generic_kernel.specs.Levels.{IsReady, count_of, level as level_of, priority_in};
+
+use ceiling_rules::current_priority;
+use osek_standard::{App, State};
+use osek_values::limits::MAX_TASKS;
+use osek_values::{Steps, TaskNo};
+use std::marker::Model;
+use std::sync::ledger::Ledger;
+
+/// The Live tasks of a state with their current priorities. It takes no memory.
+#[derive(Drop)]
+pub struct Ready {
+    /// Of each task its current priority, where it is Live.
+    levels: [Option<u32>; MAX_TASKS],
+}
+
+impl Model for Ready {
+    ghost use Rattle.std.specs.Prelude.{List, ℕ};
+    ghost use Rattle.std.specs.declared.option.Option.{Option};
+
+    ghost Value = { List (Option ℕ) };
+
+    ghost view = { λ r. r.levels };
+}
+
+/// The current priority of a task, where it is Live.
+fn level(app: &App, state: &State, task: TaskNo) -> Option<u32>
+    requires known { task.0 < length app.now.tasks }
+    requires well { Well app.now state.now }
+    ensures { result ≡ level_of app.now state.now task.0 }
+{
+    if state.task(task).is_live() {
+        Some(current_priority(app, state, task))
+    } else {
+        None
+    }
+}
+
+/// The priority of a level.
+fn priority(level: Option<u32>) -> u32
+    ensures { result ≡ priority_in level }
+{
+    match level {
+        None => 0,
+        Some(priority) => priority,
+    }
+}
+
+impl Ready {
+    /// Those of a state.
+    pub fn of(app: &App, state: &State) -> Ready
+        requires { Well app.now state.now }
+        ensures { IsReady app.now state.now result }
+    {
+        let mut ready = Ready {
+            levels: [None; MAX_TASKS],
+        };
+        for task in 0..app.tasks.len() {
+            ready.refresh(app, state, TaskNo(task as u8));
+        }
+        ready
+    }
+
+    /// Takes in what became of a task.
+    pub fn refresh(&mut self, app: &App, state: &State, task: TaskNo)
+        requires known { task.0 < length app.now.tasks }
+        requires well { Well app.now state.now }
+        ensures here { slice_index_or self.new task.0 None ≡ level_of app.now state.now task.0 }
+        ensures others { (u : ℕ) → u ≢ task.0 → slice_index_or self.new u None ≡ slice_index_or self.old u None }
+    {
+        self.levels[task.index()] = level(app, state, task);
+    }
+
+    /// The same of a task, if there is one.
+    fn refresh_some(&mut self, app: &App, state: &State, task: Option<TaskNo>)
+        requires known { IfSome task (λ t. t.0 < length app.now.tasks) }
+        requires well { Well app.now state.now }
+        ensures here { (u : ℕ) → is_that_task task u ≡ true → slice_index_or self.new u None ≡ level_of app.now state.now u }
+        ensures others { (u : ℕ) → is_that_task task u ≡ false → slice_index_or self.new u None ≡ slice_index_or self.old u None }
+    {
+        match task {
+            None => {}
+            Some(task) => self.refresh(app, state, task),
+        }
+    }
+
+    /// Takes in what became of two tasks. Where these were the Live tasks of a state that differs in no other task, they
+    /// are those of the state now.
+    pub fn take_in(
+        &mut self,
+        app: &App,
+        state: &State,
+        first: Option<TaskNo>,
+        second: Option<TaskNo>,
+    )
+        requires first { IfSome first (λ t. t.0 < length app.now.tasks) }
+        requires second { IfSome second (λ t. t.0 < length app.now.tasks) }
+        requires well { Well app.now state.now }
+        ensures { (s : State) → IsReady app.now s self.old → ChangesOnly first second s state.now → IsReady app.now state.now self.new }
+    {
+        self.refresh_some(app, state, first);
+        self.refresh_some(app, state, second);
+    }
+
+    /// Whether the first task has a lower current priority. A scan is one such comparison.
+    pub fn is_lower<L: Ledger>(&self, first: TaskNo, second: TaskNo, scans: &mut Steps<L>) -> bool
+        requires first { first.0 < MAX_TASKS }
+        requires second { second.0 < MAX_TASKS }
+        ensures lower { result ≡ nat_lt (priority_in (slice_index_or self.now first.0 None)) (priority_in (slice_index_or self.now second.0 None)) }
+        ensures scan { scans.new ≡ scans.old + 1 }
+    {
+        scans.tick();
+        priority(self.levels[first.index()]) < priority(self.levels[second.index()])
+    }
+
+    /// The better of the best so far and the next task.
+    fn better<L: Ledger>(
+        &self,
+        found: Option<TaskNo>,
+        task: TaskNo,
+        scans: &mut Steps<L>,
+    ) -> Option<TaskNo>
+        requires known { task.0 < MAX_TASKS }
+        requires below { IfSome found (λ t. t.0 < task.0) }
+        ensures below { IfSome result (λ t. t.0 < task.0 + 1) }
+        ensures best { (app : App) (s : State) → IsReady app s self.now → IsBestBelow app s task.0 found → IsBestBelow app s (task.0 + 1) result }
+        ensures scans { scans.new + some_of result ≡ scans.old + some_of found + count_of (slice_index_or self.now task.0 None) }
+    {
+        if self.levels[task.index()].is_none() {
+            return found;
+        }
+        match found {
+            None => Some(task),
+            Some(other) => {
+                if self.is_lower(other, task, scans) {
+                    Some(task)
+                } else {
+                    Some(other)
+                }
+            }
+        }
+    }
+
+    /// The Live task that is to run, of any state of which these are the Live tasks, after one scan fewer than there
+    /// are such tasks.
+    pub fn best<L: Ledger>(&self, scans: &mut Steps<L>) -> Option<TaskNo>
+        ensures best { (app : App) (s : State) → Well app s → IsReady app s self.now → result ≡ best app s }
+        ensures live { (app : App) (s : State) → Well app s → IsReady app s self.now → IfSome result (HasProcessor app s) }
+        ensures none { (app : App) (s : State) → Well app s → IsReady app s self.now → IfNone result ((t : ℕ) → is_live (task_state s t) ≡ false) }
+        ensures scans { (app : App) (s : State) → Well app s → IsReady app s self.now → scans.new + some_of result ≡ scans.old + count_by is_live s.tasks }
+        ensures few { (app : App) (s : State) → Well app s → IsReady app s self.now → scans.new + some_of result ≤ scans.old + length app.tasks }
+    {
+        let mut found = None;
+        for task in 0..MAX_TASKS {
+            found = self.better(found, TaskNo(task as u8), scans);
+        }
+        found
+    }
+}

@@ -1,0 +1,70 @@
+-- Readers of what the versions differ in, and their spellings: the magic, and the fields that version 2 alone has.
+use Rattle.std.proofs.Common.{◌≡◌, ℕ, ◌^◌, ◌<◌, ◌≤◌, false, inl, inr, eqb, ltb, List, ◌++◌, length, take, drop, Some, None, refl, sym, ap, subst, ◌∙◌, arith}
+use Rattle.std.specs.Int.{w16}
+use Rattle.std.specs.Str.{bytes_eq}
+use Rattle.std.proofs.lemmas.Bool.{ltb-false, le-ltb, eqb-true, eq-eqb}
+use Rattle.std.proofs.lemmas.List.{take_at, drop_at, take-append-drop, length-append, length-take}
+use Rattle.image_model.specs.declared.image.Version.{Version}
+use Rattle.image_model.specs.declared.image.Version.TheVariants as version
+use Rattle.image_codec.specs.declared.fault.{ImageRule.TheVariants.{I1, I2, I3}}
+use Rattle.image_codec.specs.Spelling.{one, two, magic, further}
+use Rattle.image_codec.specs.Reading.{Read, fault_at, text_at, unused_byte_at, unused_16_at}
+use Rattle.image_codec.specs.TableReading.{version_of, version_at}
+use Rattle.image_codec.proofs.Spells.{AreBytes-drop, enough_ok, Takes, Spells, nothing_more, said, wide16, Tested, tested_byte_law, tested_number_law}
+use Rattle.image_codec.proofs.FieldLaws.{bytes_eq_is}
+use Rattle.image_codec.proofs.FoundLaws.{first_choice, found_law}
+
+-- ---- the magic
+
+abbrev front_at : ℕ → List ℕ → Read (List ℕ)
+front_at len bytes = text_at len (length bytes) bytes
+
+front_law : (len : ℕ) → Spells (front_at len) (λ x. x) (λ x. length x ≡ len)
+front_law len = record {
+  takes = λ bytes x rest fits e.
+      let g = enough_ok (ltb (length bytes) len) (fault_at I1 bytes) (take len bytes, drop len bytes) (x, rest) e in
+      let long : len ≤ length bytes = ltb-false _ _ g.0 in
+      subst (λ (p : List ℕ × List ℕ). Takes bytes p.0 p.1 × (length p.0 ≡ len)) g.1 (
+        record { parts = sym (take-append-drop len bytes); rest_fits = AreBytes-drop len bytes fits },
+        omega (arith, length-take len bytes),
+      );
+  again = λ x rest good.
+      let long : ltb (length (x ++ rest)) len ≡ false = le-ltb _ _ (omega (arith, length-append x rest)) in
+      rw (long, take_at x rest len good, drop_at x rest len good) refl;
+}
+
+version_back : (front : List ℕ) (v : Version) → version_of front ≡ Some v → magic v ≡ front
+version_back front v e =
+    elim (first_choice (bytes_eq front (magic version.One)) version.One _ v e) [
+      | inl h ↦ ap magic (sym h.1) ∙ sym (bytes_eq_is front (magic version.One) h.0)
+      | inr e1 ↦ elim (first_choice (bytes_eq front (magic version.Two)) version.Two None v e1) [
+        | inl h ↦ ap magic (sym h.1) ∙ sym (bytes_eq_is front (magic version.Two) h.0)
+        | inr h ↦ absurd cc
+      ]
+    ]
+
+version_again : (v : Version) → (length (magic v) ≡ 8) × (version_of (magic v) ≡ Some v)
+version_again version.One = (refl, refl)
+version_again version.Two = (refl, refl)
+
+pub version_law : Spells version_at magic (λ _. Unit {0})
+unfolding version_at
+version_law =
+    found_law (front_at 8) (λ x. x) (λ x. length x ≡ 8) I2 version_of magic (λ _. Unit {0}) (front_law 8)
+    (λ front v _ e. (version_back front v e, tt)) (λ v _. version_again v)
+
+-- ---- fields of version 2 alone
+
+pub unused_byte_law : (v : Version) (value : ℕ) → value < 256 → Spells (unused_byte_at v value) (λ n. further v (one n)) (λ n. n ≡ value)
+unfolding unused_byte_at
+unused_byte_law version.One value small = nothing_more value
+unused_byte_law version.Two value small =
+    said _ one (Tested (λ n. eqb n value) (λ n. n < 256)) one (λ n. n ≡ value) (tested_byte_law (λ n. eqb n value) I3)
+    (λ n. refl) (λ n good. eqb-true n value good.1) (λ n e. (omega (arith, e, small), eq-eqb n value e))
+
+pub unused_16_law : (v : Version) (value : ℕ) → value < 2 ^ 16 → Spells (unused_16_at v value) (λ n. further v (two n)) (λ n. n ≡ value)
+unfolding unused_16_at
+unused_16_law version.One value small = nothing_more value
+unused_16_law version.Two value small =
+    said _ two (Tested (λ n. eqb n value) (λ n. n < 2 ^ 16)) two (λ n. n ≡ value) (tested_number_law w16 (2 ^ 16) wide16 (λ n. eqb n value) I3)
+    (λ n. refl) (λ n good. eqb-true n value good.1) (λ n e. (omega (arith, e, small), eq-eqb n value e))

@@ -1,0 +1,200 @@
+//! Worked images of version 2 as bytes, and what becomes of one of version 1.
+use crate::image_bytes::{ONE_TASK, has_forms, is_fault, reads, spells};
+use image_codec::{AlreadyNew, Form, Image, ImageRule, Known, Version, decode, upgrade};
+use osek_values::{Status, TaskNo};
+use std::alloc::Global;
+use std::test::*;
+
+/// One task, which terminates.
+const ONE_TASK_2: [u8; 96] = [
+    0x4f, 0x53, 0x45, 0x4b, 0x46, 0x49, 0x54, 0x02, 0x00, 0x01, 0x00, 0x00, 0x00, 0x01, 0x01, 0x00,
+    0x02, 0x02, 0x54, 0x31, 0x00, 0x01, 0x01, 0x00, 0x00, 0x00, 0x00, 0x00, 0x00, 0x00, 0x00, 0x01,
+    0x00, 0x00, 0x00, 0x02, 0x01, 0xff, 0x0d, 0x52, 0x45, 0x53, 0x5f, 0x53, 0x43, 0x48, 0x45, 0x44,
+    0x55, 0x4c, 0x45, 0x52, 0x00, 0x00, 0x00, 0x03, 0x00, 0x00, 0x00, 0x10, 0x4f, 0x53, 0x44, 0x45,
+    0x46, 0x41, 0x55, 0x4c, 0x54, 0x41, 0x50, 0x50, 0x4d, 0x4f, 0x44, 0x45, 0x04, 0x00, 0x00, 0x00,
+    0x00, 0x01, 0x00, 0x01, 0x02, 0xff, 0x09, 0x16, 0x00, 0x00, 0x00, 0x00, 0x01, 0x00, 0x00, 0xff,
+];
+
+/// A task that activates a higher one.
+const TWO_TASKS_2: [u8; 149] = [
+    0x4f, 0x53, 0x45, 0x4b, 0x46, 0x49, 0x54, 0x02, 0x00, 0x02, 0x00, 0x00, 0x00, 0x01, 0x01, 0x00,
+    0x05, 0x02, 0x54, 0x31, 0x00, 0x01, 0x01, 0x00, 0x00, 0x00, 0x00, 0x00, 0x00, 0x00, 0x00, 0x01,
+    0x00, 0x00, 0x00, 0x03, 0x01, 0xff, 0x02, 0x54, 0x32, 0x00, 0x02, 0x01, 0x00, 0x00, 0x00, 0x00,
+    0x00, 0x00, 0x00, 0x00, 0x00, 0x00, 0x03, 0x00, 0x02, 0x01, 0xff, 0x0d, 0x52, 0x45, 0x53, 0x5f,
+    0x53, 0x43, 0x48, 0x45, 0x44, 0x55, 0x4c, 0x45, 0x52, 0x00, 0x00, 0x00, 0x05, 0x00, 0x00, 0x00,
+    0x10, 0x4f, 0x53, 0x44, 0x45, 0x46, 0x41, 0x55, 0x4c, 0x54, 0x41, 0x50, 0x50, 0x4d, 0x4f, 0x44,
+    0x45, 0x03, 0x00, 0x00, 0x00, 0x00, 0x01, 0x01, 0x00, 0x01, 0x02, 0x01, 0x00, 0x04, 0x00, 0x00,
+    0x00, 0x00, 0x01, 0x00, 0x02, 0x02, 0xff, 0x09, 0x16, 0x00, 0x00, 0x00, 0x00, 0x01, 0x00, 0x00,
+    0xff, 0x04, 0x00, 0x00, 0x00, 0x00, 0x02, 0x00, 0x04, 0x02, 0x00, 0x09, 0x16, 0x00, 0x00, 0x00,
+    0x00, 0x02, 0x00, 0x00, 0xff,
+];
+
+/// Where the fields of `TWO_TASKS_2` begin, and where it ends.
+const FIELDS_2: [usize; 62] = [
+    0, 8, 9, 10, 11, 12, 13, 14, 15, 17, 20, 22, 23, 31, 32, 34, 36, 37, 38, 41, 43, 44, 52, 53,
+    55, 57, 58, 59, 73, 77, 78, 80, 97, 98, 99, 103, 104, 106, 108, 109, 110, 111, 115, 117, 119,
+    120, 121, 122, 126, 128, 129, 130, 131, 135, 137, 139, 140, 141, 142, 146, 148, 149,
+];
+
+/// What is known of the statuses at these places of `ONE_TASK_2`, and that nothing is.
+const KNOWN_PLACES: [usize; 2] = [86, 95];
+
+/// Whether this is known of the statuses of the sites, one after the other.
+fn has_known(image: &Image, known: &[Known]) -> bool {
+    image.sites.len() == known.len()
+        && image.sites.as_slice().iter().zip(known).all(|(site, known)| match site {
+            Some(site) => site.known == *known,
+            None => false,
+        })
+}
+
+fn is_of_one_task(image: &Image) -> bool {
+    image.version == Version::Two
+        && has_forms(image, &[Form::Direct(None), Form::Never])
+        && has_known(image, &[Known::Always(None), Known::Any])
+}
+
+#[test]
+fn one_task_in_version_2(rt: HostRuntime) {
+    assert!(rt; reads(rt.alloc(), &ONE_TASK_2, is_of_one_task));
+}
+
+fn is_of_two_tasks(image: &Image) -> bool {
+    let forms = [
+        Form::Direct(Some(TaskNo(1))),
+        Form::Direct(None),
+        Form::Never,
+        Form::Direct(Some(TaskNo(0))),
+        Form::Never,
+    ];
+    let known = [
+        Known::Always(Some(Status::Ok)),
+        Known::Always(None),
+        Known::Any,
+        Known::Always(None),
+        Known::Any,
+    ];
+    image.version == Version::Two && has_forms(image, &forms) && has_known(image, &known)
+}
+
+#[test]
+fn two_tasks_in_version_2(rt: HostRuntime) {
+    assert!(rt; reads(rt.alloc(), &TWO_TASKS_2, is_of_two_tasks));
+}
+
+/// One task in version 2, with nothing known of its statuses.
+fn one_task_upgraded() -> [u8; 96] {
+    let mut bytes = ONE_TASK_2;
+    for at in KNOWN_PLACES {
+        if at < 96 {
+            bytes[at] = 0xff;
+        }
+    }
+    bytes
+}
+
+/// Whether an image is upgraded once, and not a second time, and is spelled by the bytes then.
+fn is_upgraded_once(alloc: Global, mut image: Image, bytes: &[u8]) -> bool {
+    let first = upgrade(&mut image);
+    let after_first = spells(alloc, &image, bytes);
+    let second = upgrade(&mut image);
+    let after_second = spells(alloc, &image, bytes);
+    drop(image);
+    first == Ok(()) && after_first && second == Err(AlreadyNew) && after_second
+}
+
+/// The same of bytes.
+fn are_upgraded_once(alloc: Global, old: &[u8], new: &[u8]) -> bool {
+    match decode(alloc, old) {
+        Ok(image) => is_upgraded_once(alloc, image, new),
+        Err(_) => false,
+    }
+}
+
+#[test]
+fn an_upgrade(rt: HostRuntime) {
+    assert!(rt; are_upgraded_once(rt.alloc(), &ONE_TASK, &one_task_upgraded()));
+}
+
+/// Whether the first bytes of the two tasks' image, so many, end early in this field.
+fn is_cut(alloc: Global, len: usize, field: usize) -> bool {
+    match TWO_TASKS_2.get(..len) {
+        Some(bytes) => is_fault(alloc, bytes, ImageRule::I1, field),
+        None => false,
+    }
+}
+
+/// The first length that the two tasks' image isn't rightly cut to.
+fn first_wrong_cut(alloc: Global) -> Option<usize> {
+    let mut field = 0;
+    for len in 0..149usize {
+        if FIELDS_2.contains(&len) {
+            field = len;
+        }
+        if !is_cut(alloc, len, field) {
+            return Some(len);
+        }
+    }
+    None
+}
+
+#[test]
+fn cut_at_each_length_in_version_2(rt: HostRuntime) {
+    assert_eq!(rt; first_wrong_cut(rt.alloc()), None);
+}
+
+/// The two tasks' image with a byte behind it.
+fn longer() -> [u8; 150] {
+    let mut bytes = [0; 150];
+    bytes[..149].copy_from_slice(&TWO_TASKS_2);
+    bytes
+}
+
+#[test]
+fn a_byte_after_the_end_in_version_2(rt: HostRuntime) {
+    assert!(rt; is_fault(rt.alloc(), &longer(), ImageRule::I6, 149));
+}
+
+/// A byte of the two tasks' image at an offset, and the fault with it: its rule and its offset.
+const HOSTILE_2: [(&str, usize, u8, ImageRule, usize); 10] = [
+    ("a third version", 7, 3, ImageRule::I2, 0),
+    (
+        "version 1 with fields of version 2",
+        7,
+        1,
+        ImageRule::I4,
+        36,
+    ),
+    ("two activations", 36, 2, ImageRule::I3, 36),
+    ("an internal resource", 58, 0, ImageRule::I3, 58),
+    ("a property", 77, 1, ImageRule::I3, 77),
+    ("an interrupt ceiling", 79, 1, ImageRule::I3, 78),
+    ("one priority twice", 42, 1, ImageRule::I5, 41),
+    ("a form above General", 106, 4, ImageRule::I3, 106),
+    ("a status of number 10", 108, 10, ImageRule::I3, 108),
+    ("a status of number fe", 148, 0xfe, ImageRule::I3, 148),
+];
+
+/// The two tasks' image with one byte changed.
+fn changed(at: usize, byte: u8) -> [u8; 149] {
+    let mut bytes = TWO_TASKS_2;
+    if at < 149 {
+        bytes[at] = byte;
+    }
+    bytes
+}
+
+/// The name of the first that gives another fault, or none.
+fn first_wrong_byte(alloc: Global) -> Option<&'static str> {
+    for (name, at, byte, rule, offset) in &HOSTILE_2 {
+        if !is_fault(alloc, &changed(*at, *byte), *rule, *offset) {
+            return Some(*name);
+        }
+    }
+    None
+}
+
+#[test]
+fn hostile_bytes_in_version_2(rt: HostRuntime) {
+    assert_eq!(rt; first_wrong_byte(rt.alloc()), None);
+}

@@ -1,0 +1,170 @@
+-- What conditions leave of sets of numbers, and what a rule without changes makes of them.
+use Rattle.std.proofs.Common.{◌≡◌, ◌≢◌, ℕ, ◌<◌, ◌≤◌, Bool, true, false, not, ◌||◌, ◌&&◌, List, [], ◌∷◌, ◌++◌, length, get_or, set, refl, sym, ap, ap₂, subst, ◌∙◌, inl, inr, arith, IsTrue, get_or-set_same, get_or-set_other}
+use Rattle.std.specs.Prelude.{◌==◌}
+use Rattle.std.specs.List.{list_any}
+use Rattle.std.proofs.lemmas.Bool.{cases_eq, and_parts, eq-eqb, ne_eqb}
+use Rattle.std.proofs.lemmas.List.{length-set}
+use Rattle.std.proofs.lemmas.List.Folds.{list_any-append}
+use Rattle.osek_standard.specs.Kernel.{has_bit}
+use Rattle.abstract_state.specs.declared.value.PartValue.{PartValue}
+use Rattle.abstract_state.specs.declared.table.{ValueSet.{ValueSet}}
+use Rattle.abstract_state.specs.ValueOrder.{same_part}
+use Rattle.abstract_state.specs.Tables.{is_member}
+use Rattle.flow_model.specs.declared.{test.Condition.{Condition}, rule.Rule.{Rule}}
+use Rattle.flow_model.specs.Tests.{passes, is_failed, PassesAt}
+use Rattle.flow_model.specs.Rules.{HasNone}
+use Rattle.flow_rules.proofs.Passing.{none_fails, each_passes}
+use Rattle.numbered_sets.specs.declared.numbered_entry.NumberedEntry.{NumberedEntry}
+use Rattle.numbered_sets.specs.Filters.{IsSifted}
+use Rattle.numbered_sets.specs.Numbers.{Numbers, has_number}
+use Rattle.numbered_sets.specs.NumberedEntries.{no_set, numbers_at, AreFilled, HasEmptySet}
+use Rattle.numbered_sets.specs.Pools.{Values, values_at}
+use Rattle.numbered_sets.specs.Views.{values_with, plain_set, plain_entry, AreNumbersOf}
+use Rattle.numbered_sets.proofs.PlainLaws.{ascending_in_order, member_of_plain, values_with_none, plain_set_at, length_plain}
+use Rattle.numbered_sets.proofs.ViewLaws.{false_unless}
+use Rattle.numbered_sets.proofs.KnownNumbers.{no_bit_of_none}
+use Rattle.numbered_sets.proofs.NumberingLaws.{longer_itself}
+use Rattle.numbered_sets.proofs.SiftLaws.{some_value}
+use Rattle.numbered_rules.specs.Applying.{AreTaken, IsPassedSet}
+use Rattle.numbered_rules.specs.Changing.{up_to, AreAllPassed}
+use Rattle.numbered_rules.specs.Sifting.{IsSiftedBy, AreSifted}
+
+-- ---- one condition after another
+
+and_all : (b : Bool) → b ≡ (b && not false)
+and_all true = refl
+and_all false = refl
+
+kept_whole : (vs : List PartValue) (c : ℕ) (xs : List Condition) (x : Numbers) → ((v : PartValue) → list_any (is_failed c v) xs ≡ false) → IsSiftedBy vs c xs x x
+kept_whole vs c xs x none = record {
+  domain = refl;
+  fewer = λ n has. has;
+  values = λ v. and_all (is_member (plain_set vs x) v) ∙ ap (λ (b : Bool). is_member (plain_set vs x) v && not b) (sym (none v));
+}
+
+pub sifted_none : (pool : List Values) (entry : NumberedEntry) → AreSifted pool [] entry entry
+sifted_none pool entry = record { as_many = refl; each = λ c lt. kept_whole (values_at pool c) c [] (numbers_at entry c) (λ v. refl) }
+
+both_pass : (a p q : Bool) → ((a && not p) && not q) ≡ (a && not (p || q))
+both_pass true true q = refl
+both_pass true false q = refl
+both_pass false p q = refl
+
+pub sifted_more : (pool : List Values) (xs : List Condition) (x : Condition) (a b e : NumberedEntry) → AreSifted pool xs a b → AreSifted pool (x ∷ []) b e → AreSifted pool (xs ++ x ∷ []) a e
+sifted_more pool xs x a b e h k = record {
+  as_many = k.as_many ∙ h.as_many;
+  each = λ c lt.
+      (let first = h.each c lt in
+      let next = k.each c (omega (arith, lt, h.as_many)) in
+      let vs = values_at pool c in
+      record {
+        domain = next.domain ∙ first.domain;
+        fewer = λ n has. first.fewer n (next.fewer n has);
+        values = λ v.
+            next.values v
+            ∙ ap (λ (m : Bool). m && not (list_any (is_failed c v) (x ∷ []))) (first.values v)
+            ∙ both_pass (is_member (plain_set vs (numbers_at a c)) v) (list_any (is_failed c v) xs) (list_any (is_failed c v) (x ∷ []))
+            ∙ ap (λ (f : Bool). is_member (plain_set vs (numbers_at a c)) v && not f) (sym (list_any-append (is_failed c v) xs (x ∷ [])));
+      });
+}
+
+not_on : (x : Condition) (c : ℕ) (v : PartValue) → x.component.0 ≢ c → list_any (is_failed c v) (x ∷ []) ≡ false
+not_on x c v differ = ap (λ (b : Bool). (b && not (passes x.test v)) || false) (ne_eqb x.component.0 c differ)
+
+pub sifted_beyond : (pool : List Values) (x : Condition) (entry : NumberedEntry) → length entry.sets ≤ x.component.0 → AreSifted pool (x ∷ []) entry entry
+sifted_beyond pool x entry le = record {
+  as_many = refl;
+  each = λ c lt. kept_whole (values_at pool c) c (x ∷ []) (numbers_at entry c) (λ v. not_on x c v (λ e. omega (arith, e, lt, le)));
+}
+
+passing_there : (b p : Bool) → b ≡ true → p ≡ not ((b && not p) || false)
+passing_there true true e = refl
+passing_there true false e = refl
+passing_there false p e = absurd (cc)
+
+pub sifted_at : (pool : List Values) (x : Condition) (entry after : NumberedEntry) (s : Numbers) → x.component.0 < length entry.sets → after.sets ≡ set entry.sets x.component.0 s
+    → IsSifted (values_at pool x.component.0) x.test (numbers_at entry x.component.0) s → AreSifted pool (x ∷ []) entry after
+sifted_at pool x entry after s lt write h = record {
+  as_many = ap length write ∙ length-set entry.sets x.component.0 s;
+  each = λ c less. elim (cases_eq x.component.0 c) [
+    | inl same ↦ subst (λ (k : ℕ). IsSiftedBy (values_at pool k) k (x ∷ []) (numbers_at entry k) (numbers_at after k)) same here
+    | inr differ ↦
+        (let there : numbers_at after c ≡ numbers_at entry c = ap (λ (xs : List Numbers). get_or xs c no_set) write ∙ get_or-set_other entry.sets x.component.0 c s no_set (λ e. differ (sym e)) in
+        subst (IsSiftedBy (values_at pool c) c (x ∷ []) (numbers_at entry c)) (sym there) (kept_whole (values_at pool c) c (x ∷ []) (numbers_at entry c) (λ v. not_on x c v differ)))
+  ];
+}
+  where
+    at : numbers_at after x.component.0 ≡ s
+    at = ap (λ (xs : List Numbers). get_or xs x.component.0 no_set) write ∙ get_or-set_same entry.sets x.component.0 s no_set lt
+
+    its : IsSiftedBy (values_at pool x.component.0) x.component.0 (x ∷ []) (numbers_at entry x.component.0) s
+    its = record {
+      domain = h.domain;
+      fewer = h.fewer;
+      values = λ v.
+          h.values v
+          ∙ ap (λ (b : Bool). is_member (plain_set (values_at pool x.component.0) (numbers_at entry x.component.0)) v && b)
+          (passing_there (x.component.0 == x.component.0) (passes x.test v) (eq-eqb x.component.0 x.component.0 refl));
+    }
+
+    here : IsSiftedBy (values_at pool x.component.0) x.component.0 (x ∷ []) (numbers_at entry x.component.0) (numbers_at after x.component.0)
+    here = subst (IsSiftedBy (values_at pool x.component.0) x.component.0 (x ∷ []) (numbers_at entry x.component.0)) (sym at) its
+
+-- ---- what a rule takes
+
+not_failed : (b : Bool) → not b ≡ true → b ≡ false
+not_failed true e = absurd (cc)
+not_failed false e = refl
+
+module _ (pool : List Values) (rule : Rule) (entry new : NumberedEntry) (known : AreNumbersOf pool entry) (s : AreSifted pool rule.conditions entry new) where
+  member_then : (c : ℕ) (v : PartValue) → c < length entry.sets → IsTrue (is_member (plain_set (values_at pool c) (numbers_at new c)) v)
+      → IsTrue (is_member (plain_set (values_at pool c) (numbers_at entry c)) v) × PassesAt rule.conditions c v
+  member_then c v lt m =
+      let parts = and_parts (is_member (plain_set (values_at pool c) (numbers_at entry c)) v) (not (list_any (is_failed c v) rule.conditions)) (sym ((s.each c lt).values v) ∙ m) in
+      (parts.0, each_passes rule.conditions c v (not_failed (list_any (is_failed c v) rule.conditions) parts.1))
+
+  member_now : (c : ℕ) (v : PartValue) → c < length entry.sets → IsTrue (is_member (plain_set (values_at pool c) (numbers_at entry c)) v) → PassesAt rule.conditions c v
+      → IsTrue (is_member (plain_set (values_at pool c) (numbers_at new c)) v)
+  member_now c v lt m p = (s.each c lt).values v ∙ ap₂ (λ (a b : Bool). a && not b) m (none_fails rule.conditions c v p)
+
+  pub known_sifted : (c : ℕ) → c < length entry.sets → (n : ℕ) → IsTrue (has_number (numbers_at new c) n) → n < length (values_at pool c)
+  known_sifted c lt n has = known.known c n ((s.each c lt).fewer n has)
+
+  sifted_passed : (c : ℕ) → c < length entry.sets → IsPassedSet (up_to rule 0) pool c (numbers_at entry c) pool (numbers_at new c)
+  sifted_passed c lt = record {
+    domain = (s.each c lt).domain;
+    known = known_sifted c lt;
+    passed = record {
+      domain = (s.each c lt).domain;
+      ascending = ascending_in_order (values_with (values_at pool c) (has_number (numbers_at new c)));
+      from = λ v m. (let was = member_then c v lt m in record { was = v; there = was.0; passes = was.1; becomes = refl });
+      to = λ v m p. member_now c v lt m p;
+    };
+  }
+
+  -- without a change
+  pub all_sifted : AreAllPassed (up_to rule 0) pool entry (length entry.sets) pool new.sets
+  all_sifted = record { longer = longer_itself pool; size = s.as_many; each = sifted_passed }
+
+  pub taken_of_filled : AreFilled new → AreTaken rule (plain_entry pool entry)
+  taken_of_filled filled c lt =
+      let less : c < length entry.sets = (let long = length_plain pool 0 entry.sets in omega (arith, lt, long)) in
+      let some = some_value (values_at pool c) (numbers_at new c) (known_sifted c less) (filled.each c (omega (arith, less, s.as_many))) in
+      let was = member_then c some.0 less some.1 in
+      record { was = some.0; there = ap (λ (x : ValueSet). is_member x some.0) (plain_set_at pool entry c) ∙ was.0; passes = was.1 }
+
+  pub none_of_empty : HasEmptySet new → HasNone rule (plain_entry pool entry)
+  none_of_empty empty =
+      let c = empty.component in
+      let less : c < length entry.sets = (let there = empty.known in omega (arith, there, s.as_many)) in
+      let no_bit : (n : ℕ) → has_number (numbers_at new c) n ≡ false =
+      (λ n. ap (λ m. has_bit m n) empty.none ∙ false_unless (has_bit 0 n) ⊥ (no_bit_of_none n) (λ no. no)) in
+      record {
+        component = c;
+        known = (let long = length_plain pool 0 entry.sets in omega (arith, less, long));
+        none = λ v m p.
+            (let now : is_member (plain_set (values_at pool c) (numbers_at new c)) v ≡ true = member_now c v less (sym (ap (λ (x : ValueSet). is_member x v) (plain_set_at pool entry c)) ∙ m) p in
+            let none : is_member (plain_set (values_at pool c) (numbers_at new c)) v ≡ false =
+            member_of_plain (values_at pool c) (numbers_at new c) v ∙ ap (list_any (same_part v)) (values_with_none (values_at pool c) (has_number (numbers_at new c)) no_bit) in
+            absurd (cc));
+      }

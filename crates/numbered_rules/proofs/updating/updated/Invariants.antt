@@ -1,0 +1,11 @@
+use Rattle.std.proofs.Common.{take}
+use Rattle.numbered_sets.specs.Numbers.{has_number}
+use Rattle.numbered_sets.specs.Pools.{values_at}
+use Rattle.numbered_sets.specs.Views.{values_with}
+use Rattle.numbered_rules.specs.Applying.{IsPassedSoFar}
+use Rattle.numbered_rules.specs.Changing.{alone}
+use Rattle.numbered_rules.proofs.updating.updated.Given as goal
+
+abbrev pub invariant-loop-number : goal.invariant-loop-number
+invariant-loop-number l =
+    IsPassedSoFar (alone l.change) l.initial.pool l.component l.numbers.domain (values_with (take l.number (values_at l.initial.pool l.component)) (has_number l.numbers)) l.pool l.new

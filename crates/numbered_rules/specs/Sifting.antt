@@ -1,0 +1,22 @@
+-- What conditions leave of numbered sets.
+use Rattle.std.specs.Prelude.{◌≡◌, ℕ, ◌<◌, ◌&&◌, not, List, length, IsTrue}
+use Rattle.std.specs.List.{list_any}
+use Rattle.abstract_state.specs.declared.value.PartValue.{PartValue}
+use Rattle.abstract_state.specs.Tables.{is_member}
+use Rattle.flow_model.specs.declared.test.Condition.{Condition}
+use Rattle.flow_model.specs.Tests.{is_failed}
+use Rattle.numbered_sets.specs.declared.numbered_entry.NumberedEntry.{NumberedEntry}
+use Rattle.numbered_sets.specs.Numbers.{Numbers, has_number}
+use Rattle.numbered_sets.specs.NumberedEntries.{numbers_at}
+use Rattle.numbered_sets.specs.Pools.{Values, values_at}
+use Rattle.numbered_sets.specs.Views.{plain_set}
+
+-- the numbers are left of the values that pass these conditions on component c
+pub record IsSiftedBy (vs : List PartValue) (c : ℕ) (xs : List Condition) (old new : Numbers) : Type 0 where
+  pub domain : new.domain ≡ old.domain
+  pub fewer : (n : ℕ) → IsTrue (has_number new n) → IsTrue (has_number old n)
+  pub values : (v : PartValue) → is_member (plain_set vs new) v ≡ (is_member (plain_set vs old) v && not (list_any (is_failed c v) xs))
+
+pub record AreSifted (pool : List Values) (xs : List Condition) (old new : NumberedEntry) : Type 0 where
+  pub as_many : length new.sets ≡ length old.sets
+  pub each : (c : ℕ) → c < length old.sets → IsSiftedBy (values_at pool c) c xs (numbers_at old c) (numbers_at new c)

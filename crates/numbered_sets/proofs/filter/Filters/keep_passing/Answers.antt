@@ -1,0 +1,21 @@
+use Rattle.std.proofs.Common.{◌≡◌, ◌<◌, ◌≤◌, length, get_or, sym, ap, subst, ◌∙◌, arith}
+use Rattle.std.proofs.lemmas.List.{length-map}
+use Rattle.std.proofs.lemmas.List.Elements.{All-get_or}
+use Rattle.numbered_sets.specs.declared.{seen.Seen.{Seen}, filter.Filter.{Filter}}
+use Rattle.numbered_sets.specs.Filters.{seen_values, IsFilter, IsSifted}
+use Rattle.numbered_sets.proofs.SiftLaws.{sifted}
+use Rattle.numbered_sets.proofs.filter.Filters.keep_passing.Goals as goal
+
+pub returns-clause-passing : goal.returns-clause-passing
+returns-clause-passing c =
+    let values = seen_values c.args.seen.now in
+    let place = c.in_ok-place.place in
+    let filters = c.renew.new.self.all in
+    let filter = c.at.result.now in
+    let at : get_or filters place filter ≡ filter = c.at.ensures.item filter in
+    let known : place < length filters = (let same = c.in_ok-renew.ensures.as_many in let there = c.in_ok-place.ensures.known in omega (arith, same, there)) in
+    let is : IsFilter values filter = subst (IsFilter values) at (All-get_or (IsFilter values) filters place filter known c.in_ok-renew.ensures.filters) in
+    let test = ap (λ (f : Filter). f.test) (sym at) ∙ c.in_ok-renew.ensures.test filter ∙ c.in_ok-place.ensures.test filter in
+    let judged = ap (λ (f : Filter). f.judged) at in
+    let whole : length values ≤ filter.judged = (let long = length-map c.args.seen.now (λ (s : Seen). s.value) in omega (arith, long, judged, c.in_ok-renew.ensures.whole filter)) in
+    subst (IsSifted values c.args.test.now c.args.numbers.now) (sym c.keep.ensures) (sifted values filter c.args.test.now c.args.numbers.now is test whole)

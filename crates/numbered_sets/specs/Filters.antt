@@ -1,0 +1,28 @@
+-- Tests of values, as the numbers of those that pass.
+use Rattle.std.specs.Prelude.{◌≡◌, ℕ, ◌<◌, ◌≤◌, false, ◌&&◌, List, length, map, slice_index_or, IsTrue, All}
+use Rattle.abstract_state.specs.declared.value.PartValue.{PartValue}
+use Rattle.abstract_state.specs.Tables.{is_member}
+use Rattle.flow_model.specs.declared.test.Test.{Test}
+use Rattle.flow_model.specs.Tests.{passes}
+use Rattle.numbered_sets.specs.declared.{seen.Seen.{Seen}, filter.{Filter.{Filter}, Filters.{Filters}}}
+use Rattle.numbered_sets.specs.Numbers.{Numbers, has_number}
+use Rattle.numbered_sets.specs.Views.{plain_set}
+
+-- the values of keys
+abbrev pub seen_values : List Seen → List PartValue
+seen_values = map (λ (s : Seen). s.value)
+
+-- Its numbers are those of the values that pass, of the first ones.
+pub record IsFilter (vs : List PartValue) (f : Filter) : Type 0 where
+  pub few : f.judged ≤ length vs
+  pub each : (n : ℕ) (none : PartValue) → n < f.judged → has_number f.passing n ≡ passes f.test (slice_index_or vs n none)
+  pub past : (n : ℕ) → f.judged ≤ n → has_number f.passing n ≡ false
+
+abbrev pub AreFilters : List PartValue → Filters → Type 0
+AreFilters vs fs = All (IsFilter vs) fs.all
+
+-- The numbers are left whose values pass.
+pub record IsSifted (vs : List PartValue) (t : Test) (old new : Numbers) : Type 0 where
+  pub domain : new.domain ≡ old.domain
+  pub fewer : (n : ℕ) → IsTrue (has_number new n) → IsTrue (has_number old n)
+  pub values : (v : PartValue) → is_member (plain_set vs new) v ≡ (is_member (plain_set vs old) v && passes t v)

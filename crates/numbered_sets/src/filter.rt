@@ -1,0 +1,152 @@
+//! Tests of a component's values, each with the numbers of the values that pass.
+ghost use Rattle.std.specs.Prelude.{◌≡◌, ◌≤◌, length};
+ghost use Rattle.std.specs.Bool.{OnTrue};
+
+use crate::numbered_set::NumberedSet;
+use crate::seen::Seen;
+use abstract_state::Domain;
+use flow_model::Test;
+use osek_values::{Memory, Seq};
+use std::alloc::Global;
+
+/// A test, and the numbers of the values that pass it, of those that were there when it was last asked.
+#[derive(Drop)]
+pub struct Filter {
+    pub test: Test,
+    pub passing: NumberedSet,
+    pub judged: usize,
+}
+
+/// The tests that were asked of a component's values.
+#[derive(Drop)]
+pub struct Filters {
+    pub all: Seq<Filter>,
+}
+
+impl Filter {
+    ghost use Rattle.std.specs.Prelude.{◌≡◌, ◌≤◌, length, List, OnOk};
+    ghost use Rattle.abstract_state.specs.declared.value.PartValue.{PartValue};
+    ghost use Rattle.numbered_sets.specs.Filters.{seen_values, IsFilter};
+
+    /// A test that no value was asked yet.
+    fn new(alloc: Global, test: &Test, domain: Domain) -> Filter
+        ensures test { result.test ≡ test.now }
+        ensures filter { (values : List PartValue) → IsFilter values result }
+    {
+        Filter {
+            test: test.copy(),
+            passing: NumberedSet::new(alloc, domain),
+            judged: 0,
+        }
+    }
+
+    /// Judges the values that came since.
+    fn renew(&mut self, seen: &[Seen]) -> Result<(), Memory>
+        requires { IsFilter (seen_values seen.now) self.old }
+        ensures filter { IsFilter (seen_values seen.now) self.new }
+        ensures test { self.new.test ≡ self.old.test }
+        ensures whole { OnOk result (length seen.now ≤ self.new.judged) }
+    {
+        for number in self.judged..seen.len() {
+            if self.test.passes(&seen[number].value) {
+                self.passing.insert(number)?;
+            }
+            self.judged = number + 1;
+        }
+        Ok(())
+    }
+}
+
+impl Filters {
+    ghost use Rattle.std.specs.Prelude.{◌≡◌, ◌<◌, ◌≤◌, List, length, IfOk, OnOk, slice_index_or};
+    ghost use Rattle.abstract_state.specs.declared.value.PartValue.{PartValue};
+    ghost use Rattle.std.specs.Bool.{OnTrue};
+    ghost use Rattle.numbered_sets.specs.declared.filter.Filter.{Filter};
+    ghost use Rattle.numbered_sets.specs.Filters.{seen_values, AreFilters, IsSifted};
+
+    /// No test yet.
+    pub fn new(alloc: Global) -> Filters
+        ensures { length result.all ≡ 0 }
+    {
+        Filters {
+            all: Seq::new(alloc),
+        }
+    }
+
+    // the place of a test, which is the last one where it wasn't asked yet
+    fn place_of(&self, test: &Test) -> usize
+        ensures few { result ≤ length self.now.all }
+        ensures test { result < length self.now.all → (none : Filter) → (slice_index_or self.now.all result none).test ≡ test.now }
+    {
+        for place in 0..self.all.len() {
+            if is_test(&self.all.at(place).test, test) {
+                return place;
+            }
+        }
+        self.all.len()
+    }
+
+    // the place of a test, which comes in last where it wasn't asked yet
+    fn place_for(&mut self, alloc: Global, test: &Test, domain: Domain) -> Result<usize, Memory>
+        ensures filters { (values : List PartValue) → AreFilters values self.old → AreFilters values self.new }
+        ensures known { IfOk result (λ place. place < length self.new.all) }
+        ensures test { IfOk result (λ place. (none : Filter) → (slice_index_or self.new.all place none).test ≡ test.now) }
+    {
+        let place = self.place_of(test);
+        if place < self.all.len() {
+            return Ok(place);
+        }
+        self.all.push(Filter::new(alloc, test, domain))?;
+        Ok(place)
+    }
+
+    // judges the values that came since for the filter at a place
+    fn renew(&mut self, place: usize, seen: &[Seen]) -> Result<(), Memory>
+        requires known { place < length self.old.all }
+        requires filters { AreFilters (seen_values seen.now) self.old }
+        ensures filters { AreFilters (seen_values seen.now) self.new }
+        ensures as_many { length self.new.all ≡ length self.old.all }
+        ensures test { (none : Filter) → (slice_index_or self.new.all place none).test ≡ (slice_index_or self.old.all place none).test }
+        ensures whole { OnOk result ((none : Filter) → length seen.now ≤ (slice_index_or self.new.all place none).judged) }
+    {
+        let filter = self.all.at_mut(place);
+        filter.renew(seen)?;
+        Ok(())
+    }
+
+    /// Leaves out the numbers of the values that don't pass a test.
+    pub fn keep_passing(
+        &mut self,
+        alloc: Global,
+        seen: &[Seen],
+        test: &Test,
+        numbers: &mut NumberedSet,
+    ) -> Result<(), Memory>
+        requires { AreFilters (seen_values seen.now) self.old }
+        ensures filters { AreFilters (seen_values seen.now) self.new }
+        ensures passing { OnOk result (IsSifted (seen_values seen.now) test.now numbers.old numbers.new) }
+    {
+        let place = self.place_for(alloc, test, numbers.domain())?;
+        self.renew(place, seen)?;
+        numbers.keep(&self.all.at(place).passing);
+        Ok(())
+    }
+}
+
+// whether two tests are the same
+fn is_test(test: &Test, other: &Test) -> bool
+    ensures { OnTrue result (test.now ≡ other.now) }
+{
+    match (test, other) {
+        (Test::Is(value), Test::Is(wanted)) => value.is(wanted),
+        (Test::IsNot(value), Test::IsNot(barred)) => value.is(barred),
+        (Test::Suspended, Test::Suspended) => true,
+        (Test::NotSuspended, Test::NotSuspended) => true,
+        (Test::NotLive, Test::NotLive) => true,
+        (Test::Holds(resource), Test::Holds(wanted)) => resource.0 == wanted.0,
+        (Test::HoldsNoneOf(resources), Test::HoldsNoneOf(barred)) => resources.0 == barred.0,
+        (Test::HoldsSome, Test::HoldsSome) => true,
+        (Test::HoldsNothing, Test::HoldsNothing) => true,
+        _ => false,
+    }
+}
