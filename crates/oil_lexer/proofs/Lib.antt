@@ -1,3 +1,4 @@
+pub mod AheadSteps
 pub mod EachFront
 pub mod EachText
 pub mod Firsts

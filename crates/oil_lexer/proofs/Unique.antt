@@ -31,31 +31,31 @@ same_of Slash p q bytes n a b = a.0 ∙ sym b.0
 same_of (Single mark) p q bytes n a b = a.0 ∙ sym b.0
 same_of Nothing p q bytes n a b = absurd a
 
-same_length : (bytes : List ℕ) (p q : Piece) (n m : ℕ) → IsLongest p bytes n → IsLongest q bytes m → n ≡ m
+pub same_length : (bytes : List ℕ) (p q : Piece) (n m : ℕ) → IsLongest p bytes n → IsLongest q bytes m → n ≡ m
 same_length bytes p q n m a b =
     ⊎_elim (λ lt. absurd (a.longest q m lt b.piece_is)) (λ le. ⊎_elim (λ lt. absurd (b.longest p n lt a.piece_is)) (λ ge. omega arith) (order m n)) (order n m)
 
-same_piece : (bytes : List ℕ) (p q : Piece) (n m : ℕ) → IsLongest p bytes n → IsLongest q bytes m → p ≡ q
+pub same_piece : (bytes : List ℕ) (p q : Piece) (n m : ℕ) → IsLongest p bytes n → IsLongest q bytes m → p ≡ q
 same_piece bytes p q n m a b =
     let b' : IsLongest q bytes n = subst (λ (k : ℕ). IsLongest q bytes k) (sym (same_length bytes p q n m a b)) b in
     same_of (class_of (slice_index bytes 0)) p q bytes n a.piece_is.is b'.piece_is.is
 
 -- no whole piece stands here
-abbrev Stops : List ℕ → Type 0
+abbrev pub Stops : List ℕ → Type 0
 Stops rest = (p : Piece) (n : ℕ) → IsLongest p rest n → Fits p → ⊥
 
-record Same (last last' : ℕ) (rest rest' : List ℕ) (tokens tokens' : List Token) : Type 0 where
-  lasts : last ≡ last'
-  rests : rest ≡ rest'
-  all : tokens ≡ tokens'
+pub record Same (last last' : ℕ) (rest rest' : List ℕ) (tokens tokens' : List Token) : Type 0 where
+  pub lasts : last ≡ last'
+  pub rests : rest ≡ rest'
+  pub all : tokens ≡ tokens'
 
 with_token : (line : ℕ) (kind kind' : TokenKind) → kind ≡ kind' → {last last' : ℕ} {rest rest' : List ℕ} {tokens tokens' : List Token} → Same last last' rest rest' tokens tokens' → Same last last' rest rest' (token_of kind line ∷ tokens) (token_of kind' line ∷ tokens')
 with_token line kind kind' e s = record { lasts = s.lasts; rests = s.rests; all = let all = s.all in cc }
 
-after : (last' : ℕ) (rest' : List ℕ) (line : ℕ) (bytes : List ℕ) (n m : ℕ) (tokens : List Token) → n ≡ m → Parts last' rest' (line + line_ends (take m bytes)) (drop m bytes) tokens → Parts last' rest' (line + line_ends (take n bytes)) (drop n bytes) tokens
+pub after : (last' : ℕ) (rest' : List ℕ) (line : ℕ) (bytes : List ℕ) (n m : ℕ) (tokens : List Token) → n ≡ m → Parts last' rest' (line + line_ends (take m bytes)) (drop m bytes) tokens → Parts last' rest' (line + line_ends (take n bytes)) (drop n bytes) tokens
 after last' rest' line bytes n m tokens e more = subst (λ (k : ℕ). Parts last' rest' (line + line_ends (take k bytes)) (drop k bytes) tokens) (sym e) more
 
-unique : {last last' : ℕ} {rest rest' : List ℕ} {line : ℕ} {bytes : List ℕ} {tokens tokens' : List Token} → Stops rest → Stops rest' → Parts last rest line bytes tokens → Parts last' rest' line bytes tokens' → Same last last' rest rest' tokens tokens'
+pub unique : {last last' : ℕ} {rest rest' : List ℕ} {line : ℕ} {bytes : List ℕ} {tokens tokens' : List Token} → Stops rest → Stops rest' → Parts last rest line bytes tokens → Parts last' rest' line bytes tokens' → Same last last' rest rest' tokens tokens'
 unique s s' none none = record { lasts = refl; rests = refl; all = refl }
 unique s s' none (gap n longest more) = absurd (s Gap n longest tt)
 unique s s' none (token kind n longest fits more) = absurd (s (Whole kind) n longest fits)
@@ -68,10 +68,10 @@ unique s s' (token kind n longest fits more) (token kind' m longest' fits' more'
     let same : kind ≡ kind' = let e = same_piece _ (Whole kind) (Whole kind') n m longest longest' in cc in
     with_token _ _ _ same (unique s s' more (after _ _ _ _ n m _ (same_length _ (Whole kind) (Whole kind') n m longest longest') more'))
 
-stops_end : Stops []
+pub stops_end : Stops []
 stops_end p n longest fits = omega (arith, longest.piece_is.nonempty, longest.piece_is.in_range)
 
-stops_broken : (rule : LexRule) (rest : List ℕ) → Breaks rule rest → Stops rest
+pub stops_broken : (rule : LexRule) (rest : List ℕ) → Breaks rule rest → Stops rest
 stops_broken L1 rest b p n longest fits = b.0 p n longest.piece_is
 stops_broken L2 rest b p n longest fits = b.0 p n longest.piece_is
 stops_broken L3 rest b p n longest fits = b.0 p n longest.piece_is

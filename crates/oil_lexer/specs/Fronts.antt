@@ -2,9 +2,7 @@
 use Rattle.std.specs.Prelude.{◌≡◌, ℕ, ◌<◌, ◌≤◌, ◌^◌, false, List, length, slice_index, Option, SomeIff, Result, Ok, Err}
 use Rattle.oil_lexer.specs.declared.classes.ByteSet.{ByteSet}
 use Rattle.oil_lexer.specs.declared.token.{TokenKind.TheVariants.{Number}, Piece.{Piece}, Piece.TheVariants.{Whole}}
-use Rattle.osek_values.specs.declared.refused.Refused.{Refused}
 use Rattle.osek_values.specs.declared.refusal.LexRule.{LexRule}
-use Rattle.osek_values.specs.Answers.{Refuses}
 use Rattle.oil_lexer.specs.Classes.{is_in, AllIn}
 use Rattle.oil_lexer.specs.Pieces.{ClosesAt, IsHex, IsLongest, Fits, Breaks}
 
@@ -32,6 +30,6 @@ abbrev pub IsNumber : List ℕ → ℕ → Option ℕ → Type 0
 IsNumber bytes n value = (v : ℕ) × IsLongest (Whole (Number v)) bytes n × SomeIff value (v < 2 ^ 64) v
 
 -- the piece of the front and its length, or the rule that the front breaks
-abbrev pub IsFront : Result (Piece × ℕ) (Refused LexRule) → List ℕ → Type 0
+abbrev pub IsFront : Result (Piece × ℕ) LexRule → List ℕ → Type 0
 IsFront (Ok (piece, n)) bytes = IsLongest piece bytes n × Fits piece
-IsFront (Err e) bytes = Refuses e (λ rule. Breaks rule bytes)
+IsFront (Err rule) bytes = Breaks rule bytes

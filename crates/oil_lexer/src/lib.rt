@@ -3,11 +3,13 @@
 #![tactic(auto)]
 
 mod classes;
+mod cursor;
 mod error;
 mod lexer;
 mod piece;
 mod token;
 
-pub use error::{LexError, LexFault};
+pub use cursor::Tokens;
+pub use error::LexFault;
 pub use lexer::{one_answer, tokens};
-pub use token::{Mark, Token, TokenKind};
+pub use token::{Mark, Quoted, Token, TokenKind, Word};

@@ -10,10 +10,9 @@ ghost use Rattle.oil_lexer.specs.Pieces.{part, ClosesAt, IsHex, IsLongest, NoPie
 ghost use Rattle.oil_lexer.specs.Fronts.{IsFirstClose, IsLongestHex, IsNumber, IsFront};
 
 use crate::classes::{ByteSet, Class, class_of, run_end};
-use crate::token::{Piece, TokenKind};
+use crate::token::{Piece, Quoted, TokenKind, Word};
+use osek_values::LexRule;
 use osek_values::limits::MAX_NAME;
-use osek_values::{LexRule, Name, Refused, Seq};
-use std::alloc::Global;
 
 fn digit_value(digit: u8) -> u8
     requires { IsTrue (is_in HexDigits digit) }
@@ -117,7 +116,7 @@ fn comment_end(bytes: &[u8]) -> Result<usize, LexRule>
 }
 
 /// The piece at the front of a text that isn't empty, and its length.
-pub fn piece(alloc: Global, bytes: &[u8]) -> Result<(Piece, usize), Refused<LexRule>>
+pub fn piece(bytes: &[u8]) -> Result<(Piece<'_>, usize), LexRule>
     requires { 0 < length bytes.now }
     ensures { IsFront result bytes.now }
 {
@@ -126,30 +125,30 @@ pub fn piece(alloc: Global, bytes: &[u8]) -> Result<(Piece, usize), Refused<LexR
         Class::Letter => {
             let end = run_end(ByteSet::NameBytes, bytes, 1);
             if end > MAX_NAME {
-                return Err(Refused::Fault(LexRule::L5));
+                return Err(LexRule::L5);
             }
-            let word = Vec::from_slice(alloc, &bytes[..end])?;
-            Ok((Piece::Whole(TokenKind::Name(Name::new(word))), end))
+            let word = Word::new(&bytes[..end]);
+            Ok((Piece::Whole(TokenKind::Name(word)), end))
         }
         Class::Digit => {
             let (end, value) = number(bytes);
             match value {
                 Some(value) => Ok((Piece::Whole(TokenKind::Number(value)), end)),
-                None => Err(Refused::Fault(LexRule::L4)),
+                None => Err(LexRule::L4),
             }
         }
         Class::Quote => match text_end(bytes) {
             Some(end) => {
-                let text = Vec::from_slice(alloc, &bytes[1..end - 1])?;
-                Ok((Piece::Whole(TokenKind::Text(Seq::of(text))), end))
+                let text = Quoted::new(&bytes[1..end - 1]);
+                Ok((Piece::Whole(TokenKind::Text(text)), end))
             }
-            None => Err(Refused::Fault(LexRule::L3)),
+            None => Err(LexRule::L3),
         },
         Class::Slash => match comment_end(bytes) {
             Ok(end) => Ok((Piece::Gap, end)),
-            Err(rule) => Err(Refused::Fault(rule)),
+            Err(rule) => Err(rule),
         },
         Class::Single(mark) => Ok((Piece::Whole(TokenKind::Mark(mark)), 1)),
-        Class::Nothing => Err(Refused::Fault(LexRule::L1)),
+        Class::Nothing => Err(LexRule::L1),
     }
 }

@@ -9,11 +9,11 @@ returns-then-end-gt-MAX_NAME c =
     let n = c.run_end-end.result in
     (take n c.args.bytes.now, n, name_longest _ _ (sym c.in-Letter.ensures) run, omega (arith, length-take-le n c.args.bytes.now run.in_range))
 
-pub new-requires : goal.new-requires
-new-requires c = rw c.in_ok-word-in-Letter.ensures.items (is_name-take c.args.bytes.now c.run_end-end.result (sym c.in-Letter.ensures) c.run_end-end.ensures (omega arith))
+pub new-word-requires : goal.new-word-requires
+new-word-requires c = is_name-take c.args.bytes.now c.run_end-end.result (sym c.in-Letter.ensures) c.run_end-end.ensures (omega arith)
 
-pub returns-in_ok-word-in-Letter : goal.returns-in_ok-word-in-Letter
-returns-in_ok-word-in-Letter c =
+pub returns-else-end-gt-MAX_NAME : goal.returns-else-end-gt-MAX_NAME
+returns-else-end-gt-MAX_NAME c =
     let run = c.run_end-end.ensures in
     let short = length-take-le c.run_end-end.result c.args.bytes.now run.in_range in
-    rw (c.new.ensures, c.in_ok-word-in-Letter.ensures.items) (name_longest _ _ (sym c.in-Letter.ensures) run, omega (arith, short))
+    rw c.new-word.ensures (name_longest _ _ (sym c.in-Letter.ensures) run, omega (arith, short))
