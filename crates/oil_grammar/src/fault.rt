@@ -4,7 +4,7 @@ ghost use Rattle.oil_grammar.specs.Tokens.{last_line};
 ghost use Rattle.oil_grammar.specs.Scan.{fault_of};
 ghost use Rattle.osek_values.specs.declared.refused.Refused.TheVariants.{Fault};
 
-use oil_lexer::Token;
+use oil_lexer::Tokens;
 use osek_values::{LineFault, Refused, SyntaxRule};
 
 /// A fault of grammar, and its line.
@@ -32,17 +32,20 @@ impl From<Stop> for Refused<Stop> {
     }
 }
 
-fn last_line(tokens: &[Token]) -> u32
+fn last_line(tokens: &Tokens<'_>) -> u32
     ensures { result ≡ last_line 1 tokens.now }
 {
-    match tokens.last() {
-        Some(token) => token.line,
-        None => 1,
+    let mut line = 1;
+    let mut rest = tokens.copy();
+    while let Some((token, after)) = rest.first() {
+        line = token.line;
+        rest = after;
     }
+    line
 }
 
-/// The fault of the place where reading of the tokens stops.
-pub fn fault_of(stop: Stop, tokens: &[Token]) -> SyntaxFault
+/// The fault of the place where reading of the tokens stops. Where they end too early, it goes to their end.
+pub fn fault_of(stop: Stop, tokens: &Tokens<'_>) -> SyntaxFault
     ensures { result ≡ fault_of stop tokens.now }
 {
     match stop {

@@ -4,29 +4,29 @@ ghost use Rattle.oil_grammar.specs.declared.fault.Stop.TheVariants.{Ends};
 ghost use Rattle.oil_grammar.specs.Tokens.{is_open, is_close};
 
 use crate::fault::Stop;
-use oil_lexer::{Mark, Token, TokenKind};
+use oil_lexer::{Mark, Token, TokenKind, Tokens};
 
 /// The first token, and the others.
-pub fn first(tokens: &[Token]) -> Result<(&Token, &[Token]), Stop>
+pub fn first<'a>(tokens: &Tokens<'a>) -> Result<(Token<'a>, Tokens<'a>), Stop>
     ensures { MatchResult result
-        (λ x. tokens.now ≡ x.0.now ∷ x.1.now)
+        (λ x. tokens.now ≡ x.0 ∷ x.1)
         (λ stop. (tokens.now ≡ []) × (stop ≡ Ends)) }
 {
-    match tokens.split_first() {
+    match tokens.first() {
         Some(parts) => Ok(parts),
         None => Err(Stop::Ends),
     }
 }
 
 /// Whether the token is `{`.
-pub fn is_open(token: &Token) -> bool
+pub fn is_open(token: &Token<'_>) -> bool
     ensures { result ≡ is_open token.now.kind }
 {
     matches!(&token.kind, TokenKind::Mark(Mark::OpenBrace))
 }
 
 /// Whether the token is `}`.
-pub fn is_close(token: &Token) -> bool
+pub fn is_close(token: &Token<'_>) -> bool
     ensures { result ≡ is_close token.now.kind }
 {
     matches!(&token.kind, TokenKind::Mark(Mark::CloseBrace))
