@@ -11,22 +11,21 @@ use crate::phrases::{end, equals, name_of, open_brace, text};
 use crate::tree::{Object, ObjectList, Tree};
 use crate::words::{Word, word_of};
 use oil_grammar::{PhraseError, Stop, first, is_close, is_open};
-use oil_lexer::{Token, TokenKind};
-use osek_values::copied;
+use oil_lexer::{TokenKind, Tokens};
 use osek_values::limits::MAX_OIL_DEPTH;
 use std::alloc::Global;
 
 // object: name name body
-fn object(alloc: Global, tokens: &[Token]) -> Result<(Object, &[Token]), PhraseError>
+fn object<'a>(alloc: Global, tokens: &Tokens<'a>) -> Result<(Object, Tokens<'a>), PhraseError>
     ensures { MatchResult result
-        (λ x. ReadsObject tokens.now x.0 x.1.now)
+        (λ x. ReadsObject tokens.now x.0 x.1)
         (λ e. Refuses e (λ stop. StopsIn object_phrases 1 tokens.now stop)) }
 {
     let (kind, line, rest) = name_of(tokens)?;
-    let (name, _, rest) = name_of(rest)?;
-    let (attrs, rest) = body(alloc, 1, rest)?;
-    let kind = copied(alloc, kind)?;
-    let name = copied(alloc, name)?;
+    let (name, _, rest) = name_of(&rest)?;
+    let (attrs, rest) = body(alloc, 1, &rest)?;
+    let kind = kind.name(alloc)?;
+    let name = name.name(alloc)?;
     Ok((
         Object {
             kind,
@@ -39,42 +38,42 @@ fn object(alloc: Global, tokens: &[Token]) -> Result<(Object, &[Token]), PhraseE
 }
 
 // objects: object* }
-fn objects(alloc: Global, tokens: &[Token]) -> Result<(ObjectList, &[Token]), PhraseError>
+fn objects<'a>(alloc: Global, tokens: &Tokens<'a>) -> Result<(ObjectList, Tokens<'a>), PhraseError>
     ensures { MatchResult result
-        (λ x. ReadsObjects tokens.now x.0 x.1.now)
+        (λ x. ReadsObjects tokens.now x.0 x.1)
         (λ e. Refuses e (λ stop. StopsIn (some_objects ∷ []) 1 tokens.now stop)) }
 {
     let mut found = Vec::new(alloc);
-    let mut rest = tokens;
+    let mut rest = tokens.copy();
     loop {
-        let (token, after) = first(rest)?;
-        if is_close(token) {
+        let (token, after) = first(&rest)?;
+        if is_close(&token) {
             return Ok((ObjectList::from_vec(found), after));
         }
-        let (next, after) = object(alloc, rest)?;
+        let (next, after) = object(alloc, &rest)?;
         found.push(next)?;
         rest = after;
     }
 }
 
 // balanced: tokens whose braces balance, and }
-fn balanced(depth: u32, tokens: &[Token]) -> Result<&[Token], Stop>
+fn balanced<'a>(depth: u32, tokens: &Tokens<'a>) -> Result<Tokens<'a>, Stop>
     requires { depth ≤ MAX_OIL_DEPTH }
     ensures { MatchResult result
-        (λ rest. ReadsBalanced depth tokens.now rest.now)
+        (λ rest. ReadsBalanced depth tokens.now rest)
         (λ stop. StopsIn (some_balanced ∷ []) depth tokens.now stop) }
 {
-    let mut rest = tokens;
+    let mut rest = tokens.copy();
     loop {
-        let (token, after) = first(rest)?;
-        if is_close(token) {
+        let (token, after) = first(&rest)?;
+        if is_close(&token) {
             return Ok(after);
         }
-        if is_open(token) {
+        if is_open(&token) {
             if depth >= MAX_OIL_DEPTH {
                 return Err(Stop::TooDeep(token.line));
             }
-            rest = balanced(depth + 1, after)?;
+            rest = balanced(depth + 1, &after)?;
         } else {
             rest = after;
         }
@@ -82,9 +81,9 @@ fn balanced(depth: u32, tokens: &[Token]) -> Result<&[Token], Stop>
 }
 
 // The word that the first token is, and its line.
-fn keyword(tokens: &[Token]) -> Result<(Word, u32, &[Token]), Stop>
+fn keyword<'a>(tokens: &Tokens<'a>) -> Result<(Word, u32, Tokens<'a>), Stop>
     ensures { MatchResult result
-        (λ x. (n : List ℕ) × (tokens.now ≡ name n x.1 ∷ x.2.now) × (word_of n ≡ x.0))
+        (λ x. (n : List ℕ) × (tokens.now ≡ name n x.1 ∷ x.2) × (word_of n ≡ x.0))
         (λ stop. StopsAtWord tokens.now stop) }
 {
     let (token, rest) = first(tokens)?;
@@ -95,55 +94,55 @@ fn keyword(tokens: &[Token]) -> Result<(Word, u32, &[Token]), Stop>
 }
 
 // version: [OIL_VERSION = text end]
-fn version(tokens: &[Token]) -> Result<&[Token], Stop>
+fn version<'a>(tokens: &Tokens<'a>) -> Result<Tokens<'a>, Stop>
     ensures { MatchResult result
-        (λ rest. ReadsVersion tokens.now rest.now)
+        (λ rest. ReadsVersion tokens.now rest)
         (λ stop. StopsIn (a_file ∷ []) 0 tokens.now stop) }
 {
     let (word, _, rest) = keyword(tokens)?;
     match word {
         Word::Version => {
-            let rest = equals(rest)?;
-            let rest = text(rest)?;
-            let rest = end(rest)?;
+            let rest = equals(&rest)?;
+            let rest = text(&rest)?;
+            let rest = end(&rest)?;
             Ok(rest)
         }
-        _ => Ok(tokens),
+        _ => Ok(tokens.copy()),
     }
 }
 
 // impl: [IMPLEMENTATION name { balanced end]
-fn implementation(tokens: &[Token]) -> Result<&[Token], Stop>
+fn implementation<'a>(tokens: &Tokens<'a>) -> Result<Tokens<'a>, Stop>
     ensures { MatchResult result
-        (λ rest. ReadsImpl tokens.now rest.now)
+        (λ rest. ReadsImpl tokens.now rest)
         (λ stop. StopsIn (an_unversioned ∷ []) 0 tokens.now stop) }
 {
     let (word, _, rest) = keyword(tokens)?;
     match word {
         Word::Implementation => {
-            let (_, _, rest) = name_of(rest)?;
-            let rest = open_brace(rest)?;
-            let rest = balanced(1, rest)?;
-            let rest = end(rest)?;
+            let (_, _, rest) = name_of(&rest)?;
+            let rest = open_brace(&rest)?;
+            let rest = balanced(1, &rest)?;
+            let rest = end(&rest)?;
             Ok(rest)
         }
-        _ => Ok(tokens),
+        _ => Ok(tokens.copy()),
     }
 }
 
 // cpu: CPU name { objects end
-fn cpu(alloc: Global, tokens: &[Token]) -> Result<(Tree, &[Token]), PhraseError>
+fn cpu<'a>(alloc: Global, tokens: &Tokens<'a>) -> Result<(Tree, Tokens<'a>), PhraseError>
     ensures { MatchResult result
-        (λ x. ReadsCpu tokens.now x.0 x.1.now)
+        (λ x. ReadsCpu tokens.now x.0 x.1)
         (λ e. Refuses e (λ stop. StopsIn (a_cpu ∷ []) 0 tokens.now stop)) }
 {
     let (word, line, rest) = keyword(tokens)?;
     match word {
         Word::Cpu => {
-            let (_, _, rest) = name_of(rest)?;
-            let rest = open_brace(rest)?;
-            let (objects, rest) = objects(alloc, rest)?;
-            let rest = end(rest)?;
+            let (_, _, rest) = name_of(&rest)?;
+            let rest = open_brace(&rest)?;
+            let (objects, rest) = objects(alloc, &rest)?;
+            let rest = end(&rest)?;
             Ok((Tree { line, objects }, rest))
         }
         _ => Err(PhraseError::Fault(Stop::NotAllowed(line))),
@@ -151,25 +150,25 @@ fn cpu(alloc: Global, tokens: &[Token]) -> Result<(Tree, &[Token]), PhraseError>
 }
 
 // file: version impl cpu
-fn file(alloc: Global, tokens: &[Token]) -> Result<(Tree, &[Token]), PhraseError>
+fn file<'a>(alloc: Global, tokens: &Tokens<'a>) -> Result<(Tree, Tokens<'a>), PhraseError>
     ensures { MatchResult result
-        (λ x. ReadsFile tokens.now x.0 x.1.now)
+        (λ x. ReadsFile tokens.now x.0 x.1)
         (λ e. Refuses e (λ stop. StopsIn (a_file ∷ []) 0 tokens.now stop)) }
 {
     let rest = version(tokens)?;
-    let rest = implementation(rest)?;
-    let (tree, rest) = cpu(alloc, rest)?;
+    let rest = implementation(&rest)?;
+    let (tree, rest) = cpu(alloc, &rest)?;
     Ok((tree, rest))
 }
 
 /// The tree of all the tokens, or where reading stops.
-pub fn whole(alloc: Global, tokens: &[Token]) -> Result<Tree, PhraseError>
+pub fn whole(alloc: Global, tokens: &Tokens<'_>) -> Result<Tree, PhraseError>
     ensures { MatchResult result
         (λ tree. ReadsAll tokens.now tree)
         (λ e. Refuses e (λ stop. scan 0 (a_file ∷ []) tokens.now ≡ Some stop)) }
 {
     let (tree, rest) = file(alloc, tokens)?;
-    match first(rest) {
+    match first(&rest) {
         Ok((token, _)) => Err(PhraseError::Fault(Stop::NotAllowed(token.line))),
         Err(_) => Ok(tree),
     }

@@ -11,10 +11,10 @@ use crate::error::ParseError;
 use crate::file::whole;
 use crate::tree::Tree;
 use oil_grammar::{PhraseError, fault_of};
-use oil_lexer::Token;
+use oil_lexer::Tokens;
 use std::alloc::Global;
 
-fn read(alloc: Global, tokens: &[Token]) -> Result<Tree, ParseError>
+fn read(alloc: Global, tokens: &Tokens<'_>) -> Result<Tree, ParseError>
     ensures { IsRight (λ r. IsAnswer r tokens.now) result }
 {
     match whole(alloc, tokens) {
@@ -26,7 +26,7 @@ fn read(alloc: Global, tokens: &[Token]) -> Result<Tree, ParseError>
 
 /// The tree of an OIL file (ISO 17356-6, the grammar of OIL; the limit of depth is this project's profile), or the first
 /// fault of its tokens.
-pub fn parse(alloc: Global, tokens: &[Token]) -> Result<Tree, ParseError>
+pub fn parse(alloc: Global, tokens: &Tokens<'_>) -> Result<Tree, ParseError>
     // What is answered is right,
     ensures right { IsRight (λ r. IsAnswer r tokens.now) result }
 

@@ -1,5 +1,5 @@
 //! Phrases of a few tokens.
-ghost use Rattle.std.specs.Prelude.{◌≡◌, ℕ, List, [], ◌∷◌, IfOk, MatchResult};
+ghost use Rattle.std.specs.Prelude.{◌≡◌, ℕ, List, [], ◌∷◌, MatchResult};
 ghost use Rattle.oil_grammar.specs.Tokens.{name, number, text, mark};
 ghost use Rattle.oil_tree.specs.Grammar.{IsValue, IsEnd};
 ghost use Rattle.oil_tree.specs.Expect.{a_value, an_end, a_name, a_text, a_number, an_equals, an_open, a_semicolon};
@@ -9,27 +9,26 @@ ghost use Rattle.oil_lexer.specs.declared.token.Mark.TheVariants.{Equals, OpenBr
 
 use crate::tree::{Sign, Value};
 use oil_grammar::{PhraseError, Stop, first};
-use oil_lexer::{Mark, Token, TokenKind};
-use osek_values::{Name, Seq, copied};
-use std::alloc::{AllocError, Global};
+use oil_lexer::{Mark, Token, TokenKind, Tokens, Word};
+use std::alloc::Global;
 
 /// A name, and its line.
-pub fn name_of(tokens: &[Token]) -> Result<(&Name, u32, &[Token]), Stop>
+pub fn name_of<'a>(tokens: &Tokens<'a>) -> Result<(Word<'a>, u32, Tokens<'a>), Stop>
     ensures { MatchResult result
-        (λ x. tokens.now ≡ name x.0.now x.1 ∷ x.2.now)
+        (λ x. tokens.now ≡ name x.0 x.1 ∷ x.2)
         (λ stop. (d : ℕ) → StopsIn (a_name ∷ []) d tokens.now stop) }
 {
-    let (token, rest) = first(tokens)?;
-    match &token.kind {
-        TokenKind::Name(name) => Ok((name, token.line, rest)),
-        _ => Err(Stop::NotAllowed(token.line)),
+    let (Token { kind, line }, rest) = first(tokens)?;
+    match kind {
+        TokenKind::Name(name) => Ok((name, line, rest)),
+        _ => Err(Stop::NotAllowed(line)),
     }
 }
 
 /// A text, which is passed over.
-pub fn text(tokens: &[Token]) -> Result<&[Token], Stop>
+pub fn text<'a>(tokens: &Tokens<'a>) -> Result<Tokens<'a>, Stop>
     ensures { MatchResult result
-        (λ rest. (t : List ℕ) × (l : ℕ) × (tokens.now ≡ text t l ∷ rest.now))
+        (λ rest. (t : List ℕ) × (l : ℕ) × (tokens.now ≡ text t l ∷ rest))
         (λ stop. (d : ℕ) → StopsIn (a_text ∷ []) d tokens.now stop) }
 {
     let (token, rest) = first(tokens)?;
@@ -39,9 +38,9 @@ pub fn text(tokens: &[Token]) -> Result<&[Token], Stop>
     }
 }
 
-fn number(tokens: &[Token]) -> Result<(u64, &[Token]), Stop>
+fn number<'a>(tokens: &Tokens<'a>) -> Result<(u64, Tokens<'a>), Stop>
     ensures { MatchResult result
-        (λ x. (l : ℕ) × (tokens.now ≡ number x.0 l ∷ x.1.now))
+        (λ x. (l : ℕ) × (tokens.now ≡ number x.0 l ∷ x.1))
         (λ stop. (d : ℕ) → StopsIn (a_number ∷ []) d tokens.now stop) }
 {
     let (token, rest) = first(tokens)?;
@@ -52,9 +51,9 @@ fn number(tokens: &[Token]) -> Result<(u64, &[Token]), Stop>
 }
 
 /// `=`
-pub fn equals(tokens: &[Token]) -> Result<&[Token], Stop>
+pub fn equals<'a>(tokens: &Tokens<'a>) -> Result<Tokens<'a>, Stop>
     ensures { MatchResult result
-        (λ rest. (l : ℕ) × (tokens.now ≡ mark Equals l ∷ rest.now))
+        (λ rest. (l : ℕ) × (tokens.now ≡ mark Equals l ∷ rest))
         (λ stop. (d : ℕ) → StopsIn (an_equals ∷ []) d tokens.now stop) }
 {
     let (token, rest) = first(tokens)?;
@@ -65,9 +64,9 @@ pub fn equals(tokens: &[Token]) -> Result<&[Token], Stop>
 }
 
 /// `{`
-pub fn open_brace(tokens: &[Token]) -> Result<&[Token], Stop>
+pub fn open_brace<'a>(tokens: &Tokens<'a>) -> Result<Tokens<'a>, Stop>
     ensures { MatchResult result
-        (λ rest. (l : ℕ) × (tokens.now ≡ mark OpenBrace l ∷ rest.now))
+        (λ rest. (l : ℕ) × (tokens.now ≡ mark OpenBrace l ∷ rest))
         (λ stop. (d : ℕ) → StopsIn (an_open ∷ []) d tokens.now stop) }
 {
     let (token, rest) = first(tokens)?;
@@ -77,9 +76,9 @@ pub fn open_brace(tokens: &[Token]) -> Result<&[Token], Stop>
     }
 }
 
-fn semicolon(tokens: &[Token]) -> Result<&[Token], Stop>
+fn semicolon<'a>(tokens: &Tokens<'a>) -> Result<Tokens<'a>, Stop>
     ensures { MatchResult result
-        (λ rest. (l : ℕ) × (tokens.now ≡ mark Semicolon l ∷ rest.now))
+        (λ rest. (l : ℕ) × (tokens.now ≡ mark Semicolon l ∷ rest))
         (λ stop. (d : ℕ) → StopsIn (a_semicolon ∷ []) d tokens.now stop) }
 {
     let (token, rest) = first(tokens)?;
@@ -89,31 +88,23 @@ fn semicolon(tokens: &[Token]) -> Result<&[Token], Stop>
     }
 }
 
-// The same text once more.
-fn copied_text(alloc: Global, text: &Seq<u8>) -> Result<Seq<u8>, AllocError>
-    ensures { IfOk result (λ copy. copy ≡ text.now) }
-{
-    let bytes = Vec::from_slice(alloc, text.as_slice())?;
-    Ok(Seq::of(bytes))
-}
-
 /// value: `name | text | [+ or -] number`.
-pub fn value(alloc: Global, tokens: &[Token]) -> Result<(Value, &[Token]), PhraseError>
+pub fn value<'a>(alloc: Global, tokens: &Tokens<'a>) -> Result<(Value, Tokens<'a>), PhraseError>
     ensures { MatchResult result
-        (λ x. IsValue x.0 tokens.now x.1.now)
+        (λ x. IsValue x.0 tokens.now x.1)
         (λ e. Refuses e (λ stop. (d : ℕ) → StopsIn (a_value ∷ []) d tokens.now stop)) }
 {
     let (token, rest) = first(tokens)?;
     match &token.kind {
-        TokenKind::Name(name) => Ok((Value::Word(copied(alloc, name)?), rest)),
-        TokenKind::Text(text) => Ok((Value::Quoted(copied_text(alloc, text)?), rest)),
+        TokenKind::Name(name) => Ok((Value::Word(name.name(alloc)?), rest)),
+        TokenKind::Text(text) => Ok((Value::Quoted(text.seq(alloc)?), rest)),
         TokenKind::Number(value) => Ok((Value::Numeric(Sign::Bare, *value), rest)),
         TokenKind::Mark(Mark::Plus) => {
-            let (value, rest) = number(rest)?;
+            let (value, rest) = number(&rest)?;
             Ok((Value::Numeric(Sign::Plus, value), rest))
         }
         TokenKind::Mark(Mark::Minus) => {
-            let (value, rest) = number(rest)?;
+            let (value, rest) = number(&rest)?;
             Ok((Value::Numeric(Sign::Minus, value), rest))
         }
         TokenKind::Mark(_) => Err(PhraseError::Fault(Stop::NotAllowed(token.line))),
@@ -121,16 +112,16 @@ pub fn value(alloc: Global, tokens: &[Token]) -> Result<(Value, &[Token]), Phras
 }
 
 /// end: `[: text] ;`.
-pub fn end(tokens: &[Token]) -> Result<&[Token], Stop>
+pub fn end<'a>(tokens: &Tokens<'a>) -> Result<Tokens<'a>, Stop>
     ensures { MatchResult result
-        (λ rest. IsEnd tokens.now rest.now)
+        (λ rest. IsEnd tokens.now rest)
         (λ stop. (d : ℕ) → StopsIn (an_end ∷ []) d tokens.now stop) }
 {
     let (token, rest) = first(tokens)?;
     match &token.kind {
         TokenKind::Mark(Mark::Semicolon) => Ok(rest),
         TokenKind::Mark(Mark::Colon) => {
-            let rest = semicolon(text(rest)?)?;
+            let rest = semicolon(&text(&rest)?)?;
             Ok(rest)
         }
         _ => Err(Stop::NotAllowed(token.line)),

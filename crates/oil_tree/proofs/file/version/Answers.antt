@@ -12,4 +12,4 @@ returns-in_ok-rest-in-Version-3 c =
 pub returns-in_default : goal.returns-in_default
 returns-in_default c =
     let word = c.in_ok-word.ensures in
-    reads_no_version _ _ _ _ _ word.1 word.2 c.in_default.not-Version
+    rw c.copy.ensures (reads_no_version _ _ _ _ _ word.1 word.2 c.in_default.not-Version)

@@ -1,11 +1,11 @@
 use Rattle.oil_tree.proofs.ShortPhrases.{value_word, value_quoted, value_number, value_plus, value_minus}
 use Rattle.oil_tree.proofs.phrases.value.Goals as goal
 
-pub returns-in_ok-copied-in-Name : goal.returns-in_ok-copied-in-Name
-returns-in_ok-copied-in-Name c = value_word _ _ _ _ _ c.in_ok-token.ensures c.in-Name.is c.in_ok-copied-in-Name.ensures
+pub returns-in_ok-name-in-Name : goal.returns-in_ok-name-in-Name
+returns-in_ok-name-in-Name c = value_word _ _ _ _ _ c.in_ok-token.ensures c.in-Name.is c.in_ok-name-in-Name.ensures
 
-pub returns-in_ok-copied_text-in-Text : goal.returns-in_ok-copied_text-in-Text
-returns-in_ok-copied_text-in-Text c = value_quoted _ _ _ _ _ c.in_ok-token.ensures c.in-Text.is c.in_ok-copied_text-in-Text.ensures
+pub returns-in_ok-seq-in-Text : goal.returns-in_ok-seq-in-Text
+returns-in_ok-seq-in-Text c = value_quoted _ _ _ _ _ c.in_ok-token.ensures c.in-Text.is c.in_ok-seq-in-Text.ensures
 
 pub returns-in-Number : goal.returns-in-Number
 returns-in-Number c = value_number _ _ _ _ c.in_ok-token.ensures c.in-Number.is
