@@ -80,10 +80,7 @@ fn status<'a>(tokens: &Tokens<'a>) -> Result<(Status, Tokens<'a>), Stop>
 }
 
 // mask: name { | name } )
-fn mask<'a>(
-    alloc: Global,
-    tokens: &Tokens<'a>,
-) -> Result<(Seq<Reference>, Tokens<'a>), PhraseError>
+fn mask<'a>(alloc: Global, tokens: &Tokens<'a>) -> Result<(Seq<Reference>, Tokens<'a>), PhraseError>
     ensures { MatchResult result
         (λ x. IsMask x.0 tokens.now x.1)
         (λ e. Refuses e (λ stop. (d : ℕ) → StopsIn (a_name ∷ (mask_rest ∷ [])) d tokens.now stop)) }

@@ -119,7 +119,10 @@ pub fn name_of<'a>(tokens: &Tokens<'a>) -> Result<(Word<'a>, u32, Tokens<'a>), S
 }
 
 /// The name of an object, with its line.
-pub fn object_name<'a>(alloc: Global, tokens: &Tokens<'a>) -> Result<(Reference, Tokens<'a>), PhraseError>
+pub fn object_name<'a>(
+    alloc: Global,
+    tokens: &Tokens<'a>,
+) -> Result<(Reference, Tokens<'a>), PhraseError>
     ensures { MatchResult result
         (λ x. tokens.now ≡ name x.0.name x.0.line ∷ x.1)
         (λ e. Refuses e (λ stop. (d : ℕ) → StopsIn (a_name ∷ []) d tokens.now stop)) }
