@@ -1,7 +1,8 @@
 -- Bodies that were read.
-use Rattle.std.proofs.Common.{◌≡◌, ℕ, ◌<◌, List, [], ◌∷◌, ◌++◌, length, refl, sym, ap, ◌∙◌, subst, arith}
+use Rattle.std.proofs.Common.{◌≡◌, ℕ, ◌<◌, List, [], ◌∷◌, ◌++◌, length, sym, ap, ◌∙◌, subst, append_assoc, arith}
 use Rattle.std.specs.Prelude.{All}
 use Rattle.std.proofs.lemmas.List.{append-nil}
+use Rattle.std.proofs.lemmas.List.Elements.{All-push}
 use Rattle.oil_lexer.specs.declared.token.{Mark.TheVariants.{OpenBrace, OpenParen, CloseParen}, Token.{Token}}
 use Rattle.oil_grammar.specs.Tokens.{name, mark}
 use Rattle.task_code.specs.declared.call.Reference.{Reference}
@@ -10,7 +11,7 @@ use Rattle.task_code.specs.Statements.{Statements}
 use Rattle.task_code.specs.Fit.{depth}
 use Rattle.task_code.specs.Grammar.{AreBodies, no_body, a_body}
 use Rattle.task_code.specs.Expect.{scan, body_stack}
-use Rattle.task_code.specs.Phrases.{ReadsBlock, ReadsOwned, ReadsAll}
+use Rattle.task_code.specs.Phrases.{ReadsBlock, ReadsOwned, ReadsBody, ReadsAll}
 use Rattle.task_code.proofs.Scanned.{shorter_statements}
 
 pub reads_owned : (l l' : ℕ) (owner : Reference) (s : Statements) (tokens r1 r2 r rest : List Token) → tokens ≡ mark OpenParen l ∷ r1 → r1 ≡ name owner.name owner.line ∷ r2 → r2 ≡ mark CloseParen l' ∷ r → ReadsBlock 0 r s rest → ReadsOwned tokens owner s rest
@@ -28,13 +29,19 @@ reads_owned l l' owner s tokens r1 r2 r rest e1 e2 e3 b =
 abbrev pub BodiesJoin : List Body → List Token → List Token → Type 0
 BodiesJoin found tokens rest = (more : List Body) → AreBodies more rest → AreBodies (found ++ more) tokens
 
-none_left : (rest : List Token) → length rest ≡ 0 → rest ≡ []
-none_left [] e = refl
-none_left (t ∷ rest) e = absurd (omega (arith, e))
+pub bodies_join : (found longer : List Body) (b : Body) (t : Token) (tokens rest behind after : List Token) → BodiesJoin found tokens rest → rest ≡ t ∷ behind → ReadsBody (t ∷ behind) b after → longer ≡ found ++ b ∷ [] → BodiesJoin longer tokens after
+bodies_join found longer b t tokens rest behind after joins e read same = λ more are.
+    subst (λ (x : List Body). AreBodies x tokens) (sym (append_assoc found (b ∷ []) more) ∙ ap (λ (x : List Body). x ++ more) (sym same)) (joins (b ∷ more) (subst (λ (z : List Token). AreBodies (b ∷ more) z) (sym e) (read.joins more are)))
 
-pub reads_all : (found all : List Body) (tokens rest : List Token) → BodiesJoin found tokens rest → scan 0 [] tokens ≡ scan 0 [] rest → All (λ (b : Body). depth b.statements < 32) found → length rest ≡ 0 → all ≡ found → ReadsAll tokens all
-reads_all found all tokens rest joins takes within e same =
-    let none = none_left rest e in
+pub bodies_take : (b : Body) (t : Token) (tokens rest behind after : List Token) → scan 0 [] tokens ≡ scan 0 [] rest → rest ≡ t ∷ behind → ReadsBody (t ∷ behind) b after → scan 0 [] tokens ≡ scan 0 [] after
+bodies_take b t tokens rest behind after takes e read = takes ∙ ap (scan 0 []) e ∙ read.takes
+
+pub bodies_within : (found longer : List Body) (b : Body) → All (λ (x : Body). depth x.statements < 32) found → depth b.statements < 32 → longer ≡ found ++ b ∷ [] → All (λ (x : Body). depth x.statements < 32) longer
+bodies_within found longer b all one same =
+    subst (λ (xs : List Body). All (λ (x : Body). depth x.statements < 32) xs) (sym same) (All-push (λ (x : Body). depth x.statements < 32) found b all one)
+
+pub reads_all : (found all : List Body) (tokens rest : List Token) → BodiesJoin found tokens rest → scan 0 [] tokens ≡ scan 0 [] rest → All (λ (b : Body). depth b.statements < 32) found → rest ≡ [] → all ≡ found → ReadsAll tokens all
+reads_all found all tokens rest joins takes within none same =
     subst (λ (x : List Body). ReadsAll tokens x) (sym same) (record {
       are_bodies = subst (λ (x : List Body). AreBodies x tokens) (append-nil found) (joins [] (subst (λ (z : List Token). AreBodies [] z) (sym none) no_body));
       taken = takes ∙ ap (scan 0 []) none;

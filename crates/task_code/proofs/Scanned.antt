@@ -1,14 +1,14 @@
 -- What the scan does at a phrase that was read.
-use Rattle.std.proofs.Common.{◌≡◌, ℕ, ◌+◌, ◌<◌, ◌≤◌, true, List, [], ◌∷◌, ◌++◌, length, refl, ap, arith}
+use Rattle.std.proofs.Common.{◌≡◌, ℕ, ◌+◌, ◌<◌, true, List, ◌∷◌, ◌++◌, length, refl, ap, arith}
 use Rattle.std.specs.Prelude.{Option}
 use Rattle.osek_values.specs.declared.limits.TheConstants.{MAX_CODE_DEPTH}
 use Rattle.oil_lexer.specs.declared.token.{Mark.TheVariants.{OpenBrace, CloseParen}, Token.{Token}}
-use Rattle.oil_grammar.specs.declared.fault.{Stop.{Stop}, Stop.TheVariants.{TooDeep}}
+use Rattle.oil_grammar.specs.declared.fault.{Stop.{Stop}}
 use Rattle.oil_grammar.specs.Tokens.{name, mark}
 use Rattle.oil_grammar.specs.Scan as scans
-use Rattle.oil_grammar.proofs.Braces.{shallow, deep}
+use Rattle.oil_grammar.proofs.Braces.{shallow}
 use Rattle.task_code.specs.declared.call.{Reference.{Reference}, Call.{Call}}
-use Rattle.task_code.specs.declared.tree.{BodyKind.{BodyKind}, Condition.{Condition}}
+use Rattle.task_code.specs.declared.tree.{Condition.{Condition}}
 use Rattle.task_code.specs.declared.words.{Service.{Service}, StatementWord.{StatementWord}}
 use Rattle.task_code.specs.Statements.{Statements}
 use Rattle.task_code.specs.Words.{is_else, statement_word}

@@ -14,7 +14,7 @@ use crate::call::{Call, Reference};
 use crate::phrases::{close_paren, comma, number, object_name};
 use crate::words::{AlarmService, MaskService, ObjectService, PlainService, Service, status_of};
 use oil_grammar::{PhraseError, Stop, first};
-use oil_lexer::{Mark, Token, TokenKind};
+use oil_lexer::{Mark, TokenKind, Tokens};
 use osek_values::{Seq, Status};
 use std::alloc::Global;
 
@@ -64,9 +64,9 @@ fn alarm_call(service: AlarmService, alarm: Reference, first: u64, cycle: u64) -
 }
 
 /// The name of a status.
-fn status(tokens: &[Token]) -> Result<(Status, &[Token]), Stop>
+fn status<'a>(tokens: &Tokens<'a>) -> Result<(Status, Tokens<'a>), Stop>
     ensures { MatchResult result
-        (λ x. (n : List ℕ) × (l : ℕ) × (tokens.now ≡ name n l ∷ x.1.now) × (the_status_of n ≡ Some x.0))
+        (λ x. (n : List ℕ) × (l : ℕ) × (tokens.now ≡ name n l ∷ x.1) × (the_status_of n ≡ Some x.0))
         (λ stop. (d : ℕ) → StopsIn (a_status ∷ []) d tokens.now stop) }
 {
     let (token, rest) = first(tokens)?;
@@ -80,17 +80,17 @@ fn status(tokens: &[Token]) -> Result<(Status, &[Token]), Stop>
 }
 
 // mask: name { | name } )
-fn mask(alloc: Global, tokens: &[Token]) -> Result<(Seq<Reference>, &[Token]), PhraseError>
+fn mask<'a>(alloc: Global, tokens: &Tokens<'a>) -> Result<(Seq<Reference>, Tokens<'a>), PhraseError>
     ensures { MatchResult result
-        (λ x. IsMask x.0 tokens.now x.1.now)
+        (λ x. IsMask x.0 tokens.now x.1)
         (λ e. Refuses e (λ stop. (d : ℕ) → StopsIn (a_name ∷ (mask_rest ∷ [])) d tokens.now stop)) }
 {
     let mut events = Vec::new(alloc);
-    let mut rest = tokens;
+    let mut rest = tokens.copy();
     loop {
-        let (event, behind) = object_name(alloc, rest)?;
+        let (event, behind) = object_name(alloc, &rest)?;
         events.push(event)?;
-        let (token, after) = first(behind)?;
+        let (token, after) = first(&behind)?;
         match &token.kind {
             TokenKind::Mark(Mark::CloseParen) => return Ok((Seq::of(events), after)),
             TokenKind::Mark(Mark::Bar) => rest = after,
@@ -100,53 +100,56 @@ fn mask(alloc: Global, tokens: &[Token]) -> Result<(Seq<Reference>, &[Token]), P
 }
 
 // , number
-fn next_number(tokens: &[Token]) -> Result<(u64, &[Token]), Stop>
+fn next_number<'a>(tokens: &Tokens<'a>) -> Result<(u64, Tokens<'a>), Stop>
     ensures { MatchResult result
-        (λ x. (l : ℕ) × (l' : ℕ) × (tokens.now ≡ mark Comma l ∷ (a_number_token x.0 l' ∷ x.1.now)))
+        (λ x. (l : ℕ) × (l' : ℕ) × (tokens.now ≡ mark Comma l ∷ (a_number_token x.0 l' ∷ x.1)))
         (λ stop. (d : ℕ) → StopsIn (a_comma ∷ (a_number ∷ [])) d tokens.now stop) }
 {
     let rest = comma(tokens)?;
-    let (value, rest) = number(rest)?;
+    let (value, rest) = number(&rest)?;
     Ok((value, rest))
 }
 
 // name , mask
-fn call_of_set_event(alloc: Global, tokens: &[Token]) -> Result<(Call, &[Token]), PhraseError>
+fn call_of_set_event<'a>(
+    alloc: Global,
+    tokens: &Tokens<'a>,
+) -> Result<(Call, Tokens<'a>), PhraseError>
     ensures { MatchResult result
-        (λ x. IsCall Service.SetEvent x.0 tokens.now x.1.now)
+        (λ x. IsCall Service.SetEvent x.0 tokens.now x.1)
         (λ e. Refuses e (λ stop. (d : ℕ) → StopsIn (operands Service.SetEvent) d tokens.now stop)) }
 {
     let (task, rest) = object_name(alloc, tokens)?;
-    let rest = comma(rest)?;
-    let (events, rest) = mask(alloc, rest)?;
+    let rest = comma(&rest)?;
+    let (events, rest) = mask(alloc, &rest)?;
     Ok((Call::SetEvent(task, events), rest))
 }
 
 // name , number , number )
-fn call_of_alarm(
+fn call_of_alarm<'a>(
     alloc: Global,
     service: AlarmService,
-    tokens: &[Token],
-) -> Result<(Call, &[Token]), PhraseError>
+    tokens: &Tokens<'a>,
+) -> Result<(Call, Tokens<'a>), PhraseError>
     ensures { MatchResult result
-        (λ x. IsCall (Service.Alarm service) x.0 tokens.now x.1.now)
+        (λ x. IsCall (Service.Alarm service) x.0 tokens.now x.1)
         (λ e. Refuses e (λ stop. (d : ℕ) → StopsIn (operands (Service.Alarm service)) d tokens.now stop)) }
 {
     let (alarm, rest) = object_name(alloc, tokens)?;
-    let (first, rest) = next_number(rest)?;
-    let (cycle, rest) = next_number(rest)?;
-    let rest = close_paren(rest)?;
+    let (first, rest) = next_number(&rest)?;
+    let (cycle, rest) = next_number(&rest)?;
+    let rest = close_paren(&rest)?;
     Ok((alarm_call(service, alarm, first, cycle), rest))
 }
 
 /// The call of a service, by what stands between its parentheses and the closing one.
-pub fn call(
+pub fn call<'a>(
     alloc: Global,
     service: Service,
-    tokens: &[Token],
-) -> Result<(Call, &[Token]), PhraseError>
+    tokens: &Tokens<'a>,
+) -> Result<(Call, Tokens<'a>), PhraseError>
     ensures { MatchResult result
-        (λ x. IsCall service x.0 tokens.now x.1.now)
+        (λ x. IsCall service x.0 tokens.now x.1)
         (λ e. Refuses e (λ stop. (d : ℕ) → StopsIn (operands service) d tokens.now stop)) }
 {
     match service {
@@ -156,7 +159,7 @@ pub fn call(
         }
         Service::Object(of_object) => {
             let (object, rest) = object_name(alloc, tokens)?;
-            let rest = close_paren(rest)?;
+            let rest = close_paren(&rest)?;
             Ok((object_call(of_object, object), rest))
         }
         Service::Mask(of_mask) => {
@@ -167,7 +170,7 @@ pub fn call(
         Service::Alarm(of_alarm) => call_of_alarm(alloc, of_alarm, tokens),
         Service::ShutdownOs => {
             let (status, rest) = status(tokens)?;
-            let rest = close_paren(rest)?;
+            let rest = close_paren(&rest)?;
             Ok((Call::ShutdownOs(status), rest))
         }
     }

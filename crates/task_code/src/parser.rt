@@ -15,11 +15,11 @@ use crate::error::{CodeError, CodeFault};
 use crate::tree::Code;
 use crate::works::wrong_work_in;
 use oil_grammar::{PhraseError, Stop, fault_of};
-use oil_lexer::Token;
+use oil_lexer::Tokens;
 use osek_values::{CodeRule, Rule};
 use std::alloc::Global;
 
-fn syntax_fault(stop: Stop, tokens: &[Token]) -> CodeFault
+fn syntax_fault(stop: Stop, tokens: &Tokens<'_>) -> CodeFault
     ensures rule { result.rule ≡ Syntax (the_fault_of stop tokens.now).rule }
     ensures line { result.line ≡ (the_fault_of stop tokens.now).line }
 {
@@ -30,7 +30,7 @@ fn syntax_fault(stop: Stop, tokens: &[Token]) -> CodeFault
     }
 }
 
-fn read(alloc: Global, tokens: &[Token]) -> Result<Code, CodeError>
+fn read(alloc: Global, tokens: &Tokens<'_>) -> Result<Code, CodeError>
     ensures right { IsRight (λ r. IsAnswer r tokens.now) result }
     ensures fit { IfOk result AreFit }
 {
@@ -52,7 +52,7 @@ fn read(alloc: Global, tokens: &[Token]) -> Result<Code, CodeError>
 
 /// The code of a task code text (this project's profile), or the first fault of its tokens: of the grammar, and where
 /// that has none the first `work` outside its range.
-pub fn parse_code(alloc: Global, tokens: &[Token]) -> Result<Code, CodeError>
+pub fn parse_code(alloc: Global, tokens: &Tokens<'_>) -> Result<Code, CodeError>
     // What is answered is right, and can be linked,
     ensures right { IsRight (λ r. IsAnswer r tokens.now) result }
     ensures fit { IfOk result AreFit }

@@ -10,14 +10,13 @@ ghost use Rattle.osek_values.specs.Answers.{Refuses};
 use crate::call::Reference;
 use crate::tree::Condition;
 use oil_grammar::{PhraseError, Stop, first};
-use oil_lexer::{Mark, Token, TokenKind};
-use osek_values::{Name, copied};
+use oil_lexer::{Mark, Token, TokenKind, Tokens, Word};
 use std::alloc::Global;
 
 /// `(`
-pub fn open_paren(tokens: &[Token]) -> Result<&[Token], Stop>
+pub fn open_paren<'a>(tokens: &Tokens<'a>) -> Result<Tokens<'a>, Stop>
     ensures { MatchResult result
-        (λ rest. (l : ℕ) × (tokens.now ≡ mark OpenParen l ∷ rest.now))
+        (λ rest. (l : ℕ) × (tokens.now ≡ mark OpenParen l ∷ rest))
         (λ stop. (d : ℕ) → StopsIn (the_open_paren ∷ []) d tokens.now stop) }
 {
     let (token, rest) = first(tokens)?;
@@ -28,9 +27,9 @@ pub fn open_paren(tokens: &[Token]) -> Result<&[Token], Stop>
 }
 
 /// `)`
-pub fn close_paren(tokens: &[Token]) -> Result<&[Token], Stop>
+pub fn close_paren<'a>(tokens: &Tokens<'a>) -> Result<Tokens<'a>, Stop>
     ensures { MatchResult result
-        (λ rest. (l : ℕ) × (tokens.now ≡ mark CloseParen l ∷ rest.now))
+        (λ rest. (l : ℕ) × (tokens.now ≡ mark CloseParen l ∷ rest))
         (λ stop. (d : ℕ) → StopsIn (the_close_paren ∷ []) d tokens.now stop) }
 {
     let (token, rest) = first(tokens)?;
@@ -41,9 +40,9 @@ pub fn close_paren(tokens: &[Token]) -> Result<&[Token], Stop>
 }
 
 /// `,`
-pub fn comma(tokens: &[Token]) -> Result<&[Token], Stop>
+pub fn comma<'a>(tokens: &Tokens<'a>) -> Result<Tokens<'a>, Stop>
     ensures { MatchResult result
-        (λ rest. (l : ℕ) × (tokens.now ≡ mark Comma l ∷ rest.now))
+        (λ rest. (l : ℕ) × (tokens.now ≡ mark Comma l ∷ rest))
         (λ stop. (d : ℕ) → StopsIn (a_comma ∷ []) d tokens.now stop) }
 {
     let (token, rest) = first(tokens)?;
@@ -54,9 +53,9 @@ pub fn comma(tokens: &[Token]) -> Result<&[Token], Stop>
 }
 
 /// `;`
-pub fn semicolon(tokens: &[Token]) -> Result<&[Token], Stop>
+pub fn semicolon<'a>(tokens: &Tokens<'a>) -> Result<Tokens<'a>, Stop>
     ensures { MatchResult result
-        (λ rest. (l : ℕ) × (tokens.now ≡ mark Semicolon l ∷ rest.now))
+        (λ rest. (l : ℕ) × (tokens.now ≡ mark Semicolon l ∷ rest))
         (λ stop. (d : ℕ) → StopsIn (a_semicolon ∷ []) d tokens.now stop) }
 {
     let (token, rest) = first(tokens)?;
@@ -67,9 +66,9 @@ pub fn semicolon(tokens: &[Token]) -> Result<&[Token], Stop>
 }
 
 /// `?`
-pub fn question(tokens: &[Token]) -> Result<&[Token], Stop>
+pub fn question<'a>(tokens: &Tokens<'a>) -> Result<Tokens<'a>, Stop>
     ensures { MatchResult result
-        (λ rest. (l : ℕ) × (tokens.now ≡ mark Question l ∷ rest.now))
+        (λ rest. (l : ℕ) × (tokens.now ≡ mark Question l ∷ rest))
         (λ stop. (d : ℕ) → StopsIn (a_question ∷ []) d tokens.now stop) }
 {
     let (token, rest) = first(tokens)?;
@@ -80,9 +79,9 @@ pub fn question(tokens: &[Token]) -> Result<&[Token], Stop>
 }
 
 /// A number.
-pub fn number(tokens: &[Token]) -> Result<(u64, &[Token]), Stop>
+pub fn number<'a>(tokens: &Tokens<'a>) -> Result<(u64, Tokens<'a>), Stop>
     ensures { MatchResult result
-        (λ x. (l : ℕ) × (tokens.now ≡ number x.0 l ∷ x.1.now))
+        (λ x. (l : ℕ) × (tokens.now ≡ number x.0 l ∷ x.1))
         (λ stop. (d : ℕ) → StopsIn (a_number ∷ []) d tokens.now stop) }
 {
     let (token, rest) = first(tokens)?;
@@ -93,9 +92,9 @@ pub fn number(tokens: &[Token]) -> Result<(u64, &[Token]), Stop>
 }
 
 /// The condition of a loop: `?` or the number 1.
-pub fn condition(tokens: &[Token]) -> Result<(Condition, &[Token]), Stop>
+pub fn condition<'a>(tokens: &Tokens<'a>) -> Result<(Condition, Tokens<'a>), Stop>
     ensures { MatchResult result
-        (λ x. (t : Token) × (tokens.now ≡ t ∷ x.1.now) × IsCondition x.0 t)
+        (λ x. (t : Token) × (tokens.now ≡ t ∷ x.1) × IsCondition x.0 t)
         (λ stop. (d : ℕ) → StopsIn (a_condition ∷ []) d tokens.now stop) }
 {
     let (token, rest) = first(tokens)?;
@@ -107,25 +106,28 @@ pub fn condition(tokens: &[Token]) -> Result<(Condition, &[Token]), Stop>
 }
 
 /// A name and its line.
-pub fn name_of(tokens: &[Token]) -> Result<(&Name, u32, &[Token]), Stop>
+pub fn name_of<'a>(tokens: &Tokens<'a>) -> Result<(Word<'a>, u32, Tokens<'a>), Stop>
     ensures { MatchResult result
-        (λ x. tokens.now ≡ name x.0.now x.1 ∷ x.2.now)
+        (λ x. tokens.now ≡ name x.0 x.1 ∷ x.2)
         (λ stop. (d : ℕ) → StopsIn (a_name ∷ []) d tokens.now stop) }
 {
-    let (token, rest) = first(tokens)?;
-    match &token.kind {
-        TokenKind::Name(name) => Ok((name, token.line, rest)),
-        _ => Err(Stop::NotAllowed(token.line)),
+    let (Token { kind, line }, rest) = first(tokens)?;
+    match kind {
+        TokenKind::Name(name) => Ok((name, line, rest)),
+        _ => Err(Stop::NotAllowed(line)),
     }
 }
 
 /// The name of an object, with its line.
-pub fn object_name(alloc: Global, tokens: &[Token]) -> Result<(Reference, &[Token]), PhraseError>
+pub fn object_name<'a>(
+    alloc: Global,
+    tokens: &Tokens<'a>,
+) -> Result<(Reference, Tokens<'a>), PhraseError>
     ensures { MatchResult result
-        (λ x. tokens.now ≡ name x.0.name x.0.line ∷ x.1.now)
+        (λ x. tokens.now ≡ name x.0.name x.0.line ∷ x.1)
         (λ e. Refuses e (λ stop. (d : ℕ) → StopsIn (a_name ∷ []) d tokens.now stop)) }
 {
     let (name, line, rest) = name_of(tokens)?;
-    let name = copied(alloc, name)?;
+    let name = name.name(alloc)?;
     Ok((Reference { name, line }, rest))
 }
