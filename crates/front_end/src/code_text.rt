@@ -11,7 +11,7 @@ ghost use Rattle.front_end.specs.Answers.{IsCodeAnswer};
 
 use crate::error::TextError;
 use block_graph::{LinkError, link};
-use oil_lexer::{LexError, tokens};
+use oil_lexer::tokens;
 use oil_system::System;
 use osek_standard::App;
 use osek_values::{Refusal, Rule, TextFile};
@@ -33,15 +33,11 @@ fn read(alloc: Global, system: System, text: &[u8]) -> Result<App, TextError>
     ensures right { IsRight (λ r. IsCodeAnswer r system text.now) result }
     ensures version_1 { IfOk result (λ app. FitsVersion1 app.tasks) }
 {
-    let tokens = match tokens(alloc, text) {
+    let tokens = match tokens(text) {
         Ok(tokens) => tokens,
-        Err(LexError::Fault(fault)) => {
+        Err(fault) => {
             drop(system);
             return Err(refused(fault.line, Rule::Lex(fault.rule)));
-        }
-        Err(LexError::Memory) => {
-            drop(system);
-            return Err(TextError::Memory);
         }
     };
     let code = match parse_code(alloc, &tokens) {

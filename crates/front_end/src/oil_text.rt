@@ -9,7 +9,7 @@ ghost use Rattle.osek_values.specs.Answers.{IsRight, Answers};
 ghost use Rattle.front_end.specs.Answers.{IsOilAnswer};
 
 use crate::error::TextError;
-use oil_lexer::{LexError, tokens};
+use oil_lexer::tokens;
 use oil_model::{ModelError, resolve};
 use oil_system::System;
 use oil_tree::{ParseError, parse};
@@ -30,10 +30,9 @@ fn read(alloc: Global, text: &[u8]) -> Result<System, TextError>
     ensures right { IsRight (λ r. IsOilAnswer r text.now) result }
     ensures linkable { IfOk result IsLinkable }
 {
-    let tokens = match tokens(alloc, text) {
+    let tokens = match tokens(text) {
         Ok(tokens) => tokens,
-        Err(LexError::Fault(fault)) => return Err(refused(fault.line, Rule::Lex(fault.rule))),
-        Err(LexError::Memory) => return Err(TextError::Memory),
+        Err(fault) => return Err(refused(fault.line, Rule::Lex(fault.rule))),
     };
     let tree = match parse(alloc, &tokens) {
         Ok(tree) => tree,

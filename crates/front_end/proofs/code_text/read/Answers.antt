@@ -25,27 +25,25 @@ of_tokens s text tokens (rule.Syntax r) line are fault = (tokens, are, fault)
 of_tokens s text tokens (rule.Oil r) line are fault = absurd fault
 of_tokens s text tokens (rule.Code r) line are fault = (tokens, are, inl fault)
 
+pub returns-in-Err-clause-right : goal.returns-in-Err-clause-right
+returns-in-Err-clause-right c = refuses c.args.system c.args.text.now c.refused.result c.in-Err.fault.line (rule.Lex c.in-Err.fault.rule) c.refused.ensures c.in-Err.ensures.right
+
 pub returns-in-Err-Fault-clause-right : goal.returns-in-Err-Fault-clause-right
 returns-in-Err-Fault-clause-right c =
-    refuses c.args.system c.args.text.now c.refused.result c.in-Err-Fault.fault.line (rule.Lex c.in-Err-Fault.fault.rule) (rw c.in-Err-Fault.field-0-is at c.refused.ensures)
-    (rw c.in-Err-Fault.field-0-is at c.in-Err-Fault.ensures.right)
-
-pub returns-in-Err-Fault-parse_code-clause-right : goal.returns-in-Err-Fault-parse_code-clause-right
-returns-in-Err-Fault-parse_code-clause-right c =
-    refuses c.args.system c.args.text.now c.refused-in-Err-Fault-parse_code.result c.in-Err-Fault-parse_code.fault.line c.in-Err-Fault-parse_code.fault.rule (rw c.in-Err-Fault-parse_code.field-0-is at c.refused-in-Err-Fault-parse_code.ensures)
-    (of_tokens c.args.system c.args.text.now c.in-Ok.tokens.items c.in-Err-Fault-parse_code.fault.rule c.in-Err-Fault-parse_code.fault.line c.in-Ok.ensures.right
-    (rw (c.in-Err-Fault-parse_code.field-0-is, c.deref.ensures.value) at c.in-Err-Fault-parse_code.ensures.right))
+    refuses c.args.system c.args.text.now c.refused-in-Err-Fault.result c.in-Err-Fault.fault.line c.in-Err-Fault.fault.rule (rw c.in-Err-Fault.field-0-is at c.refused-in-Err-Fault.ensures)
+    (of_tokens c.args.system c.args.text.now c.in-Ok.tokens c.in-Err-Fault.fault.rule c.in-Err-Fault.fault.line c.in-Ok.ensures.right
+    (rw c.in-Err-Fault.field-0-is at c.in-Err-Fault.ensures.right))
 
 pub returns-in-Ok-link-clause-right : goal.returns-in-Ok-link-clause-right
 returns-in-Ok-link-clause-right c = record {
-  tokens = c.in-Ok.tokens.items;
+  tokens = c.in-Ok.tokens;
   code = c.in-Ok-parse_code.code;
   are_tokens = c.in-Ok.ensures.right;
-  has_code = rw c.deref.ensures.value at c.in-Ok-parse_code.ensures.right;
+  has_code = c.in-Ok-parse_code.ensures.right;
   has_app = c.in-Ok-link.ensures.right;
 }
 
 pub returns-in-Err-Fault-link-clause-right : goal.returns-in-Err-Fault-link-clause-right
 returns-in-Err-Fault-link-clause-right c =
     refuses c.args.system c.args.text.now c.refused-in-Err-Fault-link.result c.in-Err-Fault-link.fault.line (rule.Code c.in-Err-Fault-link.fault.rule) c.refused-in-Err-Fault-link.ensures
-    (c.in-Ok.tokens.items, c.in-Ok.ensures.right, inr (c.in-Ok-parse_code.code, (rw c.deref.ensures.value at c.in-Ok-parse_code.ensures.right), (rw c.in-Err-Fault-link.field-0-is at c.in-Err-Fault-link.ensures.right)))
+    (c.in-Ok.tokens, c.in-Ok.ensures.right, inr (c.in-Ok-parse_code.code, c.in-Ok-parse_code.ensures.right, (rw c.in-Err-Fault-link.field-0-is at c.in-Err-Fault-link.ensures.right)))

@@ -15,25 +15,24 @@ refuses : (text : List ℕ) (e : Refused Refusal) (line : ℕ) (q : Rule) → e 
     IsRight {X = System} (λ r. IsOilAnswer r text) (Err e)
 refuses text e line q is fault = subst (λ (x : Refused Refusal). IsRight {X = System} (λ r. IsOilAnswer r text) (Err x)) (sym is) (refl, fault)
 
+pub returns-in-Err-clause-right : goal.returns-in-Err-clause-right
+returns-in-Err-clause-right c = refuses c.args.text.now c.refused.result c.in-Err.fault.line (rule.Lex c.in-Err.fault.rule) c.refused.ensures c.in-Err.ensures.right
+
 pub returns-in-Err-Fault-clause-right : goal.returns-in-Err-Fault-clause-right
 returns-in-Err-Fault-clause-right c =
-    refuses c.args.text.now c.refused.result c.in-Err-Fault.fault.line (rule.Lex c.in-Err-Fault.fault.rule) (rw c.in-Err-Fault.field-0-is at c.refused.ensures) (rw c.in-Err-Fault.field-0-is at c.in-Err-Fault.ensures.right)
-
-pub returns-in-Err-Fault-parse-clause-right : goal.returns-in-Err-Fault-parse-clause-right
-returns-in-Err-Fault-parse-clause-right c =
-    refuses c.args.text.now c.refused-in-Err-Fault-parse.result c.in-Err-Fault-parse.fault.line (rule.Syntax c.in-Err-Fault-parse.fault.rule) (rw c.in-Err-Fault-parse.field-0-is at c.refused-in-Err-Fault-parse.ensures)
-    (c.in-Ok.tokens.items, c.in-Ok.ensures.right, (rw (c.in-Err-Fault-parse.field-0-is, c.deref.ensures.value) at c.in-Err-Fault-parse.ensures.right))
+    refuses c.args.text.now c.refused-in-Err-Fault.result c.in-Err-Fault.fault.line (rule.Syntax c.in-Err-Fault.fault.rule) (rw c.in-Err-Fault.field-0-is at c.refused-in-Err-Fault.ensures)
+    (c.in-Ok.tokens, c.in-Ok.ensures.right, (rw c.in-Err-Fault.field-0-is at c.in-Err-Fault.ensures.right))
 
 pub returns-in-Ok-resolve-clause-right : goal.returns-in-Ok-resolve-clause-right
 returns-in-Ok-resolve-clause-right c = record {
-  tokens = c.in-Ok.tokens.items;
+  tokens = c.in-Ok.tokens;
   tree = c.in-Ok-parse.tree;
   are_tokens = c.in-Ok.ensures.right;
-  has_tree = rw c.deref.ensures.value at c.in-Ok-parse.ensures.right;
+  has_tree = c.in-Ok-parse.ensures.right;
   has_system = c.in-Ok-resolve.ensures.right;
 }
 
 pub returns-in-Err-Fault-resolve-clause-right : goal.returns-in-Err-Fault-resolve-clause-right
 returns-in-Err-Fault-resolve-clause-right c =
     refuses c.args.text.now c.refused-in-Err-Fault-resolve.result c.in-Err-Fault-resolve.fault.line (rule.Oil c.in-Err-Fault-resolve.fault.rule) c.refused-in-Err-Fault-resolve.ensures
-    (c.in-Ok.tokens.items, c.in-Ok-parse.tree, c.in-Ok.ensures.right, (rw c.deref.ensures.value at c.in-Ok-parse.ensures.right), (rw c.in-Err-Fault-resolve.field-0-is at c.in-Err-Fault-resolve.ensures.right))
+    (c.in-Ok.tokens, c.in-Ok-parse.tree, c.in-Ok.ensures.right, c.in-Ok-parse.ensures.right, (rw c.in-Err-Fault-resolve.field-0-is at c.in-Err-Fault-resolve.ensures.right))
