@@ -28,10 +28,10 @@ enum Outcome {
 fn system_of(alloc: Global, oil: &[u8]) -> Option<System>
     ensures { IfSome result IsLinkable }
 {
-    let Ok(tokens) = tokens(alloc, oil) else {
+    let Ok(tokens) = tokens(oil) else {
         return None;
     };
-    match parse(alloc, tokens.as_slice()) {
+    match parse(alloc, &tokens) {
         Ok(tree) => resolve(alloc, &tree).ok(),
         Err(_) => None,
     }
@@ -40,8 +40,8 @@ fn system_of(alloc: Global, oil: &[u8]) -> Option<System>
 fn code_of(alloc: Global, text: &[u8]) -> Option<Code>
     ensures { IfSome result AreFit }
 {
-    match tokens(alloc, text) {
-        Ok(tokens) => parse_code(alloc, tokens.as_slice()).ok(),
+    match tokens(text) {
+        Ok(tokens) => parse_code(alloc, &tokens).ok(),
         Err(_) => None,
     }
 }

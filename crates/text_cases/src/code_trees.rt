@@ -1,5 +1,5 @@
 //! Texts with their code, and with their first fault.
-use oil_lexer::{LexError, tokens};
+use oil_lexer::tokens;
 use osek_standard::Lock;
 use osek_values::{CodeRule, Rule, Status, SyntaxRule};
 use std::alloc::{AllocError, Global};
@@ -26,10 +26,9 @@ const S3: Rule = Rule::Syntax(SyntaxRule::S3);
 const C9: Rule = Rule::Code(CodeRule::C9);
 
 fn outcome_of(alloc: Global, text: &[u8]) -> Outcome {
-    match tokens(alloc, text) {
-        Err(LexError::Fault(fault)) => Outcome::Lexer(fault.line),
-        Err(LexError::Memory) => Outcome::Memory,
-        Ok(tokens) => match parse_code(alloc, tokens.as_slice()) {
+    match tokens(text) {
+        Err(fault) => Outcome::Lexer(fault.line),
+        Ok(tokens) => match parse_code(alloc, &tokens) {
             Ok(code) => Outcome::Bodies(code.bodies.len()),
             Err(CodeError::Fault(fault)) => Outcome::Fault(fault.line, fault.rule),
             Err(CodeError::Memory) => Outcome::Memory,
@@ -77,10 +76,10 @@ fn service_of(call: &Call) -> &'static [u8] {
 
 /// The call that alone stands in a body, if the text is one.
 fn is_one_call(alloc: Global, text: &[u8], service: &[u8]) -> bool {
-    let Ok(tokens) = tokens(alloc, text) else {
+    let Ok(tokens) = tokens(text) else {
         return false;
     };
-    let Ok(code) = parse_code(alloc, tokens.as_slice()) else {
+    let Ok(code) = parse_code(alloc, &tokens) else {
         return false;
     };
     match code.bodies.as_slice() {
@@ -253,10 +252,10 @@ fn are_bodies(bodies: &[Body]) -> bool {
 
 /// Whether the text gives code with those bodies.
 fn gives_bodies(alloc: Global, text: &[u8]) -> bool {
-    let Ok(tokens) = tokens(alloc, text) else {
+    let Ok(tokens) = tokens(text) else {
         return false;
     };
-    match parse_code(alloc, tokens.as_slice()) {
+    match parse_code(alloc, &tokens) {
         Ok(code) => are_bodies(code.bodies.as_slice()),
         Err(_) => false,
     }

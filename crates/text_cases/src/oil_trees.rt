@@ -1,5 +1,5 @@
 //! Files with their trees, and with their first fault.
-use oil_lexer::{LexError, Token, tokens};
+use oil_lexer::{Tokens, tokens};
 use oil_tree::{Attr, Object, ParseError, Sign, Tree, Value, one_answer, parse};
 use osek_values::{LexRule, Memory, SyntaxRule};
 use std::alloc::Global;
@@ -15,10 +15,9 @@ enum Outcome {
 }
 
 fn outcome_of(alloc: Global, text: &[u8]) -> Outcome {
-    match tokens(alloc, text) {
-        Err(LexError::Fault(fault)) => Outcome::Lexer(fault.line, fault.rule),
-        Err(LexError::Memory) => Outcome::Memory,
-        Ok(tokens) => match parse(alloc, tokens.as_slice()) {
+    match tokens(text) {
+        Err(fault) => Outcome::Lexer(fault.line, fault.rule),
+        Ok(tokens) => match parse(alloc, &tokens) {
             Ok(tree) => Outcome::Objects(tree.objects.as_slice().len()),
             Err(ParseError::Fault(fault)) => Outcome::Syntax(fault.line, fault.rule),
             Err(ParseError::Memory) => Outcome::Memory,
@@ -88,7 +87,7 @@ fn is_tree_of_the_file(tree: &Tree) -> bool {
 }
 
 /// Whether these are the tokens of the file, by their tree.
-fn are_tokens_of_the_file(alloc: Global, tokens: &[Token]) -> bool {
+fn are_tokens_of_the_file(alloc: Global, tokens: &Tokens<'_>) -> bool {
     match parse(alloc, tokens) {
         Ok(tree) => is_tree_of_the_file(&tree),
         Err(_) => false,
@@ -96,8 +95,8 @@ fn are_tokens_of_the_file(alloc: Global, tokens: &[Token]) -> bool {
 }
 
 fn has_tree_of_the_file(alloc: Global, text: &[u8]) -> bool {
-    match tokens(alloc, text) {
-        Ok(tokens) => are_tokens_of_the_file(alloc, tokens.as_slice()),
+    match tokens(text) {
+        Ok(tokens) => are_tokens_of_the_file(alloc, &tokens),
         Err(_) => false,
     }
 }

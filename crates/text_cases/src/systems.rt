@@ -19,10 +19,10 @@ enum Outcome {
 }
 
 fn resolved(alloc: Global, text: &[u8]) -> Result<System, ModelError> {
-    let Ok(tokens) = tokens(alloc, text) else {
+    let Ok(tokens) = tokens(text) else {
         return Err(ModelError::Memory);
     };
-    let Ok(tree) = parse(alloc, tokens.as_slice()) else {
+    let Ok(tree) = parse(alloc, &tokens) else {
         return Err(ModelError::Memory);
     };
     resolve(alloc, &tree)

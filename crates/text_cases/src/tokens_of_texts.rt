@@ -1,5 +1,5 @@
 //! Texts with their tokens, and with their first fault.
-use oil_lexer::{LexError, Mark, TokenKind, tokens};
+use oil_lexer::{Mark, TokenKind, tokens};
 use osek_values::{LexRule, Memory};
 use std::alloc::Global;
 
@@ -12,32 +12,37 @@ enum Want<'a> {
     Mark(Mark),
 }
 
-fn is_wanted(kind: &TokenKind, want: Want) -> bool {
+fn is_wanted(kind: &TokenKind<'_>, want: Want) -> bool {
     match (kind, want) {
         (TokenKind::Name(name), Want::Name(bytes)) => name.as_bytes() == bytes,
         (TokenKind::Number(value), Want::Number(number)) => *value == number,
-        (TokenKind::Text(text), Want::Text(bytes)) => text.as_slice() == bytes,
+        (TokenKind::Text(text), Want::Text(bytes)) => text.as_bytes() == bytes,
         (TokenKind::Mark(one), Want::Mark(mark)) => *one == mark,
         _ => false,
     }
 }
 
 /// Whether the text has just these tokens on these lines.
-fn reads(alloc: Global, text: &[u8], wanted: &[(u32, Want)]) -> bool {
-    match tokens(alloc, text) {
-        Ok(found) => {
-            found.len() == wanted.len()
-                && found.iter().zip(wanted).all(|(token, want)| token.line == want.0
-                    && is_wanted(&token.kind, want.1))
+fn reads(text: &[u8], wanted: &[(u32, Want)]) -> bool {
+    let Ok(mut rest) = tokens(text) else {
+        return false;
+    };
+    for (line, want) in wanted {
+        let Some((token, after)) = rest.first() else {
+            return false;
+        };
+        if token.line != *line || !is_wanted(&token.kind, *want) {
+            return false;
         }
-        Err(_) => false,
+        rest = after;
     }
+    rest.first().is_none()
 }
 
-fn fault(alloc: Global, text: &[u8]) -> Option<(u32, LexRule)> {
-    match tokens(alloc, text) {
-        Err(LexError::Fault(fault)) => Some((fault.line, fault.rule)),
-        _ => None,
+fn fault(text: &[u8]) -> Option<(u32, LexRule)> {
+    match tokens(text) {
+        Err(fault) => Some((fault.line, fault.rule)),
+        Ok(_) => None,
     }
 }
 
@@ -138,9 +143,9 @@ const TEXTS: [(&[u8], &[(u32, Want)]); 17] = [
 ];
 
 /// The number of the first text that doesn't have its tokens.
-fn first_wrong_text(alloc: Global, rows: &[(&[u8], &[(u32, Want)])]) -> Option<usize> {
+fn first_wrong_text(rows: &[(&[u8], &[(u32, Want)])]) -> Option<usize> {
     for (number, (text, wanted)) in rows.iter().enumerate() {
-        if !reads(alloc, text, wanted) {
+        if !reads(text, wanted) {
             return Some(number);
         }
     }
@@ -159,14 +164,14 @@ fn long_text(alloc: Global, first: u8, others: u8, length: usize) -> Result<Vec<
 /// Whether there is no token in a text of so many blanks.
 fn blanks_have_no_token(alloc: Global, length: usize) -> bool {
     match long_text(alloc, b' ', b' ', length) {
-        Ok(text) => reads(alloc, text.as_slice(), &[]),
+        Ok(text) => reads(text.as_slice(), &[]),
         Err(_) => false,
     }
 }
 
 #[test]
 fn texts_with_tokens(rt: HostRuntime) {
-    assert_eq!(rt; first_wrong_text(rt.alloc(), &TEXTS), None);
+    assert_eq!(rt; first_wrong_text(&TEXTS), None);
     assert!(rt; blanks_have_no_token(rt.alloc(), 1_048_576));
 }
 
@@ -192,9 +197,9 @@ const FAULTS: [(&[u8], u32, LexRule); 12] = [
 ];
 
 /// The number of the first text that doesn't have its fault.
-fn first_wrong_fault(alloc: Global, rows: &[(&[u8], u32, LexRule)]) -> Option<usize> {
+fn first_wrong_fault(rows: &[(&[u8], u32, LexRule)]) -> Option<usize> {
     for (number, (text, line, rule)) in rows.iter().enumerate() {
-        if fault(alloc, text) != Some((*line, *rule)) {
+        if fault(text) != Some((*line, *rule)) {
             return Some(number);
         }
     }
@@ -204,7 +209,7 @@ fn first_wrong_fault(alloc: Global, rows: &[(&[u8], u32, LexRule)]) -> Option<us
 /// The fault of so many bytes, of which the first is another one.
 fn long_fault(alloc: Global, first: u8, others: u8, length: usize) -> Option<(u32, LexRule)> {
     match long_text(alloc, first, others, length) {
-        Ok(text) => fault(alloc, text.as_slice()),
+        Ok(text) => fault(text.as_slice()),
         Err(_) => None,
     }
 }
@@ -228,6 +233,6 @@ fn first_wrong_long_fault(alloc: Global, rows: &[(u8, u8, usize, u32, LexRule)])
 
 #[test]
 fn texts_with_a_fault(rt: HostRuntime) {
-    assert_eq!(rt; first_wrong_fault(rt.alloc(), &FAULTS), None);
+    assert_eq!(rt; first_wrong_fault(&FAULTS), None);
     assert_eq!(rt; first_wrong_long_fault(rt.alloc(), &LONG_FAULTS), None);
 }
