@@ -2,7 +2,7 @@
 //! behind it there, since a copy of constant size is a few moves, and one of any other size a call.
 ghost use Rattle.std.specs.Prelude.{◌≡◌, ◌+◌, ◌≤◌, [], ◌++◌, length, take};
 
-use crate::pieces::put;
+use crate::pieces::{put, put_front};
 use std::marker::Model;
 
 /// The most bytes of a label: a name, and a mark on both sides.
@@ -58,18 +58,6 @@ impl Default for Label {
     fn default() -> Label {
         Label::new()
     }
-}
-
-/// Puts the front of a piece, and whatever comes of the rest of it.
-#[tactic(auto, using(crate::proofs::Fronts::front_put))]
-pub fn put_front(buf: &mut [u8], at: usize, piece: &[u8], size: usize) -> usize
-    requires room { at + length piece.now ≤ length buf.old }
-    requires within { size ≤ length piece.now }
-    ensures text { take result buf.new ≡ take at buf.old ++ take size piece.now }
-    ensures end { result ≡ at + size }
-{
-    put(buf, at, piece);
-    at + size
 }
 
 /// Puts a label.
