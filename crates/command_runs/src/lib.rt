@@ -8,12 +8,12 @@ mod replaying;
 mod running;
 mod stop;
 mod tell;
+mod trace_line;
 mod upgrading;
 
 pub use inputs::load_input;
-pub use playing::front;
 pub use replaying::{load_image, replay};
-pub use running::{line_room, run};
+pub use running::{front, line_room, run};
 pub use stop::{Input, Stop};
 pub use tell::{put_two, tell_fault};
 pub use upgrading::upgrade;

@@ -1,5 +1,5 @@
 //! An image at work: each line of an event text as it is read, and the line of the trace that comes of it.
-ghost use Rattle.std.specs.Prelude.{◌≡◌, ◌≤◌, ◌+◌, ◌++◌, ◌∷◌, [], ℕ, List, length, take, true, false, OnOk, OnErr, IfOk, IfErr, Err};
+ghost use Rattle.std.specs.Prelude.{◌≡◌, ◌≤◌, ◌+◌, ◌++◌, ◌∷◌, [], ℕ, List, length, true, false, OnOk, OnErr, IfOk, IfErr, Err};
 ghost use Rattle.osek_standard.specs.Apps.{IsDeclared};
 ghost use Rattle.osek_standard.specs.Dispatch.{stepped};
 ghost use Rattle.osek_standard.specs.TraceText.{line_text};
@@ -14,26 +14,20 @@ ghost use Rattle.command_runs.specs.Playing.{plays, plays_fed, played_line, give
 ghost use Rattle.trace_text.specs.EventWords.{read_line};
 ghost use Rattle.trace_text.specs.EventText.{numbered_lines};
 ghost use Rattle.trace_text.specs.Feeds.{no_bytes};
+ghost use Rattle.trace_text.specs.Labels.{label_texts};
 ghost use Rattle.command_runs.specs.declared.stop.Stop.TheVariants.{Unprinted};
 
 use crate::inputs::read_on;
 use crate::stop::Stop;
 use crate::tell::put_three;
+use crate::trace_line::TraceLine;
 use image_run::{Machine, Trap};
 use itoa::Buffer;
 use osek_io::{PutBuffer, PutError, Shelf, Sink};
-use osek_values::limits::{LINE_MAX, MAX_EVENT_LINE, MAX_EVENT_TEXT};
+use osek_values::limits::{MAX_EVENT_LINE, MAX_EVENT_TEXT};
 use osek_values::{Event, Notes, Steps};
 use std::sync::ledger::Ledger;
-use trace_text::{FaultyLine, Feed, FeedStep, read_event, write_line};
-
-/// The front of a buffer.
-pub fn front(buffer: &[u8], size: usize) -> &[u8]
-    requires { size ≤ length buffer.now }
-    ensures { result.now ≡ take size buffer.now }
-{
-    &buffer[..size]
-}
+use trace_text::{FaultyLine, Feed, FeedStep, Labels, read_event};
 
 /// Prints line n of the trace, or holds it back.
 pub fn print_line<O: Sink>(
@@ -42,17 +36,22 @@ pub fn print_line<O: Sink>(
     machine: &Machine,
     number: u64,
     notes: &Notes,
-    line: &mut [u8],
+    labels: &Labels,
 ) -> Result<(), Stop>
-    requires { LINE_MAX ≤ length line.old }
+    requires { labels.now ≡ label_texts machine.now.image.app }
     ensures ok { OnOk result (Puts (given (O.written out.old) buffer.old) (given (O.written out.new) buffer.new) (line_text machine.now.image.app number (stepped machine.now.state notes.now) ++ 10 ∷ [])) }
     ensures front { OnErr result (PutsFront (given (O.written out.old) buffer.old) (given (O.written out.new) buffer.new) (line_text machine.now.image.app number (stepped machine.now.state notes.now) ++ 10 ∷ [])) }
     ensures cause { OnErr result (Rose (O.faults out.old) (O.faults out.new)) }
     ensures error { OnErr result (result ≡ Err Unprinted) }
     ensures never_falls { O.faults out.old ≤ O.faults out.new }
 {
-    let size = write_line(machine.app(), number, machine.state(), notes, line);
-    match buffer.put(out, front(line, size)) {
+    let line = TraceLine {
+        labels,
+        machine,
+        number,
+        notes,
+    };
+    match buffer.put_piece(out, &line) {
         Ok(()) => Ok(()),
         Err(PutError::Write) => Err(Stop::Unprinted),
     }
@@ -99,19 +98,19 @@ fn play_event<L: Ledger, O: Sink>(
     machine: &mut Machine,
     number: u64,
     event: Event,
-    line: &mut [u8],
+    labels: &Labels,
     scans: &mut Steps<L>,
 ) -> Result<(), Stop>
     requires declared { IsDeclared machine.old.image.app event }
     requires running { machine.old.trapped ≡ false }
-    requires room { LINE_MAX ≤ length line.old }
+    requires labelled { labels.now ≡ label_texts machine.old.image.app }
     ensures image { machine.new.image ≡ machine.old.image }
     ensures running { OnOk result (machine.new.trapped ≡ false) }
     ensures never_falls { O.faults out.old ≤ O.faults out.new }
     ensures event { AnswersEvent (O.faults out.old) (O.faults out.new) (given (O.written out.old) buffer.old) (given (O.written out.new) buffer.new) machine.old.image number machine.new.state (image_step machine.old.image machine.old.state event) result }
 {
     match machine.step(event, scans) {
-        Ok(notes) => match print_line(out, buffer, machine, number, &notes, line) {
+        Ok(notes) => match print_line(out, buffer, machine, number, &notes, labels) {
             Ok(()) => Ok(()),
             Err(stop) => Err(stop),
         },
@@ -130,11 +129,11 @@ fn play_line<L: Ledger, O: Sink>(
     number: u64,
     event_line: &[u8],
     line_number: u32,
-    line: &mut [u8],
+    labels: &Labels,
     scans: &mut Steps<L>,
 ) -> Result<u64, Stop>
     requires running { machine.old.trapped ≡ false }
-    requires room { LINE_MAX ≤ length line.old }
+    requires labelled { labels.now ≡ label_texts machine.old.image.app }
     // events are no more than lines
     requires few { number ≤ line_number }
     ensures image { machine.new.image ≡ machine.old.image }
@@ -146,7 +145,7 @@ fn play_line<L: Ledger, O: Sink>(
     match read_event(machine.app(), event_line) {
         Ok(None) => Ok(number),
         Ok(Some(event)) => {
-            match play_event(out, buffer, machine, number, event, line, scans) {
+            match play_event(out, buffer, machine, number, event, labels, scans) {
                 Ok(()) => Ok(number + 1),
                 Err(stop) => Err(stop),
             }
@@ -172,11 +171,11 @@ fn play_ahead<L: Ledger, O: Sink>(
     machine: &mut Machine,
     feed: &mut Feed,
     start: Place,
-    line: &mut [u8],
+    labels: &Labels,
     scans: &mut Steps<L>,
 ) -> Result<Place, Stop>
     requires running { machine.old.trapped ≡ false }
-    requires room { LINE_MAX ≤ length line.old }
+    requires labelled { labels.now ≡ label_texts machine.old.image.app }
     requires few { start.event ≤ start.line }
     requires fits { start.line + length feed.old.ahead ≤ MAX_EVENT_TEXT + 1 }
     ensures image { machine.new.image ≡ machine.old.image }
@@ -201,7 +200,7 @@ fn play_ahead<L: Ledger, O: Sink>(
             place.event,
             feed.line(),
             place.line,
-            line,
+            labels,
             scans,
         ) {
             Ok(event) => {
@@ -224,11 +223,11 @@ pub fn play<L: Ledger, F: Shelf, O: Sink>(
     buffer: &mut PutBuffer,
     machine: &mut Machine,
     feed: &mut Feed,
-    line: &mut [u8],
+    labels: &Labels,
     scans: &mut Steps<L>,
 ) -> Result<(), Stop>
     requires running { machine.old.trapped ≡ false }
-    requires room { LINE_MAX ≤ length line.old }
+    requires labelled { labels.now ≡ label_texts machine.old.image.app }
     requires empty { feed.old ≡ no_bytes }
     requires text { OfFile (F.contents shelf.old) events.now (λ t. length t ≤ MAX_EVENT_TEXT) }
     ensures never_falls { O.faults out.old ≤ O.faults out.new }
@@ -247,7 +246,7 @@ pub fn play<L: Ledger, F: Shelf, O: Sink>(
             Ok(count) => count,
             Err(stop) => return Err(stop),
         };
-        match play_ahead(out, buffer, machine, feed, place, line, scans) {
+        match play_ahead(out, buffer, machine, feed, place, labels, scans) {
             Ok(next) => place = next,
             Err(stop) => return Err(stop),
         }

@@ -1,10 +1,11 @@
 //! An image that runs in a mode under an event text, and its trace that is printed.
-ghost use Rattle.std.specs.Prelude.{◌≡◌, ◌≤◌, ◌<◌, [], length, false, IfOk, IfSome};
+ghost use Rattle.std.specs.Prelude.{◌≡◌, ◌≤◌, ◌<◌, [], length, take, false, IfOk, IfSome};
 ghost use Rattle.std.specs.List.{position};
 ghost use Rattle.std.specs.Str.{bytes_eq};
 ghost use Rattle.osek_io.specs.Reads.{OnlyReads};
 ghost use Rattle.trace_text.specs.EventText.{numbered_lines};
 ghost use Rattle.trace_text.specs.Feeds.{no_bytes};
+ghost use Rattle.trace_text.specs.Labels.{label_texts};
 ghost use Rattle.osek_standard.specs.Dispatch.{stepped};
 ghost use Rattle.image_model.specs.ImageTrace.{image_trace, has_trap};
 ghost use Rattle.command_runs.specs.Outside.{outside};
@@ -24,7 +25,7 @@ use osek_values::{Memory, ModeNo, Name, Notes, Steps};
 use std::alloc::Global;
 use std::marker::Brand;
 use std::sync::ledger::{Blank, Ledger};
-use trace_text::Feed;
+use trace_text::{Feed, Labels};
 
 /// The place of a name.
 fn place_of(names: &[Name], name: &[u8]) -> Option<usize>
@@ -60,13 +61,13 @@ fn print_trace<L: Ledger, F: Shelf, O: Sink>(
     machine: &mut Machine,
     notes: &Notes,
     feed: &mut Feed,
-    line: &mut [u8],
+    labels: &Labels,
 ) -> Result<(), Stop>
     requires name { blank.name ≡ L.name }
     requires parts { blank.parts ≡ L.parts }
     requires some { 0 < L.parts }
     requires running { machine.old.trapped ≡ false }
-    requires room { LINE_MAX ≤ length line.old }
+    requires labelled { labels.now ≡ label_texts machine.old.image.app }
     requires empty { feed.old ≡ no_bytes }
     requires text { OfFile (F.contents shelf.old) events.name.now (λ t. length t ≤ MAX_EVENT_TEXT) }
     ensures never_falls { O.faults out.old ≤ O.faults out.new }
@@ -74,7 +75,7 @@ fn print_trace<L: Ledger, F: Shelf, O: Sink>(
     ensures same { OnlyReads F.Shelf shelf.old shelf.new }
 {
     let mut scans = Steps::<L>::of(blank);
-    match print_line(out, buffer, machine, 0, notes, line) {
+    match print_line(out, buffer, machine, 0, notes, labels) {
         Ok(()) => play(
             shelf,
             events.name,
@@ -82,17 +83,16 @@ fn print_trace<L: Ledger, F: Shelf, O: Sink>(
             buffer,
             machine,
             feed,
-            line,
+            labels,
             &mut scans,
         ),
         Err(stop) => Err(stop),
     }
 }
 
-/// What a play takes memory for: a line of the trace, the event text as it comes, and what is held back of the trace.
+/// What a play takes memory for: the event text as it comes, and what is held back of the trace.
 #[derive(Drop)]
 struct PlayRoom {
-    line: Vec<u8>,
     feed: Feed,
     buffer: PutBuffer,
 }
@@ -104,10 +104,11 @@ fn play_machine<F: Shelf, O: Sink>(
     out: &mut O,
     mut machine: Machine,
     notes: &Notes,
+    labels: &Labels,
     room: &mut PlayRoom,
 ) -> Result<(), Stop>
     requires running { machine.trapped ≡ false }
-    requires room { LINE_MAX ≤ length room.old.line.items }
+    requires labelled { labels.now ≡ label_texts machine.image.app }
     requires empty { room.old.feed ≡ no_bytes }
     requires nothing_held { room.old.buffer ≡ [] }
     requires text { OfFile (F.contents shelf.old) events.now (λ t. length t ≤ MAX_EVENT_TEXT) }
@@ -123,7 +124,7 @@ fn play_machine<F: Shelf, O: Sink>(
         &mut machine,
         notes,
         &mut room.feed,
-        &mut room.line,
+        labels,
     );
     drop(machine);
     match print_held(out, &mut room.buffer) {
@@ -143,15 +144,17 @@ fn play_with<F: Shelf, O: Sink>(
     room: &mut PlayRoom,
 ) -> Result<(), Stop>
     requires known { mode.0 < length image.app.modes }
-    requires room { LINE_MAX ≤ length room.old.line.items }
     requires empty { room.old.feed ≡ no_bytes }
     requires nothing_held { room.old.buffer ≡ [] }
     requires text { OfFile (F.contents shelf.old) events.now (λ t. length t ≤ MAX_EVENT_TEXT) }
     ensures answer { PlaysWhole (F.contents shelf.old) events.now (F.read_faults shelf.old events.now) (F.read_faults shelf.new events.now) (O.faults out.old) (O.faults out.new) (O.written out.old) (O.written out.new) image mode result }
     ensures same { OnlyReads F.Shelf shelf.old shelf.new }
 {
+    let labels = Labels::of(&image.app);
     match Machine::start(alloc, image, mode) {
-        Ok((machine, notes)) => play_machine(shelf, events, out, machine, &notes, room),
+        Ok((machine, notes)) => {
+            play_machine(shelf, events, out, machine, &notes, &labels, room)
+        },
         Err(_) => Err(Stop::Memory),
     }
 }
@@ -163,16 +166,22 @@ pub fn line_room(alloc: Global) -> Result<Vec<u8>, Memory>
     Ok(vec![in alloc; 0u8; LINE_MAX]?)
 }
 
+/// The front of a buffer.
+pub fn front(buffer: &[u8], size: usize) -> &[u8]
+    requires { size ≤ length buffer.now }
+    ensures { result.now ≡ take size buffer.now }
+{
+    &buffer[..size]
+}
+
 /// The room that a play takes, of which nothing is used yet.
 fn play_room(alloc: Global) -> Result<PlayRoom, Memory>
-    ensures line { IfOk result (λ r. LINE_MAX ≤ length r.line.items) }
     ensures feed { IfOk result (λ r. r.feed ≡ no_bytes) }
     ensures nothing_held { IfOk result (λ r. r.buffer ≡ []) }
 {
-    let line = line_room(alloc)?;
     let feed = Feed::new(alloc)?;
     let buffer = PutBuffer::new(alloc)?;
-    Ok(PlayRoom { line, feed, buffer })
+    Ok(PlayRoom { feed, buffer })
 }
 
 /// Plays an image from its start in a mode. All memory is taken before the first line is printed.

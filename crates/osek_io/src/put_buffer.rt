@@ -1,10 +1,11 @@
 //! A buffer in front of a sink.
-ghost use Rattle.std.specs.Prelude.{◌≡◌, ◌≤◌, ◌+◌, [], ◌++◌, length, vec_len, vec_capacity, IfOk, OnOk, OnErr, IsOk};
+ghost use Rattle.std.specs.Prelude.{◌≡◌, ◌≤◌, ◌+◌, [], ◌++◌, length, IfOk, OnOk, OnErr, IsOk};
 ghost use Rattle.osek_io.specs.Counts.{Rose};
-ghost use Rattle.osek_io.specs.HeldBytes.{held_back, PassesOn};
+ghost use Rattle.osek_io.specs.HeldBytes.{held_back, held_behind, PassesOn};
 ghost use Rattle.osek_io.specs.Pieces.{grown};
 ghost use Rattle.osek_io.specs.Stored.{WritesPart};
 
+use crate::piece::Piece;
 use crate::sink::Sink;
 use crate::storing::{PutError, put_all};
 use osek_values::Memory;
@@ -18,27 +19,20 @@ pub const PUT_ROOM: usize = 65_536;
 /// is made. What a buffer still holds is lost with it, so whoever puts bytes flushes them.
 #[derive(Drop)]
 pub struct PutBuffer {
-    held: Vec<u8>,
+    // What is held back, and behind it bytes that have no meaning.
+    bytes: Vec<u8>,
+    held: usize,
 }
 
 impl Model for PutBuffer {
-    ghost use Rattle.std.specs.Prelude.{List, ℕ, ◌≤◌, vec_capacity, vec_len};
+    ghost use Rattle.std.specs.Prelude.{List, ℕ, ◌≡◌, ◌≤◌, take, vec_len};
     ghost use Rattle.osek_io.specs.declared.put_buffer.TheConstants.{PUT_ROOM};
 
     ghost Value = { List ℕ };
 
-    ghost view = { λ b. b.held.items };
+    ghost view = { λ b. take b.held b.bytes.items };
 
-    ghost invariant = { λ b. (vec_len b.held ≤ PUT_ROOM) × (PUT_ROOM ≤ vec_capacity b.held) };
-}
-
-// Adds bytes that there is room for.
-fn hold(held: &mut Vec<u8>, bytes: &[u8])
-    requires { vec_len held.old + length bytes.now ≤ vec_capacity held.old }
-    ensures items { held.new.items ≡ held.old.items ++ bytes.now }
-    ensures room { vec_capacity held.old ≤ vec_capacity held.new }
-{
-    held.extend_from_slice(bytes).unwrap();
+    ghost invariant = { λ b. (b.held ≤ PUT_ROOM) × (vec_len b.bytes ≡ PUT_ROOM) };
 }
 
 impl PutBuffer {
@@ -47,8 +41,19 @@ impl PutBuffer {
         ensures { IfOk result (λ b. b ≡ []) }
     {
         Ok(PutBuffer {
-            held: Vec::with_capacity(alloc, PUT_ROOM)?,
+            bytes: vec![in alloc; 0u8; PUT_ROOM]?,
+            held: 0,
         })
+    }
+
+    // Adds bytes that there is room for.
+    fn hold(&mut self, bytes: &[u8])
+        requires { length self.old + length bytes.now ≤ PUT_ROOM }
+        ensures { self.new ≡ self.old ++ bytes.now }
+    {
+        let end = self.held + bytes.len();
+        self.bytes[self.held..end].copy_from_slice(bytes);
+        self.held = end;
     }
 
     /// Writes all that is held back, or a front of it where a write fails, and holds nothing then.
@@ -60,8 +65,8 @@ impl PutBuffer {
         ensures cause { OnErr result (Rose (K.faults sink.old) (K.faults sink.new)) }
         ensures never_falls { K.faults sink.old ≤ K.faults sink.new }
     {
-        let written = put_all(sink, &self.held);
-        self.held.clear();
+        let written = put_all(sink, &self.bytes[..self.held]);
+        self.held = 0;
         written
     }
 
@@ -79,8 +84,8 @@ impl PutBuffer {
         ensures cause { OnErr result (Rose (K.faults sink.old) (K.faults sink.new)) }
         ensures never_falls { K.faults sink.old ≤ K.faults sink.new }
     {
-        if bytes.len() <= PUT_ROOM - self.held.len() {
-            hold(&mut self.held, bytes);
+        if bytes.len() <= PUT_ROOM - self.held {
+            self.hold(bytes);
             return Ok(());
         }
         match self.flush(sink) {
@@ -90,7 +95,34 @@ impl PutBuffer {
         if bytes.len() > PUT_ROOM {
             return put_all(sink, bytes);
         }
-        hold(&mut self.held, bytes);
+        self.hold(bytes);
+        Ok(())
+    }
+
+    /// Puts a text behind the bytes that are held back, written there once. It calls the sink only where there is less
+    /// room than the text may need.
+    pub fn put_piece<K: Sink, P: Piece>(&mut self, sink: &mut K, piece: &P) -> Result<(), PutError>
+        requires fits { P.room piece.now ≤ PUT_ROOM }
+
+        // A front of what was held back and of the text was written, and the rest is held back.
+        ensures ok { OnOk result (PassesOn (K.written sink.old) (K.written sink.new) (self.old ++ P.text piece.now) self.new) }
+        ensures held { OnOk result (self.new ≡ held_behind self.old (P.room piece.now) (P.text piece.now)) }
+        ensures waits { length self.old + P.room piece.now ≤ PUT_ROOM → IsOk result × (sink.new ≡ sink.old) }
+
+        // Where a write fails, the rest is lost.
+        ensures part { OnErr result (WritesPart (K.written sink.old) (K.written sink.new) (self.old ++ P.text piece.now)) }
+        ensures lost { OnErr result (self.new ≡ []) }
+
+        ensures cause { OnErr result (Rose (K.faults sink.old) (K.faults sink.new)) }
+        ensures never_falls { K.faults sink.old ≤ K.faults sink.new }
+    {
+        if piece.room() > PUT_ROOM - self.held {
+            match self.flush(sink) {
+                Ok(()) => {}
+                Err(error) => return Err(error),
+            }
+        }
+        self.held = piece.write_at(&mut self.bytes, self.held);
         Ok(())
     }
 }

@@ -2,8 +2,9 @@
 use Rattle.std.proofs.Common.{◌≡◌, ℕ, zero, suc, ◌+◌, ◌-◌, ◌*◌, ◌/◌, ◌%◌, ◌^◌, ◌<◌, ◌≤◌, false, cond, eqb, List, ◌∷◌, length, take, take_all, drop, set, sym, ◌∙◌, ap, subst, arith, add-one, pow-suc, div-lt_iff_lt-mul}
 use Rattle.std.specs.Fmt.{digits_onto, digit_glyph}
 use Rattle.std.proofs.lemmas.Bool.{ne_eqb}
-use Rattle.std.proofs.lemmas.List.{drop-set, length-drop}
+use Rattle.std.proofs.lemmas.List.{drop-set, length-drop, drop-take, take-take, length-take-le}
 use Rattle.std.proofs.Math.ListN.{length-set}
+use Rattle.std.proofs.Math.Seq.{take-set-lt}
 
 -- a digit is parted off
 pub digit_more : (k n : ℕ) (acc : List ℕ) → 16 ≤ n → digits_onto (suc k) 16 false n acc ≡ digits_onto k 16 false (n / 16) (digit_glyph false (n % 16) ∷ acc)
@@ -44,6 +45,17 @@ written ds i n x text h few size e before =
     let all : length (drop i (set ds i x)) ≤ 16 - i = omega (arith, few, size, length-drop i (set ds i x), length-set ds i x) in
     take_all (16 - i) (drop i (set ds i x)) all ∙ drop-set ds i x within ∙ ap (λ (d : ℕ). d ∷ rest) e ∙ sym (digit_first (i + 48) n rest h)
     ∙ ap (λ (m : ℕ). digits_onto m 16 false n rest) (sym count) ∙ before
+
+-- so it is with more behind the digits
+pub written_front : (ds : List ℕ) (i n x m : ℕ) (text : List ℕ) → n < 16 → i < 16 → 16 ≤ length ds → 16 ≤ m → x ≡ digit_glyph false n →
+    digits_onto (i + 49) 16 false n (drop (i + 1) (take 16 ds)) ≡ text → take (16 - i) (take m (drop i (set ds i x))) ≡ text
+written_front ds i n x m text h few size all e before =
+    let digits = drop i (set ds i x) in
+    let count : 16 ≡ i + (16 - i) = omega (arith, few) in
+    let front : drop i (set (take 16 ds) i x) ≡ take (16 - i) digits =
+    ap (λ (l : List ℕ). drop i l) (sym (take-set-lt 16 ds i x few)) ∙ ap (λ (j : ℕ). drop i (take j (set ds i x))) count ∙ drop-take i (16 - i) (set ds i x) in
+    take-take (16 - i) m digits (omega (arith, all)) ∙ sym (take-take (16 - i) (16 - i) digits (omega arith)) ∙ ap (λ (l : List ℕ). take (16 - i) l) (sym front)
+    ∙ written (take 16 ds) i n x text h few (length-take-le 16 ds size) e before
 
 -- more than one digit is left
 pub some_place : (n i : ℕ) → 16 ≤ n → n < 16 ^ (i + 1) → 0 < i

@@ -1,2 +1,3 @@
+pub mod Fronts
 pub mod HexadecimalLaws
 pub mod NameLaws

@@ -42,14 +42,35 @@ pub fn put_name(buf: &mut [u8], at: usize, name: &Name) -> usize
     put(buf, at, name.as_bytes())
 }
 
+/// Puts the front of a piece, and whatever comes of the rest of it.
+#[tactic(auto, using(crate::proofs::Fronts::front_put))]
+pub fn put_front(buf: &mut [u8], at: usize, piece: &[u8], size: usize) -> usize
+    requires room { at + length piece.now ≤ length buf.old }
+    requires within { size ≤ length piece.now }
+    ensures text { take result buf.new ≡ take at buf.old ++ take size piece.now }
+    ensures end { result ≡ at + size }
+{
+    put(buf, at, piece);
+    at + size
+}
+
+// Digits are made at the front of twice the room that they may need, the last one first, and put with what stands
+// behind them: the copy has a constant size.
+
 /// Puts a number in decimal.
 pub fn put_decimal(buf: &mut [u8], at: usize, n: u64) -> usize
     requires room { at + MAX_DECIMAL ≤ length buf.old }
     ensures text { take result buf.new ≡ take at buf.old ++ decimal n }
     ensures most { result ≤ at + MAX_DECIMAL }
 {
-    let mut digits = itoa::Buffer::new();
-    put(buf, at, digits.format(n).as_bytes())
+    let mut digits = [0; 2 * MAX_DECIMAL];
+    let first = itoa::write_digits(n, &mut digits, MAX_DECIMAL);
+    put_front(
+        buf,
+        at,
+        &digits[first..first + MAX_DECIMAL],
+        MAX_DECIMAL - first,
+    )
 }
 
 fn hexadecimal_digit(digit: u64) -> u8
@@ -72,7 +93,7 @@ pub fn put_hexadecimal(buf: &mut [u8], at: usize, n: u64) -> usize
     if n < 16 {
         return put_byte(buf, at, hexadecimal_digit(n));
     }
-    let mut digits = [0; MAX_HEXADECIMAL];
+    let mut digits = [0; 2 * MAX_HEXADECIMAL];
     let mut first = MAX_HEXADECIMAL - 1;
     let mut left = n;
     while left >= 16 {
@@ -81,5 +102,10 @@ pub fn put_hexadecimal(buf: &mut [u8], at: usize, n: u64) -> usize
         first -= 1;
     }
     digits[first] = hexadecimal_digit(left);
-    put(buf, at, &digits[first..])
+    put_front(
+        buf,
+        at,
+        &digits[first..first + MAX_HEXADECIMAL],
+        MAX_HEXADECIMAL - first,
+    )
 }

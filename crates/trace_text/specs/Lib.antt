@@ -3,3 +3,4 @@ pub mod EventGrammar
 pub mod EventText
 pub mod EventWords
 pub mod Feeds
+pub mod Labels

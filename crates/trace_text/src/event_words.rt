@@ -1,5 +1,5 @@
 //! What one line of an event text says.
-ghost use Rattle.std.specs.Prelude.{◌≡◌, [], ◌∷◌, not, MatchOption};
+ghost use Rattle.std.specs.Prelude.{◌≡◌, [], ◌∷◌, not, IfSome, MatchOption, Ok, Some};
 ghost use Rattle.std.specs.List.{position, position_or_len};
 ghost use Rattle.trace_text.specs.EventWords.{is_blank as is_a_blank, is_comment as is_a_comment, words, run_by, isr_named, counter_named, said_by, said, read_line};
 
@@ -135,11 +135,25 @@ fn event_in(app: &App, line: &[u8]) -> Result<Option<Event>, EventFault>
     }
 }
 
+// What most lines say, judged at one look: a step, spelled with no blank more than it needs.
+fn plain_run(line: &[u8]) -> Option<bool>
+    ensures { IfSome result (λ choice. (app : App) → read_line app line.now ≡ Ok (Some (Event.Run choice))) }
+{
+    match line {
+        [b'r', b'u', b'n', b' ', b'0'] => Some(false),
+        [b'r', b'u', b'n', b' ', b'1'] => Some(true),
+        _ => None,
+    }
+}
+
 /// What a line says, without its LF and the CR before it: an event, or none in a line of blanks alone or one whose
 /// first other byte is `#`. It takes no memory.
 pub fn read_event(app: &App, line: &[u8]) -> Result<Option<Event>, EventFault>
     ensures { result ≡ read_line app.now line.now }
 {
+    if let Some(choice) = plain_run(line) {
+        return Ok(Some(Event::Run(choice)));
+    }
     if line.len() > MAX_EVENT_LINE {
         return Err(EventFault::E3);
     }

@@ -1,5 +1,5 @@
 //! What a step noted, in a line of the trace.
-ghost use Rattle.std.specs.Prelude.{◌≡◌, ◌+◌, ◌≤◌, Some, [], ◌∷◌, ◌++◌, length, take};
+ghost use Rattle.std.specs.Prelude.{◌≡◌, ◌+◌, ◌≤◌, Some, [], ◌∷◌, ◌++◌, length, take, codes};
 ghost use Rattle.osek_standard.specs.TraceText.{status_name as name_of_status, letter as letter_text, has_hook as is_hook_in, hook_text, status_text, value_text, value_note, notes_text};
 
 use osek_standard::App;
@@ -42,15 +42,15 @@ pub fn status_name(status: Status) -> &'static [u8]
     &status_note(status)[2..]
 }
 
-/// The letter of a task's state, as it is printed.
-pub(crate) fn letter(letter: Letter) -> u8
-    ensures { result ∷ [] ≡ letter_text letter }
+/// The letter of a task's state behind its mark, as it is printed.
+pub(crate) fn state_mark(letter: Letter) -> [u8; 2]
+    ensures { result ≡ codes "=" ++ letter_text letter }
 {
     match letter {
-        Letter::S => b'S',
-        Letter::Y => b'Y',
-        Letter::R => b'R',
-        Letter::W => b'W',
+        Letter::S => *b"=S",
+        Letter::Y => *b"=Y",
+        Letter::R => *b"=R",
+        Letter::W => *b"=W",
     }
 }
 
@@ -116,7 +116,7 @@ fn put_value(buf: &mut [u8], at: usize, app: &App, value: Value) -> usize
         Value::Mask(mask) => put_hexadecimal(buf, at, mask.0),
         Value::Task(None) => put_byte(buf, at, b'-'),
         Value::Task(Some(task)) => put_task_name(buf, at, app, task),
-        Value::State(state) => put_byte(buf, at, letter(state)),
+        Value::State(state) => put_byte(buf, at, state_mark(state)[1]),
         Value::Mode(mode) => put_mode(buf, at, app, mode),
     }
 }

@@ -1,0 +1,44 @@
+//! A line of the trace that is to be put.
+ghost use Rattle.std.specs.Prelude.{◌≡◌, ◌++◌, ◌∷◌, []};
+ghost use Rattle.osek_standard.specs.Dispatch.{stepped};
+ghost use Rattle.osek_standard.specs.TraceText.{line_text};
+ghost use Rattle.osek_values.specs.declared.limits.TheConstants.{LINE_MAX as the_line_max};
+ghost use Rattle.trace_text.specs.Labels.{label_texts};
+
+use image_run::Machine;
+use osek_io::Piece;
+use osek_values::Notes;
+use osek_values::limits::LINE_MAX;
+use trace_text::{Labels, put_line};
+
+/// Line `number` of the trace of a machine, after the step that left these notes, and the labels that it is put by.
+#[derive(Clone, Copy)]
+pub struct TraceLine<'a> {
+    pub labels: &'a Labels,
+    pub machine: &'a Machine,
+    pub number: u64,
+    pub notes: &'a Notes,
+    ghost labelled: { labels.now ≡ label_texts machine.now.image.app },
+}
+
+impl<'a> Piece for TraceLine<'a> {
+    ghost text = { λ l. line_text l.machine.now.image.app l.number (stepped l.machine.now.state l.notes.now) ++ 10 ∷ [] };
+
+    ghost room = { λ _. the_line_max };
+
+    fn room(&self) -> usize {
+        LINE_MAX
+    }
+
+    fn write_at(&self, into: &mut [u8], at: usize) -> usize {
+        put_line(
+            into,
+            at,
+            self.labels,
+            self.machine.app(),
+            self.number,
+            self.machine.state(),
+            self.notes,
+        )
+    }
+}

@@ -1,0 +1,17 @@
+-- the parts of a line in their order
+use Rattle.std.proofs.Common.{◌≡◌, ℕ, List, [], ◌∷◌, ◌++◌, take, refl, append_assoc}
+use Rattle.std.specs.Fmt.{decimal}
+use Rattle.std.specs.List.{flat_map, enumerate_from}
+use Rattle.osek_standard.specs.Dispatch.{stepped}
+use Rattle.osek_standard.specs.TraceText.{who, task_text, notes_text, line_text}
+use Rattle.trace_text.proofs.trace_line.put_line.Goals as goal
+
+in_a_row : (t a b d e end line v w x y all : List ℕ) → line ≡ a ++ (32 ∷ []) ++ b ++ d ++ e → v ≡ t ++ a → w ≡ v ++ 32 ∷ b → x ≡ w ++ d → y ≡ x ++ e → all ≡ y ++ end → all ≡ t ++ line ++ end
+in_a_row t a b d e end line v w x y all is p q r k l = rw (is, l, k, r, q, p) (simp append_assoc refl)
+
+pub returns-clause-line : goal.returns-clause-line
+returns-clause-line c =
+    let app = c.args.app.now in
+    let state = c.args.state.now in
+    in_a_row (take c.args.at c.args.buf.now) (decimal c.args.n) (who app state.processor) (flat_map (task_text app state) (enumerate_from 0 app.tasks)) (notes_text app c.args.notes.now) (10 ∷ [])
+    (line_text app c.args.n (stepped state c.args.notes.now)) _ _ _ _ _ refl c.put_decimal-at.ensures.text c.put_who-at.ensures.text c.put_tasks-at.ensures.text c.put_notes-at.ensures.text c.put_byte.ensures.text
