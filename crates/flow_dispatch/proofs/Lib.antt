@@ -5,3 +5,4 @@ pub mod ClaimLaws
 pub mod ConditionLaws
 pub mod NeedLaws
 pub mod OutcomeLaws
+pub mod GroupLaws

@@ -56,7 +56,7 @@ candidate_block app u (Live x) own e = cc
 candidate_block app u (Waiting b) own e = absurd (cc)
 
 -- more members of a list
-first_more : (t : ℕ) (members : List PartValue) (i : ℕ) (v : PartValue) → i < length members → v ≡ get_or members i v → (value : ℕ → PartValue) → IsAmongFirst t members (i + 1) value → IsAmongFirst t members i value ⊎ IsValueOf t v value
+pub first_more : (t : ℕ) (members : List PartValue) (i : ℕ) (v : PartValue) → i < length members → v ≡ get_or members i v → (value : ℕ → PartValue) → IsAmongFirst t members (i + 1) value → IsAmongFirst t members i value ⊎ IsValueOf t v value
 first_more t members i v lt is value h = elim (cases_lt h.0 i) [
   | inl below ↦ inl (h.0, below, h.2)
   | inr above ↦
@@ -64,10 +64,10 @@ first_more t members i v lt is value h = elim (cases_lt h.0 i) [
       inr (sym h.2 ∙ ap (λ (j : ℕ). get_or members j (value t)) same ∙ get_or_default members i (value t) v lt ∙ sym is))
 ]
 
-none_first : (t : ℕ) (members : List PartValue) (value : ℕ → PartValue) → IsAmongFirst t members 0 value → ⊥
+pub none_first : (t : ℕ) (members : List PartValue) (value : ℕ → PartValue) → IsAmongFirst t members 0 value → ⊥
 none_first t members value h = let low = h.1 in omega (arith, low)
 
-among_all : (t : ℕ) (items : List PartValue) (i : ℕ) → length items ≤ i → (value : ℕ → PartValue) → IsAmongFirst t items (length items) value → IsAmongFirst t items i value
+pub among_all : (t : ℕ) (items : List PartValue) (i : ℕ) → length items ≤ i → (value : ℕ → PartValue) → IsAmongFirst t items (length items) value → IsAmongFirst t items i value
 among_all t items i all value h = let below = h.1 in (h.0, omega (arith, below, all), h.2)
 
 -- an entry has a set for each component
@@ -85,10 +85,10 @@ module _ (app : App) (entry : Entry) (effect : EffectCase) where
   after value = values_after effect.changes value
 
   -- a value of the entry is among the members of its set
-  member_first : (t : ℕ) → t < length app.tasks → (value : ℕ → PartValue) → Takes app entry effect value → IsAmongFirst t (set_at entry t).members (length (set_at entry t).members) value
+  pub member_first : (t : ℕ) → t < length app.tasks → (value : ℕ → PartValue) → Takes app entry effect value → IsAmongFirst t (set_at entry t).members (length (set_at entry t).members) value
   member_first t lt value takes = Contains-from_any part_right (value t) (set_at entry t).members (takes.values.within t (task_counted app t lt))
 
-  still : (a b : List OutcomeCase) (d : Decision) (value : ℕ → PartValue) → ((x : OutcomeCase) → Contains a x → Contains b x) → HasSomeOutcome app effect a d value → HasSomeOutcome app effect b d value
+  pub still : (a b : List OutcomeCase) (d : Decision) (value : ℕ → PartValue) → ((x : OutcomeCase) → Contains a x → Contains b x) → HasSomeOutcome app effect a d value → HasSomeOutcome app effect b d value
   still a b d value keeps h = record { case = h.case; listed = keeps h.case h.listed; decision = h.decision; outcome = h.outcome }
 
   pub found_adds : (P : (ℕ → PartValue) → Type 0) (d : Decision) (found : Option OutcomeCase) (xs : List OutcomeCase) → IsCase app entry effect P d found → AddsCases app entry effect P d xs (xs ++ option_to_list found)
@@ -105,34 +105,6 @@ module _ (app : App) (entry : Entry) (effect : EffectCase) where
     ];
     whole = λ value takes p s. record { case = x; listed = Contains-push xs x; decision = h.decision; outcome = h.exact value takes (h.whole value takes p s) };
   }
-
-  module _ (t : ℕ) (lt : t < length app.tasks) (d : Decision) where
-    -- a loop over the members of the task's set
-    pub first_none : (members : List PartValue) (a : List OutcomeCase) → AddsCases app entry effect (IsAmongFirst t members 0) d a a
-    first_none members a = record {
-      keeps = λ x m. m;
-      exact = λ each. each;
-      whole = λ value takes p s. absurd (none_first t members value p);
-    }
-
-    pub first_one_more : (members : List PartValue) (i : ℕ) (v : PartValue) → i < length members → v ≡ get_or members i v → (a b c : List OutcomeCase) →
-        AddsCases app entry effect (IsAmongFirst t members i) d a b → AddsCases app entry effect (IsValueOf t v) d b c → AddsCases app entry effect (IsAmongFirst t members (i + 1)) d a c
-    first_one_more members i v known is a b c x y = record {
-      keeps = λ z m. y.keeps z (x.keeps z m);
-      exact = λ each. y.exact (x.exact each);
-      whole = λ value takes p s. elim (first_more t members i v known is value p) [
-        | inl before ↦ still b c d value y.keeps (x.whole value takes before s)
-        | inr here ↦ y.whole value takes here s
-      ];
-    }
-
-    pub first_done : (set : ValueSet) → set_at entry t ≡ set → (items : List PartValue) → items ≡ set.members → (i : ℕ) → length items ≤ i → (a b : List OutcomeCase) →
-        AddsCases app entry effect (IsAmongFirst t items i) d a b → AddsCases app entry effect IsAnything d a b
-    first_done set is items same i all a b x = record {
-      keeps = x.keeps;
-      exact = x.exact;
-      whole = λ value takes _ s. x.whole value takes (among_all t items i all value (subst (λ (ys : List PartValue). IsAmongFirst t ys (length ys) value) (ap (λ (y : ValueSet). y.members) is ∙ sym same) (member_first t lt value takes))) s;
-    }
 
   -- a loop over the tasks
   pub winners_none : (a : List OutcomeCase) → AddsWinners app entry effect 0 a a
@@ -246,7 +218,7 @@ module _ (app : App) (entry : Entry) (effect : EffectCase) where
         }
 
     -- the task gets the processor
-    scheduled_best : (a : Asked) (value : ℕ → PartValue) → Decides app value a (decision.To (Some t)) → IsBestTask app value t.0
+    pub scheduled_best : (a : Asked) (value : ℕ → PartValue) → Decides app value a (decision.To (Some t)) → IsBestTask app value t.0
     scheduled_best asked.No value s = absurd s
     scheduled_best (asked.Maybe u) value s = s.best
     scheduled_best asked.Left value s = s
@@ -288,26 +260,26 @@ module _ (app : App) (entry : Entry) (effect : EffectCase) where
       apart f u e same = let yes : is_that_task (running_of effect.asked) t.0 ≡ true = ap (λ (o : Option TaskNo). is_that_task o t.0) e ∙ eq-eqb u.0 t.0 same in cc
 
       pub winner_case : IsDispatching app effect.asked → is_that_task (running_of effect.asked) t.0 ≡ false → (first last : List Condition) (c : ComponentNo) → c.0 ≡ t.0 → AreTests app effect.changes gets (length app.tasks) first →
-          RequiresLive app entry effect (running_of effect.asked) (first ++ same_value c v ∷ []) last →
-          IsCaseFor app entry effect (IsValueOf t.0 v) (decision.To (Some t)) (record { conditions = last; decision = decision.To (Some t); target = point.Task own.block })
+          RequiresLive app entry effect (running_of effect.asked) first last →
+          IsCaseFor app entry effect (IsValueOf t.0 v) (decision.To (Some t)) (record { conditions = last ++ same_value c v ∷ []; decision = decision.To (Some t); target = point.Task own.block })
       winner_case dispatching other first last c same tests alive = record {
         decision = refl;
         exact = λ value takes p. (
-            let most = alive.means value p in
-            let e = value_is first c same value most in
-            let under = tests.means value takes.values.vals (push_before app first (same_value c v) value most) in
+            let most = push_before app last (same_value c v) value p in
+            let e = value_is last c same value p in
+            let under = tests.means value takes.values.vals (alive.means value most) in
             let own_priority = priority_then own is value e in
             record {
               passes = p;
               decides = best_scheduled effect.asked dispatching (after value)
                   (gets_means app (after value) t own.priority (running_of effect.asked) own_priority (live_then own is value e) under)
-                  (alive.live value takes p)
+                  (alive.live value takes most)
                   (λ u runs l. gets_above app (after value) t own.priority (running_of effect.asked) own_priority u runs (apart other u runs) l under);
               target = ap point.Task (sym (block_then own is value e));
             });
-        whole = λ value takes e s. alive.passes value
-            (is_value first c same value (tests.passes value takes.values.vals (gets_under value e s)) e)
-            (scheduled_live effect.asked (after value) s);
+        whole = λ value takes e s. is_value last c same value
+            (alive.passes value (tests.passes value takes.values.vals (gets_under value e s)) (scheduled_live effect.asked (after value) s))
+            e;
       }
 
   -- the conditions that a task is Live after the effect

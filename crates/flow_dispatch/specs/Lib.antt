@@ -2,5 +2,6 @@ pub mod Candidates
 pub mod Claims
 pub mod Deciding
 pub mod Findings
+pub mod Groups
 pub mod Needs
 pub mod Outcomes

@@ -1,11 +1,14 @@
 //! What the scheduler does after an effect, by the values of the tasks: priorities, ceilings and ties.
 #![tactic(auto)]
 
+mod candidates;
 mod claim;
+mod group;
 pub mod laws;
 mod limits;
 mod needs;
 mod outcomes;
 mod priority;
 
-pub use outcomes::outcome_cases;
+pub use group::{End, OutcomeGroup, ValueCases};
+pub use outcomes::outcome_groups;

@@ -1,19 +1,25 @@
-//! The cases of what the scheduler does after an effect.
-ghost use Rattle.std.specs.Prelude.{◌≡◌, ◌<◌, [], ◌++◌, length, option_to_list, IfOk, OnOk, IfSome, Some};
+//! The cases of what the scheduler does after an effect, in groups.
+ghost use Rattle.std.specs.Prelude.{◌≡◌, ◌<◌, [], ◌∷◌, ◌++◌, false, length, map, option_to_list, IfOk, OnOk, IfSome, Some};
 ghost use Rattle.abstract_state.specs.declared.table.Entry.{Entry};
 ghost use Rattle.abstract_state.specs.Concrete.{val_of};
 ghost use Rattle.abstract_state.specs.Domains.{domains, domains_of};
+ghost use Rattle.abstract_state.specs.Tables.{set_at};
+ghost use Rattle.osek_standard.specs.States.{is_that_task};
 ghost use Rattle.flow_model.specs.declared.case.Asked.TheVariants as asked;
 ghost use Rattle.flow_model.specs.declared.case.Decision.TheVariants as decision;
 ghost use Rattle.flow_model.specs.Values.{is_live_value};
 ghost use Rattle.flow_model.specs.Scheduling.{CoverOutcomes, AreExactOutcomes};
+ghost use Rattle.flow_dispatch.specs.Candidates.{candidate_after};
+ghost use Rattle.flow_dispatch.specs.Groups.{all_cases, group_list, one_case, AreGroupsIn, HasPriority, IsGroup, AddsGroups, AddsWinnerGroups};
 ghost use Rattle.flow_dispatch.specs.Needs.{AreNeeds};
-ghost use Rattle.flow_dispatch.specs.Outcomes.{IsDispatching, IsVacant, idle_decision as idle_decision_of, idle_target as idle_target_of, running_of, IsCase, AddsCases, AddsWinners, ForbidsDead, ForbidsFirst, RequiresLive, IsValueOf, IsAnything};
+ghost use Rattle.flow_dispatch.specs.Outcomes.{IsDispatching, IsVacant, idle_decision as idle_decision_of, idle_target as idle_target_of, running_of, IsCase, ForbidsDead, ForbidsFirst, RequiresLive, IsValueOf, IsAnything};
 
+use crate::candidates::{candidates, ends_at, priorities};
 use crate::claim::{Claim, is_running};
+use crate::group::{OutcomeGroup, ValueCases};
 use crate::limits::limits;
 use crate::needs::needs;
-use crate::priority::as_candidate;
+use crate::priority::{Candidate, as_candidate};
 use abstract_state::{Component, Entry, PartValue, Point, Val, ValueSet, component_number};
 use flow_model::{Asked, Change, Condition, Decision, EffectCase, OutcomeCase, Test, value_after};
 use osek_standard::App;
@@ -21,35 +27,36 @@ use osek_values::{Memory, Seq, TaskNo};
 use std::alloc::Global;
 
 /// The cases of what the scheduler does after an effect, for the values of an entry: who keeps the processor, or who
-/// gets it.
-pub fn outcome_cases(
+/// gets it. What each case of a group has in common is found once.
+pub fn outcome_groups(
     alloc: Global,
     app: &App,
     effect: &EffectCase,
     entry: &Entry,
-) -> Result<Seq<OutcomeCase>, Memory>
+) -> Result<Seq<OutcomeGroup>, Memory>
     requires { domains entry.now ≡ domains_of app.now }
-    ensures covering { IfOk result (CoverOutcomes app.now entry.now effect.now) }
-    ensures exact { IfOk result (AreExactOutcomes app.now entry.now effect.now) }
+    ensures covering { IfOk result (λ groups. CoverOutcomes app.now entry.now effect.now (all_cases groups)) }
+    ensures exact { IfOk result (λ groups. AreExactOutcomes app.now entry.now effect.now (all_cases groups)) }
+    ensures within { IfOk result (AreGroupsIn entry.now) }
 {
-    let mut cases = Seq::new(alloc);
+    let mut groups = Seq::new(alloc);
     match effect.asked {
-        Asked::No => cases.push(unasked(alloc, effect))?,
+        Asked::No => groups.push(OutcomeGroup::One(unasked(alloc, effect)))?,
         Asked::Maybe(task) => {
             if task.index() >= app.tasks.len() {
-                return Ok(cases);
+                return Ok(groups);
             }
             let needs = needs(alloc, app, &effect.changes, entry)?;
-            push_keepers(alloc, app, effect, entry, &needs, task, &mut cases)?;
-            push_winners(alloc, app, effect, entry, &needs, &mut cases)?;
+            push_keepers(alloc, app, effect, entry, &needs, task, &mut groups)?;
+            push_winners(alloc, app, effect, entry, &needs, &mut groups)?;
         }
         Asked::Left | Asked::Free => {
             let needs = needs(alloc, app, &effect.changes, entry)?;
-            push_found(&mut cases, nobody(alloc, app, effect, &needs)?)?;
-            push_winners(alloc, app, effect, entry, &needs, &mut cases)?;
+            push_found(&mut groups, nobody(alloc, app, effect, &needs)?)?;
+            push_winners(alloc, app, effect, entry, &needs, &mut groups)?;
         }
     }
-    Ok(cases)
+    Ok(groups)
 }
 
 fn unasked(alloc: Global, effect: &EffectCase) -> OutcomeCase
@@ -74,11 +81,20 @@ fn running(asked: Asked) -> Option<TaskNo>
     }
 }
 
-fn push_found(cases: &mut Seq<OutcomeCase>, found: Option<OutcomeCase>) -> Result<(), Memory>
-    ensures { OnOk result (cases.new ≡ cases.old ++ option_to_list found) }
+fn push_found(groups: &mut Seq<OutcomeGroup>, found: Option<OutcomeCase>) -> Result<(), Memory>
+    ensures { OnOk result (groups.new ≡ groups.old ++ map one_case (option_to_list found)) }
 {
     if let Some(case) = found {
-        cases.push(case)?;
+        groups.push(OutcomeGroup::One(case))?;
+    }
+    Ok(())
+}
+
+fn push_group(groups: &mut Seq<OutcomeGroup>, found: Option<ValueCases>) -> Result<(), Memory>
+    ensures { OnOk result (groups.new ≡ groups.old ++ group_list found) }
+{
+    if let Some(group) = found {
+        groups.push(OutcomeGroup::Each(group))?;
     }
     Ok(())
 }
@@ -164,16 +180,16 @@ fn push_keepers(
     entry: &Entry,
     needs: &Seq<u64>,
     task: TaskNo,
-    cases: &mut Seq<OutcomeCase>,
+    groups: &mut Seq<OutcomeGroup>,
 ) -> Result<(), Memory>
     requires known { task.0 < length app.now.tasks }
     requires domains { domains entry.now ≡ domains_of app.now }
     requires needs { AreNeeds app.now entry.now effect.now.changes (length app.now.tasks) needs.now }
     requires runs { effect.now.asked ≡ asked.Maybe task }
-    ensures { OnOk result (AddsCases app.now entry.now effect.now IsAnything decision.Keep cases.old cases.new) }
+    ensures { OnOk result (AddsGroups app.now entry.now effect.now IsAnything decision.Keep groups.old groups.new) }
 {
     for value in entry.sets.at(task.index()).members.as_slice() {
-        push_found(cases, keeper(alloc, app, effect, needs, task, value)?)?;
+        push_found(groups, keeper(alloc, app, effect, needs, task, value)?)?;
     }
     Ok(())
 }
@@ -247,49 +263,51 @@ fn push_alive(
     }
 }
 
-// A task gets the processor, with this value before the effect.
-fn winner(
+// A task gets the processor with the values before the effect that have this current priority after it.
+fn winners_at(
     alloc: Global,
     app: &App,
     effect: &EffectCase,
     entry: &Entry,
     needs: &Seq<u64>,
     task: TaskNo,
-    value: &PartValue,
-) -> Result<Option<OutcomeCase>, Memory>
+    candidates: &Seq<Option<Candidate>>,
+    priority: u32,
+) -> Result<Option<ValueCases>, Memory>
     requires known { task.0 < length app.now.tasks }
     requires domains { domains entry.now ≡ domains_of app.now }
     requires needs { AreNeeds app.now entry.now effect.now.changes (length app.now.tasks) needs.now }
     requires asked { IsDispatching app.now effect.now.asked }
-    ensures { IfOk result (IsCase app.now entry.now effect.now (IsValueOf task.0 value.now) (decision.To (Some task))) }
+    requires other { is_that_task (running_of effect.now.asked) task.0 ≡ false }
+    requires candidates { candidates.now ≡ map (candidate_after app.now effect.now.changes task.0) (set_at entry.now task.0).members }
+    ensures { IfOk result (IsGroup app.now entry.now effect.now (HasPriority app.now effect.now task.0 (priority ∷ [])) (decision.To (Some task))) }
 {
     let over = running(effect.asked);
-    if is_running(over, task) {
-        return Ok(None);
-    }
-    let component = component_number(app, Component::Task(task));
-    let after = value_after(effect.changes.as_slice(), task.index(), value);
-    let Some(own) = as_candidate(app, task, &after) else {
-        return Ok(None);
-    };
     let claim = Claim::Gets {
         task,
-        priority: own.priority,
+        priority,
         over,
     };
     let Some(mut conditions) = limits(alloc, app, &effect.changes, needs, claim)? else {
         return Ok(None);
     };
-    let test = Test::Is(value.copy());
-    conditions.push(Condition { component, test })?;
     push_alive(app, effect, entry, over, &mut conditions)?;
-    Ok(Some(OutcomeCase {
+    let set = entry.sets.at(task.index());
+    let ends = ends_at(
+        alloc,
+        set.members.as_slice(),
+        candidates.as_slice(),
+        priority,
+    )?;
+    Ok(Some(ValueCases {
         conditions,
         decision: Decision::To(Some(task)),
-        target: Point::Task(own.block),
+        component: component_number(app, Component::Task(task)),
+        ends,
     }))
 }
 
+// The task isn't the one that runs.
 fn push_winners_of(
     alloc: Global,
     app: &App,
@@ -297,21 +315,59 @@ fn push_winners_of(
     entry: &Entry,
     needs: &Seq<u64>,
     task: TaskNo,
-    cases: &mut Seq<OutcomeCase>,
+    groups: &mut Seq<OutcomeGroup>,
 ) -> Result<(), Memory>
     requires known { task.0 < length app.now.tasks }
     requires domains { domains entry.now ≡ domains_of app.now }
     requires needs { AreNeeds app.now entry.now effect.now.changes (length app.now.tasks) needs.now }
     requires asked { IsDispatching app.now effect.now.asked }
-    ensures { OnOk result (AddsCases app.now entry.now effect.now IsAnything (decision.To (Some task)) cases.old cases.new) }
+    requires other { is_that_task (running_of effect.now.asked) task.0 ≡ false }
+    ensures { OnOk result (AddsGroups app.now entry.now effect.now IsAnything (decision.To (Some task)) groups.old groups.new) }
 {
-    for value in entry.sets.at(task.index()).members.as_slice() {
-        push_found(
-            cases,
-            winner(alloc, app, effect, entry, needs, task, value)?,
+    let set = entry.sets.at(task.index());
+    let candidates = candidates(
+        alloc,
+        app,
+        effect.changes.as_slice(),
+        task,
+        set.members.as_slice(),
+    )?;
+    let priorities = priorities(alloc, candidates.as_slice())?;
+    for priority in priorities.as_slice() {
+        let found = winners_at(
+            alloc,
+            app,
+            effect,
+            entry,
+            needs,
+            task,
+            &candidates,
+            *priority,
         )?;
+        push_group(groups, found)?;
     }
     Ok(())
+}
+
+fn push_other_winners(
+    alloc: Global,
+    app: &App,
+    effect: &EffectCase,
+    entry: &Entry,
+    needs: &Seq<u64>,
+    task: TaskNo,
+    groups: &mut Seq<OutcomeGroup>,
+) -> Result<(), Memory>
+    requires known { task.0 < length app.now.tasks }
+    requires domains { domains entry.now ≡ domains_of app.now }
+    requires needs { AreNeeds app.now entry.now effect.now.changes (length app.now.tasks) needs.now }
+    requires asked { IsDispatching app.now effect.now.asked }
+    ensures { OnOk result (AddsGroups app.now entry.now effect.now IsAnything (decision.To (Some task)) groups.old groups.new) }
+{
+    if is_running(running(effect.asked), task) {
+        return Ok(());
+    }
+    push_winners_of(alloc, app, effect, entry, needs, task, groups)
 }
 
 fn push_winners(
@@ -320,15 +376,15 @@ fn push_winners(
     effect: &EffectCase,
     entry: &Entry,
     needs: &Seq<u64>,
-    cases: &mut Seq<OutcomeCase>,
+    groups: &mut Seq<OutcomeGroup>,
 ) -> Result<(), Memory>
     requires domains { domains entry.now ≡ domains_of app.now }
     requires needs { AreNeeds app.now entry.now effect.now.changes (length app.now.tasks) needs.now }
     requires asked { IsDispatching app.now effect.now.asked }
-    ensures { OnOk result (AddsWinners app.now entry.now effect.now (length app.now.tasks) cases.old cases.new) }
+    ensures { OnOk result (AddsWinnerGroups app.now entry.now effect.now (length app.now.tasks) groups.old groups.new) }
 {
     for task in 0..app.tasks.len() {
-        push_winners_of(alloc, app, effect, entry, needs, TaskNo(task as u8), cases)?;
+        push_other_winners(alloc, app, effect, entry, needs, TaskNo(task as u8), groups)?;
     }
     Ok(())
 }

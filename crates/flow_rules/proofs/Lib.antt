@@ -4,3 +4,4 @@ pub mod Arriving
 pub mod Assembling
 pub mod PointRules
 pub mod Leading
+pub mod RuleGroups

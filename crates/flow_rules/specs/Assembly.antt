@@ -1,22 +1,21 @@
 -- Rules out of the cases of an effect and of its outcome.
 use Rattle.std.specs.Prelude.{◌≡◌, ◌⊎◌, ℕ, List, ◌++◌, Some, Contains}
 use Rattle.osek_standard.specs.declared.app.App.{App}
+use Rattle.osek_standard.specs.declared.point.Point.{Point}
 use Rattle.abstract_state.specs.declared.value.PartValue.{PartValue}
 use Rattle.abstract_state.specs.declared.table.Entry.{Entry}
 use Rattle.flow_model.specs.declared.case.{Decision.{Decision}, EffectCase.{EffectCase}, OutcomeCase.{OutcomeCase}}
-use Rattle.flow_model.specs.declared.rule.Rule.{Rule}
+use Rattle.flow_model.specs.declared.{rule.Rule.{Rule}, test.Condition.{Condition}}
 use Rattle.flow_model.specs.Tests.{PassesAll, values_after}
 use Rattle.flow_model.specs.Scheduling.{AreValuesOf, Decides, HasOutcome}
 
+-- the effect, more conditions, and what the scheduler does under them
+abbrev pub rule_by : EffectCase → List Condition → Decision → Point → Rule
+rule_by effect more decision target = record { conditions = effect.conditions ++ more; changes = effect.changes; target = target; decision = Some decision; status = effect.status }
+
 -- the effect and then this outcome
 abbrev pub rule_of : EffectCase → OutcomeCase → Rule
-rule_of effect outcome = record {
-  conditions = effect.conditions ++ outcome.conditions;
-  changes = effect.changes;
-  target = outcome.target;
-  decision = Some outcome.decision;
-  status = effect.status;
-}
+rule_of effect outcome = rule_by effect outcome.conditions outcome.decision outcome.target
 
 -- the rule is that of an effect and an outcome which is right wherever both pass
 pub record IsRuleOf (app : App) (entry : Entry) (effect : EffectCase) (rule : Rule) : Type 0 where

@@ -2,3 +2,4 @@ pub mod Arrivals
 pub mod Assembly
 pub mod Instructions
 pub mod Passing
+pub mod RuleGroups

@@ -3,8 +3,10 @@ ghost use Rattle.std.specs.Prelude.{◌≡◌, ◌<◌, ◌++◌, map, IfOk, OnO
 ghost use Rattle.std.specs.List.{range_with_len};
 ghost use Rattle.osek_standard.specs.Apps.{source_count};
 ghost use Rattle.osek_standard.specs.Points.{IsPoint};
-ghost use Rattle.flow_rules.specs.Arrivals.{arrival_rule, AreArrivals};
+ghost use Rattle.flow_rules.specs.Arrivals.{arrival_rule};
+ghost use Rattle.flow_rules.specs.RuleGroups.{arrival_group, AreArrivalGroups};
 
+use crate::group::RuleGroup;
 use abstract_state::Point;
 use flow_model::{Rule, Runner};
 use osek_standard::App;
@@ -12,15 +14,15 @@ use osek_values::{Memory, Seq, SourceNo, TaskNo};
 use std::alloc::Global;
 
 /// A rule for each routine that may begin at a point.
-pub fn arrivals(alloc: Global, app: &App, point: Point) -> Result<Seq<Rule>, Memory>
+pub fn arrivals(alloc: Global, app: &App, point: Point) -> Result<Seq<RuleGroup>, Memory>
     requires { IsPoint app.now point }
-    ensures { IfOk result (AreArrivals app.now point) }
+    ensures { IfOk result (AreArrivalGroups app.now point) }
 {
     match point {
         Point::Halted | Point::Routine { .. } => Ok(Seq::new(alloc)),
         Point::Idle => {
-            let rules = arrivals_over(alloc, app, None)?;
-            Ok(rules)
+            let groups = arrivals_over(alloc, app, None)?;
+            Ok(groups)
         }
         Point::Task(block) => {
             if app.block(block).locked {
@@ -28,8 +30,8 @@ pub fn arrivals(alloc: Global, app: &App, point: Point) -> Result<Seq<Rule>, Mem
             }
             match Runner::executing(app, point) {
                 Some(Runner::Task(task)) => {
-                    let rules = arrivals_over(alloc, app, Some(task))?;
-                    Ok(rules)
+                    let groups = arrivals_over(alloc, app, Some(task))?;
+                    Ok(groups)
                 }
                 Some(Runner::Routine { .. }) | None => Ok(Seq::new(alloc)),
             }
@@ -38,14 +40,14 @@ pub fn arrivals(alloc: Global, app: &App, point: Point) -> Result<Seq<Rule>, Mem
 }
 
 // each source's routine begins over a task or over none
-fn arrivals_over(alloc: Global, app: &App, over: Option<TaskNo>) -> Result<Seq<Rule>, Memory>
-    ensures { IfOk result (λ rules. rules ≡ map (arrival_rule app.now over) (range_with_len 0 (source_count app.now))) }
+fn arrivals_over(alloc: Global, app: &App, over: Option<TaskNo>) -> Result<Seq<RuleGroup>, Memory>
+    ensures { IfOk result (λ groups. groups ≡ map (arrival_group app.now over) (range_with_len 0 (source_count app.now))) }
 {
-    let mut rules = Seq::new(alloc);
+    let mut groups = Seq::new(alloc);
     for source in 0..app.counters.len() + app.isrs.len() {
-        rules.push(arrival_rule(alloc, app, over, SourceNo(source as u8)))?;
+        groups.push(RuleGroup::One(arrival_rule(alloc, app, over, SourceNo(source as u8))))?;
     }
-    Ok(rules)
+    Ok(groups)
 }
 
 fn arrival_rule(alloc: Global, app: &App, over: Option<TaskNo>, source: SourceNo) -> Rule

@@ -3,10 +3,14 @@
 
 mod applying;
 mod arrivals;
+mod expanding;
+mod group;
 pub mod laws;
 mod possible;
 mod ruling;
 
 pub use applying::apply;
+pub use expanding::rules;
+pub use group::{RuleGroup, ValueRules};
 pub use possible::is_possible;
-pub use ruling::rules;
+pub use ruling::rule_groups;

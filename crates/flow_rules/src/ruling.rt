@@ -1,36 +1,44 @@
-//! The rules of a point.
+//! The rules of a point, in groups.
 ghost use Rattle.std.specs.Prelude.{◌≡◌, ◌++◌, IfOk, OnOk};
 ghost use Rattle.osek_standard.specs.Points.{IsPoint};
 ghost use Rattle.abstract_state.specs.Domains.{domains, domains_of};
-ghost use Rattle.flow_model.specs.Effects.{AreAllAllowed, CoverEffects, AreExactEffects};
+ghost use Rattle.flow_model.specs.Effects.{AreAllAllowed};
 ghost use Rattle.flow_model.specs.Rules.{Covering, Exact, Foresees};
-ghost use Rattle.flow_rules.specs.Assembly.{rule_of, AreAdded, AreAllAdded};
-ghost use Rattle.flow_rules.specs.Instructions.{AddsInstructions};
+ghost use Rattle.flow_rules.specs.Assembly.{rule_by as rule_by_of};
+ghost use Rattle.flow_rules.specs.RuleGroups.{all_rules, group_of as group_of_outcomes, AreRulesIn, AreInDomains, AddsGroups, AddsInstructionGroups};
 
 use crate::arrivals::arrivals;
+use crate::group::{RuleGroup, ValueRules};
 use abstract_state::{Entry, Point};
-use flow_dispatch::outcome_cases;
+use flow_dispatch::{End, OutcomeGroup, outcome_groups};
 use flow_effects::effect_cases;
-use flow_model::{Change, Condition, EffectCase, OutcomeCase, Rule, Runner};
+use flow_model::{Change, Condition, Decision, EffectCase, Rule, Runner};
 use osek_standard::App;
 use osek_values::{Memory, Seq};
 use std::alloc::Global;
 
-/// The rules of a point, over its entry: one for each routine that may begin there, and one for each case of an
+/// The rules of a point, over its entry, in groups: one for each routine that may begin there, and one for each case of an
 /// instruction, of its effect and then of what the scheduler does.
-pub fn rules(alloc: Global, app: &App, point: Point, entry: &Entry) -> Result<Seq<Rule>, Memory>
+pub fn rule_groups(
+    alloc: Global,
+    app: &App,
+    point: Point,
+    entry: &Entry,
+) -> Result<Seq<RuleGroup>, Memory>
     requires point { IsPoint app.now point }
     requires domains { domains entry.now ≡ domains_of app.now }
-    ensures covering { IfOk result (Covering app.now point entry.now) }
-    ensures instructions { IfOk result (Foresees app.now point entry.now) }
-    ensures exact { IfOk result (λ rules. AreAllAllowed app.now point entry.now → Exact app.now point entry.now rules) }
+    ensures covering { IfOk result (λ groups. Covering app.now point entry.now (all_rules groups)) }
+    ensures instructions { IfOk result (λ groups. Foresees app.now point entry.now (all_rules groups)) }
+    ensures exact { IfOk result (λ groups. AreAllAllowed app.now point entry.now → Exact app.now point entry.now (all_rules groups)) }
+    ensures within { IfOk result (AreRulesIn entry.now) }
+    ensures kept { IfOk result (λ groups. AreAllAllowed app.now point entry.now → AreInDomains app.now entry.now groups) }
 {
-    let mut rules = arrivals(alloc, app, point)?;
+    let mut groups = arrivals(alloc, app, point)?;
     match Runner::executing(app, point) {
-        None => Ok(rules),
+        None => Ok(groups),
         Some(_) => {
-            add_instructions(alloc, app, point, entry, &mut rules)?;
-            Ok(rules)
+            add_instructions(alloc, app, point, entry, &mut groups)?;
+            Ok(groups)
         }
     }
 }
@@ -41,15 +49,15 @@ fn add_instructions(
     app: &App,
     point: Point,
     entry: &Entry,
-    rules: &mut Seq<Rule>,
+    groups: &mut Seq<RuleGroup>,
 ) -> Result<(), Memory>
     requires point { IsPoint app.now point }
     requires domains { domains entry.now ≡ domains_of app.now }
-    ensures { OnOk result (AddsInstructions app.now point entry.now rules.old rules.new) }
+    ensures { OnOk result (AddsInstructionGroups app.now point entry.now groups.old groups.new) }
 {
     let effects = effect_cases(alloc, app, point, entry)?;
     for effect in effects.as_slice() {
-        add_outcomes(alloc, app, entry, effect, rules)?;
+        add_outcomes(alloc, app, entry, effect, groups)?;
     }
     Ok(())
 }
@@ -60,36 +68,66 @@ fn add_outcomes(
     app: &App,
     entry: &Entry,
     effect: &EffectCase,
-    rules: &mut Seq<Rule>,
+    groups: &mut Seq<RuleGroup>,
 ) -> Result<(), Memory>
     requires { domains entry.now ≡ domains_of app.now }
-    ensures { OnOk result (AreAdded app.now entry.now effect.now rules.old rules.new) }
+    ensures { OnOk result (AddsGroups app.now entry.now effect.now groups.old groups.new) }
 {
-    let outcomes = outcome_cases(alloc, app, effect, entry)?;
+    let outcomes = outcome_groups(alloc, app, effect, entry)?;
     for outcome in outcomes.as_slice() {
-        rules.push(rule_of(alloc, effect, outcome)?)?;
+        groups.push(group_of(alloc, effect, outcome)?)?;
     }
     Ok(())
 }
 
-fn rule_of(alloc: Global, effect: &EffectCase, outcome: &OutcomeCase) -> Result<Rule, Memory>
-    ensures { IfOk result (λ rule. rule ≡ rule_of effect.now outcome.now) }
+// the effect's conditions come in once for all the values of a group
+fn group_of(alloc: Global, effect: &EffectCase, outcome: &OutcomeGroup) -> Result<RuleGroup, Memory>
+    ensures { IfOk result (λ group. group ≡ group_of_outcomes effect.now outcome.now) }
+{
+    match outcome {
+        OutcomeGroup::One(case) => {
+            let more = case.conditions.as_slice();
+            let rule = rule_by(alloc, effect, more, case.decision, case.target)?;
+            Ok(RuleGroup::One(rule))
+        }
+        OutcomeGroup::Each(cases) => {
+            let more = cases.conditions.as_slice();
+            let rule = rule_by(alloc, effect, more, cases.decision, effect.point)?;
+            let mut ends = Seq::new(alloc);
+            add_ends(&mut ends, cases.ends.as_slice())?;
+            Ok(RuleGroup::Each(ValueRules {
+                rule,
+                component: cases.component,
+                ends,
+            }))
+        }
+    }
+}
+
+fn rule_by(
+    alloc: Global,
+    effect: &EffectCase,
+    more: &[Condition],
+    decision: Decision,
+    target: Point,
+) -> Result<Rule, Memory>
+    ensures { IfOk result (λ rule. rule ≡ rule_by_of effect.now more.now decision target) }
 {
     let mut conditions = Seq::new(alloc);
     add_conditions(&mut conditions, effect.conditions.as_slice())?;
-    add_conditions(&mut conditions, outcome.conditions.as_slice())?;
+    add_conditions(&mut conditions, more)?;
     let mut changes = Seq::new(alloc);
     add_changes(&mut changes, effect.changes.as_slice())?;
     Ok(Rule {
         conditions,
         changes,
-        target: outcome.target,
-        decision: Some(outcome.decision),
+        target,
+        decision: Some(decision),
         status: effect.status,
     })
 }
 
-fn add_conditions(to: &mut Seq<Condition>, from: &[Condition]) -> Result<(), Memory>
+pub fn add_conditions(to: &mut Seq<Condition>, from: &[Condition]) -> Result<(), Memory>
     ensures { OnOk result (to.new ≡ to.old ++ from.now) }
 {
     for condition in from {
@@ -98,11 +136,20 @@ fn add_conditions(to: &mut Seq<Condition>, from: &[Condition]) -> Result<(), Mem
     Ok(())
 }
 
-fn add_changes(to: &mut Seq<Change>, from: &[Change]) -> Result<(), Memory>
+pub fn add_changes(to: &mut Seq<Change>, from: &[Change]) -> Result<(), Memory>
     ensures { OnOk result (to.new ≡ to.old ++ from.now) }
 {
     for change in from {
         to.push(change.copy())?;
+    }
+    Ok(())
+}
+
+fn add_ends(to: &mut Seq<End>, from: &[End]) -> Result<(), Memory>
+    ensures { OnOk result (to.new ≡ to.old ++ from.now) }
+{
+    for end in from {
+        to.push(end.copy())?;
     }
     Ok(())
 }

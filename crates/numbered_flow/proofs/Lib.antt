@@ -1,4 +1,4 @@
 pub mod Raising
 pub mod JoiningCells
-pub mod EvaluatedRows
+pub mod RowsOfRules
 pub mod NumberedCells

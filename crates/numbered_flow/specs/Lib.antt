@@ -1,3 +1,4 @@
 pub mod PlainCells
 pub mod PlainRows
 pub mod Numbering
+pub mod RowRules

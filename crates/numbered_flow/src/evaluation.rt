@@ -8,9 +8,9 @@ ghost use Rattle.state_flow.specs.Rows.{row_at, IsProperRow};
 ghost use Rattle.state_flow.specs.Reaching.{Leads};
 ghost use Rattle.numbered_flow.specs.PlainRows.{plain_rows, AreRowsOf};
 
+use crate::rows::add_rows;
 use abstract_state::Point;
-use flow_rules::rules;
-use numbered_rules::apply;
+use flow_rules::rule_groups;
 use numbered_sets::{NumberedEntry, Pool, ShownEntry};
 use osek_standard::App;
 use osek_values::Memory;
@@ -44,15 +44,10 @@ pub fn evaluate(
     ensures leads { IfOk result (λ reached. Leads app.now point (plain_entry pool.old entry.now) (plain_rows pool.new reached.items)) }
 {
     shown.renew(alloc, pool, entry)?;
-    let found = rules(alloc, app, point, &shown.plain)?;
+    let found = rule_groups(alloc, app, point, &shown.plain)?;
     let mut reached = Vec::new(alloc);
-    for rule in found.as_slice() {
-        if let Some(new) = apply(alloc, rule, pool, entry)? {
-            reached.push(NumberedRow {
-                point: rule.target,
-                entry: new,
-            })?;
-        }
+    for group in found.as_slice() {
+        add_rows(alloc, group, pool, entry, &mut reached)?;
     }
     Ok(reached)
 }

@@ -5,6 +5,7 @@ mod evaluation;
 pub mod laws;
 mod least_table;
 mod numbered_cells;
+mod rows;
 
 pub use evaluation::{NumberedRow, evaluate};
 pub use least_table::solve;

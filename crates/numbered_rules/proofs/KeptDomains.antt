@@ -21,9 +21,10 @@ use Rattle.abstract_state.proofs.DomainValues.{allowed_within}
 use Rattle.flow_model.specs.declared.rule.Rule.{Rule}
 use Rattle.flow_model.specs.Tests.{PassesAt, value_after}
 use Rattle.flow_model.specs.Rules.{Exact, Shown}
+use Rattle.flow_rules.specs.RuleGroups.{StaysInDomains}
 use Rattle.numbered_rules.specs.Applying.{AreTaken, KeepsDomains}
 
-module _ (app : App) (p : Point) (entry : Entry) (rules : List Rule) (rule : Rule) (alike : domains entry ≡ domains_of app) (listed : Contains rules rule) (exact : Exact app p entry rules) (taken : AreTaken rule entry) where
+module _ (app : App) (entry : Entry) (rule : Rule) (alike : domains entry ≡ domains_of app) (taken : AreTaken rule entry) where
   size : length entry.sets ≡ component_count app
   size = sym (length-map entry.sets (λ (s : ValueSet). s.domain)) ∙ ap length alike ∙ length-map (components app) (domain_of app)
 
@@ -56,20 +57,37 @@ module _ (app : App) (p : Point) (entry : Entry) (rules : List Rule) (rule : Rul
       ]
     ]
 
-    shown : Shown app p rule (λ k. (picked k).pick)
-    shown = exact rule (λ k. (picked k).pick) listed (λ k lt. (picked k).there lt) (λ k lt. (picked k).passes lt)
-
-    made_within : IsWithin (set_at entry c).domain (value_after rule.changes c was)
-    made_within =
-        let after = (step app shown.from shown.event).state in
-        let well : Well app after = step_keeps app shown.from shown.event shown.has.well in
-        let made : abstract_of app after c ≡ value_after rule.changes c was = shown.matches.parts c known ∙ ap (value_after rule.changes c) (shown.has.parts c known ∙ (picked c).chosen refl) in
+    -- by the domains of the components
+    by_domains : StaysInDomains app entry rule → IsWithin (set_at entry c).domain (value_after rule.changes c was)
+    by_domains stays =
+        let within = stays (λ k. (picked k).pick) (λ k lt. (picked k).there lt) (λ k lt. (picked k).passes lt) c known in
         subst (λ (d : Domain). IsWithin d (value_after rule.changes c was)) (sym (its_domain c known))
-        (subst (IsWithin (domain_of app (component_at app c))) made (allowed_within app _ c (abstract_of app after c) known (well_part app after well c known)))
+        (subst (λ (v : PartValue). IsWithin (domain_of app (component_at app c)) (value_after rule.changes c v)) ((picked c).chosen refl) within)
+
+    -- by what is exact
+    module _ (p : Point) (rules : List Rule) (listed : Contains rules rule) (exact : Exact app p entry rules) where
+      shown : Shown app p rule (λ k. (picked k).pick)
+      shown = exact rule (λ k. (picked k).pick) listed (λ k lt. (picked k).there lt) (λ k lt. (picked k).passes lt)
+
+      made_within : IsWithin (set_at entry c).domain (value_after rule.changes c was)
+      made_within =
+          let after = (step app shown.from shown.event).state in
+          let well : Well app after = step_keeps app shown.from shown.event shown.has.well in
+          let made : abstract_of app after c ≡ value_after rule.changes c was = shown.matches.parts c known ∙ ap (value_after rule.changes c) (shown.has.parts c known ∙ (picked c).chosen refl) in
+          subst (λ (d : Domain). IsWithin d (value_after rule.changes c was)) (sym (its_domain c known))
+          (subst (IsWithin (domain_of app (component_at app c))) made (allowed_within app _ c (abstract_of app after c) known (well_part app after well c known)))
 
 pub exact_keep : (app : App) (p : Point) (entry : Entry) (rules : List Rule) (rule : Rule) → domains entry ≡ domains_of app → Contains rules rule → Exact app p entry rules → KeepsDomains rule entry
 exact_keep app p entry rules rule alike listed exact = record {
   sets = λ taken c lt. record {
-    each = λ v there passes. made_within app p entry rules rule alike listed exact taken c v (let long = size app p entry rules rule alike listed exact taken in omega (arith, lt, long)) there passes;
+    each = λ v there passes. made_within app entry rule alike taken c v (let long = size app entry rule alike taken in omega (arith, lt, long)) there passes p rules listed exact;
+  };
+}
+
+-- so it is of a rule that several share
+pub shared_keep : (app : App) (entry : Entry) (rule : Rule) → domains entry ≡ domains_of app → StaysInDomains app entry rule → KeepsDomains rule entry
+shared_keep app entry rule alike stays = record {
+  sets = λ taken c lt. record {
+    each = λ v there passes. by_domains app entry rule alike taken c v (let long = size app entry rule alike taken in omega (arith, lt, long)) there passes stays;
   };
 }

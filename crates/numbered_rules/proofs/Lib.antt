@@ -2,3 +2,4 @@ pub mod NumbersPassing
 pub mod KeptDomains
 pub mod SiftedSets
 pub mod ChangedSets
+pub mod ReplacedSets

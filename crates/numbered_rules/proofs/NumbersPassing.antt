@@ -54,7 +54,7 @@ passed_same rule c d old ys s same h = record {
   to = λ v m p. h.to v (same v ∙ m) p;
 }
 
-none_passes_bit : (n : ℕ) → has_bit 0 n ≡ false
+pub none_passes_bit : (n : ℕ) → has_bit 0 n ≡ false
 none_passes_bit n = false_unless (has_bit 0 n) ⊥ (no_bit_of_none n) (λ no. no)
 
 pub passed_begun : (rule : Rule) (pool : List Values) (c : ℕ) (d : Domain) → IsPassedSoFar rule pool c d [] pool (numbers d 0)
@@ -137,7 +137,7 @@ passed_on rule before c old pool after x longer h =
       passed = subst (ArePassed rule c old.domain (plain_set (values_at before c) old).members) same h.passed;
     }
 
-domains_alike : (xs ys : List Numbers) → length xs ≡ length ys → ((c : ℕ) → (get_or xs c no_set).domain ≡ (get_or ys c no_set).domain) → map (λ (x : Numbers). x.domain) xs ≡ map (λ (x : Numbers). x.domain) ys
+pub domains_alike : (xs ys : List Numbers) → length xs ≡ length ys → ((c : ℕ) → (get_or xs c no_set).domain ≡ (get_or ys c no_set).domain) → map (λ (x : Numbers). x.domain) xs ≡ map (λ (x : Numbers). x.domain) ys
 domains_alike [] [] e h = refl
 domains_alike [] (y ∷ ys) e h = absurd (omega (arith, e))
 domains_alike (x ∷ xs) [] e h = absurd (omega (arith, e))

@@ -3,9 +3,11 @@
 
 mod applying;
 pub mod laws;
+mod replacing;
 mod ruling;
 mod sifting;
 mod updating;
 
 pub use applying::apply;
+pub use replacing::replace;
 pub use ruling::rules;

@@ -1,32 +1,51 @@
-use Rattle.std.proofs.Common.{List, Some, sym, subst}
-use Rattle.abstract_state.specs.Tables.{empty_set}
-use Rattle.flow_model.specs.declared.case.OutcomeCase.{OutcomeCase}
+use Rattle.std.proofs.Common.{◌≡◌, ◌++◌, ◌∷◌, [], ℕ, List, Some, get_or, map, take, sym, ap, subst, ◌∙◌}
+use Rattle.std.specs.Prelude.{Contains}
+use Rattle.std.specs.declared.option.Option.{Option}
+use Rattle.std.proofs.lemmas.List.{take_more, take_all}
+use Rattle.abstract_state.specs.declared.{value.PartValue.{PartValue}, table.ValueSet.{ValueSet}}
+use Rattle.abstract_state.specs.Tables.{empty_set, set_at}
+use Rattle.flow_model.specs.declared.change.Change.{Change}
 use Rattle.flow_model.specs.declared.case.Decision.TheVariants as decision
-use Rattle.flow_dispatch.specs.Outcomes.{AddsCases, IsValueOf}
-use Rattle.flow_dispatch.proofs.OutcomeLaws.{set_known, set_is, found_adds, first_none, first_one_more, first_done}
+use Rattle.flow_dispatch.specs.declared.{priority.Candidate.{Candidate}, group.OutcomeGroup.{OutcomeGroup}}
+use Rattle.flow_dispatch.specs.Candidates.{candidate_after}
+use Rattle.flow_dispatch.specs.Groups.{group_list, HasPriority, AddsGroups}
+use Rattle.flow_dispatch.proofs.OutcomeLaws.{set_known, set_is}
+use Rattle.flow_dispatch.proofs.GroupLaws.{no_priority, more_priorities, all_priorities}
 use Rattle.flow_dispatch.proofs.outcomes.push_winners_of.Goals as goal
 
-pub at-requires : goal.at-requires
-at-requires c = set_known c.args.app.now c.args.entry.now c.requires.domains c.args.task.0 c.index.result c.requires.known c.index.ensures
+pub at-set-requires : goal.at-set-requires
+at-set-requires c = set_known c.args.app.now c.args.entry.now c.requires.domains c.args.task.0 c.index.result c.requires.known c.index.ensures
 
-pub loop-value-init : goal.loop-value-init
-loop-value-init c = first_none c.args.app.now c.args.entry.now c.args.effect.now c.args.task.0 c.requires.known (decision.To (Some c.args.task)) c.as_slice-value-items.result.now c.args.cases.now
+pub loop-priority-init : goal.loop-priority-init
+loop-priority-init c = no_priority c.args.app.now c.args.entry.now c.args.effect.now c.args.task c.requires.known c.args.groups.now
 
-pub loop-value-preserved : goal.loop-value-preserved
-loop-value-preserved c =
+pub loop-priority-preserved : goal.loop-priority-preserved
+loop-priority-preserved c =
     let app = c.args.app.now in
     let entry = c.args.entry.now in
     let effect = c.args.effect.now in
-    let v = c.value-item.result in
-    let before = c.loop-value.cases in
-    let found = c.in_ok-winner.field-0 in
-    first_one_more app entry effect c.args.task.0 c.requires.known (decision.To (Some c.args.task)) c.as_slice-value-items.result.now c.loop-value.value-index v c.loop-value-test.true c.value-item.is
-    c.args.cases.now before c.push_found.new.cases c.loop-value.invariant
-    (subst (λ (xs : List OutcomeCase). AddsCases app entry effect (IsValueOf c.args.task.0 v) (decision.To (Some c.args.task)) before xs) (sym c.in_ok-push_found.ensures)
-    (found_adds app entry effect (IsValueOf c.args.task.0 v) (decision.To (Some c.args.task)) found before c.in_ok-winner.ensures))
+    let t = c.args.task in
+    let d = decision.To (Some t) in
+    let items = c.as_slice-priority-items.result.now in
+    let i = c.loop-priority.priority-index in
+    let before = c.loop-priority.groups in
+    subst (λ (ps : List ℕ). AddsGroups app entry effect (HasPriority app effect t.0 ps) d c.args.groups.now c.push_group.new.groups) (sym (take_more items i 0 c.loop-priority-test.true))
+    (subst (λ (gs : List OutcomeGroup). AddsGroups app entry effect (HasPriority app effect t.0 (take i items ++ get_or items i 0 ∷ [])) d c.args.groups.now gs) (sym c.in_ok-push_group.ensures)
+    (more_priorities app entry effect t c.requires.known (take i items) (get_or items i 0) c.in_ok-found.found c.args.groups.now before c.loop-priority.invariant c.in_ok-found.ensures))
 
 pub returns : goal.returns
 returns c =
+    let app = c.args.app.now in
     let entry = c.args.entry.now in
-    first_done c.args.app.now entry c.args.effect.now c.args.task.0 c.requires.known (decision.To (Some c.args.task)) c.at.result.now (set_is entry c.index.result c.args.task.0 c.at.result.now c.index.ensures (c.at.ensures.item empty_set))
-    c.as_slice-value-items.result.now c.as_slice-value-items.ensures c.loop-value.value-index c.loop-value-test.false c.args.cases.now c.loop-value.cases c.loop-value.invariant
+    let effect = c.args.effect.now in
+    let t = c.args.task in
+    let items = c.as_slice-priority-items.result.now in
+    let own : PartValue → Option Candidate = candidate_after app effect.changes t.0 in
+    let all : take c.loop-priority.priority-index items ≡ c.in_ok-priorities.priorities = take_all c.loop-priority.priority-index items c.loop-priority-test.false ∙ c.as_slice-priority-items.ensures in
+    let set = set_is entry c.index.result t.0 c.at-set.result.now c.index.ensures (c.at-set.ensures.item empty_set) in
+    let values : c.as_slice-2.result.now ≡ (set_at entry t.0).members = c.as_slice-2.ensures ∙ sym (ap (λ (s : ValueSet). s.members) set) in
+    let are : c.in_ok-candidates.candidates ≡ map own (set_at entry t.0).members = c.in_ok-candidates.ensures ∙ ap (λ (xs : List Change). map (candidate_after app xs t.0) c.as_slice-2.result.now) c.as_slice.ensures ∙ ap (map own) values in
+    all_priorities app entry effect t c.requires.known c.in_ok-candidates.candidates c.in_ok-priorities.priorities are
+    (λ x m. c.in_ok-priorities.ensures x (subst (λ (xs : List (Option Candidate)). Contains xs (Some x)) (sym c.as_slice-3.ensures) m))
+    c.args.groups.now c.loop-priority.groups
+    (subst (λ (ps : List ℕ). AddsGroups app entry effect (HasPriority app effect t.0 ps) (decision.To (Some t)) c.args.groups.now c.loop-priority.groups) all c.loop-priority.invariant)
