@@ -15,3 +15,4 @@ pub mod ShownEdges
 pub mod SmallImages
 pub mod SomeDue
 pub mod WantOfMemory
+pub mod UpgradedReplays

@@ -30,10 +30,10 @@ use Rattle.command_runs.specs.declared.stop.Stop.{Stop}
 use Rattle.command_runs.specs.declared.stop.Stop.TheVariants as stop
 
 -- the same look-up finds the same
-same_found : {X : Type 0} (o : Option X) (a b : X) → o ≡ Some a → o ≡ Some b → a ≡ b
+pub same_found : {X : Type 0} (o : Option X) (a b : X) → o ≡ Some a → o ≡ Some b → a ≡ b
 same_found o a b x y = let e = sym x ∙ y in cc e
 
-not_found : {X : Type 0} (o : Option X) (a : X) → o ≡ None → o ≡ Some a → ⊥
+pub not_found : {X : Type 0} (o : Option X) (a : X) → o ≡ None → o ≡ Some a → ⊥
 not_found o a x y = let e = sym x ∙ y in absurd (cc e)
 
 module _ (files : Files) where
@@ -51,11 +51,11 @@ module _ (files : Files) where
       let texts : t ≡ u = same_found _ t u p q in
       (λ j. end_of (traps (modes j) (read_text app (texts j)).events) (read_text app (texts j)).fault)
 
-  same_image : (b c : List ℕ) (i j : Image) → b ≡ c → SpellImage b i → SpellImage c j → i ≡ j
+  pub same_image : (b c : List ℕ) (i j : Image) → b ≡ c → SpellImage b i → SpellImage c j → i ≡ j
   same_image b c i j e x y = (one_spelling_holds i j [] [] x.fits y.fits (ap (λ (l : List ℕ). l ++ []) (x.spelled ∙ e ∙ sym y.spelled))).0
 
   -- bytes that spell an image have no fault
-  no_image_fault : (b c : List ℕ) (i : Image) (f : ImageFault) → b ≡ c → SpellImage b i → IsImageFault c f → ⊥
+  pub no_image_fault : (b c : List ℕ) (i : Image) (f : ImageFault) → b ≡ c → SpellImage b i → IsImageFault c f → ⊥
   no_image_fault b c i f e x (inl (over, is)) = let within = subst (λ (l : List ℕ). length l ≤ MAX_FILE) e x.within in omega (arith, over, within)
   no_image_fault b c i f e x (inr (within, fault)) =
       let reads : read_image (spelling i) ≡ Ok (parts_of i) = its_reading (spelling i) (parts_of i) [] (read_again i x.fits) in

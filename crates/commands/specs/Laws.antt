@@ -1,4 +1,4 @@
--- What holds of the answers that are due, and of what is built and then replayed.
+-- What holds of the answers that are due, of what is built and then replayed, and of what is upgraded.
 use Rattle.std.specs.Prelude.{◌≡◌, ◌<◌, ℕ, List, length, Option, Some, None, Result, Ok}
 use Rattle.std.specs.FinMap.{get}
 use Rattle.osek_values.specs.declared.numbers.ModeNo.{ModeNo}
@@ -8,13 +8,15 @@ use Rattle.oil_system.specs.declared.system.System.{System}
 use Rattle.front_end.specs.Texts.{DeclaresSystem, GivesApp}
 use Rattle.image_model.specs.declared.image.Image.{Image}
 use Rattle.image_codec.specs.Spelling.{spelling}
-use Rattle.image_model.specs.ImageTrace.{image_trace}
+use Rattle.image_model.specs.ImageTrace.{image_trace, has_trap}
+use Rattle.image_model.specs.Upgrades.{IsUpgraded}
 use Rattle.image_codec.specs.Reading.{AreBytes}
 use Rattle.trace_text.specs.EventText.{read_text}
 use Rattle.osek_io.specs.Files.{Files}
 use Rattle.commands.specs.Fitting.{IsKernelImage, IsFitted}
 use Rattle.commands.specs.Due.{ImageDue, ImageRuns, IsDue}
-use Rattle.command_runs.specs.Running.{mode_named}
+use Rattle.command_runs.specs.Replaying.{SpellImage}
+use Rattle.command_runs.specs.Running.{mode_named, whole_run}
 use Rattle.commands.specs.Words.{Command}
 use Rattle.command_runs.specs.declared.stop.Stop.{Stop}
 
@@ -28,6 +30,17 @@ WhatIsBuiltReplays = (files : Files) (image mode events : List ℕ) (app : App) 
 abbrev pub WhatIsBuiltIsTheKernel : Type 0
 WhatIsBuiltIsTheKernel = (app : App) (i : Image) (m : ModeNo) (text : List ℕ) → IsKernelImage app i → m.0 < length app.modes
     → image_trace i m (read_text app text).events ≡ kernel_trace app m (read_text app text).events
+
+-- Where one file holds an image, and another what `upgrade` makes of it, `replay` of the one is due what `replay` of the other is,
+abbrev pub WhatIsUpgradedReplays : Type 0
+WhatIsUpgradedReplays = (files : Files) (image upgraded mode events bytes : List ℕ) (i j : Image) (r : Result (Unit {0}) Stop)
+    → get files image ≡ Some bytes → SpellImage bytes i → IsUpgraded i j → get files upgraded ≡ Some (spelling j)
+    → ImageDue files image (ImageRuns files mode events) r → ImageDue files upgraded (ImageRuns files mode events) r
+
+-- and prints and ends the same.
+abbrev pub WhatIsUpgradedPrintsTheSame : Type 0
+WhatIsUpgradedPrintsTheSame = (i j : Image) (m : ModeNo) (text : List ℕ) → IsUpgraded i j
+    → whole_run j.app (image_trace j) (has_trap j) m text ≡ whole_run i.app (image_trace i) (has_trap i) m text
 
 -- the bytes are those of the image that is fitted to the application of the two texts
 pub record AreBuiltFrom (oil code bytes : List ℕ) : Type 0 where

@@ -1,5 +1,5 @@
 //! Laws over the definitions.
-ghost use Rattle.commands.specs.Laws.{SomeIsDue, OneIsDue, OneImageIsBuilt, WhatIsBuiltReplays, WhatIsBuiltIsTheKernel};
+ghost use Rattle.commands.specs.Laws.{SomeIsDue, OneIsDue, OneImageIsBuilt, WhatIsBuiltReplays, WhatIsBuiltIsTheKernel, WhatIsUpgradedReplays, WhatIsUpgradedPrintsTheSame};
 
 /// Over files of bytes one answer is due to each command, and no other.
 pub fn one_answer()
@@ -16,4 +16,10 @@ pub fn one_image_is_built()
 pub fn what_is_built_replays()
     ensures replays { WhatIsBuiltReplays }
     ensures as_the_kernel { WhatIsBuiltIsTheKernel }
+{}
+
+/// What `upgrade` stores, `replay` reads and runs as it did what was there before, and it prints the same.
+pub fn what_is_upgraded_replays()
+    ensures replays { WhatIsUpgradedReplays }
+    ensures prints_the_same { WhatIsUpgradedPrintsTheSame }
 {}
