@@ -51,7 +51,7 @@ fn read(alloc: Global, tokens: &Tokens<'_>) -> Result<Code, CodeError>
 }
 
 /// The code of a task code text (this project's profile), or the first fault of its tokens: of the grammar, and where
-/// that has none the first `work` outside its range.
+/// that has none the first `work` outside its range. Memory is taken for the code alone, and none for tokens.
 pub fn parse_code(alloc: Global, tokens: &Tokens<'_>) -> Result<Code, CodeError>
     // What is answered is right, and can be linked,
     ensures right { IsRight (λ r. IsAnswer r tokens.now) result }
