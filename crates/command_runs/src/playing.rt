@@ -14,7 +14,7 @@ ghost use Rattle.command_runs.specs.Playing.{plays, plays_fed, played_line, give
 ghost use Rattle.trace_text.specs.EventWords.{read_line};
 ghost use Rattle.trace_text.specs.EventText.{numbered_lines};
 ghost use Rattle.trace_text.specs.Feeds.{no_bytes};
-ghost use Rattle.trace_text.specs.Labels.{label_texts};
+ghost use Rattle.trace_text.specs.LineParts.{ArePartsOf};
 ghost use Rattle.command_runs.specs.declared.stop.Stop.TheVariants.{Unprinted};
 
 use crate::inputs::read_on;
@@ -27,7 +27,7 @@ use osek_io::{PutBuffer, PutError, Shelf, Sink};
 use osek_values::limits::{MAX_EVENT_LINE, MAX_EVENT_TEXT};
 use osek_values::{Event, Notes, Steps};
 use std::sync::ledger::Ledger;
-use trace_text::{FaultyLine, Feed, FeedStep, Labels, read_event};
+use trace_text::{FaultyLine, Feed, FeedStep, LineParts, read_event};
 
 /// Prints line n of the trace, or holds it back.
 pub fn print_line<O: Sink>(
@@ -36,17 +36,19 @@ pub fn print_line<O: Sink>(
     machine: &Machine,
     number: u64,
     notes: &Notes,
-    labels: &Labels,
+    parts: &mut LineParts,
 ) -> Result<(), Stop>
-    requires { labels.now ≡ label_texts machine.now.image.app }
+    requires { ArePartsOf machine.now.image.app parts.old }
+    ensures parts { ArePartsOf machine.now.image.app parts.new }
     ensures ok { OnOk result (Puts (given (O.written out.old) buffer.old) (given (O.written out.new) buffer.new) (line_text machine.now.image.app number (stepped machine.now.state notes.now) ++ 10 ∷ [])) }
     ensures front { OnErr result (PutsFront (given (O.written out.old) buffer.old) (given (O.written out.new) buffer.new) (line_text machine.now.image.app number (stepped machine.now.state notes.now) ++ 10 ∷ [])) }
     ensures cause { OnErr result (Rose (O.faults out.old) (O.faults out.new)) }
     ensures error { OnErr result (result ≡ Err Unprinted) }
     ensures never_falls { O.faults out.old ≤ O.faults out.new }
 {
+    parts.show(machine.app(), machine.state());
     let line = TraceLine {
-        labels,
+        parts,
         machine,
         number,
         notes,
@@ -98,19 +100,20 @@ fn play_event<L: Ledger, O: Sink>(
     machine: &mut Machine,
     number: u64,
     event: Event,
-    labels: &Labels,
+    parts: &mut LineParts,
     scans: &mut Steps<L>,
 ) -> Result<(), Stop>
     requires declared { IsDeclared machine.old.image.app event }
     requires running { machine.old.trapped ≡ false }
-    requires labelled { labels.now ≡ label_texts machine.old.image.app }
+    requires parts { ArePartsOf machine.old.image.app parts.old }
     ensures image { machine.new.image ≡ machine.old.image }
+    ensures parts { OnOk result (ArePartsOf machine.old.image.app parts.new) }
     ensures running { OnOk result (machine.new.trapped ≡ false) }
     ensures never_falls { O.faults out.old ≤ O.faults out.new }
     ensures event { AnswersEvent (O.faults out.old) (O.faults out.new) (given (O.written out.old) buffer.old) (given (O.written out.new) buffer.new) machine.old.image number machine.new.state (image_step machine.old.image machine.old.state event) result }
 {
     match machine.step(event, scans) {
-        Ok(notes) => match print_line(out, buffer, machine, number, &notes, labels) {
+        Ok(notes) => match print_line(out, buffer, machine, number, &notes, parts) {
             Ok(()) => Ok(()),
             Err(stop) => Err(stop),
         },
@@ -129,14 +132,15 @@ fn play_line<L: Ledger, O: Sink>(
     number: u64,
     event_line: &[u8],
     line_number: u32,
-    labels: &Labels,
+    parts: &mut LineParts,
     scans: &mut Steps<L>,
 ) -> Result<u64, Stop>
     requires running { machine.old.trapped ≡ false }
-    requires labelled { labels.now ≡ label_texts machine.old.image.app }
+    requires parts { ArePartsOf machine.old.image.app parts.old }
     // events are no more than lines
     requires few { number ≤ line_number }
     ensures image { machine.new.image ≡ machine.old.image }
+    ensures parts { OnOk result (ArePartsOf machine.old.image.app parts.new) }
     ensures running { OnOk result (machine.new.trapped ≡ false) }
     ensures next { IfOk result (λ n. n ≤ number + 1) }
     ensures never_falls { O.faults out.old ≤ O.faults out.new }
@@ -145,7 +149,7 @@ fn play_line<L: Ledger, O: Sink>(
     match read_event(machine.app(), event_line) {
         Ok(None) => Ok(number),
         Ok(Some(event)) => {
-            match play_event(out, buffer, machine, number, event, labels, scans) {
+            match play_event(out, buffer, machine, number, event, parts, scans) {
                 Ok(()) => Ok(number + 1),
                 Err(stop) => Err(stop),
             }
@@ -171,14 +175,15 @@ fn play_ahead<L: Ledger, O: Sink>(
     machine: &mut Machine,
     feed: &mut Feed,
     start: Place,
-    labels: &Labels,
+    parts: &mut LineParts,
     scans: &mut Steps<L>,
 ) -> Result<Place, Stop>
     requires running { machine.old.trapped ≡ false }
-    requires labelled { labels.now ≡ label_texts machine.old.image.app }
+    requires parts { ArePartsOf machine.old.image.app parts.old }
     requires few { start.event ≤ start.line }
     requires fits { start.line + length feed.old.ahead ≤ MAX_EVENT_TEXT + 1 }
     ensures image { machine.new.image ≡ machine.old.image }
+    ensures parts { OnOk result (ArePartsOf machine.old.image.app parts.new) }
     ensures running { OnOk result (machine.new.trapped ≡ false) }
     ensures never_falls { O.faults out.old ≤ O.faults out.new }
 
@@ -200,7 +205,7 @@ fn play_ahead<L: Ledger, O: Sink>(
             place.event,
             feed.line(),
             place.line,
-            labels,
+            parts,
             scans,
         ) {
             Ok(event) => {
@@ -223,11 +228,11 @@ pub fn play<L: Ledger, F: Shelf, O: Sink>(
     buffer: &mut PutBuffer,
     machine: &mut Machine,
     feed: &mut Feed,
-    labels: &Labels,
+    parts: &mut LineParts,
     scans: &mut Steps<L>,
 ) -> Result<(), Stop>
     requires running { machine.old.trapped ≡ false }
-    requires labelled { labels.now ≡ label_texts machine.old.image.app }
+    requires parts { ArePartsOf machine.old.image.app parts.old }
     requires empty { feed.old ≡ no_bytes }
     requires text { OfFile (F.contents shelf.old) events.now (λ t. length t ≤ MAX_EVENT_TEXT) }
     ensures never_falls { O.faults out.old ≤ O.faults out.new }
@@ -246,7 +251,7 @@ pub fn play<L: Ledger, F: Shelf, O: Sink>(
             Ok(count) => count,
             Err(stop) => return Err(stop),
         };
-        match play_ahead(out, buffer, machine, feed, place, labels, scans) {
+        match play_ahead(out, buffer, machine, feed, place, parts, scans) {
             Ok(next) => place = next,
             Err(stop) => return Err(stop),
         }

@@ -5,7 +5,7 @@ ghost use Rattle.std.specs.Str.{bytes_eq};
 ghost use Rattle.osek_io.specs.Reads.{OnlyReads};
 ghost use Rattle.trace_text.specs.EventText.{numbered_lines};
 ghost use Rattle.trace_text.specs.Feeds.{no_bytes};
-ghost use Rattle.trace_text.specs.Labels.{label_texts};
+ghost use Rattle.trace_text.specs.LineParts.{ArePartsOf};
 ghost use Rattle.osek_standard.specs.Dispatch.{stepped};
 ghost use Rattle.image_model.specs.ImageTrace.{image_trace, has_trap};
 ghost use Rattle.command_runs.specs.Outside.{outside};
@@ -25,7 +25,7 @@ use osek_values::{Memory, ModeNo, Name, Notes, Steps};
 use std::alloc::Global;
 use std::marker::Brand;
 use std::sync::ledger::{Blank, Ledger};
-use trace_text::{Feed, Labels};
+use trace_text::{Feed, LineParts};
 
 /// The place of a name.
 fn place_of(names: &[Name], name: &[u8]) -> Option<usize>
@@ -61,13 +61,13 @@ fn print_trace<L: Ledger, F: Shelf, O: Sink>(
     machine: &mut Machine,
     notes: &Notes,
     feed: &mut Feed,
-    labels: &Labels,
+    parts: &mut LineParts,
 ) -> Result<(), Stop>
     requires name { blank.name ≡ L.name }
     requires parts { blank.parts ≡ L.parts }
     requires some { 0 < L.parts }
     requires running { machine.old.trapped ≡ false }
-    requires labelled { labels.now ≡ label_texts machine.old.image.app }
+    requires of_app { ArePartsOf machine.old.image.app parts.old }
     requires empty { feed.old ≡ no_bytes }
     requires text { OfFile (F.contents shelf.old) events.name.now (λ t. length t ≤ MAX_EVENT_TEXT) }
     ensures never_falls { O.faults out.old ≤ O.faults out.new }
@@ -75,7 +75,7 @@ fn print_trace<L: Ledger, F: Shelf, O: Sink>(
     ensures same { OnlyReads F.Shelf shelf.old shelf.new }
 {
     let mut scans = Steps::<L>::of(blank);
-    match print_line(out, buffer, machine, 0, notes, labels) {
+    match print_line(out, buffer, machine, 0, notes, parts) {
         Ok(()) => play(
             shelf,
             events.name,
@@ -83,7 +83,7 @@ fn print_trace<L: Ledger, F: Shelf, O: Sink>(
             buffer,
             machine,
             feed,
-            labels,
+            parts,
             &mut scans,
         ),
         Err(stop) => Err(stop),
@@ -104,11 +104,11 @@ fn play_machine<F: Shelf, O: Sink>(
     out: &mut O,
     mut machine: Machine,
     notes: &Notes,
-    labels: &Labels,
+    parts: &mut LineParts,
     room: &mut PlayRoom,
 ) -> Result<(), Stop>
     requires running { machine.trapped ≡ false }
-    requires labelled { labels.now ≡ label_texts machine.image.app }
+    requires parts { ArePartsOf machine.image.app parts.old }
     requires empty { room.old.feed ≡ no_bytes }
     requires nothing_held { room.old.buffer ≡ [] }
     requires text { OfFile (F.contents shelf.old) events.now (λ t. length t ≤ MAX_EVENT_TEXT) }
@@ -124,7 +124,7 @@ fn play_machine<F: Shelf, O: Sink>(
         &mut machine,
         notes,
         &mut room.feed,
-        labels,
+        parts,
     );
     drop(machine);
     match print_held(out, &mut room.buffer) {
@@ -150,10 +150,10 @@ fn play_with<F: Shelf, O: Sink>(
     ensures answer { PlaysWhole (F.contents shelf.old) events.now (F.read_faults shelf.old events.now) (F.read_faults shelf.new events.now) (O.faults out.old) (O.faults out.new) (O.written out.old) (O.written out.new) image mode result }
     ensures same { OnlyReads F.Shelf shelf.old shelf.new }
 {
-    let labels = Labels::of(&image.app);
+    let mut parts = LineParts::of(&image.app);
     match Machine::start(alloc, image, mode) {
         Ok((machine, notes)) => {
-            play_machine(shelf, events, out, machine, &notes, &labels, room)
+            play_machine(shelf, events, out, machine, &notes, &mut parts, room)
         },
         Err(_) => Err(Stop::Memory),
     }

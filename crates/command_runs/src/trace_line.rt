@@ -4,21 +4,23 @@ ghost use Rattle.osek_standard.specs.Dispatch.{stepped};
 ghost use Rattle.osek_standard.specs.TraceText.{line_text};
 ghost use Rattle.osek_values.specs.declared.limits.TheConstants.{LINE_MAX as the_line_max};
 ghost use Rattle.trace_text.specs.Labels.{label_texts};
+ghost use Rattle.trace_text.specs.LineParts.{tasks_text};
 
 use image_run::Machine;
 use osek_io::Piece;
 use osek_values::Notes;
 use osek_values::limits::LINE_MAX;
-use trace_text::{Labels, put_line};
+use trace_text::{LineParts, put_line};
 
-/// Line `number` of the trace of a machine, after the step that left these notes, and the labels that it is put by.
+/// Line `number` of the trace of a machine, after the step that left these notes, and the parts that it is put by.
 #[derive(Clone, Copy)]
 pub struct TraceLine<'a> {
-    pub labels: &'a Labels,
+    pub parts: &'a LineParts,
     pub machine: &'a Machine,
     pub number: u64,
     pub notes: &'a Notes,
-    ghost labelled: { labels.now ≡ label_texts machine.now.image.app },
+    ghost labelled: { parts.now.labels ≡ label_texts machine.now.image.app },
+    ghost shown: { parts.now.tasks ≡ tasks_text machine.now.image.app machine.now.state },
 }
 
 impl<'a> Piece for TraceLine<'a> {
@@ -34,7 +36,7 @@ impl<'a> Piece for TraceLine<'a> {
         put_line(
             into,
             at,
-            self.labels,
+            self.parts,
             self.machine.app(),
             self.number,
             self.machine.state(),

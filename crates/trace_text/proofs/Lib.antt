@@ -8,3 +8,4 @@ pub mod OtherLines
 pub mod Parts
 pub mod TextLaws
 pub mod WordLaws
+pub mod ShownLaws

@@ -4,3 +4,4 @@ pub mod EventText
 pub mod EventWords
 pub mod Feeds
 pub mod Labels
+pub mod LineParts

@@ -7,6 +7,8 @@ mod fault;
 mod feed;
 mod labels;
 pub mod laws;
+mod line_parts;
+mod shown;
 mod trace_line;
 mod trace_notes;
 
@@ -15,5 +17,6 @@ pub use event_words::read_event;
 pub use fault::{EventFault, FaultyLine};
 pub use feed::{FEED_ROOM, Feed, FeedStep};
 pub use labels::Labels;
+pub use line_parts::LineParts;
 pub use trace_line::{put_line, write_line};
 pub use trace_notes::status_name;

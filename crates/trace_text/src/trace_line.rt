@@ -8,8 +8,10 @@ ghost use Rattle.osek_standard.specs.TaskStates.{held};
 ghost use Rattle.osek_standard.specs.TraceText.{who, events_text, resource_text, task_text, line_text};
 ghost use Rattle.osek_standard.specs.Well.{Well, IsStack};
 ghost use Rattle.trace_text.specs.Labels.{label_texts};
+ghost use Rattle.trace_text.specs.LineParts.{tasks_text};
 
 use crate::labels::Labels;
+use crate::line_parts::LineParts;
 use crate::trace_notes::{put_notes, state_mark};
 use osek_standard::{Activity, App, Processor, State, Task, TaskState};
 use osek_values::limits::{LINE_MAX, MAX_RESOURCES, MAX_TASKS};
@@ -23,6 +25,9 @@ use text_pieces::{
 const MAX_TASK_EVENTS: usize = 1 + MAX_HEXADECIMAL;
 /// The most bytes of a task: its label, a mark, a letter, its events, and the labels of what it holds.
 const MAX_TASK: usize = MAX_LABEL + 2 + MAX_TASK_EVENTS + MAX_RESOURCES * MAX_LABEL;
+
+/// The most bytes of all tasks.
+pub(crate) const MAX_ALL_TASKS: usize = MAX_TASKS * MAX_TASK;
 
 // A space, and who has the processor.
 fn put_who(buf: &mut [u8], at: usize, labels: &Labels, app: &App, state: &State) -> usize
@@ -108,7 +113,14 @@ fn put_task(
     put_held(buf, at, labels, app, state.task(task))
 }
 
-fn put_tasks(buf: &mut [u8], from: usize, labels: &Labels, app: &App, state: &State) -> usize
+/// Puts all tasks.
+pub(crate) fn put_tasks(
+    buf: &mut [u8],
+    from: usize,
+    labels: &Labels,
+    app: &App,
+    state: &State,
+) -> usize
     requires well { Well app.now state.now }
     requires labelled { labels.now ≡ label_texts app.now }
     requires room { from + MAX_TASKS * MAX_TASK + LABEL_ROOM ≤ length buf.old }
@@ -127,27 +139,28 @@ fn put_tasks(buf: &mut [u8], from: usize, labels: &Labels, app: &App, state: &St
 pub fn put_line(
     buf: &mut [u8],
     at: usize,
-    labels: &Labels,
+    parts: &LineParts,
     app: &App,
     n: u64,
     state: &State,
     notes: &Notes,
 ) -> usize
     requires well { Well app.now state.now }
-    requires labelled { labels.now ≡ label_texts app.now }
+    requires labelled { parts.now.labels ≡ label_texts app.now }
+    requires shown { parts.now.tasks ≡ tasks_text app.now state.now }
     requires room { at + LINE_MAX ≤ length buf.old }
     ensures line { take result buf.new ≡ take at buf.old ++ line_text app.now n (stepped state.now notes.now) ++ 10 ∷ [] }
     ensures most { result ≤ at + LINE_MAX }
 {
     let at = put_decimal(buf, at, n);
-    let at = put_who(buf, at, labels, app, state);
-    let at = put_tasks(buf, at, labels, app, state);
+    let at = put_who(buf, at, parts.labels(), app, state);
+    let at = put(buf, at, parts.tasks());
     let at = put_notes(buf, at, app, notes);
     put_byte(buf, at, b'\n')
 }
 
 /// Writes line n of the trace, with its LF, at the front of a buffer, and answers its length. What stands behind it
-/// in the buffer has no meaning. It takes no memory. Whoever writes many lines of one application keeps its labels,
+/// in the buffer has no meaning. It takes no memory. Whoever writes many lines of one application keeps its parts,
 /// and puts each by `put_line`.
 pub fn write_line(app: &App, n: u64, state: &State, notes: &Notes, buf: &mut [u8]) -> usize
     requires well { Well app.now state.now }
@@ -155,6 +168,7 @@ pub fn write_line(app: &App, n: u64, state: &State, notes: &Notes, buf: &mut [u8
     ensures line { take result buf.new ≡ line_text app.now n (stepped state.now notes.now) ++ 10 ∷ [] }
     ensures most { result ≤ LINE_MAX }
 {
-    let labels = Labels::of(app);
-    put_line(buf, 0, &labels, app, n, state, notes)
+    let mut parts = LineParts::of(app);
+    parts.show(app, state);
+    put_line(buf, 0, &parts, app, n, state, notes)
 }

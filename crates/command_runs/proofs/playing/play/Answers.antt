@@ -1,8 +1,9 @@
 -- a piece of the text that was read and played, and how it ends
-use Rattle.std.proofs.Common.{◌≡◌, ◌+◌, ◌≤◌, Option, [], length, true, eqb, ◌∙◌, ap, subst, inl, inr, arith, Err}
+use Rattle.std.proofs.Common.{◌≡◌, ◌+◌, ◌≤◌, Option, [], length, true, eqb, sym, ◌∙◌, ap, subst, inl, inr, arith, Err}
 use Rattle.std.proofs.lemmas.List.{length-append}
 use Rattle.std.proofs.lemmas.Bool.{ne_eqb, eq-eqb}
 use Rattle.image_model.specs.declared.image.Image.{Image}
+use Rattle.trace_text.specs.LineParts.{ArePartsOf}
 use Rattle.osek_io.specs.Files.{Files}
 use Rattle.command_runs.specs.Inputs.{ReadsOn}
 use Rattle.command_runs.specs.Playing.{given, PlaysOn, HeldAnswers, plays_fed}
@@ -106,6 +107,9 @@ returns-then-count-eq0-clause-answer g c =
     (more_came files name first now i start c.pieces.taken c.in-Ok-read_on.count c.pieces.feed f c.pieces.place.line c.pieces.place.event c.pieces.machine.state inv.not_finished read come))
     done (c.in-Ok-play_ahead.ensures.ended done))
 
+pub play_ahead-requires-clause-parts : goal.play_ahead-requires-clause-parts
+play_ahead-requires-clause-parts g c = subst (λ (j : Image). ArePartsOf j.app c.pieces.parts) (sym c.pieces.invariant.image) c.pieces.invariant.parts
+
 pub pieces-preserved : goal.pieces-preserved
 pieces-preserved g c =
     let inv = c.pieces.invariant in
@@ -136,6 +140,7 @@ pieces-preserved g c =
     record {
       running = c.in-Ok-play_ahead.ensures.running;
       image = c.in-Ok-play_ahead.ensures.image ∙ inv.image;
+      parts = subst (λ (j : Image). ArePartsOf j.app c.play_ahead.new.parts) inv.image c.in-Ok-play_ahead.ensures.parts;
       later = omega (arith, rose, rises);
       few = c.in-Ok-play_ahead.ensures.few;
       fits = omega (arith, fewer, fits, size, count);

@@ -2,6 +2,7 @@
 use Rattle.std.proofs.Common.{◌≡◌, ◌+◌, ◌-◌, ◌≤◌, false, length}
 use Rattle.osek_io.specs.Counts.{Same}
 use Rattle.osek_io.specs.Reads.{OnlyReads}
+use Rattle.trace_text.specs.LineParts.{ArePartsOf}
 use Rattle.command_runs.specs.Playing.{given}
 use Rattle.command_runs.proofs.FedPlays.{HasCome}
 use Rattle.command_runs.proofs.playing.play.Given as goal
@@ -10,6 +11,7 @@ abbrev pub invariant-pieces : goal.invariant-pieces
 invariant-pieces g l = record {
   running : l.machine.trapped ≡ false;
   image : l.machine.image ≡ l.fn.machine.image;
+  parts : ArePartsOf l.fn.machine.image.app l.parts;
   later : g.O.Sink.faults l.initial.out ≤ g.O.Sink.faults l.out;
   few : l.place.event ≤ l.place.line;
   fits : l.place.line + length l.feed.ahead ≤ l.taken + 1;

@@ -4,6 +4,7 @@ use Rattle.osek_standard.specs.declared.state.State.{State}
 use Rattle.image_model.specs.declared.image.Image.{Image}
 use Rattle.trace_text.specs.declared.feed.FeedStep.TheVariants.{Line}
 use Rattle.trace_text.specs.EventWords.{read_line}
+use Rattle.trace_text.specs.LineParts.{ArePartsOf}
 use Rattle.trace_text.specs.Feeds.{FeedState, peeled, next_answer, after_next}
 use Rattle.trace_text.proofs.FeedLaws.{line_shortens, stays_finished}
 use Rattle.command_runs.specs.Playing.{Played, played_line, given, GoesOn, PlaysOn, HeldAnswers}
@@ -18,12 +19,16 @@ lines-init g c =
     record {
       running = c.requires.running;
       image = refl;
+      parts = c.requires.parts;
       later = omega arith;
       few = c.requires.few;
       fits = fits;
       finished = refl;
       on = starts_on (given (g.O.Sink.written c.args.out.now) c.args.buffer.now) c.args.machine.now.image feed start.line start.event c.args.machine.now.state;
     }
+
+pub play_line-requires-clause-parts : goal.play_line-requires-clause-parts
+play_line-requires-clause-parts g c = subst (λ (j : Image). ArePartsOf j.app c.lines.parts) (sym c.lines.invariant.image) c.lines.invariant.parts
 
 pub lines-smaller : goal.lines-smaller
 lines-smaller g c =
@@ -54,6 +59,7 @@ lines-preserved g c =
     record {
       running = c.in-Ok.ensures.running;
       image = c.in-Ok.ensures.image ∙ inv.image;
+      parts = subst (λ (j : Image). ArePartsOf j.app c.play_line.new.parts) inv.image c.in-Ok.ensures.parts;
       later = omega (arith, later, rises);
       few = omega (arith, one_more, few);
       fits = omega (arith, shorter, fits);

@@ -1,5 +1,6 @@
 -- how far the play has come
 use Rattle.std.proofs.Common.{◌≡◌, ◌+◌, ◌≤◌, false, length}
+use Rattle.trace_text.specs.LineParts.{ArePartsOf}
 use Rattle.command_runs.specs.Playing.{given, PlaysOn}
 use Rattle.command_runs.proofs.playing.play_ahead.Given as goal
 
@@ -7,6 +8,7 @@ abbrev pub invariant-lines : goal.invariant-lines
 invariant-lines g l = record {
   running : l.machine.trapped ≡ false;
   image : l.machine.image ≡ l.fn.machine.image;
+  parts : ArePartsOf l.fn.machine.image.app l.parts;
   later : g.O.Sink.faults l.initial.out ≤ g.O.Sink.faults l.out;
   few : l.place.event ≤ l.place.line;
   fits : l.place.line + length l.feed.ahead ≤ l.fn.start.line + length l.fn.feed.ahead;

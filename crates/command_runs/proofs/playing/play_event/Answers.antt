@@ -5,6 +5,7 @@ use Rattle.osek_standard.specs.declared.state.State.{State}
 use Rattle.osek_standard.specs.Dispatch.{Stepped}
 use Rattle.image_model.specs.declared.image.Image.{Image}
 use Rattle.image_model.specs.ImageTrace.{trap_line}
+use Rattle.trace_text.specs.LineParts.{ArePartsOf}
 use Rattle.command_runs.specs.Playing.{Given, given, Puts, AnswersEvent}
 use Rattle.command_runs.specs.declared.stop.Stop.TheVariants as stop
 use Rattle.command_runs.proofs.EventSteps.{turn_is, stepped_on, same_image, trapped_on, event_printed, event_unprinted, trap_unprinted}
@@ -59,3 +60,11 @@ returns-in-Ok-print_trap-clause-image g c =
 pub returns-in-Err-print_trap-clause-image : goal.returns-in-Err-print_trap-clause-image
 returns-in-Err-print_trap-clause-image g c =
     same_image c.args.machine.now c.step.new.self _ None (turn_is c.args.machine.now c.args.event _ c.requires.running c.in-Err.ensures.step)
+
+pub print_line-requires : goal.print_line-requires
+print_line-requires g c =
+    subst (λ (j : Image). ArePartsOf j.app c.args.parts.now) (sym (same_image c.args.machine.now c.step.new.self _ (Some c.in-Ok.notes) (turn_is c.args.machine.now c.args.event _ c.requires.running c.in-Ok.ensures.step))) c.requires.parts
+
+pub returns-in-Ok-print_line-clause-parts : goal.returns-in-Ok-print_line-clause-parts
+returns-in-Ok-print_line-clause-parts g c =
+    subst (λ (j : Image). ArePartsOf j.app c.print_line.new.parts) (same_image c.args.machine.now c.step.new.self _ (Some c.in-Ok.notes) (turn_is c.args.machine.now c.args.event _ c.requires.running c.in-Ok.ensures.step)) c.in-Ok-print_line.ensures.parts

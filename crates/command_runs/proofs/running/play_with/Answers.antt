@@ -1,8 +1,9 @@
 -- what is played of a machine that has just started is the whole
-use Rattle.std.proofs.Common.{◌≡◌, List, ℕ, ap, inr, subst}
+use Rattle.std.proofs.Common.{◌≡◌, List, ℕ, sym, ap, inr, subst}
 use Rattle.osek_standard.specs.Dispatch.{stepped}
 use Rattle.image_run.specs.Machines.{AtWork}
 use Rattle.trace_text.specs.EventText.{numbered_lines}
+use Rattle.trace_text.specs.LineParts.{ArePartsOf}
 use Rattle.command_runs.specs.Playing.{Played, printing, plays, line_of, ReadAnswers, whole_play}
 use Rattle.command_runs.proofs.Runs.{whole_started}
 use Rattle.command_runs.proofs.running.play_with.Goals as goal
@@ -14,3 +15,6 @@ returns-in-Ok-clause-answer g c =
     (λ j t. whole_started c.args.image m.image c.args.mode m.state c.in-Ok.notes (ap (λ (w : AtWork). w.image) c.in-Ok.ensures.machine) c.in-Ok.ensures.start t j) in
     inr (subst (λ (p : List ℕ → Played). ReadAnswers (g.F.Shelf.contents c.args.shelf.now) c.args.events.now (g.F.Shelf.read_faults c.args.shelf.now c.args.events.now) (g.F.Shelf.read_faults c.play_machine.new.shelf c.args.events.now)
     (g.O.Sink.faults c.args.out.now) (g.O.Sink.faults c.play_machine.new.out) (g.O.Sink.written c.args.out.now) (g.O.Sink.written c.play_machine.new.out) p c.play_machine.result) same c.play_machine.ensures.answer)
+
+pub play_machine-requires-clause-parts : goal.play_machine-requires-clause-parts
+play_machine-requires-clause-parts g c = subst (λ (w : AtWork). ArePartsOf w.image.app c.of-parts.result) (sym c.in-Ok.ensures.machine) c.of-parts.ensures

@@ -1,0 +1,31 @@
+-- What the lines of a trace are put by: labels, and the text of the tasks as they were shown last.
+use Rattle.std.specs.Prelude.{◌≡◌, ℕ, List, map}
+use Rattle.std.specs.List.{flat_map, enumerate_from}
+use Rattle.osek_standard.specs.declared.app.App.{App}
+use Rattle.osek_standard.specs.declared.state.State.{State}
+use Rattle.osek_standard.specs.TaskStates.{held}
+use Rattle.osek_standard.specs.States.{task_state, letter_of}
+use Rattle.osek_standard.specs.TraceText.{task_text}
+use Rattle.trace_text.specs.declared.shown.Shown.{Shown}
+use Rattle.trace_text.specs.Labels.{LabelTexts, label_texts}
+
+-- what a line shows of a task
+abbrev pub shown_of : State → ℕ → Shown
+shown_of s t = record { letter = letter_of s.processor t (task_state s t); events = (task_state s t).events; stack = held (task_state s t) }
+
+abbrev pub all_shown : App → State → List Shown
+all_shown app s = map (λ d. shown_of s d.0) (enumerate_from 0 app.tasks)
+
+-- the tasks in a line
+abbrev pub tasks_text : App → State → List ℕ
+tasks_text app s = flat_map (task_text app s) (enumerate_from 0 app.tasks)
+
+pub record LineTexts : Type 0 where
+  pub labels : LabelTexts
+  pub shown : List Shown
+  pub tasks : List ℕ
+
+-- The labels are those of the application, and the text is that of each state whose tasks are shown so.
+pub record ArePartsOf (app : App) (p : LineTexts) : Type 0 where
+  pub labelled : p.labels ≡ label_texts app
+  pub shows : (s : State) → p.shown ≡ all_shown app s → p.tasks ≡ tasks_text app s

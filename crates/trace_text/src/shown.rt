@@ -1,0 +1,106 @@
+//! What a line of the trace shows of the tasks.
+ghost use Rattle.std.specs.Prelude.{◌≡◌, ◌<◌, ◌≤◌, length, true};
+ghost use Rattle.osek_standard.specs.TaskStates.{held};
+ghost use Rattle.osek_standard.specs.Well.{Well};
+ghost use Rattle.trace_text.specs.LineParts.{shown_of as what_is_shown, all_shown as what_all_show};
+
+use arrayvec::ArrayVec;
+use osek_standard::{Activity, App, State, TaskState};
+use osek_values::limits::MAX_TASKS;
+use osek_values::{Held, Letter, Mask, ResNo, TaskNo};
+
+/// What a line shows of a task.
+#[derive(Drop)]
+pub(crate) struct Shown {
+    pub letter: Letter,
+    pub events: Mask,
+    pub stack: Held,
+}
+
+impl Default for Shown {
+    fn default() -> Shown {
+        Shown {
+            letter: Letter::S,
+            events: Mask(0),
+            stack: Held::new(),
+        }
+    }
+}
+
+fn held_of(state: &TaskState) -> Held
+    ensures { result ≡ held state.now }
+{
+    match &state.activity {
+        Activity::Suspended | Activity::Waiting(_) => Held::new(),
+        Activity::Live(standing) => standing.held.copy(),
+    }
+}
+
+fn shown_of(state: &State, task: TaskNo) -> Shown
+    requires { task.0 < length state.now.tasks }
+    ensures { result ≡ what_is_shown state.now task.0 }
+{
+    let task_state = state.task(task);
+    Shown {
+        letter: state.letter(task),
+        events: task_state.events,
+        stack: held_of(task_state),
+    }
+}
+
+/// What a line shows of all tasks.
+pub(crate) fn all_shown(app: &App, state: &State) -> ArrayVec<Shown, MAX_TASKS>
+    requires well { Well app.now state.now }
+    ensures { result.items ≡ what_all_show app.now state.now }
+{
+    let mut shown = ArrayVec::new();
+    for task in 0..app.tasks.len() {
+        shown.push(shown_of(state, TaskNo(task as u8)));
+    }
+    shown
+}
+
+fn are_same(stack: &[ResNo], other: &[ResNo]) -> bool
+    ensures { result ≡ true → stack.now ≡ other.now }
+{
+    stack == other
+}
+
+fn holds_as(stack: &Held, state: &TaskState) -> bool
+    ensures { result ≡ true → stack.now ≡ held state.now }
+{
+    match &state.activity {
+        Activity::Suspended | Activity::Waiting(_) => stack.is_empty(),
+        Activity::Live(standing) => are_same(stack.as_slice(), standing.held.as_slice()),
+    }
+}
+
+fn is_as_shown(shown: &Shown, state: &State, task: TaskNo) -> bool
+    requires { task.0 < length state.now.tasks }
+    ensures { result ≡ true → shown.now ≡ what_is_shown state.now task.0 }
+{
+    let task_state = state.task(task);
+    if shown.letter != state.letter(task) {
+        return false;
+    }
+    if shown.events != task_state.events {
+        return false;
+    }
+    holds_as(&shown.stack, task_state)
+}
+
+/// Whether a line shows the tasks of a state so. It may say no where it does.
+pub(crate) fn are_as_shown(shown: &[Shown], app: &App, state: &State) -> bool
+    requires well { Well app.now state.now }
+    ensures { result ≡ true → shown.now ≡ what_all_show app.now state.now }
+{
+    if shown.len() != app.tasks.len() {
+        return false;
+    }
+    for task in 0..app.tasks.len() {
+        if !is_as_shown(&shown[task], state, TaskNo(task as u8)) {
+            return false;
+        }
+    }
+    true
+}
