@@ -1,5 +1,5 @@
 //! What the lines of a trace are put by.
-ghost use Rattle.std.specs.Prelude.{◌≡◌, ◌≤◌, length};
+ghost use Rattle.std.specs.Prelude.{◌≡◌, ◌≤◌, ◌+◌, ◌++◌, length, take};
 ghost use Rattle.osek_standard.specs.Well.{Well};
 ghost use Rattle.trace_text.specs.LineParts.{ArePartsOf, tasks_text};
 
@@ -10,9 +10,14 @@ use arrayvec::ArrayVec;
 use osek_standard::{App, State};
 use osek_values::limits::MAX_TASKS;
 use std::marker::Model;
-use text_pieces::LABEL_ROOM;
+use text_pieces::{LABEL_ROOM, put, put_front};
 
 const TASKS_ROOM: usize = MAX_ALL_TASKS + LABEL_ROOM;
+
+// The sizes of copies.
+const SHORT: usize = 64;
+
+const MIDDLE: usize = 128;
 
 /// What the lines of one application's trace are put by: its labels, and the text of its tasks as they were shown last,
 /// since most events change nothing of it. It holds no memory.
@@ -71,11 +76,19 @@ impl LineParts {
         &self.labels
     }
 
-    // The text of the tasks.
-    pub(crate) fn tasks(&self) -> &[u8]
-        ensures text { result.now ≡ self.now.tasks }
-        ensures most { length result.now ≤ MAX_ALL_TASKS }
+    /// Puts the text of the tasks. A copy of constant size costs less than one of any size, and most texts are short.
+    pub(crate) fn put_shown(&self, buf: &mut [u8], at: usize) -> usize
+        requires room { at + TASKS_ROOM ≤ length buf.old }
+        ensures text { take result buf.new ≡ take at buf.old ++ self.now.tasks }
+        ensures most { result ≤ at + MAX_ALL_TASKS }
     {
-        &self.tasks[..self.size]
+        let size = self.size;
+        if size <= SHORT {
+            return put_front(buf, at, &self.tasks[..SHORT], size);
+        }
+        if size <= MIDDLE {
+            return put_front(buf, at, &self.tasks[..MIDDLE], size);
+        }
+        put(buf, at, &self.tasks[..size])
     }
 }

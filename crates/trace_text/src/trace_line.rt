@@ -154,7 +154,7 @@ pub fn put_line(
 {
     let at = put_decimal(buf, at, n);
     let at = put_who(buf, at, parts.labels(), app, state);
-    let at = put(buf, at, parts.tasks());
+    let at = parts.put_shown(buf, at);
     let at = put_notes(buf, at, app, notes);
     put_byte(buf, at, b'\n')
 }
