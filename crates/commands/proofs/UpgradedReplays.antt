@@ -1,19 +1,18 @@
 -- An image that is upgraded is replayed as it was before.
-use Rattle.std.proofs.Common.{◌≡◌, ℕ, List, Bool, refl, sym, subst, Some, None}
-use Rattle.std.specs.FinMap.{get}
+use Rattle.std.proofs.Common.{◌≡◌, ℕ, List, Bool, refl, sym, subst, Some}
 use Rattle.std.specs.declared.result.Result.{Result}
 use Rattle.osek_values.specs.declared.event.Event.{Event}
 use Rattle.osek_values.specs.declared.numbers.ModeNo.{ModeNo}
 use Rattle.osek_standard.specs.declared.app.App.{App}
 use Rattle.image_model.specs.declared.image.Image.{Image}
-use Rattle.image_model.specs.ImageTrace.{Run, has_trap, image_trace}
+use Rattle.image_model.specs.ImageTrace.{has_trap, image_trace}
 use Rattle.image_model.specs.Upgrades.{IsUpgraded}
 use Rattle.image_model.proofs.UpgradedRuns.{runs_as_before}
 use Rattle.image_codec.specs.Fits.{FitsParts, FitsFormat}
 use Rattle.image_codec.specs.Spelling.{spelling}
 use Rattle.osek_io.specs.Files.{Files}
 use Rattle.command_runs.specs.Replaying.{SpellImage}
-use Rattle.command_runs.specs.Running.{Played, whole_run}
+use Rattle.command_runs.specs.Running.{whole_run}
 use Rattle.command_runs.specs.declared.stop.Stop.{Stop}
 use Rattle.commands.specs.Due.{RunDue, ImageDue, no_image, bad_image, is_read, ImageRuns}
 use Rattle.commands.specs.Laws.{WhatIsUpgradedReplays, WhatIsUpgradedPrintsTheSame}
