@@ -15,7 +15,7 @@ const MAX_SOURCES: usize = MAX_COUNTERS + MAX_ISRS;
 
 /// The texts of an application that stand in many lines of its trace. It holds no memory.
 #[derive(Drop)]
-pub struct Labels {
+pub(crate) struct Labels {
     tasks: ArrayVec<Label, MAX_TASKS>,
     sources: ArrayVec<Label, MAX_SOURCES>,
     resources: ArrayVec<Label, MAX_RESOURCES>,

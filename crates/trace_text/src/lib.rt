@@ -16,7 +16,6 @@ pub use event_lines::{EventLine, EventLines};
 pub use event_words::read_event;
 pub use fault::{EventFault, FaultyLine};
 pub use feed::{FEED_ROOM, Feed, FeedStep};
-pub use labels::Labels;
 pub use line_parts::LineParts;
 pub use trace_line::{put_line, write_line};
 pub use trace_notes::status_name;
