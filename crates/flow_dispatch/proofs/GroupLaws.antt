@@ -1,27 +1,26 @@
 -- Groups of cases: exact cases that leave nothing out, one group after another.
-use Rattle.std.proofs.Common.{◌≡◌, ℕ, ◌+◌, ◌<◌, ◌≤◌, Bool, true, false, cond, List, [], ◌∷◌, ◌++◌, length, map, take, flat_map, get_or, refl, sym, ap, subst, ◌∙◌, ◌⊎◌, inl, inr, arith, Some, None, IsTrue}
+use Rattle.std.proofs.Common.{◌≡◌, ℕ, ◌+◌, ◌<◌, Bool, true, false, cond, List, [], ◌∷◌, ◌++◌, length, map, flat_map, refl, sym, ap, subst, ◌∙◌, ◌⊎◌, inl, inr, arith, Some, None, IsTrue}
 use Rattle.std.specs.Prelude.{Contains, option_to_list, ◌==◌}
 use Rattle.std.specs.declared.option.Option.{Option}
 use Rattle.std.proofs.lemmas.Bool.{cases_Bool, eq-eqb, eqb-true}
 use Rattle.std.proofs.lemmas.List.{append-nil}
 use Rattle.std.proofs.lemmas.Grind.{flat_map-append}
-use Rattle.std.proofs.lemmas.Map.Views.{Contains-from_any, list_any-from_Contains}
+use Rattle.std.proofs.lemmas.Map.Views.{list_any-from_Contains}
 use Rattle.osek_values.specs.declared.numbers.{TaskNo.{TaskNo}}
 use Rattle.osek_standard.specs.declared.app.App.{App}
 use Rattle.osek_standard.specs.declared.point.Point.TheVariants as point
 use Rattle.osek_standard.specs.States.{is_that_task}
 use Rattle.osek_standard.proofs.Members.{Among, among_left, among_right, among_cases, among_contained, contained_among, among_map, map_among, among_flat_map, flat_map_among}
 use Rattle.abstract_state.specs.declared.value.{ComponentNo.{ComponentNo}, Val.{Val}, Val.TheVariants.{Suspended, Live, Waiting}, PartValue.{PartValue}}
-use Rattle.abstract_state.specs.declared.table.{Entry.{Entry}, ValueSet.{ValueSet}}
+use Rattle.abstract_state.specs.declared.table.{Entry.{Entry}}
 use Rattle.abstract_state.specs.Concrete.{val_of}
 use Rattle.abstract_state.specs.Tables.{set_at, is_member}
-use Rattle.abstract_state.proofs.ComponentLaws.{task_counted}
-use Rattle.abstract_state.proofs.OrderLaws.{part_right, part_laws}
-use Rattle.flow_model.specs.declared.{case.Asked.{Asked}, case.Decision.{Decision}, case.EffectCase.{EffectCase}, case.OutcomeCase.{OutcomeCase}, test.Condition.{Condition}, change.Change.{Change}}
+use Rattle.abstract_state.proofs.OrderLaws.{part_laws}
+use Rattle.flow_model.specs.declared.{case.Asked.{Asked}, case.Decision.{Decision}, case.EffectCase.{EffectCase}, case.OutcomeCase.{OutcomeCase}, test.Condition.{Condition}}
 use Rattle.flow_model.specs.declared.case.Asked.TheVariants as asked
 use Rattle.flow_model.specs.declared.case.Decision.TheVariants as decision
 use Rattle.flow_model.specs.Values.{is_live_value, value_priority}
-use Rattle.flow_model.specs.Tests.{value_after, values_after}
+use Rattle.flow_model.specs.Tests.{values_after}
 use Rattle.flow_model.specs.Scheduling.{task_priority, Decides, HasSomeOutcome}
 use Rattle.flow_dispatch.specs.declared.priority.Candidate.{Candidate}
 use Rattle.flow_dispatch.specs.declared.group.{End.{End}, ValueCases.{ValueCases}, OutcomeGroup.{OutcomeGroup}}
@@ -31,7 +30,7 @@ use Rattle.flow_dispatch.specs.Candidates.{candidate_of, candidate_after}
 use Rattle.flow_dispatch.specs.Claims.{AreVals, AreUnder, AreTests}
 use Rattle.flow_dispatch.specs.Groups.{case_at, cases_of, all_cases, AreEndsIn, AreGroupsIn, ends_of, one_case, group_list, HasPriority, AreCasesFor, IsGroup, AddsGroups, AddsWinnerGroups}
 use Rattle.flow_dispatch.specs.Needs.{AreNeeds, AreMet}
-use Rattle.flow_dispatch.specs.Outcomes.{IsDispatching, running_of, IsAnything, IsValueOf, Takes, Scheduled, RequiresLive, IsExactCase, IsCaseFor, IsCase, AddsCases, AddsWinners}
+use Rattle.flow_dispatch.specs.Outcomes.{IsDispatching, running_of, IsAnything, IsValueOf, Takes, Scheduled, RequiresLive, IsExactCase, IsCaseFor, IsCase, AddsCases}
 use Rattle.flow_dispatch.proofs.OutcomeLaws.{still, found_adds, winners_none, winners_more, member_first, scheduled_best, winner_case, winner_never}
 
 -- ---- lists of cases

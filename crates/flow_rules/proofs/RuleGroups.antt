@@ -1,5 +1,5 @@
 -- The rules of groups, one group after another.
-use Rattle.std.proofs.Common.{◌≡◌, ℕ, ◌+◌, ◌<◌, List, [], ◌∷◌, ◌++◌, length, get_or, take, map, flat_map, refl, sym, ap, ap₂, subst, ◌∙◌, inl, inr, arith, append_assoc, Some, IsTrue}
+use Rattle.std.proofs.Common.{◌≡◌, ℕ, ◌+◌, ◌<◌, List, [], ◌∷◌, ◌++◌, length, get_or, take, map, refl, sym, ap, ap₂, subst, ◌∙◌, inl, inr, append_assoc, Some, IsTrue}
 use Rattle.std.specs.Prelude.{Contains}
 use Rattle.std.specs.List.{range_with_len}
 use Rattle.std.specs.declared.option.Option.{Option}
@@ -16,7 +16,7 @@ use Rattle.osek_standard.specs.Well.{Well}
 use Rattle.osek_standard.proofs.EffectKeeps.{effect_keeps}
 use Rattle.osek_standard.proofs.Members.{Among, among_left, among_right, among_cases, among_contained, contained_among, map_among}
 use Rattle.abstract_state.specs.declared.table.Entry.{Entry}
-use Rattle.abstract_state.specs.Components.{component_at, component_count, abstract_of}
+use Rattle.abstract_state.specs.Components.{component_at, abstract_of}
 use Rattle.abstract_state.specs.Domains.{IsWithin, domain_of}
 use Rattle.abstract_state.specs.Tables.{set_at, is_member}
 use Rattle.abstract_state.proofs.AllowedLaws.{well_part}

@@ -1,13 +1,13 @@
 -- A value alone in the place of a set, and what the rules of values make of an entry out of what their shared rule makes.
-use Rattle.std.proofs.Common.{◌≡◌, ◌≢◌, ℕ, ◌<◌, ◌≤◌, ◌^◌, Bool, true, false, ◌||◌, List, [], ◌∷◌, ◌++◌, length, get_or, set, map, refl, sym, ap, subst, ◌∙◌, inl, inr, arith, IsTrue, get_or-set_same, get_or-set_other}
-use Rattle.std.specs.Prelude.{◌==◌, Contains}
+use Rattle.std.proofs.Common.{◌≡◌, ◌≢◌, ℕ, ◌<◌, ◌^◌, Bool, true, false, ◌||◌, List, [], ◌∷◌, length, get_or, set, refl, sym, ap, subst, ◌∙◌, inl, inr, arith, IsTrue, get_or-set_same, get_or-set_other}
+use Rattle.std.specs.Prelude.{◌==◌}
 use Rattle.std.specs.List.{list_any}
 use Rattle.std.proofs.Math.ListN.{get_or-eq_default}
 use Rattle.std.proofs.lemmas.Bool.{cases_lt, cases_eq, eqb-true}
 use Rattle.std.proofs.lemmas.List.{length-set}
 use Rattle.std.proofs.lemmas.List.Elements.{All-from_get_or, Contains-push, Contains-push_cases, Contains-append_left}
 use Rattle.osek_standard.specs.Kernel.{has_bit}
-use Rattle.abstract_state.specs.declared.value.{Domain.{Domain}, PartValue.{PartValue}}
+use Rattle.abstract_state.specs.declared.value.{PartValue.{PartValue}}
 use Rattle.abstract_state.specs.declared.table.{ValueSet.{ValueSet}, Entry.{Entry}}
 use Rattle.abstract_state.specs.ValueOrder.{same_part, IsAscending}
 use Rattle.abstract_state.specs.Domains.{domains}

@@ -1,14 +1,12 @@
-use Rattle.std.proofs.Common.{◌≡◌, ◌++◌, List, [], ◌∷◌, map, ap, sym, subst, ◌∙◌, ◌⊎◌, inl, inr, arith}
-use Rattle.std.specs.Prelude.{option_to_list, Contains}
-use Rattle.abstract_state.specs.declared.table.Entry.{Entry}
-use Rattle.flow_model.specs.declared.case.OutcomeCase.{OutcomeCase}
+use Rattle.std.proofs.Common.{◌≡◌, ◌++◌, List, [], map, ap, sym, subst, ◌∙◌, ◌⊎◌, inl, inr}
+use Rattle.std.specs.Prelude.{option_to_list}
 use Rattle.flow_model.specs.declared.case.Asked.{Asked}
 use Rattle.flow_model.specs.declared.case.Asked.TheVariants as asked
 use Rattle.flow_model.specs.declared.case.Decision.TheVariants as decision
 use Rattle.flow_model.specs.Scheduling.{CoverOutcomes, AreExactOutcomes}
 use Rattle.flow_dispatch.specs.declared.group.OutcomeGroup.{OutcomeGroup}
-use Rattle.flow_dispatch.specs.Groups.{all_cases, one_case, AreGroupsIn, AddsGroups, AddsWinnerGroups}
-use Rattle.flow_dispatch.specs.Outcomes.{IsVacant, idle_decision, IsAnything, AddsCases}
+use Rattle.flow_dispatch.specs.Groups.{all_cases, one_case, AreGroupsIn, AddsGroups}
+use Rattle.flow_dispatch.specs.Outcomes.{IsVacant, idle_decision, IsAnything}
 use Rattle.flow_dispatch.proofs.OutcomeLaws.{unasked_covers, unasked_exact, maybe_covers, vacant_covers, both_exact}
 use Rattle.flow_dispatch.proofs.GroupLaws.{found_more, only_group, no_groups_in, one_group_in}
 use Rattle.flow_dispatch.proofs.outcomes.outcome_groups.Goals as goal

@@ -1,10 +1,9 @@
-use Rattle.std.proofs.Common.{◌++◌, ◌+◌, List, length, map, sym, ap, subst, ◌∙◌}
-use Rattle.std.specs.Prelude.{option_to_list}
+use Rattle.std.proofs.Common.{◌+◌, List, length, sym, ap, subst, ◌∙◌}
 use Rattle.abstract_state.specs.declared.{value.PartValue.{PartValue}, table.ValueSet.{ValueSet}}
 use Rattle.abstract_state.specs.Tables.{empty_set}
 use Rattle.flow_model.specs.declared.case.Decision.TheVariants as decision
 use Rattle.flow_dispatch.specs.declared.group.OutcomeGroup.{OutcomeGroup}
-use Rattle.flow_dispatch.specs.Groups.{one_case, AddsGroups}
+use Rattle.flow_dispatch.specs.Groups.{AddsGroups}
 use Rattle.flow_dispatch.specs.Outcomes.{IsValueOf, IsAmongFirst, IsAnything}
 use Rattle.flow_dispatch.proofs.OutcomeLaws.{set_known, set_is, first_more, none_first, among_all, member_first}
 use Rattle.flow_dispatch.proofs.GroupLaws.{nothing_more, then_more, by_property, found_more}

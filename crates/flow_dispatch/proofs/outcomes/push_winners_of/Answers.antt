@@ -8,7 +8,7 @@ use Rattle.flow_model.specs.declared.change.Change.{Change}
 use Rattle.flow_model.specs.declared.case.Decision.TheVariants as decision
 use Rattle.flow_dispatch.specs.declared.{priority.Candidate.{Candidate}, group.OutcomeGroup.{OutcomeGroup}}
 use Rattle.flow_dispatch.specs.Candidates.{candidate_after}
-use Rattle.flow_dispatch.specs.Groups.{group_list, HasPriority, AddsGroups}
+use Rattle.flow_dispatch.specs.Groups.{HasPriority, AddsGroups}
 use Rattle.flow_dispatch.proofs.OutcomeLaws.{set_known, set_is}
 use Rattle.flow_dispatch.proofs.GroupLaws.{no_priority, more_priorities, all_priorities}
 use Rattle.flow_dispatch.proofs.outcomes.push_winners_of.Goals as goal

@@ -1,10 +1,10 @@
-use Rattle.std.proofs.Common.{◌≡◌, ◌<◌, List, length, set, sym, ap, subst, ◌∙◌, arith}
+use Rattle.std.proofs.Common.{◌≡◌, List, length, set, sym, ap, subst, ◌∙◌, arith}
 use Rattle.std.proofs.lemmas.List.{length-map}
 use Rattle.abstract_state.specs.declared.value.Domain.{Domain}
 use Rattle.numbered_sets.specs.declared.numbered_entry.NumberedEntry.{NumberedEntry}
 use Rattle.numbered_sets.specs.Numbers.{Numbers, numbers, with_number}
 use Rattle.numbered_sets.specs.NumberedEntries.{no_set, numbers_at}
-use Rattle.numbered_sets.specs.Pools.{Values, value_seen, seen_at, IsLonger}
+use Rattle.numbered_sets.specs.Pools.{Values, IsLonger}
 use Rattle.numbered_sets.specs.Views.{AreNumbersOf}
 use Rattle.numbered_sets.proofs.ViewLaws.{longer_with}
 use Rattle.numbered_rules.proofs.ReplacedSets.{replaced}
