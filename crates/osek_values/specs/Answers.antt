@@ -15,8 +15,3 @@ IsRight IsAnswer (Err e) = Refuses e (λ f. IsAnswer (Err f))
 -- the result is the expected one, unless memory ran out
 abbrev pub Answers : {X F : Type 0} → Result X (Refused F) → Result X F → Type 0
 Answers result expected = IsRight (λ r. expected ≡ r) result
-
--- a result by what is seen of its value
-abbrev pub viewed : {X Y E : Type 0} → (X → Y) → Result X E → Result Y E
-viewed view (Ok x) = Ok (view x)
-viewed view (Err e) = Err e
