@@ -1,14 +1,17 @@
 -- What is read of the instructions of the states of a row is told by its rules that take a value of each set.
-use Rattle.std.proofs.Common.{◌≡◌, ◌⊎◌, ℕ, ◌+◌, ◌<◌, Bool, List, [], ◌∷◌, ◌++◌, length, get_or, take, Some, None, refl, sym, ap, subst, ◌∙◌, inl, inr, arith}
+use Rattle.std.proofs.Common.{◌≡◌, ◌⊎◌, ℕ, ◌+◌, ◌<◌, Bool, List, [], ◌∷◌, ◌++◌, length, get_or, map, take, Some, None, refl, sym, ap, subst, ◌∙◌, inl, inr, arith}
 use Rattle.std.specs.declared.option.Option.{Option}
-use Rattle.std.proofs.lemmas.List.{take_more, length-map}
-use Rattle.std.proofs.lemmas.List.Elements.{Contains-push, Contains-push_cases, Contains-append_left}
+use Rattle.std.specs.Prelude.{Contains}
+use Rattle.std.proofs.lemmas.List.{append-nil, take_more, length-map}
+use Rattle.std.proofs.lemmas.List.Elements.{Contains-append_left, Contains-append_right, Contains-append_cases}
+use Rattle.std.proofs.lemmas.Grind.{flat_map-append}
 use Rattle.osek_values.specs.declared.status.Status.{Status}
 use Rattle.osek_standard.specs.declared.app.App.{App}
 use Rattle.osek_standard.specs.declared.state.State.{State}
 use Rattle.osek_standard.specs.Effects.{effect}
 use Rattle.osek_standard.specs.Dispatch.{outcome}
 use Rattle.osek_standard.specs.Outcomes.{Did, shows}
+use Rattle.osek_standard.proofs.Members.{among_contained, among_map, contained_among, map_among}
 use Rattle.abstract_state.specs.declared.table.{ValueSet.{ValueSet}, Entry.{Entry}, TableRow.{TableRow}}
 use Rattle.abstract_state.specs.Components.{components, component_count, abstract_of}
 use Rattle.abstract_state.specs.Domains.{domain_of, domains, domains_of}
@@ -16,7 +19,10 @@ use Rattle.abstract_state.proofs.MarkLaws.{shown_instruction}
 use Rattle.flow_model.specs.declared.{case.Decision.{Decision}, rule.Rule.{Rule}}
 use Rattle.flow_model.specs.Rules.{mark_by, Foresees, Exact, HasNone}
 use Rattle.flow_model.specs.Scheduling.{outcome_of_decision}
+use Rattle.flow_dispatch.specs.declared.group.End.{End}
+use Rattle.flow_rules.specs.declared.group.{ValueRules.{ValueRules}, RuleGroup.{RuleGroup}}
 use Rattle.flow_rules.specs.Passing.{AreTaken}
+use Rattle.flow_rules.specs.RuleGroups.{rule_at, rules_of, all_rules}
 use Rattle.flow_rules.proofs.Leading.{taken_shown}
 use Rattle.call_tailor.specs.declared.found.Findings.{Findings}
 use Rattle.call_tailor.specs.Found.{Seen, Nothing, Alone, IsSeen, AreJoined, outcome_seen, status_seen, AreJoinedFindings, IsTold}
@@ -45,40 +51,42 @@ module _ {X V : Type 0} (meant : V → X) (once : (v w : V) → meant v ≡ mean
   none_of_none : (entry : Entry) → (x : X) → IsOfRules told [] entry x → ⊥
   none_of_none entry x h = absurd (omega (arith, h.among.1))
 
-  -- what some rules tell, and one more
-  module _ (entry : Entry) (done : List Rule) (rule : Rule) where
-    abbrev more_rules : List Rule
-    more_rules = done ++ rule ∷ []
+  -- what some rules tell, and more
+  module _ (entry : Entry) (done more : List Rule) where
+    earlier : (x : X) → IsOfRules told done entry x → IsOfRules told (done ++ more) entry x
+    earlier x h = record { rule = h.rule; among = Contains-append_left done more h.rule h.among; is = h.is }
 
-    earlier : (x : X) → IsOfRules told done entry x → IsOfRules told more_rules entry x
-    earlier x h = record { rule = h.rule; among = Contains-append_left done (rule ∷ []) h.rule h.among; is = h.is }
+    later : (x : X) → IsOfRules told more entry x → IsOfRules told (done ++ more) entry x
+    later x h = record { rule = h.rule; among = Contains-append_right done more h.rule h.among; is = h.is }
 
-    its_own : (x : X) → IsOfRule told rule entry x → IsOfRules told more_rules entry x
-    its_own x h = record { rule = rule; among = Contains-push done rule; is = h }
-
-    either : (x : X) → IsOfRules told more_rules entry x → IsOfRules told done entry x ⊎ IsOfRule told rule entry x
-    either x h = elim (Contains-push_cases done rule h.rule h.among) [
+    either : (x : X) → IsOfRules told (done ++ more) entry x → IsOfRules told done entry x ⊎ IsOfRules told more entry x
+    either x h = elim (Contains-append_cases done more h.rule h.among) [
       | inl old ↦ inl (record { rule = h.rule; among = old; is = h.is })
-      | inr same ↦ inr (subst (λ (r : Rule). IsOfRule told r entry x) (sym same) h.is)
+      | inr new ↦ inr (record { rule = h.rule; among = new; is = h.is })
     ]
 
-    with_this : (before this after : Seen V) → AreJoined before this after → IsSeen meant (IsOfRule told rule entry) this → IsSeen meant (IsOfRules told done entry) before → IsSeen meant (IsOfRules told more_rules entry) after
-    with_this before this after joined new old = joined_seen meant once (IsOfRules told done entry) (IsOfRule told rule entry) (IsOfRules told more_rules entry) earlier its_own either before this after joined old new
+    with_these : (before these after : Seen V) → AreJoined before these after → IsSeen meant (IsOfRules told more entry) these → IsSeen meant (IsOfRules told done entry) before → IsSeen meant (IsOfRules told (done ++ more) entry) after
+    with_these before these after joined new old = joined_seen meant once (IsOfRules told done entry) (IsOfRules told more entry) (IsOfRules told (done ++ more) entry) earlier later either before these after joined old new
 
-    seen_arrival : (before : Seen V) → rule.decision ≡ None → IsSeen meant (IsOfRules told done entry) before → IsSeen meant (IsOfRules told more_rules entry) before
-    seen_arrival before e = with_this before Nothing before (joined_nothing before) (none_of_arrival rule entry e)
+    seen_arrivals : (before : Seen V) → ((rule : Rule) → Contains more rule → rule.decision ≡ None) → IsSeen meant (IsOfRules told done entry) before → IsSeen meant (IsOfRules told (done ++ more) entry) before
+    seen_arrivals before e = with_these before Nothing before (joined_nothing before) (λ x h. none_of_arrival h.rule entry (e h.rule h.among) x h.is)
 
-    seen_none : (before : Seen V) → HasNone rule entry → IsSeen meant (IsOfRules told done entry) before → IsSeen meant (IsOfRules told more_rules entry) before
-    seen_none before none = with_this before Nothing before (joined_nothing before) (none_of_rule rule entry none)
+    seen_none : (before : Seen V) → ((rule : Rule) → Contains more rule → HasNone rule entry) → IsSeen meant (IsOfRules told done entry) before → IsSeen meant (IsOfRules told (done ++ more) entry) before
+    seen_none before none = with_these before Nothing before (joined_nothing before) (λ x h. none_of_rule h.rule entry (none h.rule h.among) x h.is)
 
-    seen_one : (before after : Seen V) (d : Decision) → rule.decision ≡ Some d → AreTaken rule entry → AreJoined before (Alone (tells rule d)) after → IsSeen meant (IsOfRules told done entry) before → IsSeen meant (IsOfRules told more_rules entry) after
-    seen_one before after d decides taken joined =
-        with_this before (Alone (tells rule d)) after joined
-        (record { decision = d; decides = decides; takes = taken; is = refl }, only_its_own rule entry d decides)
+    -- rules that all tell the same
+    module _ (v : V) (d : Decision) (decides : (rule : Rule) → Contains more rule → rule.decision ≡ Some d) (same : (rule : Rule) → Contains more rule → tells rule d ≡ v) where
+      only_this : (x : X) → IsOfRules told more entry x → x ≡ meant v
+      only_this x h = only_its_own h.rule entry d (decides h.rule h.among) x h.is ∙ ap meant (same h.rule h.among)
 
-    seen_old : (before : Seen V) (d : Decision) → rule.decision ≡ Some d → AreJoined before (Alone (tells rule d)) before → IsSeen meant (IsOfRules told done entry) before → IsSeen meant (IsOfRules told more_rules entry) before
-    seen_old before d decides joined h =
-        seen_already meant once (IsOfRules told done entry) (IsOfRule told rule entry) (IsOfRules told more_rules entry) earlier its_own either before (tells rule d) joined (only_its_own rule entry d decides) h
+      seen_one : (before after : Seen V) (rule : Rule) → Contains more rule → AreTaken rule entry → AreJoined before (Alone v) after → IsSeen meant (IsOfRules told done entry) before → IsSeen meant (IsOfRules told (done ++ more) entry) after
+      seen_one before after rule listed taken joined =
+          with_these before (Alone v) after joined
+          (record { rule = rule; among = listed; is = record { decision = d; decides = decides rule listed; takes = taken; is = ap meant (sym (same rule listed)) } }, only_this)
+
+      seen_old : (before : Seen V) → AreJoined before (Alone v) before → IsSeen meant (IsOfRules told done entry) before → IsSeen meant (IsOfRules told (done ++ more) entry) before
+      seen_old before joined h =
+          seen_already meant once (IsOfRules told done entry) (IsOfRules told more entry) (IsOfRules told (done ++ more) entry) earlier later either before v joined only_this h
 
 abbrev decided : Rule → Decision → Decision
 decided rule d = d
@@ -92,40 +100,62 @@ findings_of_none entry x no_outcome no_status = record {
   status = subst (IsSeen same_status (IsOfRules (told same_status status_once noting) [] entry)) (sym no_status) (none_of_none same_status status_once noting entry);
 }
 
-module _ (entry : Entry) (done : List Rule) (rule : Rule) (before : Findings) (h : AreOfRules done entry before) where
-  pub with_arrival : rule.decision ≡ None → AreOfRules (done ++ rule ∷ []) entry before
-  with_arrival e = record {
-    outcome = seen_arrival outcome_of_decision same_decision decided entry done rule (outcome_seen before.outcome) e h.outcome;
-    status = seen_arrival same_status status_once noting entry done rule (status_seen before.status) e h.status;
+module _ (entry : Entry) (done more : List Rule) (before : Findings) (h : AreOfRules done entry before) where
+  pub with_arrivals : ((rule : Rule) → Contains more rule → rule.decision ≡ None) → AreOfRules (done ++ more) entry before
+  with_arrivals e = record {
+    outcome = seen_arrivals outcome_of_decision same_decision decided entry done more (outcome_seen before.outcome) e h.outcome;
+    status = seen_arrivals same_status status_once noting entry done more (status_seen before.status) e h.status;
   }
 
-  pub with_none : HasNone rule entry → AreOfRules (done ++ rule ∷ []) entry before
+  pub with_none : ((rule : Rule) → Contains more rule → HasNone rule entry) → AreOfRules (done ++ more) entry before
   with_none none = record {
-    outcome = seen_none outcome_of_decision same_decision decided entry done rule (outcome_seen before.outcome) none h.outcome;
-    status = seen_none same_status status_once noting entry done rule (status_seen before.status) none h.status;
+    outcome = seen_none outcome_of_decision same_decision decided entry done more (outcome_seen before.outcome) none h.outcome;
+    status = seen_none same_status status_once noting entry done more (status_seen before.status) none h.status;
   }
 
-  module _ (d : Decision) (decides : rule.decision ≡ Some d) (this : Findings) (outcome_is : outcome_seen this.outcome ≡ Alone d) (status_is : status_seen this.status ≡ Alone rule.status) where
-    pub with_one : (after : Findings) → AreTaken rule entry → AreJoinedFindings before this after → AreOfRules (done ++ rule ∷ []) entry after
-    with_one after taken joined = record {
+  module _ (d : Decision) (s : Option Status) (decides : (rule : Rule) → Contains more rule → rule.decision ≡ Some d) (notes : (rule : Rule) → Contains more rule → rule.status ≡ s) where
+    pub with_one : (this : Findings) → outcome_seen this.outcome ≡ Alone d → status_seen this.status ≡ Alone s → (after : Findings) (rule : Rule) → Contains more rule → AreTaken rule entry → AreJoinedFindings before this after → AreOfRules (done ++ more) entry after
+    with_one this outcome_is status_is after rule listed taken joined = record {
       outcome =
-          seen_one outcome_of_decision same_decision decided entry done rule (outcome_seen before.outcome) (outcome_seen after.outcome) d decides taken
+          seen_one outcome_of_decision same_decision decided entry done more d d decides (λ r m. refl) (outcome_seen before.outcome) (outcome_seen after.outcome) rule listed taken
           (subst (λ (y : Seen Decision). AreJoined (outcome_seen before.outcome) y (outcome_seen after.outcome)) outcome_is joined.outcome) h.outcome;
       status =
-          seen_one same_status status_once noting entry done rule (status_seen before.status) (status_seen after.status) d decides taken
+          seen_one same_status status_once noting entry done more s d decides notes (status_seen before.status) (status_seen after.status) rule listed taken
           (subst (λ (y : Seen (Option Status)). AreJoined (status_seen before.status) y (status_seen after.status)) status_is joined.status) h.status;
     }
 
-  -- what it tells is among what is found
-  pub with_old : (d : Decision) → rule.decision ≡ Some d → IsTold before d rule.status → AreOfRules (done ++ rule ∷ []) entry before
-  with_old d decides told = record {
-    outcome = seen_old outcome_of_decision same_decision decided entry done rule (outcome_seen before.outcome) d decides told.outcome h.outcome;
-    status = seen_old same_status status_once noting entry done rule (status_seen before.status) d decides told.status h.status;
-  }
+    -- what they tell is among what is found
+    pub with_old : IsTold before d s → AreOfRules (done ++ more) entry before
+    with_old told = record {
+      outcome = seen_old outcome_of_decision same_decision decided entry done more d d decides (λ r m. refl) (outcome_seen before.outcome) told.outcome h.outcome;
+      status = seen_old same_status status_once noting entry done more s d decides notes (status_seen before.status) told.status h.status;
+    }
 
--- the rules so far, in a loop over their list
-pub rules_more : (items : List Rule) (i : ℕ) (rule : Rule) → i < length items → rule ≡ get_or items i rule → take i items ++ rule ∷ [] ≡ take (i + 1) items
-rules_more items i rule lt e = ap (λ (x : Rule). take i items ++ x ∷ []) e ∙ sym (take_more items i rule lt)
+-- one rule, as a list
+pub alone : (P : Rule → Type 0) (rule : Rule) → P rule → (r : Rule) → Contains (rule ∷ []) r → P r
+alone P rule h r m = elim (contained_among (rule ∷ []) r m) [
+  | inl same ↦ subst P (sym same) h
+  | inr nothing ↦ absurd nothing
+]
+
+pub listed_alone : (rule : Rule) → Contains (rule ∷ []) rule
+listed_alone rule = among_contained (rule ∷ []) rule (inl refl)
+
+-- the rules of a group's ends
+pub at_ends : (P : Rule → Type 0) (g : ValueRules) → ((x : End) → Contains g.ends x → P (rule_at g x)) → (r : Rule) → Contains (map (rule_at g) g.ends) r → P r
+at_ends P g h r m = (let x = map_among (rule_at g) r g.ends (contained_among (map (rule_at g) g.ends) r m) in subst P (sym x.2) (h x.0 (among_contained g.ends x.0 x.1)))
+
+pub listed_end : (g : ValueRules) (x : End) → Contains g.ends x → Contains (map (rule_at g) g.ends) (rule_at g x)
+listed_end g x m = among_contained (map (rule_at g) g.ends) (rule_at g x) (among_map (rule_at g) x g.ends (contained_among g.ends x m))
+
+-- the rules of the groups so far, in a loop over their list
+pub groups_more : (items : List RuleGroup) (i : ℕ) (x : RuleGroup) → i < length items → x ≡ get_or items i x → all_rules (take i items) ++ rules_of x ≡ all_rules (take (i + 1) items)
+groups_more items i x lt e =
+    ap (λ (rs : List Rule). all_rules (take i items) ++ rs) (sym (append-nil (rules_of x))) ∙ sym (flat_map-append rules_of (take i items) (x ∷ []))
+    ∙ ap all_rules (ap (λ (y : RuleGroup). take i items ++ y ∷ []) e ∙ sym (take_more items i x lt))
+
+pub group_listed : (items groups : List RuleGroup) (i : ℕ) (x : RuleGroup) → items ≡ groups → i < length items → x ≡ get_or items i x → Contains groups x
+group_listed items groups i x same lt e = subst (λ (xs : List RuleGroup). Contains xs x) same (i, lt, sym e)
 
 -- an entry has a set for each component
 pub set_count : (app : App) (entry : Entry) → domains entry ≡ domains_of app → length entry.sets ≡ component_count app

@@ -1,5 +1,5 @@
 //! The outcomes and the statuses at the sites, over the rows of a table.
-ghost use Rattle.std.specs.Prelude.{◌≡◌, ◌++◌, ◌∷◌, [], ◌<◌, List, length, IfOk, OnOk, IfSome, IfNone};
+ghost use Rattle.std.specs.Prelude.{◌≡◌, ◌++◌, ◌∷◌, [], ◌<◌, List, length, map, IfOk, OnOk, IfSome, IfNone};
 ghost use Rattle.osek_standard.specs.Apps.{is_site};
 ghost use Rattle.osek_standard.specs.Points.{StandsAt};
 ghost use Rattle.osek_values.specs.declared.numbers.BlockNo.{BlockNo};
@@ -7,12 +7,14 @@ ghost use Rattle.abstract_state.specs.declared.table.TableRow.{TableRow};
 ghost use Rattle.abstract_state.specs.Written.{IsRow, IsWritten};
 ghost use Rattle.flow_model.specs.declared.rule.Rule.{Rule};
 ghost use Rattle.flow_model.specs.Effects.{AreAllAllowed};
+ghost use Rattle.flow_rules.specs.Ends.{IsGroupIn};
+ghost use Rattle.flow_rules.specs.RuleGroups.{rule_at, rules_of, AreValuesIn};
 ghost use Rattle.call_tailor.specs.Outcomes.{AreOfRow, AreOfRules, AreFound, first_found};
 
 use crate::found::Findings;
 use abstract_state::{Entry, Point, Table, TableRow};
 use flow_model::Rule;
-use flow_rules::{is_possible, rules};
+use flow_rules::{RuleGroup, ValueRules, has_possible_end, is_possible, rule_groups};
 use image_model::is_site;
 use osek_standard::App;
 use osek_values::{BlockNo, Memory, Seq};
@@ -94,12 +96,22 @@ fn findings_of(alloc: Global, app: &App, row: &TableRow) -> Result<Findings, Mem
     requires allowed { AreAllAllowed app.now row.now.point row.now.entry }
     ensures { IfOk result (AreOfRow app.now row.now) }
 {
-    let rules = rules(alloc, app, row.point, &row.entry)?;
+    let groups = rule_groups(alloc, app, row.point, &row.entry)?;
     let mut found = Findings::none();
-    for rule in rules.as_slice() {
-        found = with_rule(found, rule, &row.entry);
+    for group in groups.as_slice() {
+        found = with_group(found, group, &row.entry);
     }
     Ok(found)
+}
+
+fn with_group(found: Findings, group: &RuleGroup, entry: &Entry) -> Findings
+    requires { IsGroupIn entry.now group.now }
+    ensures { (done : List Rule) → AreOfRules done entry.now found → AreOfRules (done ++ rules_of group.now) entry.now result }
+{
+    match group {
+        RuleGroup::One(rule) => with_rule(found, rule, entry),
+        RuleGroup::Each(values) => with_values(found, values, entry),
+    }
 }
 
 // What was found, and what a rule that has a result tells, which is asked only where that would be new. The begin of a
@@ -114,6 +126,23 @@ fn with_rule(found: Findings, rule: &Rule, entry: &Entry) -> Findings
                 return found;
             }
             found.join(Findings::one(decision, rule.status))
+        }
+    }
+}
+
+// What was found, and what the rules of some values tell, of which some one has a result: all of them tell the same.
+fn with_values(found: Findings, values: &ValueRules, entry: &Entry) -> Findings
+    requires { AreValuesIn entry.now values.now }
+    ensures { (done : List Rule) → AreOfRules done entry.now found → AreOfRules (done ++ map (rule_at values.now) values.now.ends) entry.now result }
+{
+    match values.rule.decision {
+        None => found,
+        Some(decision) => {
+            let status = values.rule.status;
+            if found.tells(decision, status) || !has_possible_end(values, entry) {
+                return found;
+            }
+            found.join(Findings::one(decision, status))
         }
     }
 }

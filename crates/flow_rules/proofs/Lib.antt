@@ -5,3 +5,4 @@ pub mod Assembling
 pub mod PointRules
 pub mod Leading
 pub mod RuleGroups
+pub mod EndRules

@@ -20,7 +20,7 @@ use Rattle.flow_rules.specs.Passing.{is_taken, is_filled, can_pass, AreTaken}
 use Rattle.flow_rules.proofs.Passing.{each_passes, none_fails}
 
 -- an element that passes a test, and one that fails it
-passes_there : {X : Type 0} (p : X → Bool) (xs : List X) → list_any p xs ≡ true → (x : X) × Among x xs × (p x ≡ true)
+pub passes_there : {X : Type 0} (p : X → Bool) (xs : List X) → list_any p xs ≡ true → (x : X) × Among x xs × (p x ≡ true)
 passes_there p [] h = absurd (cc)
 passes_there p (x ∷ xs) h = elim (or_cases (p x) (list_any p xs) h) [
   | inl first ↦ (x, inl refl, first)
@@ -34,11 +34,11 @@ fails_there p (x ∷ xs) h = elim (cases_Bool (p x)) [
   | inr fails ↦ (x, inl refl, fails)
 ]
 
-negated : (b : Bool) → not b ≡ true → b ≡ false
+pub negated : (b : Bool) → not b ≡ true → b ≡ false
 negated true e = absurd (cc)
 negated false e = refl
 
-neither : (a b : Bool) → (a || b) ≡ false → (a ≡ false) × (b ≡ false)
+pub neither : (a b : Bool) → (a || b) ≡ false → (a ≡ false) × (b ≡ false)
 neither true b h = absurd (cc)
 neither false b h = (refl, h)
 

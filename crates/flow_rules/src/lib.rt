@@ -3,6 +3,7 @@
 
 mod applying;
 mod arrivals;
+mod ends;
 mod expanding;
 mod group;
 pub mod laws;
@@ -10,6 +11,7 @@ mod possible;
 mod ruling;
 
 pub use applying::apply;
+pub use ends::{has_possible_end, is_open_end};
 pub use expanding::rules;
 pub use group::{RuleGroup, ValueRules};
 pub use possible::is_possible;

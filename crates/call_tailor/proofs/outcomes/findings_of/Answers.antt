@@ -1,20 +1,28 @@
-use Rattle.std.proofs.Common.{◌∙◌, List, subst, take}
+use Rattle.std.proofs.Common.{◌∙◌, List, sym, subst, take}
 use Rattle.std.proofs.lemmas.List.{take_all}
 use Rattle.flow_model.specs.declared.rule.Rule.{Rule}
+use Rattle.flow_rules.specs.declared.group.RuleGroup.{RuleGroup}
+use Rattle.flow_rules.specs.RuleGroups.{all_rules}
+use Rattle.flow_rules.proofs.EndRules.{group_in}
 use Rattle.call_tailor.specs.Outcomes.{AreOfRules}
-use Rattle.call_tailor.proofs.RuleOutcomes.{rules_more, set_count, of_all_rules}
+use Rattle.call_tailor.proofs.RuleOutcomes.{groups_more, group_listed, set_count, of_all_rules}
 use Rattle.call_tailor.proofs.outcomes.findings_of.Goals as goal
 
-pub loop-rule-preserved : goal.loop-rule-preserved
-loop-rule-preserved c =
-    let items = c.as_slice-rule-items.result.now in
-    let i = c.loop-rule.rule-index in
-    subst (λ (done : List Rule). AreOfRules done c.args.row.now.entry c.with_rule-found.result) (rules_more items i c.rule-item.result c.loop-rule-test.true c.rule-item.is)
-    (c.with_rule-found.ensures (take i items) c.loop-rule.invariant)
+pub with_group-found-requires : goal.with_group-found-requires
+with_group-found-requires c =
+    group_in c.args.row.now.entry c.in_ok-groups.groups c.in_ok-groups.ensures.within c.group-item.result
+    (group_listed c.as_slice-group-items.result.now c.in_ok-groups.groups c.loop-group.group-index c.group-item.result c.as_slice-group-items.ensures c.loop-group-test.true c.group-item.is)
+
+pub loop-group-preserved : goal.loop-group-preserved
+loop-group-preserved c =
+    let items = c.as_slice-group-items.result.now in
+    let i = c.loop-group.group-index in
+    subst (λ (done : List Rule). AreOfRules done c.args.row.now.entry c.with_group-found.result) (groups_more items i c.group-item.result c.loop-group-test.true c.group-item.is)
+    (c.with_group-found.ensures (all_rules (take i items)) c.loop-group.invariant)
 
 pub returns : goal.returns
 returns c =
     let entry = c.args.row.now.entry in
-    of_all_rules c.args.app.now c.args.row.now c.in_ok-rules.rules (set_count c.args.app.now entry c.requires.row.domains) c.loop-rule.found
-    c.in_ok-rules.ensures.instructions (c.in_ok-rules.ensures.exact c.requires.allowed)
-    (subst (λ (done : List Rule). AreOfRules done entry c.loop-rule.found) (take_all c.loop-rule.rule-index c.as_slice-rule-items.result.now c.loop-rule-test.false ∙ c.as_slice-rule-items.ensures) c.loop-rule.invariant)
+    of_all_rules c.args.app.now c.args.row.now (all_rules c.in_ok-groups.groups) (set_count c.args.app.now entry c.requires.row.domains) c.loop-group.found
+    c.in_ok-groups.ensures.instructions (c.in_ok-groups.ensures.exact c.requires.allowed)
+    (subst (λ (done : List RuleGroup). AreOfRules (all_rules done) entry c.loop-group.found) (take_all c.loop-group.group-index c.as_slice-group-items.result.now c.loop-group-test.false ∙ c.as_slice-group-items.ensures) c.loop-group.invariant)

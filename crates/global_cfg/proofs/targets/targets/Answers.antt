@@ -1,34 +1,37 @@
-use Rattle.std.proofs.Common.{◌∙◌, List, sym, subst, take}
+use Rattle.std.proofs.Common.{rules, [], ◌∙◌, List, sym, subst, take}
 use Rattle.std.specs.Prelude.{Contains}
 use Rattle.std.proofs.lemmas.List.{take_all}
 use Rattle.flow_model.specs.declared.rule.Rule.{Rule}
-use Rattle.global_cfg.proofs.ListTurns.{turn_done, turn_listed}
-use Rattle.global_cfg.proofs.Targeting.{LeadSo, lead_past, lead_by, lead_all}
-use Rattle.global_cfg.proofs.targets.targets.Goals.{then-leads_on+in_ok-put_target, else-leads_on}
+use Rattle.flow_rules.specs.declared.group.RuleGroup.{RuleGroup}
+use Rattle.flow_rules.specs.RuleGroups.{rules_of, all_rules}
+use Rattle.flow_rules.proofs.EndRules.{group_in}
+use Rattle.global_cfg.specs.Targets.{ArePutFor}
+use Rattle.global_cfg.proofs.ListTurns.{turn_listed}
+use Rattle.global_cfg.proofs.PointPlaces.{order_none}
+use Rattle.global_cfg.proofs.PuttingIn.{none_put, put_then, more_groups}
+use Rattle.global_cfg.proofs.Targeting.{lead_all}
 use Rattle.global_cfg.proofs.targets.targets.Goals as goal
 
-pub loop-rule-preserved : goal.loop-rule-preserved
-loop-rule-preserved c =
-    let app = c.args.app.now in
-    let p = c.args.point in
-    let entry = c.args.entry.now in
-    let items = c.as_slice-rule-items.result.now in
-    let i = c.loop-rule.rule-index in
-    let rule = c.rule-item.result in
-    let done = take i items in
-    let targets = c.loop-rule.targets.items in
-    let listed : Contains c.in_ok-found.found rule = subst (λ (xs : List Rule). Contains xs rule) c.as_slice-rule-items.ensures (turn_listed items i rule c.loop-rule-test.true c.rule-item.is) in
-    subst (λ (d : List Rule). LeadSo app p entry d c.if-leads_on.targets.items) (turn_done items i rule c.loop-rule-test.true c.rule-item.is)
-    (elim c.if-leads_on.branch [
-      | then-leads_on+in_ok-put_target w ↦
-          rw w.targets-is
-          (lead_by app p entry done targets rule c.loop-rule.invariant c.in_ok-found.found w.put_target.new.points.items c.requires.domains listed (c.in_ok-found.ensures.exact c.requires.allowed)
-          (sym c.leads_on.ensures ∙ w.if-leads_on.true) w.in_ok-put_target.ensures)
-      | else-leads_on w ↦ rw w.targets-is (lead_past app p entry done targets rule c.loop-rule.invariant (sym c.leads_on.ensures ∙ w.if-leads_on.false))
-    ])
+pub loop-group-init : goal.loop-group-init
+loop-group-init c = search (rules, none_put c.args.point c.args.entry.now [] order_none)
+
+pub put_group-requires-clause-values : goal.put_group-requires-clause-values
+put_group-requires-clause-values c =
+    group_in c.args.entry.now c.in_ok-found.found c.in_ok-found.ensures.within c.group-item.result
+    (subst (λ (xs : List RuleGroup). Contains xs c.group-item.result) c.as_slice-group-items.ensures (turn_listed c.as_slice-group-items.result.now c.loop-group.group-index c.group-item.result c.loop-group-test.true c.group-item.is))
+
+pub loop-group-preserved : goal.loop-group-preserved
+loop-group-preserved c =
+    let items = c.as_slice-group-items.result.now in
+    let i = c.loop-group.group-index in
+    let group = c.group-item.result in
+    subst (λ (rules : List Rule). ArePutFor c.args.point c.args.entry.now rules [] c.put_group.new.points.items) (more_groups items i group c.loop-group-test.true c.group-item.is)
+    (put_then c.args.point c.args.entry.now (all_rules (take i items)) (rules_of group) [] c.loop-group.targets.items c.put_group.new.points.items c.loop-group.invariant c.in_ok-put_group.ensures)
 
 pub returns : goal.returns
 returns c =
-    let app = c.args.app.now in
-    lead_all app c.args.point c.args.entry.now c.in_ok-found.found c.loop-rule.targets.items c.in_ok-found.ensures.covering
-    (subst (λ (done : List Rule). LeadSo app c.args.point c.args.entry.now done c.loop-rule.targets.items) (take_all c.loop-rule.rule-index c.as_slice-rule-items.result.now c.loop-rule-test.false ∙ c.as_slice-rule-items.ensures) c.loop-rule.invariant)
+    let p = c.args.point in
+    let entry = c.args.entry.now in
+    let groups = c.in_ok-found.found in
+    lead_all c.args.app.now p entry (all_rules groups) c.requires.domains (c.in_ok-found.ensures.exact c.requires.allowed) c.loop-group.targets.items c.in_ok-found.ensures.covering
+    (subst (λ (done : List RuleGroup). ArePutFor p entry (all_rules done) [] c.loop-group.targets.items) (take_all c.loop-group.group-index c.as_slice-group-items.result.now c.loop-group-test.false ∙ c.as_slice-group-items.ensures) c.loop-group.invariant)
