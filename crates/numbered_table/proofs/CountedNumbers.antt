@@ -1,0 +1,41 @@
+-- Numbers are counted, one after another.
+use Rattle.std.proofs.Common.{◌≡◌, ℕ, ◌+◌, ◌<◌, ◌≤◌, ◌^◌, Bool, true, false, List, [], ◌∷◌, length, get_or, map, take, sum_by, IsTrue, All, refl, sym, ap, subst, ◌∙◌, inl, inr, arith}
+use Rattle.std.specs.Prelude.{Contains}
+use Rattle.std.proofs.lemmas.List.{take_more}
+use Rattle.std.proofs.lemmas.List.Sums.{sum_by-cons, sum_by_push}
+use Rattle.osek_standard.specs.Kernel.{has_bit}
+use Rattle.abstract_state.specs.Components.{passing_below}
+use Rattle.abstract_state.specs.declared.table.TableRow.{TableRow}
+use Rattle.abstract_state.specs.Tables.{entry_values, value_count}
+use Rattle.numbered_sets.specs.Numbers.{Numbers, has_number, number_count}
+use Rattle.numbered_sets.specs.NumberedEntries.{entry_numbers}
+use Rattle.numbered_sets.specs.Pools.{Values, AreValues}
+use Rattle.numbered_sets.proofs.BitCounts.{ones_below}
+use Rattle.numbered_sets.proofs.Counting.{passing_past}
+use Rattle.numbered_sets.proofs.ViewLaws.{below_power, false_unless, same_count}
+use Rattle.numbered_table.specs.declared.table.NumberedRow.{NumberedRow}
+use Rattle.numbered_table.specs.PlainTables.{plain_row, plain_rows, plain_table, AreRowsOf}
+use Rattle.numbered_table.specs.Counts.{AreNumbersBelow, row_numbers}
+use Rattle.numbered_table.proofs.GrownPools.{rows_of_tail}
+
+-- the numbers below a bound are all that there are
+pub numbers_counted : (x : Numbers) (end : ℕ) → AreNumbersBelow end x → passing_below (has_number x) end ≡ number_count x
+numbers_counted x end below =
+    let most = end + x.bits in
+    let less : x.bits < 2 ^ most = (let low = below_power most in omega (arith, low)) in
+    let ones : passing_below (has_bit x.bits) most ≡ number_count x = ones_below x.bits most less in
+    let past : passing_below (has_number x) most ≡ passing_below (has_number x) end =
+    passing_past (has_number x) end most (omega arith) (λ n le. false_unless (has_number x n) (n < end) (below n) (λ lt. omega (arith, lt, le))) in
+    sym past ∙ ones
+
+-- one element more, in a loop over a list
+pub counted_more : {X : Type 0} (f : X → ℕ) (xs : List X) (k : ℕ) (x : X) → k < length xs → get_or xs k x ≡ x → sum_by f (take (k + 1) xs) ≡ sum_by f (take k xs) + f x
+counted_more f xs k x lt is = ap (sum_by f) (take_more xs k x lt) ∙ sum_by_push f (take k xs) (get_or xs k x) ∙ ap (λ y. sum_by f (take k xs) + f y) is
+
+-- a table has as many values as its rows have numbers
+pub values_are_numbers : (pool : List Values) (rows : List NumberedRow) → All AreValues pool → AreRowsOf pool rows → value_count (plain_table pool rows) ≡ row_numbers rows
+values_are_numbers pool [] all known = refl
+values_are_numbers pool (x ∷ xs) all known =
+    let rest = values_are_numbers pool xs all (rows_of_tail pool x xs known) in
+    let first = same_count pool x.entry all (known.each x (0, omega arith, refl)) in
+    omega (arith, rest, first, sum_by-cons (λ (row : TableRow). entry_values row.entry) (plain_row pool x) (plain_rows pool xs), sum_by-cons (λ (row : NumberedRow). entry_numbers row.entry) x xs)

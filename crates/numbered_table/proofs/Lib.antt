@@ -1,0 +1,2 @@
+pub mod GrownPools
+pub mod CountedNumbers

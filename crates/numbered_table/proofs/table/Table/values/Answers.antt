@@ -1,0 +1,19 @@
+use Rattle.std.proofs.Common.{◌≡◌, ◌<◌, ◌^◌, List, sym, ap, ◌∙◌, arith}
+use Rattle.abstract_state.specs.declared.table.Table.{Table as PlainTable}
+use Rattle.abstract_state.specs.Tables.{value_count}
+use Rattle.numbered_table.specs.declared.table.NumberedRow.{NumberedRow}
+use Rattle.numbered_table.specs.Counts.{row_numbers}
+use Rattle.numbered_table.proofs.CountedNumbers.{values_are_numbers}
+use Rattle.numbered_table.proofs.table.Table.values.Goals as goal
+
+pub count_rows-requires-clause-few : goal.count_rows-requires-clause-few
+count_rows-requires-clause-few c =
+    let same = values_are_numbers c.self.inside.pool c.self.inside.rows c.are_values.ensures c.self.invariant in
+    let whole = ap value_count c.self.view_is in
+    let slice = ap row_numbers c.as_slice.ensures in
+    omega (arith, same, whole, slice, c.requires)
+
+pub returns : goal.returns
+returns c =
+    c.count_rows.ensures ∙ ap row_numbers c.as_slice.ensures
+    ∙ sym (values_are_numbers c.self.inside.pool c.self.inside.rows c.are_values.ensures c.self.invariant) ∙ ap value_count c.self.view_is

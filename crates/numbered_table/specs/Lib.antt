@@ -1,0 +1,4 @@
+pub mod PlainTables
+pub mod Showing
+pub mod Alike
+pub mod Counts

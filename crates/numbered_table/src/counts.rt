@@ -1,0 +1,49 @@
+//! How many numbers entries have.
+ghost use Rattle.std.specs.Prelude.{◌≡◌, ◌<◌, ◌^◌};
+ghost use Rattle.numbered_sets.specs.NumberedEntries.{entry_numbers};
+ghost use Rattle.numbered_sets.specs.Numbers.{number_count};
+ghost use Rattle.numbered_sets.specs.Views.{AreNumbersOf};
+ghost use Rattle.numbered_table.specs.PlainTables.{AreRowsOf};
+ghost use Rattle.numbered_table.specs.Counts.{AreNumbersBelow, row_numbers};
+
+use crate::table::NumberedRow;
+use numbered_sets::{NumberedEntry, NumberedSet, Pool};
+
+/// How many numbers the entries of rows have.
+pub(crate) fn count_rows(pool: &Pool, rows: &[NumberedRow]) -> u64
+    requires numbers { AreRowsOf pool.now rows.now }
+    requires few { row_numbers rows.now < 2 ^ 64 }
+    ensures { result ≡ row_numbers rows.now }
+{
+    let mut found = 0;
+    for row in rows {
+        found += count_entry(pool, &row.entry);
+    }
+    found
+}
+
+fn count_entry(pool: &Pool, entry: &NumberedEntry) -> u64
+    requires numbers { AreNumbersOf pool.now entry.now }
+    requires few { entry_numbers entry.now < 2 ^ 64 }
+    ensures { result ≡ entry_numbers entry.now }
+{
+    let mut found = 0;
+    for component in 0..entry.sets.len() {
+        found += count_set(pool.len(component), entry.sets.at(component));
+    }
+    found
+}
+
+// how many numbers there are, which are below this one
+fn count_set(end: usize, numbers: &NumberedSet) -> u64
+    requires { AreNumbersBelow end numbers.now }
+    ensures { result ≡ number_count numbers.now }
+{
+    let mut found = 0;
+    for number in 0..end {
+        if numbers.has(number) {
+            found += 1;
+        }
+    }
+    found
+}

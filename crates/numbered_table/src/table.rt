@@ -1,0 +1,73 @@
+//! Tables of numbered entries, beside the pool that numbers their values.
+ghost use Rattle.std.specs.Prelude.{◌≡◌};
+
+use crate::counts::count_rows;
+use crate::shown_rows::ShownRows;
+use abstract_state::Point;
+use numbered_sets::{NumberedEntry, Pool};
+use osek_values::Seq;
+use std::marker::Model;
+
+/// A point and its entry by number.
+#[derive(Drop)]
+pub struct NumberedRow {
+    pub point: Point,
+    pub entry: NumberedEntry,
+}
+
+/// An entry for some of the points, by number. Contracts see it as the plain table of its rows.
+#[derive(Drop)]
+pub struct Table {
+    pool: Pool,
+    rows: Seq<NumberedRow>,
+}
+
+impl Model for Table {
+    ghost use Rattle.abstract_state.specs.declared.table.Table.{Table as PlainTable};
+
+    ghost Value = { PlainTable };
+
+    ghost use Rattle.numbered_table.specs.PlainTables.{plain_table, AreRowsOf};
+
+    ghost view = { λ t. plain_table t.pool t.rows };
+
+    ghost invariant = { λ t. AreRowsOf t.pool t.rows };
+}
+
+impl Table {
+    ghost use Rattle.std.specs.Prelude.{◌≡◌, ◌<◌, ◌^◌, length, None};
+    ghost use Rattle.abstract_state.specs.Tables.{value_count};
+    ghost use Rattle.numbered_table.specs.PlainTables.{plain_table, AreRowsOf};
+
+    /// The table of rows whose numbers are those of a pool. It takes no memory.
+    pub fn of(pool: Pool, rows: Seq<NumberedRow>) -> Table
+        requires { AreRowsOf pool rows }
+        ensures { result ≡ plain_table pool rows }
+    {
+        Table { pool, rows }
+    }
+
+    /// How many rows there are.
+    pub fn len(&self) -> usize
+        ensures { result ≡ length self.now.rows }
+    {
+        self.rows.len()
+    }
+
+    /// Its rows, to be shown one after another. None is shown yet.
+    pub fn shown_rows(&self) -> ShownRows<'_>
+        ensures rows { result.rows ≡ self.now.rows }
+        ensures entry { result.entry ≡ None }
+    {
+        ShownRows::new(&self.pool, &self.rows)
+    }
+
+    /// The number of values in all sets of all entries.
+    pub fn values(&self) -> u64
+        requires { value_count self.now < 2 ^ 64 }
+        ensures { result ≡ value_count self.now }
+    {
+        self.pool.are_values();
+        count_rows(&self.pool, self.rows.as_slice())
+    }
+}
