@@ -1,8 +1,11 @@
 //! Entries as a lattice: their sets contained in one another, ranked by the number of their values.
 
+ghost use Rattle.std.specs.Prelude.{◌≡◌, IfOk};
+
 use crate::lattice::Lattice;
-use abstract_state::Entry;
-use osek_values::Memory;
+use abstract_state::{Entry, ValueSet};
+use osek_values::{Memory, Seq};
+use std::alloc::Global;
 
 impl Lattice for Entry {
     ghost use Rattle.std.specs.Prelude.{◌≡◌};
@@ -19,6 +22,14 @@ impl Lattice for Entry {
     ghost rank = { entry_values };
 
     ghost height = { entry_height };
+
+    fn copy(&self, alloc: Global) -> Result<Self, Memory> {
+        let mut sets = Seq::of(Vec::with_capacity(alloc, self.sets.len())?);
+        for set in self.sets.as_slice() {
+            sets.push(copy_of(alloc, set)?)?;
+        }
+        Ok(Entry { sets })
+    }
 
     fn join_into(&mut self, other: &Self) -> Result<u64, Memory> {
         Entry::join_into(self, other)
@@ -37,4 +48,18 @@ impl Lattice for Entry {
     ghost growth = { growth_shows };
 
     ghost antisymmetric = { equal_entries };
+}
+
+// another set of the same values
+fn copy_of(alloc: Global, set: &ValueSet) -> Result<ValueSet, Memory>
+    ensures { IfOk result (λ copy. copy ≡ set.now) }
+{
+    let mut members = Seq::of(Vec::with_capacity(alloc, set.members.len())?);
+    for member in set.members.as_slice() {
+        members.push(member.copy())?;
+    }
+    Ok(ValueSet {
+        domain: set.domain,
+        members,
+    })
 }

@@ -2,6 +2,7 @@
 ghost use Rattle.std.specs.Prelude.{◌≡◌, ◌+◌, ◌≤◌, ℕ, IfOk, OnOk};
 
 use osek_values::Memory;
+use std::alloc::Global;
 
 /// A partial order in which a chain grows only so often: each growth raises the rank, which never passes the height. The join
 /// is what the clauses of `join_into` say.
@@ -18,6 +19,10 @@ pub trait Lattice {
     ghost rank: { Self → ℕ };
 
     ghost height: { Self → ℕ };
+
+    /// Another value that is the same.
+    fn copy(&self, alloc: Global) -> Result<Self, Memory>
+        ensures { IfOk result (λ copy. copy ≡ self.now) };
 
     /// Joins the other value in, and tells by how much the rank rose. Where memory is wanted the value lies between
     /// what it was and the join.

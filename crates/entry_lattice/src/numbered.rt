@@ -3,6 +3,7 @@
 use crate::lattice::Lattice;
 use numbered_sets::NumberedEntry;
 use osek_values::Memory;
+use std::alloc::Global;
 
 impl Lattice for NumberedEntry {
     ghost use Rattle.std.specs.Prelude.{◌≡◌};
@@ -18,6 +19,10 @@ impl Lattice for NumberedEntry {
     ghost rank = { entry_numbers };
 
     ghost height = { numbers_height };
+
+    fn copy(&self, alloc: Global) -> Result<Self, Memory> {
+        NumberedEntry::copy(self, alloc)
+    }
 
     fn join_into(&mut self, other: &Self) -> Result<u64, Memory> {
         NumberedEntry::join_into(self, other)

@@ -2,3 +2,4 @@ pub mod Raising
 pub mod JoiningCells
 pub mod RowsOfRules
 pub mod NumberedCells
+pub mod JoinedRules

@@ -18,14 +18,11 @@ use Rattle.state_flow.specs.declared.cells.Cell.{Cell}
 use Rattle.state_flow.specs.Cells.{cell_number, AreInOrder, IsWaitingAt, NoneWaitsFrom, MayJoin, IsJoined}
 use Rattle.state_flow.specs.Rows.{row_at, IsProperRow}
 use Rattle.state_flow.specs.Progress.{AreProperCells, AreJoined}
-use Rattle.state_flow.specs.Reaching.{Leads}
 use Rattle.state_flow.proofs.CellLists.{set_cases}
 use Rattle.state_flow.proofs.Joining.{may_join, joined_one}
 use Rattle.state_flow.proofs.Closing.{evaluated, evaluated_proper, progress_made}
-use Rattle.numbered_flow.specs.declared.evaluation.NumberedRow.{NumberedRow}
 use Rattle.numbered_flow.specs.PlainCells.{plain_cell, plain_cells, AreCellsOf}
-use Rattle.numbered_flow.specs.PlainRows.{plain_row, plain_rows, AreRowsOf}
-use Rattle.numbered_flow.specs.Numbering.{AreNumberedCells, IsNumberedRow, AreNumberedRows, HasProgress}
+use Rattle.numbered_flow.specs.Numbering.{AreNumberedCells, IsEvaluated, HasProgress}
 use Rattle.numbered_flow.proofs.Raising.{AreAlikeNumbers}
 use Rattle.numbered_flow.proofs.JoiningCells.{among_plain, joined_known, joined_plain}
 
@@ -58,27 +55,25 @@ none_waits_plain pool cells from h k d le lt =
     let below : k < length cells = omega (arith, lt, long) in
     ap (λ (x : Cell Entry). x.waiting) (plain_at pool cells k d some below) ∙ h k some le below
 
-pub among_rows : (pool : List Values) (rows : List NumberedRow) (row : NumberedRow) → Contains rows row → Contains (plain_rows pool rows) (plain_row pool row)
-among_rows pool rows row m = among_contained (plain_rows pool rows) (plain_row pool row) (among_map (plain_row pool) row rows (contained_among rows row m))
+module _ (app : App) (pool : List Values) (cells : List (Cell NumberedEntry)) (point : Point) (entry : NumberedEntry) (all : All AreValues pool) (numbered : AreNumberedCells app pool cells) (its : AreNumbersOf pool entry)
+    (is_proper : IsProperRow app (row_at point (plain_entry pool entry))) where
+  sound_numbers : (e : NumberedEntry) (p : Point) → AreNumbersOf pool e → IsProperRow app (row_at p (plain_entry pool e)) → AreSoundNumbers e
+  sound_numbers e p known proper = known_sound pool e all known (let same = same_heights pool 0 e.sets in let few = proper.row.sound.few in omega (arith, same, few))
 
-module _ (app : App) (pool : List Values) (cells : List (Cell NumberedEntry)) (row : NumberedRow) (all : All AreValues pool) (numbered : AreNumberedCells app pool cells) (its : IsNumberedRow app pool row) where
-  sound_numbers : (entry : NumberedEntry) (p : Point) → AreNumbersOf pool entry → IsProperRow app (row_at p (plain_entry pool entry)) → AreSoundNumbers entry
-  sound_numbers entry p known proper = known_sound pool entry all known (let same = same_heights pool 0 entry.sets in let few = proper.row.sound.few in omega (arith, same, few))
-
-  pub numbered_may : MayJoin AreSoundNumbers AreAlikeNumbers cells row.point row.entry
+  pub numbered_may : MayJoin AreSoundNumbers AreAlikeNumbers cells point entry
   numbered_may = record {
-    one = λ cell h e. (may_join app (plain_cells pool cells) (plain_row pool row) numbered.proper its.proper).one (plain_cell pool cell) (among_plain pool cells cell h) e;
+    one = λ cell h e. (may_join app (plain_cells pool cells) (row_at point (plain_entry pool entry)) numbered.proper is_proper).one (plain_cell pool cell) (among_plain pool cells cell h) e;
     elements = λ cell h. sound_numbers cell.entry cell.point (numbered.known.each cell h) (numbered.proper.each (plain_cell pool cell) (among_plain pool cells cell h));
-    alike = λ cell h. (numbered.known.each cell h).domains ∙ sym its.known.domains;
-    element = sound_numbers row.entry row.point its.known its.proper;
+    alike = λ cell h. (numbered.known.each cell h).domains ∙ sym its.domains;
+    element = sound_numbers entry point its is_proper;
   }
 
-  pub numbered_joined : (after : List (Cell NumberedEntry)) → IsJoined AreSoundNumbers AreAlikeNumbers IsBelowNumbers entry_numbers cells row.point row.entry after → AreJoined app (plain_cells pool cells) (plain_row pool row ∷ []) (plain_cells pool after)
+  pub numbered_joined : (after : List (Cell NumberedEntry)) → IsJoined AreSoundNumbers AreAlikeNumbers IsBelowNumbers entry_numbers cells point entry after → AreJoined app (plain_cells pool cells) (row_at point (plain_entry pool entry) ∷ []) (plain_cells pool after)
   numbered_joined after h =
-      joined_one app (plain_cells pool cells) (plain_row pool row) numbered.proper its.proper (plain_cells pool after) (joined_plain pool cells after row.point row.entry all numbered.known its.known h)
+      joined_one app (plain_cells pool cells) (row_at point (plain_entry pool entry)) numbered.proper is_proper (plain_cells pool after) (joined_plain pool cells after point entry all numbered.known its h)
 
-  pub numbered_after : (after : List (Cell NumberedEntry)) → IsJoined AreSoundNumbers AreAlikeNumbers IsBelowNumbers entry_numbers cells row.point row.entry after → AreCellsOf pool after
-  numbered_after after h = joined_known pool cells after row.point row.entry all numbered.known its.known h
+  pub numbered_after : (after : List (Cell NumberedEntry)) → IsJoined AreSoundNumbers AreAlikeNumbers IsBelowNumbers entry_numbers cells point entry after → AreCellsOf pool after
+  numbered_after after h = joined_known pool cells after point entry all numbered.known its h
 
 -- ---- longer pools
 
@@ -105,7 +100,7 @@ cells_on app pool after cells longer h = record {
 abbrev pub asked : Cell NumberedEntry → Cell NumberedEntry
 asked cell = record cell { waiting = false }
 
-module _ (app : App) (pool after : List Values) (cells : List (Cell NumberedEntry)) (place : ℕ) (cell : Cell NumberedEntry) (numbered : AreNumberedCells app pool cells) (waits : IsWaitingAt cells place) (is : get_or cells place cell ≡ cell) (longer : IsLonger pool after) where
+module _ (app : App) (pool : List Values) (cells : List (Cell NumberedEntry)) (place : ℕ) (cell : Cell NumberedEntry) (numbered : AreNumberedCells app pool cells) (waits : IsWaitingAt cells place) (is : get_or cells place cell ≡ cell) where
   among : Contains cells cell
   among = (place, waits.known, is)
 
@@ -129,29 +124,23 @@ module _ (app : App) (pool after : List Values) (cells : List (Cell NumberedEntr
     ];
   }
 
-  asked_same : plain_cells after (set cells place (asked cell)) ≡ set (plain_cells pool cells) place (evaluated (plain_cell pool cell))
-  asked_same = cells_same pool after (set cells place (asked cell)) longer asked_known ∙ map-set (plain_cell pool) cells place (asked cell)
+  asked_same : plain_cells pool (set cells place (asked cell)) ≡ set (plain_cells pool cells) place (evaluated (plain_cell pool cell))
+  asked_same = map-set (plain_cell pool) cells place (asked cell)
 
-  pub asked_cells : AreNumberedCells app after (set cells place (asked cell))
+  pub asked_cells : AreNumberedCells app pool (set cells place (asked cell))
   asked_cells = record {
-    known = cells_known pool after (set cells place (asked cell)) longer asked_known;
+    known = asked_known;
     proper = subst (AreProperCells app) (sym asked_same) (evaluated_proper (plain_cells pool cells) place (plain_cell pool cell) plain_known plain_is app numbered.proper);
   }
 
-  module _ (rows : List NumberedRow) (known : AreRowsOf after rows) (leads : Leads app cell.point (plain_entry pool cell.entry) (plain_rows after rows)) where
-    pub led_rows : AreNumberedRows app after rows
-    led_rows = record {
-      each = λ row m. record { known = known.each row m; proper = (leads.each (plain_row after row) (among_rows after rows row m)).proper };
-    }
-
-    pub progress_on : (end : List (Cell NumberedEntry)) → AreCellsOf after end → AreJoined app (plain_cells after (set cells place (asked cell))) (plain_rows after rows) (plain_cells after end)
-        → (n : ℕ) → HasProgress app pool cells n → HasProgress app after end (n + 1)
-    progress_on end end_known joined n progress = record {
-      known = end_known;
-      progress =
-          progress_made (plain_cells pool cells) place (plain_cell pool cell) plain_known plain_is app (plain_rows after rows) (plain_cells after end) (sym (ap (λ (x : Cell NumberedEntry). x.waiting) is) ∙ waits.waits cell) leads
-          (subst (λ (xs : List (Cell Entry)). AreJoined app xs (plain_rows after rows) (plain_cells after end)) asked_same joined) n progress.progress;
-    }
+  pub progress_on : (after : List Values) (end : List (Cell NumberedEntry)) → AreCellsOf after end → IsEvaluated app cell.point (plain_entry pool cell.entry) (plain_cells pool (set cells place (asked cell))) (plain_cells after end)
+      → (n : ℕ) → HasProgress app pool cells n → HasProgress app after end (n + 1)
+  progress_on after end known h n progress = record {
+    known = known;
+    progress =
+        progress_made (plain_cells pool cells) place (plain_cell pool cell) plain_known plain_is app h.rows (plain_cells after end) (sym (ap (λ (x : Cell NumberedEntry). x.waiting) is) ∙ waits.waits cell) h.leads
+        (subst (λ (xs : List (Cell Entry)). AreJoined app xs h.rows (plain_cells after end)) asked_same h.joined) n progress.progress;
+  }
 
 -- an entry of the pool's numbers has a set for each of its components
 pub sets_as_many : (pool : List Values) (entry : NumberedEntry) → AreNumbersOf pool entry → length entry.sets ≡ length pool

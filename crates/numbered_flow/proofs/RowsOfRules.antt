@@ -2,6 +2,7 @@
 use Rattle.std.proofs.Common.{◌≡◌, ◌⊎◌, Bool, true, false, not, List, [], ◌∷◌, ◌++◌, length, get_or, map, take, flat_map, refl, sym, ap, subst, ◌∙◌, inl, inr, arith, ◌<◌, ◌+◌, ℕ, IsTrue}
 use Rattle.std.specs.Prelude.{Contains}
 use Rattle.std.specs.List.{list_any}
+use Rattle.std.proofs.Math.ListN.{get_or-map}
 use Rattle.std.proofs.lemmas.List.{append-nil, length-map, map-append, take_more}
 use Rattle.std.proofs.lemmas.List.Elements.{Contains-get_or, Contains-push, Contains-push_cases, Contains-append_left}
 use Rattle.std.proofs.lemmas.Grind.{flat_map-append}
@@ -14,7 +15,7 @@ use Rattle.osek_standard.proofs.Members.{Among, among_left, among_right, among_c
 use Rattle.abstract_state.specs.declared.value.{Domain.{Domain}, PartValue.{PartValue}}
 use Rattle.abstract_state.specs.declared.table.{Entry.{Entry}, TableRow.{TableRow}, ValueSet.{ValueSet}}
 use Rattle.abstract_state.specs.Domains.{IsWithin, domains, domains_of, HasMasks}
-use Rattle.abstract_state.specs.Tables.{set_at, is_member}
+use Rattle.abstract_state.specs.Tables.{empty_set, set_at, is_member}
 use Rattle.flow_model.specs.declared.{rule.Rule.{Rule}, test.Condition.{Condition}}
 use Rattle.flow_model.specs.Tests.{is_failed, PassesAt, value_after}
 use Rattle.flow_model.specs.Rules.{Covering, Exact, Applies, HasNone}
@@ -27,11 +28,10 @@ use Rattle.flow_rules.proofs.Passing.{each_passes}
 use Rattle.flow_rules.proofs.Leading.{steps_in, passing_state}
 use Rattle.numbered_sets.specs.declared.numbered_entry.NumberedEntry.{NumberedEntry}
 use Rattle.numbered_sets.specs.NumberedEntries.{numbers_at}
-use Rattle.numbered_sets.specs.Pools.{Values, domain_at, IsLonger}
+use Rattle.numbered_sets.specs.Pools.{Values, domain_at}
 use Rattle.numbered_sets.specs.Views.{plain_entry, AreNumbersOf}
 use Rattle.numbered_sets.proofs.PlainLaws.{plain_set_at, length_plain}
-use Rattle.numbered_sets.proofs.ViewLaws.{same_view, still_known}
-use Rattle.numbered_sets.proofs.NumberingLaws.{longer_itself, longer_onward}
+use Rattle.numbered_sets.proofs.NumberingLaws.{longer_itself}
 use Rattle.numbered_rules.specs.Applying.{KeepsDomains}
 use Rattle.numbered_rules.specs.Replacing.{IsReplaced, AppliesBeside}
 use Rattle.numbered_rules.proofs.KeptDomains.{exact_keep, shared_keep}
@@ -41,16 +41,14 @@ use Rattle.state_flow.specs.Rows.{row_at, IsProperRow}
 use Rattle.state_flow.specs.Reaching.{IsLed, IsReached, Leads}
 use Rattle.state_flow.proofs.RowLaws.{as_many_sets}
 use Rattle.state_flow.proofs.ReachedRows.{reached_by}
-use Rattle.numbered_flow.specs.declared.evaluation.NumberedRow.{NumberedRow}
-use Rattle.numbered_flow.specs.PlainRows.{plain_row, plain_rows, AreRowsOf}
-use Rattle.numbered_flow.specs.RowRules.{IsRowOf, IsRowOfSome, HasRowOf, AddsRows, AddsNumberedRows, MayApply, IsMadeBeside}
+use Rattle.numbered_flow.specs.RowRules.{IsRowOf, IsRowOfSome, HasRowOf, AddsRows, MakesProperRow, MakeProperRows, MayApply, IsMadeBeside}
 
 -- ---- rows of plain entries
 
-no_rows : (entry : Entry) (rows : List TableRow) → AddsRows [] entry rows rows
+pub no_rows : (entry : Entry) (rows : List TableRow) → AddsRows [] entry rows rows
 no_rows entry rows = record { kept = λ row m. m; each = λ row m. inl m; whole = λ rule m. absurd (contained_among [] rule m) }
 
-none_row : (rule : Rule) (entry : Entry) (rows : List TableRow) → HasNone rule entry → AddsRows (rule ∷ []) entry rows rows
+pub none_row : (rule : Rule) (entry : Entry) (rows : List TableRow) → HasNone rule entry → AddsRows (rule ∷ []) entry rows rows
 none_row rule entry rows none = record {
   kept = λ row m. m;
   each = λ row m. inl m;
@@ -60,7 +58,7 @@ none_row rule entry rows none = record {
   ];
 }
 
-one_row : (rule : Rule) (entry : Entry) (rows : List TableRow) (row : TableRow) → IsRowOf rule entry row → AddsRows (rule ∷ []) entry rows (rows ++ row ∷ [])
+pub one_row : (rule : Rule) (entry : Entry) (rows : List TableRow) (row : TableRow) → IsRowOf rule entry row → AddsRows (rule ∷ []) entry rows (rows ++ row ∷ [])
 one_row rule entry rows row is = record {
   kept = λ x m. Contains-append_left rows (row ∷ []) x m;
   each = λ x m. elim (Contains-push_cases rows row x m) [
@@ -96,74 +94,36 @@ rows_then first next entry a b c x y = record {
 none_rows : (rules : List Rule) (entry : Entry) (rows : List TableRow) → ((rule : Rule) → Contains rules rule → HasNone rule entry) → AddsRows rules entry rows rows
 none_rows rules entry rows none = record { kept = λ row m. m; each = λ row m. inl m; whole = λ rule m. inl (none rule m) }
 
--- ---- rows of numbered entries
-
-rows_same : (pool after : List Values) (rows : List NumberedRow) → IsLonger pool after → ((row : NumberedRow) → Among row rows → AreNumbersOf pool row.entry) → plain_rows after rows ≡ plain_rows pool rows
-rows_same pool after [] longer known = refl
-rows_same pool after (x ∷ xs) longer known = λ i. row_at x.point (same_view pool after x.entry longer (known x (inl refl)) i) ∷ rows_same pool after xs longer (λ row m. known row (inr m)) i
-
-rows_pushed : (pool : List Values) (rows : List NumberedRow) (row : NumberedRow) → plain_rows pool (rows ++ row ∷ []) ≡ plain_rows pool rows ++ plain_row pool row ∷ []
-rows_pushed pool [] row = refl
-rows_pushed pool (x ∷ xs) row = ap (λ (rs : List TableRow). plain_row pool x ∷ rs) (rows_pushed pool xs row)
-
-module _ (pool : List Values) (entry : NumberedEntry) (rows : List NumberedRow) (after : List Values) (longer : IsLonger pool after) where
-  stay : AreRowsOf pool rows → plain_rows after rows ≡ plain_rows pool rows
-  stay known = rows_same pool after rows longer (λ row m. known.each row (among_contained rows row m))
-
-  stay_known : AreRowsOf pool rows → AreRowsOf after rows
-  stay_known known = record { each = λ row m. still_known pool after row.entry longer (known.each row m) }
-
-  -- rows that stay
-  pub same_rows : (rules : List Rule) → ((rs : List TableRow) → AddsRows rules (plain_entry pool entry) rs rs) → AddsNumberedRows rules pool entry rows after rows
-  same_rows rules adds = record {
-    longer = longer;
-    known = stay_known;
-    rows = λ known. subst (AddsRows rules (plain_entry pool entry) (plain_rows pool rows)) (sym (stay known)) (adds (plain_rows pool rows));
-  }
-
-  pub no_rows_added : AddsNumberedRows [] pool entry rows after rows
-  no_rows_added = same_rows [] (no_rows (plain_entry pool entry))
-
-  pub none_added : (rule : Rule) → HasNone rule (plain_entry pool entry) → AddsNumberedRows (rule ∷ []) pool entry rows after rows
-  none_added rule none = same_rows (rule ∷ []) (λ rs. none_row rule (plain_entry pool entry) rs none)
-
-  -- no rule of a group has a result
-  pub no_value_added : (g : ValueRules) → HasNone g.rule (plain_entry pool entry) → AddsNumberedRows (map (rule_at g) g.ends) pool entry rows after rows
-  no_value_added g none = same_rows (map (rule_at g) g.ends) (λ rs. none_rows (map (rule_at g) g.ends) (plain_entry pool entry) rs (λ rule m.
-      (let x = map_among (rule_at g) rule g.ends (contained_among (map (rule_at g) g.ends) rule m) in
-      subst (λ (r : Rule). HasNone r (plain_entry pool entry)) (sym x.2) (none_of_shared g x.0 (plain_entry pool entry) none))))
-
-  pub row_added : (rule : Rule) (new : NumberedEntry) → AreNumbersOf after new → Applies rule (plain_entry pool entry) (plain_entry after new) → AddsNumberedRows (rule ∷ []) pool entry rows after (rows ++ record { point = rule.target; entry = new } ∷ [])
-  row_added rule new numbers applied = record {
-    longer = longer;
-    known = λ known. record {
-      each = λ row m. elim (Contains-push_cases rows (record { point = rule.target; entry = new }) row m) [
-        | inl old ↦ (stay_known known).each row old
-        | inr is ↦ subst (λ (x : NumberedRow). AreNumbersOf after x.entry) is numbers
-      ];
-    };
-    rows = λ known.
-        subst (AddsRows (rule ∷ []) (plain_entry pool entry) (plain_rows pool rows)) (sym (rows_pushed after rows (record { point = rule.target; entry = new }) ∙ ap (λ (rs : List TableRow). rs ++ row_at rule.target (plain_entry after new) ∷ []) (stay known)))
-        (one_row rule (plain_entry pool entry) (plain_rows pool rows) (row_at rule.target (plain_entry after new)) (record { point = refl; made = applied }));
-  }
-
-pub added_then : (first next : List Rule) (pool : List Values) (entry : NumberedEntry) (a b c : List NumberedRow) (mid after : List Values) → AreNumbersOf pool entry → AddsNumberedRows first pool entry a mid b → AddsNumberedRows next mid entry b after c
-    → AddsNumberedRows (first ++ next) pool entry a after c
-added_then first next pool entry a b c mid after known x y = record {
-  longer = longer_onward pool mid after x.longer y.longer;
-  known = λ h. y.known (x.known h);
-  rows = λ h.
-      rows_then first next (plain_entry pool entry) (plain_rows pool a) (plain_rows mid b) (plain_rows after c) (x.rows h)
-      (subst (λ (e : Entry). AddsRows next e (plain_rows mid b) (plain_rows after c)) (same_view pool mid entry x.longer known) (y.rows (x.known h)));
+-- the rows of more rules stand behind others
+rows_behind : (rules : List Rule) (entry : Entry) (rows more : List TableRow) → AddsRows rules entry [] more → AddsRows rules entry rows (rows ++ more)
+rows_behind rules entry rows more h = record {
+  kept = λ row m. Contains-append_left rows more row m;
+  each = λ row m. elim (among_cases row rows more (contained_among (rows ++ more) row m)) [
+    | inl old ↦ inl (among_contained rows row old)
+    | inr new ↦ elim (h.each row (among_contained more row new)) [
+      | inl none ↦ absurd (contained_among [] row none)
+      | inr r ↦ inr r
+    ]
+  ];
+  whole = λ rule m. elim (h.whole rule m) [
+    | inl none ↦ inl none
+    | inr has ↦ inr (record { row = has.row; listed = among_contained (rows ++ more) has.row (among_right has.row rows more (contained_among more has.row has.listed)); is = has.is })
+  ];
 }
+
+pub rows_with : (first next : List Rule) (entry : Entry) (rows more : List TableRow) → AddsRows first entry [] rows → AddsRows next entry [] more → AddsRows (first ++ next) entry [] (rows ++ more)
+rows_with first next entry rows more x y = rows_then first next entry [] rows (rows ++ more) x (rows_behind next entry rows more y)
+
+-- no rule of a group has a result
+pub no_value_row : (g : ValueRules) (entry : Entry) (rows : List TableRow) → HasNone g.rule entry → AddsRows (map (rule_at g) g.ends) entry rows rows
+no_value_row g entry rows none = none_rows (map (rule_at g) g.ends) entry rows (λ rule m.
+    (let x = map_among (rule_at g) rule g.ends (contained_among (map (rule_at g) g.ends) rule m) in
+    subst (λ (r : Rule). HasNone r entry) (sym x.2) (none_of_shared g x.0 entry none)))
 
 -- ---- the values of a group
 
-pub made_by_shared : (g : ValueRules) (pool after : List Values) (entry made : NumberedEntry) → IsLonger pool after → AreNumbersOf pool entry → AreNumbersOf after made → Applies g.rule (plain_entry pool entry) (plain_entry after made) → IsMadeBeside g after entry made
-made_by_shared g pool after entry made longer known numbers applied = record {
-  numbers = numbers;
-  beside = subst (λ (e : Entry). AppliesBeside g.rule g.component.0 e (plain_entry after made)) (sym (same_view pool after entry longer known)) (applies_beside g.rule g.component.0 (plain_entry pool entry) (plain_entry after made) applied);
-}
+pub made_by_shared : (g : ValueRules) (entry : Entry) (pool : List Values) (made : NumberedEntry) → AreNumbersOf pool made → Applies g.rule entry (plain_entry pool made) → IsMadeBeside g entry pool made
+made_by_shared g entry pool made numbers applied = record { numbers = numbers; beside = applies_beside g.rule g.component.0 entry (plain_entry pool made) applied }
 
 pub passing_here : (xs : List Condition) (c : ℕ) (v : PartValue) → not (list_any (is_failed c v) xs) ≡ true → PassesAt xs c v
 passing_here xs c v e = each_passes xs c v (not_failed (list_any (is_failed c v) xs) e)
@@ -172,47 +132,46 @@ passing_here xs c v e = each_passes xs c v (not_failed (list_any (is_failed c v)
     not_failed true e = absurd (cc)
     not_failed false e = refl
 
-not_passing : (b : Bool) → not b ≡ false → b ≡ true
+pub not_passing : (b : Bool) → not b ≡ false → b ≡ true
 not_passing true e = refl
 not_passing false e = absurd (cc)
 
-pub failing_added : (g : ValueRules) (x : End) (pool : List Values) (entry : NumberedEntry) (rows : List NumberedRow) → IsTrue (is_member (set_at (plain_entry pool entry) g.component.0) x.value) → not (list_any (is_failed g.component.0 x.value) g.rule.conditions) ≡ false
-    → AddsNumberedRows (rule_at g x ∷ []) pool entry rows pool rows
-failing_added g x pool entry rows there fails = none_added pool entry rows pool (longer_itself pool) (rule_at g x) (none_of_failing g x (plain_entry pool entry) there (not_passing (list_any (is_failed g.component.0 x.value) g.rule.conditions) fails))
+pub failing_row : (g : ValueRules) (x : End) (entry : Entry) (rows : List TableRow) → IsTrue (is_member (set_at entry g.component.0) x.value) → list_any (is_failed g.component.0 x.value) g.rule.conditions ≡ true → AddsRows (rule_at g x ∷ []) entry rows rows
+failing_row g x entry rows there fails = none_row (rule_at g x) entry rows (none_of_failing g x entry there fails)
 
-module _ (g : ValueRules) (x : End) (pool : List Values) (entry made : NumberedEntry) (after : List Values) (new : NumberedEntry) (known : AreNumbersOf pool entry) (is : IsMadeBeside g pool entry made) (longer : IsLonger pool after)
+module _ (g : ValueRules) (x : End) (entry : Entry) (pool : List Values) (made : NumberedEntry) (after : List Values) (new : NumberedEntry) (is : IsMadeBeside g entry pool made)
     (replaced : IsReplaced pool made g.component.0 (value_after g.rule.changes g.component.0 x.value) after new) where
-  beside_now : AppliesBeside g.rule g.component.0 (plain_entry pool entry) (plain_entry after new)
-  beside_now = still_beside g.rule g.component.0 (plain_entry pool entry) (plain_entry pool made) (plain_entry after new) is.beside replaced.domains replaced.ascending replaced.others
-
-  pub still_made : IsMadeBeside g after entry new
+  pub still_made : IsMadeBeside g entry after new
   still_made = record {
     numbers = replaced.numbers;
-    beside = subst (λ (e : Entry). AppliesBeside g.rule g.component.0 e (plain_entry after new)) (sym (same_view pool after entry longer known)) beside_now;
+    beside = still_beside g.rule g.component.0 entry (plain_entry pool made) (plain_entry after new) is.beside replaced.domains replaced.ascending replaced.others;
   }
 
-  pub value_added : (rows : List NumberedRow) → IsTrue (is_member (set_at (plain_entry pool entry) g.component.0) x.value) → PassesAt g.rule.conditions g.component.0 x.value →
-      AddsNumberedRows (rule_at g x ∷ []) pool entry rows after (rows ++ record { point = x.target; entry = new } ∷ [])
-  value_added rows there here = row_added pool entry rows after longer (rule_at g x) new replaced.numbers (value_applies g x (plain_entry pool entry) (plain_entry after new) there here replaced.value beside_now)
+  pub value_made : IsTrue (is_member (set_at entry g.component.0) x.value) → PassesAt g.rule.conditions g.component.0 x.value → Applies (rule_at g x) entry (plain_entry after new)
+  value_made there here = value_applies g x entry (plain_entry after new) there here replaced.value still_made.beside
 
 -- the set of the value's component is there in what the shared rule made
-pub its_set : (g : ValueRules) (pool : List Values) (entry made : NumberedEntry) (v : PartValue) → IsMadeBeside g pool entry made → IsTrue (is_member (set_at (plain_entry pool entry) g.component.0) v) → g.component.0 < length made.sets
-its_set g pool entry made v is m =
-    let lt = member_known (plain_entry pool entry) g.component.0 v m in
-    let old = length-map (plain_entry pool entry).sets (λ (s : ValueSet). s.domain) in
+pub its_set : (g : ValueRules) (entry : Entry) (pool : List Values) (made : NumberedEntry) (v : PartValue) → IsMadeBeside g entry pool made → IsTrue (is_member (set_at entry g.component.0) v) → g.component.0 < length made.sets
+its_set g entry pool made v is m =
+    let lt = member_known entry g.component.0 v m in
+    let old = length-map entry.sets (λ (s : ValueSet). s.domain) in
     let new = length-map (plain_entry pool made).sets (λ (s : ValueSet). s.domain) in
     let same = ap (λ (ds : List Domain). length ds) is.beside.domains in
     let long = length_plain pool 0 made.sets in
     omega (arith, lt, old, new, same, long)
 
-pub its_value_within : (g : ValueRules) (before pool : List Values) (entry made : NumberedEntry) (v : PartValue) → AreNumbersOf before entry → IsLonger before pool → KeepsDomains g.rule (plain_entry before entry) → IsMadeBeside g pool entry made
-    → IsTrue (is_member (set_at (plain_entry before entry) g.component.0) v) → PassesAt g.rule.conditions g.component.0 v → IsWithin (domain_at pool g.component.0) (value_after g.rule.changes g.component.0 v)
-its_value_within g before pool entry made v known longer keeps is there p =
+-- alike entries have sets of the same domain
+domain_there : (a b : Entry) (c : ℕ) → domains a ≡ domains b → (set_at a c).domain ≡ (set_at b c).domain
+domain_there a b c e =
+    sym (get_or-map (λ (s : ValueSet). s.domain) a.sets c empty_set) ∙ ap (λ (ds : List Domain). get_or ds c empty_set.domain) e ∙ get_or-map (λ (s : ValueSet). s.domain) b.sets c empty_set
+
+pub its_value_within : (g : ValueRules) (entry : Entry) (pool : List Values) (made : NumberedEntry) (v : PartValue) → KeepsDomains g.rule entry → IsMadeBeside g entry pool made → IsTrue (is_member (set_at entry g.component.0) v)
+    → PassesAt g.rule.conditions g.component.0 v → IsWithin (domain_at pool g.component.0) (value_after g.rule.changes g.component.0 v)
+its_value_within g entry pool made v keeps is there p =
     let c = g.component.0 in
-    let beside : AppliesBeside g.rule g.component.0 (plain_entry before entry) (plain_entry pool made) = subst (λ (e : Entry). AppliesBeside g.rule g.component.0 e (plain_entry pool made)) (same_view before pool entry longer known) is.beside in
-    let within = (keeps.sets beside.filled g.component.0 (member_known (plain_entry before entry) g.component.0 v there)).each v there p in
-    subst (λ (d : Domain). IsWithin d (value_after g.rule.changes g.component.0 v))
-    (ap (λ (s : ValueSet). s.domain) (plain_set_at before entry g.component.0) ∙ alike_there before pool entry g.component.0 (numbers_at entry g.component.0) known longer refl) within
+    let within = (keeps.sets is.beside.filled c (member_known entry c v there)).each v there p in
+    subst (λ (d : Domain). IsWithin d (value_after g.rule.changes c v))
+    (domain_there entry (plain_entry pool made) c (sym is.beside.domains) ∙ ap (λ (s : ValueSet). s.domain) (plain_set_at pool made c) ∙ alike_there pool pool made c (numbers_at made c) is.numbers (longer_itself pool) refl) within
 
 pub more_values : (g : ValueRules) (items : List End) (i : ℕ) (x : End) → i < length items → x ≡ get_or items i x → map (rule_at g) (take i items) ++ rule_at g x ∷ [] ≡ map (rule_at g) (take (i + 1) items)
 more_values g items i x lt e = sym (ap (map (rule_at g)) (take_more items i x lt ∙ ap (λ (y : End). take i items ++ y ∷ []) (sym e)) ∙ map-append (rule_at g) (take i items) (x ∷ []))
@@ -234,6 +193,15 @@ module _ (app : App) (p : Point) (entry : Entry) (groups : List RuleGroup) (alik
 
   pub may_apply : (g : RuleGroup) → Contains groups g → MayApply entry g
   may_apply = may_by
+
+-- what exact rules make of a proper row's entry are proper rows
+pub proper_made : (app : App) → HasMasks app → (p : Point) (entry : Entry) → IsProperRow app (row_at p entry) → (groups : List RuleGroup) → Exact app p entry (all_rules groups) → (g : RuleGroup) → Contains groups g → MakeProperRows app (rules_of g) entry
+proper_made app masks p entry proper groups exact g listed = record {
+  each = λ rule m. record {
+    row = λ new made.
+        (reached_by app masks p entry proper (all_rules groups) rule new (among_contained (all_rules groups) rule (among_flat_map rules_of g rule groups (contained_among groups g listed) (contained_among (rules_of g) rule m))) exact made).proper;
+  };
+}
 
 module _ (app : App) (masks : HasMasks app) (p : Point) (entry : Entry) (proper : IsProperRow app (row_at p entry)) (rules : List Rule) (covering : Covering app p entry rules) (exact : Exact app p entry rules) (rows : List TableRow) (h : AddsRows rules entry [] rows) where
   reached_row : (row : TableRow) → IsRowOfSome rules entry row → IsReached app p entry row

@@ -1,4 +1,3 @@
 pub mod PlainCells
-pub mod PlainRows
 pub mod Numbering
 pub mod RowRules

@@ -2,10 +2,10 @@
 #![tactic(auto)]
 
 mod evaluation;
+mod joining;
 pub mod laws;
 mod least_table;
 mod numbered_cells;
-mod rows;
 
-pub use evaluation::{NumberedRow, evaluate};
+pub use evaluation::evaluate;
 pub use least_table::solve;

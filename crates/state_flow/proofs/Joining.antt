@@ -2,11 +2,12 @@
 use Rattle.std.proofs.Common.{◌≡◌, ℕ, ◌+◌, ◌<◌, ◌≤◌, List, [], ◌∷◌, ◌++◌, length, get_or, take, IsTrue, sym, ap, subst, ◌∙◌, inl, inr, arith}
 use Rattle.std.specs.Prelude.{Contains}
 use Rattle.std.proofs.lemmas.List.{take_more, take_all}
-use Rattle.std.proofs.lemmas.List.Elements.{Contains-push, Contains-push_cases, Contains-append_left}
+use Rattle.std.proofs.lemmas.List.Elements.{Contains-push, Contains-push_cases}
 use Rattle.osek_standard.specs.declared.app.App.{App}
 use Rattle.osek_standard.specs.declared.point.Point.{Point}
 use Rattle.osek_standard.specs.Points.{IsPoint}
 use Rattle.osek_standard.proofs.PointLaws.{one_number}
+use Rattle.osek_standard.proofs.Members.{among_left, among_right, among_cases, among_contained, contained_among}
 use Rattle.abstract_state.specs.declared.table.{Entry.{Entry}, TableRow.{TableRow}}
 use Rattle.abstract_state.specs.Components.{IsAllowed}
 use Rattle.abstract_state.specs.Domains.{domains, IsSoundEntry, IsBelow}
@@ -111,26 +112,26 @@ module _ (app : App) where
     sizes = omega arith;
   }
 
-  pub joined_more : (cells now after : List (Cell Entry)) (rows : List TableRow) (row : TableRow) → AreJoined app cells rows now → AreJoined app now (row ∷ []) after → AreJoined app cells (rows ++ row ∷ []) after
-  joined_more cells now after rows row so_far next = record {
-    cells_proper = next.cells_proper;
-    kept = λ cell h none. so_far.kept cell (next.kept cell h none) none;
-    grows = contained_onward (sets_in cells) (sets_in now) (sets_in after) so_far.grows next.grows;
-    joins = λ other h. elim (Contains-push_cases rows row other h) [
-      | inl old ↦ contained_row (sets_in now) (sets_in after) other next.grows (so_far.joins other old)
-      | inr same ↦ subst (IsRowIn (sets_in after)) same (next.joins row (Contains-push [] row))
+  pub joined_then : (cells now after : List (Cell Entry)) (first next : List TableRow) → AreJoined app cells first now → AreJoined app now next after → AreJoined app cells (first ++ next) after
+  joined_then cells now after first next so_far more = record {
+    cells_proper = more.cells_proper;
+    kept = λ cell h none. so_far.kept cell (more.kept cell h none) none;
+    grows = contained_onward (sets_in cells) (sets_in now) (sets_in after) so_far.grows more.grows;
+    joins = λ other h. elim (among_cases other first next (contained_among (first ++ next) other h)) [
+      | inl old ↦ contained_row (sets_in now) (sets_in after) other more.grows (so_far.joins other (among_contained first other old))
+      | inr new ↦ more.joins other (among_contained next other new)
     ];
     least = λ other old new.
-        next.least other (so_far.least other old (λ r h. new r (Contains-append_left rows (row ∷ []) r h)))
-        (λ r h. elim (Contains-push_cases [] row r h) [ inl none ↦ absurd (omega (arith, none.1)) | inr same ↦ subst (IsRowIn other) same (new row (Contains-push rows row)) ]);
-    counts = omega (arith, so_far.counts, next.counts);
-    sizes = omega (arith, so_far.sizes, next.sizes);
+        more.least other (so_far.least other old (λ r h. new r (among_contained (first ++ next) r (among_left r first next (contained_among first r h)))))
+        (λ r h. new r (among_contained (first ++ next) r (among_right r first next (contained_among next r h))));
+    counts = omega (arith, so_far.counts, more.counts);
+    sizes = omega (arith, so_far.sizes, more.sizes);
   }
 
   -- in a loop over the rows
   pub joined_on : (cells now after : List (Cell Entry)) (rows : List TableRow) (i : ℕ) (row : TableRow) → i < length rows → row ≡ get_or rows i row → AreJoined app cells (take i rows) now → AreJoined app now (row ∷ []) after → AreJoined app cells (take (i + 1) rows) after
   joined_on cells now after rows i row lt is so_far next =
-      subst (λ (xs : List TableRow). AreJoined app cells xs after) (ap (λ (x : TableRow). take i rows ++ x ∷ []) is ∙ sym (take_more rows i row lt)) (joined_more cells now after (take i rows) row so_far next)
+      subst (λ (xs : List TableRow). AreJoined app cells xs after) (ap (λ (x : TableRow). take i rows ++ x ∷ []) is ∙ sym (take_more rows i row lt)) (joined_then cells now after (take i rows) (row ∷ []) so_far next)
 
   pub joined_all : (cells after : List (Cell Entry)) (rows : List TableRow) (i : ℕ) → length rows ≤ i → AreJoined app cells (take i rows) after → AreJoined app cells rows after
   joined_all cells after rows i le = subst (λ (xs : List TableRow). AreJoined app cells xs after) (take_all i rows le)

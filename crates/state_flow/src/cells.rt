@@ -6,6 +6,7 @@ ghost use Rattle.osek_standard.specs.Points.{point_number};
 use entry_lattice::Lattice;
 use osek_standard::Point;
 use osek_values::Memory;
+use std::alloc::Global;
 
 /// A point that was reached, and what the states there can be like.
 #[derive(Drop)]
@@ -84,24 +85,28 @@ pub fn next_waiting<E>(cells: &[Cell<E>], from: usize) -> Option<usize>
 
 /// Joins an entry into the cell of its point, or puts the point in with it.
 pub fn join<E: Lattice + Drop>(
+    alloc: Global,
     cells: &mut Vec<Cell<E>>,
     point: Point,
-    entry: E,
+    entry: &E,
 ) -> Result<(), Memory>
     requires order { AreInOrder cells.old.items }
-    requires may { MayJoin E.is_element E.alike cells.old.items point entry }
-    ensures { OnOk result (IsJoined E.is_element E.alike E.is_below E.rank cells.old.items point entry cells.new.items) }
+    requires may { MayJoin E.is_element E.alike cells.old.items point entry.now }
+    ensures { OnOk result (IsJoined E.is_element E.alike E.is_below E.rank cells.old.items point entry.now cells.new.items) }
 {
     match place_of(cells.as_slice(), point) {
-        Ok(place) => cells[place].raise(&entry)?,
-        Err(gap) => cells.insert(
-            gap,
-            Cell {
-                point,
-                entry,
-                waiting: true,
-            },
-        )?,
+        Ok(place) => cells[place].raise(entry)?,
+        Err(gap) => {
+            let entry = entry.copy(alloc)?;
+            cells.insert(
+                gap,
+                Cell {
+                    point,
+                    entry,
+                    waiting: true,
+                },
+            )?
+        }
     }
     Ok(())
 }

@@ -50,7 +50,7 @@ fn started(alloc: Global, app: &App) -> Result<Vec<Cell<Entry>>, Memory>
     let mut cells = Vec::new(alloc);
     for mode in 0..app.modes.len() {
         let row = start_row(alloc, app, ModeNo(mode as u8))?;
-        put_in(app, &mut cells, row)?;
+        put_in(alloc, app, &mut cells, row)?;
     }
     Ok(cells)
 }
@@ -65,28 +65,38 @@ fn turn(alloc: Global, app: &App, cells: &mut Vec<Cell<Entry>>, place: usize) ->
     let cell = &mut cells[place];
     let reached = evaluate(alloc, app, cell.point, &cell.entry)?;
     cell.waiting = false;
-    put_all(app, cells, reached)
+    put_all(alloc, app, cells, reached)
 }
 
 /// Joins rows in.
-fn put_all(app: &App, cells: &mut Vec<Cell<Entry>>, rows: Vec<TableRow>) -> Result<(), Memory>
+fn put_all(
+    alloc: Global,
+    app: &App,
+    cells: &mut Vec<Cell<Entry>>,
+    rows: Vec<TableRow>,
+) -> Result<(), Memory>
     requires cells { AreProperCells app.now cells.old.items }
     requires proper { AreProperRows app.now rows.items }
     ensures { OnOk result (AreJoined app.now cells.old.items rows.items cells.new.items) }
 {
     for row in rows {
-        put_in(app, cells, row)?;
+        put_in(alloc, app, cells, row)?;
     }
     Ok(())
 }
 
 /// Joins a row in.
-fn put_in(app: &App, cells: &mut Vec<Cell<Entry>>, row: TableRow) -> Result<(), Memory>
+fn put_in(
+    alloc: Global,
+    app: &App,
+    cells: &mut Vec<Cell<Entry>>,
+    row: TableRow,
+) -> Result<(), Memory>
     requires cells { AreProperCells app.now cells.old.items }
     requires proper { IsProperRow app.now row }
     ensures { OnOk result (AreJoined app.now cells.old.items (row ∷ []) cells.new.items) }
 {
-    join(cells, row.point, row.entry)
+    join(alloc, cells, row.point, &row.entry)
 }
 
 /// The rows that cells stand for.

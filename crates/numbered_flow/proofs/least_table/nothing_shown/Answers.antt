@@ -4,7 +4,5 @@ use Rattle.numbered_sets.specs.Numbers.{numbers}
 use Rattle.numbered_sets.proofs.KnownNumbers.{none_known}
 use Rattle.numbered_flow.proofs.least_table.nothing_shown.Goals as goal
 
-pub new-requires-2 : goal.new-requires-2
-new-requires-2 c =
-    none_known c.args.pool.now c.in_ok-none.none
-    (c.in_ok-none.ensures ∙ ap (map (λ (d : Domain). numbers d 0)) (c.as_slice.ensures.value ∙ c.in_ok-domains.ensures ∙ sym c.requires))
+pub new-requires : goal.new-requires
+new-requires c = none_known c.args.pool.now c.in_ok-none.none (c.in_ok-none.ensures ∙ ap (map (λ (d : Domain). numbers d 0)) (sym c.requires))

@@ -1,12 +1,14 @@
 use Rattle.std.proofs.Common.{◌∙◌, ◌+◌, ◌*◌, ◌<◌, ◌≤◌, List, length, map, sym, ap, subst, arith}
 use Rattle.osek_standard.specs.Counts.{points, height}
 use Rattle.abstract_state.specs.Domains.{domains_of}
-use Rattle.abstract_state.specs.declared.table.{TableRow.{TableRow}}
+use Rattle.abstract_state.specs.declared.{value.Domain.{Domain}, table.TableRow.{TableRow}}
 use Rattle.abstract_state.specs.Tables.{Least, sets_of, value_count}
 use Rattle.abstract_state.specs.Written.{IsWritten}
 use Rattle.numbered_sets.specs.declared.numbered_entry.NumberedEntry.{NumberedEntry}
+use Rattle.numbered_sets.specs.Numbers.{numbers}
 use Rattle.numbered_sets.specs.Pools.{pool_domains}
 use Rattle.numbered_sets.proofs.ShownLaws.{shown_on}
+use Rattle.numbered_sets.proofs.KnownNumbers.{none_known}
 use Rattle.state_flow.specs.declared.cells.Cell.{Cell}
 use Rattle.state_flow.specs.Cells.{AreInOrder, IsWaitingAt, IsNextWaiting, NoneWaitsFrom}
 use Rattle.state_flow.specs.Rows.{row_of, table_of}
@@ -25,7 +27,15 @@ pub nothing_shown-requires : goal.nothing_shown-requires
 nothing_shown-requires g c = ap pool_domains c.in_ok-pool.ensures ∙ domains_kept (domains_of c.args.app.now)
 
 pub loop-place-init : goal.loop-place-init
-loop-place-init g c = (0, omega arith, c.in_ok-cells.ensures.progress, shown_on c.in_ok-pool.pool c.started.new.pool c.in_ok-shown.shown c.in_ok-cells.ensures.pool c.in_ok-shown.ensures)
+loop-place-init g c =
+    let alike = ap pool_domains c.in_ok-pool.ensures ∙ domains_kept (domains_of c.args.app.now) in
+    let none = none_known c.in_ok-pool.pool c.in_ok-made.made (c.in_ok-made.ensures ∙ ap (map (λ (d : Domain). numbers d 0)) (sym alike)) in (
+      0,
+      omega arith,
+      c.in_ok-cells.ensures.progress,
+      shown_on c.in_ok-pool.pool c.started.new.pool c.in_ok-shown.shown c.in_ok-cells.ensures.pool c.in_ok-shown.ensures,
+      none.domains ∙ sym c.in_ok-cells.ensures.pool.domains,
+    )
 
 pub place_behind-from-requires : goal.place_behind-from-requires
 place_behind-from-requires g c =
@@ -45,7 +55,7 @@ loop-place-smaller g c =
 pub loop-place-preserved : goal.loop-place-preserved
 loop-place-preserved g c =
     let steps = c.loop-place.invariant.1 in
-    (c.loop-place.invariant.0 + 1, omega (arith, c.tick.ensures, steps), c.in_ok-turn.ensures.progress c.loop-place.invariant.0 c.loop-place.invariant.2, c.in_ok-turn.ensures.shown)
+    (c.loop-place.invariant.0 + 1, omega (arith, c.tick.ensures, steps), c.in_ok-turn.ensures.progress c.loop-place.invariant.0 c.loop-place.invariant.2, c.in_ok-turn.ensures.shown, c.in_ok-turn.ensures.alike)
 
 pub returns-clause-written : goal.returns-clause-written
 returns-clause-written g c =

@@ -15,11 +15,8 @@ put_in-requires-clause-cells c =
     cells_on c.args.app.now c.loop-mode.pool c.numbered.new.pool c.loop-mode.cells.items c.in_ok-entry.ensures.pool
     (record { known = c.loop-mode.invariant.1; proper = c.loop-mode.invariant.2.cells_proper })
 
-pub put_in-requires-clause-row : goal.put_in-requires-clause-row
-put_in-requires-clause-row c = record {
-  known = c.in_ok-entry.ensures.numbers;
-  proper = subst (λ (e : Entry). IsProperRow c.args.app.now (row_at c.in_ok-row.row.point e)) (sym c.in_ok-entry.ensures.plain) c.in_ok-row.ensures.proper;
-}
+pub put_in-requires-clause-proper : goal.put_in-requires-clause-proper
+put_in-requires-clause-proper c = subst (λ (e : Entry). IsProperRow c.args.app.now (row_at c.in_ok-row.row.point e)) (sym c.in_ok-entry.ensures.plain) c.in_ok-row.ensures.proper
 
 pub loop-mode-preserved : goal.loop-mode-preserved
 loop-mode-preserved c =

@@ -6,12 +6,14 @@ pub join-requires-clause-order : goal.join-requires-clause-order
 join-requires-clause-order c = numbered_order c.args.pool.now c.args.cells.now.items c.requires.cells.proper.order
 
 pub join-requires-clause-may : goal.join-requires-clause-may
-join-requires-clause-may c = numbered_may c.args.app.now c.args.pool.now c.args.cells.now.items c.args.row c.requires.values c.requires.cells c.requires.row
+join-requires-clause-may c = numbered_may c.args.app.now c.args.pool.now c.args.cells.now.items c.args.point c.args.entry.now c.are_values.ensures c.requires.cells c.requires.known c.requires.proper
 
 pub returns-clause-cells : goal.returns-clause-cells
 returns-clause-cells c =
-    on_ok_weaker c.join.result (λ joined. numbered_after c.args.app.now c.args.pool.now c.args.cells.now.items c.args.row c.requires.values c.requires.cells c.requires.row c.join.new.cells.items joined) c.join.ensures
+    on_ok_weaker c.join.result
+    (λ joined. numbered_after c.args.app.now c.args.pool.now c.args.cells.now.items c.args.point c.args.entry.now c.are_values.ensures c.requires.cells c.requires.known c.requires.proper c.join.new.cells.items joined) c.join.ensures
 
 pub returns-clause-joined : goal.returns-clause-joined
 returns-clause-joined c =
-    on_ok_weaker c.join.result (λ joined. numbered_joined c.args.app.now c.args.pool.now c.args.cells.now.items c.args.row c.requires.values c.requires.cells c.requires.row c.join.new.cells.items joined) c.join.ensures
+    on_ok_weaker c.join.result
+    (λ joined. numbered_joined c.args.app.now c.args.pool.now c.args.cells.now.items c.args.point c.args.entry.now c.are_values.ensures c.requires.cells c.requires.known c.requires.proper c.join.new.cells.items joined) c.join.ensures

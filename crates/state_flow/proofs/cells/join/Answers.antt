@@ -10,12 +10,12 @@ returns-in_ok-raise-in-Ok g c =
     let L = g.E.Lattice in
     let at = rw c.as_slice.ensures.value at c.in-Ok.ensures.place in
     let old = get_or_read c.args.cells.now.items c.in-Ok.place c.index_mut.result.now at.known c.index_mut.ensures.value c.raise.new.self in
-    joined_there L.is_element L.alike L.is_below L.rank g.met.E.Lattice.reflexive c.args.cells.now.items c.args.point c.args.entry c.requires.order c.requires.may c.in-Ok.place c.raise.new.self at
-    (subst (λ (x : Cell g.row.E.Denot). IsRaised L.is_element L.alike L.is_below L.rank x c.args.entry c.raise.new.self) old c.in_ok-raise-in-Ok.ensures)
+    joined_there L.is_element L.alike L.is_below L.rank g.met.E.Lattice.reflexive c.args.cells.now.items c.args.point c.args.entry.now c.requires.order c.requires.may c.in-Ok.place c.raise.new.self at
+    (subst (λ (x : Cell g.row.E.Denot). IsRaised L.is_element L.alike L.is_below L.rank x c.args.entry.now c.raise.new.self) old c.in_ok-raise-in-Ok.ensures)
 
 pub returns-in_ok-insert-in-Err : goal.returns-in_ok-insert-in-Err
 returns-in_ok-insert-in-Err g c =
     let L = g.E.Lattice in
     let at = rw c.as_slice.ensures.value at c.in-Err.ensures.gap in
     rw c.in_ok-insert-in-Err.ensures.items
-    (joined_new L.is_element L.alike L.is_below L.rank g.met.E.Lattice.reflexive c.args.cells.now.items c.args.point c.args.entry c.requires.order c.requires.may c.in-Err.gap _ refl refl refl at)
+    (joined_new L.is_element L.alike L.is_below L.rank g.met.E.Lattice.reflexive c.args.cells.now.items c.args.point c.args.entry.now c.requires.order c.requires.may c.in-Err.gap _ refl c.in_ok-entry-in-Err.ensures refl at)
