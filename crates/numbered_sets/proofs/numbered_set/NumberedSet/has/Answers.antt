@@ -1,4 +1,4 @@
-use Rattle.std.proofs.Common.{◌<◌, ◌≤◌, ◌-◌, ◌∷◌, List, ℕ, sym, ap, ◌∙◌, arith}
+use Rattle.std.proofs.Common.{◌-◌, ◌∷◌, List, ℕ, sym, ap, ◌∙◌, arith}
 use Rattle.osek_standard.specs.Kernel.{has_bit}
 use Rattle.numbered_sets.specs.Numbers.{Numbers, bits_of_words, has_number}
 use Rattle.numbered_sets.proofs.FirstWords.{has_low, has_high, has_further}

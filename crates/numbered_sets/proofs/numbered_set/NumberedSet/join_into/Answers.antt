@@ -1,4 +1,4 @@
-use Rattle.std.proofs.Common.{rules, ◌≡◌, ◌<◌, ◌≤◌, ◌+◌, ◌^◌, ◌∷◌, List, ℕ, ap, ap₂, ◌∙◌, arith}
+use Rattle.std.proofs.Common.{rules, ◌≡◌, ◌<◌, ◌+◌, ◌^◌, ◌∷◌, List, ℕ, ap, ap₂, ◌∙◌, arith}
 use Rattle.std.specs.Prelude.{bit_or, count_ones}
 use Rattle.std.proofs.lemmas.Nat.{or_lt}
 use Rattle.numbered_sets.specs.Numbers.{numbers, bits_of_words, joined_numbers, number_count}
