@@ -75,7 +75,7 @@ module _ (app : App) (value : ℕ → PartValue) where
   nobody_passes none u lt = under (Some 0) u lt (λ limit e l. absurd (none u l))
 
   -- the running task keeps the processor
-  pub keeps_means : (t : TaskNo) (p : ℕ) → priority t.0 ≡ p → live t.0 → AreUnder app (claim.Keeps t p) n value → NoneAbove app value t.0
+  pub keeps_means : (t : TaskNo) (p : ℕ) → p ≤ priority t.0 → live t.0 → AreUnder app (claim.Keeps t p) n value → NoneAbove app value t.0
   keeps_means t p own lt h = record {
     running = lt;
     each = λ u l. elim (cases_eq u t.0) [

@@ -16,6 +16,7 @@ use Rattle.flow_model.specs.Tests.{passes, updated, part_at_block, value_after, 
 use Rattle.flow_dispatch.specs.declared.claim.Claim.{Claim}
 use Rattle.flow_dispatch.specs.declared.limits.Finding.{Finding}
 use Rattle.flow_dispatch.specs.declared.limits.Finding.TheVariants as finding
+use Rattle.flow_dispatch.specs.Candidates.{candidate_of, candidate_at}
 use Rattle.flow_dispatch.specs.Claims.{limit_of, is_below, is_under, AreUnder, AreTests, AddsLimit}
 use Rattle.flow_dispatch.specs.Findings.{passes_finding}
 
@@ -124,3 +125,11 @@ module _ (app : App) (changes : List Change) (claim : Claim) (t : ℕ) (known : 
         };
         never = λ e. absurd (cc);
       }
+
+-- nor does it change whether a task is Live
+pub candidate_at_block : (app : App) (u : ℕ) (b : BlockNo) (v : PartValue) → candidate_at b (candidate_of app u (val_of v)) ≡ candidate_of app u (val_of (part_at_block b v))
+candidate_at_block app u b (OfTask Suspended) = refl
+candidate_at_block app u b (OfTask (Live x)) = refl
+candidate_at_block app u b (OfTask (Waiting c)) = refl
+candidate_at_block app u b (OfEvent e) = refl
+candidate_at_block app u b (OfAlarm e) = refl

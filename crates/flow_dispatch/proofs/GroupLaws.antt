@@ -89,7 +89,7 @@ end_there p v own e =
     subst (λ (b : Bool). Among end (cond b (end ∷ []) [])) (sym (eq-eqb own.priority p e)) (inl refl)
 
 -- a Live value is a candidate
-live_candidate : (app : App) (u : ℕ) (v : Val) → is_live_value v ≡ true → (own : Candidate) × (candidate_of app u v ≡ Some own)
+pub live_candidate : (app : App) (u : ℕ) (v : Val) → is_live_value v ≡ true → (own : Candidate) × (candidate_of app u v ≡ Some own)
 live_candidate app u Suspended e = absurd (cc)
 live_candidate app u (Live x) e = (record { priority = value_priority app u (Live x); block = x.block }, refl)
 live_candidate app u (Waiting b) e = absurd (cc)
@@ -177,7 +177,7 @@ module _ (app : App) (entry : Entry) (effect : EffectCase) where
     abbrev own_of : PartValue → Option Candidate
     own_of v = candidate_after app effect.changes t.0 v
 
-    there : (value : ℕ → PartValue) → Takes app entry effect value → Among (value t.0) members
+    pub there : (value : ℕ → PartValue) → Takes app entry effect value → Among (value t.0) members
     there value takes = contained_among members (value t.0) (member_first app entry effect t.0 lt value takes)
 
     over_itself : (a : Asked) (value : ℕ → PartValue) → is_that_task (running_of a) t.0 ≡ true → Decides app value a (decision.To (Some t)) → ⊥

@@ -6,3 +6,4 @@ pub mod ConditionLaws
 pub mod NeedLaws
 pub mod OutcomeLaws
 pub mod GroupLaws
+pub mod KeeperLaws

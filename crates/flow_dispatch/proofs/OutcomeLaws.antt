@@ -37,15 +37,15 @@ use Rattle.flow_dispatch.specs.Outcomes.{IsDispatching, IsVacant, running_of, id
 use Rattle.flow_dispatch.specs.Needs.{AreNeeds, AreMet}
 use Rattle.flow_dispatch.proofs.NeedLaws.{needs_met}
 use Rattle.flow_dispatch.proofs.ConditionLaws.{passes_none, push_passes, push_before, push_last}
-use Rattle.flow_dispatch.proofs.ClaimLaws.{nobody_means, nobody_passes, keeps_means, keeps_passes, gets_means, gets_above, gets_passes}
+use Rattle.flow_dispatch.proofs.ClaimLaws.{nobody_means, nobody_passes, gets_means, gets_above, gets_passes}
 
 -- what is read of a Live task
-candidate_live : (app : App) (u : ℕ) (v : Val) (own : Candidate) → candidate_of app u v ≡ Some own → is_live_value v ≡ true
+pub candidate_live : (app : App) (u : ℕ) (v : Val) (own : Candidate) → candidate_of app u v ≡ Some own → is_live_value v ≡ true
 candidate_live app u Suspended own e = absurd (cc)
 candidate_live app u (Live x) own e = refl
 candidate_live app u (Waiting b) own e = absurd (cc)
 
-candidate_priority : (app : App) (u : ℕ) (v : Val) (own : Candidate) → candidate_of app u v ≡ Some own → value_priority app u v ≡ own.priority
+pub candidate_priority : (app : App) (u : ℕ) (v : Val) (own : Candidate) → candidate_of app u v ≡ Some own → value_priority app u v ≡ own.priority
 candidate_priority app u Suspended own e = absurd (cc)
 candidate_priority app u (Live x) own e = cc
 candidate_priority app u (Waiting b) own e = absurd (cc)
@@ -190,32 +190,6 @@ module _ (app : App) (entry : Entry) (effect : EffectCase) where
 
       block_then : block_of (val_of (after value t.0)) ≡ own.block
       block_then = ap (λ (w : PartValue). block_of (val_of w)) (after_is value e) ∙ candidate_block app t.0 (val_of then) own is
-
-    -- the running task keeps the processor
-    module _ (runs : effect.asked ≡ asked.Maybe t) where
-      scheduled_keeps : (value : ℕ → PartValue) → Scheduled app entry effect value decision.Keep → NoneAbove app (after value) t.0
-      scheduled_keeps value s = subst (λ (a : Asked). Decides app (after value) a decision.Keep) runs s
-
-      keeps_scheduled : (value : ℕ → PartValue) → NoneAbove app (after value) t.0 → Scheduled app entry effect value decision.Keep
-      keeps_scheduled value h = subst (λ (a : Asked). Decides app (after value) a decision.Keep) (sym runs) h
-
-      module _ (own : Candidate) (is : candidate_of app t.0 (val_of then) ≡ Some own) where
-        pub keeper_never : (needs : List ℕ) → AreNeeds app entry effect.changes (length app.tasks) needs → ((value : ℕ → PartValue) → AreVals app value → AreMet app needs (length app.tasks) (after value) → AreUnder app (claim.Keeps t own.priority) (length app.tasks) (after value) → ⊥) →
-            IsCase app entry effect (IsValueOf t.0 v) decision.Keep None
-        keeper_never needs needed never value takes e s =
-            never value takes.values.vals (needs_met app entry effect.changes needs needed value takes.values.within) (keeps_passes app (after value) t own.priority (priority_then own is value e) (scheduled_keeps value s))
-
-        pub keeper_case : (first : List Condition) (c : ComponentNo) → c.0 ≡ t.0 → AreTests app effect.changes (claim.Keeps t own.priority) (length app.tasks) first →
-            IsCaseFor app entry effect (IsValueOf t.0 v) decision.Keep (record { conditions = first ++ same_value c v ∷ []; decision = decision.Keep; target = effect.point })
-        keeper_case first c same tests = record {
-          decision = refl;
-          exact = λ value takes p. (let e = value_is first c same value p in record {
-            passes = p;
-            decides = keeps_scheduled value (keeps_means app (after value) t own.priority (priority_then own is value e) (live_then own is value e) (tests.means value takes.values.vals (push_before app first (same_value c v) value p)));
-            target = refl;
-          });
-          whole = λ value takes e s. is_value first c same value (tests.passes value takes.values.vals (keeps_passes app (after value) t own.priority (priority_then own is value e) (scheduled_keeps value s))) e;
-        }
 
     -- the task gets the processor
     pub scheduled_best : (a : Asked) (value : ℕ → PartValue) → Decides app value a (decision.To (Some t)) → IsBestTask app value t.0

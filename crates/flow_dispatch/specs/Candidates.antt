@@ -1,6 +1,7 @@
 -- What the scheduler reads of a Live task.
 use Rattle.std.specs.Prelude.{ℕ, List, Some, None}
 use Rattle.std.specs.declared.option.Option.{Option}
+use Rattle.osek_values.specs.declared.numbers.BlockNo.{BlockNo}
 use Rattle.osek_standard.specs.declared.app.App.{App}
 use Rattle.abstract_state.specs.declared.value.{Val.{Val}, Val.TheVariants.{Suspended, Live, Waiting}, PartValue.{PartValue}}
 use Rattle.abstract_state.specs.Concrete.{val_of}
@@ -17,3 +18,8 @@ candidate_of app u (Waiting b) = None
 -- the same of a value before the changes
 abbrev pub candidate_after : App → List Change → ℕ → PartValue → Option Candidate
 candidate_after app changes u v = candidate_of app u (val_of (value_after changes u v))
+
+-- a task at another block
+abbrev pub candidate_at : BlockNo → Option Candidate → Option Candidate
+candidate_at b None = None
+candidate_at b (Some own) = Some (record own { block = b })

@@ -3,33 +3,74 @@ ghost use Rattle.std.specs.Prelude.{◌≡◌, ◌<◌, ◌++◌, ℕ, length, m
 ghost use Rattle.std.specs.List.{flat_map};
 ghost use Rattle.std.specs.declared.option.Option.{Option};
 ghost use Rattle.abstract_state.specs.declared.value.PartValue.{PartValue};
+ghost use Rattle.abstract_state.specs.Concrete.{val_of};
+ghost use Rattle.flow_model.specs.Tests.{updated};
 ghost use Rattle.flow_dispatch.specs.declared.priority.Candidate.{Candidate};
-ghost use Rattle.flow_dispatch.specs.Candidates.{candidate_after};
+ghost use Rattle.flow_dispatch.specs.Candidates.{candidate_of, candidate_at, candidate_after as candidate_after_of};
 ghost use Rattle.flow_dispatch.specs.Groups.{ends_of};
 
 use crate::group::End;
+use crate::limits::change_of;
 use crate::priority::{Candidate, as_candidate};
-use abstract_state::{PartValue, Point};
-use flow_model::{Change, value_after};
+use abstract_state::{Component, PartValue, Point, component_number};
+use flow_model::{Change, Update};
 use osek_standard::App;
-use osek_values::{Memory, Seq, TaskNo};
+use osek_values::{BlockNo, Memory, Seq, TaskNo};
 use std::alloc::Global;
+
+/// What the scheduler reads of a task after the changes, if it has this value before them.
+pub fn candidate_after(
+    app: &App,
+    changes: &Seq<Change>,
+    task: TaskNo,
+    value: &PartValue,
+) -> Option<Candidate>
+    requires { task.0 < length app.now.tasks }
+    ensures { result ≡ candidate_after_of app.now changes.now task.0 value.now }
+{
+    match change_of(changes, component_number(app, Component::Task(task))) {
+        Some(change) => candidate_by(app, &change.update, task, value),
+        None => as_candidate(app, task, value),
+    }
+}
+
+// what is read of the task after this update of its value
+fn candidate_by(app: &App, update: &Update, task: TaskNo, value: &PartValue) -> Option<Candidate>
+    requires { task.0 < length app.now.tasks }
+    ensures { result ≡ candidate_of app.now task.0 (val_of (updated update.now value.now)) }
+{
+    match update {
+        Update::Set(to) => as_candidate(app, task, to),
+        Update::Block(block) => at_block(as_candidate(app, task, value), *block),
+    }
+}
+
+fn at_block(candidate: Option<Candidate>, block: BlockNo) -> Option<Candidate>
+    ensures { result ≡ candidate_at block candidate }
+{
+    match candidate {
+        Some(own) => Some(Candidate {
+            priority: own.priority,
+            block,
+        }),
+        None => None,
+    }
+}
 
 /// What the scheduler reads of a task after the changes, for each of these values before them.
 pub fn candidates(
     alloc: Global,
     app: &App,
-    changes: &[Change],
+    changes: &Seq<Change>,
     task: TaskNo,
     values: &[PartValue],
 ) -> Result<Seq<Option<Candidate>>, Memory>
     requires { task.0 < length app.now.tasks }
-    ensures { IfOk result (λ found. found ≡ map (candidate_after app.now changes.now task.0) values.now) }
+    ensures { IfOk result (λ found. found ≡ map (candidate_after_of app.now changes.now task.0) values.now) }
 {
-    let mut found = Seq::new(alloc);
+    let mut found = Seq::of(Vec::with_capacity(alloc, values.len())?);
     for value in values {
-        let after = value_after(changes, task.index(), value);
-        found.push(as_candidate(app, task, &after))?;
+        found.push(candidate_after(app, changes, task, value))?;
     }
     Ok(found)
 }
@@ -45,7 +86,8 @@ pub fn priorities(alloc: Global, candidates: &[Option<Candidate>]) -> Result<Seq
     Ok(found)
 }
 
-fn push_priority(found: &mut Seq<u32>, candidate: Option<Candidate>) -> Result<(), Memory>
+/// Adds the priority of a candidate, if it isn't there.
+pub fn push_priority(found: &mut Seq<u32>, candidate: Option<Candidate>) -> Result<(), Memory>
     ensures kept { OnOk result ((p : ℕ) → Contains found.old p → Contains found.new p) }
     ensures more { OnOk result (IfSome candidate (λ own. Contains found.new own.priority)) }
 {

@@ -4,6 +4,7 @@
 mod candidates;
 mod claim;
 mod group;
+mod keepers;
 pub mod laws;
 mod limits;
 mod needs;

@@ -28,7 +28,7 @@ pub enum Finding {
 }
 
 /// The first change of a component, if one names it.
-fn change_of(changes: &Seq<Change>, component: ComponentNo) -> Option<&Change>
+pub fn change_of(changes: &Seq<Change>, component: ComponentNo) -> Option<&Change>
     ensures { option_copied result ≡ find (λ (x : Change). x.component.0 == component.0) changes.now }
 {
     changes

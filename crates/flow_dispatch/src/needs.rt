@@ -2,12 +2,13 @@
 ghost use Rattle.std.specs.Prelude.{◌≡◌, ◌<◌, false, length, IfOk};
 ghost use Rattle.abstract_state.specs.Concrete.{val_of};
 ghost use Rattle.abstract_state.specs.Domains.{domains, domains_of};
+ghost use Rattle.flow_model.specs.Tests.{value_after};
 ghost use Rattle.flow_dispatch.specs.Needs.{IsNeed, IsNeedOfSet, AreNeeds, is_too_low as is_too_low_of, IsTooLow};
 
+use crate::candidates::candidate_after;
 use crate::claim::Claim;
-use crate::priority::as_candidate;
 use abstract_state::{Entry, PartValue, ValueSet};
-use flow_model::{Change, value_after};
+use flow_model::Change;
 use osek_standard::App;
 use osek_values::{Memory, Seq, TaskNo};
 use std::alloc::Global;
@@ -36,17 +37,16 @@ fn need_of_set(app: &App, changes: &Seq<Change>, task: TaskNo, set: &ValueSet) -
 {
     let mut need = u64::MAX;
     for value in set.members.as_slice() {
-        let after = value_after(changes.as_slice(), task.index(), value);
-        need = need.min(need_of(app, task, &after));
+        need = need.min(need_of(app, changes, task, value));
     }
     need
 }
 
-fn need_of(app: &App, task: TaskNo, value: &PartValue) -> u64
+fn need_of(app: &App, changes: &Seq<Change>, task: TaskNo, value: &PartValue) -> u64
     requires { task.0 < length app.now.tasks }
-    ensures { IsNeed app.now task.0 (val_of value.now) result }
+    ensures { IsNeed app.now task.0 (val_of (value_after changes.now task.0 value.now)) result }
 {
-    match as_candidate(app, task, value) {
+    match candidate_after(app, changes, task, value) {
         None => 0,
         Some(own) => own.priority as u64 + 1,
     }

@@ -17,9 +17,10 @@ ghost use Rattle.flow_dispatch.specs.Outcomes.{IsDispatching, IsVacant, idle_dec
 use crate::candidates::{candidates, ends_at, priorities};
 use crate::claim::{Claim, is_running};
 use crate::group::{OutcomeGroup, ValueCases};
+use crate::keepers::push_keepers;
 use crate::limits::limits;
 use crate::needs::needs;
-use crate::priority::{Candidate, as_candidate};
+use crate::priority::Candidate;
 use abstract_state::{Component, Entry, PartValue, Point, Val, ValueSet, component_number};
 use flow_model::{Asked, Change, Condition, Decision, EffectCase, OutcomeCase, Test, value_after};
 use osek_standard::App;
@@ -81,7 +82,7 @@ fn running(asked: Asked) -> Option<TaskNo>
     }
 }
 
-fn push_found(groups: &mut Seq<OutcomeGroup>, found: Option<OutcomeCase>) -> Result<(), Memory>
+pub fn push_found(groups: &mut Seq<OutcomeGroup>, found: Option<OutcomeCase>) -> Result<(), Memory>
     ensures { OnOk result (groups.new ≡ groups.old ++ map one_case (option_to_list found)) }
 {
     if let Some(case) = found {
@@ -136,62 +137,6 @@ fn nobody(
         decision: idle_decision(effect.asked),
         target: idle_target(effect.asked, effect.point),
     }))
-}
-
-// The running task keeps the processor, with this value before the effect.
-fn keeper(
-    alloc: Global,
-    app: &App,
-    effect: &EffectCase,
-    needs: &Seq<u64>,
-    task: TaskNo,
-    value: &PartValue,
-) -> Result<Option<OutcomeCase>, Memory>
-    requires known { task.0 < length app.now.tasks }
-    requires size { length needs.now ≡ length app.now.tasks }
-    requires runs { effect.now.asked ≡ asked.Maybe task }
-    ensures { (entry : Entry) → AreNeeds app.now entry effect.now.changes (length app.now.tasks) needs.now → IfOk result (IsCase app.now entry effect.now (IsValueOf task.0 value.now) decision.Keep) }
-{
-    let component = component_number(app, Component::Task(task));
-    let after = value_after(effect.changes.as_slice(), task.index(), value);
-    let Some(own) = as_candidate(app, task, &after) else {
-        return Ok(None);
-    };
-    let claim = Claim::Keeps {
-        task,
-        priority: own.priority,
-    };
-    let Some(mut conditions) = limits(alloc, app, &effect.changes, needs, claim)? else {
-        return Ok(None);
-    };
-    let test = Test::Is(value.copy());
-    conditions.push(Condition { component, test })?;
-    Ok(Some(OutcomeCase {
-        conditions,
-        decision: Decision::Keep,
-        target: effect.point,
-    }))
-}
-
-fn push_keepers(
-    alloc: Global,
-    app: &App,
-    effect: &EffectCase,
-    entry: &Entry,
-    needs: &Seq<u64>,
-    task: TaskNo,
-    groups: &mut Seq<OutcomeGroup>,
-) -> Result<(), Memory>
-    requires known { task.0 < length app.now.tasks }
-    requires domains { domains entry.now ≡ domains_of app.now }
-    requires needs { AreNeeds app.now entry.now effect.now.changes (length app.now.tasks) needs.now }
-    requires runs { effect.now.asked ≡ asked.Maybe task }
-    ensures { OnOk result (AddsGroups app.now entry.now effect.now IsAnything decision.Keep groups.old groups.new) }
-{
-    for value in entry.sets.at(task.index()).members.as_slice() {
-        push_found(groups, keeper(alloc, app, effect, needs, task, value)?)?;
-    }
-    Ok(())
 }
 
 fn is_live(value: &PartValue) -> bool
@@ -325,13 +270,7 @@ fn push_winners_of(
     ensures { OnOk result (AddsGroups app.now entry.now effect.now IsAnything (decision.To (Some task)) groups.old groups.new) }
 {
     let set = entry.sets.at(task.index());
-    let candidates = candidates(
-        alloc,
-        app,
-        effect.changes.as_slice(),
-        task,
-        set.members.as_slice(),
-    )?;
+    let candidates = candidates(alloc, app, &effect.changes, task, set.members.as_slice())?;
     let priorities = priorities(alloc, candidates.as_slice())?;
     for priority in priorities.as_slice() {
         let found = winners_at(

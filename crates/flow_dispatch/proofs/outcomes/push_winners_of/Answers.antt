@@ -4,7 +4,6 @@ use Rattle.std.specs.declared.option.Option.{Option}
 use Rattle.std.proofs.lemmas.List.{take_more, take_all}
 use Rattle.abstract_state.specs.declared.{value.PartValue.{PartValue}, table.ValueSet.{ValueSet}}
 use Rattle.abstract_state.specs.Tables.{empty_set, set_at}
-use Rattle.flow_model.specs.declared.change.Change.{Change}
 use Rattle.flow_model.specs.declared.case.Decision.TheVariants as decision
 use Rattle.flow_dispatch.specs.declared.{priority.Candidate.{Candidate}, group.OutcomeGroup.{OutcomeGroup}}
 use Rattle.flow_dispatch.specs.Candidates.{candidate_after}
@@ -43,9 +42,9 @@ returns c =
     let own : PartValue → Option Candidate = candidate_after app effect.changes t.0 in
     let all : take c.loop-priority.priority-index items ≡ c.in_ok-priorities.priorities = take_all c.loop-priority.priority-index items c.loop-priority-test.false ∙ c.as_slice-priority-items.ensures in
     let set = set_is entry c.index.result t.0 c.at-set.result.now c.index.ensures (c.at-set.ensures.item empty_set) in
-    let values : c.as_slice-2.result.now ≡ (set_at entry t.0).members = c.as_slice-2.ensures ∙ sym (ap (λ (s : ValueSet). s.members) set) in
-    let are : c.in_ok-candidates.candidates ≡ map own (set_at entry t.0).members = c.in_ok-candidates.ensures ∙ ap (λ (xs : List Change). map (candidate_after app xs t.0) c.as_slice-2.result.now) c.as_slice.ensures ∙ ap (map own) values in
+    let values : c.as_slice.result.now ≡ (set_at entry t.0).members = c.as_slice.ensures ∙ sym (ap (λ (s : ValueSet). s.members) set) in
+    let are : c.in_ok-candidates.candidates ≡ map own (set_at entry t.0).members = c.in_ok-candidates.ensures ∙ ap (map own) values in
     all_priorities app entry effect t c.requires.known c.in_ok-candidates.candidates c.in_ok-priorities.priorities are
-    (λ x m. c.in_ok-priorities.ensures x (subst (λ (xs : List (Option Candidate)). Contains xs (Some x)) (sym c.as_slice-3.ensures) m))
+    (λ x m. c.in_ok-priorities.ensures x (subst (λ (xs : List (Option Candidate)). Contains xs (Some x)) (sym c.as_slice-2.ensures) m))
     c.args.groups.now c.loop-priority.groups
     (subst (λ (ps : List ℕ). AddsGroups app entry effect (HasPriority app effect t.0 ps) (decision.To (Some t)) c.args.groups.now c.loop-priority.groups) all c.loop-priority.invariant)
