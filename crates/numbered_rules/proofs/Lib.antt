@@ -3,3 +3,4 @@ pub mod KeptDomains
 pub mod SiftedSets
 pub mod ChangedSets
 pub mod ReplacedSets
+pub mod SetValues

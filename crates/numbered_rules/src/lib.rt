@@ -9,5 +9,5 @@ mod sifting;
 mod updating;
 
 pub use applying::{apply, apply_into};
-pub use replacing::replace;
+pub use replacing::{replace, replace_by_number};
 pub use ruling::rules;

@@ -10,13 +10,62 @@ ghost use Rattle.numbered_sets.specs.Views.{plain_set};
 ghost use Rattle.numbered_rules.specs.Applying.{IsPassedSet, IsPassedSoFar};
 ghost use Rattle.numbered_rules.specs.Changing.{alone};
 
-use flow_model::Change;
+use abstract_state::PartValue;
+use flow_model::{Change, Update};
 use numbered_sets::{NumberedSet, Pool};
 use osek_values::Memory;
 use std::alloc::Global;
 
 /// The numbers of what a change makes of the values of its component's set.
 pub fn updated(
+    alloc: Global,
+    change: &Change,
+    pool: &mut Pool,
+    component: usize,
+    numbers: &NumberedSet,
+) -> Result<NumberedSet, Memory>
+    requires named { change.now.component.0 ≡ component }
+    requires known { component < length pool.old }
+    requires alike { numbers.now.domain ≡ domain_at pool.old component }
+    requires numbers { (n : ℕ) → IsTrue (has_number numbers.now n) → n < length (values_at pool.old component) }
+    requires domain { (v : PartValue) → IsTrue (is_member (plain_set (values_at pool.old component) numbers.now) v) → IsWithin (domain_at pool.old component) (updated_value change.now.update v) }
+    ensures pool { IsLonger pool.old pool.new }
+    ensures passed { IfOk result (IsPassedSet (alone change.now) pool.old component numbers.now pool.new) }
+{
+    match &change.update {
+        Update::Set(to) => replaced(alloc, change, to, pool, component, numbers),
+        Update::Block(_) => moved(alloc, change, pool, component, numbers),
+    }
+}
+
+// the number of the value that a change sets, where there is one to be set
+fn replaced(
+    alloc: Global,
+    change: &Change,
+    to: &PartValue,
+    pool: &mut Pool,
+    component: usize,
+    numbers: &NumberedSet,
+) -> Result<NumberedSet, Memory>
+    requires named { change.now.component.0 ≡ component }
+    requires set { change.now.update ≡ Update.Set to.now }
+    requires known { component < length pool.old }
+    requires numbers { (n : ℕ) → IsTrue (has_number numbers.now n) → n < length (values_at pool.old component) }
+    requires domain { (v : PartValue) → IsTrue (is_member (plain_set (values_at pool.old component) numbers.now) v) → IsWithin (domain_at pool.old component) (updated_value change.now.update v) }
+    ensures pool { IsLonger pool.old pool.new }
+    ensures passed { IfOk result (IsPassedSet (alone change.now) pool.old component numbers.now pool.new) }
+{
+    let mut new = NumberedSet::new(alloc, numbers.domain());
+    if numbers.is_empty() {
+        return Ok(new);
+    }
+    let number = pool.number(component, to.copy())?;
+    new.insert(number)?;
+    Ok(new)
+}
+
+// the numbers of what a change makes of each value
+fn moved(
     alloc: Global,
     change: &Change,
     pool: &mut Pool,

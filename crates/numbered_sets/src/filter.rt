@@ -1,9 +1,9 @@
 //! Tests of a component's values, each with the numbers of the values that pass.
-ghost use Rattle.std.specs.Prelude.{◌≡◌, ◌≤◌, length};
+ghost use Rattle.std.specs.Prelude.{◌≡◌, ◌<◌, ◌≤◌, length};
 ghost use Rattle.std.specs.Bool.{OnTrue};
 
 use crate::numbered_set::NumberedSet;
-use crate::seen::Seen;
+use crate::seen::{Seen, block_of};
 use abstract_state::Domain;
 use flow_model::Test;
 use osek_values::{Memory, Seq};
@@ -21,7 +21,11 @@ pub struct Filter {
 #[derive(Drop)]
 pub struct Filters {
     pub all: Seq<Filter>,
+    // where a test of each slot was found last
+    recent: [u16; SLOTS],
 }
+
+const SLOTS: usize = 64;
 
 impl Filter {
     ghost use Rattle.std.specs.Prelude.{◌≡◌, ◌≤◌, length, List, OnOk};
@@ -70,11 +74,24 @@ impl Filters {
     {
         Filters {
             all: Seq::new(alloc),
+            recent: [0; SLOTS],
         }
     }
 
     // the place of a test, which is the last one where it wasn't asked yet
     fn place_of(&self, test: &Test) -> usize
+        ensures few { result ≤ length self.now.all }
+        ensures test { result < length self.now.all → (none : Filter) → (slice_index_or self.now.all result none).test ≡ test.now }
+    {
+        let recent = self.recent[slot_of(test)] as usize;
+        if recent < self.all.len() && is_test(&self.all.at(recent).test, test) {
+            return recent;
+        }
+        self.searched(test)
+    }
+
+    // the same by a search
+    fn searched(&self, test: &Test) -> usize
         ensures few { result ≤ length self.now.all }
         ensures test { result < length self.now.all → (none : Filter) → (slice_index_or self.now.all result none).test ≡ test.now }
     {
@@ -93,6 +110,7 @@ impl Filters {
         ensures test { IfOk result (λ place. (none : Filter) → (slice_index_or self.new.all place none).test ≡ test.now) }
     {
         let place = self.place_of(test);
+        self.recent[slot_of(test)] = (place % 65536) as u16;
         if place < self.all.len() {
             return Ok(place);
         }
@@ -149,5 +167,21 @@ fn is_test(test: &Test, other: &Test) -> bool
         (Test::HoldsSome, Test::HoldsSome) => true,
         (Test::HoldsNothing, Test::HoldsNothing) => true,
         _ => false,
+    }
+}
+
+// Where the place of a test is remembered. What is found there is compared with the test.
+fn slot_of(test: &Test) -> usize
+    ensures { result < 64 }
+{
+    match test {
+        Test::Is(value) | Test::IsNot(value) => block_of(value) as usize % 64,
+        Test::Suspended => 0,
+        Test::NotSuspended => 1,
+        Test::NotLive => 2,
+        Test::HoldsSome => 3,
+        Test::HoldsNothing => 4,
+        Test::Holds(resource) => 5 + resource.0 as usize % 11,
+        Test::HoldsNoneOf(resources) => 16 + (resources.0 % 47) as usize,
     }
 }

@@ -124,6 +124,24 @@ impl NumberedSet {
         words::keep(self.more.as_mut_slice(), other.more.as_slice());
     }
 
+    /// Leaves out all numbers.
+    fn clear(&mut self)
+        ensures { self.new ≡ numbers self.old.domain 0 }
+    {
+        self.low = 0;
+        self.high = 0;
+        self.more.clear();
+    }
+
+    /// Becomes the set of one number. Where memory is wanted it is empty.
+    pub fn hold_only(&mut self, number: usize) -> Result<(), Memory>
+        ensures set { OnOk result (self.new ≡ with_number (numbers self.old.domain 0) number) }
+        ensures err { OnErr result (self.new ≡ numbers self.old.domain 0) }
+    {
+        self.clear();
+        self.put(number)
+    }
+
     /// Whether there is no number.
     pub fn is_empty(&self) -> bool
         ensures { result ≡ (self.now.bits == 0) }

@@ -43,7 +43,8 @@ impl Hash for Seen {
     }
 }
 
-fn block_of(value: &PartValue) -> u16
+/// The block at which a task stands; 0 for all else.
+pub fn block_of(value: &PartValue) -> u16
     ensures { result ≡ block_of_part value.now }
 {
     match value {

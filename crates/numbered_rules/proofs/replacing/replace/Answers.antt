@@ -13,28 +13,26 @@ use Rattle.numbered_rules.proofs.replacing.replace.Goals as goal
 as_many : (pool : List Values) (entry : NumberedEntry) → AreNumbersOf pool entry → length pool ≡ length entry.sets
 as_many pool entry known = sym (length-map pool (λ (x : Values). x.domain)) ∙ ap (λ (ds : List Domain). length ds) (sym known.domains) ∙ length-map entry.sets (λ (x : Numbers). x.domain)
 
-pub returns-in_err-insert-clause-pool : goal.returns-in_err-insert-clause-pool
-returns-in_err-insert-clause-pool c =
+pub returns-in_err-hold_only-clause-pool : goal.returns-in_err-hold_only-clause-pool
+returns-in_err-hold_only-clause-pool c =
     let pool = c.args.pool.now in
     let many = as_many pool c.args.entry.now c.requires.numbers in
-    subst (IsLonger pool) (sym c.in_ok-number.ensures.pool) (longer_with pool c.args.component c.args.value (omega (arith, many, c.requires.known)))
+    subst (IsLonger pool) (sym c.in_ok-made.ensures.pool) (longer_with pool c.args.component c.args.value (omega (arith, many, c.requires.known)))
 
 pub returns-clause-pool : goal.returns-clause-pool
 returns-clause-pool c =
     let pool = c.args.pool.now in
     let many = as_many pool c.args.entry.now c.requires.numbers in
-    subst (IsLonger pool) (sym c.in_ok-number.ensures.pool) (longer_with pool c.args.component c.args.value (omega (arith, many, c.requires.known)))
+    subst (IsLonger pool) (sym c.in_ok-made.ensures.pool) (longer_with pool c.args.component c.args.value (omega (arith, many, c.requires.known)))
 
 pub returns-clause-replaced : goal.returns-clause-replaced
 returns-clause-replaced c =
     let pool = c.args.pool.now in
     let entry = c.args.entry.now in
     let k = c.args.component in
-    let n = c.in_ok-number.number in
+    let n = c.in_ok-made.made in
     let many = as_many pool entry c.requires.numbers in
-    let longer : IsLonger pool c.number.new.self = subst (IsLonger pool) (sym c.in_ok-number.ensures.pool) (longer_with pool k c.args.value (omega (arith, many, c.requires.known))) in
-    let domain : c.domain.result ≡ (numbers_at entry k).domain = c.domain.ensures ∙ ap (λ (x : Numbers). x.domain) (sym (c.at.ensures.item no_set)) in
-    let one : c.insert.new.self ≡ with_number (numbers (numbers_at entry k).domain 0) n =
-    c.in_ok-insert.ensures.set ∙ ap (λ (x : Numbers). with_number x n) (c.new-set.ensures ∙ ap (λ (d : Domain). numbers d 0) domain) in
-    let write : c.put.new.self ≡ set entry.sets k (with_number (numbers (numbers_at entry k).domain 0) n) = c.put.ensures ∙ ap (λ (x : Numbers). set entry.sets k x) one in
-    replaced pool entry k c.args.value c.number.new.self (record { sets = c.put.new.self }) n c.requires.numbers c.requires.known longer c.in_ok-number.ensures.number write
+    let longer : IsLonger pool c.number.new.self = subst (IsLonger pool) (sym c.in_ok-made.ensures.pool) (longer_with pool k c.args.value (omega (arith, many, c.requires.known))) in
+    let write : set entry.sets k c.hold_only.new.self ≡ set entry.sets k (with_number (numbers (numbers_at entry k).domain 0) n) =
+    ap (set entry.sets k) (c.in_ok-hold_only.ensures.set ∙ ap (λ (x : Numbers). with_number (numbers x.domain 0) n) (sym (c.at_mut-set.ensures.item no_set))) in
+    replaced pool entry k c.args.value c.number.new.self (record { sets = set entry.sets k c.hold_only.new.self }) n c.requires.numbers c.requires.known longer c.in_ok-made.ensures.number write

@@ -10,8 +10,8 @@ use Rattle.numbered_sets.proofs.PlainLaws.{member_of_plain, value_with_number}
 use Rattle.numbered_rules.specs.Applying.{IsPassedSoFar}
 use Rattle.numbered_rules.specs.Changing.{alone}
 use Rattle.numbered_rules.proofs.NumbersPassing.{next_value, no_next_value, passed_begun, passed_whole, number_on, number_there, one_value}
-use Rattle.numbered_rules.proofs.updating.updated.Goals.{then-has+in_ok-put_updated, else-has}
-use Rattle.numbered_rules.proofs.updating.updated.Goals as goal
+use Rattle.numbered_rules.proofs.updating.moved.Goals.{then-has+in_ok-put_updated, else-has}
+use Rattle.numbered_rules.proofs.updating.moved.Goals as goal
 
 pub loop-number-init : goal.loop-number-init
 loop-number-init c =

@@ -4,7 +4,7 @@ use Rattle.numbered_sets.specs.Pools.{values_at}
 use Rattle.numbered_sets.specs.Views.{values_with}
 use Rattle.numbered_rules.specs.Applying.{IsPassedSoFar}
 use Rattle.numbered_rules.specs.Changing.{alone}
-use Rattle.numbered_rules.proofs.updating.updated.Given as goal
+use Rattle.numbered_rules.proofs.updating.moved.Given as goal
 
 abbrev pub invariant-loop-number : goal.invariant-loop-number
 invariant-loop-number l =
