@@ -2,7 +2,8 @@
 use Rattle.std.proofs.Common.{◌≡◌, ◌≢◌, ℕ, ◌<◌, ◌≤◌, Bool, true, false, not, ◌||◌, ◌&&◌, List, [], ◌∷◌, ◌++◌, length, get_or, set, refl, sym, ap, ap₂, subst, ◌∙◌, inl, inr, arith, IsTrue, get_or-set_same, get_or-set_other}
 use Rattle.std.specs.Prelude.{◌==◌}
 use Rattle.std.specs.List.{list_any}
-use Rattle.std.proofs.lemmas.Bool.{cases_eq, and_parts, eq-eqb, ne_eqb}
+use Rattle.std.proofs.Math.ListN.{get_or-eq_default}
+use Rattle.std.proofs.lemmas.Bool.{cases_eq, cases_lt, and_parts, or_left, eq-eqb, ne_eqb}
 use Rattle.std.proofs.lemmas.List.{length-set}
 use Rattle.std.proofs.lemmas.List.Folds.{list_any-append}
 use Rattle.osek_standard.specs.Kernel.{has_bit}
@@ -17,7 +18,7 @@ use Rattle.flow_rules.proofs.Passing.{none_fails, each_passes}
 use Rattle.numbered_sets.specs.declared.numbered_entry.NumberedEntry.{NumberedEntry}
 use Rattle.numbered_sets.specs.Filters.{IsSifted}
 use Rattle.numbered_sets.specs.Numbers.{Numbers, has_number}
-use Rattle.numbered_sets.specs.NumberedEntries.{no_set, numbers_at, AreFilled, HasEmptySet}
+use Rattle.numbered_sets.specs.NumberedEntries.{no_set, numbers_at, number_domains, AreFilled, HasEmptySet}
 use Rattle.numbered_sets.specs.Pools.{Values, values_at}
 use Rattle.numbered_sets.specs.Views.{values_with, plain_set, plain_entry, AreNumbersOf}
 use Rattle.numbered_sets.proofs.PlainLaws.{ascending_in_order, member_of_plain, values_with_none, plain_set_at, length_plain}
@@ -27,7 +28,8 @@ use Rattle.numbered_sets.proofs.NumberingLaws.{longer_itself}
 use Rattle.numbered_sets.proofs.SiftLaws.{some_value}
 use Rattle.numbered_rules.specs.Applying.{AreTaken, IsPassedSet}
 use Rattle.numbered_rules.specs.Changing.{up_to, AreAllPassed}
-use Rattle.numbered_rules.specs.Sifting.{IsSiftedBy, AreSifted}
+use Rattle.numbered_rules.specs.Sifting.{IsSiftedBy, AreSifted, LeavesNone}
+use Rattle.numbered_rules.proofs.NumbersPassing.{domains_alike}
 
 -- ---- one condition after another
 
@@ -153,18 +155,47 @@ module _ (pool : List Values) (rule : Rule) (entry new : NumberedEntry) (known :
       let was = member_then c some.0 less some.1 in
       record { was = some.0; there = ap (λ (x : ValueSet). is_member x some.0) (plain_set_at pool entry c) ∙ was.0; passes = was.1 }
 
-  pub none_of_empty : HasEmptySet new → HasNone rule (plain_entry pool entry)
-  none_of_empty empty =
-      let c = empty.component in
-      let less : c < length entry.sets = (let there = empty.known in omega (arith, there, s.as_many)) in
-      let no_bit : (n : ℕ) → has_number (numbers_at new c) n ≡ false =
-      (λ n. ap (λ m. has_bit m n) empty.none ∙ false_unless (has_bit 0 n) ⊥ (no_bit_of_none n) (λ no. no)) in
-      record {
-        component = c;
-        known = (let long = length_plain pool 0 entry.sets in omega (arith, less, long));
-        none = λ v m p.
-            (let now : is_member (plain_set (values_at pool c) (numbers_at new c)) v ≡ true = member_now c v less (sym (ap (λ (x : ValueSet). is_member x v) (plain_set_at pool entry c)) ∙ m) p in
-            let none : is_member (plain_set (values_at pool c) (numbers_at new c)) v ≡ false =
-            member_of_plain (values_at pool c) (numbers_at new c) v ∙ ap (list_any (same_part v)) (values_with_none (values_at pool c) (has_number (numbers_at new c)) no_bit) in
-            absurd (cc));
-      }
+-- ---- what leaves no value
+
+still_fails : (a b : Bool) → a ≡ true → (a && not b) ≡ false → b ≡ true
+still_fails true true e h = refl
+still_fails true false e h = sym h
+still_fails false b e h = absurd (cc)
+
+pub none_left : (pool : List Values) (xs : List Condition) (entry new : NumberedEntry) → AreSifted pool xs entry new → HasEmptySet new → LeavesNone pool xs entry
+none_left pool xs entry new s empty =
+    let c = empty.component in
+    let less : empty.component < length entry.sets = (let there = empty.known in omega (arith, there, s.as_many)) in
+    let no_bit : (n : ℕ) → has_number (numbers_at new empty.component) n ≡ false = (λ n. ap (λ m. has_bit m n) empty.none ∙ false_unless (has_bit 0 n) ⊥ (no_bit_of_none n) (λ no. no)) in
+    record {
+      component = empty.component;
+      known = less;
+      none = λ v m.
+          (let none : is_member (plain_set (values_at pool c) (numbers_at new c)) v ≡ false =
+          member_of_plain (values_at pool c) (numbers_at new c) v ∙ ap (list_any (same_part v)) (values_with_none (values_at pool c) (has_number (numbers_at new c)) no_bit) in
+          still_fails (is_member (plain_set (values_at pool c) (numbers_at entry c)) v) (list_any (is_failed c v) xs) m (sym ((s.each c less).values v) ∙ none));
+    }
+
+pub leaves_more : (pool : List Values) (xs ys : List Condition) (entry : NumberedEntry) → LeavesNone pool xs entry → LeavesNone pool (xs ++ ys) entry
+leaves_more pool xs ys entry h = record {
+  component = h.component;
+  known = h.known;
+  none = λ v m. list_any-append (is_failed h.component v) xs ys ∙ or_left (list_any (is_failed h.component v) xs) (list_any (is_failed h.component v) ys) (h.none v m);
+}
+
+pub none_taken : (pool : List Values) (rule : Rule) (entry : NumberedEntry) → LeavesNone pool rule.conditions entry → HasNone rule (plain_entry pool entry)
+none_taken pool rule entry h = record {
+  component = h.component;
+  known = (let long = length_plain pool 0 entry.sets in let there = h.known in omega (arith, there, long));
+  none = λ v m p.
+      (let failed : list_any (is_failed h.component v) rule.conditions ≡ true = h.none v (sym (ap (λ (x : ValueSet). is_member x v) (plain_set_at pool entry h.component)) ∙ m) in
+      let none : list_any (is_failed h.component v) rule.conditions ≡ false = none_fails rule.conditions h.component v p in
+      absurd (cc));
+}
+
+-- what conditions leave has the domains that were there
+pub sifted_domains : (pool : List Values) (xs : List Condition) (entry new : NumberedEntry) → AreSifted pool xs entry new → number_domains new ≡ number_domains entry
+sifted_domains pool xs entry new s = domains_alike new.sets entry.sets s.as_many (λ c. elim (cases_lt c (length entry.sets)) [
+  | inl lt ↦ (s.each c lt).domain
+  | inr le ↦ ap (λ (x : Numbers). x.domain) (get_or-eq_default new.sets no_set (omega (arith, le, s.as_many)) ∙ sym (get_or-eq_default entry.sets no_set le))
+])

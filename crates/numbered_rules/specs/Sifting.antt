@@ -20,3 +20,9 @@ pub record IsSiftedBy (vs : List PartValue) (c : ℕ) (xs : List Condition) (old
 pub record AreSifted (pool : List Values) (xs : List Condition) (old new : NumberedEntry) : Type 0 where
   pub as_many : length new.sets ≡ length old.sets
   pub each : (c : ℕ) → c < length old.sets → IsSiftedBy (values_at pool c) c xs (numbers_at old c) (numbers_at new c)
+
+-- the conditions leave no value of some set
+pub record LeavesNone (pool : List Values) (xs : List Condition) (entry : NumberedEntry) : Type 0 where
+  pub component : ℕ
+  pub known : component < length entry.sets
+  pub none : (v : PartValue) → IsTrue (is_member (plain_set (values_at pool component) (numbers_at entry component)) v) → IsTrue (list_any (is_failed component v) xs)

@@ -1,7 +1,9 @@
 //! What a rule makes of a numbered entry.
 ghost use Rattle.std.specs.Prelude.{◌≡◌, ◌<◌, ◌≤◌, ◌+◌, List, length, IfOk, OnOk, IfSome, IfNone};
+ghost use Rattle.std.specs.Bool.{OnTrue, OnFalse};
 ghost use Rattle.flow_model.specs.Rules.{Applies, HasNone};
 ghost use Rattle.numbered_sets.specs.declared.numbered_entry.NumberedEntry.{NumberedEntry};
+ghost use Rattle.numbered_sets.specs.NumberedEntries.{number_domains};
 ghost use Rattle.numbered_sets.specs.Pools.{Values, IsLonger};
 ghost use Rattle.numbered_sets.specs.Views.{plain_entry, AreNumbersOf};
 ghost use Rattle.numbered_rules.specs.Applying.{KeepsDomains};
@@ -29,15 +31,39 @@ pub fn apply(
     ensures some { IfOk result (λ new. IfSome new (λ new. Applies rule.now (plain_entry pool.old entry.now) (plain_entry pool.new new))) }
     ensures none { IfOk result (λ new. IfNone new (HasNone rule.now (plain_entry pool.old entry.now))) }
 {
-    let mut new = entry.copy(alloc)?;
-    sift(alloc, rule.conditions.as_slice(), pool, &mut new)?;
-    if !new.is_filled() {
+    let mut made = entry.copy(alloc)?;
+    if !apply_into(alloc, rule, pool, entry, &mut made)? {
         return Ok(None);
     }
-    for place in 0..rule.changes.len() {
-        change(alloc, rule, place, pool, &mut new)?;
+    Ok(Some(made))
+}
+
+/// Makes of an entry with sets of the same domains what `apply` gives, and tells whether there is such an entry. It wants
+/// memory only where a set has more than 128 numbers. Where it fails the other entry can be used for the next rule.
+pub fn apply_into(
+    alloc: Global,
+    rule: &Rule,
+    pool: &mut Pool,
+    entry: &NumberedEntry,
+    made: &mut NumberedEntry,
+) -> Result<bool, Memory>
+    requires numbers { AreNumbersOf pool.old entry.now }
+    requires alike { number_domains made.old ≡ number_domains entry.now }
+    requires domains { KeepsDomains rule.now (plain_entry pool.old entry.now) }
+    ensures pool { IsLonger pool.old pool.new }
+    ensures alike { number_domains made.new ≡ number_domains made.old }
+    ensures numbers { IfOk result (λ is_made. OnTrue is_made (AreNumbersOf pool.new made.new)) }
+    ensures applies { IfOk result (λ is_made. OnTrue is_made (Applies rule.now (plain_entry pool.old entry.now) (plain_entry pool.new made.new))) }
+    ensures none { IfOk result (λ is_made. OnFalse is_made (HasNone rule.now (plain_entry pool.old entry.now))) }
+{
+    made.assign(entry)?;
+    if !sift(alloc, rule.conditions.as_slice(), pool, made)? {
+        return Ok(false);
     }
-    Ok(Some(new))
+    for place in 0..rule.changes.len() {
+        change(alloc, rule, place, pool, made)?;
+    }
+    Ok(true)
 }
 
 // does to an entry what the change at a place says, where no change before it names its component
@@ -52,6 +78,7 @@ fn change(
     requires numbers { AreNumbersOf pool.old entry.old }
     requires domain { StaysWithin rule.now.changes place pool.old entry.old }
     ensures pool { IsLonger pool.old pool.new }
+    ensures alike { number_domains entry.new ≡ number_domains entry.old }
     ensures passed { OnOk result ((before : List Values) (was : NumberedEntry) → AreAllPassed (up_to rule.now place) before was (length was.sets) pool.old entry.old.sets →
         AreAllPassed (up_to rule.now (place + 1)) before was (length was.sets) pool.new entry.new.sets) }
 {

@@ -8,6 +8,6 @@ mod ruling;
 mod sifting;
 mod updating;
 
-pub use applying::apply;
+pub use applying::{apply, apply_into};
 pub use replacing::replace;
 pub use ruling::rules;

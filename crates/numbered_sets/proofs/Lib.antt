@@ -10,3 +10,5 @@ pub mod NumberingLaws
 pub mod KeptWords
 pub mod SiftLaws
 pub mod ShownLaws
+pub mod FirstWords
+pub mod CopiedEntries

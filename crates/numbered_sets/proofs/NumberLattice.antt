@@ -66,7 +66,7 @@ below_onward x y z h k = record { each = λ c n member. k.each c n (h.each c n m
 abbrev domains_in : List Numbers → List Domain
 domains_in = map (λ (x : Numbers). x.domain)
 
-as_long : (xs ys : List Numbers) → domains_in xs ≡ domains_in ys → length xs ≡ length ys
+pub as_long : (xs ys : List Numbers) → domains_in xs ≡ domains_in ys → length xs ≡ length ys
 as_long xs ys e = sym (length-map xs (λ (x : Numbers). x.domain)) ∙ ap length e ∙ length-map ys (λ (x : Numbers). x.domain)
 
 same_room : (xs ys : List Numbers) → domains_in xs ≡ domains_in ys → sum_by room xs ≡ sum_by room ys
@@ -127,7 +127,7 @@ within_room (x ∷ xs) sound =
 pub most_numbers : (x : NumberedEntry) → AreSoundNumbers x → entry_numbers x ≤ numbers_height x
 most_numbers x sound = within_room x.sets sound.sets
 
-same_sets : (xs ys : List Numbers) → length xs ≡ length ys → ((c : ℕ) → get_or xs c no_set ≡ get_or ys c no_set) → xs ≡ ys
+pub same_sets : (xs ys : List Numbers) → length xs ≡ length ys → ((c : ℕ) → get_or xs c no_set ≡ get_or ys c no_set) → xs ≡ ys
 same_sets xs ys e h = same_lists xs ys e (λ k d lt. get_or_default xs k d no_set lt ∙ h k ∙ get_or_default ys k no_set d (omega (arith, e, lt)))
 
 pub equal_entries : (x y : NumberedEntry) → AreSoundNumbers x → AreSoundNumbers y → number_domains x ≡ number_domains y → IsBelowNumbers x y → IsBelowNumbers y x → x ≡ y
@@ -135,7 +135,7 @@ equal_entries x y sound other alike below back =
     let sets = same_sets x.sets y.sets (as_long x.sets y.sets alike) (λ c. equal_numbers (numbers_at x c) (numbers_at y c) (same_domain_at x.sets y.sets c alike) (below.each c) (back.each c)) in
     λ i. record { sets = sets i }
 
-same_domains : (xs ys : List Numbers) → length xs ≡ length ys → AreAlike xs ys → domains_in xs ≡ domains_in ys
+pub same_domains : (xs ys : List Numbers) → length xs ≡ length ys → AreAlike xs ys → domains_in xs ≡ domains_in ys
 same_domains [] [] e h = refl
 same_domains [] (y ∷ ys) e h = absurd (omega (arith, e))
 same_domains (x ∷ xs) [] e h = absurd (omega (arith, e))

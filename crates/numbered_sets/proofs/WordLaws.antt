@@ -167,12 +167,12 @@ module _ (m : ℕ) where
       let double = twice k m in
       omega (arith, double)
 
-  low_bit : (k w n : ℕ) → n < k → bit_at (w + 2 ^ k * m) n ≡ bit_at w n
+  pub low_bit : (k w n : ℕ) → n < k → bit_at (w + 2 ^ k * m) n ≡ bit_at w n
   low_bit zero w n lt = absurd (omega (arith, lt))
   low_bit (suc k) w zero lt = bit_at_lowest (w + 2 ^ (suc k) * m) ∙ lowest k w ∙ sym (bit_at_lowest w)
   low_bit (suc k) w (suc n) lt = bit_at-suc (w + 2 ^ (suc k) * m) n ∙ ap (λ x. bit_at x n) (shifted k w) ∙ low_bit k (w / 2) n (omega (arith, lt)) ∙ sym (bit_at-suc w n)
 
-  high_bit : (k w n : ℕ) → w < 2 ^ k → bit_at (w + 2 ^ k * m) (k + n) ≡ bit_at m n
+  pub high_bit : (k w n : ℕ) → w < 2 ^ k → bit_at (w + 2 ^ k * m) (k + n) ≡ bit_at m n
   high_bit zero w n lt =
       let none : w + 2 ^ 0 * m ≡ m = omega (arith, lt) in
       let same : 0 + n ≡ n = omega arith in

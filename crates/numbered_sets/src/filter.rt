@@ -58,7 +58,7 @@ impl Filter {
 }
 
 impl Filters {
-    ghost use Rattle.std.specs.Prelude.{◌≡◌, ◌<◌, ◌≤◌, List, length, IfOk, OnOk, slice_index_or};
+    ghost use Rattle.std.specs.Prelude.{◌≡◌, ◌<◌, ◌≤◌, List, length, IfOk, OnOk, OnErr, slice_index_or};
     ghost use Rattle.abstract_state.specs.declared.value.PartValue.{PartValue};
     ghost use Rattle.std.specs.Bool.{OnTrue};
     ghost use Rattle.numbered_sets.specs.declared.filter.Filter.{Filter};
@@ -125,6 +125,7 @@ impl Filters {
         requires { AreFilters (seen_values seen.now) self.old }
         ensures filters { AreFilters (seen_values seen.now) self.new }
         ensures passing { OnOk result (IsSifted (seen_values seen.now) test.now numbers.old numbers.new) }
+        ensures err { OnErr result (numbers.new ≡ numbers.old) }
     {
         let place = self.place_for(alloc, test, numbers.domain())?;
         self.renew(place, seen)?;

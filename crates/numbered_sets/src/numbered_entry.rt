@@ -16,7 +16,7 @@ impl NumberedEntry {
     ghost use Rattle.std.specs.Prelude.{◌≡◌, ◌<◌, ◌≤◌, ◌+◌, ◌^◌, not, length, map, slice_set, IfOk, OnOk, OnErr};
     ghost use Rattle.numbered_sets.specs.Numbers.{numbers, has_number, with_number, joined_numbers, number_count};
     ghost use Rattle.std.specs.Bool.{OnTrue, OnFalse};
-    ghost use Rattle.numbered_sets.specs.NumberedEntries.{numbers_at, entry_numbers, AreFilled, HasEmptySet, IsNumberJoin, IsPartOfNumberJoin};
+    ghost use Rattle.numbered_sets.specs.NumberedEntries.{numbers_at, number_domains, entry_numbers, AreFilled, HasEmptySet, IsNumberJoin, IsPartOfNumberJoin, IsPartOfCopy};
 
     /// The entry without a number, for a component of each domain.
     pub fn new(alloc: Global, domains: &[Domain]) -> Result<NumberedEntry, Memory>
@@ -80,6 +80,31 @@ impl NumberedEntry {
             sets.push(set.copy(alloc)?)?;
         }
         Ok(NumberedEntry { sets })
+    }
+
+    /// Becomes another entry, with sets of the same domains. Where memory is wanted each set is what it was or the other's.
+    pub fn assign(&mut self, other: &NumberedEntry) -> Result<(), Memory>
+        requires { number_domains self.old ≡ number_domains other.now }
+        ensures entry { OnOk result (self.new ≡ other.now) }
+        ensures domains { number_domains self.new ≡ number_domains self.old }
+        ensures err { OnErr result (IsPartOfCopy self.old other.now self.new) }
+    {
+        for place in 0..other.sets.len() {
+            self.assign_set(place, other.sets.at(place))?;
+        }
+        Ok(())
+    }
+
+    /// Makes one of the sets another one.
+    fn assign_set(&mut self, place: usize, other: &NumberedSet) -> Result<(), Memory>
+        requires known { place < length self.old.sets }
+        requires alike { (numbers_at self.old place).domain ≡ other.now.domain }
+        ensures sets { OnOk result (self.new.sets ≡ slice_set self.old.sets place other.now) }
+        ensures err { OnErr result (self.new ≡ self.old) }
+    {
+        let set = self.sets.at_mut(place);
+        set.assign(other)?;
+        Ok(())
     }
 
     /// Whether each set has a number.

@@ -4,24 +4,26 @@ ghost use Rattle.std.specs.Prelude.{◌≡◌};
 use crate::words;
 use abstract_state::Domain;
 use osek_values::Memory;
-use smallvec::SmallVec;
 use std::alloc::Global;
 use std::marker::Model;
 
-/// A set of numbers of values of a domain, each a bit. The words end at the last one that was needed, and the first two
-/// stand in the set itself: most tasks have no more values, and events and alarms have two.
+/// A set of numbers of values of a domain, each a bit. The first 128 stand in the set itself: most tasks have no more values,
+/// and events and alarms have two. Further words end at the last one that was needed.
 #[derive(Drop)]
 pub struct NumberedSet {
     domain: Domain,
-    words: SmallVec<u64, 2>,
+    low: u64,
+    high: u64,
+    more: Vec<u64>,
 }
 
 impl Model for NumberedSet {
+    ghost use Rattle.std.specs.Prelude.{◌∷◌};
     ghost use Rattle.numbered_sets.specs.Numbers.{Numbers, bits_of_words};
 
     ghost Value = { Numbers };
 
-    ghost view = { λ s. record { domain = s.domain; bits = bits_of_words s.words.items } };
+    ghost view = { λ s. record { domain = s.domain; bits = bits_of_words (s.low ∷ s.high ∷ s.more.items) } };
 }
 
 impl NumberedSet {
@@ -35,7 +37,9 @@ impl NumberedSet {
     {
         NumberedSet {
             domain,
-            words: SmallVec::new(alloc),
+            low: 0,
+            high: 0,
+            more: Vec::new(alloc),
         }
     }
 
@@ -50,7 +54,14 @@ impl NumberedSet {
     pub fn has(&self, number: usize) -> bool
         ensures { result ≡ has_number self.now number }
     {
-        words::has(self.words.as_slice(), number)
+        words::are_two_words(self.low, self.high);
+        if number < 64 {
+            return words::has_bit(self.low, number);
+        }
+        if number < 128 {
+            return words::has_bit(self.high, number - 64);
+        }
+        words::has(self.more.as_slice(), number - 128)
     }
 
     /// Puts a number in the set, and tells whether it is new there.
@@ -62,9 +73,27 @@ impl NumberedSet {
         if self.has(number) {
             return Ok(false);
         }
-        words::widen(&mut self.words, number / 64 + 1)?;
-        words::put(self.words.as_mut_slice(), number);
+        self.put(number)?;
         Ok(true)
+    }
+
+    fn put(&mut self, number: usize) -> Result<(), Memory>
+        ensures set { OnOk result (self.new ≡ with_number self.old number) }
+        ensures err { OnErr result (self.new ≡ self.old) }
+    {
+        words::are_two_words(self.low, self.high);
+        if number < 64 {
+            self.low = words::with_bit(self.low, number);
+            return Ok(());
+        }
+        if number < 128 {
+            self.high = words::with_bit(self.high, number - 64);
+            return Ok(());
+        }
+        let further = number - 128;
+        words::widen(&mut self.more, further / 64 + 1)?;
+        words::put(self.more.as_mut_slice(), further);
+        Ok(())
     }
 
     /// Puts all numbers of another set in this one, and tells how many are new here.
@@ -75,39 +104,70 @@ impl NumberedSet {
         ensures few { IfOk result (λ n. n ≤ number_count other.now) }
         ensures err { OnErr result (self.new ≡ self.old) }
     {
-        words::widen(&mut self.words, other.words.len())?;
-        let added = words::join(self.words.as_mut_slice(), other.words.as_slice());
-        Ok(added)
+        words::are_two_words(self.low, self.high);
+        words::are_two_words(other.low, other.high);
+        let further = words::join_in(&mut self.more, other.more.as_slice())?;
+        let added = words::new_bits(self.low, other.low) + words::new_bits(self.high, other.high);
+        self.low = self.low | other.low;
+        self.high = self.high | other.high;
+        Ok(added + further)
     }
 
     /// Leaves out the numbers that another set lacks.
     pub fn keep(&mut self, other: &NumberedSet)
         ensures { self.new ≡ kept_numbers self.old other.now }
     {
-        words::keep(self.words.as_mut_slice(), other.words.as_slice());
+        words::are_two_words(self.low, self.high);
+        words::are_two_words(other.low, other.high);
+        self.low = self.low & other.low;
+        self.high = self.high & other.high;
+        words::keep(self.more.as_mut_slice(), other.more.as_slice());
     }
 
     /// Whether there is no number.
     pub fn is_empty(&self) -> bool
         ensures { result ≡ (self.now.bits == 0) }
     {
-        words::are_clear(self.words.as_slice())
+        if self.low != 0 {
+            return false;
+        }
+        if self.high != 0 {
+            return false;
+        }
+        words::are_clear(self.more.as_slice())
     }
 
     /// Whether another set has its words: then it has its numbers.
     pub fn has_same(&self, other: &NumberedSet) -> bool
         ensures { OnTrue result (self.now.bits ≡ other.now.bits) }
     {
-        self.words.as_slice() == other.words.as_slice()
+        self.low == other.low
+            && self.high == other.high
+            && self.more.as_slice() == other.more.as_slice()
     }
 
     /// Another set of the same numbers.
     pub fn copy(&self, alloc: Global) -> Result<NumberedSet, Memory>
         ensures { IfOk result (λ set. set ≡ self.now) }
     {
+        let more = words::copied(alloc, self.more.as_slice())?;
         Ok(NumberedSet {
             domain: self.domain,
-            words: SmallVec::from_slice(alloc, self.words.as_slice())?,
+            low: self.low,
+            high: self.high,
+            more,
         })
+    }
+
+    /// Becomes another set of the same domain. Where memory is wanted it stays what it was.
+    pub fn assign(&mut self, other: &NumberedSet) -> Result<(), Memory>
+        requires { self.old.domain ≡ other.now.domain }
+        ensures set { OnOk result (self.new ≡ other.now) }
+        ensures err { OnErr result (self.new ≡ self.old) }
+    {
+        words::assign(&mut self.more, other.more.as_slice())?;
+        self.low = other.low;
+        self.high = other.high;
+        Ok(())
     }
 }

@@ -86,6 +86,7 @@ impl Numbering {
     ) -> Result<(), Memory>
         ensures same { self.new ≡ self.old }
         ensures passing { OnOk result (IsSifted self.old.values test.now numbers.old numbers.new) }
+        ensures err { OnErr result (numbers.new ≡ numbers.old) }
     {
         let seen = self.seen.as_slice();
         if is_of_value(test) {
@@ -183,6 +184,7 @@ impl Pool {
         requires { component < length self.old }
         ensures same { self.new ≡ self.old }
         ensures passing { OnOk result (IsSifted (values_at self.old component) test.now numbers.old numbers.new) }
+        ensures err { OnErr result (numbers.new ≡ numbers.old) }
     {
         let numbering = self.numberings.at_mut(component);
         numbering.keep_passing(alloc, test, numbers)?;

@@ -1,12 +1,13 @@
 //! Words of 64 bits, with a bit for each number.
-ghost use Rattle.std.specs.Prelude.{◌≡◌, ◌<◌, ◌≤◌, ◌+◌, ◌/◌, ◌^◌, ◌==◌, bit_and, bit_or, count_ones, length, slice_index_or, OnOk};
+ghost use Rattle.std.specs.Prelude.{◌≡◌, ◌<◌, ◌≤◌, ◌+◌, ◌/◌, ◌^◌, ◌==◌, bit_and, bit_or, count_ones, length, slice_index_or, IfOk, OnOk, OnErr};
 ghost use Rattle.osek_standard.specs.Kernel.{has_bit as has_bit_of};
 ghost use Rattle.numbered_sets.specs.Numbers.{AreWords, bits_of_words};
 
 use osek_values::Memory;
-use smallvec::SmallVec;
+use std::alloc::Global;
 
-fn has_bit(bits: u64, bit: usize) -> bool
+/// Whether a bit of a word is set.
+pub fn has_bit(bits: u64, bit: usize) -> bool
     requires { bit < 64 }
     ensures { result ≡ has_bit_of bits bit }
 {
@@ -18,6 +19,12 @@ fn are_words(words: &[u64])
     ensures { AreWords words.now }
 {}
 
+/// Each of two has 64 bits, as its type says.
+pub fn are_two_words(low: u64, high: u64)
+    ensures low { low < 2 ^ 64 }
+    ensures high { high < 2 ^ 64 }
+{}
+
 /// Whether a number's bit is set.
 pub fn has(words: &[u64], number: usize) -> bool
     ensures { result ≡ has_bit_of (bits_of_words words.now) number }
@@ -27,7 +34,7 @@ pub fn has(words: &[u64], number: usize) -> bool
 }
 
 /// Makes room for so many words. No bit changes.
-pub fn widen(words: &mut SmallVec<u64, 2>, count: usize) -> Result<(), Memory>
+pub fn widen(words: &mut Vec<u64>, count: usize) -> Result<(), Memory>
     ensures room { OnOk result (count ≤ length words.new.items) }
     ensures same { bits_of_words words.new.items ≡ bits_of_words words.old.items }
 {
@@ -47,12 +54,24 @@ pub fn put(words: &mut [u64], number: usize)
     words[place] = words[place] | 1 << (number % 64);
 }
 
-// how many bits the other word has that this one lacks
-fn new_bits(word: u64, other: u64) -> u64
+/// A word with a bit more.
+pub fn with_bit(word: u64, bit: usize) -> u64
+    requires { bit < 64 }
+    ensures { result ≡ bit_or word (2 ^ bit) }
+{
+    word | 1 << bit
+}
+
+/// How many bits the other word has that this one lacks.
+pub fn new_bits(word: u64, other: u64) -> u64
     ensures count { count_ones (bit_or word other) ≡ count_ones word + result }
     ensures few { result ≤ count_ones other }
 {
-    ((word | other).count_ones() - word.count_ones()) as u64
+    let both = word | other;
+    if both == word {
+        return 0;
+    }
+    (both.count_ones() - word.count_ones()) as u64
 }
 
 /// Sets the bits of other words too, and tells how many were not set.
@@ -72,6 +91,53 @@ pub fn join(words: &mut [u64], other: &[u64]) -> u64
         words[place] = word | other[place];
     }
     added
+}
+
+/// Sets the bits of further words too, and tells how many were not set.
+pub fn join_in(words: &mut Vec<u64>, other: &[u64]) -> Result<u64, Memory>
+    requires { count_ones (bits_of_words other.now) < 2 ^ 64 }
+    ensures bits { OnOk result (bits_of_words words.new.items ≡ bit_or (bits_of_words words.old.items) (bits_of_words other.now)) }
+    ensures count { IfOk result (λ n. count_ones (bits_of_words words.new.items) ≡ count_ones (bits_of_words words.old.items) + n) }
+    ensures few { IfOk result (λ n. n ≤ count_ones (bits_of_words other.now)) }
+    ensures err { OnErr result (bits_of_words words.new.items ≡ bits_of_words words.old.items) }
+{
+    let count = other.len();
+    if count == 0 {
+        return Ok(0);
+    }
+    widen(words, count)?;
+    let added = join(words.as_mut_slice(), other);
+    Ok(added)
+}
+
+/// The same words again.
+pub fn copied(alloc: Global, words: &[u64]) -> Result<Vec<u64>, Memory>
+    ensures { IfOk result (λ copy. copy.items ≡ words.now) }
+{
+    if words.is_empty() {
+        return Ok(Vec::new(alloc));
+    }
+    Ok(words.to_vec(alloc)?)
+}
+
+/// Makes the bits those of other words. Where memory is wanted they stay what they were.
+pub fn assign(words: &mut Vec<u64>, other: &[u64]) -> Result<(), Memory>
+    ensures bits { OnOk result (bits_of_words words.new.items ≡ bits_of_words other.now) }
+    ensures err { OnErr result (bits_of_words words.new.items ≡ bits_of_words words.old.items) }
+{
+    widen(words, other.len())?;
+    put_all(words.as_mut_slice(), other);
+    Ok(())
+}
+
+// makes the bits those of other words, of which there are no more
+fn put_all(words: &mut [u64], other: &[u64])
+    requires { length other.now ≤ length words.old }
+    ensures { bits_of_words words.new ≡ bits_of_words other.now }
+{
+    for place in 0..words.len() {
+        words[place] = word_at(other, place);
+    }
 }
 
 fn word_at(words: &[u64], place: usize) -> u64

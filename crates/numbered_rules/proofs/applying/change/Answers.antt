@@ -1,7 +1,8 @@
-use Rattle.std.proofs.Common.{◌≡◌, ◌<◌, ◌≤◌, ◌+◌, length, get_or, set, true, false, sym, ap, ap₂, subst, ℕ, ◌∙◌, List, arith}
+use Rattle.std.proofs.Common.{◌≡◌, ◌<◌, ◌≤◌, ◌+◌, length, get_or, set, true, false, sym, ap, ap₂, subst, ℕ, ◌∙◌, List, map, arith}
 use Rattle.flow_model.specs.declared.change.Change.{Change}
 use Rattle.numbered_sets.specs.Numbers.{Numbers}
 use Rattle.numbered_sets.specs.NumberedEntries.{no_set}
+use Rattle.numbered_sets.proofs.CopiedEntries.{domains_put}
 use Rattle.numbered_sets.proofs.NumberingLaws.{longer_itself}
 use Rattle.numbered_rules.specs.Applying.{IsPassedSet}
 use Rattle.numbered_rules.specs.Changing.{is_named, up_to, alone, AreAllPassed}
@@ -49,3 +50,9 @@ returns-clause-passed c = λ before was h.
     (subst (λ (o : Numbers). IsPassedSet (alone x) c.args.pool.now c.index-component.result o c.updated.new.pool c.in_ok-set.set) (sym (c.at.ensures.item no_set)) c.in_ok-set.ensures.passed) in
     subst (AreAllPassed (up_to rule (c.args.place + 1)) before was (length was.sets) c.updated.new.pool) (sym (c.put.ensures ∙ ap (λ (j : ℕ). set sets j c.in_ok-set.set) index))
     (changed_one rule c.args.place x c.requires.known at before was c.args.pool.now sets h c.updated.new.pool c.in_ok-set.set c.in_ok-set.ensures.pool fresh known made)
+
+pub returns-clause-alike : goal.returns-clause-alike
+returns-clause-alike c =
+    ap (λ (xs : List Numbers). map (λ (x : Numbers). x.domain) xs) c.put.ensures
+    ∙ domains_put c.args.entry.now.sets c.index-component.result c.in_ok-set.set (omega (arith, c.if-component-len.false, c.len.ensures))
+    (c.in_ok-set.ensures.passed.domain ∙ ap (λ (x : Numbers). x.domain) (sym (c.at.ensures.item no_set)))

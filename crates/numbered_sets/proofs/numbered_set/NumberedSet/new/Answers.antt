@@ -1,7 +1,9 @@
-use Rattle.std.proofs.Common.{ap}
+use Rattle.std.proofs.Common.{◌∷◌, ap, ◌∙◌, refl}
 use Rattle.numbered_sets.specs.Numbers.{bits_of_words, numbers}
+use Rattle.numbered_sets.proofs.FirstWords.{none_first, bits_of_none}
 use Rattle.numbered_sets.proofs.numbered_set.NumberedSet.new.Goals as goal
 
 pub returns : goal.returns
-unfolding bits_of_words
-returns c = ap (λ ws. numbers c.args.domain (bits_of_words ws)) c.new.ensures.items
+returns c =
+    let items = c.new.result.items in
+    ap (numbers c.args.domain) (none_first 0 (0 ∷ items) refl (none_first 0 items refl (ap bits_of_words c.new.ensures.items ∙ bits_of_none _ refl)))

@@ -1,6 +1,0 @@
-use Rattle.std.proofs.Common.{length}
-use Rattle.numbered_rules.specs.Changing.{up_to, AreAllPassed}
-use Rattle.numbered_rules.proofs.applying.apply.Given as goal
-
-abbrev pub invariant-loop-place : goal.invariant-loop-place
-invariant-loop-place l = AreAllPassed (up_to l.rule l.place) l.initial.pool l.entry (length l.entry.sets) l.pool l.new.sets
