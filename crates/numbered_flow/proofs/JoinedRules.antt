@@ -1,7 +1,7 @@
 -- What rules make is joined to the cells, one rule after another, in a pool that grows.
 use Rattle.std.proofs.Common.{List, [], ◌∷◌, ◌++◌, refl, sym, subst}
 use Rattle.osek_standard.specs.declared.app.App.{App}
-use Rattle.abstract_state.specs.declared.table.{Entry.{Entry}, TableRow.{TableRow}}
+use Rattle.abstract_state.specs.declared.table.{Entry.{Entry}}
 use Rattle.flow_model.specs.declared.rule.Rule.{Rule}
 use Rattle.flow_model.specs.Rules.{Applies}
 use Rattle.numbered_sets.specs.declared.numbered_entry.NumberedEntry.{NumberedEntry}

@@ -1,17 +1,14 @@
 -- Rows that rules make, one rule after another; and that the rows of all rules of a point are what it leads to.
-use Rattle.std.proofs.Common.{◌≡◌, ◌⊎◌, Bool, true, false, not, List, [], ◌∷◌, ◌++◌, length, get_or, map, take, flat_map, refl, sym, ap, subst, ◌∙◌, inl, inr, arith, ◌<◌, ◌+◌, ℕ, IsTrue}
+use Rattle.std.proofs.Common.{◌≡◌, Bool, true, false, not, List, [], ◌∷◌, ◌++◌, length, get_or, map, take, refl, sym, ap, subst, ◌∙◌, inl, inr, arith, ◌<◌, ◌+◌, ℕ, IsTrue}
 use Rattle.std.specs.Prelude.{Contains}
 use Rattle.std.specs.List.{list_any}
 use Rattle.std.proofs.Math.ListN.{get_or-map}
 use Rattle.std.proofs.lemmas.List.{append-nil, length-map, map-append, take_more}
 use Rattle.std.proofs.lemmas.List.Elements.{Contains-get_or, Contains-push, Contains-push_cases, Contains-append_left}
 use Rattle.std.proofs.lemmas.Grind.{flat_map-append}
-use Rattle.osek_values.specs.declared.event.Event.{Event}
 use Rattle.osek_standard.specs.declared.app.App.{App}
-use Rattle.osek_standard.specs.declared.state.State.{State}
 use Rattle.osek_standard.specs.declared.point.Point.{Point}
-use Rattle.osek_standard.specs.Kernel.{step}
-use Rattle.osek_standard.proofs.Members.{Among, among_left, among_right, among_cases, among_contained, contained_among, among_map, map_among, among_flat_map}
+use Rattle.osek_standard.proofs.Members.{among_left, among_right, among_cases, among_contained, contained_among, map_among, among_flat_map}
 use Rattle.abstract_state.specs.declared.value.{Domain.{Domain}, PartValue.{PartValue}}
 use Rattle.abstract_state.specs.declared.table.{Entry.{Entry}, TableRow.{TableRow}, ValueSet.{ValueSet}}
 use Rattle.abstract_state.specs.Domains.{IsWithin, domains, domains_of, HasMasks}
@@ -33,15 +30,15 @@ use Rattle.numbered_sets.specs.Views.{plain_entry, AreNumbersOf}
 use Rattle.numbered_sets.proofs.PlainLaws.{plain_set_at, length_plain}
 use Rattle.numbered_sets.proofs.NumberingLaws.{longer_itself}
 use Rattle.numbered_rules.specs.Applying.{KeepsDomains}
-use Rattle.numbered_rules.specs.Replacing.{IsReplaced, AppliesBeside}
+use Rattle.numbered_rules.specs.Replacing.{IsReplaced}
 use Rattle.numbered_rules.proofs.KeptDomains.{exact_keep, shared_keep}
 use Rattle.numbered_rules.proofs.NumbersPassing.{alike_there}
 use Rattle.numbered_rules.proofs.ReplacedSets.{applies_beside, member_known, still_beside, none_of_shared, none_of_failing, value_applies}
 use Rattle.state_flow.specs.Rows.{row_at, IsProperRow}
-use Rattle.state_flow.specs.Reaching.{IsLed, IsReached, Leads}
+use Rattle.state_flow.specs.Reaching.{IsReached, Leads}
 use Rattle.state_flow.proofs.RowLaws.{as_many_sets}
 use Rattle.state_flow.proofs.ReachedRows.{reached_by}
-use Rattle.numbered_flow.specs.RowRules.{IsRowOf, IsRowOfSome, HasRowOf, AddsRows, MakesProperRow, MakeProperRows, MayApply, IsMadeBeside}
+use Rattle.numbered_flow.specs.RowRules.{IsRowOf, IsRowOfSome, AddsRows, MakeProperRows, MayApply, IsMadeBeside}
 
 -- ---- rows of plain entries
 

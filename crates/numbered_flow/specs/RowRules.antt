@@ -1,7 +1,6 @@
 -- The rows that rules make of an entry, and their joins to cells.
 use Rattle.std.specs.Prelude.{◌≡◌, ◌⊎◌, List, [], IsTrue, Contains}
 use Rattle.osek_standard.specs.declared.app.App.{App}
-use Rattle.osek_standard.specs.declared.point.Point.{Point}
 use Rattle.abstract_state.specs.declared.table.{Entry.{Entry}, TableRow.{TableRow}}
 use Rattle.abstract_state.specs.Tables.{set_at, is_member}
 use Rattle.flow_model.specs.declared.rule.Rule.{Rule}

@@ -1,16 +1,13 @@
 //! What the rules of a group make of an entry, joined to cells.
-ghost use Rattle.std.specs.Prelude.{◌≡◌, [], ◌∷◌, map, IsTrue, IfSome, IfNone, IfOk, OnOk};
+ghost use Rattle.std.specs.Prelude.{◌≡◌, [], ◌∷◌, map, IsTrue, IfSome, IfNone, OnOk};
 ghost use Rattle.std.specs.List.{list_any};
-ghost use Rattle.std.specs.Bool.{OnTrue, OnFalse};
 ghost use Rattle.abstract_state.specs.declared.table.Entry.{Entry};
 ghost use Rattle.abstract_state.specs.Tables.{set_at, is_member};
 ghost use Rattle.flow_model.specs.Tests.{is_failed, PassesAt, value_after as value_after_of};
-ghost use Rattle.flow_model.specs.Rules.{Applies, HasNone};
 ghost use Rattle.flow_rules.specs.RuleGroups.{rule_at, rules_of, AreValuesIn};
 ghost use Rattle.numbered_sets.specs.NumberedEntries.{number_domains};
 ghost use Rattle.numbered_sets.specs.Pools.{pool_domains, IsLonger};
 ghost use Rattle.numbered_sets.specs.Shown.{IsShown};
-ghost use Rattle.numbered_sets.specs.Views.{plain_entry, AreNumbersOf};
 ghost use Rattle.numbered_rules.specs.Applying.{KeepsDomains};
 ghost use Rattle.numbered_flow.specs.Numbering.{AreNumberedCells};
 ghost use Rattle.numbered_flow.specs.RowRules.{JoinsRows, MakesProperRow, MakeProperRows, MayApply, MayJoinValue, IsMadeBeside};
@@ -20,7 +17,7 @@ use abstract_state::PartValue;
 use flow_dispatch::End;
 use flow_model::{Rule, passes_each, value_after};
 use flow_rules::{RuleGroup, ValueRules};
-use numbered_rules::{apply, replace};
+use numbered_rules::{apply_into, replace};
 use numbered_sets::{NumberedEntry, Pool, ShownEntry};
 use osek_standard::App;
 use osek_values::Memory;
@@ -144,30 +141,4 @@ fn becomes(group: &ValueRules, end: &End) -> Option<PartValue>
     }
     let value = value_after(group.rule.changes.as_slice(), component, &end.value);
     Some(value)
-}
-
-// makes the other entry what a rule makes of an entry, and tells whether it has a result
-fn apply_into(
-    alloc: Global,
-    rule: &Rule,
-    pool: &mut Pool,
-    entry: &NumberedEntry,
-    made: &mut NumberedEntry,
-) -> Result<bool, Memory>
-    requires numbers { AreNumbersOf pool.old entry.now }
-    requires domains { KeepsDomains rule.now (plain_entry pool.old entry.now) }
-    requires alike { number_domains made.old ≡ number_domains entry.now }
-    ensures pool { IsLonger pool.old pool.new }
-    ensures alike { number_domains made.new ≡ number_domains made.old }
-    ensures numbers { IfOk result (λ is_made. OnTrue is_made (AreNumbersOf pool.new made.new)) }
-    ensures applies { IfOk result (λ is_made. OnTrue is_made (Applies rule.now (plain_entry pool.old entry.now) (plain_entry pool.new made.new))) }
-    ensures none { IfOk result (λ is_made. OnFalse is_made (HasNone rule.now (plain_entry pool.old entry.now))) }
-{
-    match apply(alloc, rule, pool, entry)? {
-        Some(new) => {
-            *made = new;
-            Ok(true)
-        }
-        None => Ok(false),
-    }
 }

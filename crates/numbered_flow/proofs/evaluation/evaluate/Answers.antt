@@ -1,6 +1,5 @@
-use Rattle.std.proofs.Common.{◌≡◌, ◌∙◌, [], ap, subst, take, List, arith}
+use Rattle.std.proofs.Common.{◌≡◌, ◌∙◌, [], ap, subst, take, List}
 use Rattle.std.proofs.lemmas.List.{take_all}
-use Rattle.abstract_state.specs.Domains.{domains}
 use Rattle.flow_model.specs.declared.rule.Rule.{Rule}
 use Rattle.flow_rules.specs.RuleGroups.{all_rules, rules_of}
 use Rattle.numbered_sets.proofs.ShownLaws.{shown_on}

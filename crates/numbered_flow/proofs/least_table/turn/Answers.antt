@@ -1,7 +1,6 @@
 use Rattle.std.proofs.Common.{set, sym, subst}
 use Rattle.abstract_state.specs.declared.table.Entry.{Entry}
 use Rattle.state_flow.specs.Rows.{row_at, IsProperRow}
-use Rattle.state_flow.specs.declared.cells.Cell.{Cell}
 use Rattle.numbered_sets.proofs.ShownLaws.{shown_on}
 use Rattle.numbered_flow.specs.PlainCells.{plain_cells}
 use Rattle.numbered_flow.specs.Numbering.{IsEvaluated}
