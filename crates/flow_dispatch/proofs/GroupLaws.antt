@@ -29,8 +29,11 @@ use Rattle.flow_dispatch.specs.declared.claim.Claim.TheVariants as claim
 use Rattle.flow_dispatch.specs.Candidates.{candidate_of, candidate_after}
 use Rattle.flow_dispatch.specs.Claims.{AreVals, AreUnder, AreTests}
 use Rattle.flow_dispatch.specs.Groups.{case_at, cases_of, all_cases, AreEndsIn, AreGroupsIn, ends_of, one_case, group_list, HasPriority, AreCasesFor, IsGroup, AddsGroups, AddsWinnerGroups}
+use Rattle.flow_dispatch.specs.Keepers.{taken_candidate}
+use Rattle.flow_dispatch.specs.Readings.{AreWithin}
 use Rattle.flow_dispatch.specs.Needs.{AreNeeds, AreMet}
 use Rattle.flow_dispatch.specs.Outcomes.{IsDispatching, running_of, IsAnything, IsValueOf, Takes, Scheduled, RequiresLive, IsExactCase, IsCaseFor, IsCase, AddsCases}
+use Rattle.flow_dispatch.proofs.TakenLaws.{taken_is, taken_after}
 use Rattle.flow_dispatch.proofs.OutcomeLaws.{still, found_adds, winners_none, winners_more, member_first, scheduled_best, winner_case, winner_never}
 
 -- ---- lists of cases
@@ -177,6 +180,9 @@ module _ (app : App) (entry : Entry) (effect : EffectCase) where
     abbrev own_of : PartValue → Option Candidate
     own_of v = candidate_after app effect.changes t.0 v
 
+    abbrev taken_of : PartValue → Option Candidate
+    taken_of v = taken_candidate app effect t.0 v
+
     pub there : (value : ℕ → PartValue) → Takes app entry effect value → Among (value t.0) members
     there value takes = contained_among members (value t.0) (member_first app entry effect t.0 lt value takes)
 
@@ -210,16 +216,14 @@ module _ (app : App) (entry : Entry) (effect : EffectCase) where
         (group_more (HasPriority app effect t.0 (p ∷ [])) (decision.To (Some t)) found b h)
 
     -- each way in which the task is dispatched has one of the candidates' priorities
-    pub all_priorities : (candidates : List (Option Candidate)) (ps : List ℕ) → candidates ≡ map own_of members → ((own : Candidate) → Contains candidates (Some own) → Contains ps own.priority) →
+    pub all_priorities : (ps : List ℕ) → AreWithin app effect.changes t.0 members ps →
         (a b : List OutcomeGroup) → AddsGroups app entry effect (HasPriority app effect t.0 ps) (decision.To (Some t)) a b → AddsGroups app entry effect IsAnything (decision.To (Some t)) a b
-    all_priorities candidates ps is each a b x = by_property (HasPriority app effect t.0 ps) IsAnything (decision.To (Some t)) has a b x
+    all_priorities ps within a b x = by_property (HasPriority app effect t.0 ps) IsAnything (decision.To (Some t)) has a b x
       where
         has : (value : ℕ → PartValue) → Takes app entry effect value → IsAnything value → Scheduled app entry effect value (decision.To (Some t)) → HasPriority app effect t.0 ps value
         has value takes _ s =
             let own = live_candidate app t.0 (val_of (after value t.0)) (scheduled_best app entry effect t lt (value t.0) effect.asked (after value) s).is.live in
-            let among : Among (own_of (value t.0)) (map own_of members) = among_map own_of (value t.0) members (there value takes) in
-            let listed : Contains candidates (Some own.0) = subst (λ (xs : List (Option Candidate)). Contains xs (Some own.0)) (sym is) (subst (Contains (map own_of members)) own.1 (among_contained (map own_of members) (own_of (value t.0)) among)) in
-            record { own = own.0; is = own.1; among = each own.0 listed }
+            record { own = own.0; is = own.1; among = within (value t.0) own.0 (among_contained members (value t.0) (there value takes)) own.1 }
 
     module _ (p : ℕ) where
       tests_at : (first : List Condition) (own : Candidate) → own.priority ≡ p → AreTests app effect.changes (claim.Gets t p (running_of effect.asked)) (length app.tasks) first → AreTests app effect.changes (claim.Gets t own.priority (running_of effect.asked)) (length app.tasks) first
@@ -239,22 +243,22 @@ module _ (app : App) (entry : Entry) (effect : EffectCase) where
 
       module _ (dispatching : IsDispatching app effect.asked) (other : is_that_task (running_of effect.asked) t.0 ≡ false) (first last : List Condition) (c : ComponentNo) (same : c.0 ≡ t.0)
           (tests : AreTests app effect.changes (claim.Gets t p (running_of effect.asked)) (length app.tasks) first) (alive : RequiresLive app entry effect (running_of effect.asked) first last) (ends : List End)
-          (are : ends ≡ flat_map (λ v. ends_of p v (own_of v)) members) where
+          (are : ends ≡ flat_map (λ v. ends_of p v (taken_of v)) members) where
         abbrev its : ValueCases
         its = record { conditions = last; decision = decision.To (Some t); component = c; ends = ends }
 
         case_for : (v : PartValue) (own : Candidate) → own_of v ≡ Some own → own.priority ≡ p → IsCaseFor app entry effect (IsValueOf t.0 v) (decision.To (Some t)) (case_at its (record { value = v; target = point.Task own.block }))
         case_for v own is e = winner_case app entry effect t lt v own is dispatching other first last c same (tests_at first own e tests) alive
 
-        end_of_member : (x : End) → Contains ends x → (v : PartValue) × Among v members × IsEnd p v (own_of v) x
+        end_of_member : (x : End) → Contains ends x → (v : PartValue) × Among v members × IsEnd p v (taken_of v) x
         end_of_member x m =
-            let f = flat_map_among (λ v. ends_of p v (own_of v)) x members (subst (Among x) are (contained_among ends x m)) in
-            (f.0, f.1, end_found p f.0 (own_of f.0) x f.2)
+            let f = flat_map_among (λ v. ends_of p v (taken_of v)) x members (subst (Among x) are (contained_among ends x m)) in
+            (f.0, f.1, end_found p f.0 (taken_of f.0) x f.2)
 
         exact_end : (x : End) → Contains ends x → IsExactCase app entry effect (case_at its x)
         exact_end x m =
             let f = end_of_member x m in
-            subst (λ (y : End). IsExactCase app entry effect (case_at its y)) (sym f.2.at) (case_for f.0 f.2.own f.2.is f.2.priority).exact
+            subst (λ (y : End). IsExactCase app entry effect (case_at its y)) (sym f.2.at) (case_for f.0 f.2.own (taken_after app effect t.0 f.0 f.2.own f.2.is) f.2.priority).exact
 
         pub winners_group : AreCasesFor app entry effect (HasPriority app effect t.0 (p ∷ [])) (decision.To (Some t)) its
         winners_group = record {
@@ -265,8 +269,8 @@ module _ (app : App) (entry : Entry) (effect : EffectCase) where
               let e = its_priority h.own h.among in
               let end : End = record { value = v; target = point.Task h.own.block } in
               let case = case_for v h.own h.is e in
-              let mine : Among end (ends_of p v (own_of v)) = subst (λ (o : Option Candidate). Among end (ends_of p v o)) (sym h.is) (end_there p v h.own e) in
-              let listed : Among end ends = subst (Among end) (sym are) (among_flat_map (λ w. ends_of p w (own_of w)) v end members (there value takes) mine) in
+              let mine : Among end (ends_of p v (taken_of v)) = subst (λ (o : Option Candidate). Among end (ends_of p v o)) (sym (taken_is app effect t.0 lt value takes.passes ∙ h.is)) (end_there p v h.own e) in
+              let listed : Among end ends = subst (Among end) (sym are) (among_flat_map (λ w. ends_of p w (taken_of w)) v end members (there value takes) mine) in
               record {
                 case = case_at its end;
                 listed = among_contained (map (case_at its) ends) (case_at its end) (among_map (case_at its) end ends listed);

@@ -3,7 +3,7 @@ use Rattle.std.proofs.Common.{◌≡◌, ℕ, zero, suc, ◌+◌, ◌<◌, ◌�
 use Rattle.std.specs.Prelude.{Contains, option_to_list, ◌==◌, if◌then◌else◌}
 use Rattle.std.specs.List.{list_any}
 use Rattle.std.specs.declared.option.Option.{Option}
-use Rattle.std.proofs.lemmas.Bool.{cases_Bool, eqb-true}
+use Rattle.std.proofs.lemmas.Bool.{cases_Bool}
 use Rattle.std.proofs.lemmas.Bool.Decides.{nat_tests}
 use Rattle.std.proofs.lemmas.List.{take_more}
 use Rattle.std.proofs.lemmas.List.Elements.{Contains-push_cases}
@@ -21,7 +21,7 @@ use Rattle.flow_model.specs.declared.{case.Asked.{Asked}, case.EffectCase.{Effec
 use Rattle.flow_model.specs.declared.test.Test.TheVariants as test
 use Rattle.flow_model.specs.declared.case.Asked.TheVariants as asked
 use Rattle.flow_model.specs.declared.case.Decision.TheVariants as decision
-use Rattle.flow_model.specs.Tests.{passes, is_failed, PassesAt, PassesAll, values_after}
+use Rattle.flow_model.specs.Tests.{passes, is_failed, PassesAll, values_after}
 use Rattle.flow_model.specs.Scheduling.{task_priority, IsLiveTask, NoneAbove, Decides}
 use Rattle.flow_dispatch.specs.declared.{priority.Candidate.{Candidate}, group.OutcomeGroup.{OutcomeGroup}}
 use Rattle.flow_dispatch.specs.declared.claim.Claim.TheVariants as claim
@@ -34,20 +34,9 @@ use Rattle.flow_dispatch.specs.Outcomes.{IsAmongFirst, IsAnything, Takes, Schedu
 use Rattle.flow_dispatch.proofs.ClaimLaws.{keeps_means, keeps_passes}
 use Rattle.flow_dispatch.proofs.ConditionLaws.{push_passes, push_before, push_last}
 use Rattle.flow_dispatch.proofs.NeedLaws.{needs_met}
+use Rattle.flow_dispatch.proofs.TakenLaws.{taken_passes, taken_is}
 use Rattle.flow_dispatch.proofs.OutcomeLaws.{candidate_live, candidate_priority, first_more, none_first, among_all, member_first}
 use Rattle.flow_dispatch.proofs.GroupLaws.{live_candidate, nothing_more, then_more, by_property, found_more, there}
-
--- ---- values that an effect takes
-
--- none fails where each condition on the component passes
-none_fails : (xs : List Condition) (c : ℕ) (v : PartValue) → PassesAt xs c v → list_any (is_failed c v) xs ≡ false
-none_fails [] c v h = refl
-none_fails (x ∷ xs) c v h =
-    let more = none_fails xs c v (λ y m e. h y (suc m.0, omega (arith, m.1), m.2) e) in
-    elim (cases_Bool (x.component.0 == c)) [
-      | inl same ↦ (let p : passes x.test v ≡ true = h x (zero, omega arith, refl) (eqb-true x.component.0 c same) in rw same (rw p more))
-      | inr other ↦ (rw other more)
-    ]
 
 -- some fails where not each passes
 pub some_fails : (xs ys : List Condition) (k t : ℕ) (v : PartValue) (b : Bool) → xs ≡ ys → k ≡ t → b ≡ not (list_any (is_failed k v) xs) → b ≡ false → list_any (is_failed t v) ys ≡ true
@@ -60,15 +49,6 @@ some_fails xs ys k t v b same number is e =
     un_not false g = absurd (cc)
 
 module _ (app : App) (effect : EffectCase) (t : ℕ) (lt : t < length app.tasks) where
-  abbrev is_barred : PartValue → Bool
-  is_barred v = list_any (is_failed t v) effect.conditions
-
-  taken_passes : (value : ℕ → PartValue) → PassesAll app effect.conditions value → is_barred (value t) ≡ false
-  taken_passes value p = none_fails effect.conditions t (value t) (p t (task_counted app t lt))
-
-  taken_is : (value : ℕ → PartValue) → PassesAll app effect.conditions value → taken_candidate app effect t (value t) ≡ candidate_after app effect.changes t (value t)
-  taken_is value p = ap (λ (b : Bool). if b then None else candidate_after app effect.changes t (value t)) (taken_passes value p)
-
   -- ---- conditions that bar lower values
 
   module _ (p : ℕ) where
@@ -99,10 +79,13 @@ module _ (app : App) (effect : EffectCase) (t : ℕ) (lt : t < length app.tasks)
       pub reached_bars : reaches app effect.changes t p v ≡ true → BarsLower app effect t p v before before
       reached_bars e = record { means = λ value q. q; high = λ value takes q is. ap (reaches app effect.changes t p) is ∙ e; passes = λ value q h. q }
 
+      abbrev is_barred : PartValue → Bool
+      is_barred w = list_any (is_failed t w) effect.conditions
+
       pub untaken_bars : is_barred v ≡ true → BarsLower app effect t p v before before
       untaken_bars e = record {
         means = λ value q. q;
-        high = λ value takes q is. (let f = taken_passes value takes in let g = ap is_barred is ∙ e in absurd (cc));
+        high = λ value takes q is. (let f = taken_passes app effect t lt value takes in let g = ap is_barred is ∙ e in absurd (cc));
         passes = λ value q h. q;
       }
 

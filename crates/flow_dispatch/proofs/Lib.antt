@@ -4,6 +4,8 @@ pub mod PriorityTests
 pub mod ClaimLaws
 pub mod ConditionLaws
 pub mod NeedLaws
+pub mod TakenLaws
 pub mod OutcomeLaws
 pub mod GroupLaws
 pub mod KeeperLaws
+pub mod ReadingLaws

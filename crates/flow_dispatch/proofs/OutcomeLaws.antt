@@ -45,6 +45,11 @@ candidate_live app u Suspended own e = absurd (cc)
 candidate_live app u (Live x) own e = refl
 candidate_live app u (Waiting b) own e = absurd (cc)
 
+pub candidate_dead : (app : App) (u : ℕ) (v : Val) → candidate_of app u v ≡ None → is_live_value v ≡ false
+candidate_dead app u Suspended e = refl
+candidate_dead app u (Live x) e = absurd (cc)
+candidate_dead app u (Waiting b) e = refl
+
 pub candidate_priority : (app : App) (u : ℕ) (v : Val) (own : Candidate) → candidate_of app u v ≡ Some own → value_priority app u v ≡ own.priority
 candidate_priority app u Suspended own e = absurd (cc)
 candidate_priority app u (Live x) own e = cc

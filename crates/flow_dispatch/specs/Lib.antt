@@ -6,3 +6,5 @@ pub mod Groups
 pub mod Keepers
 pub mod Needs
 pub mod Outcomes
+pub mod Readings
+pub mod Standings

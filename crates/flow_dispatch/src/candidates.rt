@@ -7,13 +7,14 @@ ghost use Rattle.abstract_state.specs.Concrete.{val_of};
 ghost use Rattle.flow_model.specs.Tests.{updated};
 ghost use Rattle.flow_dispatch.specs.declared.priority.Candidate.{Candidate};
 ghost use Rattle.flow_dispatch.specs.Candidates.{candidate_of, candidate_at, candidate_after as candidate_after_of};
+ghost use Rattle.flow_dispatch.specs.Keepers.{taken_candidate as taken_candidate_of};
 ghost use Rattle.flow_dispatch.specs.Groups.{ends_of};
 
 use crate::group::End;
 use crate::limits::change_of;
 use crate::priority::{Candidate, as_candidate};
 use abstract_state::{Component, PartValue, Point, component_number};
-use flow_model::{Change, Update};
+use flow_model::{Change, EffectCase, Update, passes_each};
 use osek_standard::App;
 use osek_values::{BlockNo, Memory, Seq, TaskNo};
 use std::alloc::Global;
@@ -57,33 +58,20 @@ fn at_block(candidate: Option<Candidate>, block: BlockNo) -> Option<Candidate>
     }
 }
 
-/// What the scheduler reads of a task after the changes, for each of these values before them.
-pub fn candidates(
-    alloc: Global,
+/// What the scheduler reads of a task after an effect, if the effect takes its value.
+pub fn taken_candidate(
     app: &App,
-    changes: &Seq<Change>,
+    effect: &EffectCase,
     task: TaskNo,
-    values: &[PartValue],
-) -> Result<Seq<Option<Candidate>>, Memory>
+    value: &PartValue,
+) -> Option<Candidate>
     requires { task.0 < length app.now.tasks }
-    ensures { IfOk result (λ found. found ≡ map (candidate_after_of app.now changes.now task.0) values.now) }
+    ensures { result ≡ taken_candidate_of app.now effect.now task.0 value.now }
 {
-    let mut found = Seq::of(Vec::with_capacity(alloc, values.len())?);
-    for value in values {
-        found.push(candidate_after(app, changes, task, value))?;
+    if !passes_each(effect.conditions.as_slice(), task.index(), value) {
+        return None;
     }
-    Ok(found)
-}
-
-/// The priorities that candidates have, each once.
-pub fn priorities(alloc: Global, candidates: &[Option<Candidate>]) -> Result<Seq<u32>, Memory>
-    ensures { IfOk result (λ found. (own : Candidate) → Contains candidates.now (Some own) → Contains found own.priority) }
-{
-    let mut found = Seq::new(alloc);
-    for candidate in candidates {
-        push_priority(&mut found, *candidate)?;
-    }
-    Ok(found)
+    candidate_after(app, &effect.changes, task, value)
 }
 
 /// Adds the priority of a candidate, if it isn't there.
@@ -100,19 +88,27 @@ pub fn push_priority(found: &mut Seq<u32>, candidate: Option<Candidate>) -> Resu
     Ok(())
 }
 
-/// The values of the candidates that have a priority, each with the point at which its task goes on.
+/// The values that an effect takes and with which a task has a priority after it, each with the point at which the task
+/// goes on.
 pub fn ends_at(
     alloc: Global,
+    app: &App,
+    effect: &EffectCase,
+    task: TaskNo,
     values: &[PartValue],
-    candidates: &[Option<Candidate>],
     priority: u32,
 ) -> Result<Seq<End>, Memory>
-    requires { length candidates.now ≡ length values.now }
-    ensures { IfOk result (λ ends. (own : PartValue → Option Candidate) → candidates.now ≡ map own values.now → ends ≡ flat_map (λ v. ends_of priority v (own v)) values.now) }
+    requires { task.0 < length app.now.tasks }
+    ensures { IfOk result (λ ends. ends ≡ flat_map (λ v. ends_of priority v (taken_candidate_of app.now effect.now task.0 v)) values.now) }
 {
     let mut ends = Seq::new(alloc);
-    for place in 0..values.len() {
-        push_end(&mut ends, &values[place], candidates[place], priority)?;
+    for value in values {
+        push_end(
+            &mut ends,
+            value,
+            taken_candidate(app, effect, task, value),
+            priority,
+        )?;
     }
     Ok(ends)
 }

@@ -12,33 +12,16 @@ ghost use Rattle.flow_dispatch.specs.Keepers.{taken_candidate as taken_candidate
 ghost use Rattle.flow_dispatch.specs.Needs.{AreNeeds};
 ghost use Rattle.flow_dispatch.specs.Outcomes.{IsCase, IsAnything};
 
-use crate::candidates::{candidate_after, push_priority};
+use crate::candidates::{candidate_after, push_priority, taken_candidate};
 use crate::claim::Claim;
 use crate::group::OutcomeGroup;
 use crate::limits::limits;
 use crate::outcomes::push_found;
-use crate::priority::Candidate;
 use abstract_state::{Component, Entry, PartValue, component_number};
 use flow_model::{Condition, Decision, EffectCase, OutcomeCase, Test, passes_each};
 use osek_standard::App;
 use osek_values::{Memory, Seq, TaskNo};
 use std::alloc::Global;
-
-/// What the scheduler reads of a task after an effect, if the effect takes its value.
-fn taken_candidate(
-    app: &App,
-    effect: &EffectCase,
-    task: TaskNo,
-    value: &PartValue,
-) -> Option<Candidate>
-    requires { task.0 < length app.now.tasks }
-    ensures { result ≡ taken_candidate_of app.now effect.now task.0 value.now }
-{
-    if !passes_each(effect.conditions.as_slice(), task.index(), value) {
-        return None;
-    }
-    candidate_after(app, &effect.changes, task, value)
-}
 
 // the priorities that the task may have after the effect, each once
 fn kept_priorities(

@@ -1,6 +1,7 @@
 //! What the scheduler does after an effect, by the values of the tasks: priorities, ceilings and ties.
 #![tactic(auto)]
 
+mod alive;
 mod candidates;
 mod claim;
 mod group;
@@ -10,6 +11,9 @@ mod limits;
 mod needs;
 mod outcomes;
 mod priority;
+mod reads;
+mod winners;
 
 pub use group::{End, OutcomeGroup, ValueCases};
 pub use outcomes::outcome_groups;
+pub use reads::{Reading, readings};

@@ -115,7 +115,7 @@ pub fn limits(
     if !is_possible(app, needs, claim) {
         return Ok(None);
     }
-    let mut conditions = Seq::new(alloc);
+    let mut conditions = Seq::of(Vec::with_capacity(alloc, app.tasks.len() + 1)?);
     for task in 0..app.tasks.len() {
         if !push_limit(app, changes, claim, TaskNo(task as u8), &mut conditions)? {
             return Ok(None);

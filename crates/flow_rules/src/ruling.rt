@@ -1,16 +1,17 @@
 //! The rules of a point, in groups.
-ghost use Rattle.std.specs.Prelude.{◌≡◌, ◌++◌, IfOk, OnOk};
+ghost use Rattle.std.specs.Prelude.{◌≡◌, ◌++◌, length, IfOk, OnOk};
 ghost use Rattle.osek_standard.specs.Points.{IsPoint};
 ghost use Rattle.abstract_state.specs.Domains.{domains, domains_of};
 ghost use Rattle.flow_model.specs.Effects.{AreAllAllowed};
 ghost use Rattle.flow_model.specs.Rules.{Covering, Exact, Foresees};
+ghost use Rattle.flow_dispatch.specs.Readings.{AreReadings};
 ghost use Rattle.flow_rules.specs.Assembly.{rule_by as rule_by_of};
 ghost use Rattle.flow_rules.specs.RuleGroups.{all_rules, group_of as group_of_outcomes, AreRulesIn, AreInDomains, AddsGroups, AddsInstructionGroups};
 
 use crate::arrivals::arrivals;
 use crate::group::{RuleGroup, ValueRules};
 use abstract_state::{Entry, Point};
-use flow_dispatch::{End, OutcomeGroup, outcome_groups};
+use flow_dispatch::{End, OutcomeGroup, Reading, outcome_groups, readings};
 use flow_effects::effect_cases;
 use flow_model::{Change, Condition, Decision, EffectCase, Rule, Runner};
 use osek_standard::App;
@@ -56,8 +57,9 @@ fn add_instructions(
     ensures { OnOk result (AddsInstructionGroups app.now point entry.now groups.old groups.new) }
 {
     let effects = effect_cases(alloc, app, point, entry)?;
+    let readings = readings(alloc, app, entry)?;
     for effect in effects.as_slice() {
-        add_outcomes(alloc, app, entry, effect, groups)?;
+        add_outcomes(alloc, app, entry, &readings, effect, groups)?;
     }
     Ok(())
 }
@@ -67,13 +69,15 @@ fn add_outcomes(
     alloc: Global,
     app: &App,
     entry: &Entry,
+    readings: &Seq<Reading>,
     effect: &EffectCase,
     groups: &mut Seq<RuleGroup>,
 ) -> Result<(), Memory>
-    requires { domains entry.now ≡ domains_of app.now }
+    requires domains { domains entry.now ≡ domains_of app.now }
+    requires readings { AreReadings app.now entry.now (length app.now.tasks) readings.now }
     ensures { OnOk result (AddsGroups app.now entry.now effect.now groups.old groups.new) }
 {
-    let outcomes = outcome_groups(alloc, app, effect, entry)?;
+    let outcomes = outcome_groups(alloc, app, effect, entry, readings)?;
     for outcome in outcomes.as_slice() {
         groups.push(group_of(alloc, effect, outcome)?)?;
     }

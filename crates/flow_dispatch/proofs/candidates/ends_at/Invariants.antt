@@ -1,9 +1,7 @@
-use Rattle.std.proofs.Common.{◌≡◌, take, map, flat_map}
-use Rattle.std.specs.declared.option.Option.{Option}
-use Rattle.abstract_state.specs.declared.value.PartValue.{PartValue}
-use Rattle.flow_dispatch.specs.declared.priority.Candidate.{Candidate}
+use Rattle.std.proofs.Common.{◌≡◌, take, flat_map}
 use Rattle.flow_dispatch.specs.Groups.{ends_of}
+use Rattle.flow_dispatch.specs.Keepers.{taken_candidate}
 use Rattle.flow_dispatch.proofs.candidates.ends_at.Given as goal
 
-abbrev pub invariant-loop-place : goal.invariant-loop-place
-invariant-loop-place l = (own : PartValue → Option Candidate) → l.candidates ≡ map own l.values → l.ends ≡ flat_map (λ v. ends_of l.priority v (own v)) (take l.place l.values)
+abbrev pub invariant-loop-value : goal.invariant-loop-value
+invariant-loop-value l = l.ends ≡ flat_map (λ v. ends_of l.priority v (taken_candidate l.app l.effect l.task.0 v)) (take l.value-index l.values)

@@ -10,7 +10,7 @@ use Rattle.flow_dispatch.specs.Outcomes.{IsVacant, idle_decision, IsAnything}
 use Rattle.flow_dispatch.proofs.OutcomeLaws.{unasked_covers, unasked_exact, maybe_covers, vacant_covers, both_exact}
 use Rattle.flow_dispatch.proofs.GroupLaws.{found_more, only_group, no_groups_in, one_group_in}
 use Rattle.flow_dispatch.proofs.outcomes.outcome_groups.Goals as goal
-use Rattle.flow_dispatch.proofs.outcomes.outcome_groups.Goals.{in-No+in_ok-push-in-No, in-Maybe+else-index-len+in_ok-needs-in-Maybe+in_ok-push_keepers-in-Maybe+in_ok-push_winners-in-Maybe, in-Left+in_ok-needs-in-Left+in_ok-nobody-in-Left+in_ok-push_found-in-Left+in_ok-push_winners-in-Left}
+use Rattle.flow_dispatch.proofs.outcomes.outcome_groups.Goals.{in-No+in_ok-push-in-No, in-Maybe+else-index-len+in_ok-standing-in-Maybe+in_ok-push_keepers-in-Maybe+in_ok-push_winners-in-Maybe, in-Left+in_ok-standing-in-Left+in_ok-nobody-in-Left+in_ok-push_found-in-Left+in_ok-push_winners-in-Left}
 
 vacant_by : (a : Asked) → (a ≡ asked.Left) ⊎ (a ≡ asked.Free) → IsVacant a
 vacant_by a (inl e) = subst IsVacant (sym e) tt
@@ -25,14 +25,14 @@ returns-clause-covering c =
       | in-No+in_ok-push-in-No w ↦
           (let is = only_group c.new-groups.result w.push.new.self w.unasked.result c.new-groups.ensures w.in_ok-push-in-No.ensures.ok in
           subst (λ (gs : List OutcomeGroup). CoverOutcomes app entry effect (all_cases gs)) (sym (w.groups-is ∙ is)) (unasked_covers app entry effect w.in-No.is w.unasked.result w.unasked.ensures.conditions w.unasked.ensures.decision w.unasked.ensures.target))
-      | in-Maybe+else-index-len+in_ok-needs-in-Maybe+in_ok-push_keepers-in-Maybe+in_ok-push_winners-in-Maybe w ↦ (
+      | in-Maybe+else-index-len+in_ok-standing-in-Maybe+in_ok-push_keepers-in-Maybe+in_ok-push_winners-in-Maybe w ↦ (
           let keepers : AddsGroups app entry effect IsAnything decision.Keep [] w.push_keepers.new.groups
           = subst (λ (gs : List OutcomeGroup). AddsGroups app entry effect IsAnything decision.Keep gs w.push_keepers.new.groups) c.new-groups.ensures w.in_ok-push_keepers-in-Maybe.ensures in
           subst (λ (gs : List OutcomeGroup). CoverOutcomes app entry effect (all_cases gs)) (sym w.groups-is) (maybe_covers app entry effect w.in-Maybe.task w.in-Maybe.is (all_cases w.push_keepers.new.groups) (all_cases w.push_winners.new.groups) keepers.cases w.in_ok-push_winners-in-Maybe.ensures.cases))
-      | in-Left+in_ok-needs-in-Left+in_ok-nobody-in-Left+in_ok-push_found-in-Left+in_ok-push_winners-in-Left w ↦ (
+      | in-Left+in_ok-standing-in-Left+in_ok-nobody-in-Left+in_ok-push_found-in-Left+in_ok-push_winners-in-Left w ↦ (
           let d = idle_decision effect.asked in
           let vacant = vacant_by effect.asked w.in-Left.is in
-          let found = found_more app entry effect IsAnything d w.in_ok-nobody-in-Left.field-0 [] (w.in_ok-nobody-in-Left.ensures entry w.in_ok-needs-in-Left.ensures) in
+          let found = found_more app entry effect IsAnything d w.in_ok-nobody-in-Left.field-0 [] (w.in_ok-nobody-in-Left.ensures entry w.in_ok-standing-in-Left.ensures.needs) in
           let added : w.push_found.new.groups ≡ [] ++ map one_case (option_to_list w.in_ok-nobody-in-Left.field-0)
           = w.in_ok-push_found-in-Left.ensures ∙ ap (λ (gs : List OutcomeGroup). gs ++ map one_case (option_to_list w.in_ok-nobody-in-Left.field-0)) c.new-groups.ensures in
           let nobody : AddsGroups app entry effect IsAnything d [] w.push_found.new.groups
@@ -49,13 +49,13 @@ returns-clause-exact c =
       | in-No+in_ok-push-in-No w ↦
           (let is = only_group c.new-groups.result w.push.new.self w.unasked.result c.new-groups.ensures w.in_ok-push-in-No.ensures.ok in
           subst (λ (gs : List OutcomeGroup). AreExactOutcomes app entry effect (all_cases gs)) (sym (w.groups-is ∙ is)) (unasked_exact app entry effect w.in-No.is w.unasked.result w.unasked.ensures.conditions w.unasked.ensures.decision w.unasked.ensures.target))
-      | in-Maybe+else-index-len+in_ok-needs-in-Maybe+in_ok-push_keepers-in-Maybe+in_ok-push_winners-in-Maybe w ↦ (
+      | in-Maybe+else-index-len+in_ok-standing-in-Maybe+in_ok-push_keepers-in-Maybe+in_ok-push_winners-in-Maybe w ↦ (
           let keepers : AddsGroups app entry effect IsAnything decision.Keep [] w.push_keepers.new.groups
           = subst (λ (gs : List OutcomeGroup). AddsGroups app entry effect IsAnything decision.Keep gs w.push_keepers.new.groups) c.new-groups.ensures w.in_ok-push_keepers-in-Maybe.ensures in
           subst (λ (gs : List OutcomeGroup). AreExactOutcomes app entry effect (all_cases gs)) (sym w.groups-is) (both_exact app entry effect decision.Keep (all_cases w.push_keepers.new.groups) (all_cases w.push_winners.new.groups) keepers.cases w.in_ok-push_winners-in-Maybe.ensures.cases))
-      | in-Left+in_ok-needs-in-Left+in_ok-nobody-in-Left+in_ok-push_found-in-Left+in_ok-push_winners-in-Left w ↦ (
+      | in-Left+in_ok-standing-in-Left+in_ok-nobody-in-Left+in_ok-push_found-in-Left+in_ok-push_winners-in-Left w ↦ (
           let d = idle_decision effect.asked in
-          let found = found_more app entry effect IsAnything d w.in_ok-nobody-in-Left.field-0 [] (w.in_ok-nobody-in-Left.ensures entry w.in_ok-needs-in-Left.ensures) in
+          let found = found_more app entry effect IsAnything d w.in_ok-nobody-in-Left.field-0 [] (w.in_ok-nobody-in-Left.ensures entry w.in_ok-standing-in-Left.ensures.needs) in
           let added : w.push_found.new.groups ≡ [] ++ map one_case (option_to_list w.in_ok-nobody-in-Left.field-0)
           = w.in_ok-push_found-in-Left.ensures ∙ ap (λ (gs : List OutcomeGroup). gs ++ map one_case (option_to_list w.in_ok-nobody-in-Left.field-0)) c.new-groups.ensures in
           let nobody : AddsGroups app entry effect IsAnything d [] w.push_found.new.groups
@@ -72,13 +72,13 @@ returns-clause-within c =
       | in-No+in_ok-push-in-No w ↦
           (let is = only_group c.new-groups.result w.push.new.self w.unasked.result c.new-groups.ensures w.in_ok-push-in-No.ensures.ok in
           subst (AreGroupsIn entry) (sym (w.groups-is ∙ is)) (one_group_in entry w.unasked.result))
-      | in-Maybe+else-index-len+in_ok-needs-in-Maybe+in_ok-push_keepers-in-Maybe+in_ok-push_winners-in-Maybe w ↦ (
+      | in-Maybe+else-index-len+in_ok-standing-in-Maybe+in_ok-push_keepers-in-Maybe+in_ok-push_winners-in-Maybe w ↦ (
           let keepers : AddsGroups app entry effect IsAnything decision.Keep [] w.push_keepers.new.groups
           = subst (λ (gs : List OutcomeGroup). AddsGroups app entry effect IsAnything decision.Keep gs w.push_keepers.new.groups) c.new-groups.ensures w.in_ok-push_keepers-in-Maybe.ensures in
           subst (AreGroupsIn entry) (sym w.groups-is) (w.in_ok-push_winners-in-Maybe.ensures.within (keepers.within (no_groups_in entry))))
-      | in-Left+in_ok-needs-in-Left+in_ok-nobody-in-Left+in_ok-push_found-in-Left+in_ok-push_winners-in-Left w ↦ (
+      | in-Left+in_ok-standing-in-Left+in_ok-nobody-in-Left+in_ok-push_found-in-Left+in_ok-push_winners-in-Left w ↦ (
           let d = idle_decision effect.asked in
-          let found = found_more app entry effect IsAnything d w.in_ok-nobody-in-Left.field-0 [] (w.in_ok-nobody-in-Left.ensures entry w.in_ok-needs-in-Left.ensures) in
+          let found = found_more app entry effect IsAnything d w.in_ok-nobody-in-Left.field-0 [] (w.in_ok-nobody-in-Left.ensures entry w.in_ok-standing-in-Left.ensures.needs) in
           let added : w.push_found.new.groups ≡ [] ++ map one_case (option_to_list w.in_ok-nobody-in-Left.field-0)
           = w.in_ok-push_found-in-Left.ensures ∙ ap (λ (gs : List OutcomeGroup). gs ++ map one_case (option_to_list w.in_ok-nobody-in-Left.field-0)) c.new-groups.ensures in
           let nobody : AddsGroups app entry effect IsAnything d [] w.push_found.new.groups
