@@ -21,15 +21,16 @@ use crate::inputs::read_on;
 use crate::stop::Stop;
 use crate::tell::put_three;
 use crate::trace_line::TraceLine;
-use image_run::{Machine, Trap};
+use image_run::Machine;
 use itoa::Buffer;
 use osek_io::{PutBuffer, PutError, Shelf, Sink};
 use osek_values::limits::{MAX_EVENT_LINE, MAX_EVENT_TEXT};
-use osek_values::{Event, Notes, Steps};
+use osek_values::{Event, HookSet, Notes, Steps};
 use std::sync::ledger::Ledger;
 use trace_text::{FaultyLine, Feed, FeedStep, LineParts, read_event};
 
 /// Prints line n of the trace, or holds it back.
+#[inline(always)]
 pub fn print_line<O: Sink>(
     out: &mut O,
     buffer: &mut PutBuffer,
@@ -47,6 +48,7 @@ pub fn print_line<O: Sink>(
     ensures never_falls { O.faults out.old ≤ O.faults out.new }
 {
     parts.show(machine.app(), machine.state());
+    parts.count(number);
     let line = TraceLine {
         parts,
         machine,
@@ -112,15 +114,21 @@ fn play_event<L: Ledger, O: Sink>(
     ensures never_falls { O.faults out.old ≤ O.faults out.new }
     ensures event { AnswersEvent (O.faults out.old) (O.faults out.new) (given (O.written out.old) buffer.old) (given (O.written out.new) buffer.new) machine.old.image number machine.new.state (image_step machine.old.image machine.old.state event) result }
 {
-    match machine.step(event, scans) {
-        Ok(notes) => match print_line(out, buffer, machine, number, &notes, parts) {
+    let mut notes = Notes {
+        status: None,
+        value: None,
+        hooks: HookSet::none(),
+    };
+    if machine.step_into(event, scans, &mut notes) {
+        match print_line(out, buffer, machine, number, &notes, parts) {
             Ok(()) => Ok(()),
             Err(stop) => Err(stop),
-        },
-        Err(Trap) => match print_trap(out, buffer, number) {
+        }
+    } else {
+        match print_trap(out, buffer, number) {
             Ok(()) => Err(Stop::Trapped),
             Err(stop) => Err(stop),
-        },
+        }
     }
 }
 

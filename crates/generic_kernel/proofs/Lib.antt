@@ -1,2 +1,3 @@
 pub mod EffectLaws
 pub mod TaskLaws
+pub mod SilentLaws

@@ -113,7 +113,7 @@ module _ (app : App) (u : ℕ) (s : State) where
   unfolding get_alarm
   get_alarm_leaves_task a = time_left_leaves_task a (due (alarm_state s a))
 
-  counted_leaves_task : (c : Caller) → task_state (counted_by app s c) u ≡ task_state s u
+  pub counted_leaves_task : (c : Caller) → task_state (counted_by app s c) u ≡ task_state s u
   unfolding count_up
   counted_leaves_task Nobody = refl
   counted_leaves_task (Task t) = refl
@@ -191,7 +191,7 @@ module _ (app : App) (u : ℕ) where
   given_back_leaves_task s None = refl
   given_back_leaves_task s (Some t) = refl
 
-  returned_leaves_task : (s : State) (p : Processor) → HasTaskOf u s (returned_by app s p)
+  pub returned_leaves_task : (s : State) (p : Processor) → HasTaskOf u s (returned_by app s p)
   returned_leaves_task s processor.Halted = refl
   returned_leaves_task s processor.Idle = refl
   returned_leaves_task s (processor.Running t) = refl

@@ -70,7 +70,7 @@ fn release_resource(app: &App, state: &mut State, resource: ResNo) -> Reply
 }
 
 /// A tick, by the routine of a counter.
-fn count(app: &App, state: &mut State)
+pub(crate) fn count(app: &App, state: &mut State)
     requires { Well app.now state.old }
     ensures { counted_by app.now state.old (caller state.old.processor) ≡ state.new }
 {

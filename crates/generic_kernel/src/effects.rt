@@ -1,17 +1,19 @@
 //! The effect of an instruction.
-ghost use Rattle.std.specs.Prelude.{◌≡◌, ◌+◌, ◌<◌, Some, None, if◌then◌else◌};
+ghost use Rattle.std.specs.Prelude.{◌≡◌, ℕ, ◌+◌, ◌<◌, nat_lt, Some, None, IfSome, IfNone, if◌then◌else◌};
 ghost use Rattle.osek_standard.specs.Validity.{NamesEntries};
 ghost use Rattle.osek_standard.specs.Apps.{tables, the_block};
 ghost use Rattle.osek_standard.specs.States.{caller, here as here_of};
 ghost use Rattle.osek_standard.specs.Services.{answer, wait_event as wait_event_row};
-ghost use Rattle.osek_standard.specs.Effects.{effected, moved_to, asked_by as asked_by_row, called, asks_as, goes_on_unless_left, returned as returned_row, shut_down as shut_down_row, effect_at as effect_at_row, effect as effect_row};
+ghost use Rattle.osek_standard.specs.declared.block.Kind.TheVariants as a_kind;
+ghost use Rattle.osek_standard.specs.Effects.{effected, moved, moved_to, place_at, asked_by as asked_by_row, called, asks_as, goes_on_unless_left, returned as returned_row, shut_down as shut_down_row, effect_at as effect_at_row, effect as effect_row};
+ghost use Rattle.osek_standard.specs.Dispatch.{nothing_noted};
 ghost use Rattle.osek_standard.specs.Well.{Well, IsActive, InOwner, IsWaitEvent};
 ghost use Rattle.event_alarm.specs.Waiting.{StandsAtWaitEvent};
 ghost use Rattle.generic_kernel.specs.Changes.{ChangesOwn};
-ghost use Rattle.generic_kernel.specs.Levels.{IsReady};
+ghost use Rattle.generic_kernel.specs.Levels.{IsReady, level as level_of};
 ghost use Rattle.generic_kernel.specs.Moves.{IsKnownCaller, MayDispatch};
 
-use crate::calls::call;
+use crate::calls::{call, count};
 use crate::changes::named_here;
 use crate::places::{here, move_to};
 use crate::ready::Ready;
@@ -32,6 +34,26 @@ fn go_to(app: &App, state: &mut State, block: BlockNo)
     ensures processor { state.new.processor ≡ state.old.processor }
 {
     move_to(app, state, Place { block, offset: 0 });
+}
+
+/// The caller goes on to the next unit of its work, or to the next block.
+fn work_on(app: &App, state: &mut State, place: Place, count: u16, next: BlockNo)
+    requires well { Well app.now state.old }
+    requires work { (the_block app.now place.block.0).kind ≡ a_kind.Work count }
+    requires unit { place.offset < count }
+    requires own { InOwner app.now state.old.processor place.block.0 }
+    requires next { InOwner app.now state.old.processor next.0 }
+    ensures moved { (if nat_lt (place.offset + 1) count then moved state.old (place_at place.block (place.offset + 1)) else moved_to state.old next) ≡ state.new }
+{
+    if place.offset + 1 < count {
+        let further = Place {
+            block: place.block,
+            offset: place.offset + 1,
+        };
+        move_to(app, state, further);
+    } else {
+        go_to(app, state, next);
+    }
 }
 
 /// What a caller's call asks: at interrupt level nothing. A non-preemptive task asks Maybe at Schedule alone, and Left
@@ -148,15 +170,7 @@ fn effect_at(app: &App, state: &mut State, choice: bool, place: Place) -> Effect
     let block = app.block(place.block);
     match block.kind {
         Kind::Work(count) => {
-            if place.offset + 1 < count {
-                let next = Place {
-                    block: place.block,
-                    offset: place.offset + 1,
-                };
-                move_to(app, state, next);
-            } else {
-                go_to(app, state, block.next);
-            }
+            work_on(app, state, place, count, block.next);
             noted(app, Reply::unnoted(Ask::No))
         }
         Kind::Choice(other) => {
@@ -184,6 +198,57 @@ fn effect_at(app: &App, state: &mut State, choice: bool, place: Place) -> Effect
             noted(app, reply)
         }
     }
+}
+
+/// The same, where it is one that notes nothing and leaves each task as it is but for its place: a move, a tick, or the end
+/// of a routine. It answers what is asked, and of any other instruction nothing, which isn't done.
+#[tactic(auto, using(crate::proofs::SilentLaws::nothing_wanted))]
+fn silent_at(app: &App, state: &mut State, choice: bool, place: Place) -> Option<Ask>
+    requires well { Well app.now state.old }
+    requires active { IsActive state.old.processor }
+    requires here { here_of state.old ≡ place }
+    ensures row { IfSome result (λ ask. effect_at_row app.now state.old choice place (the_block app.now place.block.0) (the_block app.now place.block.0).kind ≡ effected state.new nothing_noted ask) }
+    ensures other { IfNone result (state.new ≡ state.old) }
+    ensures levels { (t : ℕ) → level_of app.now state.new t ≡ level_of app.now state.old t }
+{
+    let block = app.block(place.block);
+    match block.kind {
+        Kind::Work(count) => {
+            work_on(app, state, place, count, block.next);
+            Some(Ask::No)
+        }
+        Kind::Choice(other) => {
+            go_to(app, state, if choice { block.next } else { other });
+            Some(Ask::No)
+        }
+        Kind::Loop | Kind::Call(Call::Lock(_)) => {
+            go_to(app, state, block.next);
+            Some(Ask::No)
+        }
+        Kind::CountUp => {
+            go_to(app, state, block.next);
+            count(app, state);
+            Some(Ask::No)
+        }
+        Kind::IsrEnd => Some(return_from_routine(app, state)),
+        Kind::Call(_) | Kind::TaskEnd | Kind::Expire(_) => None,
+    }
+}
+
+/// The effect of the instruction at the processor, where it is one that notes nothing and leaves each task as it is but for
+/// its place: a move, a tick, or the end of a routine. It answers what is asked, and of any other instruction nothing, which
+/// isn't done.
+pub fn silent_effect(app: &App, state: &mut State, choice: bool, place: Place) -> Option<Ask>
+    requires well { Well app.now state.old }
+    requires active { IsActive state.old.processor }
+    requires here { here_of state.old ≡ place }
+    ensures row { IfSome result (λ ask. effect_row app.now state.old choice ≡ effected state.new nothing_noted ask) }
+    ensures other { IfNone result (state.new ≡ state.old) }
+    ensures well { Well app.now state.new }
+    ensures levels { (t : ℕ) → level_of app.now state.new t ≡ level_of app.now state.old t }
+    ensures dispatch { IfSome result (MayDispatch app.now state.new) }
+{
+    silent_at(app, state, choice, place)
 }
 
 /// The effect of the instruction at the processor, on the state.

@@ -17,7 +17,7 @@ mod steps;
 pub use arrivals::take_arrival;
 pub use changes::named_here;
 pub use dispatch::{conclude, switch_to};
-pub use effects::effect;
+pub use effects::{effect, silent_effect};
 pub use places::here;
 pub use ready::Ready;
 pub use replies::Effect;

@@ -1,3 +1,4 @@
 pub mod Befores
 pub mod Machines
 pub mod Scans
+pub mod Noted

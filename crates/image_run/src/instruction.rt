@@ -1,21 +1,25 @@
 //! One instruction of an image.
-ghost use Rattle.std.specs.Prelude.{◌≡◌, ◌≢◌, ◌+◌, ◌≤◌, length, Option, Some, None, IfSome, IfNone, option_map};
+ghost use Rattle.std.specs.Prelude.{◌≡◌, true, false, ◌≢◌, ◌+◌, ◌≤◌, length, Option, Some, None, IfSome, IfNone, option_map};
 ghost use Rattle.osek_standard.specs.States.{here as here_of};
 ghost use Rattle.osek_standard.specs.Effects.{effected, effect as effect_of};
-ghost use Rattle.osek_standard.specs.Dispatch.{concluded, stepped, with_hooks as with_hooks_of};
+ghost use Rattle.osek_standard.specs.Dispatch.{concluded, nothing_noted, outcome_by, stepped, with_hooks as with_hooks_of};
 ghost use Rattle.osek_standard.specs.Well.{Well, AreOut, IsActive};
 ghost use Rattle.osek_standard.specs.Apps.{IsDeclared};
 ghost use Rattle.generic_kernel.specs.Levels.{IsReady};
 ghost use Rattle.generic_kernel.specs.Moves.{MayDispatch, instruction_due};
+ghost use Rattle.image_model.specs.declared.site.Form.TheVariants as form;
 ghost use Rattle.image_model.specs.Sites.{IsForm};
 ghost use Rattle.image_model.specs.ImageStep.{form_at, formed_by, formed_at, instructed, image_step as image_step_of, site_at as site_at_of};
 ghost use Rattle.image_run.specs.Befores.{put_back, IsAfter};
+ghost use Rattle.image_run.specs.Noted.{hooks_noted, noted_if};
 ghost use Rattle.image_run.specs.Scans.{scans_at, scans_due};
 
 use crate::before::{Before, task_of};
-use generic_kernel::{Effect, Ready, conclude, effect, here, nothing, switch_to, take_event};
+use generic_kernel::{
+    Effect, Ready, conclude, effect, here, nothing, silent_effect, switch_to, take_event,
+};
 use image_model::{Form, Image, Site, site_at};
-use osek_standard::{App, State};
+use osek_standard::{App, Place, State};
 use osek_values::{Ask, Event, HookSet, Notes, Steps};
 use std::sync::ledger::Ledger;
 
@@ -132,6 +136,76 @@ fn attempt<L: Ledger>(
     conclude_by(&image.app, state, ready, done, site, scans)
 }
 
+/// Whether a site, if there is one, has the general form, so that as anywhere else the kernel's own rescheduling follows.
+fn is_free(site: Option<Site>) -> bool
+    ensures { result ≡ true → IfSome site (λ x. x.form ≡ form.General) }
+{
+    match site {
+        None => true,
+        Some(site) => match site.form {
+            Form::General => true,
+            Form::Never | Form::Stay | Form::Direct(_) => false,
+        },
+    }
+}
+
+/// What the scheduler does after an instruction that noted nothing, where no other form than the general one says it. It
+/// answers the hooks.
+fn settle<L: Ledger>(
+    app: &App,
+    state: &mut State,
+    ready: &Ready,
+    ask: Ask,
+    site: Option<Site>,
+    scans: &mut Steps<L>,
+) -> HookSet
+    requires well { Well app.now state.old }
+    requires ready { IsReady app.now state.old ready.now }
+    requires dispatch { MayDispatch app.now state.old ask }
+    requires free { IfSome site (λ x. x.form ≡ form.General) }
+    requires other { site ≡ None → ask ≡ Ask.No }
+    ensures step { concluded app.now (effected state.old nothing_noted ask) (outcome_by app.now state.old ask) ≡ stepped state.new (hooks_noted result) }
+    ensures well { Well app.now state.new }
+    ensures tasks { state.new.tasks ≡ state.old.tasks }
+    ensures scans { scans.new ≤ scans.old + scans_at (option_map (λ x. x.form) site) (length app.now.tasks) }
+{
+    match site {
+        None => HookSet::none(),
+        Some(_) => conclude(app, state, ready, ask, scans),
+    }
+}
+
+/// One instruction that notes nothing but hooks, where no other form than the general one says what comes of it. Of any
+/// other nothing is answered, and it isn't done.
+fn instruct_silently<L: Ledger>(
+    image: &Image,
+    state: &mut State,
+    ready: &Ready,
+    choice: bool,
+    place: Place,
+    site: Option<Site>,
+    scans: &mut Steps<L>,
+) -> Option<HookSet>
+    requires well { Well image.now.app state.old }
+    requires ready { IsReady image.now.app state.old ready.now }
+    requires active { IsActive state.old.processor }
+    requires here { here_of state.old ≡ place }
+    requires site { site ≡ site_at_of image.now place.block.0 }
+    ensures step { IfSome result (λ hooks. instructed image.now state.old choice ≡ Some (stepped state.new (hooks_noted hooks))) }
+    ensures other { IfNone result ((state.new ≡ state.old) × (scans.new ≡ scans.old)) }
+    ensures well { Well image.now.app state.new }
+    ensures ready { IsReady image.now.app state.new ready.now }
+    ensures scans { scans.new ≤ scans.old + scans_at (form_at image.now place.block.0) (length image.now.app.tasks) }
+{
+    if !is_free(site) {
+        return None;
+    }
+    match silent_effect(&image.app, state, choice, place) {
+        None => None,
+        Some(ask) => Some(settle(&image.app, state, ready, ask, site, scans)),
+    }
+}
+
 /// Undoes the effect of an instruction at a site.
 fn undo(image: &Image, state: &mut State, ready: &mut Ready, before: Before)
     requires well { Well image.now.app state.old }
@@ -147,25 +221,25 @@ fn undo(image: &Image, state: &mut State, ready: &mut Ready, before: Before)
     ready.take_in(&image.app, state, own, named);
 }
 
-/// One instruction, with what the site of its block makes of it. `None` is a trap, which changes nothing.
-fn instruct<L: Ledger>(
+/// One instruction, with what its site makes of it. `None` is a trap, which changes nothing.
+fn instruct_at<L: Ledger>(
     image: &Image,
     state: &mut State,
     ready: &mut Ready,
     choice: bool,
+    site: Option<Site>,
     scans: &mut Steps<L>,
 ) -> Option<Notes>
     requires well { Well image.now.app state.old }
     requires ready { IsReady image.now.app state.old ready.old }
     requires active { IsActive state.old.processor }
+    requires site { site ≡ site_at_of image.now (here_of state.old).block.0 }
     ensures step { instructed image.now state.old choice ≡ option_map (stepped state.new) result }
     ensures trap { IfNone result (state.new ≡ state.old) }
     ensures well { Well image.now.app state.new }
     ensures ready { IsReady image.now.app state.new ready.new }
     ensures scans { scans.new ≤ scans.old + scans_at (form_at image.now (here_of state.old).block.0) (length image.now.app.tasks) }
 {
-    let place = here(&image.app, state);
-    let site = site_at(image, place.block);
     if site.is_none() {
         return attempt(image, state, ready, choice, site, scans);
     }
@@ -182,25 +256,66 @@ fn instruct<L: Ledger>(
     }
 }
 
-/// One step of an image. `None` is a trap, which changes nothing.
+/// One instruction, with what the site of its block makes of it, and whether it is no trap. A trap changes nothing, and
+/// notes nothing.
+fn instruct<L: Ledger>(
+    image: &Image,
+    state: &mut State,
+    ready: &mut Ready,
+    choice: bool,
+    scans: &mut Steps<L>,
+    notes: &mut Notes,
+) -> bool
+    requires well { Well image.now.app state.old }
+    requires ready { IsReady image.now.app state.old ready.old }
+    requires active { IsActive state.old.processor }
+    ensures step { instructed image.now state.old choice ≡ option_map (stepped state.new) (noted_if result notes.new) }
+    ensures trap { result ≡ false → state.new ≡ state.old }
+    ensures well { Well image.now.app state.new }
+    ensures ready { IsReady image.now.app state.new ready.new }
+    ensures scans { scans.new ≤ scans.old + scans_at (form_at image.now (here_of state.old).block.0) (length image.now.app.tasks) }
+{
+    let place = here(&image.app, state);
+    let site = site_at(image, place.block);
+    if let Some(hooks) = instruct_silently(image, state, ready, choice, place, site, scans) {
+        *notes = Notes {
+            hooks,
+            ..nothing()
+        };
+        return true;
+    }
+    match instruct_at(image, state, ready, choice, site, scans) {
+        None => false,
+        Some(noted) => {
+            *notes = noted;
+            true
+        }
+    }
+}
+
+/// One step of an image, and whether it is no trap. A trap changes nothing, and notes nothing.
 pub fn image_step<L: Ledger>(
     image: &Image,
     state: &mut State,
     ready: &mut Ready,
     event: Event,
     scans: &mut Steps<L>,
-) -> Option<Notes>
+    notes: &mut Notes,
+) -> bool
     requires well { Well image.now.app state.old }
     requires ready { IsReady image.now.app state.old ready.old }
     requires declared { IsDeclared image.now.app event }
-    ensures step { image_step_of image.now state.old event ≡ option_map (stepped state.new) result }
-    ensures trap { IfNone result (state.new ≡ state.old) }
+    ensures step { image_step_of image.now state.old event ≡ option_map (stepped state.new) (noted_if result notes.new) }
+    ensures trap { result ≡ false → state.new ≡ state.old }
     ensures well { Well image.now.app state.new }
     ensures ready { IsReady image.now.app state.new ready.new }
     ensures scans { scans.new ≤ scans.old + scans_due image.now state.old (instruction_due image.now.app state.old event) }
 {
     match take_event(&image.app, state, event) {
-        None => Some(nothing()),
-        Some(choice) => instruct(image, state, ready, choice, scans),
+        None => {
+            *notes = nothing();
+            true
+        }
+        Some(choice) => instruct(image, state, ready, choice, scans, notes),
     }
 }

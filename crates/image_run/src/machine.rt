@@ -5,11 +5,12 @@ ghost use Rattle.osek_standard.specs.Kernel.{start as start_of};
 ghost use Rattle.osek_standard.specs.Well.{Well};
 ghost use Rattle.osek_standard.specs.Apps.{IsDeclared};
 ghost use Rattle.image_run.specs.Machines.{at_work, turn, turned, noted};
+ghost use Rattle.image_run.specs.Noted.{noted_if};
 ghost use Rattle.image_run.specs.Scans.{most_scans};
 
 use crate::instruction::image_step;
 use crate::trap::Trap;
-use generic_kernel::{Ready, start};
+use generic_kernel::{Ready, nothing, start};
 use image_model::Image;
 use osek_standard::{App, State};
 use osek_values::{Event, Memory, ModeNo, Notes, Steps};
@@ -70,16 +71,41 @@ impl Machine {
         ensures step { turn self.old event ≡ turned self.new (noted result) }
         ensures scans { scans.new ≤ scans.old + most_scans self.old event }
     {
+        let mut notes = nothing();
+        if self.step_into(event, scans, &mut notes) {
+            Ok(notes)
+        } else {
+            Err(Trap)
+        }
+    }
+
+    /// One step of the image, whose notes are put where they are to be, and whether it is no trap. A trap notes nothing and
+    /// leaves the state as it was, and every later step answers it again. It takes no memory.
+    pub fn step_into<L: Ledger>(
+        &mut self,
+        event: Event,
+        scans: &mut Steps<L>,
+        notes: &mut Notes,
+    ) -> bool
+        requires { IsDeclared self.old.image.app event }
+        ensures step { turn self.old event ≡ turned self.new (noted_if result notes.new) }
+        ensures scans { scans.new ≤ scans.old + most_scans self.old event }
+    {
         if self.trapped {
-            return Err(Trap);
+            return false;
         }
-        match image_step(&self.image, &mut self.state, &mut self.ready, event, scans) {
-            None => {
-                self.trapped = true;
-                Err(Trap)
-            }
-            Some(notes) => Ok(notes),
+        if image_step(
+            &self.image,
+            &mut self.state,
+            &mut self.ready,
+            event,
+            scans,
+            notes,
+        ) {
+            return true;
         }
+        self.trapped = true;
+        false
     }
 
     /// The state now.

@@ -1,3 +1,4 @@
 pub mod Fronts
 pub mod HexadecimalLaws
 pub mod NameLaws
+pub mod CountLaws

@@ -9,3 +9,4 @@ pub mod Parts
 pub mod TextLaws
 pub mod WordLaws
 pub mod ShownLaws
+pub mod PlainLines

@@ -62,7 +62,7 @@ two_words verb operand some whole some_operand whole_operand = (
   (32 ∷ [], [], record { parts = ap (λ t. 32 ∷ t) (sym (append-nil operand)); blanks = refl; some = some_operand; whole = whole_operand; ends = refl }, refl),
 )
 
-says : (app : App) (e : Event) → IsDeclared app e → Says app (event_line app e) e
+pub says : (app : App) (e : Event) → IsDeclared app e → Says app (event_line app e) e
 says app (Run false) h = record { short = omega arith; known = h; words = two_words (codes "run") (codes "0") refl refl refl refl }
 says app (Run true) h = record { short = omega arith; known = h; words = two_words (codes "run") (codes "1") refl refl refl refl }
 says app (Irq i) h =

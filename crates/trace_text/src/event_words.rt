@@ -1,5 +1,5 @@
 //! What one line of an event text says.
-ghost use Rattle.std.specs.Prelude.{◌≡◌, [], ◌∷◌, not, IfSome, MatchOption, Ok, Some};
+ghost use Rattle.std.specs.Prelude.{◌≡◌, [], ◌∷◌, ◌++◌, codes, not, IfSome, MatchOption, Ok, Some};
 ghost use Rattle.std.specs.List.{position, position_or_len};
 ghost use Rattle.trace_text.specs.EventWords.{is_blank as is_a_blank, is_comment as is_a_comment, words, run_by, isr_named, counter_named, said_by, said, read_line};
 
@@ -146,6 +146,46 @@ fn plain_run(line: &[u8]) -> Option<bool>
     }
 }
 
+// The name behind the word for an interrupt.
+fn irq_name(line: &[u8]) -> Option<&[u8]>
+    ensures { IfSome result (λ name. line.now ≡ codes "irq " ++ name.now) }
+{
+    match line {
+        [b'i', b'r', b'q', b' ', name @ ..] => Some(name),
+        _ => None,
+    }
+}
+
+// The name behind the word for a tick.
+fn tick_name(line: &[u8]) -> Option<&[u8]>
+    ensures { IfSome result (λ name. line.now ≡ codes "tick " ++ name.now) }
+{
+    match line {
+        [b't', b'i', b'c', b'k', b' ', name @ ..] => Some(name),
+        _ => None,
+    }
+}
+
+// What most other lines say, judged at one look: an interrupt or a tick of a source that is declared, spelled with no blank
+// more than it needs.
+fn plain_source(app: &App, line: &[u8]) -> Option<Event>
+    ensures { IfSome result (λ event. read_line app.now line.now ≡ Ok (Some event)) }
+{
+    if let Some(name) = irq_name(line) {
+        let Some(isr) = isr_of(app, name) else {
+            return None;
+        };
+        return Some(Event::Irq(IsrNo(isr as u8)));
+    }
+    if let Some(name) = tick_name(line) {
+        let Some(counter) = counter_of(app, name) else {
+            return None;
+        };
+        return Some(Event::Tick(CounterNo(counter as u8)));
+    }
+    None
+}
+
 /// What a line says, without its LF and the CR before it: an event, or none in a line of blanks alone or one whose
 /// first other byte is `#`. It takes no memory.
 pub fn read_event(app: &App, line: &[u8]) -> Result<Option<Event>, EventFault>
@@ -153,6 +193,9 @@ pub fn read_event(app: &App, line: &[u8]) -> Result<Option<Event>, EventFault>
 {
     if let Some(choice) = plain_run(line) {
         return Ok(Some(Event::Run(choice)));
+    }
+    if let Some(event) = plain_source(app, line) {
+        return Ok(Some(event));
     }
     if line.len() > MAX_EVENT_LINE {
         return Err(EventFault::E3);

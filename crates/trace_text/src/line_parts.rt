@@ -1,16 +1,16 @@
 //! What the lines of a trace are put by.
-ghost use Rattle.std.specs.Prelude.{◌≡◌, ◌≤◌, ◌+◌, ◌++◌, length, take};
+ghost use Rattle.std.specs.Prelude.{◌≡◌, ◌≤◌, ◌+◌, ◌++◌, length, take, decimal};
 ghost use Rattle.osek_standard.specs.Well.{Well};
 ghost use Rattle.trace_text.specs.LineParts.{ArePartsOf, tasks_text};
 
 use crate::labels::Labels;
-use crate::shown::{Shown, all_shown, are_as_shown};
+use crate::shown::{Shown, are_as_shown, show_all};
 use crate::trace_line::{MAX_ALL_TASKS, put_tasks};
 use arrayvec::ArrayVec;
 use osek_standard::{App, State};
 use osek_values::limits::MAX_TASKS;
 use std::marker::Model;
-use text_pieces::{LABEL_ROOM, put, put_front};
+use text_pieces::{Count, LABEL_ROOM, MAX_DECIMAL, put, put_count, put_decimal, put_front};
 
 const TASKS_ROOM: usize = MAX_ALL_TASKS + LABEL_ROOM;
 
@@ -28,6 +28,8 @@ pub struct LineParts {
     // The text, and behind it bytes that have no meaning.
     tasks: [u8; TASKS_ROOM],
     size: usize,
+    // The number of a line, as it was put last: most lines have the next.
+    number: Count,
 }
 
 impl Model for LineParts {
@@ -53,6 +55,7 @@ impl LineParts {
             shown: ArrayVec::new(),
             tasks: [0; TASKS_ROOM],
             size: 0,
+            number: Count::of(0),
         }
     }
 
@@ -67,7 +70,28 @@ impl LineParts {
             return;
         }
         self.size = put_tasks(&mut self.tasks, 0, &self.labels, app, state);
-        self.shown = all_shown(app, state);
+        show_all(&mut self.shown, app, state);
+    }
+
+    /// Makes the digits of a line's number ready. A line has the number that it is put with, whether they are or not; it
+    /// costs less where they are.
+    pub fn count(&mut self, n: u64)
+        ensures { self.new ≡ self.old }
+    {
+        self.number.set(n);
+    }
+
+    /// Puts the number of a line.
+    pub(crate) fn put_number(&self, buf: &mut [u8], at: usize, n: u64) -> usize
+        requires room { at + MAX_DECIMAL ≤ length buf.old }
+        ensures text { take result buf.new ≡ take at buf.old ++ decimal n }
+        ensures most { result ≤ at + MAX_DECIMAL }
+    {
+        if self.number.is(n) {
+            put_count(buf, at, &self.number)
+        } else {
+            put_decimal(buf, at, n)
+        }
     }
 
     pub(crate) fn labels(&self) -> &Labels

@@ -1,6 +1,8 @@
 //! What a line of the trace shows of the tasks.
 ghost use Rattle.std.specs.Prelude.{◌≡◌, ◌<◌, ◌≤◌, length, true};
 ghost use Rattle.osek_standard.specs.TaskStates.{held};
+ghost use Rattle.osek_standard.specs.declared.state.Processor.{Processor};
+ghost use Rattle.osek_standard.specs.States.{letter_of, task_of};
 ghost use Rattle.osek_standard.specs.Well.{Well};
 ghost use Rattle.trace_text.specs.LineParts.{shown_of as what_is_shown, all_shown as what_all_show};
 
@@ -60,6 +62,20 @@ pub(crate) fn all_shown(app: &App, state: &State) -> ArrayVec<Shown, MAX_TASKS>
     shown
 }
 
+/// Makes what is kept of the tasks what a line shows of them.
+pub(crate) fn show_all(shown: &mut ArrayVec<Shown, MAX_TASKS>, app: &App, state: &State)
+    requires well { Well app.now state.now }
+    ensures { shown.new.items ≡ what_all_show app.now state.now }
+{
+    if app.tasks.len() != shown.len() {
+        *shown = all_shown(app, state);
+        return;
+    }
+    for task in 0..app.tasks.len() {
+        shown.as_mut_slice()[task] = shown_of(state, TaskNo(task as u8));
+    }
+}
+
 fn are_same(stack: &[ResNo], other: &[ResNo]) -> bool
     ensures { result ≡ true → stack.now ≡ other.now }
 {
@@ -75,12 +91,30 @@ fn holds_as(stack: &Held, state: &TaskState) -> bool
     }
 }
 
-fn is_as_shown(shown: &Shown, state: &State, task: TaskNo) -> bool
-    requires { task.0 < length state.now.tasks }
+// The letter of a task's state, where this is the task that runs or is interrupted.
+fn letter_by(current: Option<TaskNo>, task: TaskNo, state: &TaskState) -> Letter
+    ensures { (p : Processor) → current ≡ task_of p → result ≡ letter_of p task.0 state.now }
+{
+    match &state.activity {
+        Activity::Suspended => Letter::S,
+        Activity::Live(_) => {
+            if current == Some(task) {
+                Letter::R
+            } else {
+                Letter::Y
+            }
+        }
+        Activity::Waiting(_) => Letter::W,
+    }
+}
+
+fn is_as_shown(shown: &Shown, state: &State, current: Option<TaskNo>, task: TaskNo) -> bool
+    requires known { task.0 < length state.now.tasks }
+    requires current { current ≡ task_of state.now.processor }
     ensures { result ≡ true → shown.now ≡ what_is_shown state.now task.0 }
 {
     let task_state = state.task(task);
-    if shown.letter != state.letter(task) {
+    if shown.letter != letter_by(current, task, task_state) {
         return false;
     }
     if shown.events != task_state.events {
@@ -97,8 +131,9 @@ pub(crate) fn are_as_shown(shown: &[Shown], app: &App, state: &State) -> bool
     if shown.len() != app.tasks.len() {
         return false;
     }
+    let current = state.current();
     for task in 0..app.tasks.len() {
-        if !is_as_shown(&shown[task], state, TaskNo(task as u8)) {
+        if !is_as_shown(&shown[task], state, current, TaskNo(task as u8)) {
             return false;
         }
     }

@@ -17,8 +17,7 @@ use osek_standard::{Activity, App, Processor, State, Task, TaskState};
 use osek_values::limits::{LINE_MAX, MAX_RESOURCES, MAX_TASKS};
 use osek_values::{Notes, ResNo, TaskNo};
 use text_pieces::{
-    LABEL_ROOM, MAX_DECIMAL, MAX_HEXADECIMAL, MAX_LABEL, put, put_byte, put_decimal,
-    put_hexadecimal, put_label,
+    LABEL_ROOM, MAX_DECIMAL, MAX_HEXADECIMAL, MAX_LABEL, put, put_byte, put_hexadecimal, put_label,
 };
 
 /// The most bytes of the events of a task: a mark and a set.
@@ -152,7 +151,7 @@ pub fn put_line(
     ensures line { take result buf.new ≡ take at buf.old ++ line_text app.now n (stepped state.now notes.now) ++ 10 ∷ [] }
     ensures most { result ≤ at + LINE_MAX }
 {
-    let at = put_decimal(buf, at, n);
+    let at = parts.put_number(buf, at, n);
     let at = put_who(buf, at, parts.labels(), app, state);
     let at = parts.put_shown(buf, at);
     let at = put_notes(buf, at, app, notes);

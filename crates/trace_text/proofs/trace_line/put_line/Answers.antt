@@ -15,4 +15,4 @@ returns-clause-line c =
     let state = c.args.state.now in
     let tasks = c.put_shown-at.ensures.text ∙ ap (λ (l : List ℕ). take c.put_who-at.result c.put_who-at.new.buf ++ l) c.requires.shown in
     in_a_row (take c.args.at c.args.buf.now) (decimal c.args.n) (who app state.processor) (flat_map (task_text app state) (enumerate_from 0 app.tasks)) (notes_text app c.args.notes.now) (10 ∷ [])
-    (line_text app c.args.n (stepped state c.args.notes.now)) _ _ _ _ _ refl c.put_decimal-at.ensures.text c.put_who-at.ensures.text tasks c.put_notes-at.ensures.text c.put_byte.ensures.text
+    (line_text app c.args.n (stepped state c.args.notes.now)) _ _ _ _ _ refl c.put_number-at.ensures.text c.put_who-at.ensures.text tasks c.put_notes-at.ensures.text c.put_byte.ensures.text

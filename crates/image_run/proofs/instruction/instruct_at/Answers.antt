@@ -12,7 +12,7 @@ use Rattle.image_run.specs.declared.before.Before.{Before}
 use Rattle.image_run.specs.Befores.{before, put_back}
 use Rattle.image_run.proofs.SiteForms.{is_of_site}
 use Rattle.image_run.proofs.UndoLaws.{undone}
-use Rattle.image_run.proofs.instruction.instruct.Goals as goal
+use Rattle.image_run.proofs.instruction.instruct_at.Goals as goal
 
 where_some : (P : Type 0) (o : Option Site) → IfSome o (λ (x : Site). P) → o ≢ None → P
 where_some P None h n = absurd (n refl)
@@ -24,8 +24,7 @@ returns-in-None-clause-trap g c =
     let s = c.args.state.now in
     let b = (here s).block.0 in
     let known = in_owner_known i.app s s.processor c.requires.well.processor b (here_own i.app s c.requires.well c.requires.active) in
-    let same : c.site_at-site.result ≡ site_at i b = c.site_at-site.ensures.site ∙ ap (λ (p : Place). site_at i p.block.0) c.here-place.ensures.place in
-    let site : is_site i.app b ≡ true = where_some (is_site i.app b ≡ true) (site_at i b) (is_of_site i b known) (subst (λ (o : Option Site). o ≢ None) same c.in-None.ensures.trap.0) in
+    let site : is_site i.app b ≡ true = where_some (is_site i.app b ≡ true) (site_at i b) (is_of_site i b known) (subst (λ (o : Option Site). o ≢ None) c.requires.site c.in-None.ensures.trap.0) in
     sym c.undo.ensures.state
     ∙ ap (λ (x : Before). put_back x c.attempt-2.new.state) c.of-before.ensures
     ∙ ap (put_back (before i.app s)) c.in-None.ensures.trap.1

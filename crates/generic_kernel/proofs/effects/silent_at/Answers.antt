@@ -1,0 +1,16 @@
+-- a tick leaves each task as high as it was
+use Rattle.std.proofs.Common.{◌≡◌, ◌∙◌, sym, ap}
+use Rattle.osek_standard.specs.declared.state.State.{State}
+use Rattle.osek_standard.specs.Effects.{place_at}
+use Rattle.generic_kernel.specs.Levels.{level}
+use Rattle.generic_kernel.proofs.SilentLaws.{moved_levels, counted_levels}
+use Rattle.generic_kernel.proofs.effects.silent_at.Goals as goal
+
+pub returns-in-CountUp-clause-levels : goal.returns-in-CountUp-clause-levels
+returns-in-CountUp-clause-levels c t =
+    let app = c.args.app.now in
+    let s = c.args.state.now in
+    ap (λ (r : State). level app r t) (sym c.count.ensures)
+    ∙ counted_levels app c.go_to-in-CountUp.new.state t
+    ∙ ap (λ (r : State). level app r t) (sym c.go_to-in-CountUp.ensures.moved)
+    ∙ moved_levels app s c.requires.well (place_at c.block-block.result.now.next 0) t
