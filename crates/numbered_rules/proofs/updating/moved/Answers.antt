@@ -1,9 +1,9 @@
-use Rattle.std.proofs.Common.{◌≡◌, ◌<◌, ◌≤◌, ◌+◌, List, [], length, take, sym, ap, subst, ◌∙◌, arith, IsTrue}
+use Rattle.std.proofs.Common.{◌≡◌, ◌<◌, ◌+◌, List, [], length, take, sym, ap, subst, ◌∙◌, arith}
 use Rattle.abstract_state.specs.declared.value.{Domain.{Domain}, PartValue.{PartValue}}
 use Rattle.abstract_state.specs.Domains.{IsWithin}
 use Rattle.flow_model.specs.Tests.{updated}
-use Rattle.numbered_sets.specs.Numbers.{Numbers, numbers, has_number}
-use Rattle.numbered_sets.specs.Pools.{Values, values_at}
+use Rattle.numbered_sets.specs.Numbers.{numbers, has_number}
+use Rattle.numbered_sets.specs.Pools.{values_at}
 use Rattle.numbered_sets.specs.Views.{values_with}
 use Rattle.numbered_sets.proofs.NumberingLaws.{same_domain}
 use Rattle.numbered_sets.proofs.PlainLaws.{member_of_plain, value_with_number}

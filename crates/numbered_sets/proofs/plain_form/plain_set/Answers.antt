@@ -1,4 +1,4 @@
-use Rattle.std.proofs.Common.{◌<◌, ◌≤◌, ◌+◌, length, sym, ap, ◌∙◌, arith}
+use Rattle.std.proofs.Common.{◌<◌, ◌+◌, length, sym, ap, ◌∙◌, arith}
 use Rattle.abstract_state.specs.Tables.{empty_of}
 use Rattle.numbered_sets.specs.Pools.{values_at}
 use Rattle.numbered_sets.proofs.PlainLaws.{plain_begun, plain_put, plain_whole}

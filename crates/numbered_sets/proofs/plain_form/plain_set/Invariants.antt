@@ -1,4 +1,4 @@
-use Rattle.std.proofs.Common.{ℕ, ◌-◌, ◌≤◌, ◌<◌, IsTrue}
+use Rattle.std.proofs.Common.{◌-◌, ◌≤◌, ◌<◌, IsTrue}
 use Rattle.numbered_sets.specs.Numbers.{has_number}
 use Rattle.numbered_sets.specs.Pools.{values_at}
 use Rattle.numbered_sets.proofs.PlainLaws.{IsPlainUpTo}

@@ -1,4 +1,4 @@
-use Rattle.std.proofs.Common.{◌<◌, ◌≤◌, ◌/◌, ◌^◌, arith}
+use Rattle.std.proofs.Common.{◌<◌, ◌/◌, ◌^◌, arith}
 use Rattle.numbered_sets.proofs.NextNumbers.{none_up, found_has, found_few, found_none}
 use Rattle.numbered_sets.proofs.words.next_bit.Goals as goal
 
