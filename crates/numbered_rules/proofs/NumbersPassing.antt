@@ -1,9 +1,9 @@
 -- Numbers of what a rule makes of the values that pass, set by set.
-use Rattle.std.proofs.Common.{◌≡◌, ℕ, suc, ◌+◌, ◌^◌, ◌<◌, ◌≤◌, Bool, true, false, ◌||◌, List, [], ◌∷◌, ◌++◌, length, get_or, set, take, map, refl, sym, ap, ap₂, subst, ◌∙◌, inl, inr, arith, IsTrue}
+use Rattle.std.proofs.Common.{◌≡◌, ℕ, zero, suc, ◌+◌, ◌^◌, ◌<◌, ◌≤◌, Bool, true, false, ◌||◌, List, [], ◌∷◌, ◌++◌, length, get_or, set, take, map, refl, sym, ap, ap₂, subst, ◌∙◌, inl, inr, arith, IsTrue}
 use Rattle.std.specs.Prelude.{if◌then◌else◌}
 use Rattle.std.specs.List.{list_any}
 use Rattle.std.proofs.Math.ListN.{get_or-map, get_or-eq_default}
-use Rattle.std.proofs.lemmas.Bool.{cases_lt, or_cases, eqb-true}
+use Rattle.std.proofs.lemmas.Bool.{cases_lt, cases_eq, or_cases, eqb-true}
 use Rattle.std.proofs.lemmas.List.{length-append, get_or_append_left, get_or_default, take_all}
 use Rattle.std.proofs.lemmas.List.Elements.{All-from_get_or}
 use Rattle.osek_standard.specs.Kernel.{has_bit}
@@ -43,6 +43,17 @@ pub no_next_value : (vs : List PartValue) (has : ℕ → Bool) (k : ℕ) → k <
 no_next_value vs has k lt none =
     let v = get_or vs k (OfAlarm false) in
     values_more vs k v has lt (get_or_default vs k v (OfAlarm false) lt) ∙ ap (λ (b : Bool). values_with (take k vs) has ++ (if b then v ∷ [] else [])) none ∙ append_none (values_with (take k vs) has)
+
+-- and past numbers that aren't there
+pub values_skip_to : (vs : List PartValue) (has : ℕ → Bool) (k m : ℕ) → k ≤ m → m ≤ length vs → ((i : ℕ) → k ≤ i → i < m → has i ≡ false) → values_with (take m vs) has ≡ values_with (take k vs) has
+values_skip_to vs has k zero le whole none = (let same : 0 ≡ k = omega (arith, le) in ap (λ (j : ℕ). values_with (take j vs) has) same)
+values_skip_to vs has k (suc m) le whole none = elim (cases_eq k (suc m)) [
+  | inl same ↦ ap (λ (j : ℕ). values_with (take j vs) has) (sym same)
+  | inr differ ↦
+      (let more : suc m ≡ m + 1 = omega arith in
+      ap (λ (j : ℕ). values_with (take j vs) has) more ∙ no_next_value vs has m (omega (arith, whole)) (none m (omega (arith, le, differ)) (omega arith))
+      ∙ values_skip_to vs has k m (omega (arith, le, differ)) (omega (arith, whole)) (λ i above below. none i above (omega (arith, below))))
+]
 
 -- ---- what is made
 

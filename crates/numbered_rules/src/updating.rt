@@ -81,10 +81,11 @@ fn moved(
     ensures passed { IfOk result (IsPassedSet (alone change.now) pool.old component numbers.now pool.new) }
 {
     let mut new = NumberedSet::new(alloc, numbers.domain());
-    for number in 0..pool.len(component) {
-        if numbers.has(number) {
-            put_updated(change, pool, component, number, &mut new)?;
-        }
+    let count = pool.len(component);
+    let mut number = numbers.next(0, count);
+    while number < count {
+        put_updated(change, pool, component, number, &mut new)?;
+        number = numbers.next(number + 1, count);
     }
     Ok(new)
 }

@@ -12,3 +12,4 @@ pub mod SiftLaws
 pub mod ShownLaws
 pub mod FirstWords
 pub mod CopiedEntries
+pub mod NextNumbers

@@ -27,7 +27,7 @@ impl Model for NumberedSet {
 }
 
 impl NumberedSet {
-    ghost use Rattle.std.specs.Prelude.{◌≡◌, ◌<◌, ◌≤◌, ◌+◌, ◌^◌, ◌==◌, not, IfOk, OnOk, OnErr};
+    ghost use Rattle.std.specs.Prelude.{ℕ, false, IsTrue, ◌≡◌, ◌<◌, ◌≤◌, ◌+◌, ◌^◌, ◌==◌, not, IfOk, OnOk, OnErr};
     ghost use Rattle.std.specs.Bool.{OnTrue};
     ghost use Rattle.numbered_sets.specs.Numbers.{numbers, has_number, with_number, joined_numbers, kept_numbers, number_count};
 
@@ -62,6 +62,51 @@ impl NumberedSet {
             return words::has_bit(self.high, number - 64);
         }
         words::has(self.more.as_slice(), number - 128)
+    }
+
+    /// The first number in the set from one on, if it is below a bound; else the bound.
+    pub fn next(&self, from: usize, below: usize) -> usize
+        requires { from ≤ below }
+        ensures up { from ≤ result }
+        ensures few { result ≤ below }
+        ensures has { result < below → IsTrue (has_number self.now result) }
+        ensures none { (k : ℕ) → from ≤ k → k < result → has_number self.now k ≡ false }
+    {
+        let number = self.next_of_two(from);
+        if number >= below {
+            return below;
+        }
+        if number < 128 {
+            return number;
+        }
+        for further in number..below {
+            if self.has(further) {
+                return further;
+            }
+        }
+        below
+    }
+
+    // the first number of the first two words from one on; where there is none a number that is in neither
+    fn next_of_two(&self, from: usize) -> usize
+        ensures up { from ≤ result }
+        ensures has { result < 128 → IsTrue (has_number self.now result) }
+        ensures none { (k : ℕ) → from ≤ k → k < result → has_number self.now k ≡ false }
+    {
+        words::are_two_words(self.low, self.high);
+        if from >= 128 {
+            return from;
+        }
+        if from >= 64 {
+            let high = words::next_bit(self.high, from - 64);
+            return 64 + high;
+        }
+        let number = words::next_bit(self.low, from);
+        if number < 64 {
+            return number;
+        }
+        let high = words::next_bit(self.high, 0);
+        64 + high
     }
 
     /// Puts a number in the set, and tells whether it is new there.

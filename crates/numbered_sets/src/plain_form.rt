@@ -34,10 +34,11 @@ pub fn plain_set(
     ensures { IfOk result (λ set. set ≡ plain_set_of (values_at pool.now component) numbers.now) }
 {
     let mut set = ValueSet::new(alloc, numbers.domain());
-    for number in 0..pool.len(component) {
-        if numbers.has(number) {
-            set.insert(pool.value(component, number).copy())?;
-        }
+    let count = pool.len(component);
+    let mut number = numbers.next(0, count);
+    while number < count {
+        set.insert(pool.value(component, number).copy())?;
+        number = numbers.next(number + 1, count);
     }
     Ok(set)
 }

@@ -1,5 +1,5 @@
 //! Words of 64 bits, with a bit for each number.
-ghost use Rattle.std.specs.Prelude.{◌≡◌, ◌<◌, ◌≤◌, ◌+◌, ◌/◌, ◌^◌, ◌==◌, bit_and, bit_or, count_ones, length, slice_index_or, IfOk, OnOk, OnErr};
+ghost use Rattle.std.specs.Prelude.{ℕ, false, IsTrue, ◌≡◌, ◌<◌, ◌≤◌, ◌+◌, ◌/◌, ◌^◌, ◌==◌, bit_and, bit_or, count_ones, length, slice_index_or, IfOk, OnOk, OnErr};
 ghost use Rattle.osek_standard.specs.Kernel.{has_bit as has_bit_of};
 ghost use Rattle.numbered_sets.specs.Numbers.{AreWords, bits_of_words};
 
@@ -52,6 +52,21 @@ pub fn put(words: &mut [u64], number: usize)
     are_words(words);
     let place = number / 64;
     words[place] = words[place] | 1 << (number % 64);
+}
+
+/// The first bit of a word from one on that is set; 64 where none is.
+pub fn next_bit(word: u64, from: usize) -> usize
+    requires { from < 64 }
+    ensures up { from ≤ result }
+    ensures few { result ≤ 64 }
+    ensures has { result < 64 → IsTrue (has_bit_of word result) }
+    ensures none { (k : ℕ) → from ≤ k → k < result → has_bit_of word k ≡ false }
+{
+    let rest = word >> from;
+    if rest == 0 {
+        return 64;
+    }
+    from + rest.trailing_zeros() as usize
 }
 
 /// A word with a bit more.

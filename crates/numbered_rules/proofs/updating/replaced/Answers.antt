@@ -1,12 +1,11 @@
-use Rattle.std.proofs.Common.{◌≡◌, ◌≢◌, ◌<◌, ◌∷◌, [], ℕ, List, sym, ap, subst, ◌∙◌, arith, IsTrue}
-use Rattle.std.specs.Prelude.{◌==◌}
-use Rattle.std.proofs.lemmas.Bool.{eqb-true, eq-eqb}
+use Rattle.std.proofs.Common.{◌≡◌, ◌∷◌, [], sym, ap, subst, ◌∙◌}
+use Rattle.std.proofs.lemmas.Bool.{eqb-true}
 use Rattle.abstract_state.specs.declared.value.{Domain.{Domain}, PartValue.{PartValue}}
 use Rattle.abstract_state.specs.Domains.{IsWithin}
 use Rattle.flow_model.specs.declared.change.Update.{Update}
 use Rattle.flow_model.specs.Tests.{updated, value_after}
 use Rattle.numbered_sets.specs.Numbers.{Numbers, numbers, with_number}
-use Rattle.numbered_sets.specs.Pools.{Values, values_at, domain_at, IsLonger}
+use Rattle.numbered_sets.specs.Pools.{values_at, domain_at, IsLonger}
 use Rattle.numbered_sets.proofs.SiftLaws.{some_value}
 use Rattle.numbered_sets.proofs.ViewLaws.{longer_with}
 use Rattle.numbered_rules.specs.Applying.{IsPassedSet}

@@ -1,0 +1,10 @@
+use Rattle.std.proofs.Common.{◌≡◌, inl, inr, sym, ap, ◌∙◌, arith}
+use Rattle.std.proofs.lemmas.Bool.{cases_lt}
+use Rattle.numbered_sets.specs.Numbers.{has_number}
+use Rattle.numbered_sets.proofs.numbered_set.NumberedSet.next.Goals as goal
+
+pub loop-further-preserved : goal.loop-further-preserved
+loop-further-preserved c = λ k above below. elim (cases_lt k c.loop-further.further) [
+  | inl lt ↦ c.loop-further.invariant k above lt
+  | inr le ↦ (let same : k ≡ c.loop-further.further = omega (arith, le, below) in ap (has_number c.args.self.now) same ∙ sym c.has.ensures ∙ c.if-has.false)
+]
