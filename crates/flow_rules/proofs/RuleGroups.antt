@@ -124,6 +124,18 @@ module _ (app : App) (p : Point) (entry : Entry) (before after : List RuleGroup)
       shown.effect.parts c lt ∙ ap (value_after x.effect.changes c) (shown.has.parts c lt) ∙ ap (λ (xs : List Change). value_after xs c (value c)) (sym x.shared.changes) in
       subst (IsWithin (domain_of app (component_at app c))) made (allowed_within app (point_of then) c (abstract_of app then c) lt (well_part app then well c lt))
 
+-- ---- one outcome after another
+
+pub one_made : (effect : EffectCase) (outcomes : List OutcomeGroup) (i : ℕ) (outcome : OutcomeGroup) (made : RuleGroup) (first before : List RuleGroup) → i < length outcomes → get_or outcomes i outcome ≡ outcome → made ≡ group_of effect outcome →
+    before ≡ first ++ map (group_of effect) (take i outcomes) → before ++ made ∷ [] ≡ first ++ map (group_of effect) (take (i + 1) outcomes)
+one_made effect outcomes i outcome made first before lt there is so_far =
+    let f = group_of effect in
+    let longer : take (i + 1) outcomes ≡ take i outcomes ++ outcome ∷ [] = take_more outcomes i outcome lt ∙ ap (λ (x : OutcomeGroup). take i outcomes ++ x ∷ []) there in
+    ap₂ (λ (gs : List RuleGroup) (g : RuleGroup). gs ++ g ∷ []) so_far is
+    ∙ append_assoc first (map f (take i outcomes)) (f outcome ∷ [])
+    ∙ ap (λ (gs : List RuleGroup). first ++ gs) (sym (map-append f (take i outcomes) (outcome ∷ [])))
+    ∙ ap (λ (os : List OutcomeGroup). first ++ map f os) (sym longer)
+
 -- ---- arrivals
 
 ones : (f : ℕ → Rule) (xs : List ℕ) → all_rules (map (λ k. group.One (f k)) xs) ≡ map f xs

@@ -1,9 +1,10 @@
 //! The rules of a point, in groups.
-ghost use Rattle.std.specs.Prelude.{◌≡◌, ◌++◌, length, IfOk, OnOk};
+ghost use Rattle.std.specs.Prelude.{◌≡◌, ◌<◌, ◌++◌, ℕ, length, slice_index_or, IfOk, OnOk};
 ghost use Rattle.osek_standard.specs.Points.{IsPoint};
 ghost use Rattle.abstract_state.specs.Domains.{domains, domains_of};
 ghost use Rattle.flow_model.specs.Effects.{AreAllAllowed};
 ghost use Rattle.flow_model.specs.Rules.{Covering, Exact, Foresees};
+ghost use Rattle.flow_dispatch.specs.declared.group.OutcomeGroup.{OutcomeGroup};
 ghost use Rattle.flow_dispatch.specs.Readings.{AreReadings};
 ghost use Rattle.flow_rules.specs.Assembly.{rule_by as rule_by_of};
 ghost use Rattle.flow_rules.specs.RuleGroups.{all_rules, group_of as group_of_outcomes, AreRulesIn, AreInDomains, AddsGroups, AddsInstructionGroups};
@@ -11,12 +12,13 @@ ghost use Rattle.flow_rules.specs.RuleGroups.{all_rules, group_of as group_of_ou
 use crate::arrivals::arrivals;
 use crate::group::{RuleGroup, ValueRules};
 use abstract_state::{Entry, Point};
-use flow_dispatch::{End, OutcomeGroup, Reading, outcome_groups, readings};
+use flow_dispatch::{OutcomeGroup, Reading, outcome_groups, readings};
 use flow_effects::effect_cases;
-use flow_model::{Change, Condition, Decision, EffectCase, Rule, Runner};
+use flow_model::{Change, Condition, Decision, EffectCase, OutcomeCase, Rule, Runner};
 use osek_standard::App;
 use osek_values::{Memory, Seq};
 use std::alloc::Global;
+use std::mem;
 
 /// The rules of a point, over its entry, in groups: one for each routine that may begin there, and one for each case of an
 /// instruction, of its effect and then of what the scheduler does.
@@ -77,32 +79,51 @@ fn add_outcomes(
     requires readings { AreReadings app.now entry.now (length app.now.tasks) readings.now }
     ensures { OnOk result (AddsGroups app.now entry.now effect.now groups.old groups.new) }
 {
-    let outcomes = outcome_groups(alloc, app, effect, entry, readings)?;
-    for outcome in outcomes.as_slice() {
+    let mut outcomes = outcome_groups(alloc, app, effect, entry, readings)?;
+    for place in 0..outcomes.len() {
+        let outcome = take_outcome(alloc, &mut outcomes, place);
         groups.push(group_of(alloc, effect, outcome)?)?;
     }
     Ok(())
 }
 
+// takes the outcomes at a place, and leaves one without conditions there
+fn take_outcome(alloc: Global, outcomes: &mut Seq<OutcomeGroup>, place: usize) -> OutcomeGroup
+    requires { place < length outcomes.old }
+    ensures item { (none : OutcomeGroup) → slice_index_or outcomes.old place none ≡ result }
+    ensures size { length outcomes.new ≡ length outcomes.old }
+    ensures rest { (k : ℕ) (none : OutcomeGroup) → place < k → slice_index_or outcomes.new k none ≡ slice_index_or outcomes.old k none }
+{
+    let nothing = OutcomeGroup::One(OutcomeCase {
+        conditions: Seq::new(alloc),
+        decision: Decision::Keep,
+        target: Point::Idle,
+    });
+    let at = outcomes.at_mut(place);
+    mem::replace(at, nothing)
+}
+
 // the effect's conditions come in once for all the values of a group
-fn group_of(alloc: Global, effect: &EffectCase, outcome: &OutcomeGroup) -> Result<RuleGroup, Memory>
-    ensures { IfOk result (λ group. group ≡ group_of_outcomes effect.now outcome.now) }
+fn group_of(alloc: Global, effect: &EffectCase, outcome: OutcomeGroup) -> Result<RuleGroup, Memory>
+    ensures { IfOk result (λ group. group ≡ group_of_outcomes effect.now outcome) }
 {
     match outcome {
         OutcomeGroup::One(case) => {
-            let more = case.conditions.as_slice();
-            let rule = rule_by(alloc, effect, more, case.decision, case.target)?;
+            let rule = rule_by(alloc, effect, case.conditions, case.decision, case.target)?;
             Ok(RuleGroup::One(rule))
         }
         OutcomeGroup::Each(cases) => {
-            let more = cases.conditions.as_slice();
-            let rule = rule_by(alloc, effect, more, cases.decision, effect.point)?;
-            let mut ends = Seq::new(alloc);
-            add_ends(&mut ends, cases.ends.as_slice())?;
+            let rule = rule_by(
+                alloc,
+                effect,
+                cases.conditions,
+                cases.decision,
+                effect.point,
+            )?;
             Ok(RuleGroup::Each(ValueRules {
                 rule,
                 component: cases.component,
-                ends,
+                ends: cases.ends,
             }))
         }
     }
@@ -111,16 +132,14 @@ fn group_of(alloc: Global, effect: &EffectCase, outcome: &OutcomeGroup) -> Resul
 fn rule_by(
     alloc: Global,
     effect: &EffectCase,
-    more: &[Condition],
+    more: Seq<Condition>,
     decision: Decision,
     target: Point,
 ) -> Result<Rule, Memory>
-    ensures { IfOk result (λ rule. rule ≡ rule_by_of effect.now more.now decision target) }
+    ensures { IfOk result (λ rule. rule ≡ rule_by_of effect.now more decision target) }
 {
-    let mut conditions = Seq::new(alloc);
-    add_conditions(&mut conditions, effect.conditions.as_slice())?;
-    add_conditions(&mut conditions, more)?;
-    let mut changes = Seq::new(alloc);
+    let conditions = with_more(alloc, effect.conditions.as_slice(), more)?;
+    let mut changes = Seq::of(Vec::with_capacity(alloc, effect.changes.len())?);
     add_changes(&mut changes, effect.changes.as_slice())?;
     Ok(Rule {
         conditions,
@@ -129,6 +148,23 @@ fn rule_by(
         decision: Some(decision),
         status: effect.status,
     })
+}
+
+// some conditions and then others, which stay where they are if there are none before them
+fn with_more(
+    alloc: Global,
+    some: &[Condition],
+    more: Seq<Condition>,
+) -> Result<Seq<Condition>, Memory>
+    ensures { IfOk result (λ all. all ≡ some.now ++ more) }
+{
+    if some.is_empty() {
+        return Ok(more);
+    }
+    let mut all = Seq::of(Vec::with_capacity(alloc, some.len() + more.len())?);
+    add_conditions(&mut all, some)?;
+    add_conditions(&mut all, more.as_slice())?;
+    Ok(all)
 }
 
 pub fn add_conditions(to: &mut Seq<Condition>, from: &[Condition]) -> Result<(), Memory>
@@ -145,15 +181,6 @@ pub fn add_changes(to: &mut Seq<Change>, from: &[Change]) -> Result<(), Memory>
 {
     for change in from {
         to.push(change.copy())?;
-    }
-    Ok(())
-}
-
-fn add_ends(to: &mut Seq<End>, from: &[End]) -> Result<(), Memory>
-    ensures { OnOk result (to.new ≡ to.old ++ from.now) }
-{
-    for end in from {
-        to.push(end.copy())?;
     }
     Ok(())
 }
