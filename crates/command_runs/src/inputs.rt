@@ -16,7 +16,7 @@ use std::alloc::Global;
 use trace_text::{EventFault, FaultyLine, Feed};
 
 /// How many bytes of an event text are read at once.
-const PIECE: usize = 24_576;
+const PIECE: usize = 4096;
 
 /// How many bytes an input has at most.
 fn limit_of(input: Input) -> u64

@@ -244,7 +244,7 @@ fn makes_room_for_what_is_put(rt: HostRuntime) {
         Held::Flushes(Ok(())),
         Held::Called(3),
     ];
-    assert_eq!(rt; first_wrong_held(rt.alloc(), 800_000, &steps), Ok(None));
+    assert_eq!(rt; first_wrong_held(rt.alloc(), 200_000, &steps), Ok(None));
 }
 
 /// The path of a file that isn't there yet.

@@ -13,7 +13,7 @@ use std::alloc::Global;
 use std::marker::Model;
 
 /// How many bytes a buffer holds back at most.
-pub const PUT_ROOM: usize = 262_144;
+pub const PUT_ROOM: usize = 65_536;
 
 /// Bytes that are held back on their way to a sink, which contracts see as the list of them. It takes no memory once it
 /// is made. What a buffer still holds is lost with it, so whoever puts bytes flushes them.

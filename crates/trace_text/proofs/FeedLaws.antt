@@ -138,7 +138,7 @@ taken_within false a r n h = omega (arith, h)
 given : (s : FeedState) (rest : List ℕ) (n : ℕ) → (after_give s (take n rest)).ahead ++ drop (taken_count s (take n rest)) rest ≡ s.ahead ++ rest
 given s rest n =
     let k = taken_count s (take n rest) in
-    let le : k ≤ n = taken_within s.finished (length (take n rest)) (40960 - length s.ahead) n (omega (arith, length-take n rest)) in
+    let le : k ≤ n = taken_within s.finished (length (take n rest)) (8192 - length s.ahead) n (omega (arith, length-take n rest)) in
     append_assoc s.ahead (take k (take n rest)) (drop k rest)
     ∙ ap (λ t. s.ahead ++ (t ++ drop k rest)) (take-take k n rest le)
     ∙ ap (λ t. s.ahead ++ t) (take-append-drop k rest)
