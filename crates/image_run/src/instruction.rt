@@ -278,10 +278,7 @@ fn instruct<L: Ledger>(
     let place = here(&image.app, state);
     let site = site_at(image, place.block);
     if let Some(hooks) = instruct_silently(image, state, ready, choice, place, site, scans) {
-        *notes = Notes {
-            hooks,
-            ..nothing()
-        };
+        *notes = Notes { hooks, ..nothing() };
         return true;
     }
     match instruct_at(image, state, ready, choice, site, scans) {
