@@ -1,6 +1,6 @@
 -- The running task keeps the processor: exact cases that leave nothing out, by its priority.
-use Rattle.std.proofs.Common.{◌≡◌, ℕ, zero, suc, ◌+◌, ◌<◌, ◌≤◌, Bool, true, false, not, cond, List, [], ◌∷◌, ◌++◌, length, get_or, take, map, refl, sym, ap, subst, ◌∙◌, ◌⊎◌, inl, inr, arith, Some, None, IsTrue, IfSome, nat_le}
-use Rattle.std.specs.Prelude.{Contains, option_to_list, ◌==◌, if◌then◌else◌}
+use Rattle.std.proofs.Common.{◌≡◌, ℕ, ◌+◌, ◌<◌, ◌≤◌, Bool, true, false, not, List, [], ◌∷◌, ◌++◌, length, get_or, take, map, refl, sym, ap, subst, ◌∙◌, ◌⊎◌, inl, inr, arith, Some, None, IfSome}
+use Rattle.std.specs.Prelude.{Contains, option_to_list}
 use Rattle.std.specs.List.{list_any}
 use Rattle.std.specs.declared.option.Option.{Option}
 use Rattle.std.proofs.lemmas.Bool.{cases_Bool}
@@ -9,7 +9,7 @@ use Rattle.std.proofs.lemmas.List.{take_more}
 use Rattle.std.proofs.lemmas.List.Elements.{Contains-push_cases}
 use Rattle.osek_values.specs.declared.numbers.{TaskNo.{TaskNo}}
 use Rattle.osek_standard.specs.declared.app.App.{App}
-use Rattle.osek_standard.proofs.Members.{Among, among_cases, among_contained, contained_among}
+use Rattle.osek_standard.proofs.Members.{among_cases, among_contained, contained_among}
 use Rattle.abstract_state.specs.declared.value.{ComponentNo.{ComponentNo}, PartValue.{PartValue}}
 use Rattle.abstract_state.specs.declared.table.{Entry.{Entry}}
 use Rattle.abstract_state.specs.Concrete.{val_of}
@@ -21,7 +21,7 @@ use Rattle.flow_model.specs.declared.{case.Asked.{Asked}, case.EffectCase.{Effec
 use Rattle.flow_model.specs.declared.test.Test.TheVariants as test
 use Rattle.flow_model.specs.declared.case.Asked.TheVariants as asked
 use Rattle.flow_model.specs.declared.case.Decision.TheVariants as decision
-use Rattle.flow_model.specs.Tests.{passes, is_failed, PassesAll, values_after}
+use Rattle.flow_model.specs.Tests.{passes, is_failed, values_after}
 use Rattle.flow_model.specs.Scheduling.{task_priority, IsLiveTask, NoneAbove, Decides}
 use Rattle.flow_dispatch.specs.declared.{priority.Candidate.{Candidate}, group.OutcomeGroup.{OutcomeGroup}}
 use Rattle.flow_dispatch.specs.declared.claim.Claim.TheVariants as claim
@@ -30,7 +30,7 @@ use Rattle.flow_dispatch.specs.Claims.{AreVals, AreUnder, AreTests}
 use Rattle.flow_dispatch.specs.Groups.{one_case, HasPriority, AddsGroups}
 use Rattle.flow_dispatch.specs.Keepers.{taken_candidate, is_at_least, reaches, BarsLower, BarsFirstLower}
 use Rattle.flow_dispatch.specs.Needs.{AreNeeds, AreMet}
-use Rattle.flow_dispatch.specs.Outcomes.{IsAmongFirst, IsAnything, Takes, Scheduled, IsCaseFor, IsCase}
+use Rattle.flow_dispatch.specs.Outcomes.{IsAnything, Takes, Scheduled, IsCaseFor, IsCase}
 use Rattle.flow_dispatch.proofs.ClaimLaws.{keeps_means, keeps_passes}
 use Rattle.flow_dispatch.proofs.ConditionLaws.{push_passes, push_before, push_last}
 use Rattle.flow_dispatch.proofs.NeedLaws.{needs_met}

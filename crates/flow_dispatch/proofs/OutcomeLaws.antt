@@ -28,7 +28,7 @@ use Rattle.flow_model.specs.declared.case.Asked.TheVariants as asked
 use Rattle.flow_model.specs.declared.case.Decision.TheVariants as decision
 use Rattle.flow_model.specs.Values.{is_live_value, block_of, value_priority}
 use Rattle.flow_model.specs.Tests.{passes, PassesAll, value_after, values_after}
-use Rattle.flow_model.specs.Scheduling.{task_priority, IsLiveTask, IsBestTask, NoneLive, NoneAbove, Decides, end_point, HasOutcome, HasSomeOutcome, CoverOutcomes, AreExactOutcomes}
+use Rattle.flow_model.specs.Scheduling.{task_priority, IsLiveTask, IsBestTask, NoneLive, Decides, end_point, HasOutcome, HasSomeOutcome, CoverOutcomes, AreExactOutcomes}
 use Rattle.flow_dispatch.specs.declared.{claim.Claim.{Claim}, priority.Candidate.{Candidate}}
 use Rattle.flow_dispatch.specs.declared.claim.Claim.TheVariants as claim
 use Rattle.flow_dispatch.specs.Candidates.{candidate_of}

@@ -1,5 +1,5 @@
 -- What is read of the tasks before changes says what is read of them after these.
-use Rattle.std.proofs.Common.{◌≡◌, ℕ, ◌+◌, ◌-◌, ◌<◌, ◌≤◌, List, [], ◌∷◌, ◌++◌, length, get_or, refl, sym, ap, subst, ◌∙◌, ◌⊎◌, inl, inr, arith, Some, None, IsTrue}
+use Rattle.std.proofs.Common.{◌≡◌, ℕ, ◌+◌, ◌-◌, ◌<◌, ◌≤◌, List, [], ◌∷◌, ◌++◌, length, get_or, refl, sym, ap, subst, ◌∙◌, inl, inr, arith, Some, None, IsTrue}
 use Rattle.std.specs.Prelude.{Contains}
 use Rattle.std.specs.declared.option.Option.{Option}
 use Rattle.std.proofs.lemmas.Bool.{cases_lt}
@@ -13,7 +13,7 @@ use Rattle.abstract_state.specs.declared.table.Entry.{Entry}
 use Rattle.abstract_state.specs.Concrete.{val_of}
 use Rattle.abstract_state.specs.Tables.{set_at}
 use Rattle.flow_model.specs.declared.change.Change.{Change}
-use Rattle.flow_model.specs.Tests.{part_at_block, value_after}
+use Rattle.flow_model.specs.Tests.{value_after}
 use Rattle.flow_dispatch.specs.declared.{priority.Candidate.{Candidate}, reads.Reading.{Reading}}
 use Rattle.flow_dispatch.specs.Candidates.{candidate_of, candidate_at, candidate_after}
 use Rattle.flow_dispatch.specs.Claims.{is_below}

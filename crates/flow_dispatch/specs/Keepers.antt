@@ -1,14 +1,14 @@
 -- The values with which the running task keeps the processor.
-use Rattle.std.specs.Prelude.{◌≡◌, ℕ, ◌<◌, Bool, false, nat_le, List, length, slice_index_or, IsTrue, if◌then◌else◌, Some, None}
+use Rattle.std.specs.Prelude.{◌≡◌, ℕ, Bool, false, nat_le, List, IsTrue, if◌then◌else◌, Some, None}
 use Rattle.std.specs.List.{list_any}
 use Rattle.std.specs.declared.option.Option.{Option}
 use Rattle.osek_standard.specs.declared.app.App.{App}
-use Rattle.abstract_state.specs.declared.{value.PartValue.{PartValue}, table.Entry.{Entry}}
+use Rattle.abstract_state.specs.declared.{value.PartValue.{PartValue}}
 use Rattle.flow_model.specs.declared.{case.EffectCase.{EffectCase}, test.Condition.{Condition}, change.Change.{Change}}
 use Rattle.flow_model.specs.Tests.{is_failed, PassesAll}
 use Rattle.flow_dispatch.specs.declared.priority.Candidate.{Candidate}
 use Rattle.flow_dispatch.specs.Candidates.{candidate_after}
-use Rattle.flow_dispatch.specs.Outcomes.{IsAmongFirst, Takes}
+use Rattle.flow_dispatch.specs.Outcomes.{IsAmongFirst}
 
 -- what the scheduler reads of a task after the effect, if the effect takes its value
 abbrev pub taken_candidate : App → EffectCase → ℕ → PartValue → Option Candidate

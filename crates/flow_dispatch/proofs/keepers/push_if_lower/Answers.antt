@@ -1,11 +1,8 @@
-use Rattle.std.proofs.Common.{◌≡◌, ◌++◌, List, ◌∷◌, [], Bool, true, false, not, ap, sym, subst, ◌∙◌, refl}
-use Rattle.std.specs.List.{list_any}
-use Rattle.std.proofs.lemmas.Bool.{cases_Bool}
+use Rattle.std.proofs.Common.{◌++◌, List, ◌∷◌, [], ap, sym, subst, ◌∙◌}
 use Rattle.abstract_state.specs.declared.value.PartValue.{PartValue}
 use Rattle.flow_model.specs.declared.test.Condition.{Condition}
 use Rattle.flow_model.specs.declared.test.Test.TheVariants as test
-use Rattle.flow_model.specs.Tests.{is_failed}
-use Rattle.flow_dispatch.specs.Keepers.{reaches, BarsLower}
+use Rattle.flow_dispatch.specs.Keepers.{BarsLower}
 use Rattle.flow_dispatch.proofs.KeeperLaws.{reached_bars, untaken_bars, lower_bars, some_fails}
 use Rattle.flow_dispatch.proofs.keepers.push_if_lower.Goals as goal
 

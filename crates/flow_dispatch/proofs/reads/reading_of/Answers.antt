@@ -1,4 +1,4 @@
-use Rattle.std.proofs.Common.{◌<◌, [], List, length, subst, arith}
+use Rattle.std.proofs.Common.{[], List, subst, arith}
 use Rattle.std.proofs.lemmas.List.{take_all}
 use Rattle.abstract_state.specs.declared.value.PartValue.{PartValue}
 use Rattle.abstract_state.specs.Concrete.{val_of}

@@ -1,14 +1,8 @@
-use Rattle.std.proofs.Common.{◌≡◌, ◌++◌, ◌∷◌, [], ℕ, List, Some, get_or, map, take, sym, ap, subst, ◌∙◌}
-use Rattle.std.specs.Prelude.{Contains}
-use Rattle.std.specs.declared.option.Option.{Option}
+use Rattle.std.proofs.Common.{◌++◌, ◌∷◌, [], ℕ, List, Some, get_or, take, sym, subst}
 use Rattle.std.proofs.lemmas.List.{take_more, take_all}
-use Rattle.abstract_state.specs.declared.{value.PartValue.{PartValue}, table.ValueSet.{ValueSet}}
-use Rattle.abstract_state.specs.Tables.{empty_set, set_at}
 use Rattle.flow_model.specs.declared.case.Decision.TheVariants as decision
-use Rattle.flow_dispatch.specs.declared.{priority.Candidate.{Candidate}, group.OutcomeGroup.{OutcomeGroup}}
-use Rattle.flow_dispatch.specs.Candidates.{candidate_after}
+use Rattle.flow_dispatch.specs.declared.{group.OutcomeGroup.{OutcomeGroup}}
 use Rattle.flow_dispatch.specs.Groups.{HasPriority, AddsGroups}
-use Rattle.flow_dispatch.proofs.OutcomeLaws.{set_known, set_is}
 use Rattle.flow_dispatch.proofs.GroupLaws.{no_priority, more_priorities, all_priorities}
 use Rattle.flow_dispatch.proofs.winners.push_winners_of.Goals as goal
 
