@@ -1,7 +1,7 @@
 #!/usr/bin/env python3
 """Counts how often the analysis of an application evaluates a point, in a built osekfit.
 
-The program doesn't print it, so gdb counts the calls of `rules` in the function that makes the least table, and those of other
+The program doesn't print it, so gdb counts the calls of `rule_groups` in the function that makes the least table, and those of other
 callers (each site's, for its form). Names are those of the program as LLVM builds it.
 
     bench/evaluations.py crates/osekfit/out/osekfit app.oil app.code          needs gdb and objdump
@@ -13,7 +13,7 @@ import subprocess
 import sys
 import tempfile
 
-TABLE, RULES = 'commands::fitting::least_table', 'flow_rules::ruling::rules'
+TABLE, RULES = 'commands::fitting::least_table', 'flow_rules::ruling::rule_groups'
 
 
 def calls_in_table(program):
