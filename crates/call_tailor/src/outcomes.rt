@@ -9,13 +9,15 @@ ghost use Rattle.flow_model.specs.declared.rule.Rule.{Rule};
 ghost use Rattle.flow_model.specs.Effects.{AreAllAllowed};
 ghost use Rattle.flow_rules.specs.Ends.{IsGroupIn};
 ghost use Rattle.flow_rules.specs.RuleGroups.{rule_at, rules_of, AreValuesIn};
+ghost use Rattle.numbered_table.specs.PlainTables.{row_at};
 ghost use Rattle.call_tailor.specs.Outcomes.{AreOfRow, AreOfRules, AreFound, first_found};
 
 use crate::found::Findings;
-use abstract_state::{Entry, Point, Table, TableRow};
+use abstract_state::{Entry, Point};
 use flow_model::Rule;
 use flow_rules::{RuleGroup, ValueRules, has_possible_end, is_possible, rule_groups};
 use image_model::is_site;
+use numbered_table::Table;
 use osek_standard::App;
 use osek_values::{BlockNo, Memory, Seq};
 use std::alloc::Global;
@@ -26,8 +28,10 @@ pub fn findings(alloc: Global, app: &App, table: &Table) -> Result<Seq<Option<Fi
     ensures { IfOk result (AreFound app.now table.now.rows) }
 {
     let mut sites = no_findings(alloc, app)?;
-    for row in table.rows.as_slice() {
-        add_row(alloc, app, row, &mut sites)?;
+    let mut rows = table.shown_rows();
+    for place in 0..rows.len() {
+        rows.show(alloc, place)?;
+        add_row(alloc, app, rows.point(place), rows.entry(), &mut sites)?;
     }
     Ok(sites)
 }
@@ -58,20 +62,21 @@ fn no_finding(app: &App, block: BlockNo) -> Option<Findings>
 fn add_row(
     alloc: Global,
     app: &App,
-    row: &TableRow,
+    point: Point,
+    entry: &Entry,
     sites: &mut Seq<Option<Findings>>,
 ) -> Result<(), Memory>
-    requires row { IsRow app.now row.now }
-    requires allowed { AreAllAllowed app.now row.now.point row.now.entry }
+    requires row { IsRow app.now (row_at point entry.now) }
+    requires allowed { AreAllAllowed app.now point entry.now }
     requires count { length sites.old ≡ length app.now.blocks }
-    ensures { OnOk result ((rows : List TableRow) → AreFound app.now rows sites.old → AreFound app.now (rows ++ row.now ∷ []) sites.new) }
+    ensures { OnOk result ((rows : List TableRow) → AreFound app.now rows sites.old → AreFound app.now (rows ++ row_at point entry.now ∷ []) sites.new) }
 {
-    match block_of(row.point) {
+    match block_of(point) {
         None => Ok(()),
         Some(block) => match *sites.at(block.index()) {
             None => Ok(()),
             Some(before) => {
-                let more = findings_of(alloc, app, row)?;
+                let more = findings_of(alloc, app, point, entry)?;
                 sites.put(block.index(), Some(before.join(more)));
                 Ok(())
             }
@@ -91,15 +96,15 @@ fn block_of(point: Point) -> Option<BlockNo>
 }
 
 // what the states of a row show
-fn findings_of(alloc: Global, app: &App, row: &TableRow) -> Result<Findings, Memory>
-    requires row { IsRow app.now row.now }
-    requires allowed { AreAllAllowed app.now row.now.point row.now.entry }
-    ensures { IfOk result (AreOfRow app.now row.now) }
+fn findings_of(alloc: Global, app: &App, point: Point, entry: &Entry) -> Result<Findings, Memory>
+    requires row { IsRow app.now (row_at point entry.now) }
+    requires allowed { AreAllAllowed app.now point entry.now }
+    ensures { IfOk result (AreOfRow app.now (row_at point entry.now)) }
 {
-    let groups = rule_groups(alloc, app, row.point, &row.entry)?;
+    let groups = rule_groups(alloc, app, point, entry)?;
     let mut found = Findings::none();
     for group in groups.as_slice() {
-        found = with_group(found, group, &row.entry);
+        found = with_group(found, group, entry);
     }
     Ok(found)
 }

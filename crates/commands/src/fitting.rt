@@ -5,10 +5,10 @@ ghost use Rattle.abstract_state.specs.{Forms.{HasDictatedForms}, Tables.{sets_of
 ghost use Rattle.commands.specs.Fitting.{IsLeastTable, IsFitted};
 
 use crate::ranges::read_numbers;
-use abstract_state::Table;
 use call_tailor::tailor;
 use image_model::Image;
 use numbered_flow::solve;
+use numbered_table::Table;
 use osek_standard::App;
 use osek_values::{Memory, Steps};
 use std::alloc::Global;

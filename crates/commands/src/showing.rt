@@ -15,15 +15,15 @@ ghost use Rattle.commands.specs.Showing.{IsDictated, ShowAnswers};
 use crate::compiling::compile;
 use crate::fitting::{fitted, least_table};
 use crate::printing::{print_counts, print_edges, print_sites};
-use abstract_state::Table;
 use command_runs::{Stop, line_room};
 use global_cfg::{FlowEdge, edges};
 use image_model::{Image, Version};
+use numbered_flow::values;
+use numbered_table::Table;
 use osek_io::{PutError, Shelf, Sink};
 use osek_standard::App;
 use osek_values::limits::LINE_MAX;
 use osek_values::{Memory, Seq};
-use state_flow::values;
 use std::alloc::Global;
 
 /// What the least table of an application dictates.

@@ -10,6 +10,7 @@ use flow_text::{write_counts_line, write_edge_line, write_info_line, write_site_
 use front_end::{TextError, read_app, read_system};
 use global_cfg::FlowEdge;
 use image_model::{Form, Image, Known, Site, Version, general, is_within, site_at};
+use numbered_table::numbered;
 use osek_standard::App;
 use osek_values::limits::LINE_MAX;
 use osek_values::{BlockNo, Memory, Status, Steps, TaskNo};
@@ -184,7 +185,9 @@ fn is_told_by<L: Ledger>(alloc: Global, app: App, want: &[u8], blank: Blank) -> 
     requires version { FitsVersion1 app.tasks }
 {
     let mut steps = Steps::<L>::of(blank);
-    let table = solve(alloc, &app, &mut steps)?;
+    let plain = solve(alloc, &app, &mut steps)?;
+    let table = numbered(alloc, &plain)?;
+    drop(plain);
     let image = tailor(alloc, app, &table)?;
     let told = is_info_line(&image, want) && are_sites(&image);
     drop(image);

@@ -7,7 +7,8 @@ ghost use Rattle.abstract_state.specs.Written.{IsWritten};
 ghost use Rattle.global_cfg.specs.Edges.{flow_edge, AreAscending};
 
 use crate::targets::targets;
-use abstract_state::{Point, Table};
+use abstract_state::Point;
+use numbered_table::Table;
 use osek_standard::App;
 use osek_values::{Memory, Seq};
 use std::alloc::Global;
@@ -26,9 +27,12 @@ pub fn edges(alloc: Global, app: &App, table: &Table) -> Result<Seq<FlowEdge>, M
     ensures ascending { IfOk result AreAscending }
 {
     let mut edges = Seq::new(alloc);
-    for row in table.rows.as_slice() {
-        let targets = targets(alloc, app, row.point, &row.entry)?;
-        add_edges(&mut edges, row.point, targets.as_slice())?;
+    let mut rows = table.shown_rows();
+    for place in 0..rows.len() {
+        rows.show(alloc, place)?;
+        let from = rows.point(place);
+        let targets = targets(alloc, app, from, rows.entry())?;
+        add_edges(&mut edges, from, targets.as_slice())?;
     }
     Ok(edges)
 }

@@ -3,3 +3,4 @@ pub mod JoiningCells
 pub mod RowsOfRules
 pub mod NumberedCells
 pub mod JoinedRules
+pub mod CellRows

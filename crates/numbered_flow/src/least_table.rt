@@ -15,10 +15,11 @@ ghost use Rattle.numbered_flow.specs.Numbering.{AreNumberedCells, HasProgress};
 
 use crate::evaluation::evaluate;
 use crate::numbered_cells::{put_in, rows};
-use abstract_state::{Domain, Entry, Table, masks_are_few};
+use abstract_state::{Domain, Entry, masks_are_few};
 use numbered_sets::{NumberedEntry, Pool, ShownEntry, numbered};
+use numbered_table::Table;
 use osek_standard::App;
-use osek_values::{Memory, ModeNo, Seq, Steps};
+use osek_values::{Memory, ModeNo, Steps};
 use state_flow::{Cell, next_waiting, place_behind, start_row};
 use std::alloc::Global;
 use std::sync::ledger::Ledger;
@@ -49,9 +50,8 @@ pub fn solve<L: Ledger>(alloc: Global, app: &App, steps: &mut Steps<L>) -> Resul
         )?;
         from = place_behind(cells.as_slice(), point);
     }
-    Ok(Table {
-        rows: Seq::of(rows(alloc, &pool, cells.as_slice())?),
-    })
+    let rows = rows(alloc, cells)?;
+    Ok(Table::of(pool, rows))
 }
 
 /// A pool without values, for the application's components.

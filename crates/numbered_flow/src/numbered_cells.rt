@@ -1,15 +1,16 @@
 //! Cells of numbered entries.
 ghost use Rattle.std.specs.Prelude.{◌≡◌, [], ◌∷◌, map, IfOk, OnOk};
 ghost use Rattle.numbered_sets.specs.Views.{plain_entry, AreNumbersOf};
-ghost use Rattle.state_flow.specs.Rows.{row_at, row_of, IsProperRow};
+ghost use Rattle.state_flow.specs.Rows.{row_at, IsProperRow};
 ghost use Rattle.state_flow.specs.Progress.{AreJoined};
-ghost use Rattle.numbered_flow.specs.PlainCells.{plain_cells, AreCellsOf};
+ghost use Rattle.numbered_flow.specs.PlainCells.{plain_cells, numbered_row, AreCellsOf};
 ghost use Rattle.numbered_flow.specs.Numbering.{AreNumberedCells};
 
-use abstract_state::{Point, TableRow};
-use numbered_sets::{NumberedEntry, Pool, plain};
+use abstract_state::Point;
+use numbered_sets::{NumberedEntry, Pool};
+use numbered_table::NumberedRow;
 use osek_standard::App;
-use osek_values::Memory;
+use osek_values::{Memory, Seq};
 use state_flow::{Cell, join};
 use std::alloc::Global;
 
@@ -32,21 +33,15 @@ pub fn put_in(
     join(alloc, cells, point, entry)
 }
 
-/// The rows of the values that cells have.
-pub fn rows(
-    alloc: Global,
-    pool: &Pool,
-    cells: &[Cell<NumberedEntry>],
-) -> Result<Vec<TableRow>, Memory>
-    requires { AreCellsOf pool.now cells.now }
-    ensures { IfOk result (λ rows. rows.items ≡ map row_of (plain_cells pool.now cells.now)) }
+/// The rows of cells.
+pub fn rows(alloc: Global, cells: Vec<Cell<NumberedEntry>>) -> Result<Seq<NumberedRow>, Memory>
+    ensures { IfOk result (λ rows. rows ≡ map numbered_row cells.items) }
 {
-    let mut rows = Vec::new(alloc);
+    let mut rows = Seq::new(alloc);
     for cell in cells {
-        let entry = plain(alloc, pool, &cell.entry)?;
-        rows.push(TableRow {
+        rows.push(NumberedRow {
             point: cell.point,
-            entry,
+            entry: cell.entry,
         })?;
     }
     Ok(rows)

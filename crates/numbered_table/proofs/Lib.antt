@@ -1,2 +1,4 @@
 pub mod GrownPools
 pub mod CountedNumbers
+pub mod RowsShown
+pub mod AlikeRows

@@ -1,26 +1,27 @@
 use Rattle.std.proofs.Common.{◌≡◌, ◌<◌, ◌++◌, ◌∷◌, [], ◌∙◌, ℕ, length, get_or, set, Some, None, sym, ap, subst, arith}
 use Rattle.osek_values.specs.Numbers.{block_no}
 use Rattle.osek_values.specs.declared.numbers.BlockNo.{BlockNo}
+use Rattle.numbered_table.specs.PlainTables.{row_at}
 use Rattle.call_tailor.specs.Outcomes.{AreFound}
 use Rattle.call_tailor.proofs.RowOutcomes.{stands_once, stands_known, row_passed, row_added}
 use Rattle.call_tailor.proofs.outcomes.add_row.Goals as goal
 
 pub returns-in-None : goal.returns-in-None
 returns-in-None c = λ rows found.
-    row_passed c.args.app.now rows c.args.row.now c.args.sites.now (λ b stands. absurd (c.in-None.ensures.none (block_no b) stands)) found
+    row_passed c.args.app.now rows (row_at c.args.point c.args.entry.now) c.args.sites.now (λ b stands. absurd (c.in-None.ensures.none (block_no b) stands)) found
 
 pub returns-in-None-at : goal.returns-in-None-at
 returns-in-None-at c = λ rows found.
     let sites = c.args.sites.now in
     let none : get_or sites c.in-Some.block.0 None ≡ None = ap (λ (i : ℕ). get_or sites i None) (sym c.index.ensures) ∙ c.at.ensures.item None ∙ c.in-None-at.is in
-    row_passed c.args.app.now rows c.args.row.now sites
-    (λ b stands. ap (λ (k : BlockNo). get_or sites k.0 None) (stands_once c.args.row.now.point (block_no b) c.in-Some.block stands c.in-Some.ensures.some) ∙ none)
+    row_passed c.args.app.now rows (row_at c.args.point c.args.entry.now) sites
+    (λ b stands. ap (λ (k : BlockNo). get_or sites k.0 None) (stands_once c.args.point (block_no b) c.in-Some.block stands c.in-Some.ensures.some) ∙ none)
     found
 
 pub returns-in_ok-more-in-Some-at : goal.returns-in_ok-more-in-Some-at
 returns-in_ok-more-in-Some-at c = λ rows found.
     let app = c.args.app.now in
-    let row = c.args.row.now in
+    let row = (row_at c.args.point c.args.entry.now) in
     let sites = c.args.sites.now in
     let block = c.in-Some.block in
     let was : get_or sites block.0 None ≡ Some c.in-Some-at.before = ap (λ (i : ℕ). get_or sites i None) (sym c.index.ensures) ∙ c.at.ensures.item None ∙ c.in-Some-at.is in

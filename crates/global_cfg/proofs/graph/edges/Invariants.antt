@@ -1,6 +1,6 @@
-use Rattle.std.proofs.Common.{take}
+use Rattle.std.proofs.Common.{◌≡◌, take}
 use Rattle.global_cfg.proofs.EdgeLists.{AreOfRows}
 use Rattle.global_cfg.proofs.graph.edges.Given as goal
 
-abbrev pub invariant-loop-row : goal.invariant-loop-row
-invariant-loop-row l = AreOfRows l.app (take l.row-index l.row-items) l.edges
+abbrev pub invariant-loop-place : goal.invariant-loop-place
+invariant-loop-place l = (l.rows.rows ≡ l.table.rows) × AreOfRows l.app (take l.place l.table.rows) l.edges

@@ -11,13 +11,14 @@ use Rattle.numbered_sets.proofs.ShownLaws.{shown_on}
 use Rattle.numbered_sets.proofs.KnownNumbers.{none_known}
 use Rattle.state_flow.specs.declared.cells.Cell.{Cell}
 use Rattle.state_flow.specs.Cells.{AreInOrder, IsWaitingAt, IsNextWaiting, NoneWaitsFrom}
-use Rattle.state_flow.specs.Rows.{row_of, table_of}
+use Rattle.state_flow.specs.Rows.{table_of}
 use Rattle.state_flow.proofs.CellLists.{next_waits}
 use Rattle.state_flow.proofs.RowLaws.{written}
 use Rattle.state_flow.proofs.Closing.{least_at_end}
 use Rattle.state_flow.proofs.Bounds.{room, values_few, rows_evaluated, evaluations_few}
 use Rattle.numbered_flow.specs.PlainCells.{plain_cells}
 use Rattle.numbered_flow.proofs.NumberedCells.{numbered_order, waits_plain, none_waits_plain, domains_kept}
+use Rattle.numbered_flow.proofs.CellRows.{rows_known, table_alike}
 use Rattle.numbered_flow.proofs.least_table.solve.Goals as goal
 
 pub started-requires : goal.started-requires
@@ -57,43 +58,46 @@ loop-place-preserved g c =
     let steps = c.loop-place.invariant.1 in
     (c.loop-place.invariant.0 + 1, omega (arith, c.tick.ensures, steps), c.in_ok-turn.ensures.progress c.loop-place.invariant.0 c.loop-place.invariant.2, c.in_ok-turn.ensures.shown, c.in_ok-turn.ensures.alike)
 
+pub of-requires : goal.of-requires
+of-requires g c = rows_known c.loop-place.pool c.loop-place.cells.items c.in_ok-rows.rows c.in_ok-rows.ensures c.loop-place.invariant.2.known
+
 pub returns-clause-written : goal.returns-clause-written
 returns-clause-written g c =
     let cells = plain_cells c.loop-place.pool c.loop-place.cells.items in
-    let rows = c.of.ensures ∙ c.in_ok-rows.ensures ∙ ap (λ (xs : List (Cell NumberedEntry)). map row_of (plain_cells c.loop-place.pool xs)) c.as_slice-2.ensures.value in
-    subst (λ (rs : List TableRow). IsWritten c.args.app.now (record { rows = rs })) (sym rows) (written c.args.app.now cells c.loop-place.invariant.2.progress.cells_proper)
+    let table = table_alike c.loop-place.pool c.loop-place.cells.items c.in_ok-rows.rows c.in_ok-rows.ensures c.of.result c.of.ensures in
+    subst (λ (t : Table). IsWritten c.args.app.now t) (sym table) (written c.args.app.now cells c.loop-place.invariant.2.progress.cells_proper)
 
 pub returns-clause-least : goal.returns-clause-least
 returns-clause-least g c =
     let cells = plain_cells c.loop-place.pool c.loop-place.cells.items in
-    let rows = c.of.ensures ∙ c.in_ok-rows.ensures ∙ ap (λ (xs : List (Cell NumberedEntry)). map row_of (plain_cells c.loop-place.pool xs)) c.as_slice-2.ensures.value in
+    let table = table_alike c.loop-place.pool c.loop-place.cells.items c.in_ok-rows.rows c.in_ok-rows.ensures c.of.result c.of.ensures in
     let none : NoneWaitsFrom cells 0 =
     none_waits_plain c.loop-place.pool c.loop-place.cells.items 0 (subst (λ (xs : List (Cell NumberedEntry)). NoneWaitsFrom xs 0) c.as_slice.ensures.value c.in_default.ensures.none) in
-    subst (λ (rs : List TableRow). Least c.args.app.now (sets_of (record { rows = rs }))) (sym rows) (least_at_end c.args.app.now cells c.loop-place.invariant.0 c.loop-place.invariant.2.progress none)
+    subst (λ (t : Table). Least c.args.app.now (sets_of t)) (sym table) (least_at_end c.args.app.now cells c.loop-place.invariant.0 c.loop-place.invariant.2.progress none)
 
 pub returns-clause-values : goal.returns-clause-values
 returns-clause-values g c =
     let app = c.args.app.now in
     let cells = plain_cells c.loop-place.pool c.loop-place.cells.items in
-    let rows = c.of.ensures ∙ c.in_ok-rows.ensures ∙ ap (λ (xs : List (Cell NumberedEntry)). map row_of (plain_cells c.loop-place.pool xs)) c.as_slice-2.ensures.value in
-    subst (λ (rs : List TableRow). value_count (record { rows = rs }) ≤ points app * height app) (sym rows)
+    let table = table_alike c.loop-place.pool c.loop-place.cells.items c.in_ok-rows.rows c.in_ok-rows.ensures c.of.result c.of.ensures in
+    subst (λ (t : Table). value_count t ≤ points app * height app) (sym table)
     (values_few app (table_of cells) (written app cells c.loop-place.invariant.2.progress.cells_proper) c.masks_are_few.ensures)
 
 pub returns-clause-each_once : goal.returns-clause-each_once
 returns-clause-each_once g c =
     let cells = plain_cells c.loop-place.pool c.loop-place.cells.items in
-    let rows = c.of.ensures ∙ c.in_ok-rows.ensures ∙ ap (λ (xs : List (Cell NumberedEntry)). map row_of (plain_cells c.loop-place.pool xs)) c.as_slice-2.ensures.value in
+    let table = table_alike c.loop-place.pool c.loop-place.cells.items c.in_ok-rows.rows c.in_ok-rows.ensures c.of.result c.of.ensures in
     let none : NoneWaitsFrom cells 0 =
     none_waits_plain c.loop-place.pool c.loop-place.cells.items 0 (subst (λ (xs : List (Cell NumberedEntry)). NoneWaitsFrom xs 0) c.as_slice.ensures.value c.in_default.ensures.none) in
     let steps = c.loop-place.invariant.1 in
-    omega (arith, steps, ap length rows, rows_evaluated c.args.app.now cells c.loop-place.invariant.0 c.loop-place.invariant.2.progress none)
+    omega (arith, steps, ap (λ (t : Table). length t.rows) table, rows_evaluated c.args.app.now cells c.loop-place.invariant.0 c.loop-place.invariant.2.progress none)
 
 pub returns-clause-few : goal.returns-clause-few
 returns-clause-few g c =
     let cells = plain_cells c.loop-place.pool c.loop-place.cells.items in
-    let rows = c.of.ensures ∙ c.in_ok-rows.ensures ∙ ap (λ (xs : List (Cell NumberedEntry)). map row_of (plain_cells c.loop-place.pool xs)) c.as_slice-2.ensures.value in
+    let table = table_alike c.loop-place.pool c.loop-place.cells.items c.in_ok-rows.rows c.in_ok-rows.ensures c.of.result c.of.ensures in
     let none : NoneWaitsFrom cells 0 =
     none_waits_plain c.loop-place.pool c.loop-place.cells.items 0 (subst (λ (xs : List (Cell NumberedEntry)). NoneWaitsFrom xs 0) c.as_slice.ensures.value c.in_default.ensures.none) in
     let steps = c.loop-place.invariant.1 in
-    let same = ap (λ (rs : List TableRow). value_count (record { rows = rs })) rows in
+    let same = ap value_count table in
     omega (arith, steps, same, evaluations_few c.args.app.now cells c.loop-place.invariant.0 c.loop-place.invariant.2.progress none)
