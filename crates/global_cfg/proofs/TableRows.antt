@@ -3,6 +3,7 @@ use Rattle.std.proofs.Common.{◌≡◌, ℕ, ◌<◌, List, length, map, take, 
 use Rattle.std.specs.Prelude.{Contains}
 use Rattle.std.proofs.lemmas.Bool.{cases_order}
 use Rattle.std.proofs.lemmas.List.{get_or-map, get_or-take, get_or_default, length-map, length-take}
+use Rattle.std.proofs.lemmas.List.Elements.{All-get_or}
 use Rattle.std.proofs.lemmas.Map.Keys.{below_from_sorted}
 use Rattle.std.proofs.lemmas.Map.Views.{Contains-from_any, list_any-from_Contains}
 use Rattle.osek_standard.specs.declared.app.App.{App}
@@ -29,6 +30,9 @@ module _ (app : App) (table : Table) (written : IsWritten app table) where
   rows_ascend i j d lt below =
       let less = below_from_sorted (map row_number table.rows) i j 0 written.ascending lt (omega (arith, below, length-map table.rows row_number)) in
       omega (arith, less, get_or-map row_number table.rows i d 0 (omega (arith, lt, below)), get_or-map row_number table.rows j d 0 below)
+
+  pub row_proper : (row : TableRow) → Contains table.rows row → IsRow app row
+  row_proper row h = subst (IsRow app) h.2 (All-get_or (IsRow app) table.rows h.0 row h.1 written.rows)
 
   -- in a loop over them, those before a row have lower points
   pub earlier_row : (items : List TableRow) (i : ℕ) (row : TableRow) → items ≡ table.rows → i < length items → row ≡ get_or items i row → (x : TableRow) → Contains (take i items) x → row_number x < row_number row
