@@ -3,6 +3,8 @@
 #![tactic(auto)]
 
 #[cfg(test)]
+mod both_tables;
+#[cfg(test)]
 mod least_tables;
 #[cfg(test)]
 mod printed_lines;
