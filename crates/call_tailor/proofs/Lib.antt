@@ -1,4 +1,4 @@
 pub mod Joining
-pub mod RuleOutcomes
+pub mod ExitOutcomes
 pub mod RowOutcomes
 pub mod DictatedForms

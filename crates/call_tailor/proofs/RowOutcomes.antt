@@ -5,9 +5,8 @@ use Rattle.std.specs.List.{range_with_len}
 use Rattle.std.specs.declared.option.Option.{Option}
 use Rattle.std.proofs.lemmas.Bool.{cases_eq}
 use Rattle.std.proofs.lemmas.List.{take_more, length-set, get_or-set_same, get_or-set_other}
-use Rattle.std.proofs.lemmas.List.Elements.{All-get_or, Contains-push, Contains-push_cases, Contains-append_left}
+use Rattle.std.proofs.lemmas.List.Elements.{Contains-push, Contains-push_cases, Contains-append_left}
 use Rattle.std.proofs.lemmas.List.FromFn.{get_or-map-range_with_len, length-map-range_with_len}
-use Rattle.std.proofs.lemmas.Map.Views.{Contains-from_any}
 use Rattle.osek_values.specs.Numbers.{block_no}
 use Rattle.osek_values.specs.declared.numbers.BlockNo.{BlockNo}
 use Rattle.osek_standard.specs.declared.app.App.{App}
@@ -18,12 +17,7 @@ use Rattle.osek_standard.specs.declared.state.State.{State}
 use Rattle.osek_standard.specs.Dispatch.{outcome}
 use Rattle.osek_standard.specs.Points.{StandsAt, IsPoint}
 use Rattle.osek_standard.proofs.WellLaws.{own_known, routine_known}
-use Rattle.abstract_state.specs.declared.table.{TableRow.{TableRow}, Table.{Table}}
-use Rattle.abstract_state.specs.Tables.{set_at}
-use Rattle.abstract_state.specs.Written.{IsRow, IsWritten}
-use Rattle.abstract_state.proofs.OrderLaws.{part_right}
-use Rattle.abstract_state.proofs.EqualityLaws.{written_value}
-use Rattle.flow_model.specs.Effects.{AreAllAllowed}
+use Rattle.abstract_state.specs.declared.table.TableRow.{TableRow}
 use Rattle.flow_model.specs.Scheduling.{outcome_of_decision}
 use Rattle.call_tailor.specs.declared.found.Findings.{Findings}
 use Rattle.call_tailor.specs.declared.found.Found.TheVariants as found
@@ -127,21 +121,6 @@ module _ (app : App) where
       ];
     }
 
-module _ (app : App) (table : Table) (written : IsWritten app table) where
-  pub row_proper : (row : TableRow) → Contains table.rows row → IsRow app row
-  row_proper row h = subst (IsRow app) h.2 (All-get_or (IsRow app) table.rows h.0 row h.1 written.rows)
-
-  pub row_allowed : (row : TableRow) → Contains table.rows row → AreAllAllowed app row.point row.entry
-  row_allowed row h c v lt m = written.proper.allowed row.point c v ((written_value table row.point c v).1 (record {
-    row = row;
-    among = h;
-    point = refl;
-    member = Contains-from_any part_right v (set_at row.entry c).members m;
-  }))
-
 -- the rows so far, in a loop over their list
-pub row_listed : (items rows : List TableRow) (i : ℕ) (row : TableRow) → items ≡ rows → i < length items → row ≡ get_or items i row → Contains rows row
-row_listed items rows i row same lt e = subst (λ (xs : List TableRow). Contains xs row) same (i, lt, sym e)
-
 pub rows_more : (items : List TableRow) (i : ℕ) (row : TableRow) → i < length items → row ≡ get_or items i row → take i items ++ row ∷ [] ≡ take (i + 1) items
 rows_more items i row lt e = ap (λ (x : TableRow). take i items ++ x ∷ []) e ∙ sym (take_more items i row lt)

@@ -10,11 +10,13 @@ use Rattle.osek_standard.specs.Effects.{effect}
 use Rattle.osek_standard.specs.Dispatch.{outcome}
 use Rattle.osek_standard.specs.Points.{StandsAt}
 use Rattle.osek_standard.specs.Well.{IsActive}
-use Rattle.abstract_state.specs.declared.table.{Entry.{Entry}, TableRow.{TableRow}}
-use Rattle.flow_model.specs.declared.{case.Decision.{Decision}, rule.Rule.{Rule}}
+use Rattle.abstract_state.specs.declared.table.TableRow.{TableRow}
+use Rattle.flow_model.specs.declared.case.Decision.{Decision}
 use Rattle.flow_model.specs.Effects.{IsAt}
-use Rattle.flow_model.specs.Rules.{Taken}
 use Rattle.flow_model.specs.Scheduling.{outcome_of_decision}
+use Rattle.flow_exits.specs.Exits.{Exit}
+use Rattle.numbered_exits.specs.declared.group.Ends.{Ends}
+use Rattle.numbered_exits.specs.declared.group.Ends.TheVariants as ends
 use Rattle.call_tailor.specs.declared.found.{Findings.{Findings}}
 use Rattle.call_tailor.specs.declared.found.Found.TheVariants as found
 use Rattle.call_tailor.specs.Found.{AreFindings}
@@ -39,27 +41,31 @@ module _ {X : Type 0} (app : App) (read : State → Bool → X) where
     pub stands : StandsAt row.point (block_no b)
     pub arises : Arises row x
 
-module _ {X : Type 0} (told : Rule → Decision → X) where
-  -- the rule is an instruction's of which this is told, and takes a value of each set of the entry
-  pub record IsOfRule (rule : Rule) (entry : Entry) (x : X) : Type 0 where
+module _ {X : Type 0} (told : Exit → Decision → X) where
+  -- the exit is an instruction's, of which this is told
+  pub record IsOfExit (x : Exit) (v : X) : Type 0 where
     pub decision : Decision
-    pub decides : rule.decision ≡ Some decision
-    pub takes : (c : ℕ) → c < length entry.sets → Taken rule entry c
-    pub is : x ≡ told rule decision
+    pub decides : x.decision ≡ Some decision
+    pub is : v ≡ told x decision
 
-  -- so it is of one of these rules
-  pub record IsOfRules (rules : List Rule) (entry : Entry) (x : X) : Type 0 where
-    pub rule : Rule
-    pub among : Contains rules rule
-    pub is : IsOfRule rule entry x
+  -- so it is of one of these exits
+  pub record IsOfExits (exits : List Exit) (v : X) : Type 0 where
+    pub exit : Exit
+    pub among : Contains exits exit
+    pub is : IsOfExit exit v
 
 -- what is found of the instructions of the states of a row
 abbrev pub AreOfRow : App → TableRow → Findings → Type 0
 AreOfRow app row x = AreFindings (Arises app (outcome app) row) (Arises app (status_noted app) row) x
 
--- what is found of the rules of an entry
-abbrev pub AreOfRules : List Rule → Entry → Findings → Type 0
-AreOfRules rules entry x = AreFindings (IsOfRules (λ (rule : Rule) (d : Decision). outcome_of_decision d) rules entry) (IsOfRules (λ (rule : Rule) (d : Decision). rule.status) rules entry) x
+-- how many exits have these ends
+abbrev pub end_count : Ends → ℕ
+end_count (ends.At points) = length points
+end_count (ends.With c xs) = length xs
+
+-- what is found of exits
+abbrev pub AreOfExits : List Exit → Findings → Type 0
+AreOfExits exits x = AreFindings (IsOfExits (λ (x : Exit) (d : Decision). outcome_of_decision d) exits) (IsOfExits (λ (x : Exit) (d : Decision). x.status) exits) x
 
 -- what is found at block b over these rows, where it is a site
 abbrev pub IsFoundAt : App → List TableRow → ℕ → Option Findings → Type 0

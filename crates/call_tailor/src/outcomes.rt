@@ -1,23 +1,28 @@
 //! The outcomes and the statuses at the sites, over the rows of a table.
-ghost use Rattle.std.specs.Prelude.{◌≡◌, ◌++◌, ◌∷◌, [], ◌<◌, List, length, map, IfOk, OnOk, IfSome, IfNone};
+ghost use Rattle.std.specs.Prelude.{◌≡◌, ◌++◌, ◌∷◌, [], ◌<◌, List, length, IfOk, OnOk, IfSome, IfNone};
+ghost use Rattle.std.specs.Bool.{OnTrue, OnFalse};
 ghost use Rattle.osek_standard.specs.Apps.{is_site};
 ghost use Rattle.osek_standard.specs.Points.{StandsAt};
 ghost use Rattle.osek_values.specs.declared.numbers.BlockNo.{BlockNo};
 ghost use Rattle.abstract_state.specs.declared.table.TableRow.{TableRow};
 ghost use Rattle.abstract_state.specs.Written.{IsRow, IsWritten};
-ghost use Rattle.flow_model.specs.declared.rule.Rule.{Rule};
 ghost use Rattle.flow_model.specs.Effects.{AreAllAllowed};
-ghost use Rattle.flow_rules.specs.Ends.{IsGroupIn};
-ghost use Rattle.flow_rules.specs.RuleGroups.{rule_at, rules_of, AreValuesIn};
-ghost use Rattle.numbered_table.specs.PlainTables.{row_at};
-ghost use Rattle.call_tailor.specs.Outcomes.{AreOfRow, AreOfRules, AreFound, first_found};
+ghost use Rattle.flow_exits.specs.Exits.{Exit, IsFilled};
+ghost use Rattle.numbered_sets.specs.Pools.{Values, IsLonger};
+ghost use Rattle.numbered_sets.specs.Views.{plain_entry, AreNumbersOf};
+ghost use Rattle.numbered_levels.specs.Levels.{AreLevels};
+ghost use Rattle.numbered_exits.specs.Groups.{exits_of};
+ghost use Rattle.numbered_table.specs.PlainTables.{plain_row};
+ghost use Rattle.call_tailor.specs.Outcomes.{end_count, AreOfRow, AreOfExits, AreFound, first_found};
 
 use crate::found::Findings;
-use abstract_state::{Entry, Point};
-use flow_model::Rule;
-use flow_rules::{RuleGroup, ValueRules, has_possible_end, is_possible, rule_groups};
+use abstract_state::Point;
+use flow_exits::laws::steps_end_at_exits;
 use image_model::is_site;
-use numbered_table::Table;
+use numbered_exits::{Ends, ExitGroup, exit_groups};
+use numbered_levels::Levels;
+use numbered_sets::Pool;
+use numbered_table::{NumberedRow, Table};
 use osek_standard::App;
 use osek_values::{BlockNo, Memory, Seq};
 use std::alloc::Global;
@@ -28,10 +33,15 @@ pub fn findings(alloc: Global, app: &App, table: &Table) -> Result<Seq<Option<Fi
     ensures { IfOk result (AreFound app.now table.now.rows) }
 {
     let mut sites = no_findings(alloc, app)?;
-    let mut rows = table.shown_rows();
-    for place in 0..rows.len() {
-        rows.show(alloc, place)?;
-        add_row(alloc, app, rows.point(place), rows.entry(), &mut sites)?;
+    let numbered = table.numbered_rows(alloc)?;
+    let rows = numbered.rows;
+    let mut pool = numbered.pool;
+    if rows.len() == 0 {
+        return Ok(sites);
+    }
+    let mut levels = Levels::new(alloc, app, &pool)?;
+    for row in rows.as_slice() {
+        add_row(alloc, app, row, &mut pool, &mut levels, &mut sites)?;
     }
     Ok(sites)
 }
@@ -62,21 +72,27 @@ fn no_finding(app: &App, block: BlockNo) -> Option<Findings>
 fn add_row(
     alloc: Global,
     app: &App,
-    point: Point,
-    entry: &Entry,
+    row: &NumberedRow,
+    pool: &mut Pool,
+    levels: &mut Levels,
     sites: &mut Seq<Option<Findings>>,
 ) -> Result<(), Memory>
-    requires row { IsRow app.now (row_at point entry.now) }
-    requires allowed { AreAllAllowed app.now point entry.now }
+    requires numbers { AreNumbersOf pool.old row.now.entry }
+    requires row { IsRow app.now (plain_row pool.old row.now) }
+    requires allowed { AreAllAllowed app.now row.now.point (plain_entry pool.old row.now.entry) }
+    requires filled { IsFilled app.now (plain_entry pool.old row.now.entry) }
+    requires levels { AreLevels app.now pool.old levels.old }
     requires count { length sites.old ≡ length app.now.blocks }
-    ensures { OnOk result ((rows : List TableRow) → AreFound app.now rows sites.old → AreFound app.now (rows ++ row_at point entry.now ∷ []) sites.new) }
+    ensures pool { IsLonger pool.old pool.new }
+    ensures levels { OnOk result (AreLevels app.now pool.new levels.new) }
+    ensures found { OnOk result ((rows : List TableRow) → AreFound app.now rows sites.old → AreFound app.now (rows ++ plain_row pool.old row.now ∷ []) sites.new) }
 {
-    match block_of(point) {
+    match block_of(row.point) {
         None => Ok(()),
         Some(block) => match *sites.at(block.index()) {
             None => Ok(()),
             Some(before) => {
-                let more = findings_of(alloc, app, point, entry)?;
+                let more = findings_of(alloc, app, row, pool, levels)?;
                 sites.put(block.index(), Some(before.join(more)));
                 Ok(())
             }
@@ -96,58 +112,52 @@ fn block_of(point: Point) -> Option<BlockNo>
 }
 
 // what the states of a row show
-fn findings_of(alloc: Global, app: &App, point: Point, entry: &Entry) -> Result<Findings, Memory>
-    requires row { IsRow app.now (row_at point entry.now) }
-    requires allowed { AreAllAllowed app.now point entry.now }
-    ensures { IfOk result (AreOfRow app.now (row_at point entry.now)) }
+fn findings_of(
+    alloc: Global,
+    app: &App,
+    row: &NumberedRow,
+    pool: &mut Pool,
+    levels: &mut Levels,
+) -> Result<Findings, Memory>
+    requires numbers { AreNumbersOf pool.old row.now.entry }
+    requires row { IsRow app.now (plain_row pool.old row.now) }
+    requires allowed { AreAllAllowed app.now row.now.point (plain_entry pool.old row.now.entry) }
+    requires filled { IsFilled app.now (plain_entry pool.old row.now.entry) }
+    requires levels { AreLevels app.now pool.old levels.old }
+    ensures pool { IsLonger pool.old pool.new }
+    ensures levels { OnOk result (AreLevels app.now pool.new levels.new) }
+    ensures found { IfOk result (AreOfRow app.now (plain_row pool.old row.now)) }
 {
-    let groups = rule_groups(alloc, app, point, entry)?;
+    steps_end_at_exits();
+    let groups = exit_groups(alloc, app, row.point, &row.entry, pool, levels)?;
     let mut found = Findings::none();
     for group in groups.as_slice() {
-        found = with_group(found, group, entry);
+        found = with_group(found, group);
     }
     Ok(found)
 }
 
-fn with_group(found: Findings, group: &RuleGroup, entry: &Entry) -> Findings
-    requires { IsGroupIn entry.now group.now }
-    ensures { (done : List Rule) → AreOfRules done entry.now found → AreOfRules (done ++ rules_of group.now) entry.now result }
+// What was found, and what the exits of a group tell, which all tell the same. The begin of a routine tells nothing.
+fn with_group(found: Findings, group: &ExitGroup) -> Findings
+    ensures { (pool : List Values) (done : List Exit) → AreOfExits done found → AreOfExits (done ++ exits_of pool group.now) result }
 {
-    match group {
-        RuleGroup::One(rule) => with_rule(found, rule, entry),
-        RuleGroup::Each(values) => with_values(found, values, entry),
-    }
-}
-
-// What was found, and what a rule that has a result tells, which is asked only where that would be new. The begin of a
-// routine tells nothing.
-fn with_rule(found: Findings, rule: &Rule, entry: &Entry) -> Findings
-    ensures { (done : List Rule) → AreOfRules done entry.now found → AreOfRules (done ++ rule.now ∷ []) entry.now result }
-{
-    match rule.decision {
+    match group.decision {
         None => found,
         Some(decision) => {
-            if found.tells(decision, rule.status) || !is_possible(rule, entry) {
+            if found.tells(decision, group.status) || !has_end(&group.ends) {
                 return found;
             }
-            found.join(Findings::one(decision, rule.status))
+            found.join(Findings::one(decision, group.status))
         }
     }
 }
 
-// What was found, and what the rules of some values tell, of which some one has a result: all of them tell the same.
-fn with_values(found: Findings, values: &ValueRules, entry: &Entry) -> Findings
-    requires { AreValuesIn entry.now values.now }
-    ensures { (done : List Rule) → AreOfRules done entry.now found → AreOfRules (done ++ map (rule_at values.now) values.now.ends) entry.now result }
+fn has_end(ends: &Ends) -> bool
+    ensures some { OnTrue result (0 < end_count ends.now) }
+    ensures none { OnFalse result (end_count ends.now ≡ 0) }
 {
-    match values.rule.decision {
-        None => found,
-        Some(decision) => {
-            let status = values.rule.status;
-            if found.tells(decision, status) || !has_possible_end(values, entry) {
-                return found;
-            }
-            found.join(Findings::one(decision, status))
-        }
+    match ends {
+        Ends::At(points) => points.len() > 0,
+        Ends::With { ends, .. } => ends.len() > 0,
     }
 }

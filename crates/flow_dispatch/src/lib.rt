@@ -14,6 +14,8 @@ mod priority;
 mod reads;
 mod winners;
 
+pub use claim::Claim;
 pub use group::{End, OutcomeGroup, ValueCases};
 pub use outcomes::outcome_groups;
+pub use priority::{Candidate, as_candidate};
 pub use reads::{Reading, readings};

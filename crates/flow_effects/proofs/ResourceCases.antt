@@ -32,6 +32,7 @@ use Rattle.osek_standard.proofs.StackLaws.{held_stack, not_taken, push_stack, st
 use Rattle.abstract_state.specs.declared.value.{LiveVal.{LiveVal}, Val.TheVariants.{Live}, PartValue.{PartValue}, PartValue.TheVariants.{OfTask}}
 use Rattle.abstract_state.specs.declared.table.Entry.{Entry}
 use Rattle.abstract_state.specs.Components.{component_count, abstract_of, value_in, live_val}
+use Rattle.abstract_state.specs.Tables.{set_at}
 use Rattle.flow_model.specs.declared.case.{Asked.{Asked}, EffectCase.{EffectCase}}
 use Rattle.flow_model.specs.declared.case.Asked.TheVariants as asked
 use Rattle.flow_model.specs.declared.test.Condition.{Condition}
@@ -52,6 +53,8 @@ use Rattle.flow_model.proofs.Calls.{IsCall, asked_none, asked_maybe, call_goes_o
 use Rattle.flow_effects.specs.Lists.{of_task, AreCasesOf, cases_of_values, if_live}
 use Rattle.flow_effects.specs.Moves.{refuses}
 use Rattle.flow_effects.specs.Resources.{with_stack_at, only, nobody_holds, taken_cases, may_take, takes, gives_back, is_barred, get_cases, release_cases}
+use Rattle.flow_effects.specs.Reading.{AreReadAt}
+use Rattle.flow_effects.proofs.ReadingLaws.{own_read}
 use Rattle.flow_effects.proofs.Listed.{IsEffect, AreListed, IsTaken, are_cases, both_listed, one_listed, none_listed, taken_first, taken_then}
 use Rattle.flow_effects.proofs.TaskValues.{counted, held_value, task_passes, passes_task, test_value, value_is, is_value, stands_block, stands_value}
 use Rattle.flow_effects.proofs.ValueCases.{listed_if, values_listed, value_taken}
@@ -291,7 +294,7 @@ module _ (app : App) (t : TaskNo) (b : BlockNo) (entry : Entry) (owns : OwnsBloc
             | inr none ↦ taken_then app r b entry s (taken_cases t next res (length app.tasks)) (cases_of_values (takes t next res (length app.tasks)) entry t) (free_taken s h within none)
           ])
 
-    pub get_task_cases : AreCasesOf app (runner_point r b) entry (get_cases app r next res entry)
+    pub get_task_cases : AreCasesOf app (runner_point r b) entry (get_cases app r next res (set_at entry t.0).members)
     get_task_cases = elim (cases_Bool barred) [
       | inl e ↦ (rw e (get_barred e))
       | inr e ↦ (rw e (get_free e))
@@ -356,7 +359,7 @@ module _ (app : App) (t : TaskNo) (b : BlockNo) (entry : Entry) (owns : OwnsBloc
           value_taken app r b entry (gives_back app t next res) s t owns.0 within x value
           (either_taken s x (passes_task app s t owns.0 (test.Is (OfTask (Live x))) (is_value app s t owns.0 (Live x) value)) (is_on_top res.0 x.held)))
 
-    pub release_task_cases : AreCasesOf app (runner_point r b) entry (release_cases app r next res entry)
+    pub release_task_cases : AreCasesOf app (runner_point r b) entry (release_cases app r next res (set_at entry t.0).members)
     release_task_cases = elim (cases_Bool barred) [
       | inl e ↦ (rw e (give_barred e))
       | inr e ↦ (rw e (give_free e))
@@ -370,12 +373,18 @@ module _ (app : App) (b : BlockNo) (entry : Entry) (res : ResNo) where
   at_interrupt_too : (s : State) (c : Caller) (k : SourceNo) → c ≡ Routine k → release_resource_by app s c res ≡ unnoted s ask.No
   at_interrupt_too s c k e = ap (λ (d : Caller). release_resource_by app s d res) e
 
-  pub all_gets : (r : Runner) → OwnsBlock app r b → (the_block app b.0).kind ≡ kind.Call (call.Resource call.GetResource res) → AreCasesOf app (runner_point r b) entry (get_cases app r (the_block app b.0).next res entry)
-  all_gets (runner.Task t) owns is = get_task_cases app t b entry owns res is
-  all_gets (runner.Routine over) owns is = goes_on_cases app (runner.Routine over) b entry owns (kind.Call (call.Resource call.GetResource res)) None (λ u ch p x. refl) is
+  pub all_gets : (r : Runner) (values : List PartValue) → AreReadAt app (runner_point r b) entry values → OwnsBlock app r b → (the_block app b.0).kind ≡ kind.Call (call.Resource call.GetResource res) →
+      AreCasesOf app (runner_point r b) entry (get_cases app r (the_block app b.0).next res values)
+  all_gets (runner.Task t) values read owns is =
+      subst (λ (vs : List PartValue). AreCasesOf app (point.Task b) entry (get_cases app (runner.Task t) (the_block app b.0).next res vs))
+      (read t (own_read app t b (kind.Call (call.Resource call.GetResource res)) is refl owns.0 owns.1)) (get_task_cases app t b entry owns res is)
+  all_gets (runner.Routine over) values read owns is = goes_on_cases app (runner.Routine over) b entry owns (kind.Call (call.Resource call.GetResource res)) None (λ u ch p x. refl) is
       (λ s h. at_interrupt (moved_to s (the_block app b.0).next) (caller s.processor) h.runs.source (routine_calls app s over b h))
 
-  pub all_releases : (r : Runner) → OwnsBlock app r b → (the_block app b.0).kind ≡ kind.Call (call.Resource call.ReleaseResource res) → AreCasesOf app (runner_point r b) entry (release_cases app r (the_block app b.0).next res entry)
-  all_releases (runner.Task t) owns is = release_task_cases app t b entry owns res is
-  all_releases (runner.Routine over) owns is = goes_on_cases app (runner.Routine over) b entry owns (kind.Call (call.Resource call.ReleaseResource res)) None (λ u ch p x. refl) is
+  pub all_releases : (r : Runner) (values : List PartValue) → AreReadAt app (runner_point r b) entry values → OwnsBlock app r b → (the_block app b.0).kind ≡ kind.Call (call.Resource call.ReleaseResource res) →
+      AreCasesOf app (runner_point r b) entry (release_cases app r (the_block app b.0).next res values)
+  all_releases (runner.Task t) values read owns is =
+      subst (λ (vs : List PartValue). AreCasesOf app (point.Task b) entry (release_cases app (runner.Task t) (the_block app b.0).next res vs))
+      (read t (own_read app t b (kind.Call (call.Resource call.ReleaseResource res)) is refl owns.0 owns.1)) (release_task_cases app t b entry owns res is)
+  all_releases (runner.Routine over) values read owns is = goes_on_cases app (runner.Routine over) b entry owns (kind.Call (call.Resource call.ReleaseResource res)) None (λ u ch p x. refl) is
       (λ s h. at_interrupt_too (moved_to s (the_block app b.0).next) (caller s.processor) h.runs.source (routine_calls app s over b h))

@@ -1,5 +1,5 @@
 -- The cases of the end of a routine are its effects.
-use Rattle.std.proofs.Common.{◌≡◌, ℕ, ◌<◌, Bool, [], ◌∷◌, length, refl, ap, subst, ◌∙◌, inl, Some, None}
+use Rattle.std.proofs.Common.{◌≡◌, ℕ, ◌<◌, Bool, List, [], ◌∷◌, length, refl, ap, subst, ◌∙◌, inl, Some, None}
 use Rattle.osek_values.specs.declared.numbers.{TaskNo.{TaskNo}, BlockNo.{BlockNo}}
 use Rattle.osek_values.specs.declared.status.Ask.TheVariants as ask
 use Rattle.osek_standard.specs.declared.app.App.{App}
@@ -17,7 +17,7 @@ use Rattle.osek_standard.specs.States.{task_state, with_processor, with_source, 
 use Rattle.osek_standard.specs.Services.{unnoted}
 use Rattle.osek_standard.specs.Effects.{effect, noted, asked_over, returned_by}
 use Rattle.osek_standard.specs.Well.{HasProcessor, IsProcessor, IsRoutine}
-use Rattle.abstract_state.specs.declared.value.{Component.{Component}, LiveVal.{LiveVal}, Val.TheVariants.{Live}, PartValue.TheVariants.{OfTask}}
+use Rattle.abstract_state.specs.declared.value.{Component.{Component}, LiveVal.{LiveVal}, Val.TheVariants.{Live}, PartValue.{PartValue}, PartValue.TheVariants.{OfTask}}
 use Rattle.abstract_state.specs.declared.value.Component.TheVariants as component
 use Rattle.abstract_state.specs.declared.table.Entry.{Entry}
 use Rattle.abstract_state.specs.Components.{component_at, part_of, value_in, live_val}
@@ -30,8 +30,10 @@ use Rattle.flow_model.specs.Effects.{Asks}
 use Rattle.flow_model.specs.Cases.{asked_under}
 use Rattle.flow_model.proofs.Instructions.{effect_there}
 use Rattle.flow_model.proofs.Calls.{has_effect}
-use Rattle.flow_effects.specs.Lists.{AreCasesOf, cases_of_values, if_live}
-use Rattle.flow_effects.specs.Returns.{goes_back, return_cases, return_over_none}
+use Rattle.flow_effects.specs.Lists.{AreCasesOf, cases_over, cases_of_values, if_live}
+use Rattle.flow_effects.specs.Returns.{goes_back, return_cases_over, return_cases, return_over_none}
+use Rattle.flow_effects.specs.Reading.{AreReadAt}
+use Rattle.flow_effects.proofs.ReadingLaws.{interrupted_read}
 use Rattle.flow_effects.proofs.Listed.{IsEffect, are_cases, one_listed}
 use Rattle.flow_effects.proofs.TaskValues.{live_value, task_passes, passes_task, value_is, is_value}
 use Rattle.flow_effects.proofs.ValueCases.{values_listed, value_taken}
@@ -108,3 +110,10 @@ module _ (app : App) (b : BlockNo) (entry : Entry) (is : (the_block app b.0).kin
   all_returns (runner.Task t) owns = idle_cases app (runner.Task t) b entry owns (λ s choice h. return_effect (runner.Task t) s choice (processor.Running t) h h.runs.runs)
   all_returns (runner.Routine None) owns = none_returns owns
   all_returns (runner.Routine (Some t)) owns = some_returns t owns
+
+  -- by the values of the task that was interrupted
+  pub all_returns_over : (r : Runner) (values : List PartValue) → AreReadAt app (runner_point r b) entry values → OwnsBlock app r b → AreCasesOf app (runner_point r b) entry (return_cases_over app r b values)
+  all_returns_over (runner.Task t) values read owns = all_returns (runner.Task t) owns
+  all_returns_over (runner.Routine None) values read owns = none_returns owns
+  all_returns_over (runner.Routine (Some t)) values read owns =
+      subst (λ (vs : List PartValue). AreCasesOf app (point.Routine b (Some t)) entry (cases_over (goes_back app t) vs)) (read t (interrupted_read app t b is)) (some_returns t owns)

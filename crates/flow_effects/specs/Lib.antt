@@ -5,3 +5,4 @@ pub mod TaskEnds
 pub mod Resources
 pub mod Waiting
 pub mod Returns
+pub mod Reading

@@ -17,11 +17,15 @@ pub record AreCasesOf (app : App) (p : Point) (entry : Entry) (cases : List Effe
   pub covering : CoverEffects app p entry cases
   pub exact : AreAllAllowed app p entry → AreExactEffects app p entry cases
 
+-- they are so in every entry
+abbrev pub AreCasesOfAny : App → Point → List EffectCase → Type 0
+AreCasesOfAny app p cases = (entry : Entry) → AreCasesOf app p entry cases
+
 -- a test of a task
 abbrev pub of_task : TaskNo → Test → Condition
 of_task t x = condition t.0 x
 
--- the cases of each Live value that a task has in an entry
+-- the cases of each Live value that a task has: among some values, or in an entry
 abbrev pub cases_of_value : (LiveVal → List EffectCase) → PartValue → List EffectCase
 cases_of_value f (OfTask Suspended) = []
 cases_of_value f (OfTask (Live x)) = f x
@@ -29,8 +33,11 @@ cases_of_value f (OfTask (Waiting b)) = []
 cases_of_value f (OfEvent b) = []
 cases_of_value f (OfAlarm b) = []
 
+abbrev pub cases_over : (LiveVal → List EffectCase) → List PartValue → List EffectCase
+cases_over f values = flat_map (cases_of_value f) values
+
 abbrev pub cases_of_values : (LiveVal → List EffectCase) → Entry → TaskNo → List EffectCase
-cases_of_values f entry t = flat_map (cases_of_value f) (set_at entry t.0).members
+cases_of_values f entry t = cases_over f (set_at entry t.0).members
 
 -- the task has this value
 abbrev pub if_live : TaskNo → LiveVal → Condition

@@ -9,8 +9,7 @@ use Rattle.osek_standard.specs.declared.app.App.{App}
 use Rattle.osek_standard.specs.Priority.{base_priority, ceiling}
 use Rattle.osek_standard.specs.TaskStates.{holds}
 use Rattle.osek_standard.specs.Services.{is_on_top}
-use Rattle.abstract_state.specs.declared.value.{LiveVal.{LiveVal}, Val.TheVariants.{Live}, PartValue.TheVariants.{OfTask}}
-use Rattle.abstract_state.specs.declared.table.Entry.{Entry}
+use Rattle.abstract_state.specs.declared.value.{LiveVal.{LiveVal}, Val.TheVariants.{Live}, PartValue.{PartValue}, PartValue.TheVariants.{OfTask}}
 use Rattle.abstract_state.specs.Components.{live_val}
 use Rattle.flow_model.specs.declared.case.EffectCase.{EffectCase}
 use Rattle.flow_model.specs.declared.case.Asked.{Asked}
@@ -22,7 +21,7 @@ use Rattle.flow_model.specs.declared.runner.Runner.{Runner}
 use Rattle.flow_model.specs.declared.runner.Runner.TheVariants as runner
 use Rattle.flow_model.specs.Runners.{change, runner_point}
 use Rattle.flow_model.specs.Cases.{effect_case, goes_on, asked_after}
-use Rattle.flow_effects.specs.Lists.{of_task, if_live, cases_of_values}
+use Rattle.flow_effects.specs.Lists.{of_task, if_live, cases_over}
 use Rattle.flow_effects.specs.Moves.{onward, refuses}
 
 -- the task goes on to a block with this stack
@@ -59,13 +58,14 @@ gives_back app t n r x =
 abbrev pub is_barred : App → TaskNo → ResNo → Bool
 is_barred app t r = nat_lt (ceiling app r.0) (base_priority app t.0)
 
-abbrev pub get_cases : App → Runner → BlockNo → ResNo → Entry → List EffectCase
-get_cases app (runner.Task t) n r entry =
+-- where these are the task's values
+abbrev pub get_cases : App → Runner → BlockNo → ResNo → List PartValue → List EffectCase
+get_cases app (runner.Task t) n r values =
     if is_barred app t r then refuses (runner.Task t) n status.Access
-    else taken_cases t n r (length app.tasks) ++ cases_of_values (takes t n r (length app.tasks)) entry t
-get_cases app (runner.Routine over) n r entry = onward (runner.Routine over) n
+    else taken_cases t n r (length app.tasks) ++ cases_over (takes t n r (length app.tasks)) values
+get_cases app (runner.Routine over) n r values = onward (runner.Routine over) n
 
-abbrev pub release_cases : App → Runner → BlockNo → ResNo → Entry → List EffectCase
-release_cases app (runner.Task t) n r entry =
-    if is_barred app t r then refuses (runner.Task t) n status.Access else cases_of_values (gives_back app t n r) entry t
-release_cases app (runner.Routine over) n r entry = onward (runner.Routine over) n
+abbrev pub release_cases : App → Runner → BlockNo → ResNo → List PartValue → List EffectCase
+release_cases app (runner.Task t) n r values =
+    if is_barred app t r then refuses (runner.Task t) n status.Access else cases_over (gives_back app t n r) values
+release_cases app (runner.Routine over) n r values = onward (runner.Routine over) n

@@ -3,7 +3,7 @@ use Rattle.std.specs.Prelude.{⊤, ◌<◌, List, [], ◌∷◌, length, Some, N
 use Rattle.osek_values.specs.declared.numbers.{TaskNo.{TaskNo}, BlockNo.{BlockNo}}
 use Rattle.osek_standard.specs.declared.app.App.{App}
 use Rattle.osek_standard.specs.declared.point.Point.TheVariants as point
-use Rattle.abstract_state.specs.declared.value.LiveVal.{LiveVal}
+use Rattle.abstract_state.specs.declared.value.{LiveVal.{LiveVal}, PartValue.{PartValue}}
 use Rattle.abstract_state.specs.declared.table.Entry.{Entry}
 use Rattle.flow_model.specs.declared.case.EffectCase.{EffectCase}
 use Rattle.flow_model.specs.declared.case.Asked.TheVariants as asked
@@ -11,7 +11,7 @@ use Rattle.flow_model.specs.declared.runner.Runner.{Runner}
 use Rattle.flow_model.specs.declared.runner.Runner.TheVariants as runner
 use Rattle.flow_model.specs.Cases.{effect_case, asked_after}
 use Rattle.flow_effects.specs.Moves.{stays}
-use Rattle.flow_effects.specs.Lists.{cases_of_values, if_live}
+use Rattle.flow_effects.specs.Lists.{cases_over, cases_of_values, if_live}
 
 -- what a routine interrupted is a task of the application
 abbrev pub IsOverKnown : App → Runner → Type 0
@@ -25,6 +25,12 @@ goes_back app t x = effect_case (if_live t x ∷ []) [] (asked_after app (runner
 -- over none the scheduler is free
 abbrev pub return_over_none : List EffectCase
 return_over_none = effect_case [] [] asked.Free None point.Idle ∷ []
+
+-- where these are the values of the task that was interrupted
+abbrev pub return_cases_over : App → Runner → BlockNo → List PartValue → List EffectCase
+return_cases_over app (runner.Task t) b values = stays (runner.Task t) b ∷ []
+return_cases_over app (runner.Routine None) b values = return_over_none
+return_cases_over app (runner.Routine (Some t)) b values = cases_over (goes_back app t) values
 
 abbrev pub return_cases : App → Runner → BlockNo → Entry → List EffectCase
 return_cases app (runner.Task t) b entry = stays (runner.Task t) b ∷ []

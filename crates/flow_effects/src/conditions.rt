@@ -1,11 +1,10 @@
-//! Conditions, and the values that a task has in an entry.
-ghost use Rattle.std.specs.Prelude.{◌≡◌, ◌<◌, [], ◌∷◌, length, IfOk};
-ghost use Rattle.abstract_state.specs.Tables.{set_at};
+//! Conditions.
+ghost use Rattle.std.specs.Prelude.{◌≡◌, [], ◌∷◌, IfOk};
 ghost use Rattle.abstract_state.specs.declared.value.Val.TheVariants as val;
 ghost use Rattle.abstract_state.specs.declared.value.PartValue.TheVariants as part;
 ghost use Rattle.flow_effects.specs.Lists.{of_task, if_live};
 
-use abstract_state::{ComponentNo, Entry, LiveVal, PartValue, Val};
+use abstract_state::{ComponentNo, LiveVal, PartValue, Val};
 use flow_model::{Condition, EffectCase, Test};
 use osek_values::{Memory, Seq, TaskNo};
 use std::alloc::Global;
@@ -53,12 +52,4 @@ pub fn one(alloc: Global, case: EffectCase) -> Result<Seq<EffectCase>, Memory>
     let mut cases = Seq::new(alloc);
     cases.push(case)?;
     Ok(cases)
-}
-
-/// The values that a task has in an entry.
-pub fn task_values(entry: &Entry, task: TaskNo) -> &[PartValue]
-    requires { task.0 < length entry.now.sets }
-    ensures { result.now ≡ (set_at entry.now task.0).members }
-{
-    entry.sets.at(task.index()).members.as_slice()
 }

@@ -1,43 +1,28 @@
 //! The cases of an instruction, by the kind of its block.
-ghost use Rattle.std.specs.Prelude.{◌≡◌, IsTrue, IfOk};
+ghost use Rattle.std.specs.Prelude.{◌≡◌, false, IfOk};
 ghost use Rattle.osek_standard.specs.declared.block.Kind.TheVariants as kind;
 ghost use Rattle.osek_standard.specs.Apps.{the_block};
 ghost use Rattle.osek_standard.specs.Points.{IsPoint};
+ghost use Rattle.abstract_state.specs.declared.table.Entry.{Entry};
 ghost use Rattle.abstract_state.specs.Domains.{domains, domains_of};
 ghost use Rattle.flow_model.specs.Effects.{AreAllAllowed, CoverEffects, AreExactEffects};
 ghost use Rattle.flow_model.specs.Runners.{runner_point, OwnsBlock};
-ghost use Rattle.flow_services.specs.Services.{is_service};
+ghost use Rattle.flow_services.specs.Services.{is_service, is_service_call};
 ghost use Rattle.flow_effects.specs.CallNames as call;
-ghost use Rattle.flow_effects.specs.Lists.{AreCasesOf};
+ghost use Rattle.flow_effects.specs.Lists.{AreCasesOfAny};
+ghost use Rattle.flow_effects.specs.Reading.{AreReadAt, AreCasesOver};
 
 use crate::moves::{choice_cases, halts, onward, work_cases};
 use crate::resources::{get_cases, release_cases};
 use crate::returns::return_cases;
 use crate::task_ends::{chain_cases, schedule_cases, task_end_cases, terminate_cases};
 use crate::waiting::wait_cases;
-use abstract_state::{Entry, Point, masks_are_few};
+use abstract_state::{PartValue, Point, masks_are_few};
 use flow_model::{EffectCase, Runner, task_of};
-use flow_services::service_cases;
+use flow_services::{is_service, service_cases};
 use osek_standard::{App, Call, Kind, MaskService, PlainService, ResourceService, TaskService};
 use osek_values::{BlockNo, Mask, Memory, ResNo, Seq, TaskNo};
 use std::alloc::Global;
-
-/// The cases of a service after which its caller goes on, whatever its answer.
-fn serving_cases(
-    alloc: Global,
-    app: &App,
-    runner: Runner,
-    block: BlockNo,
-    entry: &Entry,
-) -> Result<Seq<EffectCase>, Memory>
-    requires owns { OwnsBlock app.now runner block }
-    requires domains { domains entry.now ≡ domains_of app.now }
-    requires service { IsTrue (is_service (the_block app.now block.0).kind) }
-    ensures { IfOk result (AreCasesOf app.now (runner_point runner block) entry.now) }
-{
-    let cases = service_cases(alloc, app, runner, block, entry)?;
-    Ok(cases)
-}
 
 /// The cases of a service without operands.
 fn plain_cases(
@@ -46,21 +31,17 @@ fn plain_cases(
     runner: Runner,
     block: BlockNo,
     service: PlainService,
-    entry: &Entry,
 ) -> Result<Seq<EffectCase>, Memory>
     requires owns { OwnsBlock app.now runner block }
     requires kind { (the_block app.now block.0).kind ≡ kind.Call (call.Plain service) }
-    requires domains { domains entry.now ≡ domains_of app.now }
-    ensures { IfOk result (AreCasesOf app.now (runner_point runner block) entry.now) }
+    requires unserved { is_service_call (call.Plain service) ≡ false }
+    ensures { IfOk result (AreCasesOfAny app.now (runner_point runner block)) }
 {
     let next = app.block(block).next;
     match service {
         PlainService::TerminateTask => terminate_cases(alloc, runner, next),
         PlainService::Schedule => schedule_cases(alloc, runner, next),
-        PlainService::GetTaskId => serving_cases(alloc, app, runner, block, entry),
-        PlainService::GetActiveApplicationMode => {
-            serving_cases(alloc, app, runner, block, entry)
-        }
+        PlainService::GetTaskId | PlainService::GetActiveApplicationMode => Ok(Seq::new(alloc)),
     }
 }
 
@@ -72,19 +53,17 @@ fn task_cases(
     block: BlockNo,
     service: TaskService,
     task: TaskNo,
-    entry: &Entry,
 ) -> Result<Seq<EffectCase>, Memory>
     requires owns { OwnsBlock app.now runner block }
     requires kind { (the_block app.now block.0).kind ≡ kind.Call (call.Task service task) }
-    requires domains { domains entry.now ≡ domains_of app.now }
-    ensures { IfOk result (AreCasesOf app.now (runner_point runner block) entry.now) }
+    requires unserved { is_service_call (call.Task service task) ≡ false }
+    ensures { IfOk result (AreCasesOfAny app.now (runner_point runner block)) }
 {
     let next = app.block(block).next;
     match service {
         TaskService::ChainTask => chain_cases(alloc, app, runner, next, task),
-        TaskService::ActivateTask => serving_cases(alloc, app, runner, block, entry),
-        TaskService::GetEvent => serving_cases(alloc, app, runner, block, entry),
-        TaskService::GetTaskState => serving_cases(alloc, app, runner, block, entry),
+        TaskService::ActivateTask | TaskService::GetEvent => Ok(Seq::new(alloc)),
+        TaskService::GetTaskState => Ok(Seq::new(alloc)),
     }
 }
 
@@ -96,18 +75,17 @@ fn resource_cases(
     block: BlockNo,
     service: ResourceService,
     resource: ResNo,
-    entry: &Entry,
+    values: &[PartValue],
 ) -> Result<Seq<EffectCase>, Memory>
     requires owns { OwnsBlock app.now runner block }
     requires kind { (the_block app.now block.0).kind ≡ kind.Call (call.Resource service resource) }
-    requires domains { domains entry.now ≡ domains_of app.now }
-    ensures { IfOk result (AreCasesOf app.now (runner_point runner block) entry.now) }
+    ensures { IfOk result (AreCasesOver app.now (runner_point runner block) values.now) }
 {
     let next = app.block(block).next;
     match service {
-        ResourceService::GetResource => get_cases(alloc, app, runner, next, resource, entry),
+        ResourceService::GetResource => get_cases(alloc, app, runner, next, resource, values),
         ResourceService::ReleaseResource => {
-            release_cases(alloc, app, runner, next, resource, entry)
+            release_cases(alloc, app, runner, next, resource, values)
         }
     }
 }
@@ -120,12 +98,11 @@ fn mask_cases(
     block: BlockNo,
     service: MaskService,
     mask: Mask,
-    entry: &Entry,
 ) -> Result<Seq<EffectCase>, Memory>
     requires owns { OwnsBlock app.now runner block }
     requires kind { (the_block app.now block.0).kind ≡ kind.Call (call.Mask service mask) }
-    requires domains { domains entry.now ≡ domains_of app.now }
-    ensures { IfOk result (AreCasesOf app.now (runner_point runner block) entry.now) }
+    requires unserved { is_service_call (call.Mask service mask) ≡ false }
+    ensures { IfOk result (AreCasesOfAny app.now (runner_point runner block)) }
 {
     let next = app.block(block).next;
     match service {
@@ -133,7 +110,7 @@ fn mask_cases(
             masks_are_few(app);
             wait_cases(alloc, app, runner, block, next, mask)
         }
-        MaskService::ClearEvent => serving_cases(alloc, app, runner, block, entry),
+        MaskService::ClearEvent => Ok(Seq::new(alloc)),
     }
 }
 
@@ -144,73 +121,89 @@ fn call_cases(
     runner: Runner,
     block: BlockNo,
     call: Call,
-    entry: &Entry,
+    values: &[PartValue],
 ) -> Result<Seq<EffectCase>, Memory>
     requires owns { OwnsBlock app.now runner block }
     requires kind { (the_block app.now block.0).kind ≡ kind.Call call }
-    requires domains { domains entry.now ≡ domains_of app.now }
-    ensures { IfOk result (AreCasesOf app.now (runner_point runner block) entry.now) }
+    requires unserved { is_service_call call ≡ false }
+    ensures { IfOk result (AreCasesOver app.now (runner_point runner block) values.now) }
 {
     match call {
-        Call::Plain(service) => plain_cases(alloc, app, runner, block, service, entry),
-        Call::Task(service, task) => task_cases(alloc, app, runner, block, service, task, entry),
+        Call::Plain(service) => plain_cases(alloc, app, runner, block, service),
+        Call::Task(service, task) => task_cases(alloc, app, runner, block, service, task),
         Call::Resource(service, resource) => {
-            resource_cases(alloc, app, runner, block, service, resource, entry)
+            resource_cases(alloc, app, runner, block, service, resource, values)
         }
-        Call::Mask(service, mask) => mask_cases(alloc, app, runner, block, service, mask, entry),
-        Call::SetEvent(_, _) => serving_cases(alloc, app, runner, block, entry),
-        Call::Alarm(_, _) => serving_cases(alloc, app, runner, block, entry),
-        Call::Arm(_, _, _, _) => serving_cases(alloc, app, runner, block, entry),
-        Call::Lock(_) => serving_cases(alloc, app, runner, block, entry),
+        Call::Mask(service, mask) => mask_cases(alloc, app, runner, block, service, mask),
+        Call::SetEvent(_, _) | Call::Alarm(_, _) => Ok(Seq::new(alloc)),
+        Call::Arm(_, _, _, _) | Call::Lock(_) => Ok(Seq::new(alloc)),
         Call::ShutdownOs => halts(alloc, runner, app.block(block).next),
     }
 }
 
-/// The cases of the instruction at a block.
+/// The cases of the instruction at a block, which is no service after which its caller goes on.
 fn instruction_cases(
     alloc: Global,
     app: &App,
     runner: Runner,
     block: BlockNo,
-    entry: &Entry,
+    values: &[PartValue],
 ) -> Result<Seq<EffectCase>, Memory>
     requires owns { OwnsBlock app.now runner block }
-    requires domains { domains entry.now ≡ domains_of app.now }
-    ensures { IfOk result (AreCasesOf app.now (runner_point runner block) entry.now) }
+    requires unserved { is_service (the_block app.now block.0).kind ≡ false }
+    ensures { IfOk result (AreCasesOver app.now (runner_point runner block) values.now) }
 {
     let next = app.block(block).next;
     match app.block(block).kind {
         Kind::Work(count) => work_cases(alloc, runner, block, next, count),
         Kind::Choice(other) => choice_cases(alloc, runner, next, other),
         Kind::Loop => onward(alloc, runner, next),
-        Kind::Call(call) => call_cases(alloc, app, runner, block, call, entry),
+        Kind::Call(call) => call_cases(alloc, app, runner, block, call, values),
         Kind::TaskEnd => task_end_cases(alloc, runner, block),
-        Kind::IsrEnd => return_cases(alloc, app, runner, block, entry),
+        Kind::IsrEnd => return_cases(alloc, app, runner, block, values),
         Kind::CountUp => onward(alloc, runner, next),
-        Kind::Expire(_) => serving_cases(alloc, app, runner, block, entry),
+        Kind::Expire(_) => Ok(Seq::new(alloc)),
     }
 }
 
-/// The cases of the effect of the instruction at a point, for the values that its entry has: which values it takes, and
-/// what it makes of them. Where nobody executes there is no case.
+/// The cases of the instruction at a block.
+fn block_cases(
+    alloc: Global,
+    app: &App,
+    runner: Runner,
+    block: BlockNo,
+    values: &[PartValue],
+) -> Result<Seq<EffectCase>, Memory>
+    requires { OwnsBlock app.now runner block }
+    ensures { IfOk result (AreCasesOver app.now (runner_point runner block) values.now) }
+{
+    if is_service(app.block(block).kind) {
+        let cases = service_cases(alloc, app, runner, block, values)?;
+        return Ok(cases);
+    }
+    instruction_cases(alloc, app, runner, block, values)
+}
+
+/// The cases of the effect of the instruction at a point: which values it takes, and what it makes of them. `values` are those
+/// of the task that is read there (`read_task`); where none is read they are of no account. Where nobody executes there is no
+/// case.
 pub fn effect_cases(
     alloc: Global,
     app: &App,
     point: Point,
-    entry: &Entry,
+    values: &[PartValue],
 ) -> Result<Seq<EffectCase>, Memory>
     requires point { IsPoint app.now point }
-    requires domains { domains entry.now ≡ domains_of app.now }
-    ensures covering { IfOk result (CoverEffects app.now point entry.now) }
-    ensures exact { IfOk result (λ cases. AreAllAllowed app.now point entry.now → AreExactEffects app.now point entry.now cases) }
+    ensures covering { IfOk result (λ cases. (entry : Entry) → domains entry ≡ domains_of app.now → AreReadAt app.now point entry values.now → CoverEffects app.now point entry cases) }
+    ensures exact { IfOk result (λ cases. (entry : Entry) → domains entry ≡ domains_of app.now → AreReadAt app.now point entry values.now → AreAllAllowed app.now point entry → AreExactEffects app.now point entry cases) }
 {
     match point {
         Point::Halted | Point::Idle => Ok(Seq::new(alloc)),
         Point::Task(block) => {
-            instruction_cases(alloc, app, Runner::Task(task_of(app, block)), block, entry)
+            block_cases(alloc, app, Runner::Task(task_of(app, block)), block, values)
         }
         Point::Routine { block, over } => {
-            instruction_cases(alloc, app, Runner::Routine { over }, block, entry)
+            block_cases(alloc, app, Runner::Routine { over }, block, values)
         }
     }
 }

@@ -1,13 +1,12 @@
 //! GetResource and ReleaseResource.
 ghost use Rattle.std.specs.Prelude.{◌≡◌, ◌<◌, ◌≤◌, ◌++◌, length, OnOk, IfOk};
-ghost use Rattle.abstract_state.specs.Domains.{domains, domains_of};
 ghost use Rattle.flow_model.specs.Runners.{IsKnown};
-ghost use Rattle.flow_effects.specs.Lists.{cases_of_values};
+ghost use Rattle.flow_effects.specs.Lists.{cases_over};
 ghost use Rattle.flow_effects.specs.Resources.{with_stack_at, only, nobody_holds, taken_cases, may_take, takes, gives_back, is_barred, get_cases, release_cases};
 
-use crate::conditions::{if_live, if_task, of_task, task_values, value_of};
+use crate::conditions::{if_live, if_task, of_task, value_of};
 use crate::moves::{onward, refuses};
-use abstract_state::{ComponentNo, Entry, LiveVal, PartValue, Val};
+use abstract_state::{ComponentNo, LiveVal, PartValue, Val};
 use flow_model::{Asked, Change, Condition, EffectCase, Runner, Test, Update};
 use osek_standard::App;
 use osek_values::limits::{MAX_RESOURCES, MAX_TASKS};
@@ -125,23 +124,22 @@ fn is_barred(app: &App, task: TaskNo, resource: ResNo) -> bool
     app.resource(resource).ceiling < 2 * app.task(task).priority as u32
 }
 
-/// GetResource of a task that isn't barred from the resource.
+/// GetResource of a task of these values that isn't barred from the resource.
 fn free_cases(
     alloc: Global,
     app: &App,
     task: TaskNo,
     next: BlockNo,
     resource: ResNo,
-    entry: &Entry,
+    values: &[PartValue],
 ) -> Result<Seq<EffectCase>, Memory>
     requires task { task.0 < length app.now.tasks }
     requires resource { resource.0 < length app.now.resources }
-    requires domains { domains entry.now ≡ domains_of app.now }
-    ensures { IfOk result (λ cases. cases ≡ taken_cases task next resource (length app.now.tasks) ++ cases_of_values (takes task next resource (length app.now.tasks)) entry.now task) }
+    ensures { IfOk result (λ cases. cases ≡ taken_cases task next resource (length app.now.tasks) ++ cases_over (takes task next resource (length app.now.tasks)) values.now) }
 {
     let tasks = app.tasks.len();
     let mut cases = taken_cases(alloc, task, next, resource, tasks)?;
-    for value in task_values(entry, task) {
+    for value in values {
         if let PartValue::OfTask(Val::Live(live)) = value {
             add_takes(alloc, &mut cases, task, next, resource, tasks, live)?;
         }
@@ -149,26 +147,25 @@ fn free_cases(
     Ok(cases)
 }
 
-/// GetResource.
+/// GetResource, where these are the caller's values.
 pub fn get_cases(
     alloc: Global,
     app: &App,
     runner: Runner,
     next: BlockNo,
     resource: ResNo,
-    entry: &Entry,
+    values: &[PartValue],
 ) -> Result<Seq<EffectCase>, Memory>
     requires known { IsKnown app.now runner }
     requires resource { resource.0 < length app.now.resources }
-    requires domains { domains entry.now ≡ domains_of app.now }
-    ensures { IfOk result (λ cases. cases ≡ get_cases app.now runner next resource entry.now) }
+    ensures { IfOk result (λ cases. cases ≡ get_cases app.now runner next resource values.now) }
 {
     match runner {
         Runner::Task(task) => {
             if is_barred(app, task, resource) {
                 return refuses(alloc, runner, next, Status::Access);
             }
-            free_cases(alloc, app, task, next, resource, entry)
+            free_cases(alloc, app, task, next, resource, values)
         }
         Runner::Routine { over: _ } => onward(alloc, runner, next),
     }
@@ -200,21 +197,20 @@ fn add_gives_back(
     Ok(())
 }
 
-/// ReleaseResource of a task that isn't barred from the resource.
+/// ReleaseResource of a task of these values that isn't barred from the resource.
 fn given_cases(
     alloc: Global,
     app: &App,
     task: TaskNo,
     next: BlockNo,
     resource: ResNo,
-    entry: &Entry,
+    values: &[PartValue],
 ) -> Result<Seq<EffectCase>, Memory>
     requires task { task.0 < length app.now.tasks }
-    requires domains { domains entry.now ≡ domains_of app.now }
-    ensures { IfOk result (λ cases. cases ≡ cases_of_values (gives_back app.now task next resource) entry.now task) }
+    ensures { IfOk result (λ cases. cases ≡ cases_over (gives_back app.now task next resource) values.now) }
 {
     let mut cases = Seq::new(alloc);
-    for value in task_values(entry, task) {
+    for value in values {
         if let PartValue::OfTask(Val::Live(live)) = value {
             add_gives_back(alloc, app, &mut cases, task, next, resource, live)?;
         }
@@ -222,26 +218,25 @@ fn given_cases(
     Ok(cases)
 }
 
-/// ReleaseResource.
+/// ReleaseResource, where these are the caller's values.
 pub fn release_cases(
     alloc: Global,
     app: &App,
     runner: Runner,
     next: BlockNo,
     resource: ResNo,
-    entry: &Entry,
+    values: &[PartValue],
 ) -> Result<Seq<EffectCase>, Memory>
     requires known { IsKnown app.now runner }
     requires resource { resource.0 < length app.now.resources }
-    requires domains { domains entry.now ≡ domains_of app.now }
-    ensures { IfOk result (λ cases. cases ≡ release_cases app.now runner next resource entry.now) }
+    ensures { IfOk result (λ cases. cases ≡ release_cases app.now runner next resource values.now) }
 {
     match runner {
         Runner::Task(task) => {
             if is_barred(app, task, resource) {
                 return refuses(alloc, runner, next, Status::Access);
             }
-            given_cases(alloc, app, task, next, resource, entry)
+            given_cases(alloc, app, task, next, resource, values)
         }
         Runner::Routine { over: _ } => onward(alloc, runner, next),
     }

@@ -1,12 +1,11 @@
 //! The end of a routine.
 ghost use Rattle.std.specs.Prelude.{◌≡◌, ◌<◌, ◌++◌, length, OnOk, IfOk};
-ghost use Rattle.abstract_state.specs.Domains.{domains, domains_of};
-ghost use Rattle.flow_effects.specs.Lists.{cases_of_values};
-ghost use Rattle.flow_effects.specs.Returns.{goes_back, return_cases, return_over_none, IsOverKnown};
+ghost use Rattle.flow_effects.specs.Lists.{cases_over};
+ghost use Rattle.flow_effects.specs.Returns.{goes_back, return_cases_over, return_over_none, IsOverKnown};
 
-use crate::conditions::{if_live, one, task_values};
+use crate::conditions::{if_live, one};
 use crate::moves::stays;
-use abstract_state::{Entry, LiveVal, PartValue, Point, Val};
+use abstract_state::{LiveVal, PartValue, Point, Val};
 use flow_model::{Asked, EffectCase, Runner};
 use osek_standard::App;
 use osek_values::{BlockNo, Memory, Seq, TaskNo};
@@ -33,19 +32,18 @@ fn add_goes_back(
     Ok(())
 }
 
-/// The end of a routine over a task.
+/// The end of a routine over a task of these values.
 fn interrupted_cases(
     alloc: Global,
     app: &App,
     task: TaskNo,
-    entry: &Entry,
+    values: &[PartValue],
 ) -> Result<Seq<EffectCase>, Memory>
     requires known { task.0 < length app.now.tasks }
-    requires domains { domains entry.now ≡ domains_of app.now }
-    ensures { IfOk result (λ cases. cases ≡ cases_of_values (goes_back app.now task) entry.now task) }
+    ensures { IfOk result (λ cases. cases ≡ cases_over (goes_back app.now task) values.now) }
 {
     let mut cases = Seq::new(alloc);
-    for value in task_values(entry, task) {
+    for value in values {
         if let PartValue::OfTask(Val::Live(live)) = value {
             add_goes_back(alloc, app, &mut cases, task, live)?;
         }
@@ -69,21 +67,20 @@ fn idle_cases(alloc: Global) -> Result<Seq<EffectCase>, Memory>
     )
 }
 
-/// The end of a routine.
+/// The end of a routine, where these are the values of the task that it interrupted.
 pub fn return_cases(
     alloc: Global,
     app: &App,
     runner: Runner,
     block: BlockNo,
-    entry: &Entry,
+    values: &[PartValue],
 ) -> Result<Seq<EffectCase>, Memory>
     requires known { IsOverKnown app.now runner }
-    requires domains { domains entry.now ≡ domains_of app.now }
-    ensures { IfOk result (λ cases. cases ≡ return_cases app.now runner block entry.now) }
+    ensures { IfOk result (λ cases. cases ≡ return_cases_over app.now runner block values.now) }
 {
     match runner {
         Runner::Task(_) => one(alloc, stays(alloc, runner, block)),
         Runner::Routine { over: None } => idle_cases(alloc),
-        Runner::Routine { over: Some(task) } => interrupted_cases(alloc, app, task, entry),
+        Runner::Routine { over: Some(task) } => interrupted_cases(alloc, app, task, values),
     }
 }

@@ -14,7 +14,7 @@ use osek_values::{Memory, Seq, SourceNo, TaskNo};
 use std::alloc::Global;
 
 /// A rule for each routine that may begin at a point.
-pub fn arrivals(alloc: Global, app: &App, point: Point) -> Result<Seq<RuleGroup>, Memory>
+pub fn arrival_groups(alloc: Global, app: &App, point: Point) -> Result<Seq<RuleGroup>, Memory>
     requires { IsPoint app.now point }
     ensures { IfOk result (AreArrivalGroups app.now point) }
 {

@@ -11,6 +11,7 @@ mod possible;
 mod ruling;
 
 pub use applying::apply;
+pub use arrivals::arrival_groups;
 pub use ends::{has_possible_end, is_open_end};
 pub use expanding::rules;
 pub use group::{RuleGroup, ValueRules};

@@ -4,16 +4,17 @@ ghost use Rattle.osek_standard.specs.Points.{IsPoint};
 ghost use Rattle.abstract_state.specs.Domains.{domains, domains_of};
 ghost use Rattle.flow_model.specs.Effects.{AreAllAllowed};
 ghost use Rattle.flow_model.specs.Rules.{Covering, Exact, Foresees};
+ghost use Rattle.flow_effects.specs.Reading.{AreReadAt};
 ghost use Rattle.flow_dispatch.specs.declared.group.OutcomeGroup.{OutcomeGroup};
 ghost use Rattle.flow_dispatch.specs.Readings.{AreReadings};
 ghost use Rattle.flow_rules.specs.Assembly.{rule_by as rule_by_of};
 ghost use Rattle.flow_rules.specs.RuleGroups.{all_rules, group_of as group_of_outcomes, AreRulesIn, AreInDomains, AddsGroups, AddsInstructionGroups};
 
-use crate::arrivals::arrivals;
+use crate::arrivals::arrival_groups;
 use crate::group::{RuleGroup, ValueRules};
-use abstract_state::{Entry, Point};
+use abstract_state::{Entry, PartValue, Point};
 use flow_dispatch::{OutcomeGroup, Reading, outcome_groups, readings};
-use flow_effects::effect_cases;
+use flow_effects::{effect_cases, read_task};
 use flow_model::{Change, Condition, Decision, EffectCase, OutcomeCase, Rule, Runner};
 use osek_standard::App;
 use osek_values::{Memory, Seq};
@@ -36,7 +37,7 @@ pub fn rule_groups(
     ensures within { IfOk result (AreRulesIn entry.now) }
     ensures kept { IfOk result (λ groups. AreAllAllowed app.now point entry.now → AreInDomains app.now entry.now groups) }
 {
-    let mut groups = arrivals(alloc, app, point)?;
+    let mut groups = arrival_groups(alloc, app, point)?;
     match Runner::executing(app, point) {
         None => Ok(groups),
         Some(_) => {
@@ -58,12 +59,25 @@ fn add_instructions(
     requires domains { domains entry.now ≡ domains_of app.now }
     ensures { OnOk result (AddsInstructionGroups app.now point entry.now groups.old groups.new) }
 {
-    let effects = effect_cases(alloc, app, point, entry)?;
+    let values = values_read(app, point, entry);
+    let effects = effect_cases(alloc, app, point, values)?;
     let readings = readings(alloc, app, entry)?;
     for effect in effects.as_slice() {
         add_outcomes(alloc, app, entry, &readings, effect, groups)?;
     }
     Ok(())
+}
+
+// the values that an entry has of the task that is read at a point, and no value where none is read
+fn values_read<'a>(app: &App, point: Point, entry: &'a Entry) -> &'a [PartValue]
+    requires point { IsPoint app.now point }
+    requires domains { domains entry.now ≡ domains_of app.now }
+    ensures { AreReadAt app.now point entry.now result.now }
+{
+    match read_task(app, point) {
+        Some(task) => entry.sets.at(task.index()).members.as_slice(),
+        None => &[],
+    }
 }
 
 // adds the rules of an effect, one for each case of what the scheduler does after it

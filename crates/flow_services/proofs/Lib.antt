@@ -6,7 +6,6 @@ pub mod CallerEvents
 pub mod AlarmServices
 pub mod Calling
 pub mod Expiring
-pub mod EntrySets
 pub mod ListLaws
 pub mod NamedEvents
 pub mod ServiceListing

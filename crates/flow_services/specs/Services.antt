@@ -1,6 +1,7 @@
 -- The cases of each service, in the order of ISO 17356-3.
-use Rattle.std.specs.Prelude.{ℕ, Bool, true, false, not, ◌==◌, ◌||◌, nat_lt, bit_and, List, [], ◌∷◌, ◌++◌, map, flat_map, Some, None, if◌then◌else◌}
-use Rattle.osek_values.specs.declared.numbers.BlockNo.{BlockNo}
+use Rattle.std.specs.Prelude.{◌≡◌, ℕ, Bool, true, false, not, ◌==◌, ◌||◌, nat_lt, bit_and, List, [], ◌∷◌, ◌++◌, map, flat_map, Some, None, if◌then◌else◌}
+use Rattle.std.specs.declared.option.Option.{Option}
+use Rattle.osek_values.specs.declared.numbers.{BlockNo.{BlockNo}, TaskNo.{TaskNo}}
 use Rattle.osek_values.specs.Numbers.{alarm_no}
 use Rattle.osek_values.specs.declared.status.Status.TheVariants as status
 use Rattle.osek_standard.specs.declared.app.App.{App}
@@ -58,6 +59,15 @@ is_service kind.IsrEnd = false
 is_service kind.CountUp = false
 is_service (kind.Expire a) = true
 
+-- the task whose events an alarm's action sets
+abbrev pub set_by : Action → Option TaskNo
+set_by (action.ActivateTask x) = None
+set_by (action.SetEvent x m) = Some x
+
+-- these are the values that the entry has of this task, if there is one
+abbrev pub AreMembersOf : Option TaskNo → Entry → List PartValue → Type 0
+AreMembersOf x entry values = (t : TaskNo) → x ≡ Some t → (set_at entry t.0).members ≡ values
+
 -- without a condition
 abbrev pub always : ServiceCase → List ServiceCase
 always x = x ∷ []
@@ -69,6 +79,16 @@ abbrev pub waits_not_at : ℕ → BlockNo → Condition
 waits_not_at x b = condition x (test.IsNot (OfTask (Waiting b)))
 
 module _ (app : App) where
+  -- the task whose events the instruction sets, which it goes by: they may be awaited
+  abbrev pub addressee : Kind → Option TaskNo
+  addressee (kind.Call (call.SetEvent x m)) = Some x
+  addressee (kind.Expire a) = set_by (the_alarm app a.0).action
+  addressee _ = None
+
+  -- these are the values that the entry has of the task whose events the instruction sets
+  abbrev pub AreAddressed : Kind → Entry → List PartValue → Type 0
+  AreAddressed k entry values = AreMembersOf (addressee k) entry values
+
   -- ActivateTask: LIMIT where the task isn't suspended
   abbrev pub activations : ℕ → List ServiceCase
   activations x =

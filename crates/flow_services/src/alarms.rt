@@ -2,19 +2,20 @@
 ghost use Rattle.std.specs.Prelude.{◌≡◌, ◌<◌, [], ◌∷◌, ◌++◌, length, map, IfOk, OnOk};
 ghost use Rattle.osek_standard.specs.Apps.{tables, is_cycle as is_cycle_of};
 ghost use Rattle.osek_standard.specs.Validity.{IsAction};
-ghost use Rattle.abstract_state.specs.Domains.{domains, domains_of};
+ghost use Rattle.osek_standard.specs.declared.block.Kind.TheVariants as kind;
+ghost use Rattle.abstract_state.specs.declared.table.Entry.{Entry};
 ghost use Rattle.abstract_state.specs.Components.{component_number as component_number_of};
 ghost use Rattle.abstract_state.specs.declared.value.Component.TheVariants as component;
 ghost use Rattle.abstract_state.specs.declared.value.PartValue.TheVariants.{OfAlarm};
 ghost use Rattle.flow_model.specs.declared.change.Update.TheVariants as update;
 ghost use Rattle.flow_model.specs.Runners.{change};
 ghost use Rattle.flow_services.specs.Occasions.{case_at};
-ghost use Rattle.flow_services.specs.Services.{armings as armings_of, cancellings as cancellings_of, alarm_readings as alarm_readings_of, actions as actions_of, expiries as expiries_of, is_rel_refused as is_rel_refused_by, is_abs_refused as is_abs_refused_by};
+ghost use Rattle.flow_services.specs.Services.{set_by, AreMembersOf, AreAddressed, armings as armings_of, cancellings as cancellings_of, alarm_readings as alarm_readings_of, actions as actions_of, expiries as expiries_of, is_rel_refused as is_rel_refused_by, is_abs_refused as is_abs_refused_by};
 
-use crate::events::{add_event_settings, values_of};
+use crate::events::add_event_settings;
 use crate::occasion::{Occasion, one, only};
 use crate::tasks::add_activations;
-use abstract_state::{Component, ComponentNo, Entry, PartValue, component_number};
+use abstract_state::{Component, ComponentNo, PartValue, component_number};
 use flow_model::{Asked, Change, EffectCase, Runner, Test, Update};
 use osek_standard::{Action, App};
 use osek_values::{AlarmNo, BlockNo, Memory, Seq, Status};
@@ -126,40 +127,38 @@ pub fn alarm_readings(
     Ok(cases)
 }
 
-/// Adds the cases of an alarm's action.
+/// Adds the cases of an alarm's action. `values` are those of the task whose events it sets, if it sets any.
 fn add_actions(
     alloc: Global,
     app: &App,
     occasion: Occasion,
-    entry: &Entry,
+    values: &[PartValue],
     action: Action,
     cases: &mut Seq<EffectCase>,
 ) -> Result<(), Memory>
-    requires domains { domains entry.now ≡ domains_of app.now }
-    requires known { IsAction (tables app.now) action }
-    ensures { OnOk result (cases.new ≡ cases.old ++ map (case_at occasion) (actions_of app.now entry.now action)) }
+    requires { IsAction (tables app.now) action }
+    ensures { OnOk result ((entry : Entry) → AreMembersOf (set_by action) entry values.now → cases.new ≡ cases.old ++ map (case_at occasion) (actions_of app.now entry action)) }
 {
     match action {
         Action::ActivateTask(task) => add_activations(alloc, app, occasion, task, cases),
         Action::SetEvent(task, mask) => {
-            let values = values_of(app, entry, task);
             add_event_settings(alloc, app, occasion, values, task, mask, cases)
         }
     }
 }
 
-/// The cases of an alarm that a tick routine looks at.
+/// The cases of an alarm that a tick routine looks at. `values` are those of the task whose events its action sets, if it
+/// sets any.
 pub fn expiries(
     alloc: Global,
     app: &App,
     runner: Runner,
     next: BlockNo,
-    entry: &Entry,
+    values: &[PartValue],
     alarm: AlarmNo,
 ) -> Result<Seq<EffectCase>, Memory>
-    requires domains { domains entry.now ≡ domains_of app.now }
-    requires known { alarm.0 < length app.now.alarms }
-    ensures { IfOk result (λ cases. cases ≡ expiries_of app.now entry.now runner next alarm.0) }
+    requires { alarm.0 < length app.now.alarms }
+    ensures { IfOk result (λ cases. (entry : Entry) → AreAddressed app.now (kind.Expire alarm) entry values.now → cases ≡ expiries_of app.now entry runner next alarm.0) }
 {
     let component = alarm_component(app, alarm);
     let action = app.alarm(alarm).action;
@@ -177,7 +176,7 @@ pub fn expiries(
         alloc,
         app,
         looking.expiring(component, false),
-        entry,
+        values,
         action,
         &mut cases,
     )?;
@@ -185,7 +184,7 @@ pub fn expiries(
         alloc,
         app,
         looking.expiring(component, true),
-        entry,
+        values,
         action,
         &mut cases,
     )?;

@@ -3,14 +3,13 @@ ghost use Rattle.std.specs.Prelude.{◌≡◌, ◌<◌, ℕ, true, ◌++◌, len
 ghost use Rattle.osek_values.specs.declared.numbers.BlockNo.{BlockNo};
 ghost use Rattle.osek_standard.specs.Apps.{the_task, awaited as awaited_at};
 ghost use Rattle.osek_standard.specs.Kernel.{has_bit as has_bit_of};
-ghost use Rattle.abstract_state.specs.Domains.{domains, domains_of};
 ghost use Rattle.flow_model.specs.Runners.{IsKnown};
 ghost use Rattle.flow_services.specs.Occasions.{case_at};
-ghost use Rattle.flow_services.specs.Services.{awaits as awaits_at, awaiting_blocks as awaiting_blocks_in, not_awaiting as not_awaiting_case, waking as waking_case, members_of, event_settings, event_clearings as event_clearings_of, event_readings as event_readings_of};
+ghost use Rattle.flow_services.specs.Services.{awaits as awaits_at, awaiting_blocks as awaiting_blocks_in, not_awaiting as not_awaiting_case, waking as waking_case, event_settings, event_clearings as event_clearings_of, event_readings as event_readings_of};
 
 use crate::occasion::{Occasion, one, only, task_component};
 use crate::tasks::{add_event_changes, add_live};
-use abstract_state::{Entry, PartValue, Val};
+use abstract_state::{PartValue, Val};
 use flow_model::{Condition, EffectCase, Runner, Test};
 use osek_standard::{App, Call, Kind, MaskService};
 use osek_values::{BlockNo, Mask, Memory, Seq, Status, TaskNo};
@@ -124,15 +123,6 @@ fn add_wakings(
         cases.push(waking(alloc, app, occasion, task, events, *block)?)?;
     }
     Ok(())
-}
-
-/// The values that a task may have by an entry.
-pub fn values_of<'a>(app: &App, entry: &'a Entry, task: TaskNo) -> &'a [PartValue]
-    requires domains { domains entry.now ≡ domains_of app.now }
-    requires known { task.0 < length app.now.tasks }
-    ensures { result.now ≡ members_of app.now entry.now task.0 }
-{
-    entry.sets.at(task.index()).members.as_slice()
 }
 
 /// Adds the cases of SetEvent, where these are the values that the task may have.

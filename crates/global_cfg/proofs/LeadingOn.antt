@@ -1,4 +1,4 @@
--- A rule's step is an edge exactly where control flow leads on.
+-- A step is an edge exactly where control flow leads on.
 use Rattle.std.proofs.Common.{◌≡◌, ◌≢◌, ◌⊎◌, true, not, refl, sym, ap, subst, ◌∙◌, inl, inr, Some, None}
 use Rattle.std.specs.Prelude.{◌==◌}
 use Rattle.std.specs.declared.option.Option.{Option}
@@ -27,12 +27,11 @@ use Rattle.abstract_state.proofs.AllowedLaws.{well_point}
 use Rattle.abstract_state.proofs.MarkLaws.{shown_instruction, shown_silent}
 use Rattle.flow_model.specs.declared.case.Decision.{Decision}
 use Rattle.flow_model.specs.declared.case.Decision.TheVariants as decision
-use Rattle.flow_model.specs.declared.rule.Rule.{Rule}
 use Rattle.flow_model.specs.Effects.{IsAt}
-use Rattle.flow_model.specs.Rules.{mark_by, Matches}
+use Rattle.flow_model.specs.Rules.{mark_by}
 use Rattle.flow_model.proofs.Instructions.{state_after}
 use Rattle.flow_model.proofs.Standing.{stands_at}
-use Rattle.global_cfg.specs.Targets.{dispatches, leads_on}
+use Rattle.global_cfg.specs.Targets.{dispatches, leads}
 
 -- the task that is dispatched
 dispatched_task : (d : Option Decision) → dispatches d ≡ true → (t : TaskNo) × (d ≡ Some (decision.To (Some t)))
@@ -85,27 +84,25 @@ module _ (app : App) (p : Point) (entry : Entry) (s : State) (e : Event) (at : I
         dispatched = shown;
       }
 
-  module _ (rule : Rule) (matches : Matches app rule s e) where
-    pub target_point : IsPoint app rule.target
-    target_point = subst (IsPoint app) matches.target (well_point app next next_well)
+  -- it ends at this target, after this decision
+  module _ (target : Point) (decided : Option Decision) (noted : Option Status) (ends : point_of next ≡ target) (shown : shows app s e ≡ mark_by decided noted) where
+    pub target_point : IsPoint app target
+    target_point = subst (IsPoint app) ends (well_point app next next_well)
 
-    -- the step of a rule by which control flow leads on is an edge
-    pub moves_on : leads_on rule p ≡ true → (p ≢ rule.target) ⊎ IsAnew app s e
-    moves_on on = elim (cases_eq (point_number rule.target) (point_number p)) [
+    -- a step by which control flow leads on is an edge
+    pub moves_on : leads target decided p ≡ true → (p ≢ target) ⊎ IsAnew app s e
+    moves_on on = elim (cases_eq (point_number target) (point_number p)) [
       | inl same ↦
-          (let equal : (point_number rule.target == point_number p) ≡ true = eq-eqb (point_number rule.target) (point_number p) same in
-          let d : dispatches rule.decision ≡ true = rw equal at on in
-          let t = dispatched_task rule.decision d in
-          let shown = matches.shows ∙ ap (λ (x : Option Decision). mark_by x rule.status) t.1 in
-          inr (ran_there t.0 rule.status shown (matches.target ∙ one_number app rule.target p target_point here_point same)))
+          (let equal : (point_number target == point_number p) ≡ true = eq-eqb (point_number target) (point_number p) same in
+          let d : dispatches decided ≡ true = rw equal at on in
+          let t = dispatched_task decided d in
+          let did = shown ∙ ap (λ (x : Option Decision). mark_by x noted) t.1 in
+          inr (ran_there t.0 noted did (ends ∙ one_number app target p target_point here_point same)))
       | inr other ↦ inl (λ same. other (ap point_number (sym same)))
     ]
 
     -- and there is no other
-    pub leads_where_it_moves : (p ≢ rule.target) ⊎ IsAnew app s e → leads_on rule p ≡ true
+    pub leads_where_it_moves : (p ≢ target) ⊎ IsAnew app s e → leads target decided p ≡ true
     leads_where_it_moves (inl other) =
-        or_left (not (point_number rule.target == point_number p)) (dispatches rule.decision)
-        (ap not (ne_eqb (point_number rule.target) (point_number p) (λ same. other (sym (one_number app rule.target p target_point here_point same)))))
-    leads_where_it_moves (inr anew) =
-        or_right (not (point_number rule.target == point_number p)) (dispatches rule.decision)
-        (shows_dispatch rule.decision rule.status anew.status anew.task (sym matches.shows ∙ anew.dispatched))
+        or_left (not (point_number target == point_number p)) (dispatches decided) (ap not (ne_eqb (point_number target) (point_number p) (λ same. other (sym (one_number app target p target_point here_point same)))))
+    leads_where_it_moves (inr anew) = or_right (not (point_number target == point_number p)) (dispatches decided) (shows_dispatch decided noted anew.status anew.task (sym shown ∙ anew.dispatched))

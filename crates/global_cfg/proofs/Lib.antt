@@ -3,6 +3,6 @@ pub mod Pairs
 pub mod PointPlaces
 pub mod PuttingIn
 pub mod LeadingOn
-pub mod Targeting
+pub mod ExitTargets
 pub mod TableRows
 pub mod EdgeLists

@@ -1,90 +1,151 @@
--- Targets that are put in, one rule after another.
+-- Points that are put in, one after another.
 use Rattle.std.proofs.Common.{◌≡◌, ◌⊎◌, ℕ, ◌+◌, ◌<◌, true, false, List, [], ◌∷◌, ◌++◌, length, get_or, map, take, refl, sym, ap, subst, ◌∙◌, inl, inr}
 use Rattle.std.specs.Prelude.{Contains}
+use Rattle.std.specs.declared.option.Option.{Option}
 use Rattle.std.proofs.lemmas.List.{append-nil, map-append, take_more}
 use Rattle.std.proofs.lemmas.List.Elements.{Contains-append_left, Contains-append_right, Contains-append_cases}
 use Rattle.std.proofs.lemmas.Grind.{flat_map-append}
-use Rattle.osek_standard.proofs.Members.{among_contained, contained_among, map_among}
+use Rattle.osek_standard.proofs.Members.{among_contained, among_map, contained_among, map_among}
 use Rattle.osek_standard.specs.declared.point.Point.{Point}
 use Rattle.osek_standard.specs.Points.{point_number}
-use Rattle.abstract_state.specs.declared.table.Entry.{Entry}
-use Rattle.flow_model.specs.declared.rule.Rule.{Rule}
-use Rattle.flow_model.specs.Rules.{HasNone}
-use Rattle.flow_dispatch.specs.declared.group.End.{End}
-use Rattle.flow_rules.specs.declared.group.{ValueRules.{ValueRules}, RuleGroup.{RuleGroup}}
-use Rattle.flow_rules.specs.Passing.{AreTaken}
-use Rattle.flow_rules.specs.RuleGroups.{rule_at, rules_of, all_rules}
+use Rattle.flow_model.specs.declared.case.Decision.{Decision}
+use Rattle.flow_exits.specs.Exits.{Exit}
+use Rattle.numbered_sets.specs.Pools.{Values}
+use Rattle.numbered_exits.specs.declared.group.{NumberEnd.{NumberEnd}, ExitGroup.{ExitGroup}}
+use Rattle.numbered_exits.specs.declared.group.Ends.TheVariants as ends
+use Rattle.numbered_exits.specs.Groups.{holding, exit_at, exits_by, exits_of, all_exits}
 use Rattle.global_cfg.specs.PointOrder.{AreInOrder, HasNumber, IsPut}
-use Rattle.global_cfg.specs.Targets.{leads_on, IsPutFor, IsPassed, ArePassed, IsLedTo, ArePutFor}
+use Rattle.global_cfg.specs.Targets.{leads, end_target, IsEndOf, AreAllPut, AreEndsPut, IsTargetAfter, ArePutAfter}
 
-module _ (p : Point) (entry : Entry) where
-  -- points stay by rules that are passed or have no result
-  pub all_passed : (rules : List Rule) (points : List Point) → AreInOrder points → ((rule : Rule) → Contains rules rule → IsPassed p points rule ⊎ HasNone rule entry) → ArePutFor p entry rules points points
-  all_passed rules points order each = record { order = order; kept = λ q h. h; from = λ q h. inl h; each = each }
+-- none is to be put in, or those that are have their numbers there
+pub all_there : (Has : Point → Type 0) (points : List Point) → AreInOrder points → ((q : Point) → Has q → HasNumber points (point_number q)) → AreAllPut Has points points
+all_there Has points order each = record { order = order; kept = λ q h. h; from = λ q h. inl h; each = each }
 
-  pub none_put : (points : List Point) → AreInOrder points → ArePutFor p entry [] points points
-  none_put points order = all_passed [] points order (λ rule m. absurd (contained_among [] rule m))
+still_there : (before after : List Point) (n : ℕ) → ((q : Point) → Contains before q → Contains after q) → HasNumber before n → HasNumber after n
+still_there before after n kept has = record { point = has.point; listed = kept has.point has.listed; is = has.is }
 
-  pub one_passed : (rule : Rule) (points : List Point) → AreInOrder points → IsPassed p points rule ⊎ HasNone rule entry → ArePutFor p entry (rule ∷ []) points points
-  one_passed rule points order h = all_passed (rule ∷ []) points order (λ r m. elim (contained_among (rule ∷ []) r m) [
-    | inl same ↦ subst (λ (x : Rule). IsPassed p points x ⊎ HasNone x entry) (sym same) h
-    | inr nothing ↦ absurd nothing
-  ])
+-- those of one property and then those of another
+pub put_then : (First Next Both : Point → Type 0) (a b c : List Point) → ((q : Point) → First q → Both q) → ((q : Point) → Next q → Both q) → ((q : Point) → Both q → First q ⊎ Next q) → AreAllPut First a b → AreAllPut Next b c → AreAllPut Both a c
+put_then First Next Both a b c left right either x y = record {
+  order = y.order;
+  kept = λ q h. y.kept q (x.kept q h);
+  from = λ q h. elim (y.from q h) [
+    | inl old ↦ elim (x.from q old) [ inl before ↦ inl before | inr first ↦ inr (left q first) ]
+    | inr next ↦ inr (right q next)
+  ];
+  each = λ q h. elim (either q h) [
+    | inl first ↦ still_there b c (point_number q) y.kept (x.each q first)
+    | inr next ↦ y.each q next
+  ];
+}
 
-  pub one_put : (rule : Rule) (before after : List Point) → leads_on rule p ≡ true → AreTaken rule entry → IsPut before rule.target after → ArePutFor p entry (rule ∷ []) before after
-  one_put rule before after on taken put = record {
+-- the same where the property is called otherwise
+pub put_alike : (First Other : Point → Type 0) (a b : List Point) → ((q : Point) → First q → Other q) → ((q : Point) → Other q → First q) → AreAllPut First a b → AreAllPut Other a b
+put_alike First Other a b on back x = record {
+  order = x.order;
+  kept = x.kept;
+  from = λ q h. elim (x.from q h) [ inl old ↦ inl old | inr first ↦ inr (on q first) ];
+  each = λ q h. x.each q (back q h);
+}
+
+-- ---- targets after a decision
+
+module _ (p : Point) (decided : Option Decision) where
+  pub no_targets : (points : List Point) → AreInOrder points → ArePutAfter p decided [] points points
+  no_targets points order = all_there (IsTargetAfter p decided []) points order (λ q h. absurd (contained_among [] q h.listed))
+
+  only : (target q : Point) → IsTargetAfter p decided (target ∷ []) q → q ≡ target
+  only target q h = elim (contained_among (target ∷ []) q h.listed) [ inl same ↦ same | inr nothing ↦ absurd nothing ]
+
+  -- control flow doesn't lead on to it
+  pub not_on : (target : Point) (points : List Point) → AreInOrder points → leads target decided p ≡ false → ArePutAfter p decided (target ∷ []) points points
+  not_on target points order off = all_there (IsTargetAfter p decided (target ∷ [])) points order (λ q h.
+      (let is : leads target decided p ≡ true = ap (λ (r : Point). leads r decided p) (sym (only target q h)) ∙ h.on in absurd (cc)))
+
+  -- it is there
+  pub one_there : (target : Point) (points : List Point) → AreInOrder points → HasNumber points (point_number target) → ArePutAfter p decided (target ∷ []) points points
+  one_there target points order has = all_there (IsTargetAfter p decided (target ∷ [])) points order (λ q h. subst (λ (r : Point). HasNumber points (point_number r)) (sym (only target q h)) has)
+
+  -- it is put in
+  pub one_put : (target : Point) (before after : List Point) → leads target decided p ≡ true → IsPut before target after → ArePutAfter p decided (target ∷ []) before after
+  one_put target before after on put = record {
     order = put.order;
     kept = put.kept;
     from = λ q h. elim (put.from q h) [
       | inl old ↦ inl old
-      | inr is ↦ inr (record { rule = rule; listed = among_contained (rule ∷ []) rule (inl refl); on = on; taken = taken; ends = is })
+      | inr is ↦ inr (record { listed = among_contained (target ∷ []) q (inl is); on = ap (λ (r : Point). leads r decided p) is ∙ on })
     ];
-    each = λ r m. elim (contained_among (rule ∷ []) r m) [
-      | inl same ↦ inl (inr (subst (λ (x : Rule). HasNumber after (point_number x.target)) (sym same) put.there))
-      | inr nothing ↦ absurd nothing
-    ];
+    each = λ q h. subst (λ (r : Point). HasNumber after (point_number r)) (sym (only target q h)) put.there;
   }
 
-  pub one_for : (rule : Rule) (before after : List Point) → AreInOrder before → leads_on rule p ≡ true → IsPutFor rule entry before after → ArePutFor p entry (rule ∷ []) before after
-  one_for rule before after order on (inl put) = one_put rule before after on put.0 put.1
-  one_for rule before after order on (inr stays) =
-      subst (ArePutFor p entry (rule ∷ []) before) (sym stays.0)
-      (one_passed rule before order (elim stays.1 [ inl has ↦ inl (inr has) | inr none ↦ inr none ]))
+  pub targets_then : (first next : List Point) (a b c : List Point) → ArePutAfter p decided first a b → ArePutAfter p decided next b c → ArePutAfter p decided (first ++ next) a c
+  targets_then first next a b c x y =
+      put_then (IsTargetAfter p decided first) (IsTargetAfter p decided next) (IsTargetAfter p decided (first ++ next)) a b c (λ q h. record { listed = Contains-append_left first next q h.listed; on = h.on })
+      (λ q h. record { listed = Contains-append_right first next q h.listed; on = h.on })
+      (λ q h. elim (Contains-append_cases first next q h.listed) [
+        | inl old ↦ inl (record { listed = old; on = h.on })
+        | inr new ↦ inr (record { listed = new; on = h.on })
+      ])
+      x y
 
-  still_passed : (rule : Rule) (points after : List Point) → ((q : Point) → Contains points q → Contains after q) → IsPassed p points rule ⊎ HasNone rule entry → IsPassed p after rule ⊎ HasNone rule entry
-  still_passed rule points after kept (inl (inl off)) = inl (inl off)
-  still_passed rule points after kept (inl (inr has)) = inl (inr (record { point = has.point; listed = kept has.point has.listed; is = has.is }))
-  still_passed rule points after kept (inr none) = inr none
+-- ---- exits
 
-  pub put_then : (first next : List Rule) (a b c : List Point) → ArePutFor p entry first a b → ArePutFor p entry next b c → ArePutFor p entry (first ++ next) a c
-  put_then first next a b c x y = record {
-    order = y.order;
-    kept = λ q h. y.kept q (x.kept q h);
-    from = λ q h. elim (y.from q h) [
-      | inl old ↦ elim (x.from q old) [
-        | inl before ↦ inl before
-        | inr led ↦ inr (record { rule = led.rule; listed = Contains-append_left first next led.rule led.listed; on = led.on; taken = led.taken; ends = led.ends })
-      ]
-      | inr led ↦ inr (record { rule = led.rule; listed = Contains-append_right first next led.rule led.listed; on = led.on; taken = led.taken; ends = led.ends })
-    ];
-    each = λ rule m. elim (Contains-append_cases first next rule m) [
-      | inl old ↦ still_passed rule b c y.kept (x.each rule old)
-      | inr new ↦ y.each rule new
-    ];
-  }
+module _ (p : Point) where
+  pub no_exits : (points : List Point) → AreInOrder points → AreEndsPut p [] points points
+  no_exits points order = all_there (IsEndOf p []) points order (λ q h. absurd (contained_among [] h.exit h.listed))
 
-  -- the rules of a group's ends, all passed or none with a result
-  pub ends_passed : (g : ValueRules) (points : List Point) → AreInOrder points → ((x : End) → Contains g.ends x → IsPassed p points (rule_at g x) ⊎ HasNone (rule_at g x) entry) → ArePutFor p entry (map (rule_at g) g.ends) points points
-  ends_passed g points order each = all_passed (map (rule_at g) g.ends) points order (λ r m.
-      (let x = map_among (rule_at g) r g.ends (contained_among (map (rule_at g) g.ends) r m) in
-      subst (λ (y : Rule). IsPassed p points y ⊎ HasNone y entry) (sym x.2) (each x.0 (among_contained g.ends x.0 x.1))))
+  pub exits_then : (first next : List Exit) (a b c : List Point) → AreEndsPut p first a b → AreEndsPut p next b c → AreEndsPut p (first ++ next) a c
+  exits_then first next a b c x y =
+      put_then (IsEndOf p first) (IsEndOf p next) (IsEndOf p (first ++ next)) a b c (λ q h. record { exit = h.exit; listed = Contains-append_left first next h.exit h.listed; on = h.on; ends = h.ends })
+      (λ q h. record { exit = h.exit; listed = Contains-append_right first next h.exit h.listed; on = h.on; ends = h.ends })
+      (λ q h. elim (Contains-append_cases first next h.exit h.listed) [
+        | inl old ↦ inl (record { exit = h.exit; listed = old; on = h.on; ends = h.ends })
+        | inr new ↦ inr (record { exit = h.exit; listed = new; on = h.on; ends = h.ends })
+      ])
+      x y
 
--- one group more, and one end more, in a loop over their list
-pub more_groups : (items : List RuleGroup) (i : ℕ) (x : RuleGroup) → i < length items → x ≡ get_or items i x → all_rules (take i items) ++ rules_of x ≡ all_rules (take (i + 1) items)
-more_groups items i x lt e =
-    ap (λ (rs : List Rule). all_rules (take i items) ++ rs) (sym (append-nil (rules_of x))) ∙ sym (flat_map-append rules_of (take i items) (x ∷ []))
-    ∙ ap all_rules (ap (λ (y : RuleGroup). take i items ++ y ∷ []) e ∙ sym (take_more items i x lt))
+  -- exits with one decision, and their targets
+  module _ {X : Type 0} (exit : X → Exit) (target : X → Point) (decided : Option Decision) (ends_at : (x : X) → (exit x).target ≡ target x) (decides : (x : X) → (exit x).decision ≡ decided) (xs : List X) where
+    by_targets : (q : Point) → IsTargetAfter p decided (map target xs) q → IsEndOf p (map exit xs) q
+    by_targets q h =
+        let x = map_among target q xs (contained_among (map target xs) q h.listed) in
+        let ends : q ≡ (exit x.0).target = x.2 ∙ sym (ends_at x.0) in
+        record {
+          exit = exit x.0;
+          listed = among_contained (map exit xs) (exit x.0) (among_map exit x.0 xs x.1);
+          on = ap (λ (r : Point). leads r (exit x.0).decision p) (sym ends) ∙ ap (λ (d : Option Decision). leads q d p) (decides x.0) ∙ h.on;
+          ends = ends;
+        }
 
-pub more_ends : (g : ValueRules) (items : List End) (i : ℕ) (x : End) → i < length items → x ≡ get_or items i x → map (rule_at g) (take i items) ++ rule_at g x ∷ [] ≡ map (rule_at g) (take (i + 1) items)
-more_ends g items i x lt e =
-    sym (map-append (rule_at g) (take i items) (x ∷ [])) ∙ ap (map (rule_at g)) (ap (λ (y : End). take i items ++ y ∷ []) e ∙ sym (take_more items i x lt))
+    to_targets : (q : Point) → IsEndOf p (map exit xs) q → IsTargetAfter p decided (map target xs) q
+    to_targets q h =
+        let x = map_among exit h.exit xs (contained_among (map exit xs) h.exit h.listed) in
+        let ends : q ≡ target x.0 = h.ends ∙ ap (λ (y : Exit). y.target) x.2 ∙ ends_at x.0 in
+        record {
+          listed = subst (Contains (map target xs)) (sym ends) (among_contained (map target xs) (target x.0) (among_map target x.0 xs x.1));
+          on = ap (λ (r : Point). leads r decided p) h.ends ∙ ap (λ (d : Option Decision). leads h.exit.target d p) (sym (ap (λ (y : Exit). y.decision) x.2 ∙ decides x.0)) ∙ h.on;
+        }
+
+    ends_by_targets : (a b : List Point) → ArePutAfter p decided (map target xs) a b → AreEndsPut p (map exit xs) a b
+    ends_by_targets a b put = put_alike (IsTargetAfter p decided (map target xs)) (IsEndOf p (map exit xs)) a b by_targets to_targets put
+
+  pub put_at_points : (pool : List Values) (g : ExitGroup) (points : List Point) (a b : List Point) → ArePutAfter p g.decision points a b → AreEndsPut p (exits_by pool g (ends.At points)) a b
+  put_at_points pool g points a b put =
+      ends_by_targets (exit_at pool g g.entry) (λ (q : Point). q) g.decision (λ q. refl) (λ q. refl) points a b
+      (put_alike (IsTargetAfter p g.decision points) (IsTargetAfter p g.decision (map (λ (q : Point). q) points)) a b
+      (λ q h. record { listed = among_contained (map (λ (r : Point). r) points) q (among_map (λ (r : Point). r) q points (contained_among points q h.listed)); on = h.on })
+      (λ q h. (let x = map_among (λ (r : Point). r) q points (contained_among (map (λ (r : Point). r) points) q h.listed) in
+      record { listed = subst (Contains points) (sym x.2) (among_contained points x.0 x.1); on = h.on }))
+      put)
+
+  pub put_with_numbers : (pool : List Values) (g : ExitGroup) (c : ℕ) (xs : List NumberEnd) (a b : List Point) → ArePutAfter p g.decision (map end_target xs) a b → AreEndsPut p (exits_by pool g (ends.With c xs)) a b
+  put_with_numbers pool g c xs a b put = ends_by_targets (λ (x : NumberEnd). exit_at pool g (holding g.entry c x.number) x.target) end_target g.decision (λ x. refl) (λ x. refl) xs a b put
+
+-- one end more, and one group more, in a loop over their list
+pub more_ends : (items : List NumberEnd) (i : ℕ) (d : NumberEnd) → i < length items → map end_target (take i items) ++ end_target (get_or items i d) ∷ [] ≡ map end_target (take (i + 1) items)
+more_ends items i d lt = sym (ap (λ (xs : List NumberEnd). map end_target xs) (take_more items i d lt) ∙ map-append end_target (take i items) (get_or items i d ∷ []))
+
+pub more_groups : (pool : List Values) (items : List ExitGroup) (i : ℕ) (x : ExitGroup) → i < length items → x ≡ get_or items i x → all_exits pool (take i items) ++ exits_of pool x ≡ all_exits pool (take (i + 1) items)
+more_groups pool items i x lt e =
+    ap (λ (xs : List Exit). all_exits pool (take i items) ++ xs) (sym (append-nil (exits_of pool x))) ∙ sym (flat_map-append (exits_of pool) (take i items) (x ∷ []))
+    ∙ ap (all_exits pool) (ap (λ (y : ExitGroup). take i items ++ y ∷ []) e ∙ sym (take_more items i x lt))

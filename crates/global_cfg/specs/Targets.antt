@@ -11,14 +11,10 @@ use Rattle.abstract_state.specs.declared.table.Entry.{Entry}
 use Rattle.abstract_state.specs.Forms.{IsAnew}
 use Rattle.flow_model.specs.declared.case.Decision.{Decision}
 use Rattle.flow_model.specs.declared.case.Decision.TheVariants as decision
-use Rattle.flow_model.specs.declared.rule.Rule.{Rule}
 use Rattle.flow_model.specs.Effects.{IsAt}
-use Rattle.flow_model.specs.Rules.{HasNone}
-use Rattle.flow_dispatch.specs.declared.group.End.{End}
-use Rattle.flow_rules.specs.declared.group.ValueRules.{ValueRules}
-use Rattle.flow_rules.specs.Passing.{AreTaken}
-use Rattle.flow_rules.specs.RuleGroups.{rule_at}
-use Rattle.global_cfg.specs.PointOrder.{AreInOrder, HasNumber, IsPut}
+use Rattle.flow_exits.specs.Exits.{Exit}
+use Rattle.numbered_exits.specs.declared.group.NumberEnd.{NumberEnd}
+use Rattle.global_cfg.specs.PointOrder.{AreInOrder, HasNumber}
 
 -- the scheduler gives the processor to a task
 abbrev pub dispatches : Option Decision → Bool
@@ -31,35 +27,34 @@ dispatches (Some (decision.To (Some t))) = true
 abbrev pub leads : Point → Option Decision → Point → Bool
 leads target decision p = not (point_number target == point_number p) || dispatches decision
 
--- the rule's step ends at another point than p, or dispatches a task
-abbrev pub leads_on : Rule → Point → Bool
-leads_on rule p = leads rule.target rule.decision p
+-- an exit of these by which control flow leads on from p to this point
+pub record IsEndOf (p : Point) (exits : List Exit) (q : Point) : Type 0 where
+  pub exit : Exit
+  pub listed : Contains exits exit
+  pub on : leads exit.target exit.decision p ≡ true
+  pub ends : q ≡ exit.target
 
--- The rule's target is put in where some state takes the rule; else all stay, as it is there or no state takes the rule.
-abbrev pub IsPutFor : Rule → Entry → List Point → List Point → Type 0
-IsPutFor rule entry before after = (AreTaken rule entry × IsPut before rule.target after) ⊎ ((after ≡ before) × (HasNumber before (point_number rule.target) ⊎ HasNone rule entry))
-
--- The rule doesn't lead on from p, or its target is among these.
-abbrev pub IsPassed : Point → List Point → Rule → Type 0
-IsPassed p points rule = (leads_on rule p ≡ false) ⊎ HasNumber points (point_number rule.target)
-
-abbrev pub ArePassed : Point → List Point → ValueRules → Type 0
-ArePassed p points g = (x : End) → Contains g.ends x → IsPassed p points (rule_at g x)
-
--- a rule of these that leads on from p to this point, and takes a value of each set
-pub record IsLedTo (p : Point) (entry : Entry) (rules : List Rule) (q : Point) : Type 0 where
-  pub rule : Rule
-  pub listed : Contains rules rule
-  pub on : leads_on rule p ≡ true
-  pub taken : AreTaken rule entry
-  pub ends : q ≡ rule.target
-
--- The targets are put in of the rules that lead on from p and have a result: those after were there before or are of them.
-pub record ArePutFor (p : Point) (entry : Entry) (rules : List Rule) (before after : List Point) : Type 0 where
+-- The points with a property are put in, or ones with their numbers: those after were there before or have it.
+pub record AreAllPut (Has : Point → Type 0) (before after : List Point) : Type 0 where
   pub order : AreInOrder after
   pub kept : (q : Point) → Contains before q → Contains after q
-  pub from : (q : Point) → Contains after q → Contains before q ⊎ IsLedTo p entry rules q
-  pub each : (rule : Rule) → Contains rules rule → IsPassed p after rule ⊎ HasNone rule entry
+  pub from : (q : Point) → Contains after q → Contains before q ⊎ Has q
+  pub each : (q : Point) → Has q → HasNumber after (point_number q)
+
+-- The targets are put in of the exits by which control flow leads on from p.
+abbrev pub AreEndsPut : Point → List Exit → List Point → List Point → Type 0
+AreEndsPut p exits before after = AreAllPut (IsEndOf p exits) before after
+
+-- one of these targets, to which control flow leads on from p after this decision
+pub record IsTargetAfter (p : Point) (decided : Option Decision) (targets : List Point) (q : Point) : Type 0 where
+  pub listed : Contains targets q
+  pub on : leads q decided p ≡ true
+
+abbrev pub ArePutAfter : Point → Option Decision → List Point → List Point → List Point → Type 0
+ArePutAfter p decided targets before after = AreAllPut (IsTargetAfter p decided targets) before after
+
+abbrev pub end_target : NumberEnd → Point
+end_target x = x.target
 
 -- some state of the entry at p steps to a state at q, and q is another point or the task of p is dispatched anew
 pub record LeadsTo (app : App) (p : Point) (entry : Entry) (q : Point) : Type 0 where

@@ -8,6 +8,7 @@ ghost use Rattle.global_cfg.specs.Edges.{flow_edge, AreAscending};
 
 use crate::targets::targets;
 use abstract_state::Point;
+use numbered_levels::Levels;
 use numbered_table::Table;
 use osek_standard::App;
 use osek_values::{Memory, Seq};
@@ -27,12 +28,16 @@ pub fn edges(alloc: Global, app: &App, table: &Table) -> Result<Seq<FlowEdge>, M
     ensures ascending { IfOk result AreAscending }
 {
     let mut edges = Seq::new(alloc);
-    let mut rows = table.shown_rows();
-    for place in 0..rows.len() {
-        rows.show(alloc, place)?;
-        let from = rows.point(place);
-        let targets = targets(alloc, app, from, rows.entry())?;
-        add_edges(&mut edges, from, targets.as_slice())?;
+    let numbered = table.numbered_rows(alloc)?;
+    let rows = numbered.rows;
+    let mut pool = numbered.pool;
+    if rows.len() == 0 {
+        return Ok(edges);
+    }
+    let mut levels = Levels::new(alloc, app, &pool)?;
+    for row in rows.as_slice() {
+        let targets = targets(alloc, app, row, &mut pool, &mut levels)?;
+        add_edges(&mut edges, row.point, targets.as_slice())?;
     }
     Ok(edges)
 }

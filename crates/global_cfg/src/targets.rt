@@ -1,128 +1,123 @@
 //! The points to which edges lead from one point.
-ghost use Rattle.std.specs.Prelude.{◌≡◌, ◌∷◌, [], map, IfOk, IfErr, OnOk};
-ghost use Rattle.std.specs.Bool.{OnFalse};
+ghost use Rattle.std.specs.Prelude.{◌≡◌, ◌∷◌, [], List, map, IfOk, IfErr, OnOk};
 ghost use Rattle.osek_standard.specs.Points.{point_number, IsPoint};
-ghost use Rattle.abstract_state.specs.Domains.{domains, domains_of};
+ghost use Rattle.abstract_state.specs.Written.{IsRow};
 ghost use Rattle.flow_model.specs.Effects.{AreAllAllowed};
-ghost use Rattle.abstract_state.specs.declared.table.Entry.{Entry};
-ghost use Rattle.flow_rules.specs.Ends.{IsEndIn, IsGroupIn};
-ghost use Rattle.flow_rules.specs.Passing.{AreTaken};
-ghost use Rattle.flow_rules.specs.RuleGroups.{rule_at, rules_of, AreValuesIn};
-ghost use Rattle.global_cfg.specs.Targets.{dispatches, leads, IsPutFor, IsPassed, ArePassed, ArePutFor, AreTargets};
+ghost use Rattle.flow_exits.specs.Exits.{IsFilled};
+ghost use Rattle.numbered_sets.specs.Pools.{Values, IsLonger};
+ghost use Rattle.numbered_sets.specs.Views.{plain_entry, AreNumbersOf};
+ghost use Rattle.numbered_levels.specs.Levels.{AreLevels};
+ghost use Rattle.numbered_exits.specs.Groups.{exits_of};
+ghost use Rattle.numbered_table.specs.PlainTables.{plain_row};
+ghost use Rattle.global_cfg.specs.Targets.{dispatches, leads, end_target, AreEndsPut, ArePutAfter, AreTargets};
 ghost use Rattle.global_cfg.specs.PointOrder.{AreInOrder, IsPlaceOf, IsGapFor};
 
-use abstract_state::{Entry, Point};
-use flow_dispatch::End;
-use flow_model::{Decision, Rule};
-use flow_rules::{RuleGroup, ValueRules, is_open_end, is_possible, rule_groups};
+use abstract_state::Point;
+use flow_exits::laws::steps_end_at_exits;
+use flow_model::Decision;
+use numbered_exits::{Ends, ExitGroup, NumberEnd, exit_groups};
+use numbered_levels::Levels;
+use numbered_sets::Pool;
+use numbered_table::NumberedRow;
 use osek_standard::App;
 use osek_values::Memory;
 use std::alloc::Global;
 
-/// The points to which edges lead from a point with this entry, in the order of the points.
-pub fn targets(alloc: Global, app: &App, point: Point, entry: &Entry) -> Result<Vec<Point>, Memory>
-    requires point { IsPoint app.now point }
-    requires domains { domains entry.now ≡ domains_of app.now }
-    requires allowed { AreAllAllowed app.now point entry.now }
-    ensures { IfOk result (λ targets. AreTargets app.now point entry.now targets.items) }
+/// The points to which edges lead from the point of a row, in the order of the points. The pool may grow, and the levels with
+/// it.
+pub fn targets(
+    alloc: Global,
+    app: &App,
+    row: &NumberedRow,
+    pool: &mut Pool,
+    levels: &mut Levels,
+) -> Result<Vec<Point>, Memory>
+    requires numbers { AreNumbersOf pool.old row.now.entry }
+    requires row { IsRow app.now (plain_row pool.old row.now) }
+    requires allowed { AreAllAllowed app.now row.now.point (plain_entry pool.old row.now.entry) }
+    requires filled { IsFilled app.now (plain_entry pool.old row.now.entry) }
+    requires levels { AreLevels app.now pool.old levels.old }
+    ensures pool { IsLonger pool.old pool.new }
+    ensures levels { OnOk result (AreLevels app.now pool.new levels.new) }
+    ensures targets { IfOk result (λ targets. AreTargets app.now row.now.point (plain_entry pool.old row.now.entry) targets.items) }
 {
-    let found = rule_groups(alloc, app, point, entry)?;
+    steps_end_at_exits();
+    let groups = exit_groups(alloc, app, row.point, &row.entry, pool, levels)?;
     let mut targets = Vec::new(alloc);
-    for group in found.as_slice() {
-        put_group(&mut targets, group, point, entry)?;
+    for group in groups.as_slice() {
+        put_group(&mut targets, group, row.point)?;
     }
     Ok(targets)
 }
 
-/// Puts in the targets of a group by whose rules control flow leads on.
-fn put_group(
-    points: &mut Vec<Point>,
-    group: &RuleGroup,
-    from: Point,
-    entry: &Entry,
-) -> Result<(), Memory>
-    requires order { AreInOrder points.old.items }
-    requires values { IsGroupIn entry.now group.now }
-    ensures { OnOk result (ArePutFor from entry.now (rules_of group.now) points.old.items points.new.items) }
+/// Puts in the targets of a group by whose exits control flow leads on.
+fn put_group(points: &mut Vec<Point>, group: &ExitGroup, from: Point) -> Result<(), Memory>
+    requires { AreInOrder points.old.items }
+    ensures { OnOk result ((pool : List Values) → AreEndsPut from (exits_of pool group.now) points.old.items points.new.items) }
 {
-    match group {
-        RuleGroup::One(rule) => {
-            if leads_on(rule.target, rule.decision, from) {
-                put_target(points, rule, entry)?;
-            }
+    match &group.ends {
+        Ends::At(targets) => {
+            put_points(points, targets.as_slice(), group.decision, from)?;
             Ok(())
         }
-        RuleGroup::Each(values) => put_values(points, values, from, entry),
-    }
-}
-
-/// Does so for the rules of some values. Their shared rule is asked for once, if some target is new.
-fn put_values(
-    points: &mut Vec<Point>,
-    values: &ValueRules,
-    from: Point,
-    entry: &Entry,
-) -> Result<(), Memory>
-    requires order { AreInOrder points.old.items }
-    requires values { AreValuesIn entry.now values.now }
-    ensures { OnOk result (ArePutFor from entry.now (map (rule_at values.now) values.now.ends) points.old.items points.new.items) }
-{
-    if !some_is_new(points.as_slice(), values, from) || !is_possible(&values.rule, entry) {
-        return Ok(());
-    }
-    for end in values.ends.as_slice() {
-        put_end(points, values, end, from)?;
-    }
-    Ok(())
-}
-
-/// Whether control flow leads on to a point that isn't there.
-fn some_is_new(points: &[Point], values: &ValueRules, from: Point) -> bool
-    requires { AreInOrder points.now }
-    ensures { OnFalse result (ArePassed from points.now values.now) }
-{
-    for end in values.ends.as_slice() {
-        if is_new(points, values, end, from) {
-            return true;
+        Ends::With { ends, .. } => {
+            put_ends(points, ends.as_slice(), group.decision, from)?;
+            Ok(())
         }
     }
-    false
 }
 
-fn is_new(points: &[Point], values: &ValueRules, end: &End, from: Point) -> bool
-    requires { AreInOrder points.now }
-    ensures { OnFalse result (IsPassed from points.now (rule_at values.now end.now)) }
-{
-    if !leads_on(end.target, values.rule.decision, from) {
-        return false;
-    }
-    let Err(_gap) = place_of(points, end.target) else {
-        return false;
-    };
-    true
-}
-
-/// Puts the point of an end in at its place, if control flow leads on to it and its value is open.
-fn put_end(
+fn put_points(
     points: &mut Vec<Point>,
-    values: &ValueRules,
-    end: &End,
+    targets: &[Point],
+    decision: Option<Decision>,
     from: Point,
 ) -> Result<(), Memory>
     requires { AreInOrder points.old.items }
-    ensures { OnOk result ((entry : Entry) → IsEndIn entry values.now end.now → AreTaken values.now.rule entry → ArePutFor from entry (rule_at values.now end.now ∷ []) points.old.items points.new.items) }
+    ensures { OnOk result (ArePutAfter from decision targets.now points.old.items points.new.items) }
 {
-    if !leads_on(end.target, values.rule.decision, from) || !is_open_end(values, end) {
-        return Ok(());
+    for target in targets {
+        put_target(points, *target, decision, from)?;
     }
-    let Err(gap) = place_of(points.as_slice(), end.target) else {
-        return Ok(());
-    };
-    points.insert(gap, end.target)?;
     Ok(())
 }
 
-/// Whether control flow leads on by a rule's step from a point. A dispatch at the same point is that of the task that ran
+fn put_ends(
+    points: &mut Vec<Point>,
+    ends: &[NumberEnd],
+    decision: Option<Decision>,
+    from: Point,
+) -> Result<(), Memory>
+    requires { AreInOrder points.old.items }
+    ensures { OnOk result (ArePutAfter from decision (map end_target ends.now) points.old.items points.new.items) }
+{
+    for end in ends {
+        put_target(points, end.target, decision, from)?;
+    }
+    Ok(())
+}
+
+/// Puts a target in at its place, if control flow leads on to it.
+fn put_target(
+    points: &mut Vec<Point>,
+    target: Point,
+    decision: Option<Decision>,
+    from: Point,
+) -> Result<(), Memory>
+    requires { AreInOrder points.old.items }
+    ensures { OnOk result (ArePutAfter from decision (target ∷ []) points.old.items points.new.items) }
+{
+    if !leads_on(target, decision, from) {
+        return Ok(());
+    }
+    let Err(gap) = place_of(points.as_slice(), target) else {
+        return Ok(());
+    };
+    points.insert(gap, target)?;
+    Ok(())
+}
+
+/// Whether control flow leads on by a step from a point to a target. A dispatch at the same point is that of the task that ran
 /// there, as no two tasks have a block in common.
 fn leads_on(target: Point, decision: Option<Decision>, point: Point) -> bool
     ensures { result ≡ leads target decision point }
@@ -153,20 +148,4 @@ fn place_of(points: &[Point], point: Point) -> Result<usize, usize>
     } else {
         Err(place)
     }
-}
-
-/// Puts the target of a rule in at its place, if some state of the entry takes the rule. That isn't asked where the target
-/// is there.
-fn put_target(points: &mut Vec<Point>, rule: &Rule, entry: &Entry) -> Result<(), Memory>
-    requires { AreInOrder points.old.items }
-    ensures { OnOk result (IsPutFor rule.now entry.now points.old.items points.new.items) }
-{
-    let Err(gap) = place_of(points.as_slice(), rule.target) else {
-        return Ok(());
-    };
-    if !is_possible(rule, entry) {
-        return Ok(());
-    }
-    points.insert(gap, rule.target)?;
-    Ok(())
 }

@@ -1,6 +1,7 @@
 pub mod Raising
 pub mod JoiningCells
-pub mod RowsOfRules
 pub mod NumberedCells
-pub mod JoinedRules
 pub mod CellRows
+pub mod HeldNumbers
+pub mod ExitJoins
+pub mod EvaluatedExits

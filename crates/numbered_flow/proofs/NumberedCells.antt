@@ -1,6 +1,7 @@
 -- Cells of numbered entries: what may be joined to them, and that they stay as the pool grows.
-use Rattle.std.proofs.Common.{◌≡◌, ℕ, ◌+◌, ◌<◌, false, List, [], ◌∷◌, length, get_or, set, map, refl, sym, ap, ap₂, subst, ◌∙◌, inl, inr, arith, All}
+use Rattle.std.proofs.Common.{◌≡◌, ℕ, ◌+◌, ◌<◌, ◌≤◌, false, List, [], ◌∷◌, length, get_or, set, map, refl, sym, ap, ap₂, subst, ◌∙◌, inl, inr, arith, All}
 use Rattle.std.specs.Prelude.{Contains}
+use Rattle.std.proofs.lemmas.Bool.{cases_lt}
 use Rattle.std.proofs.lemmas.List.{length-map, map-set, get_or-map}
 use Rattle.osek_standard.specs.declared.app.App.{App}
 use Rattle.osek_standard.specs.declared.point.Point.{Point}
@@ -9,6 +10,9 @@ use Rattle.abstract_state.specs.declared.table.{Entry.{Entry}}
 use Rattle.numbered_sets.specs.declared.numbered_entry.NumberedEntry.{NumberedEntry}
 use Rattle.numbered_sets.specs.NumberedEntries.{entry_numbers, AreSoundNumbers, IsBelowNumbers}
 use Rattle.abstract_state.specs.declared.value.Domain.{Domain}
+use Rattle.abstract_state.specs.Components.{components, component_count}
+use Rattle.abstract_state.specs.Domains.{domain_of, domains_of}
+use Rattle.abstract_state.proofs.ComponentLaws.{task_counted}
 use Rattle.numbered_sets.specs.Numbers.{Numbers}
 use Rattle.numbered_sets.specs.Pools.{Values, no_values, pool_domains, AreValues, IsLonger}
 use Rattle.numbered_sets.specs.Views.{plain_entry, AreNumbersOf}
@@ -149,3 +153,12 @@ sets_as_many pool entry known = sym (length-map entry.sets (λ (x : Numbers). x.
 pub domains_kept : (ds : List Domain) → pool_domains (map no_values ds) ≡ ds
 domains_kept [] = refl
 domains_kept (d ∷ ds) = ap (λ (es : List Domain). d ∷ es) (domains_kept ds)
+
+-- a pool for the application's components has values of each task
+pub tasks_few : (app : App) (pool : List Values) → pool_domains pool ≡ domains_of app → length app.tasks ≤ length pool
+tasks_few app pool e =
+    let size : length pool ≡ component_count app = sym (length-map pool (λ (x : Values). x.domain)) ∙ ap (λ (ds : List Domain). length ds) e ∙ length-map (components app) (domain_of app) in
+    elim (cases_lt (length pool) (length app.tasks)) [
+      | inl more ↦ (let counted = task_counted app (length pool) more in absurd (omega (arith, counted, size)))
+      | inr few ↦ few
+    ]

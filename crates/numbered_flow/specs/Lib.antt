@@ -1,3 +1,3 @@
 pub mod PlainCells
 pub mod Numbering
-pub mod RowRules
+pub mod ExitRows

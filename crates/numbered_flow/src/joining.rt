@@ -1,144 +1,103 @@
-//! What the rules of a group make of an entry, joined to cells.
-ghost use Rattle.std.specs.Prelude.{◌≡◌, [], ◌∷◌, map, IsTrue, IfSome, IfNone, OnOk};
-ghost use Rattle.std.specs.List.{list_any};
-ghost use Rattle.abstract_state.specs.declared.table.Entry.{Entry};
-ghost use Rattle.abstract_state.specs.Tables.{set_at, is_member};
-ghost use Rattle.flow_model.specs.Tests.{is_failed, PassesAt, value_after as value_after_of};
-ghost use Rattle.flow_rules.specs.RuleGroups.{rule_at, rules_of, AreValuesIn};
-ghost use Rattle.numbered_sets.specs.NumberedEntries.{number_domains};
-ghost use Rattle.numbered_sets.specs.Pools.{pool_domains, IsLonger};
-ghost use Rattle.numbered_sets.specs.Shown.{IsShown};
-ghost use Rattle.numbered_rules.specs.Applying.{KeepsDomains};
+//! The exits of a point, joined to cells.
+ghost use Rattle.std.specs.Prelude.{◌<◌, length, Contains, OnOk};
+ghost use Rattle.numbered_sets.specs.Pools.{values_at};
+ghost use Rattle.numbered_exits.specs.declared.group.NumberEnd.{NumberEnd};
+ghost use Rattle.numbered_sets.specs.Views.{AreNumbersOf};
+ghost use Rattle.numbered_exits.specs.Groups.{IsKnownGroup, AreKnownGroups};
 ghost use Rattle.numbered_flow.specs.Numbering.{AreNumberedCells};
-ghost use Rattle.numbered_flow.specs.RowRules.{JoinsRows, MakesProperRow, MakeProperRows, MayApply, MayJoinValue, IsMadeBeside};
+ghost use Rattle.numbered_flow.specs.ExitRows.{rows_at, rows_with, rows_by, all_rows, AreProperRows, AreRowsJoined};
 
 use crate::numbered_cells::put_in;
-use abstract_state::PartValue;
-use flow_dispatch::End;
-use flow_model::{Rule, passes_each, value_after};
-use flow_rules::{RuleGroup, ValueRules};
-use numbered_rules::{apply_into, replace};
-use numbered_sets::{NumberedEntry, Pool, ShownEntry};
+use abstract_state::Point;
+use numbered_exits::{Ends, ExitGroup, NumberEnd};
+use numbered_sets::{NumberedEntry, Pool};
 use osek_standard::App;
 use osek_values::Memory;
 use state_flow::Cell;
 use std::alloc::Global;
 
-/// Joins what each rule of a group makes of the entry that is shown to the cells.
-pub fn join_group(
+/// Joins each exit of groups to the cell of its point.
+pub fn join_groups(
     alloc: Global,
     app: &App,
-    group: &RuleGroup,
-    shown: &ShownEntry,
-    pool: &mut Pool,
-    made: &mut NumberedEntry,
+    groups: Vec<ExitGroup>,
+    pool: &Pool,
     cells: &mut Vec<Cell<NumberedEntry>>,
 ) -> Result<(), Memory>
-    requires shown { IsShown pool.old shown.now }
-    requires may { MayApply shown.now.plain group.now }
-    requires proper { MakeProperRows app.now (rules_of group.now) shown.now.plain }
-    requires alike { number_domains made.old ≡ pool_domains pool.old }
-    requires cells { AreNumberedCells app.now pool.old cells.old.items }
-    ensures pool { IsLonger pool.old pool.new }
-    ensures alike { OnOk result (number_domains made.new ≡ pool_domains pool.new) }
-    ensures rows { OnOk result (JoinsRows app.now (rules_of group.now) shown.now.plain pool.old cells.old.items pool.new cells.new.items) }
+    requires known { AreKnownGroups pool.now groups.items }
+    requires proper { AreProperRows app.now (all_rows pool.now groups.items) }
+    requires cells { AreNumberedCells app.now pool.now cells.old.items }
+    ensures { OnOk result (AreRowsJoined app.now pool.now cells.old.items (all_rows pool.now groups.items) cells.new.items) }
 {
-    match group {
-        RuleGroup::One(rule) => join_rule(alloc, app, rule, shown, pool, made, cells),
-        RuleGroup::Each(values) => join_each(alloc, app, values, shown, pool, made, cells),
-    }
-}
-
-fn join_rule(
-    alloc: Global,
-    app: &App,
-    rule: &Rule,
-    shown: &ShownEntry,
-    pool: &mut Pool,
-    made: &mut NumberedEntry,
-    cells: &mut Vec<Cell<NumberedEntry>>,
-) -> Result<(), Memory>
-    requires shown { IsShown pool.old shown.now }
-    requires domains { KeepsDomains rule.now shown.now.plain }
-    requires proper { MakesProperRow app.now rule.now shown.now.plain }
-    requires alike { number_domains made.old ≡ pool_domains pool.old }
-    requires cells { AreNumberedCells app.now pool.old cells.old.items }
-    ensures pool { IsLonger pool.old pool.new }
-    ensures alike { OnOk result (number_domains made.new ≡ pool_domains pool.new) }
-    ensures rows { OnOk result (JoinsRows app.now (rule.now ∷ []) shown.now.plain pool.old cells.old.items pool.new cells.new.items) }
-{
-    let is_made = apply_into(alloc, rule, pool, &shown.numbers, made)?;
-    if is_made {
-        put_in(alloc, app, pool, cells, rule.target, made)?;
+    for group in groups {
+        join_group(alloc, app, &group, pool, cells)?;
     }
     Ok(())
 }
 
-// what the rules have in common is done once
-fn join_each(
+// joins each exit of a group to the cell of its point.
+fn join_group(
     alloc: Global,
     app: &App,
-    group: &ValueRules,
-    shown: &ShownEntry,
-    pool: &mut Pool,
-    made: &mut NumberedEntry,
+    group: &ExitGroup,
+    pool: &Pool,
     cells: &mut Vec<Cell<NumberedEntry>>,
 ) -> Result<(), Memory>
-    requires shown { IsShown pool.old shown.now }
-    requires domains { KeepsDomains group.now.rule shown.now.plain }
-    requires within { AreValuesIn shown.now.plain group.now }
-    requires proper { MakeProperRows app.now (map (rule_at group.now) group.now.ends) shown.now.plain }
-    requires alike { number_domains made.old ≡ pool_domains pool.old }
-    requires cells { AreNumberedCells app.now pool.old cells.old.items }
-    ensures pool { IsLonger pool.old pool.new }
-    ensures alike { OnOk result (number_domains made.new ≡ pool_domains pool.new) }
-    ensures rows { OnOk result (JoinsRows app.now (map (rule_at group.now) group.now.ends) shown.now.plain pool.old cells.old.items pool.new cells.new.items) }
+    requires known { IsKnownGroup pool.now group.now }
+    requires proper { AreProperRows app.now (rows_by pool.now group.now.entry group.now.ends) }
+    requires cells { AreNumberedCells app.now pool.now cells.old.items }
+    ensures { OnOk result (AreRowsJoined app.now pool.now cells.old.items (rows_by pool.now group.now.entry group.now.ends) cells.new.items) }
 {
-    let is_made = apply_into(alloc, &group.rule, pool, &shown.numbers, made)?;
-    if !is_made {
-        return Ok(());
+    match &group.ends {
+        Ends::At(points) => join_at(alloc, app, points.as_slice(), &group.entry, pool, cells),
+        Ends::With { component, ends } => {
+            let entry = group.entry.copy(alloc)?;
+            join_with(alloc, app, *component, ends.as_slice(), entry, pool, cells)
+        }
     }
-    for end in group.ends.as_slice() {
-        join_value(alloc, app, group, end, pool, made, cells)?;
+}
+
+// at each of these points, with all numbers
+fn join_at(
+    alloc: Global,
+    app: &App,
+    points: &[Point],
+    entry: &NumberedEntry,
+    pool: &Pool,
+    cells: &mut Vec<Cell<NumberedEntry>>,
+) -> Result<(), Memory>
+    requires known { AreNumbersOf pool.now entry.now }
+    requires proper { AreProperRows app.now (rows_at pool.now entry.now points.now) }
+    requires cells { AreNumberedCells app.now pool.now cells.old.items }
+    ensures { OnOk result (AreRowsJoined app.now pool.now cells.old.items (rows_at pool.now entry.now points.now) cells.new.items) }
+{
+    for point in points {
+        put_in(alloc, app, pool, cells, *point, entry)?;
     }
     Ok(())
 }
 
-// what the rule of one value makes: its set in what the shared rule makes is what becomes of the value
-fn join_value(
+// with each of these numbers of a component alone, at its point
+fn join_with(
     alloc: Global,
     app: &App,
-    group: &ValueRules,
-    end: &End,
-    pool: &mut Pool,
-    made: &mut NumberedEntry,
+    component: usize,
+    ends: &[NumberEnd],
+    entry: NumberedEntry,
+    pool: &Pool,
     cells: &mut Vec<Cell<NumberedEntry>>,
 ) -> Result<(), Memory>
-    requires may { MayJoinValue app.now group.now end.now pool.old made.old }
-    requires cells { AreNumberedCells app.now pool.old cells.old.items }
-    ensures pool { IsLonger pool.old pool.new }
-    ensures made { OnOk result ((entry : Entry) → IsMadeBeside group.now entry pool.old made.old → IsMadeBeside group.now entry pool.new made.new) }
-    ensures rows { OnOk result ((entry : Entry) → IsMadeBeside group.now entry pool.old made.old → IsTrue (is_member (set_at entry group.now.component.0) end.now.value) →
-        JoinsRows app.now (rule_at group.now end.now ∷ []) entry pool.old cells.old.items pool.new cells.new.items) }
+    requires component { component < length entry.sets }
+    requires known { AreNumbersOf pool.now entry }
+    requires ends { (x : NumberEnd) → Contains ends.now x → x.number < length (values_at pool.now component) }
+    requires proper { AreProperRows app.now (rows_with pool.now entry component ends.now) }
+    requires cells { AreNumberedCells app.now pool.now cells.old.items }
+    ensures { OnOk result (AreRowsJoined app.now pool.now cells.old.items (rows_with pool.now entry component ends.now) cells.new.items) }
 {
-    let Some(value) = becomes(group, end) else {
-        return Ok(());
-    };
-    replace(alloc, group.component.index(), value, pool, made)?;
-    put_in(alloc, app, pool, cells, end.target, made)?;
-    Ok(())
-}
-
-// what becomes of a value of a group; none where it doesn't pass
-fn becomes(group: &ValueRules, end: &End) -> Option<PartValue>
-    ensures passes { IfSome result (λ _. PassesAt group.now.rule.conditions group.now.component.0 end.now.value) }
-    ensures value { IfSome result (λ value. value ≡ value_after_of group.now.rule.changes group.now.component.0 end.now.value) }
-    ensures fails { IfNone result (IsTrue (list_any (is_failed group.now.component.0 end.now.value) group.now.rule.conditions)) }
-{
-    let component = group.component.index();
-    if !passes_each(group.rule.conditions.as_slice(), component, &end.value) {
-        return None;
+    let mut held = entry;
+    for end in ends {
+        held.hold_only(component, end.number)?;
+        put_in(alloc, app, pool, cells, end.target, &held)?;
     }
-    let value = value_after(group.rule.changes.as_slice(), component, &end.value);
-    Some(value)
+    Ok(())
 }

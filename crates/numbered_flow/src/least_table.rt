@@ -4,10 +4,8 @@ ghost use Rattle.osek_standard.specs.Counts.{points, height};
 ghost use Rattle.abstract_state.specs.Domains.{HasMasks, domains as domains_of_entry, domains_of};
 ghost use Rattle.abstract_state.specs.Tables.{Least, sets_of, value_count};
 ghost use Rattle.abstract_state.specs.Written.{IsWritten};
-ghost use Rattle.numbered_sets.specs.Numbers.{numbers};
-ghost use Rattle.numbered_sets.specs.NumberedEntries.{number_domains};
 ghost use Rattle.numbered_sets.specs.Pools.{no_values, pool_domains, IsLonger};
-ghost use Rattle.numbered_sets.specs.Shown.{IsShown};
+ghost use Rattle.numbered_levels.specs.Levels.{AreLevels};
 ghost use Rattle.state_flow.specs.Cells.{IsWaitingAt};
 ghost use Rattle.state_flow.specs.Progress.{Progress};
 ghost use Rattle.numbered_flow.specs.PlainCells.{plain_cells, AreCellsOf};
@@ -16,7 +14,8 @@ ghost use Rattle.numbered_flow.specs.Numbering.{AreNumberedCells, HasProgress};
 use crate::evaluation::evaluate;
 use crate::numbered_cells::{put_in, rows};
 use abstract_state::{Domain, Entry, masks_are_few};
-use numbered_sets::{NumberedEntry, Pool, ShownEntry, numbered};
+use numbered_levels::Levels;
+use numbered_sets::{NumberedEntry, Pool, numbered};
 use numbered_table::Table;
 use osek_standard::App;
 use osek_values::{Memory, ModeNo, Steps};
@@ -37,17 +36,14 @@ pub fn solve<L: Ledger>(alloc: Global, app: &App, steps: &mut Steps<L>) -> Resul
 {
     masks_are_few(app);
     let mut pool = pool_of(alloc, app)?;
-    let mut shown = nothing_shown(alloc, app, &pool)?;
-    let mut made = no_numbers(alloc, app)?;
     let mut cells = started(alloc, app, &mut pool)?;
+    let mut levels = Levels::new(alloc, app, &pool)?;
     let mut from = 0;
     // sweeps upward over the points: what a point leads to stands mostly above it
     while let Some(place) = next_waiting(cells.as_slice(), from) {
         steps.tick();
         let point = cells[place].point;
-        turn(
-            alloc, app, &mut pool, &mut cells, &mut shown, &mut made, place,
-        )?;
+        turn(alloc, app, &mut pool, &mut levels, &mut cells, place)?;
         from = place_behind(cells.as_slice(), point);
     }
     let rows = rows(alloc, cells)?;
@@ -61,25 +57,6 @@ fn pool_of(alloc: Global, app: &App) -> Result<Pool, Memory>
     let domains = component_domains(alloc, app)?;
     let pool = Pool::new(alloc, domains.as_slice())?;
     Ok(pool)
-}
-
-/// The entry without a value, as the first that is shown.
-fn nothing_shown(alloc: Global, app: &App, pool: &Pool) -> Result<ShownEntry, Memory>
-    requires { pool_domains pool.now ≡ domains_of app.now }
-    ensures { IfOk result (IsShown pool.now) }
-{
-    let none = no_numbers(alloc, app)?;
-    let shown = ShownEntry::new(alloc, pool, none)?;
-    Ok(shown)
-}
-
-/// The entry without a number.
-fn no_numbers(alloc: Global, app: &App) -> Result<NumberedEntry, Memory>
-    ensures { IfOk result (λ none. none.sets ≡ map (λ d. numbers d 0) (domains_of app.now)) }
-{
-    let domains = component_domains(alloc, app)?;
-    let none = NumberedEntry::new(alloc, domains.as_slice())?;
-    Ok(none)
 }
 
 /// What the values of each of the application's components are values of.
@@ -121,24 +98,21 @@ fn turn(
     alloc: Global,
     app: &App,
     pool: &mut Pool,
+    levels: &mut Levels,
     cells: &mut Vec<Cell<NumberedEntry>>,
-    shown: &mut ShownEntry,
-    made: &mut NumberedEntry,
     place: usize,
 ) -> Result<(), Memory>
     requires masks { HasMasks app.now }
-    requires shown { IsShown pool.old shown.old }
+    requires levels { AreLevels app.now pool.old levels.old }
     requires cells { AreNumberedCells app.now pool.old cells.old.items }
     requires waits { IsWaitingAt cells.old.items place }
-    requires alike { number_domains made.old ≡ pool_domains pool.old }
-    ensures shown { OnOk result (IsShown pool.new shown.new) }
-    ensures alike { OnOk result (number_domains made.new ≡ pool_domains pool.new) }
+    ensures levels { OnOk result (AreLevels app.now pool.new levels.new) }
     ensures progress { OnOk result ((n : ℕ) → HasProgress app.now pool.old cells.old.items n → HasProgress app.now pool.new cells.new.items (n + 1)) }
 {
     let cell = &mut cells[place];
     let point = cell.point;
-    shown.renew(alloc, pool, &cell.entry)?;
+    let entry = cell.entry.copy(alloc)?;
     cell.waiting = false;
-    evaluate(alloc, app, point, shown, pool, made, cells)?;
+    evaluate(alloc, app, point, &entry, pool, levels, cells)?;
     Ok(())
 }

@@ -87,8 +87,9 @@ fn change(
     if component >= entry.sets.len() || is_named(rule.changes.as_slice(), place, component) {
         return Ok(());
     }
-    let set = updated(alloc, change, pool, component, entry.sets.at(component))?;
-    entry.sets.put(component, set);
+    let numbers = entry.sets.set(alloc, component)?;
+    let set = updated(alloc, change, pool, component, &numbers)?;
+    entry.sets.put(component, &set)?;
     Ok(())
 }
 

@@ -27,8 +27,7 @@ pub fn replace(
     ensures replaced { OnOk result (IsReplaced pool.old entry.old component value pool.new entry.new) }
 {
     let made = pool.number(component, value)?;
-    let set = entry.sets.at_mut(component);
-    set.hold_only(made)?;
+    entry.hold_only(component, made)?;
     Ok(())
 }
 
@@ -44,7 +43,6 @@ pub fn replace_by_number(
     requires given { number < length (values_at pool.now component) }
     ensures { OnOk result ((value : PartValue) → IsNumberOf (values_at pool.now component) value number → IsReplaced pool.now entry.old component value pool.now entry.new) }
 {
-    let set = entry.sets.at_mut(component);
-    set.hold_only(number)?;
+    entry.hold_only(component, number)?;
     Ok(())
 }

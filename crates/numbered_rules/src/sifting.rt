@@ -49,8 +49,7 @@ fn keep_passing(
     if component >= entry.sets.len() {
         return Ok(true);
     }
-    let set = entry.sets.at_mut(component);
-    pool.keep_passing(alloc, component, &condition.test, set)?;
-    let is_left = !set.is_empty();
+    pool.keep_passing(alloc, component, &condition.test, entry)?;
+    let is_left = !entry.sets.is_empty(component);
     Ok(is_left)
 }

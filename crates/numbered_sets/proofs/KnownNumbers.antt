@@ -152,7 +152,7 @@ found (v ∷ vs) has w e = elim (or_cases (has 0 && same_part w v) (has_value vs
   | inr later ↦ (let x = found vs (λ n. has (suc n)) w later in record { number = suc x.number; known = omega (arith, x.known); is = x.is; there = x.there })
 ]
 
-apart_values : (vs : List PartValue) (w : PartValue) (m n : ℕ) → IsDistinct same_part vs → m < n → n < length vs → get_or vs m w ≡ w → get_or vs n w ≡ w → ⊥
+pub apart_values : (vs : List PartValue) (w : PartValue) (m n : ℕ) → IsDistinct same_part vs → m < n → n < length vs → get_or vs m w ≡ w → get_or vs n w ≡ w → ⊥
 apart_values vs w m n distinct lt less at also =
     let apart : same_part (get_or vs m w) (get_or vs n w) ≡ false = apart_from_distinct same_part vs m n w distinct lt less in
     let same : same_part (get_or vs m w) (get_or vs n w) ≡ true = ap₂ same_part at also ∙ part_itself w in

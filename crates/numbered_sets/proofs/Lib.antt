@@ -8,8 +8,13 @@ pub mod ViewLaws
 pub mod KnownNumbers
 pub mod NumberingLaws
 pub mod KeptWords
+pub mod OtherWords
+pub mod MeetLaws
 pub mod SiftLaws
 pub mod ShownLaws
 pub mod FirstWords
+pub mod FurtherLaws
+pub mod FlatLaws
+pub mod CopiedPools
 pub mod CopiedEntries
 pub mod NextNumbers

@@ -1,15 +1,14 @@
 -- The lattice of numbered entries: what a join leaves is sound and lies where it should, and the count of numbers grows
 -- with the order.
-use Rattle.std.proofs.Common.{◌≡◌, ◌⊎◌, ℕ, zero, suc, ◌+◌, ◌<◌, ◌≤◌, ◌^◌, Bool, true, false, ◌||◌, List, [], ◌∷◌, length, get_or, set, map, refl, sym, ap, ap₂, subst, ◌∙◌, inl, inr, arith, sum_by, IsTrue, Result, Ok, Err, get_or-set_same, get_or-set_other}
+use Rattle.std.proofs.Common.{◌≡◌, ◌⊎◌, ℕ, zero, suc, ◌+◌, ◌<◌, ◌≤◌, ◌^◌, Bool, true, false, ◌||◌, List, [], ◌∷◌, length, get_or, map, refl, sym, ap, ap₂, subst, ◌∙◌, inl, inr, arith, sum_by, IsTrue, Result, Ok, Err}
 use Rattle.std.specs.Prelude.{IfOk, OnOk, OnErr, bit_or}
 use Rattle.std.specs.List.{All}
-use Rattle.std.proofs.Math.ListN.{get_or-map, get_or-eq_default}
-use Rattle.std.proofs.lemmas.Bool.{cases_eq, cases_lt, or_cases, or_left, or_right, eqb-true}
-use Rattle.std.proofs.lemmas.List.{length-map, length-set, get_or_default, same_lists}
+use Rattle.std.proofs.Math.ListN.{get_or-map}
+use Rattle.std.proofs.lemmas.Bool.{cases_lt, or_cases, or_left, or_right, eqb-true}
+use Rattle.std.proofs.lemmas.List.{length-map, get_or_default, same_lists}
 use Rattle.std.proofs.lemmas.List.Elements.{All-head, All-tail, All-get_or, All-from_get_or}
 use Rattle.std.proofs.lemmas.Nat.{or_lt}
-use Rattle.std.specs.Int.Bits.{or_zero_r}
-use Rattle.std.proofs.lemmas.List.Sums.{sum_by-cons, sum_by_more_le}
+use Rattle.std.proofs.lemmas.List.Sums.{sum_by-cons}
 use Rattle.osek_values.specs.declared.memory.Memory.{Memory}
 use Rattle.osek_standard.specs.Kernel.{has_bit}
 use Rattle.abstract_state.specs.declared.value.Domain.{Domain}
@@ -17,7 +16,7 @@ use Rattle.abstract_state.specs.Domains.{domain_size}
 use Rattle.abstract_state.specs.Components.{passing_below}
 use Rattle.abstract_state.proofs.HeightLaws.{sum_map}
 use Rattle.numbered_sets.specs.declared.numbered_entry.NumberedEntry.{NumberedEntry}
-use Rattle.numbered_sets.specs.Numbers.{Numbers, numbers, has_number, with_number, joined_numbers, number_count, AreSound}
+use Rattle.numbered_sets.specs.Numbers.{Numbers, has_number, with_number, joined_numbers, number_count, AreSound}
 use Rattle.numbered_sets.specs.NumberedEntries.{no_set, numbers_at, number_domains, entry_numbers, room, numbers_height, AreSoundNumbers, IsBelowNumbers, IsNumberJoin, IsPartOfNumberJoin}
 use Rattle.numbered_sets.proofs.Counting.{passing_grows, passing_shows, passing_most}
 use Rattle.numbered_sets.proofs.BitCounts.{ones_below, no_bit_past, same_bits, has_either, has_one}
@@ -229,53 +228,3 @@ module _ (before other : NumberedEntry) (sound : AreSoundNumbers before) (too : 
       let back = growth_shows before after sound way.element way.alike way.grows (omega (arith, count, none)) in
       equal_entries after before way.element sound (sym way.alike) back way.grows
   join_of_none (Err e) done count = tt
-
--- the sets below a place are joined, and the rest are as they were
-pub record AreNumbersJoined (before other : NumberedEntry) (place : ℕ) (now : NumberedEntry) : Type 0 where
-  pub as_many : length now.sets ≡ length before.sets
-  pub joined : (c : ℕ) → c < place → numbers_at now c ≡ joined_numbers (numbers_at before c) (numbers_at other c)
-  pub kept : (c : ℕ) → place ≤ c → numbers_at now c ≡ numbers_at before c
-
-pub none_joined : (before other : NumberedEntry) → AreNumbersJoined before other 0 before
-none_joined before other = record { as_many = refl; joined = λ c lt. absurd (omega (arith, lt)); kept = λ c le. refl }
-
-module _ (before other now after : NumberedEntry) (i : ℕ) (x : Numbers) (known : i < length now.sets) (is : numbers_at other i ≡ x) (so_far : AreNumbersJoined before other i now) (write : after.sets ≡ set now.sets i (joined_numbers (numbers_at now i) x)) where
-  here : numbers_at after i ≡ joined_numbers (numbers_at before i) (numbers_at other i)
-  here =
-      ap (λ (xs : List Numbers). get_or xs i no_set) write ∙ get_or-set_same now.sets i (joined_numbers (numbers_at now i) x) no_set known
-      ∙ ap₂ joined_numbers (so_far.kept i (omega arith)) (sym is)
-
-  elsewhere : (c : ℕ) → (c ≡ i → ⊥) → numbers_at after c ≡ numbers_at now c
-  elsewhere c differ = ap (λ (xs : List Numbers). get_or xs c no_set) write ∙ get_or-set_other now.sets i c (joined_numbers (numbers_at now i) x) no_set differ
-
-  pub joined_on : AreNumbersJoined before other (i + 1) after
-  joined_on = record {
-    as_many = ap length write ∙ length-set now.sets i (joined_numbers (numbers_at now i) x) ∙ so_far.as_many;
-    joined = λ c lt. elim (cases_eq c i) [
-      | inl same ↦ subst (λ (j : ℕ). numbers_at after j ≡ joined_numbers (numbers_at before j) (numbers_at other j)) (sym same) here
-      | inr differ ↦ elsewhere c differ ∙ so_far.joined c (omega (arith, lt, differ))
-    ];
-    kept = λ c le. elsewhere c (λ same. omega (arith, same, le)) ∙ so_far.kept c (omega (arith, le));
-  }
-
-pub stopped : (before other now : NumberedEntry) (i : ℕ) → AreNumbersJoined before other i now → IsPartOfNumberJoin before other now
-stopped before other now i so_far = record {
-  as_many = so_far.as_many;
-  each = λ c. elim (cases_lt c i) [ inl lt ↦ inl (so_far.joined c lt) | inr le ↦ inr (so_far.kept c le) ];
-}
-
-joined_with_none : (x y : Numbers) → y ≡ no_set → joined_numbers x y ≡ x
-joined_with_none x y e = ap (joined_numbers x) e ∙ ap (numbers x.domain) (or_zero_r x.bits)
-
-pub all_joined : (before other after : NumberedEntry) (i : ℕ) → length other.sets ≤ i → AreNumbersJoined before other i after → IsNumberJoin before other after
-all_joined before other after i whole so_far = record {
-  as_many = so_far.as_many;
-  each = λ c. elim (cases_lt c i) [
-    | inl lt ↦ so_far.joined c lt
-    | inr le ↦ so_far.kept c le ∙ sym (joined_with_none (numbers_at before c) (numbers_at other c) (get_or-eq_default other.sets no_set (omega (arith, whole, le))))
-  ];
-}
-
--- a set's numbers are among the entry's
-pub sum_at : (x : NumberedEntry) (c : ℕ) → c < length x.sets → number_count (numbers_at x c) ≤ entry_numbers x
-sum_at x c known = (let some = sum_by_more_le number_count x.sets c no_set known in omega (arith, some))

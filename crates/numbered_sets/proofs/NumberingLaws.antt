@@ -1,10 +1,9 @@
 -- The numbers of the values of a set and of an entry, as the pool grows by them.
-use Rattle.std.proofs.Common.{◌≡◌, ℕ, suc, ◌+◌, ◌^◌, ◌<◌, ◌≤◌, Bool, false, ◌||◌, List, [], ◌∷◌, ◌++◌, length, get_or, set, take, map, refl, sym, ap, ap₂, subst, ◌∙◌, inl, inr, arith, IsTrue, append_assoc}
+use Rattle.std.proofs.Common.{◌≡◌, ℕ, ◌+◌, ◌^◌, ◌<◌, ◌≤◌, Bool, false, ◌||◌, List, [], ◌∷◌, ◌++◌, length, get_or, set, take, map, refl, sym, ap, ap₂, subst, ◌∙◌, inl, inr, arith, IsTrue, append_assoc, get_or-set_same, get_or-set_other}
 use Rattle.std.specs.List.{list_any}
 use Rattle.std.proofs.Math.ListN.{get_or-map, get_or-eq_default}
-use Rattle.std.proofs.Math.Seq.{get_or-append_seam}
-use Rattle.std.proofs.lemmas.Bool.{cases_lt, or_cases, eqb-true}
-use Rattle.std.proofs.lemmas.List.{length-append, length-map, get_or_append_left, take_all}
+use Rattle.std.proofs.lemmas.Bool.{cases_eq, cases_lt, or_cases, eqb-true}
+use Rattle.std.proofs.lemmas.List.{length-append, length-map, take_all}
 use Rattle.std.proofs.lemmas.List.Folds.{list_any_more}
 use Rattle.osek_standard.specs.Kernel.{has_bit}
 use Rattle.abstract_state.specs.declared.value.{Domain.{Domain}, PartValue.{PartValue}}
@@ -17,13 +16,14 @@ use Rattle.abstract_state.proofs.JoinLaws.{equal_sets}
 use Rattle.abstract_state.proofs.EntryJoins.{same_sets}
 use Rattle.numbered_sets.specs.declared.numbered_entry.NumberedEntry.{NumberedEntry}
 use Rattle.numbered_sets.specs.Numbers.{Numbers, numbers, has_number, with_number}
-use Rattle.numbered_sets.specs.NumberedEntries.{no_set, numbers_at}
+use Rattle.numbered_sets.specs.NumberedEntries.{no_set}
 use Rattle.numbered_sets.specs.Pools.{Values, no_values, value_seen, seen_at, values_at, domain_at, pool_domains, IsNumberOf, IsExtended, IsLonger}
 use Rattle.numbered_sets.specs.Views.{values_with, in_order, plain_set, plain_entry, AreNumbersOf, IsNumberedSet}
 use Rattle.numbered_sets.proofs.BitCounts.{has_either, has_one}
 use Rattle.numbered_sets.proofs.PlainLaws.{ascending_in_order, has_value, member_of_plain, values_with_none, values_longer, value_of_either, plain_set_at, length_plain}
 use Rattle.numbered_sets.proofs.ViewLaws.{false_unless, extended_by_none, longer_with, only_value}
 use Rattle.numbered_sets.proofs.KnownNumbers.{no_bit_of_none}
+use Rattle.numbered_sets.proofs.CopiedEntries.{domains_put}
 
 pub longer_itself : (pool : List Values) → IsLonger pool pool
 longer_itself pool = record { domains = refl; values = λ c. extended_by_none (values_at pool c) }
@@ -118,62 +118,65 @@ numbered_on pool after c s x longer h =
       plain = (λ i. record { domain = x.domain; members = in_order (values i) }) ∙ h.plain;
     }
 
--- the first sets of an entry
+-- the sets of an entry, of which those up to one are numbered
 pub record AreNumberedUpTo (before : List Values) (entry : Entry) (k : ℕ) (pool : List Values) (sets : List Numbers) : Type 0 where
   pub longer : IsLonger before pool
-  pub size : length sets ≡ k
+  pub domains : map (λ (x : Numbers). x.domain) sets ≡ map (λ (s : ValueSet). s.domain) entry.sets
   pub each : (c : ℕ) → c < k → IsNumberedSet pool c (set_at entry c) (get_or sets c no_set)
 
-pub none_numbered_yet : (pool : List Values) (entry : Entry) → AreNumberedUpTo pool entry 0 pool []
-none_numbered_yet pool entry = record { longer = longer_itself pool; size = refl; each = λ c lt. absurd (omega (arith, lt)) }
+domains_of_none : (ds : List Domain) → map (λ (x : Numbers). x.domain) (map (λ (d : Domain). numbers d 0) ds) ≡ ds
+domains_of_none [] = refl
+domains_of_none (d ∷ ds) = ap (λ (es : List Domain). d ∷ es) (domains_of_none ds)
 
-pub numbered_next : (before : List Values) (entry : Entry) (k : ℕ) (pool after : List Values) (sets : List Numbers) (s : ValueSet) (x : Numbers) → AreNumberedUpTo before entry k pool sets → IsLonger pool after → set_at entry k ≡ s → IsNumberedSet after k s x
-    → AreNumberedUpTo before entry (k + 1) after (sets ++ x ∷ [])
-numbered_next before entry k pool after sets s x h longer at is = record {
+pub none_numbered_yet : (pool : List Values) (entry : Entry) (sets : List Numbers) → sets ≡ map (λ (d : Domain). numbers d 0) (domains entry) → AreNumberedUpTo pool entry 0 pool sets
+none_numbered_yet pool entry sets is = record {
+  longer = longer_itself pool;
+  domains = ap (map (λ (x : Numbers). x.domain)) is ∙ domains_of_none (domains entry);
+  each = λ c lt. absurd (omega (arith, lt));
+}
+
+module _ (sets : List Numbers) (entry : Entry) (alike : map (λ (x : Numbers). x.domain) sets ≡ map (λ (s : ValueSet). s.domain) entry.sets) where
+  pub as_many_sets : length sets ≡ length entry.sets
+  as_many_sets = sym (length-map sets (λ (x : Numbers). x.domain)) ∙ ap length alike ∙ length-map entry.sets (λ (s : ValueSet). s.domain)
+
+  pub domain_there : (c : ℕ) → (get_or sets c no_set).domain ≡ (set_at entry c).domain
+  domain_there c =
+      sym (get_or-map (λ (x : Numbers). x.domain) sets c no_set) ∙ ap (λ (ds : List Domain). get_or ds c domain.Alarm) alike
+      ∙ get_or-map (λ (s : ValueSet). s.domain) entry.sets c empty_set
+
+-- a set in its place
+pub numbered_next : (before : List Values) (entry : Entry) (k : ℕ) (pool after : List Values) (sets : List Numbers) (s : ValueSet) (x : Numbers) → k < length sets → AreNumberedUpTo before entry k pool sets → IsLonger pool after → set_at entry k ≡ s → IsNumberedSet after k s x
+    → AreNumberedUpTo before entry (k + 1) after (set sets k x)
+numbered_next before entry k pool after sets s x known h longer at is = record {
   longer = longer_onward before pool after h.longer longer;
-  size = omega (arith, length-append sets (x ∷ []), h.size);
-  each = λ c lt. elim (cases_lt c k) [
-    | inl below ↦
-        subst (IsNumberedSet after c (set_at entry c)) (sym (get_or_append_left sets (x ∷ []) no_set c (omega (arith, below, h.size)))) (numbered_on pool after c (set_at entry c) (get_or sets c no_set) longer (h.each c below))
-    | inr above ↦
-        (let same : c ≡ k = omega (arith, lt, above) in
-        let last : get_or (sets ++ x ∷ []) k no_set ≡ x = ap (λ (n : ℕ). get_or (sets ++ x ∷ []) n no_set) (sym h.size) ∙ get_or-append_seam sets x [] no_set in
-        subst (λ (j : ℕ). IsNumberedSet after j (set_at entry j) (get_or (sets ++ x ∷ []) j no_set)) (sym same)
-        (subst (IsNumberedSet after k (set_at entry k)) (sym last) (subst (λ (y : ValueSet). IsNumberedSet after k y x) (sym at) is)))
+  domains = domains_put sets k x known (is.domain ∙ sym (domain_there sets entry h.domains k ∙ ap (λ (y : ValueSet). y.domain) at)) ∙ h.domains;
+  each = λ c lt. elim (cases_eq c k) [
+    | inl same ↦
+        subst (λ (j : ℕ). IsNumberedSet after j (set_at entry j) (get_or (set sets k x) j no_set)) (sym same)
+        (subst (IsNumberedSet after k (set_at entry k)) (sym (get_or-set_same sets k x no_set known)) (subst (λ (y : ValueSet). IsNumberedSet after k y x) (sym at) is))
+    | inr differ ↦
+        (let below : c < k = omega (arith, lt, differ) in
+        subst (IsNumberedSet after c (set_at entry c)) (sym (get_or-set_other sets k c x no_set differ)) (numbered_on pool after c (set_at entry c) (get_or sets c no_set) longer (h.each c below)))
   ];
 }
 
-domains_there : (xs : List Numbers) (ys : List ValueSet) → length xs ≡ length ys → ((c : ℕ) → (get_or xs c no_set).domain ≡ (get_or ys c empty_set).domain) → map (λ (x : Numbers). x.domain) xs ≡ map (λ (s : ValueSet). s.domain) ys
-domains_there [] [] e h = refl
-domains_there [] (y ∷ ys) e h = absurd (omega (arith, e))
-domains_there (x ∷ xs) [] e h = absurd (omega (arith, e))
-domains_there (x ∷ xs) (y ∷ ys) e h = ap₂ (λ (d : Domain) (ds : List Domain). d ∷ ds) (h 0) (domains_there xs ys (omega (arith, e)) (λ c. h (suc c)))
-
 module _ (before : List Values) (entry : Entry) (pool : List Values) (numbered : NumberedEntry) (k : ℕ) (whole : k ≡ length entry.sets) (alike : domains entry ≡ pool_domains before) (h : AreNumberedUpTo before entry k pool numbered.sets) where
-  domain_there : (c : ℕ) → (numbers_at numbered c).domain ≡ (set_at entry c).domain
-  domain_there c = elim (cases_lt c k) [
-    | inl lt ↦ (h.each c lt).domain
-    | inr le ↦
-        ap (λ (x : Numbers). x.domain) (get_or-eq_default numbered.sets no_set (omega (arith, h.size, le)))
-        ∙ sym (ap (λ (s : ValueSet). s.domain) (get_or-eq_default entry.sets empty_set (omega (arith, whole, le))))
-  ]
-
   pub numbered_known : AreNumbersOf pool numbered
   numbered_known = record {
-    domains = domains_there numbered.sets entry.sets (omega (arith, h.size, whole)) domain_there ∙ alike ∙ sym h.longer.domains;
+    domains = h.domains ∙ alike ∙ sym h.longer.domains;
     known = λ c n member. elim (cases_lt c k) [
       | inl lt ↦ (h.each c lt).known n member
-      | inr le ↦ absurd (no_bit_of_none n (sym (ap (λ (x : Numbers). has_number x n) (get_or-eq_default numbered.sets no_set (omega (arith, h.size, le)))) ∙ member))
+      | inr le ↦ absurd (no_bit_of_none n (sym (ap (λ (x : Numbers). has_number x n) (get_or-eq_default numbered.sets no_set (let many = as_many_sets numbered.sets entry h.domains in omega (arith, many, whole, le)))) ∙ member))
     ];
   }
 
   pub numbered_plain : plain_entry pool numbered ≡ entry
   numbered_plain =
       let sets =
-      same_sets (plain_entry pool numbered).sets entry.sets (length_plain pool 0 numbered.sets ∙ h.size ∙ whole) (λ c. elim (cases_lt c k) [
+      same_sets (plain_entry pool numbered).sets entry.sets (length_plain pool 0 numbered.sets ∙ as_many_sets numbered.sets entry h.domains) (λ c. elim (cases_lt c k) [
         | inl lt ↦ plain_set_at pool numbered c ∙ (h.each c lt).plain
         | inr le ↦
-            get_or-eq_default (plain_entry pool numbered).sets empty_set (omega (arith, length_plain pool 0 numbered.sets, h.size, le))
+            get_or-eq_default (plain_entry pool numbered).sets empty_set (let many = as_many_sets numbered.sets entry h.domains in omega (arith, length_plain pool 0 numbered.sets, many, whole, le))
             ∙ sym (get_or-eq_default entry.sets empty_set (omega (arith, whole, le)))
       ]) in
       λ i. record { sets = sets i }

@@ -2,6 +2,7 @@
 use Rattle.std.proofs.Common.{◌≡◌, ◌≢◌, ℕ, zero, suc, ◌+◌, ◌-◌, ◌*◌, ◌/◌, ◌%◌, ◌^◌, ◌<◌, ◌≤◌, Bool, true, false, ◌||◌, List, [], ◌∷◌, ◌++◌, length, get_or, set, refl, sym, ap, ap₂, subst, ◌∙◌, inl, inr, arith, replicate, w64, lit<, get_or-set_same, get_or-set_other}
 use Rattle.std.specs.Prelude.{◌==◌, bit_or, count_ones}
 use Rattle.std.specs.Int.{bit_at}
+use Rattle.std.specs.Int.Bits.{or_zero_r}
 use Rattle.std.proofs.lemmas.Bool.{cases_eq, cases_lt}
 use Rattle.std.proofs.Math.ListN.{get_or-eq_default}
 use Rattle.std.proofs.lemmas.List.{length-set}
@@ -135,6 +136,13 @@ module _ (before other now : List ℕ) (k added w o n : ℕ) (so_far : AreJoined
     count = counted;
     few = kept_few;
   }
+
+-- each word, also past the other's end
+pub each_joined : (before other now : List ℕ) (k added : ℕ) → length other ≤ k → AreJoinedUpTo before other k now added → (i : ℕ) → get_or now i 0 ≡ bit_or (get_or before i 0) (get_or other i 0)
+each_joined before other now k added whole h i = elim (cases_lt i k) [
+  | inl lt ↦ h.joined i lt
+  | inr le ↦ h.kept i le ∙ sym (ap (bit_or (get_or before i 0)) (get_or-eq_default other 0 (omega (arith, whole, le))) ∙ or_zero_r (get_or before i 0))
+]
 
 or_none : (b : Bool) → b ≡ (b || false)
 or_none true = refl

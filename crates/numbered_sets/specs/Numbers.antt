@@ -1,5 +1,5 @@
 -- Sets of numbers, each the number whose bits they are.
-use Rattle.std.specs.Prelude.{ℕ, ◌+◌, ◌*◌, ◌<◌, ◌^◌, Bool, List, [], ◌∷◌, bit_and, bit_or, count_ones, All}
+use Rattle.std.specs.Prelude.{ℕ, ◌+◌, ◌*◌, ◌<◌, ◌^◌, ◌==◌, Bool, not, List, [], ◌∷◌, bit_and, bit_or, bit_xor, count_ones, All}
 use Rattle.osek_standard.specs.Kernel.{has_bit}
 use Rattle.abstract_state.specs.declared.value.Domain.{Domain}
 use Rattle.abstract_state.specs.Domains.{domain_size}
@@ -36,6 +36,14 @@ joined_numbers x y = numbers x.domain (bit_or x.bits y.bits)
 -- The numbers that the other has too.
 abbrev pub kept_numbers : Numbers → Numbers → Numbers
 kept_numbers x y = numbers x.domain (bit_and x.bits y.bits)
+
+-- The numbers that the other lacks.
+abbrev pub other_numbers : Numbers → Numbers → Numbers
+other_numbers x y = numbers x.domain (bit_xor x.bits (bit_and x.bits y.bits))
+
+-- Some number is in both.
+abbrev pub meets : Numbers → Numbers → Bool
+meets x y = not (bit_and x.bits y.bits == 0)
 
 -- How many numbers there are.
 abbrev pub number_count : Numbers → ℕ

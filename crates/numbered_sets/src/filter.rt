@@ -2,6 +2,7 @@
 ghost use Rattle.std.specs.Prelude.{◌≡◌, ◌<◌, ◌≤◌, length};
 ghost use Rattle.std.specs.Bool.{OnTrue};
 
+use crate::numbered_entry::NumberedEntry;
 use crate::numbered_set::NumberedSet;
 use crate::seen::{Seen, block_of};
 use abstract_state::Domain;
@@ -62,11 +63,12 @@ impl Filter {
 }
 
 impl Filters {
-    ghost use Rattle.std.specs.Prelude.{◌≡◌, ◌<◌, ◌≤◌, List, length, IfOk, OnOk, OnErr, slice_index_or};
+    ghost use Rattle.std.specs.Prelude.{◌≡◌, ◌<◌, ◌≤◌, List, length, IfOk, OnOk, OnErr, slice_index_or, slice_set};
     ghost use Rattle.abstract_state.specs.declared.value.PartValue.{PartValue};
     ghost use Rattle.std.specs.Bool.{OnTrue};
     ghost use Rattle.numbered_sets.specs.declared.filter.Filter.{Filter};
     ghost use Rattle.numbered_sets.specs.Filters.{seen_values, AreFilters, IsSifted};
+    ghost use Rattle.numbered_sets.specs.NumberedEntries.{numbers_at};
 
     /// No test yet.
     pub fn new(alloc: Global) -> Filters
@@ -132,22 +134,25 @@ impl Filters {
         Ok(())
     }
 
-    /// Leaves out the numbers of the values that don't pass a test.
+    /// Leaves out the numbers of a component's values that don't pass a test.
     pub fn keep_passing(
         &mut self,
         alloc: Global,
         seen: &[Seen],
         test: &Test,
-        numbers: &mut NumberedSet,
+        component: usize,
+        entry: &mut NumberedEntry,
     ) -> Result<(), Memory>
-        requires { AreFilters (seen_values seen.now) self.old }
+        requires filters { AreFilters (seen_values seen.now) self.old }
+        requires known { component < length entry.old.sets }
         ensures filters { AreFilters (seen_values seen.now) self.new }
-        ensures passing { OnOk result (IsSifted (seen_values seen.now) test.now numbers.old numbers.new) }
-        ensures err { OnErr result (numbers.new ≡ numbers.old) }
+        ensures passing { OnOk result (IsSifted (seen_values seen.now) test.now (numbers_at entry.old component) (numbers_at entry.new component)) }
+        ensures others { OnOk result (entry.new.sets ≡ slice_set entry.old.sets component (numbers_at entry.new component)) }
+        ensures err { OnErr result (entry.new ≡ entry.old) }
     {
-        let place = self.place_for(alloc, test, numbers.domain())?;
+        let place = self.place_for(alloc, test, entry.sets.domain(component))?;
         self.renew(place, seen)?;
-        numbers.keep(&self.all.at(place).passing);
+        entry.keep(component, &self.all.at(place).passing);
         Ok(())
     }
 }

@@ -3,6 +3,8 @@
 #![tactic(auto)]
 
 mod filter;
+mod flat_sets;
+mod further;
 pub mod laws;
 mod numbered_entry;
 mod numbered_form;
@@ -11,11 +13,13 @@ mod plain_form;
 mod pool;
 mod seen;
 mod shown;
+mod split_words;
 mod words;
 
+pub use flat_sets::NumberedSets;
 pub use numbered_entry::NumberedEntry;
 pub use numbered_form::numbered;
 pub use numbered_set::NumberedSet;
-pub use plain_form::plain;
+pub use plain_form::{plain, plain_set};
 pub use pool::Pool;
 pub use shown::ShownEntry;

@@ -1,20 +1,21 @@
 //! Entries of sets of numbers.
 ghost use Rattle.std.specs.Prelude.{◌≡◌};
 
+use crate::flat_sets::NumberedSets;
 use crate::numbered_set::NumberedSet;
 use abstract_state::Domain;
-use osek_values::{Memory, Seq};
+use osek_values::Memory;
 use std::alloc::Global;
 
 /// What the parts of a state can be, by number: a set for each component, in the order of the components.
 #[derive(Drop)]
 pub struct NumberedEntry {
-    pub sets: Seq<NumberedSet>,
+    pub sets: NumberedSets,
 }
 
 impl NumberedEntry {
-    ghost use Rattle.std.specs.Prelude.{◌≡◌, ◌<◌, ◌≤◌, ◌+◌, ◌^◌, not, length, map, slice_set, IfOk, OnOk, OnErr};
-    ghost use Rattle.numbered_sets.specs.Numbers.{numbers, has_number, with_number, joined_numbers, number_count};
+    ghost use Rattle.std.specs.Prelude.{ℕ, false, IsTrue, ◌≡◌, ◌<◌, ◌≤◌, ◌+◌, ◌^◌, ◌==◌, not, length, map, slice_set, IfOk, OnOk, OnErr};
+    ghost use Rattle.numbered_sets.specs.Numbers.{numbers, has_number, with_number, joined_numbers, kept_numbers, other_numbers, number_count, meets};
     ghost use Rattle.std.specs.Bool.{OnTrue, OnFalse};
     ghost use Rattle.numbered_sets.specs.NumberedEntries.{numbers_at, number_domains, entry_numbers, AreFilled, HasEmptySet, IsNumberJoin, IsPartOfNumberJoin, IsPartOfCopy};
 
@@ -22,10 +23,7 @@ impl NumberedEntry {
     pub fn new(alloc: Global, domains: &[Domain]) -> Result<NumberedEntry, Memory>
         ensures { IfOk result (λ entry. entry.sets ≡ map (λ d. numbers d 0) domains.now) }
     {
-        let mut sets = Seq::new(alloc);
-        for domain in domains {
-            sets.push(NumberedSet::new(alloc, *domain))?;
-        }
+        let sets = NumberedSets::new(alloc, domains)?;
         Ok(NumberedEntry { sets })
     }
 
@@ -36,23 +34,8 @@ impl NumberedEntry {
         ensures sets { OnOk result (self.new.sets ≡ slice_set self.old.sets component (with_number (numbers_at self.old component) number)) }
         ensures err { OnErr result (self.new ≡ self.old) }
     {
-        let set = self.sets.at_mut(component);
-        let is_new = set.insert(number)?;
+        let is_new = self.sets.insert(component, number)?;
         Ok(is_new)
-    }
-
-    /// Joins another set of numbers into one of the sets.
-    fn join_set(&mut self, place: usize, other: &NumberedSet) -> Result<u64, Memory>
-        requires known { place < length self.old.sets }
-        requires few { number_count other.now < 2 ^ 64 }
-        ensures sets { OnOk result (self.new.sets ≡ slice_set self.old.sets place (joined_numbers (numbers_at self.old place) other.now)) }
-        ensures count { IfOk result (λ n. entry_numbers self.new ≡ entry_numbers self.old + n) }
-        ensures few { IfOk result (λ n. n ≤ number_count other.now) }
-        ensures err { OnErr result (self.new ≡ self.old) }
-    {
-        let set = self.sets.at_mut(place);
-        let added = set.join_into(other)?;
-        Ok(added)
     }
 
     /// Joins another entry into this one, set by set, and tells how many numbers are new. Where memory is wanted each set
@@ -64,10 +47,7 @@ impl NumberedEntry {
         ensures count { IfOk result (λ n. entry_numbers self.new ≡ entry_numbers self.old + n) }
         ensures err { OnErr result (IsPartOfNumberJoin self.old other.now self.new) }
     {
-        let mut added = 0;
-        for place in 0..other.sets.len() {
-            added += self.join_set(place, other.sets.at(place))?;
-        }
+        let added = self.sets.join_into(&other.sets)?;
         Ok(added)
     }
 
@@ -75,10 +55,7 @@ impl NumberedEntry {
     pub fn copy(&self, alloc: Global) -> Result<NumberedEntry, Memory>
         ensures { IfOk result (λ entry. entry ≡ self.now) }
     {
-        let mut sets = Seq::of(Vec::with_capacity(alloc, self.sets.len())?);
-        for set in self.sets.as_slice() {
-            sets.push(set.copy(alloc)?)?;
-        }
+        let sets = self.sets.copy(alloc)?;
         Ok(NumberedEntry { sets })
     }
 
@@ -89,22 +66,54 @@ impl NumberedEntry {
         ensures domains { number_domains self.new ≡ number_domains self.old }
         ensures err { OnErr result (IsPartOfCopy self.old other.now self.new) }
     {
-        for place in 0..other.sets.len() {
-            self.assign_set(place, other.sets.at(place))?;
-        }
+        self.sets.assign(&other.sets)?;
         Ok(())
     }
 
-    /// Makes one of the sets another one.
-    fn assign_set(&mut self, place: usize, other: &NumberedSet) -> Result<(), Memory>
-        requires known { place < length self.old.sets }
-        requires alike { (numbers_at self.old place).domain ≡ other.now.domain }
-        ensures sets { OnOk result (self.new.sets ≡ slice_set self.old.sets place other.now) }
-        ensures err { OnErr result (self.new ≡ self.old) }
+    /// Whether a component's set has some number of another one.
+    pub fn meets(&self, component: usize, other: &NumberedSet) -> bool
+        requires { component < length self.now.sets }
+        ensures { result ≡ meets (numbers_at self.now component) other.now }
     {
-        let set = self.sets.at_mut(place);
-        set.assign(other)?;
+        self.sets.meets(component, other)
+    }
+
+    /// Leaves out the numbers of a component that another set lacks.
+    pub fn keep(&mut self, component: usize, other: &NumberedSet)
+        requires { component < length self.old.sets }
+        ensures { self.new.sets ≡ slice_set self.old.sets component (kept_numbers (numbers_at self.old component) other.now) }
+    {
+        self.sets.keep(component, other);
+    }
+
+    /// Leaves out the numbers of a component that another set has.
+    pub fn leave_out(&mut self, component: usize, other: &NumberedSet)
+        requires { component < length self.old.sets }
+        ensures { self.new.sets ≡ slice_set self.old.sets component (other_numbers (numbers_at self.old component) other.now) }
+    {
+        self.sets.leave_out(component, other);
+    }
+
+    /// Makes a component's set that of one number. Where memory is wanted it is empty.
+    pub fn hold_only(&mut self, component: usize, number: usize) -> Result<(), Memory>
+        requires { component < length self.old.sets }
+        ensures set { OnOk result (self.new.sets ≡ slice_set self.old.sets component (with_number (numbers (numbers_at self.old component).domain 0) number)) }
+        ensures err { OnErr result (self.new.sets ≡ slice_set self.old.sets component (numbers (numbers_at self.old component).domain 0)) }
+    {
+        self.sets.hold_only(component, number)?;
         Ok(())
+    }
+
+    /// The first number of a component from one on, if it is below a bound; else the bound.
+    pub fn next(&self, component: usize, from: usize, below: usize) -> usize
+        requires known { component < length self.now.sets }
+        requires bound { from ≤ below }
+        ensures up { from ≤ result }
+        ensures few { result ≤ below }
+        ensures has { result < below → IsTrue (has_number (numbers_at self.now component) result) }
+        ensures none { (k : ℕ) → from ≤ k → k < result → has_number (numbers_at self.now component) k ≡ false }
+    {
+        self.sets.next(component, from, below)
     }
 
     /// Whether each set has a number.
@@ -112,11 +121,6 @@ impl NumberedEntry {
         ensures filled { OnTrue result (AreFilled self.now) }
         ensures none { OnFalse result (HasEmptySet self.now) }
     {
-        for set in self.sets.as_slice() {
-            if set.is_empty() {
-                return false;
-            }
-        }
-        true
+        self.sets.is_filled()
     }
 }

@@ -7,8 +7,8 @@ ghost use Rattle.numbered_sets.specs.Views.{plain_entry, AreNumbersOf, IsNumbere
 use crate::numbered_entry::NumberedEntry;
 use crate::numbered_set::NumberedSet;
 use crate::pool::Pool;
-use abstract_state::{Entry, ValueSet};
-use osek_values::{Memory, Seq};
+use abstract_state::{Domain, Entry, ValueSet};
+use osek_values::Memory;
 use std::alloc::Global;
 
 /// The entry of the numbers that an entry's values have in the pool, to which those that it lacks are added. Where memory
@@ -20,12 +20,24 @@ pub fn numbered(alloc: Global, pool: &mut Pool, entry: &Entry) -> Result<Numbere
     ensures numbers { IfOk result (AreNumbersOf pool.new) }
     ensures plain { IfOk result (λ numbered. plain_entry pool.new numbered ≡ entry.now) }
 {
-    let mut sets = Seq::new(alloc);
+    let domains = domains_of(alloc, entry)?;
+    let mut numbered = NumberedEntry::new(alloc, domains.as_slice())?;
     for component in 0..entry.sets.len() {
         let set = numbered_set(alloc, pool, component, entry.sets.at(component))?;
-        sets.push(set)?;
+        numbered.sets.put(component, &set)?;
     }
-    Ok(NumberedEntry { sets })
+    Ok(numbered)
+}
+
+// what the values of each component are values of
+fn domains_of(alloc: Global, entry: &Entry) -> Result<Vec<Domain>, Memory>
+    ensures { IfOk result (λ all. all.items ≡ domains entry.now) }
+{
+    let mut all = Vec::new(alloc);
+    for set in entry.sets.as_slice() {
+        all.push(set.domain)?;
+    }
+    Ok(all)
 }
 
 // the numbers that a component's values have

@@ -1,7 +1,7 @@
 //! Sets of numbers, which stand for values of a domain.
 ghost use Rattle.std.specs.Prelude.{◌≡◌};
 
-use crate::words;
+use crate::{split_words, words};
 use abstract_state::Domain;
 use osek_values::Memory;
 use std::alloc::Global;
@@ -11,10 +11,10 @@ use std::marker::Model;
 /// and events and alarms have two. Further words end at the last one that was needed.
 #[derive(Drop)]
 pub struct NumberedSet {
-    domain: Domain,
-    low: u64,
-    high: u64,
-    more: Vec<u64>,
+    pub(crate) domain: Domain,
+    pub(crate) low: u64,
+    pub(crate) high: u64,
+    pub(crate) more: Vec<u64>,
 }
 
 impl Model for NumberedSet {
@@ -27,9 +27,9 @@ impl Model for NumberedSet {
 }
 
 impl NumberedSet {
-    ghost use Rattle.std.specs.Prelude.{ℕ, false, IsTrue, ◌≡◌, ◌<◌, ◌≤◌, ◌+◌, ◌^◌, ◌==◌, not, IfOk, OnOk, OnErr};
+    ghost use Rattle.std.specs.Prelude.{ℕ, false, IsTrue, ◌≡◌, ◌∷◌, ◌<◌, ◌≤◌, ◌+◌, ◌^◌, ◌==◌, not, bit_and, IfOk, OnOk, OnErr};
     ghost use Rattle.std.specs.Bool.{OnTrue};
-    ghost use Rattle.numbered_sets.specs.Numbers.{numbers, has_number, with_number, joined_numbers, kept_numbers, number_count};
+    ghost use Rattle.numbered_sets.specs.Numbers.{bits_of_words, numbers, has_number, with_number, joined_numbers, kept_numbers, other_numbers, number_count, meets};
 
     /// The set without a number. It takes no memory yet.
     pub fn new(alloc: Global, domain: Domain) -> NumberedSet
@@ -54,14 +54,7 @@ impl NumberedSet {
     pub fn has(&self, number: usize) -> bool
         ensures { result ≡ has_number self.now number }
     {
-        words::are_two_words(self.low, self.high);
-        if number < 64 {
-            return words::has_bit(self.low, number);
-        }
-        if number < 128 {
-            return words::has_bit(self.high, number - 64);
-        }
-        words::has(self.more.as_slice(), number - 128)
+        split_words::has(self.low, self.high, self.more.as_slice(), number)
     }
 
     /// The first number in the set from one on, if it is below a bound; else the bound.
@@ -72,41 +65,7 @@ impl NumberedSet {
         ensures has { result < below → IsTrue (has_number self.now result) }
         ensures none { (k : ℕ) → from ≤ k → k < result → has_number self.now k ≡ false }
     {
-        let number = self.next_of_two(from);
-        if number >= below {
-            return below;
-        }
-        if number < 128 {
-            return number;
-        }
-        for further in number..below {
-            if self.has(further) {
-                return further;
-            }
-        }
-        below
-    }
-
-    // the first number of the first two words from one on; where there is none a number that is in neither
-    fn next_of_two(&self, from: usize) -> usize
-        ensures up { from ≤ result }
-        ensures has { result < 128 → IsTrue (has_number self.now result) }
-        ensures none { (k : ℕ) → from ≤ k → k < result → has_number self.now k ≡ false }
-    {
-        words::are_two_words(self.low, self.high);
-        if from >= 128 {
-            return from;
-        }
-        if from >= 64 {
-            let high = words::next_bit(self.high, from - 64);
-            return 64 + high;
-        }
-        let number = words::next_bit(self.low, from);
-        if number < 64 {
-            return number;
-        }
-        let high = words::next_bit(self.high, 0);
-        64 + high
+        split_words::next(self.low, self.high, self.more.as_slice(), from, below)
     }
 
     /// Puts a number in the set, and tells whether it is new there.
@@ -169,6 +128,38 @@ impl NumberedSet {
         words::keep(self.more.as_mut_slice(), other.more.as_slice());
     }
 
+    /// Leaves out the numbers of another set.
+    pub fn leave_out(&mut self, other: &NumberedSet)
+        ensures { self.new ≡ other_numbers self.old other.now }
+    {
+        words::are_two_words(self.low, self.high);
+        words::are_two_words(other.low, other.high);
+        self.low = words::without(self.low, other.low);
+        self.high = words::without(self.high, other.high);
+        words::leave_out(self.more.as_mut_slice(), other.more.as_slice());
+    }
+
+    /// Whether another set has some number of this one.
+    pub fn meets(&self, other: &NumberedSet) -> bool
+        ensures { result ≡ meets self.now other.now }
+    {
+        other.meets_words(self.low, self.high, self.more.as_slice())
+    }
+
+    /// Whether the set has some number whose bit is set in words, of which the first two stand apart.
+    pub fn meets_words(&self, low: u64, high: u64, more: &[u64]) -> bool
+        ensures { result ≡ not (bit_and (bits_of_words (low ∷ high ∷ more.now)) self.now.bits == 0) }
+    {
+        words::are_two_words(self.low, self.high);
+        if low & self.low != 0 {
+            return true;
+        }
+        if high & self.high != 0 {
+            return true;
+        }
+        words::meet(more, self.more.as_slice())
+    }
+
     /// Leaves out all numbers.
     fn clear(&mut self)
         ensures { self.new ≡ numbers self.old.domain 0 }
@@ -191,13 +182,7 @@ impl NumberedSet {
     pub fn is_empty(&self) -> bool
         ensures { result ≡ (self.now.bits == 0) }
     {
-        if self.low != 0 {
-            return false;
-        }
-        if self.high != 0 {
-            return false;
-        }
-        words::are_clear(self.more.as_slice())
+        split_words::are_clear(self.low, self.high, self.more.as_slice())
     }
 
     /// Whether another set has its words: then it has its numbers.

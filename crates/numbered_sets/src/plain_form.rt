@@ -17,7 +17,8 @@ pub fn plain(alloc: Global, pool: &Pool, entry: &NumberedEntry) -> Result<Entry,
 {
     let mut sets = Seq::new(alloc);
     for component in 0..entry.sets.len() {
-        let set = plain_set(alloc, pool, component, entry.sets.at(component))?;
+        let numbers = entry.sets.set(alloc, component)?;
+        let set = plain_set(alloc, pool, component, &numbers)?;
         sets.push(set)?;
     }
     Ok(Entry { sets })

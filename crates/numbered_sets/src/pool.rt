@@ -2,7 +2,7 @@
 ghost use Rattle.std.specs.Prelude.{◌≡◌};
 
 use crate::filter::Filters;
-use crate::numbered_set::NumberedSet;
+use crate::numbered_entry::NumberedEntry;
 use crate::seen::Seen;
 use abstract_state::{Domain, PartValue};
 use flow_model::Test;
@@ -33,9 +33,10 @@ impl Model for Numbering {
 }
 
 impl Numbering {
-    ghost use Rattle.std.specs.Prelude.{◌≡◌, ◌<◌, length, IfOk, OnOk, OnErr};
+    ghost use Rattle.std.specs.Prelude.{◌≡◌, ◌<◌, length, slice_set, IfOk, OnOk, OnErr};
     ghost use Rattle.abstract_state.specs.Domains.{IsWithin, domain_size};
     ghost use Rattle.numbered_sets.specs.Filters.{IsSifted};
+    ghost use Rattle.numbered_sets.specs.NumberedEntries.{numbers_at};
     ghost use Rattle.numbered_sets.specs.Pools.{no_values, value_seen, AreValues, IsNumberOf};
 
     /// No value yet.
@@ -69,6 +70,13 @@ impl Numbering {
         self.seen.len()
     }
 
+    /// What its values are values of.
+    fn domain(&self) -> Domain
+        ensures { result ≡ self.now.domain }
+    {
+        self.domain
+    }
+
     /// The value with a number.
     fn value(&self, number: usize) -> &PartValue
         requires { number < length self.now.values }
@@ -77,24 +85,41 @@ impl Numbering {
         &self.seen.as_slice()[number].value
     }
 
-    /// Leaves out the numbers of the values that don't pass a test.
+    /// Leaves out the numbers of a component's values that don't pass a test.
     fn keep_passing(
         &mut self,
         alloc: Global,
         test: &Test,
-        numbers: &mut NumberedSet,
+        component: usize,
+        entry: &mut NumberedEntry,
     ) -> Result<(), Memory>
+        requires { component < length entry.old.sets }
         ensures same { self.new ≡ self.old }
-        ensures passing { OnOk result (IsSifted self.old.values test.now numbers.old numbers.new) }
-        ensures err { OnErr result (numbers.new ≡ numbers.old) }
+        ensures passing { OnOk result (IsSifted self.old.values test.now (numbers_at entry.old component) (numbers_at entry.new component)) }
+        ensures others { OnOk result (entry.new.sets ≡ slice_set entry.old.sets component (numbers_at entry.new component)) }
+        ensures err { OnErr result (entry.new ≡ entry.old) }
     {
         let seen = self.seen.as_slice();
         if is_of_value(test) {
-            self.of_values.keep_passing(alloc, seen, test, numbers)?;
+            self.of_values
+                .keep_passing(alloc, seen, test, component, entry)?;
             return Ok(());
         }
-        self.filters.keep_passing(alloc, seen, test, numbers)?;
+        self.filters
+            .keep_passing(alloc, seen, test, component, entry)?;
         Ok(())
+    }
+
+    /// The same values under the same numbers. No test was asked of them yet.
+    fn copy(&self, alloc: Global) -> Result<Numbering, Memory>
+        ensures { IfOk result (λ copy. copy ≡ self.now) }
+    {
+        self.are_values();
+        let mut copy = Numbering::new(alloc, self.domain());
+        for number in 0..self.len() {
+            copy.number(self.value(number).copy())?;
+        }
+        Ok(copy)
     }
 
     /// None stands twice, and each is one of the domain's.
@@ -129,6 +154,7 @@ impl Pool {
     ghost use Rattle.std.specs.Prelude.{◌≡◌, ◌<◌, length, map, slice_set, IfOk, OnOk, OnErr, All};
     ghost use Rattle.abstract_state.specs.Domains.{IsWithin, domain_size};
     ghost use Rattle.numbered_sets.specs.Filters.{IsSifted};
+    ghost use Rattle.numbered_sets.specs.NumberedEntries.{numbers_at};
     ghost use Rattle.numbered_sets.specs.Pools.{no_values, value_seen, seen_at, values_at, domain_at, AreValues, IsNumberOf};
 
     /// A pool without values, for a component of each domain.
@@ -164,6 +190,14 @@ impl Pool {
         self.numberings.at(component).len()
     }
 
+    /// What a component's values are values of.
+    pub fn domain(&self, component: usize) -> Domain
+        requires { component < length self.now }
+        ensures { result ≡ domain_at self.now component }
+    {
+        self.numberings.at(component).domain()
+    }
+
     /// A component's value with a number.
     pub fn value(&self, component: usize, number: usize) -> &PartValue
         requires known { component < length self.now }
@@ -179,16 +213,29 @@ impl Pool {
         alloc: Global,
         component: usize,
         test: &Test,
-        numbers: &mut NumberedSet,
+        entry: &mut NumberedEntry,
     ) -> Result<(), Memory>
-        requires { component < length self.old }
+        requires known { component < length self.old }
+        requires set { component < length entry.old.sets }
         ensures same { self.new ≡ self.old }
-        ensures passing { OnOk result (IsSifted (values_at self.old component) test.now numbers.old numbers.new) }
-        ensures err { OnErr result (numbers.new ≡ numbers.old) }
+        ensures passing { OnOk result (IsSifted (values_at self.old component) test.now (numbers_at entry.old component) (numbers_at entry.new component)) }
+        ensures others { OnOk result (entry.new.sets ≡ slice_set entry.old.sets component (numbers_at entry.new component)) }
+        ensures err { OnErr result (entry.new ≡ entry.old) }
     {
         let numbering = self.numberings.at_mut(component);
-        numbering.keep_passing(alloc, test, numbers)?;
+        numbering.keep_passing(alloc, test, component, entry)?;
         Ok(())
+    }
+
+    /// Another pool with the same values under the same numbers.
+    pub fn copy(&self, alloc: Global) -> Result<Pool, Memory>
+        ensures { IfOk result (λ pool. pool ≡ self.now) }
+    {
+        let mut numberings = Seq::new(alloc);
+        for numbering in self.numberings.as_slice() {
+            numberings.push(numbering.copy(alloc)?)?;
+        }
+        Ok(Pool { numberings })
     }
 
     /// No value of a component has two numbers, and each is one of the component's domain.

@@ -42,7 +42,8 @@ impl ShownEntry {
         ensures plain { OnOk result (self.new.plain ≡ plain_entry pool.now entry.now) }
     {
         for component in 0..entry.sets.len() {
-            self.renew_set(alloc, pool, component, entry.sets.at(component))?;
+            let numbers = entry.sets.set(alloc, component)?;
+            self.renew_set(alloc, pool, component, &numbers)?;
         }
         Ok(())
     }
@@ -63,13 +64,13 @@ impl ShownEntry {
         ensures numbers { OnOk result (self.new.numbers.sets ≡ slice_set self.old.numbers.sets component numbers.now) }
         ensures plain { OnOk result (self.new.plain.sets ≡ slice_set self.old.plain.sets component (plain_set_of (values_at pool.now component) numbers.now)) }
     {
-        if self.numbers.sets.at(component).has_same(numbers) {
+        let shown = self.numbers.sets.set(alloc, component)?;
+        if shown.has_same(numbers) {
             return Ok(());
         }
         let set = plain_set(alloc, pool, component, numbers)?;
-        let copy = numbers.copy(alloc)?;
+        self.numbers.sets.put(component, numbers)?;
         self.plain.sets.put(component, set);
-        self.numbers.sets.put(component, copy);
         Ok(())
     }
 }

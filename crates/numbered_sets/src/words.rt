@@ -1,5 +1,6 @@
 //! Words of 64 bits, with a bit for each number.
-ghost use Rattle.std.specs.Prelude.{ℕ, false, IsTrue, ◌≡◌, ◌<◌, ◌≤◌, ◌+◌, ◌/◌, ◌^◌, ◌==◌, bit_and, bit_or, count_ones, length, slice_index_or, IfOk, OnOk, OnErr};
+ghost use Rattle.std.specs.Prelude.{ℕ, false, IsTrue, ◌≡◌, ◌<◌, ◌≤◌, ◌+◌, ◌/◌, ◌^◌, ◌==◌, not, bit_and, bit_or, bit_xor, count_ones, length, replicate, slice_index_or, slice_set, IfOk, OnOk, OnErr};
+ghost use Rattle.std.specs.Bool.{OnTrue};
 ghost use Rattle.osek_standard.specs.Kernel.{has_bit as has_bit_of};
 ghost use Rattle.numbered_sets.specs.Numbers.{AreWords, bits_of_words};
 
@@ -14,8 +15,8 @@ pub fn has_bit(bits: u64, bit: usize) -> bool
     (bits >> bit) % 2 == 1
 }
 
-// each has 64 bits, as its type says
-fn are_words(words: &[u64])
+/// Each has 64 bits, as its type says.
+pub fn are_words(words: &[u64])
     ensures { AreWords words.now }
 {}
 
@@ -93,6 +94,7 @@ pub fn new_bits(word: u64, other: u64) -> u64
 pub fn join(words: &mut [u64], other: &[u64]) -> u64
     requires room { length other.now ≤ length words.old }
     requires few { count_ones (bits_of_words other.now) < 2 ^ 64 }
+    ensures words { (i : ℕ) → slice_index_or words.new i 0 ≡ bit_or (slice_index_or words.old i 0) (slice_index_or other.now i 0) }
     ensures bits { bits_of_words words.new ≡ bit_or (bits_of_words words.old) (bits_of_words other.now) }
     ensures count { count_ones (bits_of_words words.new) ≡ count_ones (bits_of_words words.old) + result }
     ensures few { result ≤ count_ones (bits_of_words other.now) }
@@ -132,7 +134,14 @@ pub fn copied(alloc: Global, words: &[u64]) -> Result<Vec<u64>, Memory>
     if words.is_empty() {
         return Ok(Vec::new(alloc));
     }
-    Ok(words.to_vec(alloc)?)
+    Ok(Vec::from_slice(alloc, words)?)
+}
+
+/// So many words without a bit.
+pub fn clear_words(alloc: Global, count: usize) -> Result<Vec<u64>, Memory>
+    ensures { IfOk result (λ words. words.items ≡ replicate count 0) }
+{
+    Ok(Vec::from_elem(alloc, 0, count)?)
 }
 
 /// Makes the bits those of other words. Where memory is wanted they stay what they were.
@@ -145,8 +154,8 @@ pub fn assign(words: &mut Vec<u64>, other: &[u64]) -> Result<(), Memory>
     Ok(())
 }
 
-// makes the bits those of other words, of which there are no more
-fn put_all(words: &mut [u64], other: &[u64])
+/// Makes the bits those of other words, of which there are no more.
+pub fn put_all(words: &mut [u64], other: &[u64])
     requires { length other.now ≤ length words.old }
     ensures { bits_of_words words.new ≡ bits_of_words other.now }
 {
@@ -155,10 +164,35 @@ fn put_all(words: &mut [u64], other: &[u64])
     }
 }
 
-fn word_at(words: &[u64], place: usize) -> u64
-    ensures { result ≡ slice_index_or words.now place 0 }
+/// The word at a place; past the end it is 0.
+pub fn word_at(words: &[u64], place: usize) -> u64
+    ensures word { result ≡ slice_index_or words.now place 0 }
+    ensures fits { result < 2 ^ 64 }
 {
     if place < words.len() { words[place] } else { 0 }
+}
+
+/// Puts a word in the place of another, if there is one.
+pub fn replace(words: &mut [u64], place: usize, word: u64)
+    ensures { words.new ≡ slice_set words.old place word }
+{
+    if place < words.len() {
+        words[place] = word;
+    }
+}
+
+/// Whether each word has a bit, or the one at its place among others.
+pub fn have_bits(words: &[u64], other: &[u64]) -> bool
+    requires { length other.now ≡ length words.now }
+    ensures { OnTrue result ((i : ℕ) → i < length words.now → 0 < slice_index_or words.now i 0 + slice_index_or other.now i 0) }
+{
+    let mut all = true;
+    for place in 0..words.len() {
+        if words[place] | other[place] == 0 {
+            all = false;
+        }
+    }
+    all
 }
 
 /// Clears the bits that other words lack.
@@ -170,6 +204,38 @@ pub fn keep(words: &mut [u64], other: &[u64])
     for place in 0..words.len() {
         words[place] = words[place] & word_at(other, place);
     }
+}
+
+/// Clears the bits that other words have.
+pub fn leave_out(words: &mut [u64], other: &[u64])
+    ensures { bits_of_words words.new ≡ bit_xor (bits_of_words words.old) (bit_and (bits_of_words words.old) (bits_of_words other.now)) }
+{
+    are_words(words);
+    are_words(other);
+    for place in 0..words.len() {
+        words[place] = without(words[place], word_at(other, place));
+    }
+}
+
+/// The bits of a word that another lacks.
+pub fn without(word: u64, other: u64) -> u64
+    ensures { result ≡ bit_xor word (bit_and word other) }
+{
+    word ^ (word & other)
+}
+
+/// Whether some bit is set in both.
+pub fn meet(words: &[u64], other: &[u64]) -> bool
+    ensures { result ≡ not (bit_and (bits_of_words words.now) (bits_of_words other.now) == 0) }
+{
+    are_words(words);
+    are_words(other);
+    for place in 0..words.len() {
+        if words[place] & word_at(other, place) != 0 {
+            return true;
+        }
+    }
+    false
 }
 
 /// Whether no bit is set.

@@ -1,4 +1,5 @@
 pub mod GrownPools
 pub mod CountedNumbers
-pub mod RowsShown
+pub mod RowsByNumber
+pub mod WrittenRows
 pub mod AlikeRows

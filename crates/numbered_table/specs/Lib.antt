@@ -1,4 +1,3 @@
 pub mod PlainTables
-pub mod Showing
 pub mod Alike
 pub mod Counts

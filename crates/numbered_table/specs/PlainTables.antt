@@ -1,5 +1,5 @@
 -- The plain tables that tables of numbers stand for.
-use Rattle.std.specs.Prelude.{List, map, Contains}
+use Rattle.std.specs.Prelude.{◌≡◌, List, map, Contains}
 use Rattle.osek_standard.specs.declared.point.Point.{Point}
 use Rattle.abstract_state.specs.declared.table.{Entry.{Entry}, TableRow.{TableRow}, Table.{Table}}
 use Rattle.numbered_sets.specs.Pools.{Values}
@@ -21,3 +21,8 @@ plain_table pool rows = record { rows = plain_rows pool rows }
 -- the numbers of each row are those of values of the pool
 pub record AreRowsOf (pool : List Values) (rows : List NumberedRow) : Type 0 where
   pub each : (row : NumberedRow) → Contains rows row → AreNumbersOf pool row.entry
+
+-- The rows stand for those of a plain table.
+pub record AreRowsFor (plain : List TableRow) (pool : List Values) (rows : List NumberedRow) : Type 0 where
+  pub known : AreRowsOf pool rows
+  pub same : plain_rows pool rows ≡ plain

@@ -2,12 +2,13 @@
 ghost use Rattle.std.specs.Prelude.{◌≡◌, ◌<◌, ◌^◌};
 ghost use Rattle.numbered_sets.specs.NumberedEntries.{entry_numbers};
 ghost use Rattle.numbered_sets.specs.Numbers.{number_count};
+ghost use Rattle.numbered_sets.specs.SetLists.{set_of};
 ghost use Rattle.numbered_sets.specs.Views.{AreNumbersOf};
 ghost use Rattle.numbered_table.specs.PlainTables.{AreRowsOf};
 ghost use Rattle.numbered_table.specs.Counts.{AreNumbersBelow, row_numbers};
 
 use crate::table::NumberedRow;
-use numbered_sets::{NumberedEntry, NumberedSet, Pool};
+use numbered_sets::{NumberedEntry, NumberedSets, Pool};
 
 /// How many numbers the entries of rows have.
 pub(crate) fn count_rows(pool: &Pool, rows: &[NumberedRow]) -> u64
@@ -29,19 +30,19 @@ fn count_entry(pool: &Pool, entry: &NumberedEntry) -> u64
 {
     let mut found = 0;
     for component in 0..entry.sets.len() {
-        found += count_set(pool.len(component), entry.sets.at(component));
+        found += count_set(pool.len(component), &entry.sets, component);
     }
     found
 }
 
-// how many numbers there are, which are below this one
-fn count_set(end: usize, numbers: &NumberedSet) -> u64
-    requires { AreNumbersBelow end numbers.now }
-    ensures { result ≡ number_count numbers.now }
+// how many numbers a component has, which are below this one
+fn count_set(end: usize, sets: &NumberedSets, component: usize) -> u64
+    requires { AreNumbersBelow end (set_of sets.now component) }
+    ensures { result ≡ number_count (set_of sets.now component) }
 {
     let mut found = 0;
     for number in 0..end {
-        if numbers.has(number) {
+        if sets.has(component, number) {
             found += 1;
         }
     }

@@ -2,10 +2,10 @@
 ghost use Rattle.std.specs.Prelude.{◌≡◌};
 
 use crate::counts::count_rows;
-use crate::shown_rows::ShownRows;
 use abstract_state::Point;
 use numbered_sets::{NumberedEntry, Pool};
-use osek_values::Seq;
+use osek_values::{Memory, Seq};
+use std::alloc::Global;
 use std::marker::Model;
 
 /// A point and its entry by number.
@@ -13,6 +13,13 @@ use std::marker::Model;
 pub struct NumberedRow {
     pub point: Point,
     pub entry: NumberedEntry,
+}
+
+/// The rows of a table, beside a pool of their own, which may grow.
+#[derive(Drop)]
+pub struct NumberedRows<'a> {
+    pub rows: &'a Seq<NumberedRow>,
+    pub pool: Pool,
 }
 
 /// An entry for some of the points, by number. Contracts see it as the plain table of its rows.
@@ -35,9 +42,9 @@ impl Model for Table {
 }
 
 impl Table {
-    ghost use Rattle.std.specs.Prelude.{◌≡◌, ◌<◌, ◌^◌, length, None};
+    ghost use Rattle.std.specs.Prelude.{◌≡◌, ◌<◌, ◌^◌, length, IfOk};
     ghost use Rattle.abstract_state.specs.Tables.{value_count};
-    ghost use Rattle.numbered_table.specs.PlainTables.{plain_table, AreRowsOf};
+    ghost use Rattle.numbered_table.specs.PlainTables.{plain_table, AreRowsOf, AreRowsFor};
 
     /// The table of rows whose numbers are those of a pool. It takes no memory.
     pub fn of(pool: Pool, rows: Seq<NumberedRow>) -> Table
@@ -54,12 +61,15 @@ impl Table {
         self.rows.len()
     }
 
-    /// Its rows, to be shown one after another. None is shown yet.
-    pub fn shown_rows(&self) -> ShownRows<'_>
-        ensures rows { result.rows ≡ self.now.rows }
-        ensures entry { result.entry ≡ None }
+    /// Its rows, beside a copy of its pool.
+    pub fn numbered_rows(&self, alloc: Global) -> Result<NumberedRows<'_>, Memory>
+        ensures { IfOk result (λ x. AreRowsFor self.now.rows x.pool x.rows.now) }
     {
-        ShownRows::new(&self.pool, &self.rows)
+        let pool = self.pool.copy(alloc)?;
+        Ok(NumberedRows {
+            rows: &self.rows,
+            pool,
+        })
     }
 
     /// The number of values in all sets of all entries.

@@ -2,6 +2,7 @@ pub mod CellLists
 pub mod EntryUnion
 pub mod RowLaws
 pub mod ReachedRows
+pub mod ExitRows
 pub mod StartEntry
 pub mod Joining
 pub mod Closing

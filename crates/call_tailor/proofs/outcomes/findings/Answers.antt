@@ -1,39 +1,54 @@
-use Rattle.std.proofs.Common.{◌≡◌, ◌<◌, ◌∙◌, [], List, length, get_or, take, refl, sym, ap, subst, arith}
-use Rattle.std.specs.Prelude.{Contains, IsSome}
-use Rattle.std.specs.declared.option.Option.{Option}
-use Rattle.abstract_state.specs.declared.table.{Entry.{Entry}, TableRow.{TableRow}}
-use Rattle.numbered_table.specs.PlainTables.{row_at}
-use Rattle.numbered_table.proofs.RowsShown.{row_shown}
+use Rattle.std.proofs.Common.{◌≡◌, ◌<◌, ◌≤◌, ◌∙◌, ◌++◌, ◌∷◌, [], List, length, get_or, take, refl, sym, ap, subst, arith}
+use Rattle.std.specs.Prelude.{Contains}
+use Rattle.abstract_state.specs.declared.table.TableRow.{TableRow}
+use Rattle.numbered_sets.proofs.NumberingLaws.{longer_onward}
+use Rattle.numbered_table.specs.declared.table.NumberedRow.{NumberedRow}
+use Rattle.numbered_table.specs.PlainTables.{plain_row, AreRowsFor}
+use Rattle.numbered_table.proofs.RowsByNumber.{as_many, row_known, row_is, row_listed}
+use Rattle.numbered_table.proofs.WrittenRows.{row_there, row_allowed, row_filled, pool_has_tasks}
 use Rattle.call_tailor.specs.Outcomes.{AreFound}
-use Rattle.call_tailor.proofs.RowOutcomes.{row_proper, row_allowed, rows_more}
+use Rattle.call_tailor.proofs.RowOutcomes.{rows_more}
 use Rattle.call_tailor.proofs.outcomes.findings.Goals as goal
 
-pub entry-requires : goal.entry-requires
-entry-requires c = subst (λ (e : Option Entry). IsSome e) (sym (c.in_ok-show.ensures.entry (row_at c.point.result (record { sets = [] })))) refl
+pub new-requires : goal.new-requires
+new-requires c =
+    let n = c.in_ok-numbered.numbered in
+    pool_has_tasks c.args.app.now c.args.table.now c.requires n.pool n.rows.now c.in_ok-numbered.ensures (omega (arith, c.if-len-eq0.false, c.len.ensures))
+
+pub add_row-requires-clause-numbers : goal.add_row-requires-clause-numbers
+add_row-requires-clause-numbers c =
+    let are = subst (AreRowsFor c.args.table.now.rows c.in_ok-numbered.numbered.pool) (sym c.as_slice-row-items.ensures) c.in_ok-numbered.ensures in
+    row_known c.args.table.now.rows c.in_ok-numbered.numbered.pool c.as_slice-row-items.result.now are c.loop-row.pool c.loop-row.invariant.0 c.loop-row.row-index c.row-item.result c.loop-row-test.true c.row-item.is
 
 pub add_row-requires-clause-row : goal.add_row-requires-clause-row
 add_row-requires-clause-row c =
-    let rows = c.args.table.now.rows in
-    let row = row_at c.point.result c.entry.result.now in
-    let there : c.loop-place.place < length rows = omega (arith, c.loop-place-test.true, c.len-place-end.ensures, ap (λ (rs : List TableRow). length rs) c.shown_rows-rows.ensures.rows) in
-    let is = row_shown rows c.loop-place.rows c.show.new.self c.loop-place.place c.point.result c.entry.result.now c.loop-place.invariant.0 c.show.ensures.rows c.point.ensures c.entry.ensures c.in_ok-show.ensures.entry row in
-    row_proper c.args.app.now c.args.table.now c.requires row (c.loop-place.place, there, sym is)
+    let are = subst (AreRowsFor c.args.table.now.rows c.in_ok-numbered.numbered.pool) (sym c.as_slice-row-items.ensures) c.in_ok-numbered.ensures in
+    let listed = row_listed c.args.table.now.rows c.in_ok-numbered.numbered.pool c.as_slice-row-items.result.now are c.loop-row.pool c.loop-row.invariant.0 c.loop-row.row-index c.row-item.result c.loop-row-test.true c.row-item.is in
+    row_there c.args.app.now c.args.table.now c.requires (plain_row c.loop-row.pool c.row-item.result) listed
 
 pub add_row-requires-clause-allowed : goal.add_row-requires-clause-allowed
 add_row-requires-clause-allowed c =
-    let rows = c.args.table.now.rows in
-    let row = row_at c.point.result c.entry.result.now in
-    let there : c.loop-place.place < length rows = omega (arith, c.loop-place-test.true, c.len-place-end.ensures, ap (λ (rs : List TableRow). length rs) c.shown_rows-rows.ensures.rows) in
-    let is = row_shown rows c.loop-place.rows c.show.new.self c.loop-place.place c.point.result c.entry.result.now c.loop-place.invariant.0 c.show.ensures.rows c.point.ensures c.entry.ensures c.in_ok-show.ensures.entry row in
-    row_allowed c.args.app.now c.args.table.now c.requires row (c.loop-place.place, there, sym is)
+    let are = subst (AreRowsFor c.args.table.now.rows c.in_ok-numbered.numbered.pool) (sym c.as_slice-row-items.ensures) c.in_ok-numbered.ensures in
+    let listed = row_listed c.args.table.now.rows c.in_ok-numbered.numbered.pool c.as_slice-row-items.result.now are c.loop-row.pool c.loop-row.invariant.0 c.loop-row.row-index c.row-item.result c.loop-row-test.true c.row-item.is in
+    row_allowed c.args.app.now c.args.table.now c.requires (plain_row c.loop-row.pool c.row-item.result) listed
 
-pub loop-place-preserved : goal.loop-place-preserved
-loop-place-preserved c =
+pub add_row-requires-clause-filled : goal.add_row-requires-clause-filled
+add_row-requires-clause-filled c = λ k lt.
+    let are = subst (AreRowsFor c.args.table.now.rows c.in_ok-numbered.numbered.pool) (sym c.as_slice-row-items.ensures) c.in_ok-numbered.ensures in
+    let listed = row_listed c.args.table.now.rows c.in_ok-numbered.numbered.pool c.as_slice-row-items.result.now are c.loop-row.pool c.loop-row.invariant.0 c.loop-row.row-index c.row-item.result c.loop-row-test.true c.row-item.is in
+    let some = row_filled c.args.app.now c.args.table.now c.requires (plain_row c.loop-row.pool c.row-item.result) listed k lt in
+    record { value = some.0; member = some.1 }
+
+pub loop-row-preserved : goal.loop-row-preserved
+loop-row-preserved c =
     let rows = c.args.table.now.rows in
-    let i = c.loop-place.place in
-    let row = row_at c.point.result c.entry.result.now in
-    let there : i < length rows = omega (arith, c.loop-place-test.true, c.len-place-end.ensures, ap (λ (rs : List TableRow). length rs) c.shown_rows-rows.ensures.rows) in
-    let is = row_shown rows c.loop-place.rows c.show.new.self i c.point.result c.entry.result.now c.loop-place.invariant.0 c.show.ensures.rows c.point.ensures c.entry.ensures c.in_ok-show.ensures.entry row in (
-      c.show.ensures.rows ∙ c.loop-place.invariant.0,
-      subst (λ (done : List TableRow). AreFound c.args.app.now done c.add_row.new.sites) (rows_more rows i row there is) (c.in_ok-add_row.ensures (take i rows) c.loop-place.invariant.1),
+    let first = c.in_ok-numbered.numbered.pool in
+    let i = c.loop-row.row-index in
+    let row = plain_row c.loop-row.pool c.row-item.result in
+    let are = subst (AreRowsFor rows first) (sym c.as_slice-row-items.ensures) c.in_ok-numbered.ensures in
+    let there : i < length rows = omega (arith, c.loop-row-test.true, as_many rows first c.as_slice-row-items.result.now are) in
+    let is = row_is rows first c.as_slice-row-items.result.now are c.loop-row.pool c.loop-row.invariant.0 i c.row-item.result c.loop-row-test.true c.row-item.is row in (
+      longer_onward first c.loop-row.pool c.add_row.new.pool c.loop-row.invariant.0 c.add_row.ensures.pool,
+      c.in_ok-add_row.ensures.levels,
+      subst (λ (done : List TableRow). AreFound c.args.app.now done c.add_row.new.sites) (rows_more rows i row there is) (c.in_ok-add_row.ensures.found (take i rows) c.loop-row.invariant.2),
     )

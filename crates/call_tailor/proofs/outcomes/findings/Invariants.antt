@@ -1,6 +1,8 @@
-use Rattle.std.proofs.Common.{◌≡◌, take}
+use Rattle.std.proofs.Common.{take}
+use Rattle.numbered_sets.specs.Pools.{IsLonger}
+use Rattle.numbered_levels.specs.Levels.{AreLevels}
 use Rattle.call_tailor.specs.Outcomes.{AreFound}
 use Rattle.call_tailor.proofs.outcomes.findings.Given as goal
 
-abbrev pub invariant-loop-place : goal.invariant-loop-place
-invariant-loop-place l = (l.rows.rows ≡ l.table.rows) × AreFound l.app (take l.place l.table.rows) l.sites
+abbrev pub invariant-loop-row : goal.invariant-loop-row
+invariant-loop-row l = IsLonger l.initial.pool l.pool × AreLevels l.app l.pool l.levels × AreFound l.app (take l.row-index l.table.rows) l.sites

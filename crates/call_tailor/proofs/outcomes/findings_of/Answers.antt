@@ -1,29 +1,34 @@
-use Rattle.std.proofs.Common.{◌∙◌, List, sym, subst, take}
+use Rattle.std.proofs.Common.{◌∙◌, List, subst, take}
 use Rattle.std.proofs.lemmas.List.{take_all}
-use Rattle.flow_model.specs.declared.rule.Rule.{Rule}
-use Rattle.flow_rules.specs.declared.group.RuleGroup.{RuleGroup}
-use Rattle.flow_rules.specs.RuleGroups.{all_rules}
-use Rattle.flow_rules.proofs.EndRules.{group_in}
-use Rattle.numbered_table.specs.PlainTables.{row_at}
-use Rattle.call_tailor.specs.Outcomes.{AreOfRules}
-use Rattle.call_tailor.proofs.RuleOutcomes.{groups_more, group_listed, set_count, of_all_rules}
+use Rattle.flow_exits.specs.Exits.{Exit}
+use Rattle.numbered_exits.specs.declared.group.ExitGroup.{ExitGroup}
+use Rattle.numbered_exits.specs.Groups.{all_exits}
+use Rattle.numbered_table.specs.PlainTables.{plain_row}
+use Rattle.numbered_table.proofs.WrittenRows.{number_domains_of}
+use Rattle.call_tailor.specs.Outcomes.{AreOfExits}
+use Rattle.call_tailor.proofs.ExitOutcomes.{findings_of_none, groups_more, of_all_exits}
 use Rattle.call_tailor.proofs.outcomes.findings_of.Goals as goal
 
-pub with_group-found-requires : goal.with_group-found-requires
-with_group-found-requires c =
-    group_in c.args.entry.now c.in_ok-groups.groups c.in_ok-groups.ensures.within c.group-item.result
-    (group_listed c.as_slice-group-items.result.now c.in_ok-groups.groups c.loop-group.group-index c.group-item.result c.as_slice-group-items.ensures c.loop-group-test.true c.group-item.is)
+pub exit_groups-requires-clause-domains : goal.exit_groups-requires-clause-domains
+exit_groups-requires-clause-domains c = number_domains_of c.args.app.now c.args.pool.now c.args.row.now c.requires.row
+
+pub loop-group-init : goal.loop-group-init
+loop-group-init c = λ pool. findings_of_none c.none-found.result c.none-found.ensures.outcome c.none-found.ensures.status
 
 pub loop-group-preserved : goal.loop-group-preserved
-loop-group-preserved c =
+loop-group-preserved c = λ pool.
     let items = c.as_slice-group-items.result.now in
     let i = c.loop-group.group-index in
-    subst (λ (done : List Rule). AreOfRules done c.args.entry.now c.with_group-found.result) (groups_more items i c.group-item.result c.loop-group-test.true c.group-item.is)
-    (c.with_group-found.ensures (all_rules (take i items)) c.loop-group.invariant)
+    subst (λ (done : List Exit). AreOfExits done c.with_group-found.result) (groups_more pool items i c.group-item.result c.loop-group-test.true c.group-item.is)
+    (c.with_group-found.ensures pool (all_exits pool (take i items)) (c.loop-group.invariant pool))
 
-pub returns : goal.returns
-returns c =
-    let entry = c.args.entry.now in
-    of_all_rules c.args.app.now (row_at c.args.point c.args.entry.now) (all_rules c.in_ok-groups.groups) (set_count c.args.app.now entry c.requires.row.domains) c.loop-group.found
-    c.in_ok-groups.ensures.instructions (c.in_ok-groups.ensures.exact c.requires.allowed)
-    (subst (λ (done : List RuleGroup). AreOfRules (all_rules done) entry c.loop-group.found) (take_all c.loop-group.group-index c.as_slice-group-items.result.now c.loop-group-test.false ∙ c.as_slice-group-items.ensures) c.loop-group.invariant)
+pub returns-clause-found : goal.returns-clause-found
+returns-clause-found c =
+    let app = c.args.app.now in
+    let row = plain_row c.args.pool.now c.args.row.now in
+    let pool = c.exit_groups.new.pool in
+    let exits = all_exits pool c.in_ok-groups.groups.items in
+    let are = c.in_ok-groups.ensures.exits in
+    of_all_exits app row exits c.loop-group.found (c.steps_end_at_exits.ensures.instructions app row.point row.entry exits c.requires.row.point are)
+    (c.steps_end_at_exits.ensures.exact app row.point row.entry exits c.requires.row.point are c.requires.allowed c.requires.filled)
+    (subst (λ (done : List ExitGroup). AreOfExits (all_exits pool done) c.loop-group.found) (take_all c.loop-group.group-index c.as_slice-group-items.result.now c.loop-group-test.false ∙ c.as_slice-group-items.ensures.value) (c.loop-group.invariant pool))

@@ -1,7 +1,8 @@
-use Rattle.std.proofs.Common.{take}
-use Rattle.flow_rules.specs.RuleGroups.{all_rules}
-use Rattle.call_tailor.specs.Outcomes.{AreOfRules}
+use Rattle.std.proofs.Common.{List, take}
+use Rattle.numbered_sets.specs.Pools.{Values}
+use Rattle.numbered_exits.specs.Groups.{all_exits}
+use Rattle.call_tailor.specs.Outcomes.{AreOfExits}
 use Rattle.call_tailor.proofs.outcomes.findings_of.Given as goal
 
 abbrev pub invariant-loop-group : goal.invariant-loop-group
-invariant-loop-group l = AreOfRules (all_rules (take l.group-index l.group-items)) l.entry l.found
+invariant-loop-group l = (pool : List Values) → AreOfExits (all_exits pool (take l.group-index l.group-items)) l.found

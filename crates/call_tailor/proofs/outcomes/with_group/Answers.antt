@@ -1,11 +1,29 @@
-use Rattle.std.proofs.Common.{◌++◌, sym, subst}
-use Rattle.flow_rules.specs.declared.group.RuleGroup.{RuleGroup}
-use Rattle.flow_rules.specs.RuleGroups.{rules_of}
-use Rattle.call_tailor.specs.Outcomes.{AreOfRules}
+use Rattle.std.proofs.Common.{◌≡◌, ◌∙◌, Some, None}
+use Rattle.std.proofs.lemmas.Bool.{OnTrue_at, OnFalse_at}
+use Rattle.numbered_exits.specs.Groups.{exits_of}
+use Rattle.call_tailor.proofs.ExitOutcomes.{with_arrivals, with_one, with_old, alike_in_group, some_in_group, none_in_group}
+use Rattle.call_tailor.proofs.outcomes.with_group.Goals.{then-tells-via-then-tells, then-tells-via-else-tells+then-not-has_end}
 use Rattle.call_tailor.proofs.outcomes.with_group.Goals as goal
 
-pub returns-in-One : goal.returns-in-One
-returns-in-One c = λ done h. subst (λ (x : RuleGroup). AreOfRules (done ++ rules_of x) c.args.entry.now c.with_rule.result) (sym c.in-One.is) (c.with_rule.ensures done h)
+pub returns-in-None : goal.returns-in-None
+returns-in-None c = λ pool done h.
+    let g = c.args.group.now in
+    with_arrivals done (exits_of pool g) c.args.found h (λ x m. (alike_in_group pool g g.ends x m).0 ∙ c.in-None.is)
 
-pub returns-in-Each : goal.returns-in-Each
-returns-in-Each c = λ done h. subst (λ (x : RuleGroup). AreOfRules (done ++ rules_of x) c.args.entry.now c.with_values.result) (sym c.in-Each.is) (c.with_values.ensures done h)
+pub returns-then-tells : goal.returns-then-tells
+returns-then-tells c = λ pool done h.
+    let g = c.args.group.now in
+    elim c.then-tells.branch [
+      | then-tells-via-then-tells w ↦
+          with_old done (exits_of pool g) c.args.found h c.in-Some.decision g.status (λ x m. (alike_in_group pool g g.ends x m).0 ∙ c.in-Some.is) (λ x m. (alike_in_group pool g g.ends x m).1)
+          (OnTrue_at w.if-tells.true c.tells.ensures)
+      | then-tells-via-else-tells+then-not-has_end w ↦
+          with_arrivals done (exits_of pool g) c.args.found h (λ x m. absurd (none_in_group pool g g.ends (OnFalse_at w.if-not-has_end.true w.has_end.ensures.none) x m))
+    ]
+
+pub returns-else-not-has_end : goal.returns-else-not-has_end
+returns-else-not-has_end c = λ pool done h.
+    let g = c.args.group.now in
+    let some = some_in_group pool g g.ends (OnTrue_at c.if-not-has_end.false c.has_end.ensures.some) in
+    with_one done (exits_of pool g) c.args.found h c.in-Some.decision g.status (λ x m. (alike_in_group pool g g.ends x m).0 ∙ c.in-Some.is) (λ x m. (alike_in_group pool g g.ends x m).1)
+    c.one.result c.one.ensures.outcome c.one.ensures.status c.join.result some.0 some.1 c.join.ensures

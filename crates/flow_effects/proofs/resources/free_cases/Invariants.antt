@@ -6,4 +6,4 @@ use Rattle.flow_effects.proofs.resources.free_cases.Given as goal
 
 abbrev pub invariant-loop-value : goal.invariant-loop-value
 invariant-loop-value l =
-    l.cases ≡ taken_cases l.task l.next l.resource (length l.app.tasks) ++ flat_map (cases_of_value (takes l.task l.next l.resource (length l.app.tasks))) (take l.value-index l.value-items)
+    l.cases ≡ taken_cases l.task l.next l.resource (length l.app.tasks) ++ flat_map (cases_of_value (takes l.task l.next l.resource (length l.app.tasks))) (take l.value-index l.values)

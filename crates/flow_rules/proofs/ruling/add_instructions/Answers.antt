@@ -23,8 +23,8 @@ returns c =
     record {
       added = record {
         effects = c.in_ok-effects.effects;
-        covering = c.in_ok-effects.ensures.covering;
-        exact = c.in_ok-effects.ensures.exact;
+        covering = c.in_ok-effects.ensures.covering entry c.requires.domains c.values_read-values.ensures;
+        exact = c.in_ok-effects.ensures.exact entry c.requires.domains c.values_read-values.ensures;
         added = h.added;
       };
       shared = h.shared;

@@ -1,13 +1,25 @@
-use Rattle.std.proofs.Common.{◌∙◌, sym, subst}
-use Rattle.flow_rules.specs.declared.group.RuleGroup.{RuleGroup}
-use Rattle.flow_rules.specs.RuleGroups.{rules_of}
-use Rattle.global_cfg.specs.Targets.{ArePutFor}
-use Rattle.global_cfg.proofs.PuttingIn.{one_for}
+use Rattle.std.proofs.Common.{List, map, sym, subst}
+use Rattle.osek_standard.specs.declared.point.Point.{Point}
+use Rattle.numbered_exits.specs.declared.group.{NumberEnd.{NumberEnd}, Ends.{Ends}}
+use Rattle.numbered_exits.specs.Groups.{exits_by}
+use Rattle.global_cfg.specs.Targets.{end_target, AreEndsPut, ArePutAfter}
+use Rattle.global_cfg.proofs.PuttingIn.{put_at_points, put_with_numbers}
 use Rattle.global_cfg.proofs.targets.put_group.Goals as goal
 
-pub returns-in_ok-put_target-in-One : goal.returns-in_ok-put_target-in-One
-returns-in_ok-put_target-in-One c =
+pub returns-in_ok-put_points-in-At : goal.returns-in_ok-put_points-in-At
+returns-in_ok-put_points-in-At c = λ pool.
+    let p = c.args.from in
+    let g = c.args.group.now in
     let before = c.args.points.now.items in
-    let after = c.put_target.new.points.items in
-    subst (λ (x : RuleGroup). ArePutFor c.args.from c.args.entry.now (rules_of x) before after) (sym c.in-One.is)
-    (one_for c.args.from c.args.entry.now c.in-One.rule before after c.requires.order (sym c.leads_on.ensures ∙ c.if-leads_on.true) c.in_ok-put_target-in-One.ensures)
+    let after = c.put_points.new.points.items in
+    subst (λ (x : Ends). AreEndsPut p (exits_by pool g x) before after) (sym c.in-At.is)
+    (put_at_points p pool g c.in-At.targets before after (subst (λ (xs : List Point). ArePutAfter p g.decision xs before after) c.as_slice.ensures c.in_ok-put_points-in-At.ensures))
+
+pub returns-in_ok-put_ends-in-With : goal.returns-in_ok-put_ends-in-With
+returns-in_ok-put_ends-in-With c = λ pool.
+    let p = c.args.from in
+    let g = c.args.group.now in
+    let before = c.args.points.now.items in
+    let after = c.put_ends.new.points.items in
+    subst (λ (x : Ends). AreEndsPut p (exits_by pool g x) before after) (sym c.in-With.is)
+    (put_with_numbers p pool g _ c.in-With.ends before after (subst (λ (xs : List NumberEnd). ArePutAfter p g.decision (map end_target xs) before after) c.as_slice-in-With.ensures c.in_ok-put_ends-in-With.ensures))

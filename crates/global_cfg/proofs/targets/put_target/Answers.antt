@@ -1,13 +1,21 @@
-use Rattle.std.proofs.Common.{inl, inr, refl}
-use Rattle.std.proofs.lemmas.Bool.{OnTrue_at}
+use Rattle.std.proofs.Common.{◌∙◌, ◌∷◌, [], sym, subst}
+use Rattle.std.specs.List.{insert}
+use Rattle.global_cfg.specs.Targets.{ArePutAfter}
 use Rattle.global_cfg.proofs.PointPlaces.{number_there, put_new}
+use Rattle.global_cfg.proofs.PuttingIn.{not_on, one_there, one_put}
 use Rattle.global_cfg.proofs.targets.put_target.Goals as goal
 
+pub returns-then-not-leads_on : goal.returns-then-not-leads_on
+returns-then-not-leads_on c = not_on c.args.from c.args.decision c.args.target c.args.points.now.items c.requires (sym c.leads_on.ensures ∙ c.if-not-leads_on.true)
+
 pub returns-in_default : goal.returns-in_default
-returns-in_default c = inr (refl, inl (number_there c.args.points.now.items c.args.rule.now.target c.in_default.field-0 (rw c.as_slice.ensures.value at c.in_default.ensures.place)))
+returns-in_default c =
+    let points = c.args.points.now.items in
+    one_there c.args.from c.args.decision c.args.target points c.requires (number_there points c.args.target c.in_default.field-0 (rw c.as_slice.ensures.value at c.in_default.ensures.place))
 
 pub returns : goal.returns
-returns c = inl (
-  OnTrue_at c.if-not-is_possible.false c.is_possible.ensures.taken,
-  rw c.in_ok-insert.ensures.items (put_new c.args.points.now.items c.requires c.args.rule.now.target c.in-Err.gap (rw c.as_slice.ensures.value at c.in-Err.ensures.gap)),
-)
+returns c =
+    let points = c.args.points.now.items in
+    let target = c.args.target in
+    subst (ArePutAfter c.args.from c.args.decision (target ∷ []) points) (sym c.in_ok-insert.ensures.items)
+    (one_put c.args.from c.args.decision target points (insert points c.in-Err.gap target) (sym c.leads_on.ensures ∙ c.if-not-leads_on.false) (put_new points c.requires target c.in-Err.gap (rw c.as_slice.ensures.value at c.in-Err.ensures.gap)))

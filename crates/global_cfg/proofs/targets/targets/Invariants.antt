@@ -1,7 +1,8 @@
-use Rattle.std.proofs.Common.{[], take}
-use Rattle.flow_rules.specs.RuleGroups.{all_rules}
-use Rattle.global_cfg.specs.Targets.{ArePutFor}
+use Rattle.std.proofs.Common.{List, [], take}
+use Rattle.numbered_sets.specs.Pools.{Values}
+use Rattle.numbered_exits.specs.Groups.{all_exits}
+use Rattle.global_cfg.specs.Targets.{AreEndsPut}
 use Rattle.global_cfg.proofs.targets.targets.Given as goal
 
 abbrev pub invariant-loop-group : goal.invariant-loop-group
-invariant-loop-group l = ArePutFor l.fn.point l.entry (all_rules (take l.group-index l.group-items)) [] l.targets.items
+invariant-loop-group l = (pool : List Values) → AreEndsPut l.row.point (all_exits pool (take l.group-index l.group-items)) [] l.targets.items

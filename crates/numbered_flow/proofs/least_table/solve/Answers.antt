@@ -5,10 +5,7 @@ use Rattle.abstract_state.specs.declared.{value.Domain.{Domain}, table.{TableRow
 use Rattle.abstract_state.specs.Tables.{Least, sets_of, value_count}
 use Rattle.abstract_state.specs.Written.{IsWritten}
 use Rattle.numbered_sets.specs.declared.numbered_entry.NumberedEntry.{NumberedEntry}
-use Rattle.numbered_sets.specs.Numbers.{numbers}
 use Rattle.numbered_sets.specs.Pools.{pool_domains}
-use Rattle.numbered_sets.proofs.ShownLaws.{shown_on}
-use Rattle.numbered_sets.proofs.KnownNumbers.{none_known}
 use Rattle.state_flow.specs.declared.cells.Cell.{Cell}
 use Rattle.state_flow.specs.Cells.{AreInOrder, IsWaitingAt, IsNextWaiting, NoneWaitsFrom}
 use Rattle.state_flow.specs.Rows.{table_of}
@@ -17,26 +14,18 @@ use Rattle.state_flow.proofs.RowLaws.{written}
 use Rattle.state_flow.proofs.Closing.{least_at_end}
 use Rattle.state_flow.proofs.Bounds.{room, values_few, rows_evaluated, evaluations_few}
 use Rattle.numbered_flow.specs.PlainCells.{plain_cells}
-use Rattle.numbered_flow.proofs.NumberedCells.{numbered_order, waits_plain, none_waits_plain, domains_kept}
+use Rattle.numbered_flow.proofs.NumberedCells.{numbered_order, waits_plain, none_waits_plain, domains_kept, tasks_few}
 use Rattle.numbered_flow.proofs.CellRows.{rows_known, table_alike}
 use Rattle.numbered_flow.proofs.least_table.solve.Goals as goal
 
 pub started-requires : goal.started-requires
 started-requires g c = ap pool_domains c.in_ok-pool.ensures ∙ domains_kept (domains_of c.args.app.now)
 
-pub nothing_shown-requires : goal.nothing_shown-requires
-nothing_shown-requires g c = ap pool_domains c.in_ok-pool.ensures ∙ domains_kept (domains_of c.args.app.now)
+pub new-requires : goal.new-requires
+new-requires g c = tasks_few c.args.app.now c.started.new.pool (c.in_ok-cells.ensures.pool.domains ∙ ap pool_domains c.in_ok-pool.ensures ∙ domains_kept (domains_of c.args.app.now))
 
 pub loop-place-init : goal.loop-place-init
-loop-place-init g c =
-    let alike = ap pool_domains c.in_ok-pool.ensures ∙ domains_kept (domains_of c.args.app.now) in
-    let none = none_known c.in_ok-pool.pool c.in_ok-made.made (c.in_ok-made.ensures ∙ ap (map (λ (d : Domain). numbers d 0)) (sym alike)) in (
-      0,
-      omega arith,
-      c.in_ok-cells.ensures.progress,
-      shown_on c.in_ok-pool.pool c.started.new.pool c.in_ok-shown.shown c.in_ok-cells.ensures.pool c.in_ok-shown.ensures,
-      none.domains ∙ sym c.in_ok-cells.ensures.pool.domains,
-    )
+loop-place-init g c = (0, omega arith, c.in_ok-cells.ensures.progress, c.in_ok-levels.ensures)
 
 pub place_behind-from-requires : goal.place_behind-from-requires
 place_behind-from-requires g c =
@@ -56,7 +45,7 @@ loop-place-smaller g c =
 pub loop-place-preserved : goal.loop-place-preserved
 loop-place-preserved g c =
     let steps = c.loop-place.invariant.1 in
-    (c.loop-place.invariant.0 + 1, omega (arith, c.tick.ensures, steps), c.in_ok-turn.ensures.progress c.loop-place.invariant.0 c.loop-place.invariant.2, c.in_ok-turn.ensures.shown, c.in_ok-turn.ensures.alike)
+    (c.loop-place.invariant.0 + 1, omega (arith, c.tick.ensures, steps), c.in_ok-turn.ensures.progress c.loop-place.invariant.0 c.loop-place.invariant.2, c.in_ok-turn.ensures.levels)
 
 pub of-requires : goal.of-requires
 of-requires g c = rows_known c.loop-place.pool c.loop-place.cells.items c.in_ok-rows.rows c.in_ok-rows.ensures c.loop-place.invariant.2.known

@@ -29,11 +29,11 @@ returns-then-component-len-clause-passed c = λ before was h.
 
 pub updated-requires-clause-alike : goal.updated-requires-clause-alike
 updated-requires-clause-alike c =
-    alike_there c.args.pool.now c.args.pool.now c.args.entry.now c.index-component.result c.at.result.now c.requires.numbers (longer_itself c.args.pool.now) (c.at.ensures.item no_set)
+    alike_there c.args.pool.now c.args.pool.now c.args.entry.now c.index-component.result c.in_ok-numbers.numbers c.requires.numbers (longer_itself c.args.pool.now) (sym c.in_ok-numbers.ensures)
 
 pub updated-requires-clause-numbers : goal.updated-requires-clause-numbers
 updated-requires-clause-numbers c =
-    known_there c.args.pool.now c.args.pool.now c.args.entry.now c.index-component.result c.at.result.now c.requires.numbers (longer_itself c.args.pool.now) (c.at.ensures.item no_set)
+    known_there c.args.pool.now c.args.pool.now c.args.entry.now c.index-component.result c.in_ok-numbers.numbers c.requires.numbers (longer_itself c.args.pool.now) (sym c.in_ok-numbers.ensures)
 
 pub returns-clause-passed : goal.returns-clause-passed
 returns-clause-passed c = λ before was h.
@@ -47,12 +47,15 @@ returns-clause-passed c = λ before was h.
     let known : x.component.0 < length was.sets = (let below = c.if-component-len.false in omega (arith, below, index, c.len.ensures, h.size)) in
     let made : IsPassedSet (alone x) c.args.pool.now x.component.0 (get_or sets x.component.0 no_set) c.updated.new.pool c.in_ok-set.set =
     subst (λ (j : ℕ). IsPassedSet (alone x) c.args.pool.now j (get_or sets j no_set) c.updated.new.pool c.in_ok-set.set) index
-    (subst (λ (o : Numbers). IsPassedSet (alone x) c.args.pool.now c.index-component.result o c.updated.new.pool c.in_ok-set.set) (sym (c.at.ensures.item no_set)) c.in_ok-set.ensures.passed) in
-    subst (AreAllPassed (up_to rule (c.args.place + 1)) before was (length was.sets) c.updated.new.pool) (sym (c.put.ensures ∙ ap (λ (j : ℕ). set sets j c.in_ok-set.set) index))
+    (subst (λ (o : Numbers). IsPassedSet (alone x) c.args.pool.now c.index-component.result o c.updated.new.pool c.in_ok-set.set) c.in_ok-numbers.ensures c.in_ok-set.ensures.passed) in
+    subst (AreAllPassed (up_to rule (c.args.place + 1)) before was (length was.sets) c.updated.new.pool) (sym (c.in_ok-put.ensures.sets ∙ ap (λ (j : ℕ). set sets j c.in_ok-set.set) index))
     (changed_one rule c.args.place x c.requires.known at before was c.args.pool.now sets h c.updated.new.pool c.in_ok-set.set c.in_ok-set.ensures.pool fresh known made)
 
 pub returns-clause-alike : goal.returns-clause-alike
 returns-clause-alike c =
-    ap (λ (xs : List Numbers). map (λ (x : Numbers). x.domain) xs) c.put.ensures
+    ap (λ (xs : List Numbers). map (λ (x : Numbers). x.domain) xs) c.in_ok-put.ensures.sets
     ∙ domains_put c.args.entry.now.sets c.index-component.result c.in_ok-set.set (omega (arith, c.if-component-len.false, c.len.ensures))
-    (c.in_ok-set.ensures.passed.domain ∙ ap (λ (x : Numbers). x.domain) (sym (c.at.ensures.item no_set)))
+    (c.in_ok-set.ensures.passed.domain ∙ ap (λ (x : Numbers). x.domain) c.in_ok-numbers.ensures)
+
+pub put-requires-clause-alike : goal.put-requires-clause-alike
+put-requires-clause-alike c = sym (c.in_ok-set.ensures.passed.domain ∙ ap (λ (x : Numbers). x.domain) c.in_ok-numbers.ensures)

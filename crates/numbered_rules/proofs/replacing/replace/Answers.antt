@@ -1,9 +1,8 @@
-use Rattle.std.proofs.Common.{◌≡◌, List, length, set, sym, ap, subst, ◌∙◌, arith}
+use Rattle.std.proofs.Common.{◌≡◌, List, length, sym, ap, subst, ◌∙◌, arith}
 use Rattle.std.proofs.lemmas.List.{length-map}
 use Rattle.abstract_state.specs.declared.value.Domain.{Domain}
 use Rattle.numbered_sets.specs.declared.numbered_entry.NumberedEntry.{NumberedEntry}
-use Rattle.numbered_sets.specs.Numbers.{Numbers, numbers, with_number}
-use Rattle.numbered_sets.specs.NumberedEntries.{no_set, numbers_at}
+use Rattle.numbered_sets.specs.Numbers.{Numbers}
 use Rattle.numbered_sets.specs.Pools.{Values, IsLonger}
 use Rattle.numbered_sets.specs.Views.{AreNumbersOf}
 use Rattle.numbered_sets.proofs.ViewLaws.{longer_with}
@@ -33,6 +32,4 @@ returns-clause-replaced c =
     let n = c.in_ok-made.made in
     let many = as_many pool entry c.requires.numbers in
     let longer : IsLonger pool c.number.new.self = subst (IsLonger pool) (sym c.in_ok-made.ensures.pool) (longer_with pool k c.args.value (omega (arith, many, c.requires.known))) in
-    let write : set entry.sets k c.hold_only.new.self ≡ set entry.sets k (with_number (numbers (numbers_at entry k).domain 0) n) =
-    ap (set entry.sets k) (c.in_ok-hold_only.ensures.set ∙ ap (λ (x : Numbers). with_number (numbers x.domain 0) n) (sym (c.at_mut-set.ensures.item no_set))) in
-    replaced pool entry k c.args.value c.number.new.self (record { sets = set entry.sets k c.hold_only.new.self }) n c.requires.numbers c.requires.known longer c.in_ok-made.ensures.number write
+    replaced pool entry k c.args.value c.number.new.self c.hold_only.new.self n c.requires.numbers c.requires.known longer c.in_ok-made.ensures.number c.in_ok-hold_only.ensures.set

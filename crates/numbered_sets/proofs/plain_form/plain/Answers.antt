@@ -1,12 +1,11 @@
 use Rattle.std.proofs.Common.{◌+◌, List, sym, subst, ap, arith}
 use Rattle.abstract_state.specs.declared.table.{ValueSet.{ValueSet}, Entry.{Entry}}
-use Rattle.numbered_sets.specs.NumberedEntries.{no_set}
 use Rattle.numbered_sets.proofs.PlainLaws.{AreFirstPlain, plain_next, all_plain}
 use Rattle.numbered_sets.proofs.plain_form.plain.Goals as goal
 
 pub loop-component-preserved : goal.loop-component-preserved
 loop-component-preserved c =
-    let next = plain_next c.args.pool.now c.args.entry.now c.loop-component.component c.loop-component.sets c.at.result.now c.in_ok-set.set c.loop-component.invariant (c.at.ensures.item no_set) c.in_ok-set.ensures in
+    let next = plain_next c.args.pool.now c.args.entry.now c.loop-component.component c.loop-component.sets c.in_ok-numbers.numbers c.in_ok-set.set c.loop-component.invariant (sym c.in_ok-numbers.ensures) c.in_ok-set.ensures in
     let h = c.in_ok-push.ensures.ok in
     subst (AreFirstPlain c.args.pool.now c.args.entry.now (c.loop-component.component + 1)) (sym h) next
 

@@ -1,6 +1,6 @@
 use Rattle.std.proofs.Common.{rules, ◌<◌, ◌+◌, ◌^◌, length, get_or, set, refl, arith}
 use Rattle.std.specs.Prelude.{bit_or}
-use Rattle.numbered_sets.proofs.WordLaws.{AreJoinedUpTo, joined_one_more, all_joined, joined_words, joined_few, joined_count, bits_joined, small_at}
+use Rattle.numbered_sets.proofs.WordLaws.{AreJoinedUpTo, joined_one_more, all_joined, joined_words, joined_few, joined_count, bits_joined, each_joined, small_at}
 use Rattle.numbered_sets.proofs.words.join.Goals as goal
 
 pub overflow_add-added : goal.overflow_add-added
@@ -30,6 +30,9 @@ loop-place-preserved c =
     let small = small_at words place (joined_words before other words place c.loop-place.added c.are_words.ensures c.are_words-2.ensures c.loop-place.invariant) in
     joined_one_more before other words place c.loop-place.added (get_or words place 0) (get_or other place 0) c.new_bits-added.result
     c.loop-place.invariant known refl refl small (small_at other place c.are_words-2.ensures) c.new_bits-added.ensures.count c.new_bits-added.ensures.few
+
+pub returns-clause-words : goal.returns-clause-words
+returns-clause-words c = each_joined c.args.words.now c.args.other.now c.loop-place.words c.loop-place.place c.loop-place.added c.loop-place-test.false c.loop-place.invariant
 
 pub returns-clause-bits : goal.returns-clause-bits
 returns-clause-bits c =

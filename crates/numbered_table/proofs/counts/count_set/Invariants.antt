@@ -1,7 +1,8 @@
 use Rattle.std.proofs.Common.{◌≡◌}
 use Rattle.abstract_state.specs.Components.{passing_below}
 use Rattle.numbered_sets.specs.Numbers.{has_number}
+use Rattle.numbered_sets.specs.SetLists.{set_of}
 use Rattle.numbered_table.proofs.counts.count_set.Given as goal
 
 abbrev pub invariant-loop-number : goal.invariant-loop-number
-invariant-loop-number l = l.found ≡ passing_below (has_number l.numbers) l.number
+invariant-loop-number l = l.found ≡ passing_below (has_number (set_of l.sets l.component)) l.number

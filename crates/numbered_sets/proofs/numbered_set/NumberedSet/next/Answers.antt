@@ -1,10 +1,16 @@
-use Rattle.std.proofs.Common.{◌≡◌, inl, inr, sym, ap, ◌∙◌, arith}
-use Rattle.std.proofs.lemmas.Bool.{cases_lt}
-use Rattle.numbered_sets.specs.Numbers.{has_number}
+use Rattle.std.proofs.Common.{◌≡◌, ◌∷◌, false, List, ℕ, IsTrue, ap, subst, ◌∙◌}
+use Rattle.osek_standard.specs.Kernel.{has_bit}
+use Rattle.numbered_sets.specs.Numbers.{Numbers, bits_of_words}
 use Rattle.numbered_sets.proofs.numbered_set.NumberedSet.next.Goals as goal
 
-pub loop-further-preserved : goal.loop-further-preserved
-loop-further-preserved c = λ k above below. elim (cases_lt k c.loop-further.further) [
-  | inl lt ↦ c.loop-further.invariant k above lt
-  | inr le ↦ (let same : k ≡ c.loop-further.further = omega (arith, le, below) in ap (has_number c.args.self.now) same ∙ sym c.has.ensures ∙ c.if-has.false)
-]
+pub returns-clause-has : goal.returns-clause-has
+returns-clause-has c = λ lt.
+    let bits : bits_of_words (c.self.inside.low ∷ c.self.inside.high ∷ c.as_slice.result.now) ≡ c.args.self.now.bits =
+    ap (λ (ws : List ℕ). bits_of_words (c.self.inside.low ∷ c.self.inside.high ∷ ws)) c.as_slice.ensures.value ∙ ap (λ (x : Numbers). x.bits) c.self.view_is in
+    subst (λ (m : ℕ). IsTrue (has_bit m c.next.result)) bits (c.next.ensures.has lt)
+
+pub returns-clause-none : goal.returns-clause-none
+returns-clause-none c = λ k above below.
+    let bits : bits_of_words (c.self.inside.low ∷ c.self.inside.high ∷ c.as_slice.result.now) ≡ c.args.self.now.bits =
+    ap (λ (ws : List ℕ). bits_of_words (c.self.inside.low ∷ c.self.inside.high ∷ ws)) c.as_slice.ensures.value ∙ ap (λ (x : Numbers). x.bits) c.self.view_is in
+    subst (λ (m : ℕ). has_bit m k ≡ false) bits (c.next.ensures.none k above below)

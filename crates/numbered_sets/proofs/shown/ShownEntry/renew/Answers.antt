@@ -1,5 +1,4 @@
-use Rattle.std.proofs.Common.{arith}
-use Rattle.numbered_sets.specs.NumberedEntries.{no_set}
+use Rattle.std.proofs.Common.{sym, arith}
 use Rattle.numbered_sets.proofs.ShownLaws.{shown_begun, alike_at, shown_whole, shown_plain}
 use Rattle.numbered_sets.proofs.shown.ShownEntry.renew.Goals as goal
 
@@ -8,7 +7,7 @@ loop-component-init c = shown_begun c.args.pool.now c.args.self.now c.args.entry
 
 pub renew_set-requires-clause-alike : goal.renew_set-requires-clause-alike
 renew_set-requires-clause-alike c =
-    alike_at c.args.pool.now c.args.self.now c.args.entry.now c.requires.shown c.requires.numbers c.loop-component.component c.loop-component.self c.at.result.now c.loop-component.invariant (c.at.ensures.item no_set)
+    alike_at c.args.pool.now c.args.self.now c.args.entry.now c.requires.shown c.requires.numbers c.loop-component.component c.loop-component.self c.in_ok-numbers.numbers c.loop-component.invariant (sym c.in_ok-numbers.ensures)
 
 pub returns-clause-shown : goal.returns-clause-shown
 returns-clause-shown c =

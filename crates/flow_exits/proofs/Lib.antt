@@ -1,0 +1,4 @@
+pub mod Steps
+pub mod Covering
+pub mod AfterEffect
+pub mod Returning

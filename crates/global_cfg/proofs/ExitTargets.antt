@@ -1,0 +1,77 @@
+-- The points to which edges lead are the targets of exits.
+use Rattle.std.proofs.Common.{◌≡◌, ◌≢◌, ◌⊎◌, ℕ, ◌<◌, false, List, [], IsTrue, refl, sym, subst, ◌∙◌, inl, inr, arith}
+use Rattle.std.specs.Prelude.{Contains}
+use Rattle.std.proofs.lemmas.Bool.{cases_lt}
+use Rattle.osek_values.specs.declared.event.Event.{Event}
+use Rattle.osek_standard.specs.declared.app.App.{App}
+use Rattle.osek_standard.specs.declared.state.State.{State}
+use Rattle.osek_standard.specs.declared.point.Point.{Point}
+use Rattle.osek_standard.specs.Points.{IsPoint}
+use Rattle.osek_standard.specs.Kernel.{step}
+use Rattle.osek_standard.proofs.PointLaws.{one_number}
+use Rattle.abstract_state.specs.declared.value.{PartValue.{PartValue}, PartValue.TheVariants.{OfAlarm}}
+use Rattle.abstract_state.specs.declared.table.Entry.{Entry}
+use Rattle.abstract_state.specs.Components.{component_count}
+use Rattle.abstract_state.specs.Forms.{IsAnew}
+use Rattle.abstract_state.specs.Tables.{set_at, is_member}
+use Rattle.abstract_state.proofs.AllowedLaws.{well_point}
+use Rattle.flow_model.specs.Effects.{IsAt}
+use Rattle.flow_exits.specs.Exits.{Exit, IsBy, CoverSteps, IsStepTo, IsFilled, IsExact, AreExact}
+use Rattle.global_cfg.specs.Targets.{IsEndOf, AreEndsPut, LeadsTo, AreTargets}
+use Rattle.global_cfg.proofs.LeadingOn.{next_well, target_point, moves_on, leads_where_it_moves, stays_silent}
+
+-- a value of each set
+some_value : (app : App) (entry : Entry) → IsFilled app entry → (c : ℕ) → (v : PartValue) × (c < component_count app → IsTrue (is_member (set_at entry c) v))
+some_value app entry filled c = elim (cases_lt c (component_count app)) [
+  | inl below ↦ (let some = filled c below in (some.value, λ lt. some.member))
+  | inr above ↦ (OfAlarm false, λ lt. absurd (omega (arith, lt, above)))
+]
+
+module _ (app : App) (p : Point) (entry : Entry) where
+  -- an edge leads to a point of the application
+  leads_to_point : (q : Point) → LeadsTo app p entry q → IsPoint app q
+  leads_to_point q x = subst (IsPoint app) x.ends (well_point app (step app x.from x.event).state (next_well app p entry x.from x.event x.at))
+
+  -- a step by an exit
+  some_step : (x : Exit) (exact : IsExact app p entry x) → IsStepTo app p entry x (λ c. (some_value app x.entry exact.filled c).0)
+  some_step x exact = exact.shown (λ c. (some_value app x.entry exact.filled c).0) (λ c lt. (some_value app x.entry exact.filled c).1 lt)
+
+  module _ (exits : List Exit) (exact : AreExact app p entry exits) where
+    -- an exit by which control flow leads on leads to its target
+    led_there : (q : Point) → IsEndOf p exits q → LeadsTo app p entry q
+    led_there q x =
+        let s = some_step x.exit (exact x.exit x.listed) in
+        record {
+          from = s.from;
+          event = s.event;
+          at = s.at;
+          ends = s.target ∙ sym x.ends;
+          moves = subst (λ (r : Point). (p ≢ r) ⊎ IsAnew app s.from s.event) (sym x.ends) (moves_on app p entry s.from s.event s.at x.exit.target x.exit.decision x.exit.status s.target s.shows x.on);
+        }
+
+    module _ (targets : List Point) (covers : CoverSteps app p entry exits) (put : AreEndsPut p exits [] targets) where
+      leads_to_each : (q : Point) → Contains targets q → LeadsTo app p entry q
+      leads_to_each q h = elim (put.from q h) [
+        | inl old ↦ absurd (omega (arith, old.1))
+        | inr led ↦ led_there q led
+      ]
+
+      -- a state that steps by an exit which leads on ends at one of the targets
+      leads_there : (x : Exit) (s : State) (e : Event) → IsAt app p entry s → IsBy app x s e → (p ≢ x.target) ⊎ IsAnew app s e → Contains exits x → Contains targets x.target
+      leads_there x s e at by moves listed =
+          let on = leads_where_it_moves app p entry s e at x.target x.decision x.status by.target by.shows moves in
+          let has = put.each x.target (record { exit = x; listed = listed; on = on; ends = refl }) in
+          let there = leads_to_point has.point (leads_to_each has.point has.listed) in
+          let is : has.point ≡ x.target = one_number app has.point x.target there (target_point app p entry s e at x.target x.decision x.status by.target by.shows) has.is in
+          subst (Contains targets) is has.listed
+
+      -- the targets of all exits are put in
+      pub ends_are_targets : AreTargets app p entry targets
+      ends_are_targets = record {
+        order = put.order;
+        each = leads_to_each;
+        all = λ q x.
+            let b = covers x.from x.event x.at (stays_silent app p entry x.from x.event x.at q x.ends x.moves) in
+            let is : q ≡ b.exit.target = sym x.ends ∙ b.by.target in
+            subst (Contains targets) (sym is) (leads_there b.exit x.from x.event x.at b.by (subst (λ (y : Point). (p ≢ y) ⊎ IsAnew app x.from x.event) is x.moves) b.listed);
+      }

@@ -1,0 +1,17 @@
+pub mod GroupLaws
+pub mod NumberLaws
+pub mod HeldLaws
+pub mod ExitLaws
+pub mod BlockLaws
+pub mod LeftLaws
+pub mod KeptLaws
+pub mod OwnLevels
+pub mod AddingLaws
+pub mod ClaimedGroups
+pub mod WholeLaws
+pub mod GrowingPools
+pub mod AddingEffects
+pub mod ArrivingGroups
+pub mod LeavingPoints
+pub mod ReturningPoints
+pub mod EffectDomains

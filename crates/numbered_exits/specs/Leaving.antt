@@ -1,0 +1,47 @@
+-- The exits of the instructions at a point, one effect after another, in a pool that grows.
+use Rattle.std.specs.Prelude.{◌≡◌, ◌⊎◌, ℕ, ◌<◌, List, length, Some, Contains}
+use Rattle.std.specs.declared.option.Option.{Option}
+use Rattle.osek_values.specs.declared.numbers.{TaskNo.{TaskNo}, BlockNo.{BlockNo}}
+use Rattle.osek_standard.specs.declared.app.App.{App}
+use Rattle.osek_standard.specs.declared.block.Kind.TheVariants as kind
+use Rattle.osek_standard.specs.declared.point.Point.{Point}
+use Rattle.osek_standard.specs.declared.point.Point.TheVariants as point
+use Rattle.osek_standard.specs.Apps.{source_count, the_block}
+use Rattle.abstract_state.specs.declared.table.Entry.{Entry}
+use Rattle.flow_model.specs.declared.case.EffectCase.{EffectCase}
+use Rattle.flow_model.specs.Effects.{AreAllAllowed, CoverEffects, AreExactEffects}
+use Rattle.flow_rules.specs.Arrivals.{MayBegin}
+use Rattle.flow_exits.specs.Exits.{Exit}
+use Rattle.flow_exits.specs.Leaving.{IsOfEffects, HasExitsFor, arrival_exit, IsArrivalExit}
+use Rattle.numbered_sets.specs.Pools.{Values, IsLonger}
+use Rattle.numbered_exits.specs.declared.group.ExitGroup.{ExitGroup}
+use Rattle.numbered_exits.specs.Groups.{all_exits, AreKnownGroups}
+
+-- the exits by which routines begin come to others
+pub record AddsArrivals (app : App) (p : Point) (entry : Entry) (pool : List Values) (before now : List ExitGroup) : Type 0 where
+  pub known : AreKnownGroups pool now
+  pub kept : (x : Exit) → Contains (all_exits pool before) x → Contains (all_exits pool now) x
+  pub each : (x : Exit) → Contains (all_exits pool now) x → Contains (all_exits pool before) x ⊎ IsArrivalExit app p entry x
+  pub some : (k : ℕ) (over : Option TaskNo) → k < source_count app → MayBegin app p over → Contains (all_exits pool now) (arrival_exit app entry over k)
+
+-- the exits of these effects come to others
+pub record AddsEffects (app : App) (entry : Entry) (effects : List EffectCase) (pool : List Values) (before : List ExitGroup) (after : List Values) (now : List ExitGroup) : Type 0 where
+  pub longer : IsLonger pool after
+  pub known : AreKnownGroups after now
+  pub kept : (x : Exit) → Contains (all_exits pool before) x → Contains (all_exits after now) x
+  pub each : (x : Exit) → Contains (all_exits after now) x → Contains (all_exits pool before) x ⊎ IsOfEffects app effects entry x
+  pub some : (effect : EffectCase) → Contains effects effect → HasExitsFor app effect entry (all_exits after now)
+
+-- so do those of the effects of the instructions at the point
+pub record AddsInstructions (app : App) (p : Point) (entry : Entry) (pool : List Values) (before : List ExitGroup) (after : List Values) (now : List ExitGroup) : Type 0 where
+  pub effects : List EffectCase
+  pub covering : CoverEffects app p entry effects
+  pub exact : AreAllAllowed app p entry → AreExactEffects app p entry effects
+  pub added : AddsEffects app entry effects pool before after now
+
+-- a routine ends at the point, and the processor goes back to this task
+pub record IsReturnTo (app : App) (p : Point) (t : TaskNo) : Type 0 where
+  pub block : BlockNo
+  pub is : p ≡ point.Routine block (Some t)
+  pub ends : (the_block app block.0).kind ≡ kind.IsrEnd
+  pub known : t.0 < length app.tasks

@@ -1,0 +1,4 @@
+pub mod Groups
+pub mod Narrowing
+pub mod Deciding
+pub mod Leaving

@@ -1,0 +1,4 @@
+pub mod JudgedValues
+pub mod NarrowingLaws
+pub mod LevelLaws
+pub mod LevelMembers

@@ -1,0 +1,17 @@
+use Rattle.std.proofs.Common.{◌≡◌, length, ap, ◌∙◌, arith}
+use Rattle.std.proofs.lemmas.List.{length-replicate}
+use Rattle.numbered_sets.proofs.FlatLaws.{flat_made}
+use Rattle.numbered_sets.proofs.flat_sets.NumberedSets.new.Goals as goal
+
+pub invariant_of-result : goal.invariant_of-result
+invariant_of-result c =
+    let many : length c.in_ok-copy.copy.items ≡ length c.args.domains.now = ap length c.in_ok-copy.ensures.items in
+    let low = ap length c.in_ok-low.ensures ∙ length-replicate (length c.args.domains.now) 0 in
+    let high = ap length c.in_ok-high.ensures ∙ length-replicate (length c.args.domains.now) 0 in
+    let none = ap length c.new.ensures in
+    (omega (arith, many, low), omega (arith, many, high), omega (arith, none))
+
+pub returns : goal.returns
+returns c =
+    flat_made c.args.domains.now c.in_ok-copy.copy.items c.in_ok-low.low.items c.in_ok-high.high.items c.new.result c.in_ok-copy.ensures.items
+    c.in_ok-low.ensures c.in_ok-high.ensures c.new.ensures

@@ -1,0 +1,348 @@
+//! Sets of numbers for components, in flat words.
+ghost use Rattle.std.specs.Prelude.{◌≡◌, ◌<◌, length, slice_index_or};
+ghost use Rattle.abstract_state.specs.declared.value.Domain.{Domain};
+
+use crate::numbered_set::NumberedSet;
+use crate::{further, split_words, words};
+use abstract_state::Domain;
+use osek_values::{Memory, Seq};
+use std::alloc::Global;
+use std::marker::Model;
+
+/// A set of numbers of values of a domain for each of some components. The first 128 numbers of each stand in two arrays, with
+/// a word for each component: most tasks have no more values, and events and alarms have two. Further words are few.
+#[derive(Drop)]
+pub struct NumberedSets {
+    domains: Vec<Domain>,
+    low: Vec<u64>,
+    high: Vec<u64>,
+    // empty as long as no number is past the first 128
+    more: Seq<Vec<u64>>,
+}
+
+impl Model for NumberedSets {
+    ghost use Rattle.std.specs.Prelude.{◌≡◌, ◌≤◌, List, length};
+    ghost use Rattle.numbered_sets.specs.Numbers.{Numbers};
+    ghost use Rattle.numbered_sets.specs.FlatSets.{flat_sets};
+
+    ghost Value = { List Numbers };
+
+    ghost view = { λ s. flat_sets s.domains.items s.low.items s.high.items s.more };
+
+    ghost invariant = { λ s. (length s.low.items ≡ length s.domains.items) × (length s.high.items ≡ length s.domains.items) × (length s.more ≤ length s.domains.items) };
+}
+
+impl NumberedSets {
+    ghost use Rattle.std.specs.Prelude.{ℕ, false, IsTrue, ◌≡◌, ◌<◌, ◌≤◌, ◌+◌, ◌^◌, ◌==◌, not, length, map, slice_set, IfOk, OnOk, OnErr, EachIndex, SomeIndex};
+    ghost use Rattle.std.specs.Bool.{OnTrue, OnFalse};
+    ghost use Rattle.numbered_sets.specs.Numbers.{numbers, has_number, with_number, kept_numbers, other_numbers, meets};
+    ghost use Rattle.numbered_sets.specs.SetLists.{set_of, domains_of, all_numbers, AreJoined};
+
+    /// The sets without a number, for a component of each domain.
+    pub fn new(alloc: Global, domains: &[Domain]) -> Result<NumberedSets, Memory>
+        ensures { IfOk result (λ sets. sets ≡ map (λ d. numbers d 0) domains.now) }
+    {
+        let low = words::clear_words(alloc, domains.len())?;
+        let high = words::clear_words(alloc, domains.len())?;
+        let copy = Vec::from_slice(alloc, domains)?;
+        Ok(NumberedSets {
+            domains: copy,
+            low,
+            high,
+            more: Seq::new(alloc),
+        })
+    }
+
+    /// How many sets there are.
+    pub fn len(&self) -> usize
+        ensures { result ≡ length self.now }
+    {
+        self.domains.len()
+    }
+
+    /// What a component's numbers are numbers of.
+    pub fn domain(&self, component: usize) -> Domain
+        requires { component < length self.now }
+        ensures { result ≡ (set_of self.now component).domain }
+    {
+        domain_at(self.domains.as_slice(), component)
+    }
+
+    /// Whether a number is in a component's set.
+    pub fn has(&self, component: usize, number: usize) -> bool
+        ensures { result ≡ has_number (set_of self.now component) number }
+    {
+        split_words::has(
+            words::word_at(self.low.as_slice(), component),
+            words::word_at(self.high.as_slice(), component),
+            further::of(&self.more, component),
+            number,
+        )
+    }
+
+    /// The first number of a component from one on, if it is below a bound; else the bound.
+    pub fn next(&self, component: usize, from: usize, below: usize) -> usize
+        requires { from ≤ below }
+        ensures up { from ≤ result }
+        ensures few { result ≤ below }
+        ensures has { result < below → IsTrue (has_number (set_of self.now component) result) }
+        ensures none { (k : ℕ) → from ≤ k → k < result → has_number (set_of self.now component) k ≡ false }
+    {
+        split_words::next(
+            words::word_at(self.low.as_slice(), component),
+            words::word_at(self.high.as_slice(), component),
+            further::of(&self.more, component),
+            from,
+            below,
+        )
+    }
+
+    /// Whether a component's set has no number.
+    pub fn is_empty(&self, component: usize) -> bool
+        ensures { result ≡ ((set_of self.now component).bits == 0) }
+    {
+        split_words::are_clear(
+            words::word_at(self.low.as_slice(), component),
+            words::word_at(self.high.as_slice(), component),
+            further::of(&self.more, component),
+        )
+    }
+
+    /// Whether a component's set has some number of another one.
+    pub fn meets(&self, component: usize, other: &NumberedSet) -> bool
+        ensures { result ≡ meets (set_of self.now component) other.now }
+    {
+        other.meets_words(
+            words::word_at(self.low.as_slice(), component),
+            words::word_at(self.high.as_slice(), component),
+            further::of(&self.more, component),
+        )
+    }
+
+    /// Whether each set has a number.
+    pub fn is_filled(&self) -> bool
+        ensures filled { OnTrue result (EachIndex self.now (λ c. 0 < (set_of self.now c).bits)) }
+        ensures none { OnFalse result (SomeIndex self.now (λ c. (set_of self.now c).bits ≡ 0)) }
+    {
+        if words::have_bits(self.low.as_slice(), self.high.as_slice()) {
+            return true;
+        }
+        for component in 0..self.domains.len() {
+            if self.is_empty(component) {
+                return false;
+            }
+        }
+        true
+    }
+
+    /// Puts a number in a component's set, and tells whether it is new there.
+    pub fn insert(&mut self, component: usize, number: usize) -> Result<bool, Memory>
+        requires { component < length self.old }
+        ensures is_new { IfOk result (λ is_new. is_new ≡ not (has_number (set_of self.old component) number)) }
+        ensures sets { OnOk result (self.new ≡ slice_set self.old component (with_number (set_of self.old component) number)) }
+        ensures err { OnErr result (self.new ≡ self.old) }
+    {
+        if self.has(component, number) {
+            return Ok(false);
+        }
+        self.put_number(component, number)?;
+        Ok(true)
+    }
+
+    fn put_number(&mut self, component: usize, number: usize) -> Result<(), Memory>
+        requires { component < length self.old }
+        ensures sets { OnOk result (self.new ≡ slice_set self.old component (with_number (set_of self.old component) number)) }
+        ensures err { OnErr result (self.new ≡ self.old) }
+    {
+        if number < 64 {
+            self.put_low(component, number);
+            return Ok(());
+        }
+        if number < 128 {
+            self.put_high(component, number);
+            return Ok(());
+        }
+        self.put_further(component, number)
+    }
+
+    fn put_low(&mut self, component: usize, number: usize)
+        requires known { component < length self.old }
+        requires low { number < 64 }
+        ensures { self.new ≡ slice_set self.old component (with_number (set_of self.old component) number) }
+    {
+        let low = words::word_at(self.low.as_slice(), component);
+        words::replace(
+            self.low.as_mut_slice(),
+            component,
+            words::with_bit(low, number),
+        );
+    }
+
+    fn put_high(&mut self, component: usize, number: usize)
+        requires known { component < length self.old }
+        requires high { 64 ≤ number }
+        requires low { number < 128 }
+        ensures { self.new ≡ slice_set self.old component (with_number (set_of self.old component) number) }
+    {
+        let _low = words::word_at(self.low.as_slice(), component);
+        let high = words::word_at(self.high.as_slice(), component);
+        words::replace(
+            self.high.as_mut_slice(),
+            component,
+            words::with_bit(high, number - 64),
+        );
+    }
+
+    fn put_further(&mut self, component: usize, number: usize) -> Result<(), Memory>
+        requires known { component < length self.old }
+        requires further { 128 ≤ number }
+        ensures sets { OnOk result (self.new ≡ slice_set self.old component (with_number (set_of self.old component) number)) }
+        ensures err { OnErr result (self.new ≡ self.old) }
+    {
+        let _low = words::word_at(self.low.as_slice(), component);
+        let _high = words::word_at(self.high.as_slice(), component);
+        let alloc = *self.low.allocator();
+        further::insert(alloc, &mut self.more, component, number - 128)?;
+        Ok(())
+    }
+
+    /// Leaves out the numbers of a component that another set lacks.
+    pub fn keep(&mut self, component: usize, other: &NumberedSet)
+        requires { component < length self.old }
+        ensures { self.new ≡ slice_set self.old component (kept_numbers (set_of self.old component) other.now) }
+    {
+        let low = words::word_at(self.low.as_slice(), component);
+        let high = words::word_at(self.high.as_slice(), component);
+        words::are_two_words(other.low, other.high);
+        words::replace(self.low.as_mut_slice(), component, low & other.low);
+        words::replace(self.high.as_mut_slice(), component, high & other.high);
+        further::keep(&mut self.more, component, other.more.as_slice());
+    }
+
+    /// Leaves out the numbers of a component that another set has.
+    pub fn leave_out(&mut self, component: usize, other: &NumberedSet)
+        requires { component < length self.old }
+        ensures { self.new ≡ slice_set self.old component (other_numbers (set_of self.old component) other.now) }
+    {
+        let low = words::word_at(self.low.as_slice(), component);
+        let high = words::word_at(self.high.as_slice(), component);
+        words::are_two_words(other.low, other.high);
+        words::replace(
+            self.low.as_mut_slice(),
+            component,
+            words::without(low, other.low),
+        );
+        words::replace(
+            self.high.as_mut_slice(),
+            component,
+            words::without(high, other.high),
+        );
+        further::leave_out(&mut self.more, component, other.more.as_slice());
+    }
+
+    // leaves out all numbers of a component
+    fn clear(&mut self, component: usize)
+        requires { component < length self.old }
+        ensures { self.new ≡ slice_set self.old component (numbers (set_of self.old component).domain 0) }
+    {
+        words::replace(self.low.as_mut_slice(), component, 0);
+        words::replace(self.high.as_mut_slice(), component, 0);
+        further::clear(&mut self.more, component);
+    }
+
+    /// Makes a component's set that of one number. Where memory is wanted it is empty.
+    pub fn hold_only(&mut self, component: usize, number: usize) -> Result<(), Memory>
+        requires { component < length self.old }
+        ensures set { OnOk result (self.new ≡ slice_set self.old component (with_number (numbers (set_of self.old component).domain 0) number)) }
+        ensures err { OnErr result (self.new ≡ slice_set self.old component (numbers (set_of self.old component).domain 0)) }
+    {
+        self.clear(component);
+        self.put_number(component, number)?;
+        Ok(())
+    }
+
+    /// A component's set by itself.
+    pub fn set(&self, alloc: Global, component: usize) -> Result<NumberedSet, Memory>
+        requires { component < length self.now }
+        ensures { IfOk result (λ set. set ≡ set_of self.now component) }
+    {
+        let more = words::copied(alloc, further::of(&self.more, component))?;
+        Ok(NumberedSet {
+            domain: domain_at(self.domains.as_slice(), component),
+            low: words::word_at(self.low.as_slice(), component),
+            high: words::word_at(self.high.as_slice(), component),
+            more,
+        })
+    }
+
+    /// Makes a component's set another one of the same domain. Where memory is wanted it stays what it was.
+    pub fn put(&mut self, component: usize, other: &NumberedSet) -> Result<(), Memory>
+        requires known { component < length self.old }
+        requires alike { (set_of self.old component).domain ≡ other.now.domain }
+        ensures sets { OnOk result (self.new ≡ slice_set self.old component other.now) }
+        ensures err { OnErr result (self.new ≡ self.old) }
+    {
+        let alloc = *self.low.allocator();
+        further::put_words(alloc, &mut self.more, component, other.more.as_slice())?;
+        words::replace(self.low.as_mut_slice(), component, other.low);
+        words::replace(self.high.as_mut_slice(), component, other.high);
+        Ok(())
+    }
+
+    /// Joins other sets into these, and tells how many numbers are new. Where memory is wanted they stay what they were.
+    pub fn join_into(&mut self, other: &NumberedSets) -> Result<u64, Memory>
+        requires as_many { length self.old ≡ length other.now }
+        requires few { all_numbers other.now < 2 ^ 64 }
+        ensures sets { OnOk result (AreJoined self.old other.now self.new) }
+        ensures count { IfOk result (λ n. all_numbers self.new ≡ all_numbers self.old + n) }
+        ensures err { OnErr result (self.new ≡ self.old) }
+    {
+        words::are_words(self.low.as_slice());
+        words::are_words(self.high.as_slice());
+        words::are_words(other.low.as_slice());
+        words::are_words(other.high.as_slice());
+        let alloc = *self.low.allocator();
+        further::widen(alloc, &mut self.more, &other.more)?;
+        let low = words::join(self.low.as_mut_slice(), other.low.as_slice());
+        let high = words::join(self.high.as_mut_slice(), other.high.as_slice());
+        let further = further::join(&mut self.more, &other.more);
+        Ok(low + high + further)
+    }
+
+    /// The same sets again.
+    pub fn copy(&self, alloc: Global) -> Result<NumberedSets, Memory>
+        ensures { IfOk result (λ sets. sets ≡ self.now) }
+    {
+        let domains = Vec::from_slice(alloc, self.domains.as_slice())?;
+        let low = words::copied(alloc, self.low.as_slice())?;
+        let high = words::copied(alloc, self.high.as_slice())?;
+        let more = further::copied(alloc, &self.more)?;
+        Ok(NumberedSets {
+            domains,
+            low,
+            high,
+            more,
+        })
+    }
+
+    /// Become other sets of the same domains. Where memory is wanted they stay what they were.
+    pub fn assign(&mut self, other: &NumberedSets) -> Result<(), Memory>
+        requires { domains_of self.old ≡ domains_of other.now }
+        ensures sets { OnOk result (self.new ≡ other.now) }
+        ensures err { OnErr result (self.new ≡ self.old) }
+    {
+        let alloc = *self.low.allocator();
+        further::widen(alloc, &mut self.more, &other.more)?;
+        further::put_all(&mut self.more, &other.more);
+        self.low.copy_from_slice(other.low.as_slice());
+        self.high.copy_from_slice(other.high.as_slice());
+        Ok(())
+    }
+}
+
+fn domain_at(domains: &[Domain], place: usize) -> Domain
+    requires { place < length domains.now }
+    ensures { (none : Domain) → slice_index_or domains.now place none ≡ result }
+{
+    domains[place]
+}
