@@ -40,14 +40,15 @@ fn are_same_tables(
     plain: &Table,
     numbered: &numbered_table::Table,
 ) -> Result<bool, Memory> {
-    let mut rows = numbered.shown_rows();
-    if rows.len() != plain.rows.len() {
+    let numbered = numbered.numbered_rows(alloc)?;
+    if numbered.rows.len() != plain.rows.len() {
         return Ok(false);
     }
     for place in 0..plain.rows.len() {
-        rows.show(alloc, place)?;
         let row = plain.rows.at(place);
-        if rows.point(place) != row.point || !are_same_entries(rows.entry(), &row.entry) {
+        let other = numbered.rows.at(place);
+        let entry = numbered_sets::plain(alloc, &numbered.pool, &other.entry)?;
+        if other.point != row.point || !are_same_entries(&entry, &row.entry) {
             return Ok(false);
         }
     }
