@@ -26,7 +26,7 @@ use Rattle.flow_model.specs.Tests.{value_after}
 use Rattle.flow_model.specs.Rules.{Applies}
 use Rattle.flow_effects.specs.Reading.{IsRead, AreReadAt}
 use Rattle.flow_effects.proofs.ReadingLaws.{read_once}
-use Rattle.flow_exits.specs.Exits.{Exit}
+use Rattle.flow_exits.specs.Exits.{Exit, IsFilled}
 use Rattle.flow_exits.specs.Leaving.{AreExits, IsArrivalExit, IsOfEffects, arrival_exit}
 use Rattle.numbered_sets.specs.declared.numbered_entry.NumberedEntry.{NumberedEntry}
 use Rattle.numbered_sets.specs.Numbers.{Numbers}
@@ -101,6 +101,15 @@ pool_has_tasks app pool entry alike numbers = omega (arith, pool_counted app poo
 -- an entry with the components' domains has a set of numbers for each
 pub numbers_counted : (app : App) (entry : NumberedEntry) → number_domains entry ≡ domains_of app → length entry.sets ≡ component_count app
 numbers_counted app entry e = sym (length-map entry.sets (λ (x : Numbers). x.domain)) ∙ ap (λ (ds : List Domain). length ds) e ∙ length-map (components app) (domain_of app)
+
+-- an entry that means a value of each component has a number in each set
+pub filled_numbers : (app : App) (pool : List Values) (entry : NumberedEntry) → number_domains entry ≡ domains_of app → IsFilled app (plain_entry pool entry) → AreFilled entry
+filled_numbers app pool entry alike filled = record {
+  each = λ c lt.
+      (let some = filled c (omega (arith, lt, numbers_counted app entry alike)) in
+      let n = member_number pool entry c some.value some.member in
+      number_fills (numbers_at entry c) n.number n.has_it);
+}
 
 -- what an effect makes of an entry has a number in each set
 pub applied_filled : (app : App) (rule : Rule) (pool after : List Values) (entry made : NumberedEntry) → number_domains entry ≡ domains_of app → number_domains made ≡ number_domains entry → Applies rule (plain_entry pool entry) (plain_entry after made) → AreFilled made

@@ -25,10 +25,9 @@ use Rattle.numbered_exits.specs.declared.group.{NumberEnd.{NumberEnd}, Ends.{End
 use Rattle.numbered_exits.specs.declared.group.Ends.TheVariants as ends
 use Rattle.numbered_exits.specs.Groups.{holding, exits_by, exits_of, all_exits, AreKnownEnds, IsKnownGroup, AreKnownGroups}
 use Rattle.numbered_exits.proofs.GrowingPools.{held_known}
-use Rattle.numbered_exits.proofs.NumberLaws.{member_number, number_fills}
+use Rattle.numbered_exits.proofs.LeavingPoints.{filled_numbers}
 use Rattle.state_flow.specs.Rows.{row_at, IsProperRow}
 use Rattle.state_flow.specs.Reaching.{Leads}
-use Rattle.state_flow.proofs.RowLaws.{as_many_sets}
 use Rattle.state_flow.proofs.ExitRows.{exits_lead, exit_row_proper}
 use Rattle.numbered_flow.specs.ExitRows.{all_rows, AreProperRows}
 use Rattle.numbered_flow.proofs.ExitJoins.{its_row, rows_of_exits}
@@ -77,16 +76,7 @@ module _ (app : App) (masks : HasMasks app) (p : Point) (pool : List Values) (en
 
   -- each set has a number
   pub numbers_filled : AreFilled entry
-  numbers_filled = record {
-    each = λ c lt.
-        (let sets = as_many_sets app (plain_entry pool entry) proper.row.domains in
-        let long = ap (λ (ds : List Domain). length ds) (same_domains pool 0 entry.sets) in
-        let a = length-map (plain_entry pool entry).sets (λ (s : ValueSet). s.domain) in
-        let b = length-map entry.sets (λ (x : Numbers). x.domain) in
-        let some = proper.filled c (omega (arith, lt, sets, long, a, b)) in
-        let n = member_number pool entry c some.0 some.1 in
-        number_fills (numbers_at entry c) n.number n.has_it);
-  }
+  numbers_filled = filled_numbers app pool entry its_domains plainly_filled
 
   module _ (after : List Values) (longer : IsLonger pool after) (groups : List ExitGroup) (known : AreKnownGroups after groups) (are : AreExits app p (plain_entry pool entry) (all_exits after groups)) where
     after_domains : pool_domains after ≡ domains_of app

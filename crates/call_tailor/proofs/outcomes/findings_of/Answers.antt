@@ -3,6 +3,7 @@ use Rattle.std.proofs.lemmas.List.{take_all}
 use Rattle.flow_exits.specs.Exits.{Exit}
 use Rattle.numbered_exits.specs.declared.group.ExitGroup.{ExitGroup}
 use Rattle.numbered_exits.specs.Groups.{all_exits}
+use Rattle.numbered_exits.proofs.LeavingPoints.{filled_numbers}
 use Rattle.numbered_table.specs.PlainTables.{plain_row}
 use Rattle.numbered_table.proofs.WrittenRows.{number_domains_of}
 use Rattle.call_tailor.specs.Outcomes.{AreOfExits}
@@ -11,6 +12,9 @@ use Rattle.call_tailor.proofs.outcomes.findings_of.Goals as goal
 
 pub exit_groups-requires-clause-domains : goal.exit_groups-requires-clause-domains
 exit_groups-requires-clause-domains c = number_domains_of c.args.app.now c.args.pool.now c.args.row.now c.requires.row
+
+pub exit_groups-requires-clause-filled : goal.exit_groups-requires-clause-filled
+exit_groups-requires-clause-filled c = filled_numbers c.args.app.now c.args.pool.now c.args.row.now.entry (number_domains_of c.args.app.now c.args.pool.now c.args.row.now c.requires.row) c.requires.filled
 
 pub loop-group-init : goal.loop-group-init
 loop-group-init c = λ pool. findings_of_none c.none-found.result c.none-found.ensures.outcome c.none-found.ensures.status

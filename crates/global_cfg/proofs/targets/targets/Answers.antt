@@ -3,6 +3,7 @@ use Rattle.std.proofs.lemmas.List.{take_all}
 use Rattle.flow_exits.specs.Exits.{Exit}
 use Rattle.numbered_exits.specs.declared.group.ExitGroup.{ExitGroup}
 use Rattle.numbered_exits.specs.Groups.{exits_of, all_exits}
+use Rattle.numbered_exits.proofs.LeavingPoints.{filled_numbers}
 use Rattle.numbered_table.specs.PlainTables.{plain_row}
 use Rattle.numbered_table.proofs.WrittenRows.{number_domains_of}
 use Rattle.global_cfg.specs.Targets.{AreEndsPut}
@@ -13,6 +14,9 @@ use Rattle.global_cfg.proofs.targets.targets.Goals as goal
 
 pub exit_groups-requires-clause-domains : goal.exit_groups-requires-clause-domains
 exit_groups-requires-clause-domains c = number_domains_of c.args.app.now c.args.pool.now c.args.row.now c.requires.row
+
+pub exit_groups-requires-clause-filled : goal.exit_groups-requires-clause-filled
+exit_groups-requires-clause-filled c = filled_numbers c.args.app.now c.args.pool.now c.args.row.now.entry (number_domains_of c.args.app.now c.args.pool.now c.args.row.now c.requires.row) c.requires.filled
 
 pub loop-group-init : goal.loop-group-init
 loop-group-init c = λ pool. search (rules, no_exits c.args.row.now.point [] order_none)

@@ -31,8 +31,8 @@ pub join_group-requires-clause-cells : goal.join_group-requires-clause-cells
 join_group-requires-clause-cells c =
     cells_after c.args.app.now c.args.pool.now c.args.cells.now.items c.loop-group.cells.items (all_rows c.args.pool.now (take (length c.loop-group.yielded) c.args.groups.items)) c.loop-group.invariant
 
-pub loop-group-preserved-in_ok-join_group : goal.loop-group-preserved-in_ok-join_group
-loop-group-preserved-in_ok-join_group c =
+pub loop-group-preserved : goal.loop-group-preserved
+loop-group-preserved c =
     let app = c.args.app.now in
     let pool = c.args.pool.now in
     let groups = c.args.groups.items in
