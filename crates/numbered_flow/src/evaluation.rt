@@ -40,5 +40,5 @@ pub fn evaluate(
     ensures evaluated { OnOk result (IsEvaluated app.now point (plain_entry pool.old entry.now) (plain_cells pool.old cells.old.items) (plain_cells pool.new cells.new.items)) }
 {
     let groups = exit_groups(alloc, app, point, entry, pool, levels)?;
-    join_groups(alloc, app, groups, pool, cells)
+    join_groups(alloc, app, groups.as_slice(), pool, cells)
 }

@@ -20,17 +20,17 @@ use std::alloc::Global;
 pub fn join_groups(
     alloc: Global,
     app: &App,
-    groups: Vec<ExitGroup>,
+    groups: &[ExitGroup],
     pool: &Pool,
     cells: &mut Vec<Cell<NumberedEntry>>,
 ) -> Result<(), Memory>
-    requires known { AreKnownGroups pool.now groups.items }
-    requires proper { AreProperRows app.now (all_rows pool.now groups.items) }
+    requires known { AreKnownGroups pool.now groups.now }
+    requires proper { AreProperRows app.now (all_rows pool.now groups.now) }
     requires cells { AreNumberedCells app.now pool.now cells.old.items }
-    ensures { OnOk result (AreRowsJoined app.now pool.now cells.old.items (all_rows pool.now groups.items) cells.new.items) }
+    ensures { OnOk result (AreRowsJoined app.now pool.now cells.old.items (all_rows pool.now groups.now) cells.new.items) }
 {
     for group in groups {
-        join_group(alloc, app, &group, pool, cells)?;
+        join_group(alloc, app, group, pool, cells)?;
     }
     Ok(())
 }

@@ -1,11 +1,14 @@
-use Rattle.std.proofs.Common.{List, subst}
+use Rattle.std.proofs.Common.{List, sym, subst}
+use Rattle.std.specs.Prelude.{OnOk}
 use Rattle.std.proofs.lemmas.Result.{on_ok_weaker}
 use Rattle.abstract_state.specs.declared.table.Entry.{Entry}
 use Rattle.numbered_sets.specs.Views.{plain_entry}
 use Rattle.state_flow.specs.declared.cells.Cell.{Cell}
 use Rattle.state_flow.specs.Progress.{AreJoined}
 use Rattle.numbered_flow.specs.PlainCells.{plain_cells}
-use Rattle.numbered_flow.specs.ExitRows.{all_rows}
+use Rattle.numbered_exits.specs.declared.group.ExitGroup.{ExitGroup}
+use Rattle.numbered_exits.specs.Groups.{AreKnownGroups}
+use Rattle.numbered_flow.specs.ExitRows.{all_rows, AreProperRows, AreRowsJoined}
 use Rattle.numbered_flow.proofs.NumberedCells.{cells_on, cells_same}
 use Rattle.numbered_flow.proofs.EvaluatedExits.{its_domains, numbers_filled, rows_lead, rows_proper}
 use Rattle.numbered_flow.proofs.evaluation.evaluate.Goals as goal
@@ -16,9 +19,13 @@ exit_groups-requires-clause-domains c = its_domains c.args.app.now c.requires.ma
 pub exit_groups-requires-clause-filled : goal.exit_groups-requires-clause-filled
 exit_groups-requires-clause-filled c = numbers_filled c.args.app.now c.requires.masks c.args.point c.args.pool.now c.args.entry.now c.requires.numbers c.requires.row
 
+pub join_groups-requires-clause-known : goal.join_groups-requires-clause-known
+join_groups-requires-clause-known c = subst (AreKnownGroups c.exit_groups.new.pool) (sym c.as_slice.ensures.value) c.in_ok-groups.ensures.known
+
 pub join_groups-requires-clause-proper : goal.join_groups-requires-clause-proper
 join_groups-requires-clause-proper c =
-    rows_proper c.args.app.now c.requires.masks c.args.point c.args.pool.now c.args.entry.now c.requires.numbers c.requires.row c.exit_groups.new.pool c.exit_groups.ensures.pool c.in_ok-groups.groups.items c.in_ok-groups.ensures.known c.in_ok-groups.ensures.exits
+    subst (λ (gs : List ExitGroup). AreProperRows c.args.app.now (all_rows c.exit_groups.new.pool gs)) (sym c.as_slice.ensures.value)
+    (rows_proper c.args.app.now c.requires.masks c.args.point c.args.pool.now c.args.entry.now c.requires.numbers c.requires.row c.exit_groups.new.pool c.exit_groups.ensures.pool c.in_ok-groups.groups.items c.in_ok-groups.ensures.known c.in_ok-groups.ensures.exits)
 
 pub join_groups-requires-clause-cells : goal.join_groups-requires-clause-cells
 join_groups-requires-clause-cells c = cells_on c.args.app.now c.args.pool.now c.exit_groups.new.pool c.args.cells.now.items c.exit_groups.ensures.pool c.requires.cells
@@ -35,4 +42,5 @@ returns-clause-evaluated c =
       rows = all_rows after groups;
       leads = rows_lead app c.requires.masks c.args.point pool c.args.entry.now c.requires.numbers c.requires.row after c.exit_groups.ensures.pool groups c.in_ok-groups.ensures.known c.in_ok-groups.ensures.exits;
       joined = subst (λ (xs : List (Cell Entry)). AreJoined app xs (all_rows after groups) (plain_cells after end)) (cells_same pool after c.args.cells.now.items c.exit_groups.ensures.pool c.requires.cells.known) joined.joined;
-    }) c.join_groups.ensures
+    })
+    (subst (λ (gs : List ExitGroup). OnOk c.join_groups.result (AreRowsJoined app after c.args.cells.now.items (all_rows after gs) end)) c.as_slice.ensures.value c.join_groups.ensures)
