@@ -1,5 +1,5 @@
 -- The rules of a group's ends: what the shared rule and the value of an end say of them.
-use Rattle.std.proofs.Common.{◌≡◌, ℕ, ◌<◌, Bool, true, false, not, List, [], ◌∷◌, length, refl, sym, ap, subst, ◌∙◌, inl, inr, arith, IsTrue}
+use Rattle.std.proofs.Common.{◌≡◌, ℕ, ◌<◌, true, false, List, [], ◌∷◌, length, refl, sym, ap, subst, ◌∙◌, inl, inr, IsTrue}
 use Rattle.std.specs.Prelude.{Contains}
 use Rattle.std.specs.List.{list_any}
 use Rattle.std.proofs.lemmas.Bool.{cases_lt, cases_eq}
@@ -19,7 +19,7 @@ use Rattle.flow_rules.specs.declared.group.{ValueRules.{ValueRules}, RuleGroup.{
 use Rattle.flow_rules.specs.declared.group.RuleGroup.TheVariants as group
 use Rattle.flow_rules.specs.Passing.{AreTaken}
 use Rattle.flow_rules.specs.RuleGroups.{rule_at, AreValuesIn, AreRulesIn}
-use Rattle.flow_rules.specs.Ends.{is_open, IsEndIn, TakesEnd, BarsEnd, HasPossibleEnd, HasNoEnd, IsGroupIn}
+use Rattle.flow_rules.specs.Ends.{is_open, TakesEnd, BarsEnd, HasPossibleEnd, HasNoEnd, IsGroupIn}
 use Rattle.flow_rules.proofs.Passing.{each_passes, none_fails}
 use Rattle.flow_rules.proofs.TakenValues.{passes_there, negated, neither}
 

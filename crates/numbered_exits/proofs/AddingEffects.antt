@@ -1,18 +1,17 @@
 -- The exits of effects, one effect after another, in a pool that grows.
-use Rattle.std.proofs.Common.{◌≡◌, ◌⊎◌, ℕ, ◌+◌, ◌<◌, List, [], ◌∷◌, ◌++◌, length, get_or, take, refl, sym, ap, subst, ◌∙◌, inl, inr, arith, Some, None}
+use Rattle.std.proofs.Common.{◌≡◌, ℕ, ◌+◌, ◌<◌, List, [], ◌∷◌, ◌++◌, length, get_or, take, refl, sym, ap, subst, ◌∙◌, inl, inr}
 use Rattle.std.specs.Prelude.{Contains}
 use Rattle.std.proofs.lemmas.List.{take_more}
 use Rattle.std.proofs.lemmas.List.Elements.{Contains-append_left, Contains-append_right, Contains-append_cases}
 use Rattle.osek_standard.specs.declared.app.App.{App}
-use Rattle.osek_standard.specs.declared.point.Point.{Point}
 use Rattle.osek_standard.proofs.Members.{among_contained, contained_among}
-use Rattle.abstract_state.specs.declared.{value.PartValue.{PartValue}, table.Entry.{Entry}}
+use Rattle.abstract_state.specs.declared.{table.Entry.{Entry}}
 use Rattle.abstract_state.specs.Components.{component_count}
-use Rattle.flow_model.specs.declared.case.{Decision.{Decision}, EffectCase.{EffectCase}}
+use Rattle.flow_model.specs.declared.case.{EffectCase.{EffectCase}}
 use Rattle.flow_model.specs.Rules.{Applies, HasNone}
 use Rattle.flow_exits.specs.declared.stay.Stay.TheVariants as stay
 use Rattle.flow_exits.specs.Exits.{Exit}
-use Rattle.flow_exits.specs.Leaving.{ComesOf, IsOfEffects, HasExitFor, HasExitsFor, AddsDecided, effect_rule}
+use Rattle.flow_exits.specs.Leaving.{IsOfEffects, HasExitsFor, AddsDecided, effect_rule}
 use Rattle.flow_exits.proofs.AfterEffect.{decided_comes, decisions_covered, nothing_taken}
 use Rattle.numbered_sets.specs.declared.numbered_entry.NumberedEntry.{NumberedEntry}
 use Rattle.numbered_sets.specs.Pools.{Values, IsLonger}

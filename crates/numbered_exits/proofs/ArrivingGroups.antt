@@ -1,5 +1,5 @@
 -- The exits by which routines begin.
-use Rattle.std.proofs.Common.{◌≡◌, ◌⊎◌, ℕ, ◌+◌, ◌<◌, true, List, [], ◌∷◌, ◌++◌, length, get_or, take, map, refl, sym, ap, subst, ◌∙◌, inl, inr, arith, None}
+use Rattle.std.proofs.Common.{◌≡◌, ℕ, ◌+◌, ◌<◌, true, List, [], ◌∷◌, ◌++◌, length, get_or, take, map, refl, sym, ap, subst, ◌∙◌, inl, inr, arith, None}
 use Rattle.std.specs.Prelude.{◌==◌, Contains}
 use Rattle.std.proofs.lemmas.Bool.{eqb-true}
 use Rattle.std.proofs.lemmas.List.{take_more, map-append}
@@ -9,21 +9,21 @@ use Rattle.osek_values.specs.declared.numbers.TaskNo.{TaskNo}
 use Rattle.osek_standard.specs.declared.app.App.{App}
 use Rattle.osek_standard.specs.declared.point.Point.{Point}
 use Rattle.osek_standard.specs.Apps.{source_count}
-use Rattle.osek_standard.proofs.Members.{Among, among_contained, contained_among, among_map, map_among}
+use Rattle.osek_standard.proofs.Members.{among_contained, contained_among, among_map, map_among}
 use Rattle.abstract_state.specs.declared.table.Entry.{Entry}
 use Rattle.flow_model.specs.declared.rule.Rule.{Rule}
 use Rattle.flow_rules.specs.declared.group.{ValueRules.{ValueRules}, RuleGroup.{RuleGroup}}
 use Rattle.flow_rules.specs.declared.group.RuleGroup.TheVariants as rules
-use Rattle.flow_rules.specs.Arrivals.{arrival_rule, MayBegin, AreArrivals}
+use Rattle.flow_rules.specs.Arrivals.{arrival_rule, MayBegin}
 use Rattle.flow_rules.specs.RuleGroups.{rules_of, all_rules, AreArrivalGroups}
 use Rattle.flow_exits.specs.Exits.{Exit}
 use Rattle.flow_exits.specs.Leaving.{arrival_exit, IsArrivalExit}
 use Rattle.numbered_sets.specs.declared.numbered_entry.NumberedEntry.{NumberedEntry}
 use Rattle.numbered_sets.specs.Pools.{Values}
 use Rattle.numbered_sets.specs.Views.{plain_entry, AreNumbersOf}
-use Rattle.numbered_exits.specs.declared.group.{Ends.{Ends}, ExitGroup.{ExitGroup}}
+use Rattle.numbered_exits.specs.declared.group.{ExitGroup.{ExitGroup}}
 use Rattle.numbered_exits.specs.declared.group.Ends.TheVariants as ends
-use Rattle.numbered_exits.specs.Groups.{exits_of, all_exits, IsKnownGroup, AreKnownGroups}
+use Rattle.numbered_exits.specs.Groups.{exits_of, AreKnownGroups}
 use Rattle.numbered_exits.specs.Leaving.{AddsArrivals}
 use Rattle.numbered_exits.proofs.GroupLaws.{old_exit, new_exit, exit_cases, known_with}
 

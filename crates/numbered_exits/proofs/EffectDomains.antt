@@ -1,5 +1,5 @@
 -- What an exact effect makes of the values of an entry lies in their domains.
-use Rattle.std.proofs.Common.{◌≡◌, ℕ, ◌<◌, List, ap, subst, ◌∙◌}
+use Rattle.std.proofs.Common.{◌≡◌, List, ap, subst, ◌∙◌}
 use Rattle.std.specs.Prelude.{Contains}
 use Rattle.osek_standard.specs.declared.app.App.{App}
 use Rattle.osek_standard.specs.declared.state.State.{State}
@@ -8,7 +8,7 @@ use Rattle.osek_standard.specs.Points.{point_of}
 use Rattle.osek_standard.specs.Effects.{effect}
 use Rattle.osek_standard.specs.Well.{Well}
 use Rattle.osek_standard.proofs.EffectKeeps.{effect_keeps}
-use Rattle.abstract_state.specs.declared.{value.PartValue.{PartValue}, table.Entry.{Entry}}
+use Rattle.abstract_state.specs.declared.{table.Entry.{Entry}}
 use Rattle.abstract_state.specs.Components.{component_at, abstract_of}
 use Rattle.abstract_state.specs.Domains.{IsWithin, domain_of, domains, domains_of}
 use Rattle.abstract_state.proofs.AllowedLaws.{well_part}

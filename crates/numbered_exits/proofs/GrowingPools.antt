@@ -1,13 +1,12 @@
 -- Groups of exits mean the same in a pool that grew.
-use Rattle.std.proofs.Common.{◌≡◌, ℕ, ◌<◌, false, List, [], ◌∷◌, ◌++◌, length, get_or, set, map, refl, sym, ap, ap₂, subst, ◌∙◌, inl, inr, arith}
-use Rattle.std.specs.Prelude.{Contains}
+use Rattle.std.proofs.Common.{◌≡◌, ℕ, ◌<◌, false, List, [], ◌∷◌, ◌++◌, length, get_or, map, refl, ap, ap₂, inl, inr, arith}
 use Rattle.std.proofs.lemmas.List.{get_or_default, length-append}
 use Rattle.osek_standard.specs.declared.point.Point.{Point}
-use Rattle.osek_standard.proofs.Members.{Among, among_contained, contained_among}
+use Rattle.osek_standard.proofs.Members.{Among, among_contained}
 use Rattle.abstract_state.specs.declared.{value.{PartValue.{PartValue}, PartValue.TheVariants.{OfAlarm}}, table.Entry.{Entry}}
 use Rattle.flow_exits.specs.Exits.{Exit}
 use Rattle.numbered_sets.specs.declared.numbered_entry.NumberedEntry.{NumberedEntry}
-use Rattle.numbered_sets.specs.Pools.{Values, values_at, IsNumberOf, IsLonger}
+use Rattle.numbered_sets.specs.Pools.{Values, values_at, IsLonger}
 use Rattle.numbered_sets.specs.Views.{plain_entry, AreNumbersOf}
 use Rattle.numbered_sets.proofs.NumberingLaws.{longer_itself}
 use Rattle.numbered_sets.proofs.ViewLaws.{same_view, still_known}

@@ -1,14 +1,13 @@
 -- All exits of a point: those of arrivals, and then those of the instructions.
-use Rattle.std.proofs.Common.{◌≡◌, ◌⊎◌, ℕ, ◌<◌, ◌≤◌, List, [], ◌∷◌, length, map, get_or, refl, sym, ap, subst, ◌∙◌, inl, inr, arith, IsTrue, Some, None}
-use Rattle.std.specs.Prelude.{Contains}
+use Rattle.std.proofs.Common.{◌≡◌, ◌<◌, ◌≤◌, List, [], length, sym, ap, subst, ◌∙◌, inl, inr, arith}
 use Rattle.std.proofs.lemmas.List.{length-map}
-use Rattle.osek_values.specs.declared.numbers.{TaskNo.{TaskNo}, BlockNo.{BlockNo}}
+use Rattle.osek_values.specs.declared.numbers.{TaskNo.{TaskNo}}
 use Rattle.osek_standard.specs.declared.app.App.{App}
 use Rattle.osek_standard.specs.declared.state.{State.{State}, Processor.{Processor}}
 use Rattle.osek_standard.specs.declared.state.Processor.TheVariants as processor
 use Rattle.osek_standard.specs.declared.point.Point.{Point}
 use Rattle.osek_standard.specs.declared.point.Point.TheVariants as point
-use Rattle.osek_standard.specs.Points.{point_at, IsPoint}
+use Rattle.osek_standard.specs.Points.{point_at}
 use Rattle.osek_standard.specs.States.{place_by}
 use Rattle.osek_standard.specs.Well.{IsActive}
 use Rattle.osek_standard.proofs.Members.{contained_among}
@@ -17,17 +16,15 @@ use Rattle.abstract_state.specs.declared.table.{ValueSet.{ValueSet}, Entry.{Entr
 use Rattle.abstract_state.specs.Components.{components, component_count}
 use Rattle.abstract_state.specs.Domains.{domain_of, domains_of}
 use Rattle.abstract_state.specs.Tables.{set_at}
-use Rattle.flow_model.specs.declared.case.EffectCase.{EffectCase}
 use Rattle.flow_model.specs.declared.runner.Runner.{Runner}
 use Rattle.flow_model.specs.Runners.{Executes, IsNobodys}
-use Rattle.flow_model.specs.Effects.{IsAt, AreAllAllowed, CoverEffects, AreExactEffects, HasSomeEffect}
 use Rattle.flow_model.specs.declared.rule.Rule.{Rule}
 use Rattle.flow_model.specs.Tests.{value_after}
 use Rattle.flow_model.specs.Rules.{Applies}
 use Rattle.flow_effects.specs.Reading.{IsRead, AreReadAt}
 use Rattle.flow_effects.proofs.ReadingLaws.{read_once}
-use Rattle.flow_exits.specs.Exits.{Exit, IsFilled}
-use Rattle.flow_exits.specs.Leaving.{AreExits, IsArrivalExit, IsOfEffects, arrival_exit}
+use Rattle.flow_exits.specs.Exits.{IsFilled}
+use Rattle.flow_exits.specs.Leaving.{AreExits, arrival_exit}
 use Rattle.numbered_sets.specs.declared.numbered_entry.NumberedEntry.{NumberedEntry}
 use Rattle.numbered_sets.specs.Numbers.{Numbers}
 use Rattle.numbered_sets.specs.NumberedEntries.{numbers_at, number_domains, AreFilled}

@@ -1,13 +1,11 @@
 -- The exits at the end of a routine over a task.
-use Rattle.std.proofs.Common.{◌≡◌, ◌≢◌, ◌⊎◌, ℕ, ◌<◌, ◌&&◌, Bool, true, false, List, length, refl, sym, ap, subst, ◌∙◌, inl, inr, arith, IsTrue, Some, None}
-use Rattle.std.specs.Prelude.{Contains}
+use Rattle.std.proofs.Common.{◌≡◌, ℕ, ◌<◌, ◌&&◌, Bool, true, false, List, length, sym, ap, subst, ◌∙◌, inl, inr, arith, IsTrue, None}
 use Rattle.std.proofs.lemmas.Bool.{cases_eq, and_parts}
 use Rattle.osek_values.specs.declared.numbers.{TaskNo.{TaskNo}}
 use Rattle.osek_standard.specs.declared.app.App.{App}
 use Rattle.osek_standard.specs.declared.point.Point.{Point}
 use Rattle.osek_standard.specs.Points.{IsPoint}
-use Rattle.abstract_state.specs.declared.{value.PartValue.{PartValue}, table.{ValueSet.{ValueSet}, Entry.{Entry}}}
-use Rattle.abstract_state.specs.Components.{component_count}
+use Rattle.abstract_state.specs.declared.{value.PartValue.{PartValue}, table.{ValueSet.{ValueSet}}}
 use Rattle.abstract_state.specs.Concrete.{val_of}
 use Rattle.abstract_state.specs.Tables.{set_at, is_member}
 use Rattle.abstract_state.proofs.ComponentLaws.{task_counted}
@@ -19,8 +17,7 @@ use Rattle.flow_model.specs.Effects.{AreAllAllowed, CoverEffects, AreExactEffect
 use Rattle.flow_effects.specs.Lists.{cases_of_values}
 use Rattle.flow_effects.specs.Returns.{goes_back}
 use Rattle.flow_exits.specs.declared.stay.Stay.TheVariants as stay
-use Rattle.flow_exits.specs.Exits.{Exit}
-use Rattle.flow_exits.specs.Leaving.{HasExitsFor, AddsDecided, IsWithLive}
+use Rattle.flow_exits.specs.Leaving.{AddsDecided, IsWithLive}
 use Rattle.flow_exits.proofs.Returning.{returned_comes, returns_covered, no_returns, return_effects}
 use Rattle.numbered_sets.specs.declared.numbered_entry.NumberedEntry.{NumberedEntry}
 use Rattle.numbered_sets.specs.Numbers.{Numbers}
@@ -34,7 +31,7 @@ use Rattle.numbered_exits.specs.declared.group.ExitGroup.{ExitGroup}
 use Rattle.numbered_exits.specs.declared.deciding.Leaving.{Leaving}
 use Rattle.numbered_exits.specs.Groups.{all_exits, AreKnownGroups}
 use Rattle.numbered_exits.specs.Deciding.{AddsFor, IsAny}
-use Rattle.numbered_exits.specs.Leaving.{AddsEffects, AddsInstructions, IsReturnTo}
+use Rattle.numbered_exits.specs.Leaving.{AddsInstructions, IsReturnTo}
 use Rattle.numbered_exits.proofs.AddingEffects.{all_decided}
 use Rattle.numbered_exits.proofs.NumberLaws.{member_number, number_fills}
 

@@ -5,7 +5,7 @@ use Rattle.osek_standard.proofs.Members.{among_contained, contained_among, map_a
 use Rattle.abstract_state.specs.declared.table.{TableRow.{TableRow}, Table.{Table}}
 use Rattle.numbered_sets.specs.declared.numbered_entry.NumberedEntry.{NumberedEntry}
 use Rattle.numbered_sets.specs.Pools.{Values}
-use Rattle.numbered_sets.specs.Views.{plain_entry, AreNumbersOf}
+use Rattle.numbered_sets.specs.Views.{AreNumbersOf}
 use Rattle.numbered_table.specs.declared.table.NumberedRow.{NumberedRow}
 use Rattle.numbered_table.specs.PlainTables.{plain_row, plain_rows, plain_table, AreRowsOf}
 use Rattle.state_flow.specs.declared.cells.Cell.{Cell}

@@ -1,13 +1,11 @@
 -- The exits of a proper row's point are what its steps lead to, and their rows are proper.
-use Rattle.std.proofs.Common.{◌≡◌, ℕ, ◌<◌, List, length, map, refl, sym, ap, subst, ◌∙◌, arith, All}
+use Rattle.std.proofs.Common.{◌≡◌, List, map, sym, ap, subst, ◌∙◌}
 use Rattle.std.specs.Prelude.{Contains}
-use Rattle.std.proofs.lemmas.List.{length-map}
 use Rattle.std.proofs.lemmas.List.Elements.{All-from_get_or}
 use Rattle.osek_standard.specs.declared.app.App.{App}
 use Rattle.osek_standard.specs.declared.point.Point.{Point}
 use Rattle.osek_standard.proofs.Members.{Among, among_contained, contained_among, map_among, flat_map_among}
-use Rattle.abstract_state.specs.declared.{value.Domain.{Domain}, table.{ValueSet.{ValueSet}, Entry.{Entry}, TableRow.{TableRow}}}
-use Rattle.abstract_state.specs.Components.{component_count}
+use Rattle.abstract_state.specs.declared.{table.{ValueSet.{ValueSet}, TableRow.{TableRow}}}
 use Rattle.abstract_state.specs.Domains.{HasMasks, domains, domains_of}
 use Rattle.abstract_state.specs.ValueOrder.{IsAscending}
 use Rattle.abstract_state.specs.Tables.{empty_set, AreAscending}
@@ -15,7 +13,7 @@ use Rattle.flow_exits.specs.Exits.{Exit, IsFilled, AreExact}
 use Rattle.flow_exits.specs.Leaving.{AreExits}
 use Rattle.flow_exits.proofs.Covering.{exits_cover, exits_shown}
 use Rattle.numbered_sets.specs.declared.numbered_entry.NumberedEntry.{NumberedEntry}
-use Rattle.numbered_sets.specs.Numbers.{Numbers, has_number}
+use Rattle.numbered_sets.specs.Numbers.{has_number}
 use Rattle.numbered_sets.specs.NumberedEntries.{numbers_at, number_domains, AreFilled}
 use Rattle.numbered_sets.specs.Pools.{Values, values_at, pool_domains, IsLonger}
 use Rattle.numbered_sets.specs.Views.{values_with, plain_entry, AreNumbersOf}
@@ -23,7 +21,7 @@ use Rattle.numbered_sets.proofs.PlainLaws.{ascending_in_order, plain_set_at}
 use Rattle.numbered_sets.proofs.ViewLaws.{same_domains}
 use Rattle.numbered_exits.specs.declared.group.{NumberEnd.{NumberEnd}, Ends.{Ends}, ExitGroup.{ExitGroup}}
 use Rattle.numbered_exits.specs.declared.group.Ends.TheVariants as ends
-use Rattle.numbered_exits.specs.Groups.{holding, exits_by, exits_of, all_exits, AreKnownEnds, IsKnownGroup, AreKnownGroups}
+use Rattle.numbered_exits.specs.Groups.{holding, exits_by, exits_of, all_exits, AreKnownEnds, AreKnownGroups}
 use Rattle.numbered_exits.proofs.GrowingPools.{held_known}
 use Rattle.numbered_exits.proofs.LeavingPoints.{filled_numbers}
 use Rattle.state_flow.specs.Rows.{row_at, IsProperRow}

@@ -1,5 +1,5 @@
 -- One number alone in the place of a set, again and again.
-use Rattle.std.proofs.Common.{◌≡◌, ℕ, zero, suc, ◌<◌, List, [], ◌∷◌, length, get_or, set, refl, sym, ap, subst, ◌∙◌, arith, get_or-set_same}
+use Rattle.std.proofs.Common.{◌≡◌, ℕ, zero, suc, ◌<◌, List, [], ◌∷◌, length, set, refl, ap, ◌∙◌, arith, get_or-set_same}
 use Rattle.std.proofs.lemmas.List.{length-set}
 use Rattle.abstract_state.specs.declared.value.{Domain.{Domain}}
 use Rattle.numbered_sets.specs.declared.numbered_entry.NumberedEntry.{NumberedEntry}

@@ -1,5 +1,4 @@
 -- The rows of a written table have the same domains.
-use Rattle.std.proofs.Common.{length, get_or}
 use Rattle.osek_standard.specs.declared.app.App.{App}
 use Rattle.abstract_state.specs.declared.table.Table.{Table}
 use Rattle.abstract_state.specs.Domains.{domains_of}

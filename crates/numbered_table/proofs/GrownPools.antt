@@ -1,12 +1,11 @@
 -- Rows of numbers beside a pool that grows.
-use Rattle.std.proofs.Common.{◌≡◌, ℕ, suc, ◌+◌, ◌<◌, List, [], ◌∷◌, ◌++◌, length, get_or, map, take, All, refl, sym, ap, ap₂, subst, ◌∙◌, inl, inr, arith}
-use Rattle.std.specs.Prelude.{Contains}
+use Rattle.std.proofs.Common.{◌≡◌, ℕ, suc, ◌+◌, ◌<◌, List, [], ◌∷◌, ◌++◌, length, get_or, map, take, refl, sym, ap, ap₂, subst, ◌∙◌, inl, inr, arith}
 use Rattle.std.proofs.lemmas.List.{map-append, take_more}
 use Rattle.std.proofs.lemmas.List.Elements.{Contains-push_cases}
 use Rattle.abstract_state.specs.declared.value.Domain.{Domain}
-use Rattle.abstract_state.specs.declared.table.{Entry.{Entry}, TableRow.{TableRow}}
+use Rattle.abstract_state.specs.declared.table.{TableRow.{TableRow}}
 use Rattle.numbered_sets.specs.Pools.{Values, no_values, pool_domains, IsLonger}
-use Rattle.numbered_sets.specs.Views.{plain_entry, AreNumbersOf}
+use Rattle.numbered_sets.specs.Views.{AreNumbersOf}
 use Rattle.numbered_sets.proofs.ViewLaws.{same_view, still_known}
 use Rattle.numbered_sets.proofs.NumberingLaws.{longer_itself, longer_onward}
 use Rattle.numbered_table.specs.declared.table.NumberedRow.{NumberedRow}

@@ -1,8 +1,6 @@
-use Rattle.std.proofs.Common.{◌≡◌, ◌<◌, ◌≤◌, ◌∙◌, ◌++◌, ◌∷◌, [], List, length, get_or, take, refl, sym, ap, subst, arith}
-use Rattle.std.specs.Prelude.{Contains}
+use Rattle.std.proofs.Common.{◌<◌, List, length, take, sym, subst, arith}
 use Rattle.abstract_state.specs.declared.table.TableRow.{TableRow}
 use Rattle.numbered_sets.proofs.NumberingLaws.{longer_onward}
-use Rattle.numbered_table.specs.declared.table.NumberedRow.{NumberedRow}
 use Rattle.numbered_table.specs.PlainTables.{plain_row, AreRowsFor}
 use Rattle.numbered_table.proofs.RowsByNumber.{as_many, row_known, row_is, row_listed}
 use Rattle.numbered_table.proofs.WrittenRows.{row_there, row_allowed, row_filled, pool_has_tasks}

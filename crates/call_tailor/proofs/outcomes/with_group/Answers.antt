@@ -1,4 +1,4 @@
-use Rattle.std.proofs.Common.{◌≡◌, ◌∙◌, Some, None}
+use Rattle.std.proofs.Common.{◌∙◌}
 use Rattle.std.proofs.lemmas.Bool.{OnTrue_at, OnFalse_at}
 use Rattle.numbered_exits.specs.Groups.{exits_of}
 use Rattle.call_tailor.proofs.ExitOutcomes.{with_arrivals, with_one, with_old, alike_in_group, some_in_group, none_in_group}

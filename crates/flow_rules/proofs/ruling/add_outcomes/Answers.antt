@@ -1,7 +1,6 @@
-use Rattle.std.proofs.Common.{◌≡◌, ◌++◌, ◌∷◌, [], ◌∙◌, List, map, take, get_or, ap, sym, arith}
+use Rattle.std.proofs.Common.{◌≡◌, ◌++◌, ◌∙◌, List, map, take, ap, sym, arith}
 use Rattle.std.proofs.lemmas.List.{take_all}
 use Rattle.flow_dispatch.specs.declared.group.OutcomeGroup.{OutcomeGroup}
-use Rattle.flow_rules.specs.declared.group.RuleGroup.{RuleGroup}
 use Rattle.flow_rules.specs.RuleGroups.{group_of}
 use Rattle.flow_rules.proofs.RuleGroups.{groups_added, one_made}
 use Rattle.flow_rules.proofs.ruling.add_outcomes.Goals as goal

@@ -1,5 +1,5 @@
-use Rattle.std.proofs.Common.{◌≡◌, ◌<◌, ◌∙◌, List, length, sym, ap, subst, arith}
-use Rattle.abstract_state.specs.declared.{value.PartValue.{PartValue}, table.{ValueSet.{ValueSet}, Entry.{Entry}}}
+use Rattle.std.proofs.Common.{◌≡◌, ◌∙◌, List, sym, ap, subst, arith}
+use Rattle.abstract_state.specs.declared.{table.{ValueSet.{ValueSet}}}
 use Rattle.abstract_state.specs.Tables.{set_at}
 use Rattle.abstract_state.proofs.ComponentLaws.{task_counted}
 use Rattle.flow_model.specs.declared.case.EffectCase.{EffectCase}

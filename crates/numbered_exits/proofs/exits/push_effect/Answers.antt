@@ -1,9 +1,8 @@
-use Rattle.std.proofs.Common.{◌≡◌, ◌∷◌, [], ◌∙◌, List, refl, sym, ap, subst}
+use Rattle.std.proofs.Common.{◌∙◌, refl, sym, ap, subst}
 use Rattle.std.proofs.lemmas.Result.{on_ok_weaker}
 use Rattle.flow_model.specs.declared.rule.Rule.{Rule}
 use Rattle.flow_model.specs.Rules.{Applies, HasNone}
 use Rattle.flow_exits.specs.declared.stay.Stay.TheVariants as stay
-use Rattle.flow_exits.specs.Leaving.{effect_rule}
 use Rattle.numbered_sets.specs.NumberedEntries.{number_domains}
 use Rattle.numbered_sets.specs.Views.{plain_entry}
 use Rattle.numbered_levels.proofs.LevelLaws.{levels_longer}

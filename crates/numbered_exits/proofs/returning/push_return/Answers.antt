@@ -1,10 +1,9 @@
-use Rattle.std.proofs.Common.{◌<◌, ◌∙◌, Bool, length, refl, sym, ap, subst, arith}
-use Rattle.std.specs.Bool.{OnTrue, OnFalse}
+use Rattle.std.proofs.Common.{Bool, length, refl, ap, subst, arith}
+use Rattle.std.specs.Bool.{OnFalse}
 use Rattle.std.proofs.lemmas.Result.{on_ok_weaker}
 use Rattle.abstract_state.proofs.ComponentLaws.{task_counted}
-use Rattle.flow_exits.specs.declared.stay.Stay.TheVariants as stay
 use Rattle.numbered_sets.specs.declared.numbered_entry.NumberedEntry.{NumberedEntry}
-use Rattle.numbered_sets.specs.NumberedEntries.{AreFilled, HasEmptySet}
+use Rattle.numbered_sets.specs.NumberedEntries.{HasEmptySet}
 use Rattle.numbered_exits.proofs.LeavingPoints.{numbers_counted}
 use Rattle.numbered_exits.proofs.WholeLaws.{narrowed_live, known_live, as_many_live}
 use Rattle.numbered_exits.proofs.ReturningPoints.{none_returns, none_live, task_returns, left_live}

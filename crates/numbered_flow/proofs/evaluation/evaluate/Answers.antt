@@ -2,7 +2,6 @@ use Rattle.std.proofs.Common.{List, sym, subst}
 use Rattle.std.specs.Prelude.{OnOk}
 use Rattle.std.proofs.lemmas.Result.{on_ok_weaker}
 use Rattle.abstract_state.specs.declared.table.Entry.{Entry}
-use Rattle.numbered_sets.specs.Views.{plain_entry}
 use Rattle.state_flow.specs.declared.cells.Cell.{Cell}
 use Rattle.state_flow.specs.Progress.{AreJoined}
 use Rattle.numbered_flow.specs.PlainCells.{plain_cells}

@@ -1,4 +1,4 @@
-use Rattle.std.proofs.Common.{◌≡◌, ◌∷◌, [], get_or, take, List, refl, sym, ap, subst}
+use Rattle.std.proofs.Common.{◌∷◌, [], get_or, take, List, refl, sym, subst}
 use Rattle.std.proofs.lemmas.List.{take_all, get_or_default}
 use Rattle.osek_standard.specs.declared.point.Point.TheVariants as point
 use Rattle.abstract_state.specs.declared.table.TableRow.{TableRow}
@@ -7,7 +7,6 @@ use Rattle.numbered_sets.specs.Views.{plain_entry, AreNumbersOf}
 use Rattle.state_flow.specs.Rows.{row_at, IsProperRow}
 use Rattle.state_flow.specs.Progress.{AreJoined}
 use Rattle.numbered_exits.specs.declared.group.NumberEnd.{NumberEnd}
-use Rattle.numbered_exits.specs.Groups.{holding}
 use Rattle.numbered_exits.proofs.GrowingPools.{held_known}
 use Rattle.numbered_flow.specs.PlainCells.{plain_cells}
 use Rattle.numbered_flow.specs.ExitRows.{rows_with, AreRowsJoined}

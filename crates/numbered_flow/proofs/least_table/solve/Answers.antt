@@ -1,7 +1,7 @@
-use Rattle.std.proofs.Common.{◌∙◌, ◌+◌, ◌*◌, ◌<◌, ◌≤◌, List, length, map, sym, ap, subst, arith}
+use Rattle.std.proofs.Common.{◌∙◌, ◌+◌, ◌*◌, ◌<◌, ◌≤◌, List, length, sym, ap, subst, arith}
 use Rattle.osek_standard.specs.Counts.{points, height}
 use Rattle.abstract_state.specs.Domains.{domains_of}
-use Rattle.abstract_state.specs.declared.{value.Domain.{Domain}, table.{TableRow.{TableRow}, Table.{Table}}}
+use Rattle.abstract_state.specs.declared.{table.{Table.{Table}}}
 use Rattle.abstract_state.specs.Tables.{Least, sets_of, value_count}
 use Rattle.abstract_state.specs.Written.{IsWritten}
 use Rattle.numbered_sets.specs.declared.numbered_entry.NumberedEntry.{NumberedEntry}

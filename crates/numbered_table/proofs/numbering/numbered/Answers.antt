@@ -1,7 +1,7 @@
-use Rattle.std.proofs.Common.{◌≡◌, List, map, All, sym, ap, subst, ◌∙◌}
+use Rattle.std.proofs.Common.{List, All, sym, ap, subst, ◌∙◌}
 use Rattle.std.proofs.lemmas.List.Elements.{All-get_or}
-use Rattle.abstract_state.specs.declared.{value.Domain.{Domain}, table.TableRow.{TableRow}}
-use Rattle.numbered_sets.specs.Pools.{Values, no_values, pool_domains}
+use Rattle.abstract_state.specs.declared.{table.TableRow.{TableRow}}
+use Rattle.numbered_sets.specs.Pools.{pool_domains}
 use Rattle.numbered_table.specs.declared.table.NumberedRow.{NumberedRow}
 use Rattle.numbered_table.specs.Alike.{HasDomains}
 use Rattle.numbered_table.specs.PlainTables.{row_at}

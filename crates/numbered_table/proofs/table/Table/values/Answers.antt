@@ -1,7 +1,5 @@
-use Rattle.std.proofs.Common.{◌≡◌, ◌<◌, ◌^◌, List, sym, ap, ◌∙◌, arith}
-use Rattle.abstract_state.specs.declared.table.Table.{Table as PlainTable}
+use Rattle.std.proofs.Common.{sym, ap, ◌∙◌, arith}
 use Rattle.abstract_state.specs.Tables.{value_count}
-use Rattle.numbered_table.specs.declared.table.NumberedRow.{NumberedRow}
 use Rattle.numbered_table.specs.Counts.{row_numbers}
 use Rattle.numbered_table.proofs.CountedNumbers.{values_are_numbers}
 use Rattle.numbered_table.proofs.table.Table.values.Goals as goal
