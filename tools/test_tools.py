@@ -9,6 +9,7 @@ sys.path.insert(0, os.path.dirname(os.path.abspath(__file__)))
 
 import graph
 import graph_chart
+from given import Wrong
 import long_texts
 import task_code
 import timeline
@@ -157,7 +158,7 @@ class Graphs(unittest.TestCase):
         self.assertEqual(found.sites[1], graph.Site(1, 'direct -'))
         self.assertEqual(found.edges[1], (graph.Point('task', 1, None), graph.Point('idle', None, None)))
         self.assertEqual(found.counts, {'points': 7, 'height': 17, 'values': 8, 'edges': 3})
-        self.assertRaises(ValueError, graph.read_show, 'site b0\n')
+        self.assertRaises(Wrong, graph.read_show, 'site b0\n')
 
     def test_points_are_written_as_they_are_read(self):
         for word in ('halt', 'idle', 'b12', 'b3/-', 'b3/T1'):

@@ -11,7 +11,7 @@ import argparse
 import sys
 from collections import namedtuple
 
-from given import contents
+from given import contents, run
 
 STATES = {'S': 'suspended', 'Y': 'ready', 'R': 'running', 'W': 'waiting'}
 
@@ -119,4 +119,4 @@ def main():
 
 
 if __name__ == '__main__':
-    main()
+    run(main)
