@@ -1,5 +1,6 @@
 #!/usr/bin/env python3
 """Tests of the tools, run by hand: `python3 tools/test_tools.py`. Expected values are worked out by hand from the guide."""
+import io
 import os
 import sys
 import unittest
@@ -123,6 +124,10 @@ b0 *
 """
 
 
+def trace_of(text, first=0, last=None):
+    return timeline.Trace(io.StringIO(text), 'a.trace', first, last)
+
+
 def owners_of(show, code):
     found = graph.read_show(show)
     return found, graph.Owners(found, code)
@@ -202,8 +207,15 @@ class Timelines(unittest.TestCase):
                          timeline.Line(7, '@I', tasks, 'E_OK', '-', ['PreTask']))
 
     def test_a_trap_is_read(self):
-        self.assertEqual(timeline.read_trace('0 - T1=S\ntrap 1\n').trap, 1)
-        self.assertRaises(ValueError, timeline.read_trace, '0 - T1=X\n')
+        trace = trace_of('0 - T1=S\ntrap 1\n')
+        self.assertEqual(([line.number for line in trace], trace.trap), ([0], 1))
+
+    def test_other_texts_are_refused_in_one_line(self):
+        for text in ('0 - T1=X\n', 'x\n', '0\n', '0 - T1\n', 'trap x\n'):
+            self.assertRaises(Wrong, list, trace_of(text))
+
+    def test_a_range_of_lines_is_read(self):
+        self.assertEqual([line.number for line in trace_of(TRACE, 1, 1)], [1])
 
     def test_requests_are_counted_as_events(self):
         text = '# none\nrun 0\r\n\n irq  I\ntick C\n'
@@ -214,19 +226,19 @@ class Timelines(unittest.TestCase):
         self.assertEqual(timeline_chart.spans([None], lambda v: v), [])
 
     def test_vcd(self):
-        self.assertEqual(vcd.dump(timeline.read_trace(TRACE)), VCD)
+        self.assertEqual(''.join(vcd.dump(trace_of(TRACE))), VCD)
 
     def test_identifiers_differ(self):
         self.assertEqual(len({vcd.identifier(n) for n in range(20000)}), 20000)
 
     def test_the_chart_names_all_that_stands_in_it(self):
-        words = words_of(timeline_chart.chart(timeline.read_trace(TRACE), [(1, '@I')], 'A < B'))
+        words = words_of(timeline_chart.chart(list(trace_of(TRACE)), None, [(1, '@I')], 'A < B'))
         for word in ('A < B', 'T1', 'T2', '@I', 'LIMIT', '9', 'holds Res', 'requested', 'Startup', '1f'):
             self.assertIn(word, words)
         self.assertNotIn('tick routine', words)
 
     def test_a_trace_that_traps_is_drawn(self):
-        self.assertIn('trap', words_of(timeline_chart.chart(timeline.read_trace('0 T1 T1=R\ntrap 1\n'), [], '')))
+        self.assertIn('trap', words_of(timeline_chart.chart(list(trace_of('0 T1 T1=R\n')), 1, [], '')))
 
 
 class LongTexts(unittest.TestCase):
