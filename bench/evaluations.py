@@ -13,6 +13,10 @@ import subprocess
 import sys
 import tempfile
 
+sys.path.insert(0, os.path.join(os.path.dirname(os.path.dirname(os.path.abspath(__file__))), 'tools'))
+
+import given
+
 TABLE, EXITS = 'commands::fitting::least_table', 'numbered_exits::exits::exit_groups'
 
 
@@ -44,9 +48,9 @@ def main():
     with tempfile.TemporaryDirectory() as folder:
         found = counts(os.path.abspath(words.program), ['build', words.oil, words.code, os.path.join(folder, 'image')])
     if len(found) < 2:
-        sys.exit('evaluations.py: the calls were not found')
+        raise given.Wrong('%s: the calls were not found' % words.program)
     print('%d evaluations, %d calls for the exits of a point in all' % (sum(found[:-1]), found[-1]))
 
 
 if __name__ == '__main__':
-    main()
+    given.run(main)

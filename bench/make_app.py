@@ -10,7 +10,12 @@ isn't given goes with the number of tasks, up to the limits of an application at
 import argparse
 import os
 import random
+import sys
 from collections import namedtuple
+
+sys.path.insert(0, os.path.join(os.path.dirname(os.path.dirname(os.path.abspath(__file__))), 'tools'))
+
+import given
 
 Size = namedtuple('Size', 'tasks isrs counters alarms resources events modes blocks')
 """How many there are of each: resources are those declared beside RES_SCHEDULER, OSDEFAULTAPPMODE is one of the modes, and blocks
@@ -247,4 +252,4 @@ def main():
 
 
 if __name__ == '__main__':
-    main()
+    given.run(main)

@@ -18,6 +18,9 @@ import tempfile
 import time
 from collections import namedtuple
 
+sys.path.insert(0, os.path.join(os.path.dirname(os.path.dirname(os.path.abspath(__file__))), 'tools'))
+
+import given
 import make_app
 
 Run = namedtuple('Run', 'status seconds megabytes')
@@ -130,4 +133,4 @@ def main():
 
 
 if __name__ == '__main__':
-    sys.exit(main())
+    given.run(main)

@@ -11,6 +11,7 @@ PAPER = '#ffffff'
 
 def escaped(text):
     """The text as XML holds it."""
+    text = text.encode('utf-8', 'replace').decode('utf-8')
     return (text.replace('&', '&amp;').replace('<', '&lt;').replace('>', '&gt;').replace('"', '&quot;'))
 
 
@@ -55,6 +56,16 @@ class Drawing:
         self.add('text', content, x=x, y=y, font_size=size, fill=fill, font_family=font, text_anchor=anchor,
                  xml_space=None, **values)
 
+    def open_group(self, name, title=None):
+        """Begins a group, to whose class a style may speak."""
+        self.elements.append('<g class="%s">' % name + ('<title>%s</title>' % escaped(title) if title else ''))
+
+    def close_group(self):
+        self.elements.append('</g>')
+
+    def style(self, text):
+        self.elements.append('<style>%s</style>' % text)
+
     def svg(self, width, height):
         """The whole file, on a ground of its own colour."""
         head = ('<svg xmlns="http://www.w3.org/2000/svg" width="%s" height="%s" viewBox="0 0 %s %s">'
@@ -74,6 +85,16 @@ def rounded(points, radius=5):
         parts.append('L%s %sQ%s %s %s %s' % tuple(number(v) for v in before + (x, y) + after))
     parts.append('L%s %s' % (number(points[-1][0]), number(points[-1][1])))
     return ''.join(parts)
+
+
+def in_lines(text, width, character):
+    """The words of a text in lines of at most this width."""
+    lines = ['']
+    for word in text.split(' '):
+        if lines[-1] and character * (len(lines[-1]) + 1 + len(word)) > width:
+            lines.append('')
+        lines[-1] += (' ' if lines[-1] else '') + word
+    return lines
 
 
 def sign(value):

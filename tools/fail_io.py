@@ -15,6 +15,7 @@ import shutil
 import sys
 import tempfile
 
+import given
 import refuse_memory
 
 LIBRARY = r"""
@@ -160,4 +161,4 @@ def main():
 
 
 if __name__ == '__main__':
-    sys.exit(main())
+    given.run(main)

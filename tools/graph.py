@@ -7,14 +7,18 @@ as their ends tell: a dispatch (from a task's block to another task, or from a r
 interrupt (into a routine), a return (out of it), a restart (a task that ends and begins anew), idle, shutdown.
 
     osekfit show a.oil a.code | tools/graph.py --code a.code > a.dot
-    tools/graph.py --code a.code --svg a.show > a.svg
+    tools/graph.py --code a.code --oil a.oil --svg a.show > a.svg           counters and alarms have their names
+    tools/graph.py --code a.code --svg --task T1 a.show > t1.svg            one column, and what it has edges with
+    tools/graph.py --code a.code --summary a.show                           who dispatches whom, in numbers of edges
 """
 import argparse
+import re
 import sys
-from collections import namedtuple
+from collections import Counter, namedtuple
 
+import oil
 import task_code
-from given import contents
+from given import Wrong, contents, run
 
 Point = namedtuple('Point', 'kind block over')
 """Where the processor stands: kind is halt, idle, task or routine; over is the interrupted task's name, or `-`."""
@@ -38,11 +42,17 @@ EDGE_COLOURS = {
 }
 
 
+POINT = re.compile(r'b(\d+)(?:/(\w+|-))?', re.ASCII)
+
+
 def point_of(word):
+    """The point that a word says; a ValueError where it says none."""
     if word in ('halt', 'idle'):
         return Point(word, None, None)
-    block, slash, over = word[1:].partition('/')
-    return Point('routine' if slash else 'task', int(block), over if slash else None)
+    match = POINT.fullmatch(word)
+    if not match:
+        raise ValueError(word)
+    return Point('routine' if match.group(2) else 'task', int(match.group(1)), match.group(2))
 
 
 def text_of(point):
@@ -51,28 +61,36 @@ def text_of(point):
     return 'b%d' % point.block + ('/' + point.over if point.kind == 'routine' else '')
 
 
-def read_show(text):
-    """The graph that a text of show says; a line of another form is a ValueError."""
-    sites, edges, counts = {}, [], {}
+def read_show(text, name='show'):
+    """The graph that a text of show says; the name is the file's."""
+    graph = Graph({}, [], {})
     for place, line in enumerate(text.splitlines(), 1):
-        words = line.split(' ')
-        if words[0] == 'site' and len(words) in (5, 6) and words[2] == 'line':
-            sites[int(words[1][1:])] = Site(int(words[3]), ' '.join(words[4:]))
-        elif words[0] == 'edge' and len(words) == 3:
-            edges.append((point_of(words[1]), point_of(words[2])))
-        elif words[0] == 'points' and len(words) == 8:
-            counts = dict(zip(words[::2], map(int, words[1::2])))
-        else:
-            raise ValueError('line %d is none of show: %s' % (place, line))
-    return Graph(sites, edges, counts)
+        try:
+            read_line(graph, line.split(' '))
+        except ValueError:
+            raise Wrong('%s:%d: no line of show: %s' % (name, place, line[:60])) from None
+    return graph
+
+
+def read_line(graph, words):
+    """Puts what a line says into the graph; a ValueError where it is none of show."""
+    if words[0] == 'site' and len(words) in (5, 6) and words[2] == 'line' and words[4] in FORM_COLOURS:
+        graph.sites[point_of(words[1]).block] = Site(int(words[3]), ' '.join(words[4:]))
+    elif words[0] == 'edge' and len(words) == 3:
+        graph.edges.append((point_of(words[1]), point_of(words[2])))
+    elif words[0] == 'points' and len(words) == 8:
+        graph.counts.update(zip(words[::2], map(int, words[1::2])))
+    else:
+        raise ValueError(words[0])
 
 
 class Owners:
-    """Who each block belongs to, by the task code; without it, only what show tells."""
+    """Who each block belongs to, by the task code; without it, only what show tells. The system names counters and alarms."""
 
-    def __init__(self, graph, code):
+    def __init__(self, graph, code, system=None):
         self.blocks = task_code.blocks_of(code) if code is not None else []
-        self.ticks = tick_routines(graph, len(self.blocks)) if code is not None else {}
+        self.ticks = tick_routines(graph, len(self.blocks), system) if code is not None else {}
+        self.alarms = alarms_of(self.ticks, system)
 
     def owner(self, point):
         """The owner of a point's block, or None where there is no block or it isn't known."""
@@ -90,7 +108,9 @@ class Owners:
     def tick_text(self, block):
         if self.ticks.get(block - 1) != self.ticks[block]:
             return 'count'
-        return 'end' if self.ticks.get(block + 1) != self.ticks[block] else 'expire'
+        if self.ticks.get(block + 1) != self.ticks[block]:
+            return 'end'
+        return ('expire ' + self.alarms.get(block, '')).rstrip()
 
     def kind_of_edge(self, before, after):
         """What an edge does, as far as its ends tell; '' where they don't."""
@@ -120,14 +140,27 @@ class Owners:
         return 'flow' if after.block in (block.next, block.other) else 'restart'
 
 
-def tick_routines(graph, first):
+def tick_routines(graph, first, system):
     """The tick routine of each block from `first` on: a routine ends with a site of line 0."""
-    owners, number = {}, 1
+    owners, number = {}, 0
     ends = [b for b in graph.sites if b >= first]
+    names = list(system.counters) if system else ['tick routine' + (' %d' % (k + 1) if len(ends) > 1 else '') for k in range(len(ends))]
+    if len(names) != len(ends):
+        raise Wrong('the OIL text has %d counters, and show has %d tick routines' % (len(names), len(ends)))
     for block in range(first, max(ends, default=first - 1) + 1):
-        owners[block] = task_code.Owner('TICK', 'tick routine' + (' %d' % number if len(ends) > 1 else ''))
+        owners[block] = task_code.Owner('TICK', names[number])
         number += block in ends
     return owners
+
+
+def alarms_of(ticks, system):
+    """The alarm of each block at which one may expire: those of a counter in order, behind the block that counts."""
+    found = {}
+    for counter in system.counters if system else []:
+        first = min(block for block, owner in ticks.items() if owner.name == counter)
+        alarms = [alarm.name for alarm in system.alarms.values() if alarm.counter == counter]
+        found.update((first + 1 + k, alarm) for k, alarm in enumerate(alarms))
+    return found
 
 
 def label(graph, owners, point):
@@ -181,27 +214,71 @@ def dot(graph, owners):
     return '\n'.join(lines + ['}', ''])
 
 
+def around(graph, owners, name):
+    """The edges that begin or end in the blocks of a task, or of a routine, alone, with the sites of their blocks."""
+    def is_there(point):
+        owner = owners.owner(point)
+        return owner is not None and owner.name == name
+    if not any(owner.name == name for owner in [b.owner for b in owners.blocks] + list(owners.ticks.values())):
+        raise Wrong('there is no task or routine %s' % name)
+    edges = [edge for edge in graph.edges if is_there(edge[0]) or is_there(edge[1])]
+    met = {point.block for edge in edges for point in edge}
+    sites = {b: site for b, site in graph.sites.items() if b in met or is_there(Point('task', b, None))}
+    return Graph(sites, edges, {})
+
+
+SUMMED = ('dispatch', 'restart', 'idle', 'shutdown')
+"""The kinds of edges by which a task, or idle, gets the processor anew."""
+
+
+def summary(graph, owners):
+    """A matrix of who dispatches whom, by the number of edges."""
+    counts, names = Counter(), {}
+    for before, after in graph.edges:
+        if owners.kind_of_edge(before, after) in SUMMED:
+            pair = [owners.owner(p).name if owners.owner(p) else p.kind for p in (before, after)]
+            counts[tuple(pair)] += 1
+            names.setdefault(pair[0]), names.setdefault(pair[1])
+    blocks = {owner.name: None for owner in [b.owner for b in owners.blocks] + list(owners.ticks.values())}
+    order = [name for name in list(blocks) + ['idle', 'halt'] if name in names]
+    columns = [name for name in order if any(counts[row, name] for row in order)]
+    lines = [[''] + columns]
+    for row in order:
+        if any(counts[row, column] for column in columns):
+            lines.append([row] + [str(counts[row, column] or '.') for column in columns])
+    widths = [max(len(cells[k]) for cells in lines) for k in range(len(columns) + 1)]
+    return ''.join('  '.join(cell.rjust(width) for cell, width in zip(cells, widths)) + '\n' for cells in lines)
+
+
 def arguments():
     parser = argparse.ArgumentParser(description=__doc__, formatter_class=argparse.RawDescriptionHelpFormatter)
     parser.add_argument('show', nargs='?', help='the text of `osekfit show` (standard input where it is missing)')
     parser.add_argument('--code', metavar='FILE', help="the application's task code: names blocks and their owners")
+    parser.add_argument('--oil', metavar='FILE', help='its OIL text: names counters and alarms')
     parser.add_argument('--svg', action='store_true', help='an SVG drawing in place of DOT; needs --code')
+    parser.add_argument('--task', metavar='NAME', help='the edges of one task or routine alone; needs --code')
+    parser.add_argument('--summary', action='store_true', help='a matrix in place of DOT; needs --code')
     parser.add_argument('--title', default='', help='a heading for the drawing')
     return parser.parse_args()
 
 
 def main():
     words = arguments()
-    if words.svg and not words.code:
-        sys.exit('graph.py: --svg needs --code')
-    graph = read_show(contents(words.show))
-    owners = Owners(graph, contents(words.code) if words.code else None)
-    if words.svg:
+    if (words.svg or words.task or words.summary or words.oil) and not words.code:
+        raise Wrong('--svg, --task, --summary and --oil need --code')
+    graph = read_show(contents(words.show), words.show or 'standard input')
+    system = oil.system_of(contents(words.oil), words.oil) if words.oil else None
+    owners = Owners(graph, contents(words.code) if words.code else None, system)
+    if words.task:
+        graph = around(graph, owners, words.task)
+    if words.summary:
+        sys.stdout.write(summary(graph, owners))
+    elif words.svg:
         import graph_chart
-        sys.stdout.write(graph_chart.chart(graph, owners, words.title))
+        sys.stdout.write(graph_chart.chart(graph, owners, words.title, words.task))
     else:
         sys.stdout.write(dot(graph, owners))
 
 
 if __name__ == '__main__':
-    main()
+    run(main)

@@ -4,7 +4,7 @@ A dispatch leaves its block to the right, runs in the gaps between the columns a
 targets from the left; each source has a colour of its own. Interrupts and returns are told by circles beside the blocks."""
 from collections import namedtuple
 
-from drawing import FAINT, INK, LINE, MONO, Drawing, rounded
+from drawing import FAINT, INK, LINE, MONO, Drawing, in_lines, number, rounded
 from graph import FORM_COLOURS, Point, text_of
 
 ROW, GAP = 24, 8
@@ -18,6 +18,15 @@ CHARACTER = 6.65
 
 HEAD = 84
 """The room above the columns' first blocks."""
+
+LEAST_WIDTH, LETTER = 760, 5.7
+"""The least width of a drawing, and the width of a letter in what is said below it."""
+
+MOST_NAMED = 12
+"""How many targets a line's title names."""
+
+STYLE = '.lines:hover .from{opacity:.12}.lines .from:hover{opacity:1}.from:hover path{stroke-width:2.6}'
+"""What a viewer does with the lines of one block when it is pointed at: the others fade."""
 
 SOURCE_COLOURS = ['#0969da', '#bf3989', '#1a7f37', '#bc4c00', '#8250df', '#1b7c83', '#9a6700', '#cf222e', '#4d2d8a', '#57606a']
 
@@ -65,20 +74,23 @@ def pill(form):
     return '→ idle' if form == 'direct -' else form.replace('direct', '→')
 
 
-def columns_of(graph, owners):
-    """The columns: tasks, interrupt routines, tick routines, and who has the processor where no block has it."""
+def columns_of(graph, owners, whole):
+    """The columns: tasks, interrupt routines, tick routines, and who has the processor where no block has it. Where the name of one is
+    given it is whole, and the others have the blocks alone that edges meet."""
     used = {p for edge in graph.edges for p in edge}
-    routines = routine_names(owners)
+    met = {p.block for p in used}
+    routines = [owner for owner in routine_names(owners) if whole is None or owner.name == whole or owner in map(owners.owner, used)]
     found = []
     for owner, blocks in blocks_by_owner(owners).items():
-        rows = [row for block in blocks for row in rows_of(graph, owners, owner, block, used)]
+        rows = [row for block in blocks if whole in (None, owner.name) or block in met for row in rows_of(graph, owners, owner, block, used)]
         kind = {'TASK': 'task', 'ISR': 'interrupt routine', 'TICK': 'counter'}[owner.kind]
-        found.append(Column(owner.name, kind, rows, routines if owner.kind == 'TASK' else []))
+        if rows:
+            found.append(Column(owner.name, kind, rows, routines if owner.kind == 'TASK' and whole in (None, owner.name) else []))
     rest = [kind for kind in ('idle', 'halt') if any(p.kind == kind for p in used)]
     if rest:
         names = {'idle': 'idle', 'halt': 'halted'}
         rows = [Row([Point(kind, None, None)], names[kind], None, None) for kind in rest]
-        found.append(Column('No task', 'and no routine', rows, routines if 'idle' in rest else []))
+        found.append(Column('No task', 'and no routine', rows, routines if 'idle' in rest and whole is None else []))
     return found
 
 
@@ -106,9 +118,9 @@ def rows_of(graph, owners, owner, block, used):
 
 
 class Chart:
-    def __init__(self, graph, owners):
+    def __init__(self, graph, owners, whole):
         self.graph, self.owners = graph, owners
-        self.columns = columns_of(graph, owners)
+        self.columns = columns_of(graph, owners, whole)
         self.place, self.heads = {}, {}
         for c, column in enumerate(self.columns):
             for r, row in enumerate(column.rows):
@@ -145,16 +157,18 @@ class Chart:
     def lay_out(self):
         """Places the columns from left to right, with room for the lines between them."""
         self.order = sorted(self.trunks, key=lambda p: self.place[p])
-        self.tracks = [[] for _ in range(len(self.columns) + 1)]
-        self.channel = []
+        self.tracks = [{} for _ in range(len(self.columns) + 1)]
+        self.channel, self.entries = {}, {}
         for source in self.order:
             gap = self.place[source][0] + 1
             targets = {self.place[t][0] for t in self.trunks[source]}
-            self.tracks[gap].append(source)
+            put_last(self.tracks[gap], source)
             if targets != {gap}:
-                self.channel.append(source)
+                put_last(self.channel, source)
             for column in sorted(targets - {gap}):
-                self.tracks[column].append(source)
+                put_last(self.tracks[column], source)
+            for target in self.trunks[source]:
+                put_last(self.entries.setdefault(target, {}), source)
         x = 16
         for column, tracks in zip(self.columns, self.tracks):
             x += 14 + step_of(tracks) * len(tracks)
@@ -166,10 +180,10 @@ class Chart:
     def track_x(self, gap, source):
         tracks = self.tracks[gap]
         left = self.columns[gap - 1].x + self.columns[gap - 1].width() if gap else 16
-        return left + 8 + step_of(tracks) * tracks.index(source)
+        return left + 8 + step_of(tracks) * tracks[source]
 
     def channel_y(self, source):
-        return self.floor + 16 + step_of(self.channel) * self.channel.index(source)
+        return self.floor + 16 + step_of(self.channel) * self.channel[source]
 
     # What is painted, from back to front.
 
@@ -177,16 +191,15 @@ class Chart:
         self.lay_out()
         for column in self.columns:
             self.paint_frame(column)
-        for k, source in enumerate(self.order):
-            self.paint_trunk(source, SOURCE_COLOURS[k % len(SOURCE_COLOURS)])
         for c, column in enumerate(self.columns):
             self.paint_jumps(column)
             for r in range(len(column.rows)):
                 self.paint_row(c, column, r)
+        self.paint_trunks()
         self.drawing.text(16, 30, title, size=17, font_weight='600')
         y = self.floor + 34 + step_of(self.channel) * len(self.channel)
         height = self.paint_legend(y)
-        return self.drawing.svg(max(self.width, 760), height)
+        return self.drawing.svg(max(self.width, LEAST_WIDTH), height)
 
     def paint_frame(self, column):
         d = self.drawing
@@ -235,29 +248,50 @@ class Chart:
             self.drawing.path(rounded(points), '#57606a', stroke_width=1.1)
             self.head(points[-1], 'right', '#57606a')
 
+    def paint_trunks(self):
+        """The lines of dispatches, those of one block as one group."""
+        d = self.drawing
+        d.style(STYLE)
+        d.open_group('lines')
+        for k, source in enumerate(self.order):
+            d.open_group('from', self.title_of(source))
+            self.paint_trunk(source, SOURCE_COLOURS[k % len(SOURCE_COLOURS)])
+            d.close_group()
+        d.close_group()
+
+    def title_of(self, source):
+        targets = [text_of(target) for target in self.trunks[source]]
+        more = ' and %d more' % (len(targets) - MOST_NAMED) if len(targets) > MOST_NAMED else ''
+        return '%s to %s%s' % (text_of(source), ', '.join(targets[:MOST_NAMED]), more)
+
     def paint_trunk(self, source, colour):
+        """The lines from one block: out to the right, and to each column with a target along one upright line."""
         c, r = self.place[source]
         column = self.columns[c]
         x, y = self.track_x(c + 1, source), column.middle_of(r)
+        by_column = {}
         for target in self.trunks[source]:
-            c2, r2 = self.place[target]
-            y2 = self.entry_y(source, target)
-            end = (self.columns[c2].left(), y2)
-            points = [(column.right(), y), (x, y)]
-            if c2 != c + 1:
-                x2 = self.track_x(c2, source)
-                points += [(x, self.channel_y(source)), (x2, self.channel_y(source)), (x2, y2), end]
-            else:
-                points += [(x, y2), end]
-            self.drawing.path(rounded(points), colour, title='%s to %s' % (text_of(source), text_of(target)), stroke_width=1.6)
-            self.head(end, 'right', colour)
+            by_column.setdefault(self.place[target][0], []).append(self.entry_y(source, target))
+        parts, heads = ['M%s %sH%s' % (number(column.right()), number(y), number(x))], []
+        if set(by_column) != {c + 1}:
+            channel = self.channel_y(source)
+            ends = [self.track_x(c2, source) for c2 in by_column if c2 != c + 1]
+            parts += ['V%s' % number(channel)] + ['M%s %sH%s' % (number(x), number(channel), number(end)) for end in (min(ends), max(ends))]
+        for c2, entries in by_column.items():
+            begin, x2 = (y, x) if c2 == c + 1 else (channel, self.track_x(c2, source))
+            parts += branches(x2, begin, entries, self.columns[c2].left())
+            heads += [arrow_head(self.columns[c2].left(), entry) for entry in entries]
+        d = self.drawing
+        d.rect(column.left(), column.top_of(r), column.box_width(), ROW, 'none', pointer_events='all')
+        d.path(''.join(parts), colour, stroke_width=1.6)
+        d.path(''.join(heads), 'none', fill=colour)
 
     def entry_y(self, source, target):
         """Where a line comes to its target: beside those of other sources."""
-        sources = [s for s in self.order if target in self.trunks[s]]
+        sources = self.entries[target]
         c, r = self.place[target]
         step = min(5, (ROW - 6) / max(1, len(sources)))
-        return self.columns[c].middle_of(r) + step * (sources.index(source) - (len(sources) - 1) / 2)
+        return self.columns[c].middle_of(r) + step * (sources[source] - (len(sources) - 1) / 2)
 
     def arrow(self, x1, y1, x2, y2, colour):
         self.drawing.line(x1, y1, x2, y2, colour, stroke_width=1.1)
@@ -269,32 +303,47 @@ class Chart:
         self.drawing.path('M%.1f %.1fL%.1f %.1fL%.1f %.1fZ' % (x, y, *back[0], *back[1]), 'none', fill=colour)
 
     def paint_legend(self, y):
-        d = self.drawing
-        d.line(16, y - 14, max(self.width, 760) - 16, y - 14, LINE)
+        d, width = self.drawing, max(self.width, LEAST_WIDTH)
+        d.line(16, y - 14, width - 16, y - 14, LINE)
         x = 16
-        for form, meaning in FORMS_SAID:
+        for form, meaning in self.forms_said():
             ground, edge = FORM_COLOURS[form]
+            if x > 16 and x + 71 + LETTER * len(meaning) > width - 16:
+                x, y = 16, y + 26
             d.rect(x, y - 2, 64, 18, ground, stroke=edge, rx=4, stroke_dasharray='3 2' if form == 'never' else None)
-            text = 'direct →' if form == 'direct' else form
-            d.text(x + 32, y + 11, text, size=11, fill=edge, anchor='middle', font_weight='600')
+            d.text(x + 32, y + 11, 'direct →' if form == 'direct' else form, size=11, fill=edge, anchor='middle', font_weight='600')
             d.text(x + 71, y + 11, meaning, size=11)
-            x += 71 + 5.7 * len(meaning) + 26
-        for k, line in enumerate(self.said_below()):
-            self.paint_said(y + 36 + 20 * k, *line)
-        return y + 36 + 20 * len(self.said_below())
+            x += 71 + LETTER * len(meaning) + 26
+        y += 36
+        for mark, text in self.said_below():
+            for k, line in enumerate(in_lines(text, width - (76 if mark else 32), LETTER)):
+                self.paint_said(y, mark if k == 0 else '', line, 60 if mark else 16)
+                y += 16
+            y += 4
+        return y
+
+    def forms_said(self):
+        there = {row.form.split(' ')[0] for column in self.columns for row in column.rows if row.form}
+        return [(form, meaning) for form, meaning in FORMS_SAID if form in there]
 
     def said_below(self):
-        counts = self.graph.counts
-        numbers = 'points %(points)d, height %(height)d, values %(values)d, edges %(edges)d' % counts if counts else ''
-        return [('line', 'dispatch of a task, or of idle: from the block where the line begins to those at its arrows; '
-                         'each beginning has a colour of its own'),
-                ('grey', 'control flow within a task or routine'),
-                ('open', 'the routine named above may begin at this block'),
-                ('full', 'it may begin here, and also return here at its end'),
-                (None, 'A white block is no call site. A dashed one is never reached, and one in grey letters has no edge. '
-                       'At its end a routine returns to what it was over, or dispatches. ' + numbers)]
+        """What is said of the marks that are drawn, each with its mark."""
+        shown = {kind for (place, owner), kinds in self.circles.items() if owner in self.columns[place[0]].circles
+                 for kind in [max(kinds)]}
+        said = [(bool(self.order), 'line', 'dispatch of a task, or of idle: from the block where the line begins to those at its arrows. '
+                                           'The lines of one block have one colour, which others share where there are many'),
+                (bool(self.flows), 'grey', 'control flow within a task or routine'),
+                ('begins' in shown, 'open', 'the routine named above may begin at this block'),
+                ('returns' in shown, 'full', 'it may begin here, and also return here at its end'),
+                (True, None, 'A white block is no call site. A dashed one is never reached, and one in grey letters has no edge. '
+                             'At its end a routine returns to what it was over, or dispatches.'),
+                (bool(self.graph.counts), None, self.numbers())]
+        return [(mark, text) for is_said, mark, text in said if is_said]
 
-    def paint_said(self, y, mark, text):
+    def numbers(self):
+        return ', '.join('%s %d' % pair for pair in self.graph.counts.items())
+
+    def paint_said(self, y, mark, text, x):
         d = self.drawing
         if mark in ('line', 'grey'):
             colour = SOURCE_COLOURS[0] if mark == 'line' else '#57606a'
@@ -302,11 +351,27 @@ class Chart:
             self.head((50, y - 4), 'right', colour)
         elif mark:
             self.paint_circle({'begins'} if mark == 'open' else {'begins', 'returns'}, 34, y - 4)
-        d.text(60 if mark else 16, y, text, size=11)
+        d.text(x, y, text, size=11)
 
 
 FORMS_SAID = [('never', 'no state comes here'), ('stay', 'the caller goes on'), ('direct', 'always this dispatch'),
               ('general', 'more than one outcome: the scheduler decides')]
+
+
+def put_last(places, key):
+    """Gives a key that has no place the next one."""
+    places.setdefault(key, len(places))
+
+
+def branches(x, begin, entries, end):
+    """An upright line from where it begins to the entries above and below, and from it a way to each."""
+    parts = ['M%s %sV%s' % (number(x), number(begin), number(limit)) for limit in (min(min(entries), begin), max(max(entries), begin))
+             if limit != begin]
+    return parts + ['M%s %sH%s' % (number(x), number(entry), number(end)) for entry in entries]
+
+
+def arrow_head(x, y):
+    return 'M%.1f %.1fL%.1f %.1fL%.1f %.1fZ' % (x, y, x - 6, y - 3, x - 6, y + 3)
 
 
 def step_of(tracks):
@@ -320,6 +385,6 @@ def shortened(name):
     return name if len(name) <= 12 else name[:11] + '…'
 
 
-def chart(graph, owners, title):
-    """The drawing of a graph whose owners are known."""
-    return Chart(graph, owners).paint(title)
+def chart(graph, owners, title, whole=None):
+    """The drawing of a graph whose owners are known; of one task or routine, whose name is given, and its neighbours."""
+    return Chart(graph, owners, whole).paint(title)

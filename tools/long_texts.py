@@ -19,6 +19,7 @@ import tempfile
 HERE = os.path.dirname(os.path.abspath(__file__))
 sys.path.insert(0, os.path.join(os.path.dirname(HERE), 'bench'))
 
+import given
 import run as bench
 
 MOST = 1 << 20
@@ -270,4 +271,4 @@ def main():
 
 
 if __name__ == '__main__':
-    sys.exit(main())
+    given.run(main)

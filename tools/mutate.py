@@ -19,6 +19,8 @@ import sys
 import tempfile
 import time
 
+import given
+
 HERE = os.path.dirname(os.path.abspath(__file__))
 EXAMPLES = os.path.join(os.path.dirname(HERE), 'examples')
 MODE = 'OSDEFAULTAPPMODE'
@@ -316,4 +318,4 @@ def main():
 
 
 if __name__ == '__main__':
-    sys.exit(main())
+    given.run(main)

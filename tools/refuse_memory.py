@@ -20,6 +20,8 @@ import subprocess
 import sys
 import tempfile
 
+import given
+
 HERE = os.path.dirname(os.path.abspath(__file__))
 TOP = os.path.dirname(HERE)
 MODE = 'OSDEFAULTAPPMODE'
@@ -208,7 +210,7 @@ def texts_of(words, folder):
 def main():
     words = arguments()
     if bool(words.program) == words.tried:
-        sys.exit('refuse_memory.py: a built program, or --try')
+        raise given.Wrong('a built program is wanted, or --try')
     folder, faults = tempfile.mkdtemp(prefix='osekfit-memory-'), 0
     try:
         texts = texts_of(words, folder)
@@ -223,4 +225,4 @@ def main():
 
 
 if __name__ == '__main__':
-    sys.exit(main())
+    given.run(main)

@@ -1,121 +1,128 @@
 """The blocks of a task code text, numbered as osekfit numbers them: one for each statement and each closing brace of a body, in
 the order of the text. The text is taken to be without fault."""
-import re
 from collections import namedtuple
 
-Block = namedtuple('Block', 'owner line text next other')
-"""A block: its body's owner, the line of its first token, its text, and the numbers of the blocks that it leads to."""
+from tokens import Cursor, number_of
+
+Block = namedtuple('Block', 'owner line text word arguments is_locked next other')
+"""A block: its body's owner, the line of its first token, its text, and the numbers of the blocks that it leads to. The word is a
+service's name, `work`, `choice`, `loop`, `end`, or, in a tick routine, `count` or `expire`. The arguments are names and numbers, and
+a list of names for a mask."""
 
 Owner = namedtuple('Owner', 'kind name')
-"""Who a body belongs to: kind is TASK or ISR."""
+"""Who a body belongs to: kind is TASK, ISR or, for a tick routine, TICK."""
 
-TOKEN = re.compile(r'(?P<space>\s+|/\*.*?\*/|//[^\n]*)|(?P<token>\w+|[^\s\w])', re.DOTALL)
-
-
-def tokens(text):
-    """The tokens of a text, each with its line."""
-    found, line = [], 1
-    for match in TOKEN.finditer(text):
-        if match.lastgroup == 'token':
-            found.append((match.group(), line))
-        line += match.group().count('\n')
-    return found
+OPENERS = {'SuspendAllInterrupts': 'ResumeAllInterrupts', 'SuspendOSInterrupts': 'ResumeOSInterrupts',
+           'DisableAllInterrupts': 'EnableAllInterrupts'}
+"""Each call that locks interrupts, with the one that ends the lock."""
 
 
 class Statement:
     """A statement as it is read: its block's number, and the statements inside it."""
 
-    def __init__(self, number, word):
-        self.number, self.word, self.first, self.second = number, word, [], []
+    def __init__(self, number):
+        self.number, self.first, self.second = number, [], []
 
 
-class CodeReader:
-    def __init__(self, text):
-        self.tokens, self.place = tokens(text), 0
-        self.blocks, self.owner = [], None
+class CodeReader(Cursor):
+    def __init__(self, text, name):
+        super().__init__(text, name)
+        self.blocks, self.owner, self.locks, self.bodies = [], None, 0, []
 
-    def take(self):
-        self.place += 1
-        return self.tokens[self.place - 1]
+    def read(self):
+        while not self.is_done():
+            self.read_body()
+        return self.blocks
 
-    def take_until(self, last):
-        """The tokens up to the next `last`, joined."""
-        words = []
-        while True:
-            word, _ = self.take()
-            if word == last:
-                return join_words(words)
-            words.append(word)
-
-    def push(self, line, text):
-        self.blocks.append(Block(self.owner, line, text, None, None))
+    def push(self, line, text, word, arguments=()):
+        self.blocks.append(Block(self.owner, line, text, word, list(arguments), self.locks > 0, None, None))
         return len(self.blocks) - 1
 
     def lead(self, number, next_, other=None):
         self.blocks[number] = self.blocks[number]._replace(next=next_, other=other)
 
-    def read(self):
-        while self.place < len(self.tokens):
-            self.read_body()
-        return self.blocks
-
     def read_body(self):
-        kind, _ = self.take()
-        self.take()
-        self.owner = Owner(kind, self.take_until(')'))
-        self.take()
+        self.bodies.append(self.line())
+        kind = self.want('TASK', 'ISR')
+        self.want('(')
+        self.owner, self.locks = Owner(kind, self.take_name()), 0
+        self.want(')')
+        self.want('{')
         statements, line = self.read_statements()
-        end = self.push(line, '}')
+        end = self.push(line, '}', 'end')
         self.follow(statements, end)
 
     def read_statements(self):
         """The statements up to the closing brace, and the brace's line."""
         found = []
         while True:
-            word, line = self.take()
-            if word == '}':
+            line = self.line()
+            if self.took('}'):
                 return found, line
-            found.append(self.read_statement(word, line))
+            found.append(self.read_statement(self.take_name(), line))
 
     def read_statement(self, word, line):
-        if word not in ('if', 'while'):
-            return Statement(self.push(line, join_words([word]) + self.rest_of_call(word)), word)
-        self.take()
-        condition = self.take_until(')')
-        self.take()
-        statement = Statement(self.push(line, '%s (%s)' % (word, condition)), word + condition)
+        if word in ('if', 'while'):
+            return self.read_choice(word, line)
+        if word == 'work':
+            number = self.take()
+            self.want(';')
+            return Statement(self.push(line, 'work ' + number, 'work', [number_of(number) or 1]))
+        arguments, text = self.read_arguments()
+        number = self.push(line, word + text, word, arguments)
+        self.locks += (word in OPENERS) - (word in OPENERS.values())
+        return Statement(number)
+
+    def read_choice(self, word, line):
+        self.want('(')
+        condition = self.take()
+        self.want(')')
+        self.want('{')
+        is_loop = condition != '?'
+        text = '%s (%s)' % (word, condition)
+        statement = Statement(self.push(line, text, 'loop' if is_loop else 'choice'))
+        locks = self.locks
         statement.first, _ = self.read_statements()
-        if word == 'if' and self.place < len(self.tokens) and self.tokens[self.place][0] == 'else':
-            self.take(), self.take()
+        if word == 'if' and self.took('else'):
+            behind, self.locks = self.locks, locks
+            self.want('{')
             statement.second, _ = self.read_statements()
+            self.locks = behind
         return statement
 
-    def rest_of_call(self, word):
-        return (' ' if word == 'work' else '') + self.take_until(';')
+    def read_arguments(self):
+        """What stands between the parentheses of a call, as values and as it is shown."""
+        self.want('(')
+        arguments, texts = [], []
+        while not self.took(')'):
+            parts = [self.take()]
+            while self.took('|'):
+                parts.append(self.take())
+            texts.append(' | '.join(parts))
+            number = number_of(parts[0])
+            arguments.append(parts if number is None else number)
+            if self.ahead() != ')':
+                self.want(',')
+        self.want(';')
+        return arguments, '(%s)' % ', '.join(texts)
 
     def follow(self, statements, after):
         """Lets each of the statements lead to what follows it; `after` follows the last."""
         follows = [s.number for s in statements[1:]] + [after]
         for statement, then in zip(statements, follows):
-            inner = statement.number if statement.word.startswith('while') else then
+            text = self.blocks[statement.number].text
+            inner = statement.number if text.startswith('while') else then
             first = statement.first[0].number if statement.first else inner
             self.follow(statement.first, inner)
             self.follow(statement.second, then)
-            if statement.word == 'if?':
+            if text.startswith('if'):
                 self.lead(statement.number, first, statement.second[0].number if statement.second else then)
-            elif statement.word == 'while?':
+            elif self.blocks[statement.number].word == 'choice':
                 self.lead(statement.number, first, then)
             else:
-                self.lead(statement.number, first if statement.word.startswith('while') else then)
+                self.lead(statement.number, first if text.startswith('while') else then)
 
 
-def join_words(words):
-    text = ' '.join(words)
-    for tight in ('(', ')', ','):
-        text = text.replace(' ' + tight, tight)
-    return text.replace('( ', '(')
-
-
-def blocks_of(text):
-    """The blocks of a task code text."""
-    return CodeReader(text).read()
+def blocks_of(text, name='the task code'):
+    """The blocks of a task code text; the name is the file's, for what is told."""
+    return CodeReader(text, name).read()

@@ -1,19 +1,28 @@
 #!/usr/bin/env python3
-"""Tests of the tools, run by hand: `python3 tools/test_tools.py`. Expected values are worked out by hand from the guide."""
+"""Tests of the tools, run by hand: `python3 tools/test_tools.py`, those of test_texts.py with them. Expected values are worked out by
+hand from the guide. None of them needs a built program."""
+import io
+import json
 import os
 import sys
+import time
 import unittest
 from xml.etree import ElementTree
 
 sys.path.insert(0, os.path.dirname(os.path.abspath(__file__)))
 
+import btf
 import graph
 import graph_chart
 import long_texts
+import oil
+import perfetto
 import task_code
 import timeline
 import timeline_chart
 import vcd
+from drawing import in_lines
+from given import Wrong
 
 CODE = """TASK(T1) { ActivateTask(T2); TerminateTask(); }
 TASK(T2) { TerminateTask(); }
@@ -122,6 +131,10 @@ b0 *
 """
 
 
+def trace_of(text, first=0, last=None):
+    return timeline.Trace(io.StringIO(text), 'a.trace', first, last)
+
+
 def owners_of(show, code):
     found = graph.read_show(show)
     return found, graph.Owners(found, code)
@@ -157,7 +170,7 @@ class Graphs(unittest.TestCase):
         self.assertEqual(found.sites[1], graph.Site(1, 'direct -'))
         self.assertEqual(found.edges[1], (graph.Point('task', 1, None), graph.Point('idle', None, None)))
         self.assertEqual(found.counts, {'points': 7, 'height': 17, 'values': 8, 'edges': 3})
-        self.assertRaises(ValueError, graph.read_show, 'site b0\n')
+        self.assertRaises(Wrong, graph.read_show, 'site b0\n')
 
     def test_points_are_written_as_they_are_read(self):
         for word in ('halt', 'idle', 'b12', 'b3/-', 'b3/T1'):
@@ -190,6 +203,45 @@ class Graphs(unittest.TestCase):
         for word in ('A & B', 'T1', 'T2', 'b0 ActivateTask(T2)', '→ T2', '→ idle', 'never', 'idle'):
             self.assertIn(word, words)
 
+    def test_counters_and_alarms_have_their_names(self):
+        show, code = 'site b1 line 1 never\nsite b4 line 0 stay\n', 'TASK(A) { work 1; }'
+        system = oil.system_of('CPU c { OS os; COUNTER C { MAXALLOWEDVALUE = 3; }; TASK A { PRIORITY = 1; };'
+                               ' ALARM Z { COUNTER = C; ACTION = ACTIVATETASK { TASK = A; }; }; };')
+        owners = graph.Owners(graph.read_show(show), code, system)
+        self.assertEqual([owners.ticks[4].name] + [owners.text(b) for b in (2, 3, 4)], ['C', 'count', 'expire Z', 'end'])
+        self.assertRaises(Wrong, graph.Owners, graph.read_show('site b1 line 1 never\n'), code, system)
+
+    def test_one_task_and_its_neighbours(self):
+        found, owners = owners_of(SHOW, CODE)
+        part = graph.around(found, owners, 'T2')
+        self.assertEqual([tuple(map(graph.text_of, edge)) for edge in part.edges], [('b0', 'b3'), ('b3', 'b1')])
+        words = words_of(graph_chart.chart(part, owners, '', 'T2'))
+        self.assertIn('b4 }', words)
+        self.assertNotIn('b2 }', words)
+        self.assertRaises(Wrong, graph.around, found, owners, 'T3')
+
+    def test_who_dispatches_whom(self):
+        self.assertEqual(graph.summary(*owners_of(SHOW, CODE)), '    T1  T2  idle\nT1   .   1     1\nT2   1   .     .\n')
+
+    def test_the_legend_says_what_is_drawn(self):
+        words = ' '.join(word for word in words_of(graph_chart.chart(*owners_of(SHOW, CODE), '')) if word)
+        self.assertNotIn('may begin', words)
+        self.assertNotIn('the caller goes on', words)
+        for text in ('no state comes here', 'always this dispatch', 'points 7, height 17, values 8, edges 3'):
+            self.assertIn(text, words)
+
+    def test_lines_of_the_legend_are_no_wider_than_the_drawing(self):
+        for line in in_lines('word ' * 200, 600, 5.7):
+            self.assertLessEqual(5.7 * len(line), 600)
+
+    def test_many_edges_are_drawn_in_little_time(self):
+        blocks = 400
+        code = 'TASK(A) { %s } TASK(B) { %s }' % ('ActivateTask(B); ' * blocks, 'work 1; ' * blocks)
+        edges = ''.join('edge b%d b%d\n' % (a, blocks + 1 + b) for a in range(0, blocks, 4) for b in range(0, blocks, 2))
+        begin = time.process_time()
+        graph_chart.chart(*owners_of(edges, code), '')
+        self.assertLess(time.process_time() - begin, 5)
+
     def test_nothing_at_all_is_drawn(self):
         words_of(graph_chart.chart(*owners_of('points 2 height 0 values 0 edges 0\n', ''), ''))
 
@@ -201,8 +253,15 @@ class Timelines(unittest.TestCase):
                          timeline.Line(7, '@I', tasks, 'E_OK', '-', ['PreTask']))
 
     def test_a_trap_is_read(self):
-        self.assertEqual(timeline.read_trace('0 - T1=S\ntrap 1\n').trap, 1)
-        self.assertRaises(ValueError, timeline.read_trace, '0 - T1=X\n')
+        trace = trace_of('0 - T1=S\ntrap 1\n')
+        self.assertEqual(([line.number for line in trace], trace.trap), ([0], 1))
+
+    def test_other_texts_are_refused_in_one_line(self):
+        for text in ('0 - T1=X\n', 'x\n', '0\n', '0 - T1\n', 'trap x\n'):
+            self.assertRaises(Wrong, list, trace_of(text))
+
+    def test_a_range_of_lines_is_read(self):
+        self.assertEqual([line.number for line in trace_of(TRACE, 1, 1)], [1])
 
     def test_requests_are_counted_as_events(self):
         text = '# none\nrun 0\r\n\n irq  I\ntick C\n'
@@ -213,19 +272,57 @@ class Timelines(unittest.TestCase):
         self.assertEqual(timeline_chart.spans([None], lambda v: v), [])
 
     def test_vcd(self):
-        self.assertEqual(vcd.dump(timeline.read_trace(TRACE)), VCD)
+        self.assertEqual(''.join(vcd.dump(trace_of(TRACE))), VCD)
+
+    def test_perfetto(self):
+        events = json.loads(''.join(perfetto.dump(trace_of(TRACE), [(1, '@I')])))['traceEvents']
+        names = {e['tid']: e['args']['name'] for e in events if e['name'] == 'thread_name'}
+        self.assertEqual(list(names.values()), ['processor', 'task T1', 'task T2', 'T1 holds'])
+        slices = [(names[e['tid']], e['name'], e['ts'], e['dur']) for e in events if e['ph'] == 'X']
+        self.assertIn(('task T1', 'interrupted', 1, 1), slices)
+        self.assertIn(('processor', 'idle', 2, 1), slices)
+        self.assertIn(('T1 holds', 'Res', 1, 1), slices)
+        self.assertEqual([e['name'] for e in events if e['ph'] == 'i'],
+                         ['Startup', 'PreTask', 'E_OS_LIMIT', 'Error', 'E_OK', '@I requested'])
+
+    def test_btf(self):
+        lines = ''.join(btf.dump(trace_of('0 T1 T1=R T2=S\n1 @I T1=R+Q T2=S\n2 T2 T1=Y T2=R\n3 T1 T1=R T2=W:0\n4 - T1=S T2=W:0\n'), [(1, '@I')]))
+        self.assertEqual([line.split(',', 1)[0] + ' ' + ' '.join(line.split(',')[3:]) for line in lines.splitlines()[4:]], [
+            '0 T T1 0 activate', '0 T T1 0 start', '1 I I 0 activate', '1 SEM Q 0 lock', '1 T T1 0 preempt', '1 I I 0 start',
+            '2 SEM Q 0 unlock', '2 I I 0 terminate', '2 T T2 0 activate', '2 T T2 0 start', '3 T T2 0 wait', '3 T T1 0 resume',
+            '4 T T1 0 terminate'])
+
+    def test_a_task_may_be_called_as_a_note_is(self):
+        lines = list(trace_of('0 status status=R Startup=Y ^Startup\n1 Startup status=S Startup=R !E_OK\n'))
+        chart = timeline_chart.Chart(lines, None, [])
+        self.assertEqual(len(set(chart.rows.values())), 5)
+
+    def test_dense_notes_are_drawn_as_how_many_there_are(self):
+        text = ''.join('%d T1 T1=R !E_OK =5\n' % n for n in range(500))
+        svg = timeline_chart.chart(list(trace_of(text)), None, [], '')
+        self.assertNotIn('5', words_of(svg))
+        self.assertIn('of status from', svg)
+        self.assertLess(svg.count('<rect'), 600)
+
+    def test_a_long_trace_is_read_as_far_as_it_is_drawn(self):
+        def lines():
+            yield from ('%d T1 T1=R\n' % n for n in range(10))
+            raise AssertionError('read too far')
+        file = lines()
+        found = timeline.Trace(type('File', (), {'seek': lambda self, at: None, '__iter__': lambda self: file})(), 'a', 2, 5)
+        self.assertEqual([line.number for line in found], [2, 3, 4, 5])
 
     def test_identifiers_differ(self):
         self.assertEqual(len({vcd.identifier(n) for n in range(20000)}), 20000)
 
     def test_the_chart_names_all_that_stands_in_it(self):
-        words = words_of(timeline_chart.chart(timeline.read_trace(TRACE), [(1, '@I')], 'A < B'))
+        words = words_of(timeline_chart.chart(list(trace_of(TRACE)), None, [(1, '@I')], 'A < B'))
         for word in ('A < B', 'T1', 'T2', '@I', 'LIMIT', '9', 'holds Res', 'requested', 'Startup', '1f'):
             self.assertIn(word, words)
         self.assertNotIn('tick routine', words)
 
     def test_a_trace_that_traps_is_drawn(self):
-        self.assertIn('trap', words_of(timeline_chart.chart(timeline.read_trace('0 T1 T1=R\ntrap 1\n'), [], '')))
+        self.assertIn('trap', words_of(timeline_chart.chart(list(trace_of('0 T1 T1=R\n')), 1, [], '')))
 
 
 class LongTexts(unittest.TestCase):
@@ -239,4 +336,4 @@ class LongTexts(unittest.TestCase):
 
 
 if __name__ == '__main__':
-    unittest.main()
+    unittest.main(module=None, argv=[sys.argv[0], 'discover', '-s', os.path.dirname(os.path.abspath(__file__)), '-p', 'test_*.py'] + sys.argv[1:])

@@ -1,17 +1,21 @@
 #!/usr/bin/env python3
 """Draws a trace of osekfit, the text of `replay` or `trace`, as a chart over events.
 
-The chart is an SVG file: a row for each routine and task, and below them what was noted. With --vcd the same comes out as a
-value change dump, which viewers of waves read: one unit of time is one event.
+The chart is an SVG file: a row for each routine and task, and below them what was noted. In other forms one unit of time is one event:
+--vcd is a value change dump for viewers of waves, --perfetto a JSON text for ui.perfetto.dev, --btf a text in the Best Trace Format of
+timing tools. A long trace is read line by line, and no more of it is kept than is drawn.
 
     osekfit replay a.image OSDEFAULTAPPMODE a.events | tools/timeline.py --events a.events > a.svg
+    tools/timeline.py --first 2000 --last 2100 a.trace > a.svg
     tools/timeline.py --vcd a.trace > a.vcd
 """
 import argparse
+import shutil
 import sys
+import tempfile
 from collections import namedtuple
 
-from given import contents
+from given import Wrong, contents, opened, run
 
 STATES = {'S': 'suspended', 'Y': 'ready', 'R': 'running', 'W': 'waiting'}
 
@@ -29,8 +33,49 @@ Task = namedtuple('Task', 'state events held')
 Line = namedtuple('Line', 'number who tasks status value hooks')
 """A line of a trace: its number, who has the processor, the tasks by name, and what was noted."""
 
-Trace = namedtuple('Trace', 'lines trap')
-"""The lines of a trace, and the number of the event at which the image trapped, or None."""
+class Trace:
+    """The lines of a trace in a range of numbers. They are read anew each time that they are gone through."""
+
+    def __init__(self, file, name='the trace', first=0, last=None):
+        self.file, self.name, self.first, self.last = file, name, first, last
+        self.trap = None
+
+    def __iter__(self):
+        self.file.seek(0)
+        for place, text in enumerate(self.file, 1):
+            text = text.rstrip('\r\n')
+            number = number_of(text, self.name, place)
+            if text.startswith('trap '):
+                self.trap = number
+            elif self.last is not None and number > self.last:
+                return
+            elif number >= self.first:
+                yield line_at(text, self.name, place)
+
+
+def number_of(text, name, place):
+    """The number of a line, or of the event at which the image trapped."""
+    word = text[5:] if text.startswith('trap ') else text.partition(' ')[0]
+    if not (word.isascii() and word.isdigit()):
+        raise Wrong('%s:%d: no line of a trace: %s' % (name, place, text[:60]))
+    return int(word)
+
+
+def line_at(text, name, place):
+    try:
+        return line_of(text)
+    except (ValueError, IndexError):
+        raise Wrong('%s:%d: no line of a trace: %s' % (name, place, text[:60])) from None
+
+
+def trace_of(name, first=0, last=None):
+    """The trace in a file of this name, or on standard input, which is kept in a file meanwhile."""
+    file = opened(name)
+    if not file.seekable():
+        kept = tempfile.TemporaryFile('w+', encoding='utf-8', errors='surrogateescape', newline='')
+        shutil.copyfileobj(file, kept)
+        file = kept
+    return Trace(file, name or 'standard input', first, last)
 
 
 def task_of(word):
@@ -44,6 +89,8 @@ def task_of(word):
 
 def line_of(text):
     words = text.split(' ')
+    if not words[1]:
+        raise ValueError(text)
     tasks, status, value, hooks = {}, None, None, []
     for word in words[2:]:
         if word[0] == '!':
@@ -58,17 +105,6 @@ def line_of(text):
     return Line(int(words[0]), words[1], tasks, status, value, hooks)
 
 
-def read_trace(text):
-    """The trace that a text says; a line of another form is a ValueError."""
-    lines, trap = [], None
-    for line in text.splitlines():
-        if line.startswith('trap '):
-            trap = int(line[5:])
-        else:
-            lines.append(line_of(line))
-    return Trace(lines, trap)
-
-
 def requests_of(text):
     """The requests of an event text, irq and tick alone: pairs of the event's number and the name of its source."""
     found, number = [], 0
@@ -81,42 +117,61 @@ def requests_of(text):
     return found
 
 
-def routines_of(trace, requests=()):
-    """The names of the routines that a trace shows or events ask for, in the order in which they come."""
-    names = [name for _, name in requests] + [line.who for line in trace.lines if line.who[0] in '@%']
-    return list(dict.fromkeys(names))
+def routines_of(lines, requests=()):
+    """The names of the routines that lines show or events ask for, in the order in which they come."""
+    names = dict.fromkeys(name for _, name in requests)
+    for line in lines:
+        if line.who[0] in '@%':
+            names.setdefault(line.who)
+    return list(names)
 
 
 def arguments():
     parser = argparse.ArgumentParser(description=__doc__, formatter_class=argparse.RawDescriptionHelpFormatter)
     parser.add_argument('trace', nargs='?', help='the text of a trace (standard input where it is missing)')
     parser.add_argument('--events', metavar='FILE', help='the event text, to mark where interrupts and ticks were requested')
-    parser.add_argument('--vcd', action='store_true', help='a value change dump in place of SVG')
+    form = parser.add_mutually_exclusive_group()
+    form.add_argument('--vcd', action='store_true', help='a value change dump in place of SVG')
+    form.add_argument('--perfetto', action='store_true', help='a JSON text for ui.perfetto.dev in place of SVG')
+    form.add_argument('--btf', action='store_true', help='the Best Trace Format in place of SVG')
     parser.add_argument('--first', type=int, default=0, metavar='N', help='the first line that is drawn')
     parser.add_argument('--last', type=int, metavar='N', help='the last line that is drawn (in SVG at most %d lines are)' % MOST)
     parser.add_argument('--title', default='', help='a heading for the chart')
     return parser.parse_args()
 
 
-def part_of(trace, first, last):
-    return Trace([line for line in trace.lines if first <= line.number and (last is None or line.number <= last)], trace.trap)
+def drawn(trace, requests, title):
+    """The chart of a trace; of a longer one that of its first lines."""
+    import timeline_chart
+    lines = []
+    for line in trace:
+        if len(lines) == MOST:
+            sys.stderr.write('timeline.py: %d lines are drawn; --first and --last choose others\n' % MOST)
+            break
+        lines.append(line)
+    return timeline_chart.chart(lines, trace.trap, requests, title)
 
 
 def main():
     words = arguments()
-    trace = part_of(read_trace(contents(words.trace)), words.first, words.last)
+    trace = trace_of(words.trace, words.first, words.last)
     requests = requests_of(contents(words.events)) if words.events else []
-    if not trace.lines:
-        sys.exit('timeline.py: the trace has no such line')
+    if next(iter(trace), None) is None:
+        raise Wrong('%s: the trace has no such line' % trace.name)
     if words.vcd:
         import vcd
-        sys.stdout.write(vcd.dump(trace))
+        parts = vcd.dump(trace)
+    elif words.perfetto:
+        import perfetto
+        parts = perfetto.dump(trace, requests)
+    elif words.btf:
+        import btf
+        parts = btf.dump(trace, requests)
     else:
-        import timeline_chart
-        if len(trace.lines) > MOST:
-            sys.stderr.write('timeline.py: the first %d of %d lines are drawn\n' % (MOST, len(trace.lines)))
-        sys.stdout.write(timeline_chart.chart(Trace(trace.lines[:MOST], trace.trap), requests, words.title))
+        parts = [drawn(trace, requests, words.title)]
+    for part in parts:
+        sys.stdout.write(part)
 
 
 if __name__ == '__main__':
-    main()
+    run(main)

@@ -15,6 +15,12 @@ TOP, ROW, BAR, STRIP = 76, 30, 14, 4
 
 NOTE_ROW = 18
 
+DENSE, BIN = 8, 6
+"""Below this width of an event notes are drawn as how many there are in stretches of BIN."""
+
+ROUTINE, TASK, REST, NOTE = 'routine', 'task', 'rest', 'note'
+"""The kinds of rows: a row is known by its kind and its name, since a task may be called as a note is."""
+
 
 def state_of(line, name):
     """The state that is painted, or None for a suspended task."""
@@ -36,11 +42,11 @@ def spans(lines, value):
 
 
 class Chart:
-    def __init__(self, trace, requests):
-        self.lines, self.trap = trace.lines, trace.trap
+    def __init__(self, lines, trap, requests):
+        self.lines, self.trap = lines, trap
         shown = {line.number for line in self.lines}
         self.requests = [(n, name) for n, name in requests if n in shown]
-        self.routines = routines_of(trace, self.requests)
+        self.routines = routines_of(lines, self.requests)
         self.tasks = list(self.lines[0].tasks)
         self.resources = sorted({r for line in self.lines for task in line.tasks.values() for r in task.held})
         self.drawing = Drawing()
@@ -49,18 +55,27 @@ class Chart:
         self.rows = self.row_places()
 
     def row_places(self):
-        """The top of each row, by what it shows."""
+        """The top of each row, by its kind and name."""
         places, y = {}, TOP
-        for name in self.routines + self.tasks:
-            places[name] = y
-            y += ROW + STRIP * max([len(line.tasks[name].held) for line in self.lines if name in line.tasks], default=0)
-        places['-'] = y
+        for row in [(ROUTINE, name) for name in self.routines] + [(TASK, name) for name in self.tasks]:
+            places[row] = y
+            y += ROW + STRIP * (max(len(line.tasks[row[1]].held) for line in self.lines) if row[0] == TASK else 0)
+        places[REST, '-'] = y
         y += ROW + 8
         for name in self.note_names():
-            places[name] = y
+            places[NOTE, name] = y
             y += NOTE_ROW
         self.floor = y + 4
         return places
+
+    def row_of(self, who):
+        """The row of who has the processor."""
+        if who in '-#':
+            return REST, '-'
+        return (ROUTINE, who) if who[0] in '@%' else (TASK, who)
+
+    def is_dense(self):
+        return self.step < DENSE
 
     def note_names(self):
         names = ['status'] + (['value'] if any(line.value for line in self.lines) else [])
@@ -87,7 +102,7 @@ class Chart:
         for name in self.tasks:
             self.paint_task(name)
         for begin, end, who in spans(self.lines, lambda line: line.who if line.who in '-#' else None):
-            d.rect(self.x(begin), self.rows['-'] + 8, self.step * (end - begin), BAR, FAINT if who == '-' else INK, rx=2)
+            d.rect(self.x(begin), self.rows[REST, '-'] + 8, self.step * (end - begin), BAR, FAINT if who == '-' else INK, rx=2)
         self.paint_switches()
         self.paint_notes()
         self.paint_trap()
@@ -96,13 +111,12 @@ class Chart:
     def paint_ground(self):
         d, right = self.drawing, self.x(len(self.lines))
         tops = sorted(self.rows.values()) + [self.floor - 4]
-        for k, (name, y) in enumerate(self.rows.items()):
+        for k, ((kind, name), y) in enumerate(self.rows.items()):
             if k % 2 == 0:
                 d.rect(8, y, right - 8, tops[tops.index(y) + 1] - y, '#f6f8fa')
-            size = 13 if name in self.tasks else 12
-            middle = y + (NOTE_ROW - 5 if name in self.note_names() else 20)
-            text = {'-': 'idle, halted'}.get(name, name)
-            d.text(16, middle, text, size=size, fill=INK if name in self.tasks else '#57606a')
+            size, colour = (13, INK) if kind == TASK else (12, '#57606a')
+            middle = y + (NOTE_ROW - 5 if kind == NOTE else 20)
+            d.text(16, middle, 'idle, halted' if kind == REST else name, size=size, fill=colour)
 
     def paint_axis(self):
         d = self.drawing
@@ -115,7 +129,7 @@ class Chart:
                 d.text(x + self.step / 2, TOP - 10, str(line.number), size=11, fill=FAINT, anchor='middle')
 
     def paint_routine(self, name):
-        d, y, colour = self.drawing, self.rows[name], ROUTINE_COLOURS[name[0]]
+        d, y, colour = self.drawing, self.rows[ROUTINE, name], ROUTINE_COLOURS[name[0]]
         for number in [n for n, source in self.requests if source == name]:
             begin = self.place_of(number)
             until = next((p for p in range(begin + 1, len(self.lines)) if self.begins(name, p)), len(self.lines))
@@ -130,7 +144,7 @@ class Chart:
         return self.lines[place].who == name and self.lines[place - 1].who != name
 
     def paint_task(self, name):
-        d, y = self.drawing, self.rows[name]
+        d, y = self.drawing, self.rows[TASK, name]
         d.line(self.x(0), y + 8 + BAR / 2, self.x(len(self.lines)), y + 8 + BAR / 2, LINE, stroke_width=1)
         for begin, end, state in spans(self.lines, lambda line: state_of(line, name)):
             title = '%s is %s from %d to %d' % (name, state, self.lines[begin].number, self.lines[end - 1].number)
@@ -158,31 +172,48 @@ class Chart:
     def paint_switches(self):
         """A line from who had the processor to who has it."""
         for place in range(1, len(self.lines)):
-            before, after = (self.rows.get(self.lines[p].who, self.rows['-']) for p in (place - 1, place))
+            before, after = (self.rows[self.row_of(self.lines[p].who)] for p in (place - 1, place))
             if before != after:
                 x = self.x(place)
                 self.drawing.line(x, min(before, after) + 8 + BAR / 2, x, max(before, after) + 8 + BAR / 2, INK, stroke_width=1)
 
     def paint_notes(self):
+        if self.is_dense():
+            for name in self.note_names():
+                self.paint_density(name)
+            return
         for place, line in enumerate(self.lines):
             if line.status:
                 self.paint_status(place, line)
             if line.value:
                 self.note_text(place, 'value', line.value, INK)
             for hook in line.hooks:
-                x, y = self.x(place) + self.step / 2, self.rows[hook] + NOTE_ROW / 2
+                x, y = self.x(place) + self.step / 2, self.rows[NOTE, hook] + NOTE_ROW / 2
                 colour, title = BAD if hook == 'Error' else '#57606a', '%s at %d' % (hook, line.number)
                 self.drawing.rect(x - 3, y - 3, 6, 6, colour, rx=1, title=title)
 
+    def paint_density(self, name):
+        """How many notes of a kind come in each stretch: the darker the more, and errors above the rest."""
+        here = max(1, round(BIN / self.step))
+        for begin in range(0, len(self.lines), here):
+            part = self.lines[begin:begin + here]
+            noted = [line for line in part if has_note(line, name)]
+            bad = [line for line in noted if name == 'Error' or (name == 'status' and line.status != 'E_OK')]
+            for lines, colour, height in ((noted, GOOD if name == 'status' else '#57606a', NOTE_ROW - 8), (bad, BAD, (NOTE_ROW - 8) / 2)):
+                if lines:
+                    title = '%d of %s from %d to %d' % (len(lines), name, part[0].number, part[-1].number)
+                    self.drawing.rect(self.x(begin), self.rows[NOTE, name] + 4, self.step * len(part), height, colour,
+                                      fill_opacity=0.25 + 0.75 * len(lines) / len(part), title=title)
+
     def paint_status(self, place, line):
-        x, y = self.x(place) + self.step / 2, self.rows['status'] + NOTE_ROW / 2
+        x, y = self.x(place) + self.step / 2, self.rows[NOTE, 'status'] + NOTE_ROW / 2
         good = line.status == 'E_OK'
         self.drawing.circle(x, y, 3.2, GOOD if good else BAD, title='%s at %d' % (line.status, line.number))
         if not good:
             self.note_text(place, 'status', line.status.replace('E_OS_', ''), BAD, 6)
 
     def note_text(self, place, row, text, colour, shift=0):
-        x, y = self.x(place) + self.step / 2 + shift, self.rows[row] + NOTE_ROW / 2 + 3.5
+        x, y = self.x(place) + self.step / 2 + shift, self.rows[NOTE, row] + NOTE_ROW / 2 + 3.5
         self.drawing.text(x, y, text, size=9, fill=colour, anchor=None if shift else 'middle')
 
     def paint_trap(self):
@@ -201,9 +232,12 @@ class Chart:
             self.paint_key(x, y, mark, colour)
             d.text(x + 30, y + 4, text, size=11)
             x += 30 + 6.2 * len(text) + 18
-        if any(task.events is not None for line in self.lines for task in line.tasks.values()):
+        if self.step >= 10 and any(task.events is not None for line in self.lines for task in line.tasks.values()):
             y += 20
             d.text(16, y + 4, 'A number in a bar: the events that are set from here on, in hexadecimal.', size=11)
+        if self.is_dense():
+            y += 20
+            d.text(16, y + 4, 'Notes are drawn as how many there are: the darker the more.', size=11)
         return y + 22
 
     def keys(self):
@@ -234,6 +268,11 @@ class Chart:
             d.circle(x + 12, y, 3.2, colour)
 
 
-def chart(trace, requests, title):
-    """The drawing of a trace that has a line."""
-    return Chart(trace, requests).paint(title)
+def has_note(line, name):
+    """Whether a line notes what a row shows."""
+    return {'status': line.status is not None, 'value': line.value is not None}.get(name, name in line.hooks)
+
+
+def chart(lines, trap, requests, title):
+    """The drawing of the lines of a trace, of which there is one at least."""
+    return Chart(lines, trap, requests).paint(title)

@@ -5,7 +5,7 @@ resource that it holds somewhere is a wire. A routine is a wire that is 1 while 
 its event. The status is a number, and x where none was noted."""
 from collections import namedtuple
 
-from timeline import HOOKS, STATUSES, routines_of
+from timeline import HOOKS, STATUSES
 
 Signal = namedtuple('Signal', 'scope name width value')
 """A signal: value gives its bits at a line of the trace."""
@@ -32,26 +32,43 @@ def vector(scope, name, width, number):
     return Signal(scope, name, width, bits)
 
 
-def signals_of(trace):
+class Seen:
+    """What a trace shows anywhere: its tasks, routines and hooks, who has events, and what each task holds."""
+
+    def __init__(self, trace):
+        self.tasks, self.routines, self.hooks, self.extended, self.held = {}, {}, set(), set(), {}
+        for line in trace:
+            if line.who[0] in '@%':
+                self.routines.setdefault(line.who)
+            self.hooks.update(line.hooks)
+            for name, task in line.tasks.items():
+                self.tasks.setdefault(name)
+                if task.events is not None:
+                    self.extended.add(name)
+                if task.held:
+                    self.held.setdefault(name, set()).update(task.held)
+
+
+def signals_of(seen):
     found = [wire('processor', 'idle', lambda line: line.who == '-'), wire('processor', 'halted', lambda line: line.who == '#')]
-    for who in routines_of(trace):
+    for who in seen.routines:
         name = ('isr_' if who[0] == '@' else 'tick_') + who[1:]
         found.append(wire('processor', name, lambda line, who=who: line.who == who))
-    for task in trace.lines[0].tasks:
-        found += task_signals(trace, task)
+    for task in seen.tasks:
+        found += task_signals(seen, task)
     found.append(vector('notes', 'status', 4, lambda line: STATUSES.index(line.status) if line.status else None))
     for hook in HOOKS:
-        if any(hook in line.hooks for line in trace.lines):
+        if hook in seen.hooks:
             found.append(wire('notes', hook, lambda line, hook=hook: hook in line.hooks))
     return found
 
 
-def task_signals(trace, task):
+def task_signals(seen, task):
     found = [vector(task, 'state', 8, lambda line: ord(line.tasks[task].state)),
              wire(task, 'running', lambda line: line.who == task)]
-    if any(line.tasks[task].events is not None for line in trace.lines):
+    if task in seen.extended:
         found.append(vector(task, 'events', 64, lambda line: events_of(line.tasks[task])))
-    for resource in sorted({r for line in trace.lines for r in line.tasks[task].held}):
+    for resource in sorted(seen.held.get(task, ())):
         found.append(wire(task, 'holds_' + resource, lambda line, r=resource: r in line.tasks[task].held))
     return found
 
@@ -76,15 +93,16 @@ def change(signal, number, bits):
 
 
 def dump(trace):
-    """The dump of a trace that has a line."""
-    signals = signals_of(trace)
-    lines, last = declarations(signals), [None] * len(signals)
-    for place, line in enumerate(trace.lines):
+    """The dump of a trace that has a line, part by part."""
+    signals = signals_of(Seen(trace))
+    yield '\n'.join(declarations(signals)) + '\n'
+    last, begin, number = [None] * len(signals), '$dumpvars', 0
+    for line in trace:
         now = [signal.value(line) for signal in signals]
         changes = [change(s, k, bits) for k, (s, bits) in enumerate(zip(signals, now)) if bits != last[k]]
-        if place == 0:
-            changes = ['$dumpvars'] + changes + ['$end']
+        if begin:
+            changes, begin = [begin] + changes + ['$end'], None
         if changes:
-            lines += ['#%d' % line.number] + changes
-        last = now
-    return '\n'.join(lines + ['#%d' % (trace.lines[-1].number + 1), ''])
+            yield '\n'.join(['#%d' % line.number] + changes) + '\n'
+        last, number = now, line.number
+    yield '#%d\n' % (number + 1)

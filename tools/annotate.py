@@ -1,0 +1,121 @@
+#!/usr/bin/env python3
+"""Puts beside each line of a trace the source line and the statement that did it, or says what event texts reached of an application.
+
+    tools/annotate.py a.oil a.code a.events                                the trace, annotated
+    tools/annotate.py --trace a.trace a.oil a.code a.events                the same of a trace that osekfit printed
+    tools/annotate.py --coverage a.oil a.code a.events b.events            statements and choices that these reached
+    tools/annotate.py --coverage --show a.show a.oil a.code a.events       with outcomes of sites and edges of `osekfit show`
+
+Which statement it was is told by the model of model.py, which plays the events too. A given trace has to be what the model prints, and
+each edge that is taken has to be one of `show`: where not, this is told and the status is 2. With --least N the status of --coverage is
+1 where less than N percent of some row was reached.
+"""
+import argparse
+import os
+import sys
+
+import covered
+import model
+from application import application_of
+from given import Wrong, contents, run
+from oil import DEFAULT_MODE
+from states import ARRIVAL, HALTED, IDLE, Routine, place_of
+
+
+def told(app, before, step, words, files):
+    """What an event did: the statement with its line, or what came of a request."""
+    if words is None:
+        return 'the start'
+    if words[0] != 'run':
+        kept = 'is requested already, and this is lost' if step.state == before else 'is requested'
+        return '%s %s' % (words[1], kept)
+    if step.shown == ARRIVAL:
+        return 'the routine of %s begins' % source_of(app, step.state).name
+    if before.processor in (IDLE, HALTED):
+        return 'nothing: the processor is %s' % before.processor
+    block = app.blocks[place_of(before)[0]]
+    if block.owner.kind == 'TICK':
+        return 'tick routine of %s: %s' % (block.owner.name, block.text)
+    end = 'end of %s' % block.owner.name
+    chosen = ' choice %s' % words[1] if block.word == 'choice' else ''
+    return '%s:%d: %s%s' % (files.code, block.line, end if block.word == 'end' else block.text, chosen)
+
+
+def source_of(app, state):
+    return app.sources[state.processor.source] if isinstance(state.processor, Routine) else None
+
+
+def annotated(app, files):
+    """The lines of the trace, each with what did it."""
+    name = files.events[0]
+    given = contents(files.trace).splitlines() if files.trace else None
+    before, lines = None, []
+    for number, (step, words, _) in enumerate(model.play(app, files.mode, model.events_of(contents(name), name), name)):
+        text = model.line(app, number, step)
+        if given is not None and number < len(given) and given[number] != text:
+            raise Wrong('%s:%d: the trace is not that of these texts: %s is due' % (files.trace, number + 1, text))
+        lines.append((text, told(app, before, step, words, files)))
+        before = step.state
+    if given is not None and len(given) != len(lines):
+        raise Wrong('%s: the trace has %d lines, and %d are due' % (files.trace, len(given), len(lines)))
+    return lines
+
+
+def print_annotated(lines):
+    width = min(100, max(len(text) for text, _ in lines))
+    for text, what in lines:
+        sys.stdout.write('%s  | %s\n' % (text.ljust(width), what))
+
+
+def reached(app, files):
+    """What the event texts reached together."""
+    found = covered.Reached(app)
+    for name in files.events:
+        before = None
+        for step, words, _ in model.play(app, files.mode, model.events_of(contents(name), name), name):
+            if words is not None and words[0] == 'run':
+                found.take(before, step, words[1])
+            before = step.state
+    return found
+
+
+def print_coverage(rows, least):
+    """Prints the rows in numbers, then what wasn't reached; the status."""
+    is_low = False
+    for row in rows:
+        share = 100 * row.reached // row.all if row.all else 100
+        sys.stdout.write('%-10s %4d of %4d  %3d %%\n' % (row.name, row.reached, row.all, share))
+        is_low = is_low or share < least
+    for row in rows:
+        for text in row.missed:
+            sys.stdout.write('not reached: %s\n' % text)
+    return 1 if is_low else 0
+
+
+def arguments():
+    parser = argparse.ArgumentParser(description=__doc__, formatter_class=argparse.RawDescriptionHelpFormatter)
+    parser.add_argument('oil', metavar='OIL')
+    parser.add_argument('code', metavar='CODE')
+    parser.add_argument('events', nargs='+', metavar='EVENTS')
+    parser.add_argument('--mode', default=DEFAULT_MODE)
+    parser.add_argument('--trace', metavar='FILE', help='the trace that osekfit printed, which is compared')
+    parser.add_argument('--coverage', action='store_true', help='what was reached, in place of a trace')
+    parser.add_argument('--show', metavar='FILE', help='the text of `osekfit show`, for outcomes and edges')
+    parser.add_argument('--least', type=int, default=0, metavar='N', help='the percentage of each row that has to be reached')
+    return parser.parse_args()
+
+
+def main():
+    files = arguments()
+    if not files.coverage and len(files.events) > 1:
+        raise Wrong('one event text gives one trace; several go with --coverage')
+    app = application_of(contents(files.oil), contents(files.code), (files.oil, files.code))
+    if not files.coverage:
+        print_annotated(annotated(app, files))
+        return 0
+    show = contents(files.show) if files.show else None
+    return print_coverage(covered.rows(app, reached(app, files), os.path.basename(files.code), show, files.show), files.least)
+
+
+if __name__ == '__main__':
+    run(main)

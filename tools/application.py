@@ -1,0 +1,118 @@
+"""An application: the system that an OIL text declares, with the blocks of its task code and of its tick routines. The two texts are
+taken to be without fault."""
+from collections import namedtuple
+
+import oil
+import task_code
+from given import Wrong
+from task_code import Block, Owner
+
+Source = namedtuple('Source', 'mark name first')
+"""A source of interrupts: a counter (%) or a category 2 ISR (@), and the first block of its routine."""
+
+SITE_CALLS = {'ActivateTask', 'TerminateTask', 'ChainTask', 'Schedule', 'ReleaseResource', 'SetEvent', 'WaitEvent', 'end'}
+"""The statements of a task after which the kernel may dispatch another task."""
+
+SHAPES = {
+    'ActivateTask': 't', 'TerminateTask': '', 'ChainTask': 't', 'Schedule': '', 'GetTaskID': '', 'GetTaskState': 't',
+    'GetResource': 'r', 'ReleaseResource': 'r', 'SetEvent': 'tm', 'ClearEvent': 'm', 'GetEvent': 't', 'WaitEvent': 'm',
+    'SetRelAlarm': 'ann', 'SetAbsAlarm': 'ann', 'CancelAlarm': 'a', 'GetAlarm': 'a', 'GetActiveApplicationMode': '', 'ShutdownOS': 's',
+    'SuspendAllInterrupts': '', 'ResumeAllInterrupts': '', 'SuspendOSInterrupts': '', 'ResumeOSInterrupts': '',
+    'DisableAllInterrupts': '', 'EnableAllInterrupts': '',
+}
+"""The services, each with its arguments: a task, a resource, a mask of events, an alarm, a number, a status."""
+
+
+class Application:
+    """The tables of an application, by number, and what is looked up in them."""
+
+    def __init__(self, system, blocks):
+        self.hooks, self.modes = system.hooks, system.modes
+        self.tasks, self.alarms = list(system.tasks.values()), list(system.alarms.values())
+        self.counters, self.resources = list(system.counters.values()), list(system.resources.values())
+        self.events = system.events
+        self.task_number = {task.name: k for k, task in enumerate(self.tasks)}
+        self.alarm_number = {alarm.name: k for k, alarm in enumerate(self.alarms)}
+        self.counter_number = {counter.name: k for k, counter in enumerate(self.counters)}
+        self.resource_number = {resource.name: k for k, resource in enumerate(self.resources)}
+        self.written = len(blocks)
+        self.blocks = list(blocks)
+        ticks = [Source('%', counter.name, self.add_tick_routine(counter)) for counter in self.counters]
+        firsts = first_blocks(blocks)
+        self.first = [firsts[Owner('TASK', task.name)] for task in self.tasks]
+        self.sources = ticks + [Source('@', isr.name, firsts[Owner('ISR', isr.name)])
+                                for isr in system.isrs.values() if isr.category == 2]
+
+    def add_tick_routine(self, counter):
+        """Appends the blocks of a counter's routine: it counts, lets each of its alarms expire, and ends."""
+        first = len(self.blocks)
+        alarms = [alarm.name for alarm in self.alarms if alarm.counter == counter.name]
+        words = [('count', [])] + [('expire', [name]) for name in alarms] + [('end', [])]
+        for k, (word, arguments) in enumerate(words):
+            text = ' '.join([word] + arguments)
+            next_ = None if word == 'end' else first + k + 1
+            self.blocks.append(Block(Owner('TICK', counter.name), 0, text, word, arguments, False, next_, None))
+        return first
+
+    def is_site(self, number):
+        """Whether a block is a call site: a task's call that may dispatch, the end of a task, or that of a routine."""
+        block = self.blocks[number]
+        return block.word == 'end' if block.owner.kind != 'TASK' else block.word in SITE_CALLS
+
+    def sites(self):
+        return [number for number in range(len(self.blocks)) if self.is_site(number)]
+
+    def mask(self, names):
+        found = 0
+        for name in names:
+            found |= self.events[name]
+        return found
+
+    def blocks_of_task(self, task):
+        return [k for k, block in enumerate(self.blocks) if block.owner == Owner('TASK', self.tasks[task].name)]
+
+
+    def fault_of(self, block):
+        """Why a block of the text can't be done, or None: what its call names isn't there."""
+        if block.word in ('work', 'choice', 'loop', 'end'):
+            return None
+        shape = SHAPES.get(block.word)
+        if shape is None or len(shape) != len(block.arguments):
+            return '%s is no call of a service' % block.text
+        for letter, argument in zip(shape, block.arguments):
+            known = {'t': self.task_number, 'r': self.resource_number, 'm': self.events, 'a': self.alarm_number}.get(letter)
+            if (letter == 'n') != isinstance(argument, int):
+                return '%s has a wrong argument' % block.text
+            if known is not None and any(name not in known for name in argument):
+                return '%s names what is not declared' % block.text
+        return None
+
+
+def first_blocks(blocks):
+    found = {}
+    for number, block in enumerate(blocks):
+        found.setdefault(block.owner, number)
+    return found
+
+
+def joined(system, blocks, names):
+    """The application of a system and blocks; what keeps them from being one is told by the names of their files."""
+    declared = {Owner('TASK', name) for name in system.tasks}
+    declared |= {Owner('ISR', isr.name) for isr in system.isrs.values() if isr.category == 2}
+    for owner in sorted(declared ^ {block.owner for block in blocks}):
+        what = 'there is no code for' if owner in declared else 'the OIL text does not declare'
+        raise Wrong('%s: %s %s %s (osekfit says which rule is violated)' % (names[1], what, owner.kind, owner.name))
+    for alarm in system.alarms.values():
+        if alarm.counter not in system.counters or alarm.task not in system.tasks or alarm.event not in [None] + list(system.events):
+            raise Wrong('%s:%d: alarm %s names what is not declared' % (names[0], alarm.line, alarm.name))
+    app = Application(system, blocks)
+    for block in blocks:
+        fault = app.fault_of(block)
+        if fault:
+            raise Wrong('%s:%d: %s (osekfit says which rule is violated)' % (names[1], block.line, fault))
+    return app
+
+
+def application_of(oil_text, code_text, names=('the OIL text', 'the task code')):
+    """The application of the two texts; the names are the files', for what is told."""
+    return joined(oil.system_of(oil_text, names[0]), task_code.blocks_of(code_text, names[1]), names)

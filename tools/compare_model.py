@@ -1,0 +1,156 @@
+#!/usr/bin/env python3
+"""Compares a built osekfit with the model of model.py on small applications that are made at random.
+
+Each application has all kinds of objects and statements, right or wrong in use: what `trace` prints, and `replay` of the image that
+`build` stores, has to be what the model prints, in each mode; and `show` what it shows. An application that differs is kept.
+
+    tools/compare_model.py crates/osekfit/out/osekfit --count 100 --seed 7
+"""
+import argparse
+import os
+import random
+import shutil
+import subprocess
+import sys
+import tempfile
+
+import least_table
+import model
+from application import application_of
+from given import Wrong, run
+
+HOOKS = ['STARTUPHOOK', 'ERRORHOOK', 'SHUTDOWNHOOK', 'PRETASKHOOK', 'POSTTASKHOOK']
+
+LOCKS = [('SuspendAllInterrupts', 'ResumeAllInterrupts'), ('SuspendOSInterrupts', 'ResumeOSInterrupts'),
+         ('DisableAllInterrupts', 'EnableAllInterrupts')]
+
+FOR_TASKS = ['ActivateTask(%(task)s)', 'ActivateTask(%(task)s)', 'ChainTask(%(task)s)', 'TerminateTask()', 'Schedule()', 'GetResource(%(resource)s)',
+             'GetResource(%(resource)s)', 'ReleaseResource(%(resource)s)', 'ReleaseResource(%(resource)s)', 'WaitEvent(%(mask)s)', 'WaitEvent(%(mask)s)']
+
+FOR_ALL = ['work %(number)d', 'work %(number)d', 'SetEvent(%(task)s, %(mask)s)', 'ClearEvent(%(mask)s)', 'GetEvent(%(task)s)',
+           'SetRelAlarm(A, %(number)d, %(cycle)d)', 'SetAbsAlarm(A, %(number)d, %(cycle)d)', 'CancelAlarm(A)', 'GetAlarm(A)', 'GetTaskID()',
+           'GetTaskState(%(task)s)', 'GetActiveApplicationMode()', 'ActivateTask(%(task)s)']
+
+RARE = ['ShutdownOS(E_OK)', 'Schedule()', 'TerminateTask()', 'WaitEvent(%(mask)s)']
+"""Statements of routines that are refused, and the one that ends all."""
+
+
+class Maker:
+    """Makes the texts of a small application by a seed."""
+
+    def __init__(self, seed):
+        self.random = random.Random(seed)
+        self.tasks = ['T%d' % k for k in range(self.random.randint(1, 3))]
+        self.events = ['E%d' % k for k in range(self.random.randint(1, 2))]
+        self.has_alarm = self.random.random() < 0.6
+
+    def chance(self, share):
+        return self.random.random() < share
+
+    def oil(self):
+        priorities = self.random.sample(range(1, 9), len(self.tasks))
+        os_ = ' '.join('%s = TRUE;' % hook for hook in HOOKS if self.chance(0.5)) + (' USERESSCHEDULER = FALSE;' if self.chance(0.5) else '')
+        lines = ['OS os { %s };' % os_, 'APPMODE M1;', 'RESOURCE R;', 'COUNTER C { MAXALLOWEDVALUE = 3; };', 'ISR I { CATEGORY = 2; };']
+        lines += ['EVENT %s%s;' % (e, self.random.choice(['', ' { MASK = 6; }'])) for e in self.events]
+        lines += [self.task(*pair) for pair in zip(self.tasks, priorities)]
+        lines += [self.alarm()] if self.has_alarm else []
+        return 'CPU c {\n%s\n};\n' % '\n'.join(lines)
+
+    def task(self, name, priority):
+        words = ['PRIORITY = %d;' % priority, 'AUTOSTART = %s;' % self.random.choice(['TRUE', 'TRUE { APPMODE = M1; }', 'FALSE'])]
+        words += ['SCHEDULE = NON;'] if self.chance(0.2) else []
+        words += ['RESOURCE = R;'] if self.chance(0.6) else []
+        return 'TASK %s { %s };' % (name, ' '.join(words + ['EVENT = %s;' % e for e in self.events if self.chance(0.5)]))
+
+    def alarm(self):
+        task = self.random.choice(self.tasks)
+        action = self.random.choice(['ACTIVATETASK { TASK = %s; }' % task, 'SETEVENT { TASK = %s; EVENT = %s; }' % (task, self.events[0])])
+        start = self.random.choice(['FALSE', 'TRUE { ALARMTIME = 2; CYCLETIME = %d; }' % self.random.choice([0, 2])])
+        return 'ALARM A { COUNTER = C; ACTION = %s; AUTOSTART = %s; };' % (action, start)
+
+    def code(self):
+        bodies = ['TASK(%s) {\n%s}\n' % (name, self.statements(FOR_ALL + FOR_TASKS, 6)) for name in self.tasks]
+        return ''.join(bodies) + 'ISR(I) {\n%s}\n' % self.statements(FOR_ALL + RARE, 3)
+
+    def statements(self, words, most, depth=0):
+        return ''.join(self.statement(words, depth) + '\n' for _ in range(self.random.randint(1, most)))
+
+    def statement(self, words, depth):
+        if depth < 2 and self.chance(0.25):
+            return self.nested(words, depth + 1)
+        text = self.random.choice([w for w in words if self.has_alarm or '(A' not in w]) % {
+            'task': self.random.choice(self.tasks), 'resource': 'R', 'number': self.random.randint(1, 4), 'cycle': self.random.choice([0, 0, 2, 5]),
+            'mask': ' | '.join(self.random.sample(self.events, self.random.randint(1, len(self.events))))}
+        return text + ';'
+
+    def nested(self, words, depth):
+        inner = self.statements(words, 2, depth)
+        kind = self.random.randrange(4)
+        if kind == 0:
+            opener, closer = self.random.choice(LOCKS)
+            return '%s(); work %d; %s();' % (opener, self.random.randint(1, 2), closer)
+        head = ['', 'if (?)', 'while (?)', 'while (1)'][kind]
+        return '%s {\n%s}%s' % (head, inner, ' else { work 1; }' if kind == 1 and self.chance(0.5) else '')
+
+    def events_text(self, count):
+        return ''.join(self.random.choice(['run 0', 'run 1', 'run 0', 'run 1', 'irq I', 'tick C']) + '\n' for _ in range(count))
+
+
+def answer(program, words, folder):
+    done = subprocess.run([program] + words, cwd=folder, stdin=subprocess.DEVNULL, stdout=subprocess.PIPE, stderr=subprocess.PIPE)
+    return (done.stdout + done.stderr).decode('latin-1')
+
+
+def differences(program, folder, events):
+    """The commands whose answers differ from the model's over the texts of a folder."""
+    texts = []
+    for name in ('a.oil', 'a.code'):
+        with open(os.path.join(folder, name), encoding='ascii') as file:
+            texts.append(file.read())
+    app, found = application_of(*texts), []
+    if answer(program, ['build', 'a.oil', 'a.code', 'a.image'], folder):
+        found.append('build')
+    for mode in app.modes:
+        due = ''.join(model.line(app, n, step) + '\n' for n, (step, _, _) in enumerate(model.play(app, mode, events)))
+        found += ['trace %s' % mode] if answer(program, ['trace', 'a.oil', 'a.code', mode, 'a.events'], folder) != due else []
+        found += ['replay %s' % mode] if answer(program, ['replay', 'a.image', mode, 'a.events'], folder) != due else []
+    return found + (['show'] if answer(program, ['show', 'a.oil', 'a.code'], folder) != least_table.show(app) else [])
+
+
+def compare(program, seed, folder):
+    """Makes the application of a seed in a folder, and says what differs."""
+    maker = Maker(seed)
+    texts = {'a.oil': maker.oil(), 'a.code': maker.code(), 'a.events': maker.events_text(200)}
+    for name, text in texts.items():
+        with open(os.path.join(folder, name), 'w', encoding='ascii') as file:
+            file.write(text)
+    return differences(program, folder, model.events_of(texts['a.events']))
+
+
+def arguments():
+    parser = argparse.ArgumentParser(description=__doc__, formatter_class=argparse.RawDescriptionHelpFormatter)
+    parser.add_argument('program', metavar='PROGRAM', help='the built osekfit')
+    parser.add_argument('--count', type=int, default=100, metavar='N', help='how many applications are made')
+    parser.add_argument('--seed', type=int, default=1, metavar='N', help='the seed of the first; each further one is one more')
+    return parser.parse_args()
+
+
+def main():
+    words = arguments()
+    program, wrong = os.path.abspath(words.program), 0
+    if not os.access(program, os.X_OK):
+        raise Wrong('%s: no program' % words.program)
+    for seed in range(words.seed, words.seed + words.count):
+        folder = tempfile.mkdtemp(prefix='osekfit-model-')
+        found = compare(program, seed, folder)
+        if found:
+            wrong += 1
+            print('seed %d: %s differ: %s' % (seed, ', '.join(found), folder))
+        else:
+            shutil.rmtree(folder)
+    print('%d applications, %d differ' % (words.count, wrong))
+    return 1 if wrong else 0
+
+
+if __name__ == '__main__':
+    run(main)

@@ -1,0 +1,159 @@
+#!/usr/bin/env python3
+"""Prints the house in numbers: crates, lines of code, of definitions and of proofs, files, must-fail edits.
+
+With --gate it runs the gate beside and adds the processor minutes that its proofs, tests and edits took, by crate: once a second it looks at
+the processes of the run, so what ends within a second may be missed. The gate's output goes to the file that --log names.
+
+    tools/house.py
+    tools/house.py --crates                      a line for each crate
+    tools/house.py --gate --log gate.log
+"""
+import argparse
+import os
+import subprocess
+import sys
+import time
+from collections import Counter, namedtuple
+
+from given import Wrong, run
+
+ROOT = os.path.dirname(os.path.dirname(os.path.abspath(__file__)))
+
+CRATES = os.path.join(ROOT, 'crates')
+
+Sizes = namedtuple('Sizes', 'code definitions proofs files edits')
+
+PARTS = {'src': 'code', 'specs': 'definitions', 'proofs': 'proofs'}
+
+KINDS = ('proofs', 'tests', 'edits')
+
+TICKS = os.sysconf('SC_CLK_TCK')
+
+
+def files_of(folder, ending):
+    return [os.path.join(at, name) for at, _, names in os.walk(folder) for name in names if name.endswith(ending)]
+
+
+def lines_of(file):
+    with open(file, 'rb') as text:
+        return text.read().count(b'\n')
+
+
+def sizes_of(crate):
+    """The sizes of a crate: lines by part, files of all parts, edits."""
+    lines, files = Counter(), 0
+    for part, name in PARTS.items():
+        for file in files_of(os.path.join(CRATES, crate, part), ('.rt', '.antt')):
+            lines[name] += lines_of(file)
+            files += 1
+    return Sizes(lines['code'], lines['definitions'], lines['proofs'], files, len(files_of(os.path.join(CRATES, crate, 'must-fail'), '.edit')))
+
+
+class Gate:
+    """A run of the gate, and the seconds that its processes took so far."""
+
+    def __init__(self, log):
+        self.seconds, self.begin = {}, time.monotonic()
+        self.process = subprocess.Popen([os.path.join(ROOT, '.ci', 'run')], cwd=ROOT, stdin=subprocess.DEVNULL, stdout=log, stderr=log)
+
+    def watch(self):
+        """Waits for the end, and answers the minutes of each crate by kind."""
+        while self.process.poll() is None:
+            self.look()
+            time.sleep(1)
+        minutes = {}
+        for crate, kind, seconds in self.seconds.values():
+            minutes.setdefault(crate, Counter())[kind] += seconds / 60
+        return minutes
+
+    def look(self):
+        parents = {pid: stat for pid, stat in ((pid, stat_of(pid)) for pid in os.listdir('/proc') if pid.isdigit()) if stat}
+        for pid, (parent, begun, seconds) in parents.items():
+            if self.is_ours(pid, parents):
+                known = self.seconds.get((pid, begun)) or work_of(pid)
+                if known:
+                    self.seconds[pid, begun] = (known[0], known[1], seconds)
+
+    def is_ours(self, pid, parents):
+        while pid in parents:
+            if pid == str(self.process.pid):
+                return True
+            pid = parents[pid][0]
+        return False
+
+
+def stat_of(pid):
+    """The parent, the time of birth and the seconds of a process; None where it has ended."""
+    try:
+        with open('/proc/%s/stat' % pid, encoding='latin-1') as file:
+            words = file.read().rpartition(')')[2].split()
+    except OSError:
+        return None
+    return words[1], words[19], (int(words[11]) + int(words[12])) / TICKS
+
+
+def work_of(pid):
+    """Which crate a process works on, and at what; None where it isn't a check or a build."""
+    try:
+        with open('/proc/%s/cmdline' % pid, encoding='utf-8', errors='replace') as file:
+            words = file.read().split('\0')
+        folder = os.readlink('/proc/%s/cwd' % pid)
+    except OSError:
+        return None
+    if '--crate-name' not in words[:-1]:
+        return None
+    kind = 'edits' if os.path.basename(folder).startswith('rt-edit') else 'tests' if '--test' in words else 'proofs'
+    return words[words.index('--crate-name') + 1], kind, 0
+
+
+def printed(rows):
+    """A table, its first column to the left."""
+    widths = [max(len(row[k]) for row in rows) for k in range(len(rows[0]))]
+    for row in rows:
+        cells = [row[0].ljust(widths[0])] + [cell.rjust(width) for cell, width in zip(row[1:], widths[1:])]
+        sys.stdout.write('  '.join(cells) + '\n')
+
+
+def table(sizes, minutes, each):
+    """The rows: each crate if it is asked for, then all together."""
+    head = ['crate'] + list(Sizes._fields) + (['%s min' % kind for kind in KINDS] if minutes is not None else [])
+    rows = [head]
+    for name, one in sizes.items() if each or minutes is not None else []:
+        rows.append(row(name, one, minutes and minutes.get(name, Counter())))
+    tests = {name: one for name, one in sizes.items() if name.endswith('_cases')}
+    for name, some in (('%d crates' % len(sizes), sizes), ('of these %d of tests' % len(tests), tests)):
+        total = None if minutes is None else sum((minutes.get(crate, Counter()) for crate in some), Counter())
+        rows.append(row(name, Sizes(*map(sum, zip(*some.values()))), total))
+    return rows
+
+
+def row(name, sizes, minutes):
+    return [name] + [format(size, ',') for size in sizes] + ([] if minutes is None else ['%.1f' % minutes[kind] for kind in KINDS])
+
+
+def arguments():
+    parser = argparse.ArgumentParser(description=__doc__, formatter_class=argparse.RawDescriptionHelpFormatter)
+    parser.add_argument('--crates', action='store_true', help='a line for each crate')
+    parser.add_argument('--gate', action='store_true', help='runs the gate and measures it')
+    parser.add_argument('--log', metavar='FILE', help='where the output of the gate goes')
+    return parser.parse_args()
+
+
+def main():
+    words = arguments()
+    sizes = {name: sizes_of(name) for name in sorted(os.listdir(CRATES)) if os.path.isdir(os.path.join(CRATES, name, 'src'))}
+    if not words.gate:
+        printed(table(sizes, None, words.crates))
+        return 0
+    if not words.log:
+        raise Wrong('--gate wants --log')
+    with open(words.log, 'wb') as log:
+        gate = Gate(log)
+        minutes = gate.watch()
+    printed(table(sizes, minutes, True))
+    sys.stdout.write('%.1f minutes, status %d; %s\n' % ((time.monotonic() - gate.begin) / 60, gate.process.returncode, words.log))
+    return 0 if gate.process.returncode == 0 else 1
+
+
+if __name__ == '__main__':
+    run(main)

@@ -1,0 +1,153 @@
+"""The least table of an application in the model of model.py, and what `show` prints of it.
+
+A table has for each point the values that each task, each event bit and each alarm may have there. The least one has the starts of all
+modes, and the steps of all states that it admits. Here these are done one by one: every choice of one value a component is a state, with
+every choice of what the table doesn't keep (latches, where within `work` the processor is, whether an alarm is due)."""
+import itertools
+
+from kernel import Kernel
+from states import ARRIVAL, HALTED, IDLE, KEEP, NOTHING, Armed, Live, Routine, Running, State, To, at_place, place_of, with_alarm
+
+HALT_POINT, IDLE_POINT = (0,), (1,)
+"""Points are in the order in which they are shown: halt, idle, then by block, and of a routine's block nobody first and then the tasks."""
+
+
+def point_of(state):
+    if state.processor in (HALTED, IDLE):
+        return HALT_POINT if state.processor == HALTED else IDLE_POINT
+    over = state.processor.over if isinstance(state.processor, Routine) else None
+    return (2, place_of(state)[0], -1 if over is None else over, isinstance(state.processor, Routine))
+
+
+def shown_point(app, point):
+    if point in (HALT_POINT, IDLE_POINT):
+        return 'halt' if point == HALT_POINT else 'idle'
+    _, block, over, is_routine = point
+    return 'b%d' % block + ('/' + ('-' if over < 0 else app.tasks[over].name) if is_routine else '')
+
+
+class Analysis:
+    """The least table of an application, on its way."""
+
+    def __init__(self, app):
+        self.app, self.kernel = app, Kernel(app)
+        self.bits = [(t, bit) for t, task in enumerate(app.tasks) for bit in range(64) if task.own >> bit & 1]
+        self.table, self.done, self.waiting = {}, {}, []
+        self.edges, self.shown = set(), {block: set() for block in app.sites()}
+        for mode in range(len(app.modes)):
+            self.join(self.kernel.start(mode).state)
+
+    # Values and states.
+
+    def values_of(self, state):
+        """The values of a state's components: tasks without their offsets, event bits, and whether alarms are armed."""
+        tasks = [task._replace(offset=0) if isinstance(task, Live) else task for task in state.tasks]
+        return tasks + [state.masks[t] >> bit & 1 for t, bit in self.bits] + [alarm is not None for alarm in state.alarms]
+
+    def state_of(self, point, values):
+        """A state at a point with these values; what a table doesn't keep is at rest."""
+        app = self.app
+        count = len(app.tasks)
+        masks = [0] * count
+        for (task, bit), value in zip(self.bits, values[count:]):
+            masks[task] |= value << bit
+        alarms = tuple(Armed(0, 0) if armed else None for armed in values[count + len(self.bits):])
+        return State(0, self.processor_at(point), tuple(values[:count]), tuple(masks), (0,) * len(app.counters), alarms, frozenset())
+
+    def processor_at(self, point):
+        if point in (HALT_POINT, IDLE_POINT):
+            return HALTED if point == HALT_POINT else IDLE
+        _, block, over, is_routine = point
+        owner = self.app.blocks[block].owner
+        if not is_routine:
+            return Running(self.app.task_number[owner.name])
+        mark = '%' if owner.kind == 'TICK' else '@'
+        source = next(k for k, s in enumerate(self.app.sources) if (s.mark, s.name) == (mark, owner.name))
+        return Routine(source, block, 0, None if over < 0 else over)
+
+    def steps_of(self, state):
+        """The steps of a state with each choice of what a table doesn't keep."""
+        if state.processor == HALTED:
+            return []
+        found = [] if state.processor == IDLE else [self.kernel.run(*chosen) for chosen in self.chosen(state)]
+        if not isinstance(state.processor, Routine) and not self.kernel.is_locked(state):
+            found += [self.kernel.run(state._replace(latched=frozenset([s])), False) for s in range(len(self.app.sources))]
+        return found
+
+    def chosen(self, state):
+        """The state with its offset, and with the alarm that may expire here, as they may be otherwise; each with a choice."""
+        block = self.app.blocks[place_of(state)[0]]
+        if block.word == 'choice':
+            return [(state, False), (state, True)]
+        if block.word == 'work':
+            return [(at_place(state, place_of(state)[0], offset), False) for offset in {0, block.arguments[0] - 1}]
+        if block.word == 'expire' and state.alarms[self.app.alarm_number[block.arguments[0]]]:
+            alarm = self.app.alarm_number[block.arguments[0]]
+            counter = self.app.counters[state.processor.source]
+            often = Armed(0, max(1, counter.least_cycle))
+            return [(with_alarm(state, alarm, armed), False) for armed in (Armed(0, 0), often, Armed(1, 0))]
+        return [(state, False)]
+
+    # The table.
+
+    def join(self, state):
+        """Puts a state's values into its point's entry."""
+        point, values = point_of(state), self.values_of(state)
+        entry = self.table.setdefault(point, [set() for _ in values])
+        if any(value not in seen for value, seen in zip(values, entry)):
+            for value, seen in zip(values, entry):
+                seen.add(value)
+            self.waiting.append(point)
+
+    def solve(self):
+        """Lets the table grow until the steps of all its states stay in it. Each state is asked once."""
+        while self.waiting:
+            point = self.waiting.pop()
+            done = self.done.setdefault(point, set())
+            for values in list(itertools.product(*self.table[point])):
+                if values not in done:
+                    done.add(values)
+                    for step in self.steps_of(self.state_of(point, values)):
+                        self.join(step.state)
+                        self.note(point, step)
+        return self
+
+    def note(self, point, step):
+        """What a step says of edges and of the form of its site."""
+        target = point_of(step.state)
+        if target != point or isinstance(step.shown, To):
+            self.edges.add((point, target))
+        if len(point) > 1 and point[1] in self.shown and step.shown not in (ARRIVAL, NOTHING):
+            self.shown[point[1]].add(step.shown)
+
+
+def form(app, shown):
+    """The form of a site by what its instruction's steps show."""
+    if len(shown) != 1:
+        return 'general' if shown else 'never'
+    if shown == {KEEP}:
+        return 'stay'
+    (only,) = shown
+    return 'direct ' + ('-' if only.task is None else app.tasks[only.task].name)
+
+
+def heights(app, bits):
+    """How many values an entry has at most."""
+    stacks = sum(len(list(itertools.permutations(range(len(app.resources)), k))) for k in range(len(app.resources) + 1))
+    blocks = [len(app.blocks_of_task(t)) for t in range(len(app.tasks))]
+    return sum(1 + count + count * stacks for count in blocks) + 2 * bits + 2 * len(app.alarms)
+
+
+def points(app):
+    tasks = sum(1 for block in app.blocks if block.owner.kind == 'TASK')
+    return 2 + tasks + (len(app.blocks) - tasks) * (len(app.tasks) + 1)
+
+
+def show(app):
+    """What `show` prints of an application."""
+    analysis = Analysis(app).solve()
+    lines = ['site b%d line %d %s' % (block, app.blocks[block].line, form(app, shown)) for block, shown in analysis.shown.items()]
+    lines += ['edge %s %s' % (shown_point(app, p), shown_point(app, q)) for p, q in sorted(analysis.edges)]
+    values = sum(len(seen) for entry in analysis.table.values() for seen in entry)
+    lines += ['points %d height %d values %d edges %d' % (points(app), heights(app, len(analysis.bits)), values, len(analysis.edges))]
+    return ''.join(text + '\n' for text in lines)

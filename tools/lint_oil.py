@@ -1,0 +1,80 @@
+"""What lint.py finds in an OIL text alone: attributes that are passed over, and objects that nobody can use as they stand."""
+import difflib
+
+import oil
+
+KNOWN = {
+    'OS': {'STATUS', 'USERESSCHEDULER'} | set(oil.HOOKS),
+    'APPMODE': set(),
+    'TASK': {'PRIORITY', 'SCHEDULE', 'ACTIVATION', 'AUTOSTART', 'RESOURCE', 'EVENT'},
+    'ISR': {'CATEGORY', 'RESOURCE'},
+    'COUNTER': {'MAXALLOWEDVALUE', 'TICKSPERBASE', 'MINCYCLE'},
+    'ALARM': {'COUNTER', 'ACTION', 'AUTOSTART'},
+    'EVENT': {'MASK'},
+    'RESOURCE': {'RESOURCEPROPERTY'},
+}
+"""The attributes that the guide's table has, by the kind of the object."""
+
+WITHIN = {
+    ('TASK', 'AUTOSTART', 'TRUE'): {'APPMODE'},
+    ('ALARM', 'AUTOSTART', 'TRUE'): {'ALARMTIME', 'CYCLETIME', 'APPMODE'},
+    ('ALARM', 'ACTION', 'ACTIVATETASK'): {'TASK'},
+    ('ALARM', 'ACTION', 'SETEVENT'): {'TASK', 'EVENT'},
+}
+"""Those between the braces of a value, by the kind, the attribute and the value."""
+
+
+def nearest(name, known):
+    """The known name that is most like this one, as words to add."""
+    close = difflib.get_close_matches(name.upper(), sorted(known), 1, 0.6)
+    return ': %s is known' % close[0] if close else ''
+
+
+def passed_over(objects, declared):
+    """Attributes that have no effect since the table doesn't have them; those that IMPLEMENTATION declares are a vendor's."""
+    for found in objects:
+        known, vendors = KNOWN.get(found.kind, set()), declared.get(found.kind, set())
+        for attribute in found.attributes:
+            if attribute.name in known:
+                inner = WITHIN.get((found.kind, attribute.name, attribute.value), set())
+                for part in attribute.attributes:
+                    if part.name not in inner and part.name not in vendors:
+                        yield part.line, '%s within %s is passed over%s' % (part.name, attribute.name, nearest(part.name, inner))
+            elif attribute.name not in vendors:
+                yield attribute.line, '%s of %s %s is passed over%s' % (attribute.name, found.kind, found.name,
+                                                                        nearest(attribute.name, known))
+
+
+def shared_masks(objects, system):
+    """Events that share a bit with an earlier one."""
+    lines = {o.name: o.line for o in objects if o.kind == 'EVENT'}
+    names = list(system.events)
+    for k, name in enumerate(names):
+        for other in names[:k]:
+            if system.events[name] & system.events[other]:
+                yield lines[name], 'the events %s and %s share a bit of their masks' % (other, name)
+                break
+
+
+def alarm_actions(system):
+    """Alarms whose event their task can't take."""
+    for alarm in system.alarms.values():
+        task = system.tasks.get(alarm.task)
+        if task and alarm.event and not task.own:
+            yield alarm.line, 'alarm %s sets an event of the basic task %s, which is refused (E_OS_ACCESS)' % (alarm.name, task.name)
+        elif task and alarm.event and alarm.event not in task.events and not alarm.mask & task.own:
+            yield alarm.line, 'alarm %s sets %s, which task %s does not name: nothing happens' % (alarm.name, alarm.event, task.name)
+
+
+def unused_modes(objects, system):
+    started = {mode for starts in (system.tasks, system.alarms) for found in starts.values() for mode in found.modes}
+    for found in objects:
+        if found.kind == 'APPMODE' and system.modes.index(found.name) not in started:
+            yield found.line, 'nothing is started in the mode %s' % found.name
+
+
+def unused_counters(system):
+    used = {alarm.counter for alarm in system.alarms.values()}
+    for counter in system.counters.values():
+        if counter.name not in used:
+            yield counter.line, 'counter %s has no alarm' % counter.name

@@ -1,0 +1,317 @@
+"""Tests of the tools that read OIL, task code, events and refusals, and of the model; `python3 tools/test_tools.py` runs them too."""
+import os
+import subprocess
+import sys
+import tempfile
+import unittest
+
+HERE = os.path.dirname(os.path.abspath(__file__))
+sys.path.insert(0, HERE)
+
+import annotate
+import check_documents
+import covered
+import events
+import explain
+import house
+import least_table
+import lint
+import model
+import oil
+import reached
+import regress
+from application import application_of
+from given import Wrong, contents
+from oil import DEFAULT_MODE
+
+EXAMPLES = os.path.join(os.path.dirname(HERE), 'examples')
+
+
+def example(name, ending):
+    return contents(os.path.join(EXAMPLES, name, name + ending))
+
+
+def example_app(name):
+    return application_of(example(name, '.oil'), example(name, '.code'))
+
+
+def trace_of(app, text, mode=DEFAULT_MODE):
+    played = model.play(app, mode, model.events_of(text))
+    return ''.join(model.line(app, n, step) + '\n' for n, (step, _, _) in enumerate(played))
+
+
+def app_of(objects, code):
+    return application_of('CPU c { OS os { USERESSCHEDULER = FALSE; }; %s };' % objects, code)
+
+
+T1 = 'TASK T1 { PRIORITY = 1; AUTOSTART = TRUE; };'
+
+
+class Oil(unittest.TestCase):
+    def test_a_system_is_read(self):
+        text = ('OIL_VERSION = "2.5" : "x"; IMPLEMENTATION i { TASK { UINT32 [0..9] STACK = 2; }; }; /* } */\n'
+                'CPU c { OS os { ERRORHOOK = TRUE; }; APPMODE M; EVENT E; EVENT F { MASK = 0x1; };\n'
+                'TASK T { PRIORITY = 3; SCHEDULE = NON; EVENT = E; AUTOSTART = TRUE { APPMODE = M; }; STACK = 9; } : "d"; ISR I { CATEGORY = 1; }; };')
+        system = oil.system_of(text)
+        self.assertEqual((system.hooks, system.modes, system.events), (['Error'], [DEFAULT_MODE, 'M'], {'E': 2, 'F': 1}))
+        task = system.tasks['T']
+        self.assertEqual((task.priority, task.is_full, task.own, task.modes, task.line), (3, False, 2, frozenset([1]), 3))
+        self.assertEqual(system.resources['RES_SCHEDULER'].ceiling, 7)
+
+    def test_a_fault_is_told_with_its_line(self):
+        for text, line in (('CPU c {\n OS os\n TASK T { };\n};', 3), ('CPU c {', 1), ('', 1), ('TASK(T) { }', 1), ('CPU c { OS os; }; x', 1)):
+            with self.assertRaises(Wrong) as caught:
+                oil.objects_of(text, 'a.oil')
+            self.assertTrue(str(caught.exception).startswith('a.oil:%d: ' % line), caught.exception)
+
+    def test_texts_that_do_not_fit_are_told(self):
+        oil_text = 'CPU c { OS os; %s };' % T1
+        for code in ('', 'TASK(T2) { }', 'TASK(T1) { ActivateTask(T9); }', 'TASK(T1) { foo(); }', 'TASK(T1) { ActivateTask(1); }',
+                     'TASK(T1) { Schedule(T1); }', 'TASK(T1) { WaitEvent(E); }', 'TASK(T1) { if (?) }', 'TASK(T1) { Schedule()'):
+            self.assertRaises(Wrong, application_of, oil_text, code)
+
+
+class Models(unittest.TestCase):
+    def test_the_traces_of_the_examples(self):
+        for name in ('first', 'lamp', 'body', 'engine'):
+            self.assertEqual(trace_of(example_app(name), example(name, '.events')), example(name, '.trace'), name)
+
+    def test_what_show_prints_of_the_examples(self):
+        for name in ('first', 'lamp', 'engine'):
+            self.assertEqual(least_table.show(example_app(name)), example(name, '.show'), name)
+
+    def test_refusals(self):
+        code = ('TASK(T1) { GetResource(R); GetResource(R); TerminateTask(); ReleaseResource(R); ReleaseResource(R); SetEvent(T1, E);'
+                ' ClearEvent(E); SetRelAlarm(A, 0, 0); SetRelAlarm(A, 10, 0); SetAbsAlarm(A, 0, 0); SetAbsAlarm(A, 0, 0); GetAlarm(A);'
+                ' CancelAlarm(A); CancelAlarm(A); GetAlarm(A); ActivateTask(T1); GetTaskID(); GetTaskState(T1); GetActiveApplicationMode(); }')
+        app = app_of('EVENT E; RESOURCE R; COUNTER C { MAXALLOWEDVALUE = 9; }; ALARM A { COUNTER = C; ACTION = ACTIVATETASK { TASK = T1; }; };'
+                     ' TASK T1 { PRIORITY = 1; AUTOSTART = TRUE; RESOURCE = R; };', code)
+        notes = [line.partition(' !')[2].split(' ') for line in trace_of(app, 'run 0\n' * 18).splitlines()[1:]]
+        self.assertEqual([note[0] for note in notes], [
+            'E_OK', 'E_OS_ACCESS', 'E_OS_RESOURCE', 'E_OK', 'E_OS_NOFUNC', 'E_OS_ACCESS', 'E_OS_ACCESS', 'E_OS_VALUE', 'E_OS_VALUE', 'E_OK',
+            'E_OS_STATE', 'E_OK', 'E_OK', 'E_OS_NOFUNC', 'E_OS_NOFUNC', 'E_OS_LIMIT', 'E_OK', 'E_OK'])
+        self.assertEqual((notes[11][1], notes[16][1], notes[17][1]), ('=10', '=T1', '=R'))
+
+    def test_a_request_that_waits_takes_no_second(self):
+        app = app_of(T1 + ' ISR I { CATEGORY = 2; };', 'TASK(T1) { SuspendOSInterrupts(); work 2; ResumeOSInterrupts(); } ISR(I) { }')
+        lines = trace_of(app, 'run 0\nirq I\nirq I\n' + 'run 0\n' * 6).splitlines()
+        self.assertEqual([line.split(' ')[1] for line in lines], ['T1'] * 7 + ['@I', 'T1', '-'])
+
+    def test_wrong_words_are_told(self):
+        app = example_app('lamp')
+        for text in ('run\n', 'run 2\n', 'irq\n', 'x y\n', 'irq Nobody\n'):
+            self.assertRaises(Wrong, trace_of, app, text)
+        self.assertRaises(Wrong, trace_of, app, '', 'NoMode')
+
+
+FAULTY_OIL = """CPU c { OS os; EVENT A { MASK = 1; }; EVENT B { MASK = 3; }; EVENT U; RESOURCE R; RESOURCE S;
+ COUNTER C { MAXALLOWEDVALUE = 9; }; COUNTER D { MAXALLOWEDVALUE = 9; }; APPMODE M;
+ TASK T1 { PRIORITY = 3; SCHEDUEL = NON; AUTOSTART = TRUE { APPMOD = x; APPMODE = OSDEFAULTAPPMODE; }; EVENT = A; };
+ TASK T2 { PRIORITY = 2; AUTOSTART = TRUE { APPMODE = OSDEFAULTAPPMODE; }; RESOURCE = R; };
+ TASK T3 { PRIORITY = 1; };
+ ALARM Z { COUNTER = C; ACTION = SETEVENT { TASK = T2; EVENT = A; }; };
+ ISR I { CATEGORY = 2; };
+};
+"""
+
+FAULTY_CODE = """TASK(T1) {
+  while (1) { WaitEvent(A); SetEvent(T2, A); SetEvent(T1, U); }
+}
+TASK(T2) {
+  GetResource(S);
+  if (?) { TerminateTask(); }
+  if (?) { ReleaseResource(S); }
+  SetRelAlarm(Z, 0, 0); SetRelAlarm(Z, 10, 0); SetAbsAlarm(Z, 3, 11);
+  ActivateTask(T2);
+  if (?) { while (1) { work 1; } work 2; }
+}
+TASK(T3) { TerminateTask(); }
+ISR(I) { WaitEvent(A); TerminateTask(); }
+"""
+
+
+class Lint(unittest.TestCase):
+    def found(self, oil_text, code, without=()):
+        return [(file, line, check) for file, line, _, check in lint.warnings_of(oil_text, code, ('o', 'c'), without)]
+
+    def test_each_fault_is_found(self):
+        found = self.found(FAULTY_OIL, FAULTY_CODE)
+        for wanted in [('o', 3, 'attribute'), ('o', 1, 'mask'), ('o', 6, 'action'), ('o', 1, 'unused'), ('o', 2, 'unused'), ('o', 5, 'unused'),
+                       ('c', 2, 'event'), ('c', 2, 'wait'), ('c', 5, 'resource'), ('c', 6, 'held'), ('c', 8, 'alarm'), ('c', 9, 'activation'),
+                       ('c', 10, 'endless'), ('c', 10, 'dead'), ('c', 11, 'held'), ('c', 11, 'end'), ('c', 13, 'routine')]:
+            self.assertIn(wanted, found)
+        self.assertEqual(found.count(('o', 3, 'attribute')), 2)
+        self.assertEqual(found.count(('c', 8, 'alarm')), 3)
+        self.assertEqual({check for _, _, check in found}, set(lint.CHECKS))
+
+    def test_the_nearest_name_is_told(self):
+        texts = [text for _, _, text, _ in lint.warnings_of(FAULTY_OIL, FAULTY_CODE, ('o', 'c'))]
+        self.assertIn('SCHEDUEL of TASK T1 is passed over: SCHEDULE is known', texts)
+        self.assertIn('APPMOD within AUTOSTART is passed over: APPMODE is known', texts)
+
+    def test_a_check_is_left_out(self):
+        self.assertNotIn('unused', [check for _, _, check in self.found(FAULTY_OIL, FAULTY_CODE, ['unused'])])
+
+    def test_nothing_is_found_where_nothing_is_wrong(self):
+        for name in ('first', 'lamp', 'engine'):
+            self.assertEqual(self.found(example(name, '.oil'), example(name, '.code')), [], name)
+
+    def test_what_implementation_declares_is_a_vendors(self):
+        found = lint.warnings_of(example('body', '.oil'), example('body', '.code'), ('o', 'c'))
+        self.assertEqual([text.split(' ')[0] for _, _, text, _ in found], ['CC', 'PRIORITY'])
+
+    def test_a_resource_that_stays_held_in_a_loop(self):
+        oil_text = 'CPU c { OS os; RESOURCE R; TASK T1 { PRIORITY = 1; AUTOSTART = TRUE; RESOURCE = R; }; };'
+        self.assertEqual(self.found(oil_text, 'TASK(T1) {\nwhile (1) {\nGetResource(R);\n}\n}'), [('c', 3, 'held')])
+        self.assertEqual(self.found(oil_text, 'TASK(T1) {\nGetResource(R);\nReleaseResource(R);\nTerminateTask();\n}'), [])
+
+
+class Events(unittest.TestCase):
+    def text(self, script, name=None):
+        player = events.Player(example_app(name), DEFAULT_MODE) if name else None
+        return events.event_text(script, 's', player)
+
+    def test_repeats_and_comments(self):
+        self.assertEqual(self.text('# a\nrun 0 * 2\nrepeat 2\nirq I\nend\n\ntick C'), '# a\nrun 0\nrun 0\nirq I\nirq I\n\ntick C\n')
+
+    def test_sources_come_by_themselves(self):
+        self.assertEqual(self.text('tick C every 2\nrun 1 * 5\ntick C never\nrun 0 * 2').split('\n'),
+                         ['run 1', 'run 1', 'tick C', 'run 1', 'run 1', 'tick C', 'run 1', 'run 0', 'run 0', ''])
+
+    def test_draws_are_the_same_each_time(self):
+        self.assertEqual(self.text('run ? * 20'), self.text('seed 1\nrun ? * 20'))
+        self.assertNotEqual(self.text('run ? * 20'), self.text('seed 2\nrun ? * 20'))
+
+    def test_until(self):
+        self.assertEqual(self.text('until Rest', 'lamp'), 'run 0\n' * 2)
+        self.assertEqual(self.text('until Lamp=W\nirq Button\nuntil @Button\nuntil Lamp', 'lamp'), 'run 0\nrun 0\nirq Button\nrun 0\nrun 0\nrun 0\n')
+
+    def test_wrong_scripts_are_told_with_their_line(self):
+        for script in ('run 0\nrun', 'run 0\nrun 0 * x', 'run 0\nuntil idle', 'run 0\nrepeat 2', 'run 0\nend', 'run 0\ntick C every 5..2',
+                       'run 0\nrun 0 * 99999999'):
+            with self.assertRaises(Wrong) as caught:
+                self.text(script)
+            self.assertTrue(str(caught.exception).startswith('s:2: '), caught.exception)
+        for script in ('until nobody', 'until Lamp=Q', 'until idle most 3', 'until Lamp by 2', 'irq Nobody'):
+            self.assertRaises(Wrong, self.text, script, 'lamp')
+
+
+class Annotations(unittest.TestCase):
+    def reached(self, app, text):
+        found, before = covered.Reached(app), None
+        for step, words, _ in model.play(app, DEFAULT_MODE, model.events_of(text)):
+            if words and words[0] == 'run':
+                found.take(before, step, words[1])
+            before = step.state
+        return found
+
+    def test_statements_are_named(self):
+        app, before, texts = example_app('lamp'), None, []
+        for step, words, _ in model.play(app, DEFAULT_MODE, model.events_of('run 0\nrun 0\nirq Button\nirq Button\nrun 0\nrun 0\nrun 0\n')):
+            texts.append(annotate.told(app, before, step, words, type('Files', (), {'code': 'c'})))
+            before = step.state
+        self.assertEqual(texts, ['the start', 'c:2: while (1)', 'c:3: WaitEvent(Pressed)', 'Button is requested',
+                                 'Button is requested already, and this is lost', 'the routine of Button begins',
+                                 'c:12: SetEvent(Lamp, Pressed)', 'c:13: end of Button'])
+
+    def test_what_was_reached_is_counted(self):
+        app = example_app('engine')
+        rows = covered.rows(app, self.reached(app, example('engine', '.events')), 'c', example('engine', '.show'))
+        self.assertEqual([(row.name, row.reached, row.all) for row in rows],
+                         [('statements', 17, 17), ('choices', 2, 2), ('outcomes', 10, 17), ('edges', 31, 99)])
+        self.assertIn('outcome: c:12: ReleaseResource(EngineData) goes on', rows[2].missed)
+
+    def test_show_of_other_texts_is_told(self):
+        app = example_app('lamp')
+        self.assertRaises(Wrong, covered.rows, app, self.reached(app, 'run 0\n'), 'c', 'points 1 height 1 values 1 edges 0\n')
+
+
+class Explanations(unittest.TestCase):
+    def test_the_guide_has_each_rule(self):
+        rules = explain.rules_of(explain.guide())
+        names = ['L%d' % k for k in range(1, 7)] + ['S1', 'S2', 'S3'] + ['O%d' % k for k in range(1, 16)]
+        names += ['C%d' % k for k in (1, 2, 3, 4, 6, 7, 8, 9)] + ['E1', 'E2', 'E3', 'E4'] + ['I%d' % k for k in range(1, 8)]
+        self.assertEqual(sorted(rules), sorted(names))
+
+    def test_a_refusal_has_its_line_and_its_cause(self):
+        with tempfile.TemporaryDirectory() as folder:
+            for name, text in (('a.oil', 'CPU c { OS os; %s };' % T1), ('a.code', '\nint x;\n'), ('b.code', '')):
+                with open(os.path.join(folder, name), 'w') as file:
+                    file.write(text)
+            rules, at = explain.rules_of(explain.guide()), [os.path.join(folder, name) for name in ('a.oil', 'a.code', 'b.code')]
+            lines = explain.explained(at[1] + ':2: S1', [], rules)
+            self.assertEqual(lines[:2], [at[1] + ":2: error: S1: the token isn't allowed here", '    int x;'])
+            self.assertIn('    without code: TASK T1', explain.explained(at[2] + ':0: C1', ['build', at[0], at[2], 'i'], rules))
+            self.assertIn('at byte 16 (0x10)', explain.explained('x:16: I3', [], rules)[0])
+        self.assertEqual(explain.explained('usage', [], rules), [])
+
+
+class Regressions(unittest.TestCase):
+    def test_differences_are_told(self):
+        self.assertIsNone(regress.difference('a\nb\n', 'a\nb\n'))
+        self.assertEqual(regress.difference('a\nb\n', 'a\nc\n'), "line 2: wanted 'b', got 'c'")
+        self.assertEqual(regress.difference('a\n', 'a\nb\n'), "line 2: wanted no line, got 'b'")
+        self.assertEqual(regress.difference('a\nb\n', ''), "line 1: wanted 'a', got no line")
+
+    def test_applications_are_found(self):
+        self.assertEqual([os.path.basename(f) for f in regress.applications(EXAMPLES)], ['body', 'engine', 'first', 'lamp'])
+        self.assertRaises(Wrong, regress.applications, HERE)
+        self.assertRaises(Wrong, regress.applications, 'nowhere')
+
+    def test_a_report_is_xml(self):
+        from xml.etree import ElementTree
+        root = ElementTree.fromstring(regress.junit([regress.Case('a', 'b<', 0.5, 'x & y'), regress.Case('a', 'c', 0.5, None)]))
+        self.assertEqual((root.get('tests'), root.get('failures'), root[0][0].text), ('2', '1', 'x & y'))
+
+
+class Documents(unittest.TestCase):
+    def test_blocks_of_commands_are_read(self):
+        text = 'x\n```console\n$ cd a\n$ b\nout\n```\n```\n$ no\n```\n'
+        self.assertEqual(check_documents.blocks_of(text), [[(3, 'cd a', []), (4, 'b', ['out'])]])
+
+    def test_definitions_are_followed_by_imports(self):
+        found = reached.Scope('use Rattle.a.specs.{F.{x, y}, declared.m.T.{T}}\nuse Rattle.a.specs.G as g\nuse Rattle.std.specs.P.{z}\n')
+        self.assertEqual(found.names, {'x': ('a', 'F', 'x'), 'y': ('a', 'F', 'y'), 'T': ('a', 'src/m', 'T')})
+        self.assertEqual(found.modules, {'g': ('a', 'G')})
+        texts = reached.definitions_of('use Rattle.a.specs.F.{x}\n-- of a\nabbrev pub one : A\none = x\n\npub record Two : B where\n  pub f : C\n')
+        self.assertEqual(texts, {'one': '-- of a\nabbrev pub one : A\none = x\n', 'Two': 'pub record Two : B where\n  pub f : C\n'})
+
+    def test_the_house_is_counted(self):
+        sizes = house.sizes_of('osek_values')
+        self.assertTrue(sizes.code > 0 and sizes.definitions > 0 and sizes.files > 2)
+
+
+TOOLS = ['annotate.py', 'check_documents.py', 'compare_model.py', 'events.py', 'explain.py', 'graph.py', 'lint.py', 'model.py', 'regress.py', 'timeline.py']
+
+
+class Ends(unittest.TestCase):
+    """Each tool ends with one line and status 2 where it can't work, and with no word where nobody reads."""
+
+    def ended(self, words, **more):
+        env = dict(os.environ, LC_ALL='C', PYTHONIOENCODING='')
+        return subprocess.run([sys.executable, os.path.join(HERE, words[0])] + words[1:], stdin=subprocess.DEVNULL, stderr=subprocess.PIPE, env=env, **more)
+
+    def test_missing_files_are_told_in_one_line(self):
+        for words in (['annotate.py', 'no', 'no', 'no'], ['check_documents.py', 'no/program'], ['compare_model.py', 'no/program'], ['events.py', 'no'],
+                      ['explain.py', 'no/program'], ['graph.py', 'no'], ['lint.py', 'no', 'no'], ['model.py', 'show', 'no', 'no'],
+                      ['regress.py', '--program', 'no/program', 'no'], ['timeline.py', 'no']):
+            done = self.ended(words, stdout=subprocess.DEVNULL)
+            self.assertEqual((done.returncode, done.stderr.count(b'\n')), (2, 1), (words, done.stderr))
+
+    def test_a_closed_pipe_is_no_fault(self):
+        name = os.path.join(EXAMPLES, 'engine', 'engine')
+        reading, writing = os.pipe()
+        os.close(reading)
+        done = self.ended(['timeline.py', name + '.trace'], stdout=writing)
+        os.close(writing)
+        self.assertEqual((done.returncode, done.stderr), (0, b''))
+
+    def test_output_is_utf_8_whatever_the_locale(self):
+        name = os.path.join(EXAMPLES, 'engine', 'engine')
+        done = self.ended(['graph.py', '--code', name + '.code', '--svg', name + '.show', '--title', 'é'], stdout=subprocess.PIPE)
+        self.assertIn('→ '.encode() if b'direct' in done.stdout else 'é'.encode(), done.stdout)
+
+    def test_scripts_can_be_run(self):
+        for name in sorted(os.listdir(HERE)):
+            if name.endswith('.py') and "__name__ == '__main__'" in contents(os.path.join(HERE, name)) and not name.startswith('test_texts'):
+                self.assertTrue(os.access(os.path.join(HERE, name), os.X_OK), name)
