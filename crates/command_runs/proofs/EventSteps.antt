@@ -11,7 +11,6 @@ use Rattle.image_model.specs.declared.image.Image.{Image}
 use Rattle.image_model.specs.ImageStep.{image_step}
 use Rattle.image_run.specs.Machines.{AtWork, Turn, turned, turned_by, turn}
 use Rattle.image_model.specs.ImageTrace.{trap_line}
-use Rattle.osek_io.specs.Counts.{Rose}
 use Rattle.command_runs.specs.Playing.{Given, Puts, PutsFront, line_of, AnswersEvent}
 use Rattle.command_runs.specs.declared.stop.Stop.{Stop}
 use Rattle.command_runs.specs.declared.stop.Stop.TheVariants as stop
@@ -34,20 +33,20 @@ pub trapped_on : (m new : AtWork) (o : Option Stepped) → turned_by m o ≡ tur
 trapped_on m new None e = refl
 trapped_on m new (Some x) e = absurd (cc (ap (λ (t : Turn). t.notes) e))
 
-pub event_printed : (faults faults_after : ℕ) (old new : Given) (i j : Image) (n : ℕ) (s : State) (o : Option Stepped) (notes : Notes) →
-    o ≡ Some (stepped s notes) → j ≡ i → Puts old new (line_of j n (stepped s notes)) → AnswersEvent faults faults_after old new i n s o (Ok tt)
-event_printed faults faults_after old new i j n s o notes is same prints =
-    subst (λ (x : Option Stepped). AnswersEvent faults faults_after old new i n s x (Ok tt)) (sym is)
+pub event_printed : (old new : Given) (i j : Image) (n : ℕ) (s : State) (o : Option Stepped) (notes : Notes) →
+    o ≡ Some (stepped s notes) → j ≡ i → Puts old new (line_of j n (stepped s notes)) → AnswersEvent old new i n s o (Ok tt)
+event_printed old new i j n s o notes is same prints =
+    subst (λ (x : Option Stepped). AnswersEvent old new i n s x (Ok tt)) (sym is)
     (inl (refl, refl, subst (λ (k : Image). Puts old new (line_of k n (stepped s notes))) same prints))
 
-pub event_unprinted : (faults faults_after : ℕ) (old new : Given) (i j : Image) (n : ℕ) (s : State) (o : Option Stepped) (notes : Notes) (end : Stop) →
-    o ≡ Some (stepped s notes) → j ≡ i → ◌≡◌ {A = Result (Unit {0}) Stop} (Err end) (Err stop.Unprinted) → Rose faults faults_after → PutsFront old new (line_of j n (stepped s notes)) →
-    AnswersEvent faults faults_after old new i n s o (Err end)
-event_unprinted faults faults_after old new i j n s o notes end is same unprinted rose front =
-    subst (λ (x : Option Stepped). AnswersEvent faults faults_after old new i n s x (Err end)) (sym is)
-    (inr (unprinted, rose, subst (λ (k : Image). PutsFront old new (line_of k n (stepped s notes))) same front))
+pub event_unprinted : (old new : Given) (i j : Image) (n : ℕ) (s : State) (o : Option Stepped) (notes : Notes) (end : Stop) →
+    o ≡ Some (stepped s notes) → j ≡ i → ◌≡◌ {A = Result (Unit {0}) Stop} (Err end) (Err stop.Unprinted) → PutsFront old new (line_of j n (stepped s notes)) →
+    AnswersEvent old new i n s o (Err end)
+event_unprinted old new i j n s o notes end is same unprinted front =
+    subst (λ (x : Option Stepped). AnswersEvent old new i n s x (Err end)) (sym is)
+    (inr (unprinted, subst (λ (k : Image). PutsFront old new (line_of k n (stepped s notes))) same front))
 
-pub trap_unprinted : (faults faults_after : ℕ) (old new : Given) (i : Image) (n : ℕ) (s : State) (o : Option Stepped) (end : Stop) →
-    o ≡ None → ◌≡◌ {A = Result (Unit {0}) Stop} (Err end) (Err stop.Unprinted) → Rose faults faults_after → PutsFront old new (trap_line n) → AnswersEvent faults faults_after old new i n s o (Err end)
-trap_unprinted faults faults_after old new i n s o end is unprinted rose front =
-    subst (λ (x : Option Stepped). AnswersEvent faults faults_after old new i n s x (Err end)) (sym is) (inr (unprinted, rose, front))
+pub trap_unprinted : (old new : Given) (i : Image) (n : ℕ) (s : State) (o : Option Stepped) (end : Stop) →
+    o ≡ None → ◌≡◌ {A = Result (Unit {0}) Stop} (Err end) (Err stop.Unprinted) → PutsFront old new (trap_line n) → AnswersEvent old new i n s o (Err end)
+trap_unprinted old new i n s o end is unprinted front =
+    subst (λ (x : Option Stepped). AnswersEvent old new i n s x (Err end)) (sym is) (inr (unprinted, front))

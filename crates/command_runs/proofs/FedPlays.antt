@@ -1,23 +1,27 @@
 -- A play of the lines that come out of a feed is the play of the text's lines.
-use Rattle.std.proofs.Common.{◌≡◌, ℕ, ◌+◌, ◌<◌, ◌≤◌, Bool, true, false, cond, ltb, List, [], ◌∷◌, ◌++◌, length, take, drop, Option, Some, None, Ok, Err, refl, sym, ◌∙◌, ap, subst, inl, inr, append_assoc, arith}
+use Rattle.std.proofs.Common.{◌≡◌, ◌⊎◌, ℕ, ◌+◌, ◌<◌, ◌≤◌, Bool, true, false, cond, ltb, List, [], ◌∷◌, ◌++◌, length, take, drop, Option, Some, None, Ok, Err, refl, sym, ◌∙◌, ap, subst, inl, inr, append_assoc, arith}
 use Rattle.std.specs.List.{enumerate_from}
 use Rattle.std.specs.declared.result.Result.{Result}
 use Rattle.std.proofs.lemmas.Bool.{ltb-true}
 use Rattle.std.proofs.lemmas.List.{append-nil, drop_all, length-append, length-take-le, take-append-drop}
 use Rattle.std.proofs.Math.Seq.{take-add}
 use Rattle.osek_values.specs.declared.limits.TheConstants.{MAX_EVENT_TEXT}
+use Rattle.osek_values.specs.declared.event.Event.{Event}
 use Rattle.osek_standard.specs.declared.state.State.{State}
 use Rattle.image_model.specs.declared.image.Image.{Image}
+use Rattle.trace_text.specs.declared.fault.EventFault.{EventFault}
 use Rattle.trace_text.specs.declared.feed.FeedStep.TheVariants.{Line}
 use Rattle.trace_text.specs.EventText.{text_lines, numbered_lines}
 use Rattle.trace_text.specs.EventWords.{read_line}
 use Rattle.trace_text.specs.Feeds.{FeedState, next_answer, after_next, lines_to_long}
 use Rattle.trace_text.proofs.FeedLaws.{line_is_first, too_long}
+use Rattle.osek_io.specs.Counts.{Rose}
 use Rattle.osek_io.specs.Files.{Files, Holds}
 use Rattle.command_runs.specs.Inputs.{OfFile, ReadsOn}
-use Rattle.command_runs.specs.Playing.{Given, Puts, PutsFront, Played, printing, plays, plays_fed, played_line, MayFollow, PlaysOn, GoesOn, HeldAnswers, HeldReadAnswers}
+use Rattle.command_runs.specs.Playing.{Given, Puts, Played, played, printing, plays, plays_fed, played_line, MayFollow, PlaysOn, GoesOn, HasNoEnd, TakesLines, StopsBehind, HeldAnswers, HeldReadAnswers}
 use Rattle.command_runs.specs.declared.stop.Stop.{Stop}
-use Rattle.command_runs.proofs.GivenTexts.{puts_nothing, puts_both, puts_all, puts_front_of_first, puts_front_behind}
+use Rattle.command_runs.proofs.EndedLines.{EndsLine, ended_behind, line_ends_or_is_long}
+use Rattle.command_runs.proofs.GivenTexts.{puts_nothing, puts_both}
 use Rattle.command_runs.proofs.InputFiles.{of_map}
 use Rattle.command_runs.proofs.Plays.{came_to_end, printed_first, printing-printing}
 
@@ -49,9 +53,45 @@ line_fed i f rest k n s line may is same =
     ∙ plays_to_long i k ((after_next f).line ∷ text_lines ((after_next f).ahead ++ rest)) n s
     ∙ ap (λ (l : List ℕ). plays i ((k, l) ∷ behind f rest k) n s) (sym same)
 
+-- no line went
+takes_nothing : (ahead : List ℕ) (i : Image) (k n : ℕ) (s : State) → TakesLines ahead ahead i k n s k n s []
+takes_nothing ahead i k n s = record { lines = []; parts = refl; ended = inl refl; alone = λ rest. refl }
+
+-- lines went, and more behind them
+takes_both : (a b c : List ℕ) (i : Image) (k n : ℕ) (s : State) (l m : ℕ) (t : State) (o p : ℕ) (u : State) (x y : List ℕ) → TakesLines a b i k n s l m t x → TakesLines b c i l m t o p u y → TakesLines a c i k n s o p u (x ++ y)
+takes_both a b c i k n s l m t o p u x y f h = record {
+  lines = f.lines ++ h.lines;
+  parts = f.parts ∙ ap (λ (xs : List ℕ). f.lines ++ xs) h.parts ∙ sym (append_assoc f.lines h.lines c);
+  ended = ended_behind f.lines h.lines f.ended h.ended;
+  alone = λ rest. ap (λ (xs : List ℕ). plays i (enumerate_from k (text_lines xs)) n s) (append_assoc f.lines h.lines rest) ∙ f.alone (h.lines ++ rest) ∙ ap (printing x) (h.alone rest)
+      ∙ printing-printing x y (plays i (enumerate_from o (text_lines rest)) p u);
+}
+
+-- no play goes on behind a line that is too long
+stops_at_long : (now next : Given) (i : Image) (m : ℕ) (t : State) (l : ℕ) (line : List ℕ) (o : ℕ) (u : State) → 256 < length line → GoesOn now next (λ more. played_line i m t l more (read_line i.app line)) o u → ⊥
+stops_at_long now next i m t l line o u long goes =
+    let stays = goes.goes_on (λ _ _. played [] (Ok tt)) in
+    let e = ap (λ (r : Result (Option Event) EventFault). played_line i m t l (λ _ _. played [] (Ok tt)) r) (too_long i.app line long) in
+    let ends = ap (λ (p : Played). p.end) (sym e ∙ stays) in
+    absurd (cc ends)
+
+-- the line that came out went
+takes_line : (now next : Given) (i : Image) (g : FeedState) (l m : ℕ) (t : State) (line : List ℕ) (o : ℕ) (u : State) → g.finished ≡ false → next_answer g ≡ Line → line ≡ (after_next g).line →
+    (goes : GoesOn now next (λ more. played_line i m t l more (read_line i.app line)) o u) → TakesLines g.ahead (after_next g).ahead i l m t (l + 1) o u goes.text
+takes_line now next i g l m t line o u going is same goes = by_length (line_ends_or_is_long g going is)
+  where
+    by_length : EndsLine g.ahead (after_next g).line (after_next g).ahead ⊎ (256 < length (after_next g).line) → TakesLines g.ahead (after_next g).ahead i l m t (l + 1) o u goes.text
+    by_length (inl h) = record {
+      lines = h.lines;
+      parts = h.parts;
+      ended = h.ended;
+      alone = λ rest. ap (λ (ls : List (List ℕ)). plays i (enumerate_from l ls) m t) (h.first rest ∙ ap (λ (x : List ℕ). x ∷ text_lines rest) (sym same)) ∙ goes.goes_on (plays i (enumerate_from (l + 1) (text_lines rest)));
+    }
+    by_length (inr long) = absurd (stops_at_long now next i m t l line o u (subst (λ (x : List ℕ). 256 < length x) (sym same) long) goes)
+
 -- nothing was played yet
 pub starts_on : (first : Given) (i : Image) (f : FeedState) (k n : ℕ) (s : State) → PlaysOn first first i f f k n s k n s
-starts_on first i f k n s = record { text = []; prints = puts_nothing first; goes_on = λ rest may. refl }
+starts_on first i f k n s = record { text = []; prints = puts_nothing first; goes_on = λ rest may. refl; takes = λ _. takes_nothing f.ahead i k n s }
 
 -- a line more
 pub one_line_on : (first now next : Given) (i : Image) (f g : FeedState) (k n : ℕ) (s : State) (l m : ℕ) (t : State) (line : List ℕ) (o : ℕ) (u : State) → g.finished ≡ f.finished → next_answer g ≡ Line → line ≡ (after_next g).line →
@@ -61,6 +101,7 @@ one_line_on first now next i f g k n s l m t line o u done is same goes on = rec
   prints = puts_both first now next on.text goes.text on.prints goes.prints;
   goes_on = λ rest may. on.goes_on rest may ∙ ap (printing on.text) (line_fed i g rest l m t line (λ e. may (sym done ∙ e)) is same ∙ goes.goes_on (plays i (behind g rest l)))
       ∙ printing-printing on.text goes.text (plays_fed i (after_next g) rest (l + 1) o u);
+  takes = λ going. takes_both f.ahead g.ahead (after_next g).ahead i k n s l m t (l + 1) o u on.text goes.text (on.takes going) (takes_line now next i g l m t line o u (done ∙ going) is same goes);
 }
 
 -- the bytes ahead stay
@@ -69,14 +110,15 @@ kept_on first now i f g h k n s l m t same on = record {
   text = on.text;
   prints = on.prints;
   goes_on = λ rest may. on.goes_on rest may ∙ ap (λ (xs : List ℕ). printing on.text (plays i (enumerate_from l (text_lines (xs ++ rest))) m t)) (sym same);
+  takes = λ going. subst (λ (xs : List ℕ). TakesLines f.ahead xs i k n s l m t on.text) (sym same) (on.takes going);
 }
 
 -- a line at which the play ends
-pub line_ends_on : (faults between faults_after : ℕ) → faults ≤ between → (first now next : Given) (i : Image) (f g : FeedState) (k n : ℕ) (s : State) (l m : ℕ) (t : State) (line : List ℕ) (end : Stop) → g.finished ≡ f.finished → next_answer g ≡ Line → line ≡ (after_next g).line →
-    ((more : ℕ → State → Played) → HeldAnswers between faults_after now next (played_line i m t l more (read_line i.app line)) (Err end)) → PlaysOn first now i f g k n s l m t →
-    (rest : List ℕ) → MayFollow f rest → HeldAnswers faults faults_after first next (plays_fed i f rest k n s) (Err end)
-line_ends_on faults between faults_after later first now next i f g k n s l m t line end done is same answers on rest may =
-    came_to_end faults between faults_after later first now next (plays_fed i f rest k n s) i ((l, line) ∷ behind g rest l) m t (Err end) (answers (plays i (behind g rest l)))
+pub line_ends_on : (first now next : Given) (i : Image) (f g : FeedState) (k n : ℕ) (s : State) (l m : ℕ) (t : State) (line : List ℕ) (end : Stop) → g.finished ≡ f.finished → next_answer g ≡ Line → line ≡ (after_next g).line →
+    ((more : ℕ → State → Played) → HeldAnswers now next (played_line i m t l more (read_line i.app line)) (Err end)) → PlaysOn first now i f g k n s l m t →
+    (rest : List ℕ) → MayFollow f rest → HeldAnswers first next (plays_fed i f rest k n s) (Err end)
+line_ends_on first now next i f g k n s l m t line end done is same answers on rest may =
+    came_to_end first now next (plays_fed i f rest k n s) i ((l, line) ∷ behind g rest l) m t (Err end) (answers (plays i (behind g rest l)))
     (record { text = on.text; prints = on.prints; rest = on.goes_on rest may ∙ ap (printing on.text) (line_fed i g rest l m t line (λ e. may (sym done ∙ e)) is same) })
 
 -- which bytes of a file came, and how far their play has come
@@ -87,6 +129,7 @@ pub record HasCome (files : Option Files) (name : List ℕ) (first now : Given) 
   pub text : List ℕ
   pub prints : Puts first now text
   pub goes_on : (rest : List ℕ) → MayFollow f rest → plays i (numbered_lines (came ++ rest)) 1 start ≡ printing text (plays_fed i f rest k n s)
+  pub takes : f.finished ≡ false → TakesLines came f.ahead i 1 1 start k n s text
 
 pub nothing_came : (files : Option Files) (name : List ℕ) (first : Given) (i : Image) (start : State) (f : FeedState) → f.ahead ≡ [] → HasCome files name first first i start 0 f 1 1 start
 nothing_came files name first i start f none = record {
@@ -96,6 +139,7 @@ nothing_came files name first i start f none = record {
   text = [];
   prints = puts_nothing first;
   goes_on = λ rest may. ap (λ (xs : List ℕ). plays i (enumerate_from 1 (text_lines (xs ++ rest))) 1 start) (sym none);
+  takes = λ _. subst (λ (xs : List ℕ). TakesLines [] xs i 1 1 start 1 1 start []) (sym none) (takes_nothing [] i 1 1 start);
 }
 
 -- more bytes came, or none
@@ -109,6 +153,12 @@ more_came files name first now i start taken c f g k n s open_yet r h = record {
   prints = h.prints;
   goes_on = λ rest may. ap (λ (xs : List ℕ). plays i (numbered_lines xs) 1 start) (append_assoc h.came r.more rest) ∙ h.goes_on (r.more ++ rest) (λ e. absurd (cc (open_yet, e)))
       ∙ ap (λ (xs : List ℕ). printing h.text (plays i (enumerate_from k (text_lines xs)) n s)) (sym (append_assoc f.ahead r.more rest) ∙ ap (λ (xs : List ℕ). xs ++ rest) (sym r.joins));
+  takes = λ _. let t = h.takes open_yet in record {
+    lines = t.lines;
+    parts = ap (λ (xs : List ℕ). xs ++ r.more) t.parts ∙ append_assoc t.lines f.ahead r.more ∙ ap (λ (xs : List ℕ). t.lines ++ xs) (sym r.joins);
+    ended = t.ended;
+    alone = t.alone;
+  };
 }
 
 -- lines of them were played
@@ -122,12 +172,13 @@ more_played files name first now next i start taken f g k n s l m t done on h = 
   prints = puts_both first now next h.text on.text h.prints on.prints;
   goes_on = λ rest may. let before : MayFollow f rest = (λ e. may (done ∙ e)) in
       h.goes_on rest before ∙ ap (printing h.text) (on.goes_on rest before) ∙ printing-printing h.text on.text (plays_fed i g rest l m t);
+  takes = λ going. takes_both h.came f.ahead g.ahead i 1 1 start k n s l m t h.text on.text (h.takes (sym done ∙ going)) (on.takes (sym done ∙ going));
 }
 
 -- what was held back was written meanwhile
 pub held_played : (files : Option Files) (name : List ℕ) (first now next : Given) (i : Image) (start : State) (taken : ℕ) (f : FeedState) (k n : ℕ) (s : State) → Puts now next [] →
     HasCome files name first now i start taken f k n s → HasCome files name first next i start taken f k n s
-held_played files name first now next i start taken f k n s on h = more_played files name first now next i start taken f f k n s k n s refl (record { text = []; prints = on; goes_on = λ rest may. refl }) h
+held_played files name first now next i start taken f k n s on h = more_played files name first now next i start taken f f k n s k n s refl (record { text = []; prints = on; goes_on = λ rest may. refl; takes = λ _. takes_nothing f.ahead i k n s }) h
 
 -- what is true of the bytes that came, whatever may follow, is true of the file's
 pub of_come : (files : Option Files) (name : List ℕ) (P : List ℕ → Type 0) → OfFile files name (λ t. length t ≤ MAX_EVENT_TEXT) → (came : List ℕ) (taken : ℕ) (f : FeedState) → length came ≡ taken → taken ≤ MAX_EVENT_TEXT →
@@ -138,26 +189,42 @@ of_come (Some files) name P (bytes, holds, short) came taken f size within held 
     let whole : came ++ drop taken bytes ≡ bytes = ap (λ (xs : List ℕ). xs ++ drop taken bytes) (held bytes holds) ∙ take-append-drop taken bytes in
     (bytes, holds, (short, subst P whole (p (drop taken bytes) (λ e. drop_all taken bytes (last e bytes holds)))))
 
-module _ (files : Option Files) (name : List ℕ) (faults between faults_after : ℕ) (later : faults ≤ between) (first now next : Given) (i : Image) (start : State) (taken : ℕ) (f : FeedState) (k n : ℕ) (s : State)
+module _ (files : Option Files) (name : List ℕ) (first now next : Given) (i : Image) (start : State) (taken : ℕ) (f : FeedState) (k n : ℕ) (s : State)
     (text : OfFile files name (λ t. length t ≤ MAX_EVENT_TEXT)) (within : taken ≤ MAX_EVENT_TEXT) (last : f.finished ≡ true → (bytes : List ℕ) → Holds files name bytes → length bytes ≤ taken) (h : HasCome files name first now i start taken f k n s) where
   -- the play ends with an answer to the lines that are ahead, whatever follows
-  pub ends_there : (r : Result (Unit {0}) Stop) → ((rest : List ℕ) → MayFollow f rest → HeldAnswers between faults_after now next (plays_fed i f rest k n s) r) →
-      OfFile files name (λ t. (length t ≤ MAX_EVENT_TEXT) × HeldAnswers faults faults_after first next (plays i (numbered_lines t) 1 start) r)
+  pub ends_there : (r : Result (Unit {0}) Stop) → ((rest : List ℕ) → MayFollow f rest → HeldAnswers now next (plays_fed i f rest k n s) r) →
+      OfFile files name (λ t. (length t ≤ MAX_EVENT_TEXT) × HeldAnswers first next (plays i (numbered_lines t) 1 start) r)
   ends_there r answers =
-      of_come files name (λ t. HeldAnswers faults faults_after first next (plays i (numbered_lines t) 1 start) r) text h.came taken f h.size within h.held last
-      (λ rest may. came_to_end faults between faults_after later first now next (plays i (numbered_lines (h.came ++ rest)) 1 start) i (enumerate_from k (text_lines (f.ahead ++ rest))) n s r (answers rest may)
+      of_come files name (λ t. HeldAnswers first next (plays i (numbered_lines t) 1 start) r) text h.came taken f h.size within h.held last
+      (λ rest may. came_to_end first now next (plays i (numbered_lines (h.came ++ rest)) 1 start) i (enumerate_from k (text_lines (f.ahead ++ rest))) n s r (answers rest may)
       (record { text = h.text; prints = h.prints; rest = h.goes_on rest may }))
 
-  -- a front of the play was printed
-  pub front_there : now.held ≡ [] → OfFile files name (λ t. (length t ≤ MAX_EVENT_TEXT) × PutsFront first now (plays i (numbered_lines t) 1 start).text)
-  front_there none =
-      of_come files name (λ t. PutsFront first now (plays i (numbered_lines t) 1 start).text) text h.came taken f h.size within h.held last
-      (λ rest may. subst (PutsFront first now) (sym (ap (λ (p : Played). p.text) (h.goes_on rest may))) (puts_front_of_first first now h.text (plays_fed i f rest k n s).text (puts_all first now h.text none h.prints)))
+  -- a read failed behind the bytes that came, and all that was due of them was put
+  pub stops_there : (reads reads_after : ℕ → ℕ) → f.finished ≡ false → HasNoEnd f.ahead → Rose (reads taken) (reads_after taken) →
+      OfFile files name (λ t. (length t ≤ MAX_EVENT_TEXT) × StopsBehind reads reads_after (Puts first now) (λ t. plays i (numbered_lines t) 1 start) t)
+  stops_there reads reads_after going none rose =
+      of_come files name (λ t. StopsBehind reads reads_after (Puts first now) (λ t. plays i (numbered_lines t) 1 start) t) text h.came taken f h.size within h.held last
+      (λ rest may.
+      let t = h.takes going in
+      let alone : plays i (numbered_lines t.lines) 1 start ≡ printing h.text (plays i [] n s) = ap (λ (xs : List ℕ). plays i (numbered_lines xs) 1 start) (sym (append-nil t.lines)) ∙ t.alone [] in
+      let due : (plays i (numbered_lines t.lines) 1 start).text ≡ h.text = ap (λ (p : Played). p.text) alone ∙ append-nil h.text in
+      record {
+        lines = t.lines;
+        begun = f.ahead;
+        rest = rest;
+        parts = ap (λ (xs : List ℕ). xs ++ rest) t.parts;
+        ended = t.ended;
+        no_more = none;
+        unread = subst (λ (m : ℕ). Rose (reads m) (reads_after m)) (sym h.size ∙ ap length t.parts) rose;
+        prints = subst (Puts first now) (sym due) h.prints;
+        back = (plays_fed i f rest k n s).text;
+        front = ap (λ (p : Played). p.text) (h.goes_on rest may) ∙ ap (λ (xs : List ℕ). xs ++ (plays_fed i f rest k n s).text) (sym due);
+      })
 
   -- the text is at its end, and nothing is ahead
-  pub ends_with_text : f.finished ≡ true → f.ahead ≡ [] → OfFile files name (λ t. (length t ≤ MAX_EVENT_TEXT) × HeldAnswers faults faults_after first now (plays i (numbered_lines t) 1 start) (Ok tt))
+  pub ends_with_text : f.finished ≡ true → f.ahead ≡ [] → OfFile files name (λ t. (length t ≤ MAX_EVENT_TEXT) × HeldAnswers first now (plays i (numbered_lines t) 1 start) (Ok tt))
   ends_with_text done none =
-      of_come files name (λ t. HeldAnswers faults faults_after first now (plays i (numbered_lines t) 1 start) (Ok tt)) text h.came taken f h.size within h.held last
+      of_come files name (λ t. HeldAnswers first now (plays i (numbered_lines t) 1 start) (Ok tt)) text h.came taken f h.size within h.held last
       (λ rest may.
       let all : plays i (numbered_lines (h.came ++ rest)) 1 start ≡ printing h.text (plays i [] n s) =
       h.goes_on rest may ∙ ap (λ (xs : List ℕ). printing h.text (plays i (enumerate_from k (text_lines xs)) n s)) (ap (λ (xs : List ℕ). xs ++ rest) none ∙ may done) in
@@ -167,9 +234,23 @@ module _ (files : Option Files) (name : List ℕ) (faults between faults_after :
       ))
 
 -- a text is printed first, and then a play is read
-pub read_behind : (files : Option Files) (events : List ℕ) (reads reads_after faults between faults_after : ℕ) → faults ≤ between → (first now next : Given) (text : List ℕ) (p : List ℕ → Played) (r : Result (Unit {0}) Stop) → Puts first now text →
-    HeldReadAnswers files events reads reads_after between faults_after now next p r → HeldReadAnswers files events reads reads_after faults faults_after first next (λ t. printing text (p t)) r
-read_behind files events reads reads_after faults between faults_after later first now next text p r e (inl h) =
-    inl (of_map files events _ _ (λ t x. (x.0, printed_first faults between faults_after later first now next text (p t) r e x.1)) h)
-read_behind files events reads reads_after faults between faults_after later first now next text p r e (inr h) =
-    inr (h.0, h.1, of_map files events _ _ (λ t x. (x.0, puts_front_behind first now next text (p t).text e x.1)) h.2)
+pub read_behind : (files : Option Files) (events : List ℕ) (reads reads_after : ℕ → ℕ) (first now next : Given) (text : List ℕ) (p : List ℕ → Played) (r : Result (Unit {0}) Stop) → Puts first now text →
+    HeldReadAnswers files events reads reads_after now next p r → HeldReadAnswers files events reads reads_after first next (λ t. printing text (p t)) r
+read_behind files events reads reads_after first now next text p r e (inl h) =
+    inl (h.0, of_map files events _ _ (λ t x. (x.0, printed_first first now next text (p t) r e x.1)) h.1)
+read_behind files events reads reads_after first now next text p r e (inr h) =
+    inr (h.0, h.1, of_map files events _ _ (λ t x. (x.0, stops_later x.1)) h.2)
+  where
+    stops_later : {t : List ℕ} → StopsBehind reads reads_after (Puts now next) p t → StopsBehind reads reads_after (Puts first next) (λ t. printing text (p t)) t
+    stops_later s = record {
+      lines = s.lines;
+      begun = s.begun;
+      rest = s.rest;
+      parts = s.parts;
+      ended = s.ended;
+      no_more = s.no_more;
+      unread = s.unread;
+      prints = puts_both first now next text (p s.lines).text e s.prints;
+      back = s.back;
+      front = ap (λ (xs : List ℕ). text ++ xs) s.front ∙ sym (append_assoc text (p s.lines).text s.back);
+    }

@@ -1,10 +1,12 @@
 -- Texts that are put one behind the other: what of them was written, and what is held back.
-use Rattle.std.proofs.Common.{◌≡◌, ℕ, List, [], ◌++◌, Option, Some, None, refl, sym, ◌∙◌, ap, append_assoc}
+use Rattle.std.proofs.Common.{◌≡◌, ℕ, List, [], ◌++◌, Option, Some, None, refl, sym, ◌∙◌, ap, subst, append_assoc}
 use Rattle.std.proofs.lemmas.List.{append-nil}
+use Rattle.osek_io.specs.Counts.{Rose}
 use Rattle.osek_io.specs.Pieces.{grown}
 use Rattle.osek_io.specs.Stored.{WritesPart}
-use Rattle.command_runs.specs.Playing.{Given, Puts, PutsFront}
-use Rattle.command_runs.specs.Telling.{WritesFront}
+use Rattle.osek_io.specs.Sunk.{Sunk, Writes}
+use Rattle.command_runs.specs.Playing.{Given, given, Puts, PutsFront}
+use Rattle.command_runs.specs.Telling.{Breaks, WritesFront}
 use Rattle.command_runs.proofs.Fronts.{grown-grown, front_of_part, front_of_first, front_behind}
 
 pub grown-nil : (old : Option (List ℕ)) → old ≡ grown old []
@@ -17,37 +19,53 @@ parted held a b f h kept between e k =
     sym (append_assoc held a b) ∙ ap (λ (xs : List ℕ). xs ++ b) e ∙ append_assoc f between b ∙ ap (λ (xs : List ℕ). f ++ xs) k ∙ sym (append_assoc f h kept)
 
 pub puts_nothing : (p : Given) → Puts p p []
-puts_nothing p = ([], append-nil p.held, grown-nil p.written)
+puts_nothing p = (refl, ([], append-nil p.held, grown-nil p.out.written))
 
 pub puts_both : (p q r : Given) (a b : List ℕ) → Puts p q a → Puts q r b → Puts p r (a ++ b)
-puts_both p q r a b (f, e, w) (h, k, v) =
-    (f ++ h, parted p.held a b f h r.held q.held e k, v ∙ ap (λ (o : Option (List ℕ)). grown o h) w ∙ grown-grown p.written f h)
+puts_both p q r a b (n, (f, e, w)) (o, (h, k, v)) =
+    (o ∙ n, (f ++ h, parted p.held a b f h r.held q.held e k, v ∙ ap (λ (x : Option (List ℕ)). grown x h) w ∙ grown-grown p.out.written f h))
 
 -- a front of the first of two texts is one of both
 pub puts_front_of_first : (p q : Given) (a b : List ℕ) → PutsFront p q a → PutsFront p q (a ++ b)
-puts_front_of_first p q a b ((front, back, e, w), none) =
-    ((front, back ++ b, sym (append_assoc p.held a b) ∙ ap (λ (xs : List ℕ). xs ++ b) e ∙ append_assoc front back b, w), none)
+puts_front_of_first p q a b ((rose, (front, back, e, w)), none) =
+    ((rose, (front, back ++ b, sym (append_assoc p.held a b) ∙ ap (λ (xs : List ℕ). xs ++ b) e ∙ append_assoc front back b, w)), none)
 
 -- a front of the second, behind all of the first
 pub puts_front_behind : (p q r : Given) (a b : List ℕ) → Puts p q a → PutsFront q r b → PutsFront p r (a ++ b)
-puts_front_behind p q r a b (f, e, w) ((front, back, k, v), none) =
-    ((f ++ front, back, parted p.held a b f front back q.held e k, v ∙ ap (λ (o : Option (List ℕ)). grown o front) w ∙ grown-grown p.written f front), none)
-
--- where nothing is held back, all was written
-pub puts_all : (p q : Given) (a : List ℕ) → q.held ≡ [] → Puts p q a → PutsFront p q a
-puts_all p q a none (f, e, w) = ((f, [], e ∙ ap (λ (xs : List ℕ). f ++ xs) none, w), none)
+puts_front_behind p q r a b (n, (f, e, w)) ((rose, (front, back, k, v)), none) = (
+  (subst (λ (m : ℕ). Rose m r.out.faults) n rose, (f ++ front, back, parted p.held a b f front back q.held e k, v ∙ ap (λ (x : Option (List ℕ)). grown x front) w ∙ grown-grown p.out.written f front)),
+  none,
+)
 
 -- what was held back was written
-pub puts_held : (p q : Given) → q.written ≡ grown p.written p.held → q.held ≡ [] → Puts p q []
-puts_held p q w none = (p.held, ap (λ (xs : List ℕ). p.held ++ xs) (sym none), w)
+pub puts_held : (p q : Given) → q.out.faults ≡ p.out.faults → q.out.written ≡ grown p.out.written p.held → q.held ≡ [] → Puts p q []
+puts_held p q n w none = (n, (p.held, ap (λ (xs : List ℕ). p.held ++ xs) (sym none), w))
 
-pub part_of_held : (p q : Given) → WritesPart p.written q.written p.held → q.held ≡ [] → PutsFront p q []
-part_of_held p q part none = (front_of_first p.written q.written p.held [] (front_of_part p.written q.written p.held part), none)
+pub part_of_held : (p q : Given) → Rose p.out.faults q.out.faults → WritesPart p.out.written q.out.written p.held → q.held ≡ [] → PutsFront p q []
+part_of_held p q rose part none = ((rose, front_of_first p.out.written q.out.written p.held [] (front_of_part p.out.written q.out.written p.held part)), none)
 
 -- what was held back was written, and a text behind it
-pub puts_past : (p q : Given) (mid : Option (List ℕ)) (text : List ℕ) → mid ≡ grown p.written p.held → q.written ≡ grown mid text → q.held ≡ [] → Puts p q text
-puts_past p q mid text m w none =
-    (p.held ++ text, sym (ap (λ (xs : List ℕ). (p.held ++ text) ++ xs) none ∙ append-nil (p.held ++ text)), w ∙ ap (λ (o : Option (List ℕ)). grown o text) m ∙ grown-grown p.written p.held text)
+pub puts_past : (p q : Given) (mid : Sunk) (text : List ℕ) → Writes p.out mid p.held → Writes mid q.out text → q.held ≡ [] → Puts p q text
+puts_past p q mid text (n, m) (o, w) none = (
+  o ∙ n,
+  (
+    p.held ++ text,
+    sym (ap (λ (xs : List ℕ). (p.held ++ text) ++ xs) none ∙ append-nil (p.held ++ text)),
+    w ∙ ap (λ (x : Option (List ℕ)). grown x text) m ∙ grown-grown p.out.written p.held text,
+  ),
+)
 
-pub front_past : (p q : Given) (mid : Option (List ℕ)) (text : List ℕ) → mid ≡ grown p.written p.held → WritesFront mid q.written text → q.held ≡ [] → PutsFront p q text
-front_past p q mid text m front none = (front_behind p.written mid q.written p.held text m front, none)
+pub front_past : (p q : Given) (mid : Sunk) (text : List ℕ) → Writes p.out mid p.held → Breaks mid q.out text → q.held ≡ [] → PutsFront p q text
+front_past p q mid text (n, m) (rose, front) none = ((subst (λ (k : ℕ). Rose k q.out.faults) n rose, front_behind p.out.written mid.written q.out.written p.held text m front), none)
+
+-- a text was put where nothing was held back, and then what was held back of it was written
+pub puts_flushed : (first : Sunk) (mid : Given) (last : Sunk) (text : List ℕ) → Puts (given first []) mid text → Writes mid.out last mid.held → Writes first last text
+puts_flushed first mid last text (n, (f, parts, w)) (o, e) =
+    (o ∙ n, e ∙ ap (λ (x : Option (List ℕ)). grown x mid.held) w ∙ grown-grown first.written f mid.held ∙ ap (grown first.written) (sym parts))
+
+-- or a front of what was held back
+pub flush_breaks : (first : Sunk) (mid : Given) (last : Sunk) (text : List ℕ) → Puts (given first []) mid text → Rose mid.out.faults last.faults → WritesPart mid.out.written last.written mid.held → Breaks first last text
+flush_breaks first mid last text (n, (f, parts, w)) rose part = (
+  subst (λ (m : ℕ). Rose m last.faults) n rose,
+  subst (WritesFront first.written last.written) (sym parts) (front_behind first.written mid.out.written last.written f mid.held w (front_of_part mid.out.written last.written mid.held part)),
+)

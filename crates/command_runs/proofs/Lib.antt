@@ -1,3 +1,4 @@
+pub mod EndedLines
 pub mod EventSteps
 pub mod FaultlessReads
 pub mod FedPlays

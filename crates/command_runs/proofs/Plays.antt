@@ -1,5 +1,5 @@
 -- The lines of an event text, played one after the other.
-use Rattle.std.proofs.Common.{◌≡◌, ℕ, ◌+◌, ◌≤◌, List, [], ◌∷◌, ◌++◌, sym, ◌∙◌, ap, subst, inl, inr, append_assoc, Some, None, Ok, Err, arith}
+use Rattle.std.proofs.Common.{◌≡◌, ℕ, ◌+◌, List, [], ◌∷◌, ◌++◌, sym, ◌∙◌, ap, subst, inl, inr, append_assoc, Some, None, Ok, Err}
 use Rattle.std.specs.declared.option.Option.{Option}
 use Rattle.std.specs.declared.result.Result.{Result}
 use Rattle.osek_values.specs.declared.event.Event.{Event}
@@ -33,30 +33,30 @@ line_skipped old i n s number r e = record {
 }
 
 -- an event whose line was printed
-pub line_played : (faults faults_after : ℕ) (old new : Given) (i : Image) (n : ℕ) (s t : State) (number : ℕ) (r : Result (Option Event) EventFault) (e : Event) (x : Option Stepped) →
-    r ≡ Ok (Some e) → image_step i s e ≡ x → AnswersEvent faults faults_after old new i n t x (Ok tt) →
+pub line_played : (old new : Given) (i : Image) (n : ℕ) (s t : State) (number : ℕ) (r : Result (Option Event) EventFault) (e : Event) (x : Option Stepped) →
+    r ≡ Ok (Some e) → image_step i s e ≡ x → AnswersEvent old new i n t x (Ok tt) →
     GoesOn old new (λ more. played_line i n s number more r) (n + 1) t
-line_played faults faults_after old new i n s t number r e None is step (inl h) = absurd (cc (h.0))
-line_played faults faults_after old new i n s t number r e None is step (inr h) = absurd (cc (h.0))
-line_played faults faults_after old new i n s t number r e (Some x) is step (inl h) = record {
+line_played old new i n s t number r e None is step (inl h) = absurd (cc (h.0))
+line_played old new i n s t number r e None is step (inr h) = absurd (cc (h.0))
+line_played old new i n s t number r e (Some x) is step (inl h) = record {
   text = line_of i n x;
   prints = h.2;
   goes_on = λ more. ap (played_line i n s number more) is ∙ ap (played_after i n (more (n + 1))) step ∙ ap (λ (u : State). printing (line_of i n x) (more (n + 1) u)) (sym h.1);
 }
-line_played faults faults_after old new i n s t number r e (Some x) is step (inr h) = absurd (cc (h.0))
+line_played old new i n s t number r e (Some x) is step (inr h) = absurd (cc (h.0))
 
 -- an event at which the play ends
-pub line_ends : (faults faults_after : ℕ) (old new : Given) (i : Image) (n : ℕ) (s t : State) (number : ℕ) (r : Result (Option Event) EventFault) (e : Event) (x : Option Stepped) (end : Stop) →
-    r ≡ Ok (Some e) → image_step i s e ≡ x → AnswersEvent faults faults_after old new i n t x (Err end) →
-    (more : ℕ → State → Played) → HeldAnswers faults faults_after old new (played_line i n s number more r) (Err end)
-line_ends faults faults_after old new i n s t number r e None end is step (inl h) more =
-    subst (λ (p : Played). HeldAnswers faults faults_after old new p (Err end)) (sym (ap (played_line i n s number more) is ∙ ap (played_after i n (more (n + 1))) step)) (inl (h.0, h.1))
-line_ends faults faults_after old new i n s t number r e None end is step (inr h) more =
-    subst (λ (p : Played). HeldAnswers faults faults_after old new p (Err end)) (sym (ap (played_line i n s number more) is ∙ ap (played_after i n (more (n + 1))) step)) (inr (h.0, h.1, h.2))
-line_ends faults faults_after old new i n s t number r e (Some x) end is step (inl h) more = absurd (cc (h.0))
-line_ends faults faults_after old new i n s t number r e (Some x) end is step (inr h) more =
-    subst (λ (p : Played). HeldAnswers faults faults_after old new p (Err end)) (sym (ap (played_line i n s number more) is ∙ ap (played_after i n (more (n + 1))) step))
-    (inr (h.0, h.1, puts_front_of_first old new (line_of i n x) (more (n + 1) x.state).text h.2))
+pub line_ends : (old new : Given) (i : Image) (n : ℕ) (s t : State) (number : ℕ) (r : Result (Option Event) EventFault) (e : Event) (x : Option Stepped) (end : Stop) →
+    r ≡ Ok (Some e) → image_step i s e ≡ x → AnswersEvent old new i n t x (Err end) →
+    (more : ℕ → State → Played) → HeldAnswers old new (played_line i n s number more r) (Err end)
+line_ends old new i n s t number r e None end is step (inl h) more =
+    subst (λ (p : Played). HeldAnswers old new p (Err end)) (sym (ap (played_line i n s number more) is ∙ ap (played_after i n (more (n + 1))) step)) (inl (h.0, h.1))
+line_ends old new i n s t number r e None end is step (inr h) more =
+    subst (λ (p : Played). HeldAnswers old new p (Err end)) (sym (ap (played_line i n s number more) is ∙ ap (played_after i n (more (n + 1))) step)) (inr (h.0, h.1))
+line_ends old new i n s t number r e (Some x) end is step (inl h) more = absurd (cc (h.0))
+line_ends old new i n s t number r e (Some x) end is step (inr h) more =
+    subst (λ (p : Played). HeldAnswers old new p (Err end)) (sym (ap (played_line i n s number more) is ∙ ap (played_after i n (more (n + 1))) step))
+    (inr (h.0, puts_front_of_first old new (line_of i n x) (more (n + 1) x.state).text h.1))
 
 -- how far a play has come: what was printed, and the lines that are ahead
 pub record Came (first now : Given) (play : Played) (i : Image) (lines : List (ℕ × List ℕ)) (n : ℕ) (s : State) : Type 0 where
@@ -64,17 +64,13 @@ pub record Came (first now : Given) (play : Played) (i : Image) (lines : List (�
   pub prints : Puts first now text
   pub rest : play ≡ printing text (plays i lines n s)
 
--- the faults of a count that rose from an earlier one
-pub rose_earlier : (a b c : ℕ) → a ≤ b → Rose b c → Rose a c
-rose_earlier a b c h r = omega arith
-
 -- the play ends with an answer to what is ahead
-pub came_to_end : (faults between faults_after : ℕ) → faults ≤ between → (first now next : Given) (play : Played) (i : Image) (lines : List (ℕ × List ℕ)) (n : ℕ) (s : State) (r : Result (Unit {0}) Stop) →
-    HeldAnswers between faults_after now next (plays i lines n s) r → Came first now play i lines n s → HeldAnswers faults faults_after first next play r
-came_to_end faults between faults_after later first now next play i lines n s r (inl h) c =
+pub came_to_end : (first now next : Given) (play : Played) (i : Image) (lines : List (ℕ × List ℕ)) (n : ℕ) (s : State) (r : Result (Unit {0}) Stop) →
+    HeldAnswers now next (plays i lines n s) r → Came first now play i lines n s → HeldAnswers first next play r
+came_to_end first now next play i lines n s r (inl h) c =
     inl (h.0 ∙ sym (ap (λ (p : Played). p.end) c.rest), subst (Puts first next) (sym (ap (λ (p : Played). p.text) c.rest)) (puts_both first now next c.text (plays i lines n s).text c.prints h.1))
-came_to_end faults between faults_after later first now next play i lines n s r (inr h) c =
-    inr (h.0, rose_earlier faults between faults_after later h.1, subst (PutsFront first next) (sym (ap (λ (p : Played). p.text) c.rest)) (puts_front_behind first now next c.text (plays i lines n s).text c.prints h.2))
+came_to_end first now next play i lines n s r (inr h) c =
+    inr (h.0, subst (PutsFront first next) (sym (ap (λ (p : Played). p.text) c.rest)) (puts_front_behind first now next c.text (plays i lines n s).text c.prints h.1))
 
 -- what is put is the line
 line_is : (app seen : App) (n : ℕ) (s t : State) (notes : Notes) (text : List ℕ) → text ≡ line_text seen n (stepped t notes) ++ 10 ∷ [] → seen ≡ app → t ≡ s → text ≡ line_text app n (stepped s notes) ++ 10 ∷ []
@@ -85,18 +81,18 @@ pub line_put : (old new : Given) (app seen : App) (n : ℕ) (s t : State) (notes
 line_put old new app seen n s t notes text e a b p = subst (Puts old new) (line_is app seen n s t notes text e a b) p
 
 pub line_front : (old new : Given) (app seen : App) (n : ℕ) (s t : State) (notes : Notes) (text : List ℕ) →
-    text ≡ line_text seen n (stepped t notes) ++ 10 ∷ [] → seen ≡ app → t ≡ s → WritesPart old.written new.written (old.held ++ text) → new.held ≡ [] → PutsFront old new (line_text app n (stepped s notes) ++ 10 ∷ [])
-line_front old new app seen n s t notes text e a b p none =
-    subst (PutsFront old new) (line_is app seen n s t notes text e a b) (front_of_part old.written new.written (old.held ++ text) p, none)
+    text ≡ line_text seen n (stepped t notes) ++ 10 ∷ [] → seen ≡ app → t ≡ s → Rose old.out.faults new.out.faults → WritesPart old.out.written new.out.written (old.held ++ text) → new.held ≡ [] → PutsFront old new (line_text app n (stepped s notes) ++ 10 ∷ [])
+line_front old new app seen n s t notes text e a b rose p none =
+    subst (PutsFront old new) (line_is app seen n s t notes text e a b) ((rose, front_of_part old.out.written new.out.written (old.held ++ text) p), none)
 
 -- a text, and then a play
-pub printed_first : (faults between faults_after : ℕ) → faults ≤ between → (first now next : Given) (text : List ℕ) (p : Played) (r : Result (Unit {0}) Stop) →
-    Puts first now text → HeldAnswers between faults_after now next p r → HeldAnswers faults faults_after first next (printing text p) r
-printed_first faults between faults_after later first now next text p r e (inl h) =
+pub printed_first : (first now next : Given) (text : List ℕ) (p : Played) (r : Result (Unit {0}) Stop) →
+    Puts first now text → HeldAnswers now next p r → HeldAnswers first next (printing text p) r
+printed_first first now next text p r e (inl h) =
     inl (h.0, puts_both first now next text p.text e h.1)
-printed_first faults between faults_after later first now next text p r e (inr h) =
-    inr (h.0, rose_earlier faults between faults_after later h.1, puts_front_behind first now next text p.text e h.2)
+printed_first first now next text p r e (inr h) =
+    inr (h.0, puts_front_behind first now next text p.text e h.1)
 
-pub first_fails : (faults faults_after : ℕ) (first next : Given) (text : List ℕ) (p : Played) (end : Stop) → end ≡ stop.Unprinted →
-    Rose faults faults_after → PutsFront first next text → HeldAnswers faults faults_after first next (printing text p) (Err end)
-first_fails faults faults_after first next text p end is rose h = inr (ap (λ (e : Stop). Err e) is, rose, puts_front_of_first first next text p.text h)
+pub first_fails : (first next : Given) (text : List ℕ) (p : Played) (end : Stop) → end ≡ stop.Unprinted →
+    PutsFront first next text → HeldAnswers first next (printing text p) (Err end)
+first_fails first next text p end is h = inr (ap (λ (e : Stop). Err e) is, puts_front_of_first first next text p.text h)

@@ -2,7 +2,7 @@
 use Rattle.std.proofs.Common.{◌≡◌, ◌<◌, ◌⊎◌, ℕ, List, length, refl, sym, subst, Vec, Global, Err}
 use Rattle.std.specs.Result.{IsErrOf}
 use Rattle.osek_io.specs.declared.loading.{LoadError.{LoadError}, LoadError.TheVariants.{Read, TooLong, Memory}}
-use Rattle.osek_io.specs.Counts.{Rose}
+use Rattle.osek_io.specs.Counts.{RoseSomewhere}
 use Rattle.osek_io.specs.Files.{Holds, IsMissing}
 use Rattle.command_runs.specs.Outside.{Told}
 use Rattle.command_runs.specs.declared.stop.{Input.{Input}, Stop.{Stop}}
@@ -12,7 +12,7 @@ use Rattle.command_runs.proofs.InputFiles.{of_longer, of_map}
 module _ (before after : Told) (i : Input) (name : List ℕ) where
   -- what is known of the error
   pub record Cause (e : LoadError) : Type 0 where
-    pub read : IsErrOf {T = Vec ℕ Global} (Err e) Read → Rose (before.reads name) (after.reads name) ⊎ IsMissing before.files name
+    pub read : IsErrOf {T = Vec ℕ Global} (Err e) Read → RoseSomewhere (before.reads name) (after.reads name) ⊎ IsMissing before.files name
     pub too_long : IsErrOf {T = Vec ℕ Global} (Err e) TooLong → (bytes : List ℕ) → Holds before.files name bytes → limit_of i < length bytes
     pub missing : IsMissing before.files name → IsErrOf {T = Vec ℕ Global} (Err e) Read
 

@@ -7,7 +7,7 @@ use Rattle.osek_values.specs.declared.refusal.Rule.TheVariants as rule
 use Rattle.osek_values.specs.declared.refusal.TextFile.TheVariants as file
 use Rattle.image_codec.specs.declared.fault.ImageRule.TheVariants.{I7}
 use Rattle.trace_text.specs.declared.fault.EventFault.TheVariants.{E4}
-use Rattle.osek_io.specs.Counts.{Rose}
+use Rattle.osek_io.specs.Counts.{RoseSomewhere}
 use Rattle.osek_io.specs.Files.{Files, Holds, IsMissing}
 use Rattle.osek_io.specs.declared.loading.LoadError.{LoadError}
 use Rattle.osek_io.specs.declared.loading.LoadError.TheVariants as load_error
@@ -57,7 +57,7 @@ unloaded i load_error.Memory = stop.Memory
 -- Why an input stops a command: a read of this very file failed, or the shelf tells that it isn't there; its bytes have a
 -- first fault, at which the command stops as given; or memory ran out.
 pub data InputStops {Fault : Type 0} (before after : Told) (i : Input) (name : List ℕ) (stop_at : Fault → Stop) (IsFirst : List ℕ → Fault → Type 0) : Stop → Type 0 where
-  unread : Rose (before.reads name) (after.reads name) ⊎ IsMissing before.files name → InputStops before after i name stop_at IsFirst (stop.Unread i)
+  unread : RoseSomewhere (before.reads name) (after.reads name) ⊎ IsMissing before.files name → InputStops before after i name stop_at IsFirst (stop.Unread i)
   faulty : (fault : Fault) → OfFile before.files name (λ bytes. IsFirst bytes fault) → InputStops before after i name stop_at IsFirst (stop_at fault)
   no_memory : InputStops before after i name stop_at IsFirst stop.Memory
 

@@ -1,6 +1,6 @@
 -- What a machine prints for the lines of an event text that are ahead, and how it ends.
-use Rattle.std.specs.Prelude.{◌≡◌, ◌⊎◌, ℕ, ◌+◌, ◌≤◌, true, List, [], ◌∷◌, ◌++◌, length, Option, Some, None, Result, Ok, Err}
-use Rattle.std.specs.List.{enumerate_from}
+use Rattle.std.specs.Prelude.{◌≡◌, ◌⊎◌, ℕ, ◌+◌, ◌≤◌, ◌==◌, true, false, List, [], ◌∷◌, ◌++◌, length, Option, Some, None, Result, Ok, Err}
+use Rattle.std.specs.List.{enumerate_from, position}
 use Rattle.osek_values.specs.declared.limits.TheConstants.{MAX_EVENT_TEXT}
 use Rattle.osek_values.specs.declared.event.Event.{Event}
 use Rattle.osek_values.specs.declared.numbers.ModeNo.{ModeNo}
@@ -18,28 +18,28 @@ use Rattle.trace_text.specs.declared.fault.EventFault.{EventFault}
 use Rattle.osek_io.specs.Counts.{Rose}
 use Rattle.osek_io.specs.Files.{Files}
 use Rattle.osek_io.specs.HeldBytes.{PassesOn}
-use Rattle.osek_io.specs.Pieces.{grown}
+use Rattle.osek_io.specs.Sunk.{Sunk, Writes}
 use Rattle.command_runs.specs.Inputs.{OfFile}
-use Rattle.command_runs.specs.Telling.{WritesFront}
+use Rattle.command_runs.specs.Telling.{Breaks}
 use Rattle.command_runs.specs.declared.stop.Input.TheVariants as input
 use Rattle.command_runs.specs.declared.stop.Stop.{Stop}
 use Rattle.command_runs.specs.declared.stop.Stop.TheVariants as stop
 
--- what a sink was given, where it tells it, and what a buffer holds back from it
+-- a sink, and what a buffer holds back from it
 pub record Given : Type 0 where
-  pub written : Option (List ℕ)
+  pub out : Sunk
   pub held : List ℕ
 
-abbrev pub given : Option (List ℕ) → List ℕ → Given
-given written held = record { written = written; held = held }
+abbrev pub given : Sunk → List ℕ → Given
+given out held = record { out = out; held = held }
 
--- The text was put behind what was held back: a front of both was written, and the rest is held back.
+-- The text was put behind what was held back: a front of both was written, no write failed, and the rest is held back.
 abbrev pub Puts : Given → Given → (text : List ℕ) → Type 0
-Puts old new text = PassesOn old.written new.written (old.held ++ text) new.held
+Puts old new text = (new.out.faults ≡ old.out.faults) × PassesOn old.out.written new.out.written (old.held ++ text) new.held
 
 -- A write failed: a front of both was written, and nothing is held back.
 abbrev pub PutsFront : Given → Given → (text : List ℕ) → Type 0
-PutsFront old new text = WritesFront old.written new.written (old.held ++ text) × (new.held ≡ [])
+PutsFront old new text = Breaks old.out new.out (old.held ++ text) × (new.held ≡ [])
 
 -- what is printed, and at a stop why
 pub record Played : Type 0 where
@@ -72,13 +72,13 @@ plays i (line ∷ more) n s = played_line i n s line.0 (plays i more) (read_line
 
 -- What playing event n answers and leaves: the line of the step, or of a trap, was printed; or a front of it, where a
 -- write failed.
-abbrev pub AnswersEvent : (faults faults_after : ℕ) → Given → Given → Image → ℕ → State → Option Stepped → Result (Unit {0}) Stop → Type 0
-AnswersEvent faults faults_after printed printed_after i n s None r =
+abbrev pub AnswersEvent : Given → Given → Image → ℕ → State → Option Stepped → Result (Unit {0}) Stop → Type 0
+AnswersEvent printed printed_after i n s None r =
     ((r ≡ Err stop.Trapped) × Puts printed printed_after (trap_line n))
-    ⊎ ((r ≡ Err stop.Unprinted) × Rose faults faults_after × PutsFront printed printed_after (trap_line n))
-AnswersEvent faults faults_after printed printed_after i n s (Some x) r =
+    ⊎ ((r ≡ Err stop.Unprinted) × PutsFront printed printed_after (trap_line n))
+AnswersEvent printed printed_after i n s (Some x) r =
     ((r ≡ Ok tt) × (s ≡ x.state) × Puts printed printed_after (line_of i n x))
-    ⊎ ((r ≡ Err stop.Unprinted) × Rose faults faults_after × PutsFront printed printed_after (line_of i n x))
+    ⊎ ((r ≡ Err stop.Unprinted) × PutsFront printed printed_after (line_of i n x))
 
 -- What playing a line answers and leaves, whatever comes after it: how many events there were next, in which state, what
 -- was printed; or an end of the play.
@@ -88,20 +88,20 @@ pub record GoesOn (printed printed_after : Given) (line : (ℕ → State → Pla
   pub goes_on : (more : ℕ → State → Played) → line more ≡ printing text (more next s)
 
 -- What is left of a play: all was printed, to its end, or a write failed.
-abbrev pub PlayAnswers : (faults faults_after : ℕ) → Option (List ℕ) → Option (List ℕ) → Played → Result (Unit {0}) Stop → Type 0
-PlayAnswers faults faults_after printed printed_after p r =
-    ((r ≡ p.end) × (printed_after ≡ grown printed p.text))
-    ⊎ ((r ≡ Err stop.Unprinted) × Rose faults faults_after × WritesFront printed printed_after p.text)
+abbrev pub PlayAnswers : (out out_after : Sunk) → Played → Result (Unit {0}) Stop → Type 0
+PlayAnswers out out_after p r =
+    ((r ≡ p.end) × Writes out out_after p.text)
+    ⊎ ((r ≡ Err stop.Unprinted) × Breaks out out_after p.text)
 
 -- the same of a play whose texts are held back
-abbrev pub HeldAnswers : (faults faults_after : ℕ) → Given → Given → Played → Result (Unit {0}) Stop → Type 0
-HeldAnswers faults faults_after printed printed_after p r =
+abbrev pub HeldAnswers : Given → Given → Played → Result (Unit {0}) Stop → Type 0
+HeldAnswers printed printed_after p r =
     ((r ≡ p.end) × Puts printed printed_after p.text)
-    ⊎ ((r ≡ Err stop.Unprinted) × Rose faults faults_after × PutsFront printed printed_after p.text)
+    ⊎ ((r ≡ Err stop.Unprinted) × PutsFront printed printed_after p.text)
 
-abbrev pub AnswersLine : (faults faults_after : ℕ) → Given → Given → ((ℕ → State → Played) → Played) → State → Result ℕ Stop → Type 0
-AnswersLine faults faults_after printed printed_after line s (Ok next) = GoesOn printed printed_after line next s
-AnswersLine faults faults_after printed printed_after line s (Err e) = (more : ℕ → State → Played) → HeldAnswers faults faults_after printed printed_after (line more) (Err e)
+abbrev pub AnswersLine : Given → Given → ((ℕ → State → Played) → Played) → State → Result ℕ Stop → Type 0
+AnswersLine printed printed_after line s (Ok next) = GoesOn printed printed_after line next s
+AnswersLine printed printed_after line s (Err e) = (more : ℕ → State → Played) → HeldAnswers printed printed_after (line more) (Err e)
 
 -- what is played of the lines that a feed has ahead, where this rest of the text comes behind them: line k is the next one
 abbrev pub plays_fed : Image → FeedState → (rest : List ℕ) → (k n : ℕ) → State → Played
@@ -111,30 +111,61 @@ plays_fed i f rest k n s = plays i (enumerate_from k (text_lines (f.ahead ++ res
 abbrev pub MayFollow : FeedState → (rest : List ℕ) → Type 0
 MayFollow f rest = f.finished ≡ true → rest ≡ []
 
+-- No byte stands behind the LF of the last line.
+abbrev pub HaveEnded : (lines : List ℕ) → Type 0
+HaveEnded lines = (lines ≡ []) ⊎ ((before : List ℕ) × (lines ≡ before ++ 10 ∷ []))
+
+-- no line ends here
+abbrev pub HasNoEnd : List ℕ → Type 0
+HasNoEnd begun = position (λ c. c == 10) begun ≡ None
+
+-- Lines went from the front of the bytes ahead: they have ended, and what the play of them prints needs nothing behind them.
+pub record TakesLines (ahead ahead_after : List ℕ) (i : Image) (k n : ℕ) (s : State) (l m : ℕ) (t : State) (text : List ℕ) : Type 0 where
+  pub lines : List ℕ
+  pub parts : ahead ≡ lines ++ ahead_after
+  pub ended : HaveEnded lines
+  pub alone : (rest : List ℕ) → plays i (enumerate_from k (text_lines (lines ++ rest))) n s ≡ printing text (plays i (enumerate_from l (text_lines rest)) m t)
+
 -- The play went on from one feed, line, event and state to another ones: what it printed is the same whatever follows.
 pub record PlaysOn (printed printed_after : Given) (i : Image) (f g : FeedState) (k n : ℕ) (s : State) (l m : ℕ) (t : State) : Type 0 where
   pub text : List ℕ
   pub prints : Puts printed printed_after text
   pub goes_on : (rest : List ℕ) → MayFollow f rest → plays_fed i f rest k n s ≡ printing text (plays_fed i g rest l m t)
+  pub takes : f.finished ≡ false → TakesLines f.ahead g.ahead i k n s l m t text
 
--- what is left of a play of an event text that is read as it goes: it was played to its end, or a read failed at which
--- a front of it had been printed
-abbrev pub ReadAnswers : Option Files → (events : List ℕ) → (reads reads_after faults faults_after : ℕ) → Option (List ℕ) → Option (List ℕ) → (play : List ℕ → Played) → Result (Unit {0}) Stop → Type 0
-ReadAnswers files events reads reads_after faults faults_after printed printed_after play r =
-    OfFile files events (λ text. (length text ≤ MAX_EVENT_TEXT) × PlayAnswers faults faults_after printed printed_after (play text) r)
-    ⊎ ((r ≡ Err (stop.Unread input.Events)) × Rose reads reads_after × OfFile files events (λ text. (length text ≤ MAX_EVENT_TEXT) × WritesFront printed printed_after (play text).text))
+-- A read of a text failed behind its lines that have ended and a line that has begun. All that the play of those lines prints
+-- was printed: it is the front of what the play of the whole text prints.
+pub record StopsBehind (reads reads_after : ℕ → ℕ) (Prints : List ℕ → Type 0) (play : List ℕ → Played) (text : List ℕ) : Type 0 where
+  pub lines : List ℕ
+  pub begun : List ℕ
+  pub rest : List ℕ
+  pub parts : text ≡ (lines ++ begun) ++ rest
+  pub ended : HaveEnded lines
+  pub no_more : HasNoEnd begun
+  pub unread : Rose (reads (length (lines ++ begun))) (reads_after (length (lines ++ begun)))
+  pub prints : Prints (play lines).text
+  pub back : List ℕ
+  pub front : (play text).text ≡ (play lines).text ++ back
 
--- the same of a play whose texts are held back
-abbrev pub HeldReadAnswers : Option Files → (events : List ℕ) → (reads reads_after faults faults_after : ℕ) → Given → Given → (play : List ℕ → Played) → Result (Unit {0}) Stop → Type 0
-HeldReadAnswers files events reads reads_after faults faults_after printed printed_after play r =
-    OfFile files events (λ text. (length text ≤ MAX_EVENT_TEXT) × HeldAnswers faults faults_after printed printed_after (play text) r)
-    ⊎ ((r ≡ Err (stop.Unread input.Events)) × Rose reads reads_after × OfFile files events (λ text. (length text ≤ MAX_EVENT_TEXT) × PutsFront printed printed_after (play text).text))
+-- What is left of a play of an event text that is read as it goes, in which at most one read or write fails. It was played
+-- to its end, and no read failed; or a read failed and no write, so that all that was due of the text so far had been
+-- printed before that read.
+abbrev pub ReadAnswers : Option Files → (events : List ℕ) → (reads reads_after : ℕ → ℕ) → (out out_after : Sunk) → (play : List ℕ → Played) → Result (Unit {0}) Stop → Type 0
+ReadAnswers files events reads reads_after out out_after play r =
+    (((at : ℕ) → reads_after at ≡ reads at) × OfFile files events (λ text. (length text ≤ MAX_EVENT_TEXT) × PlayAnswers out out_after (play text) r))
+    ⊎ ((r ≡ Err (stop.Unread input.Events)) × OfFile files events (λ text. (length text ≤ MAX_EVENT_TEXT) × StopsBehind reads reads_after (Writes out out_after) play text))
+
+-- the same of a play whose texts are held back: nothing is held back where a read fails
+abbrev pub HeldReadAnswers : Option Files → (events : List ℕ) → (reads reads_after : ℕ → ℕ) → Given → Given → (play : List ℕ → Played) → Result (Unit {0}) Stop → Type 0
+HeldReadAnswers files events reads reads_after printed printed_after play r =
+    (((at : ℕ) → reads_after at ≡ reads at) × OfFile files events (λ text. (length text ≤ MAX_EVENT_TEXT) × HeldAnswers printed printed_after (play text) r))
+    ⊎ ((r ≡ Err (stop.Unread input.Events)) × (printed_after.held ≡ []) × OfFile files events (λ text. (length text ≤ MAX_EVENT_TEXT) × StopsBehind reads reads_after (Puts printed printed_after) play text))
 
 -- what is printed of an image from its start in a mode, under the lines of an event text
 abbrev pub whole_play : Image → ModeNo → List ℕ → Played
 whole_play i m text = printing (line_of i 0 (start i.app m)) (plays i (numbered_lines text) 1 (start i.app m).state)
 
 -- The text was played as it was read, or nothing as memory ran out.
-abbrev pub PlaysWhole : Option Files → (events : List ℕ) → (reads reads_after faults faults_after : ℕ) → Option (List ℕ) → Option (List ℕ) → Image → ModeNo → Result (Unit {0}) Stop → Type 0
-PlaysWhole files events reads reads_after faults faults_after printed printed_after i m r =
-    ((r ≡ Err stop.Memory) × (printed_after ≡ printed)) ⊎ ReadAnswers files events reads reads_after faults faults_after printed printed_after (whole_play i m) r
+abbrev pub PlaysWhole : Option Files → (events : List ℕ) → (reads reads_after : ℕ → ℕ) → (out out_after : Sunk) → Image → ModeNo → Result (Unit {0}) Stop → Type 0
+PlaysWhole files events reads reads_after out out_after i m r =
+    ((r ≡ Err stop.Memory) × (out_after ≡ out)) ⊎ ReadAnswers files events reads reads_after out out_after (whole_play i m) r

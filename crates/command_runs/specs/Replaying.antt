@@ -37,5 +37,5 @@ ImageStops before after image = InputStops before after input.Image image stop.I
 
 -- `replay` stops at the image and prints nothing, or the image runs and its trace is printed.
 pub data ReplayAnswers (before after : Outside) (image mode events : List ℕ) : Result (Unit {0}) Stop → Type 0 where
-  stops : (s : Stop) → ImageStops before.shelf after.shelf image s → after.printed ≡ before.printed → ReplayAnswers before after image mode events (Err s)
+  stops : (s : Stop) → ImageStops before.shelf after.shelf image s → after.out ≡ before.out → ReplayAnswers before after image mode events (Err s)
   runs : (r : Result (Unit {0}) Stop) → OfImage before.shelf.files image (λ i. RunAnswers before after i.app (image_trace i) (has_trap i) mode events r) → ReplayAnswers before after image mode events r

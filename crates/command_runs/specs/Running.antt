@@ -8,13 +8,12 @@ use Rattle.osek_values.specs.declared.numbers.ModeNo.{ModeNo}
 use Rattle.osek_values.specs.Numbers.{mode_no}
 use Rattle.osek_values.specs.declared.limits.TheConstants.{MAX_EVENT_TEXT}
 use Rattle.osek_standard.specs.declared.app.App.{App}
-use Rattle.osek_io.specs.Counts.{Rose}
+use Rattle.osek_io.specs.Sunk.{Writes}
 use Rattle.trace_text.specs.EventText.{read_text}
 use Rattle.trace_text.specs.declared.fault.FaultyLine.{FaultyLine}
 use Rattle.command_runs.specs.Inputs.{OfFile, NotLoaded}
 use Rattle.command_runs.specs.Outside.{Told, Outside}
-use Rattle.command_runs.specs.Playing.{Played, played, PlayAnswers}
-use Rattle.command_runs.specs.Telling.{WritesFront}
+use Rattle.command_runs.specs.Playing.{Played, played, PlayAnswers, StopsBehind}
 use Rattle.command_runs.specs.declared.stop.Input.TheVariants as input
 use Rattle.command_runs.specs.declared.stop.Stop.{Stop}
 use Rattle.command_runs.specs.declared.stop.Stop.TheVariants as stop
@@ -38,14 +37,15 @@ abbrev pub whole_run : App → (trace : ModeNo → List Event → List ℕ) → 
 whole_run app trace traps m text = let read = read_text app text in played (trace m read.events) (end_of (traps m read.events) read.fault)
 
 -- The application has no mode of the name; its mode is there, and the event text isn't loaded: nothing was printed, as
--- where memory ran out; or the text is within its limit, and the run was printed to its end, to a failed write or to a
--- failed read of the text.
+-- where memory ran out; or the text is within its limit, and the run was printed to its end or to a failed write, and no
+-- read of the text failed, or to a failed read of the text: all that was due of what had been read, and no write failed.
 pub data RunAnswers (before after : Outside) (app : App) (trace : ModeNo → List Event → List ℕ) (traps : ModeNo → List Event → Bool) (mode events : List ℕ) : Result (Unit {0}) Stop → Type 0 where
-  no_mode : mode_named app mode ≡ None → after.printed ≡ before.printed → RunAnswers before after app trace traps mode events (Err stop.NoMode)
-  stops : (m : ModeNo) (s : Stop) → mode_named app mode ≡ Some m → EventsStop before.shelf after.shelf events s → after.printed ≡ before.printed → RunAnswers before after app trace traps mode events (Err s)
+  no_mode : mode_named app mode ≡ None → after.out ≡ before.out → RunAnswers before after app trace traps mode events (Err stop.NoMode)
+  stops : (m : ModeNo) (s : Stop) → mode_named app mode ≡ Some m → EventsStop before.shelf after.shelf events s → after.out ≡ before.out → RunAnswers before after app trace traps mode events (Err s)
   plays : (m : ModeNo) (r : Result (Unit {0}) Stop) → mode_named app mode ≡ Some m
-      → OfFile before.shelf.files events (λ text. (length text ≤ MAX_EVENT_TEXT) × PlayAnswers before.faults after.faults before.printed after.printed (whole_run app trace traps m text) r)
+      → ((at : ℕ) → after.shelf.reads events at ≡ before.shelf.reads events at)
+      → OfFile before.shelf.files events (λ text. (length text ≤ MAX_EVENT_TEXT) × PlayAnswers before.out after.out (whole_run app trace traps m text) r)
       → RunAnswers before after app trace traps mode events r
-  unread_on : (m : ModeNo) → mode_named app mode ≡ Some m → Rose (before.shelf.reads events) (after.shelf.reads events)
-      → OfFile before.shelf.files events (λ text. (length text ≤ MAX_EVENT_TEXT) × WritesFront before.printed after.printed (whole_run app trace traps m text).text)
+  unread_on : (m : ModeNo) → mode_named app mode ≡ Some m
+      → OfFile before.shelf.files events (λ text. (length text ≤ MAX_EVENT_TEXT) × StopsBehind (before.shelf.reads events) (after.shelf.reads events) (Writes before.out after.out) (whole_run app trace traps m) text)
       → RunAnswers before after app trace traps mode events (Err (stop.Unread input.Events))

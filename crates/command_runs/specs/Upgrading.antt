@@ -29,4 +29,4 @@ pub data UpgradeAnswers (before after : Outside) (image upgraded : List ℕ) : R
   stops : (s : Stop) → ImageStops before.shelf after.shelf image s → SameFiles before.shelf after.shelf → UpgradeAnswers before after image upgraded (Err s)
   already : OfImage before.shelf.files image (λ i. i.version ≡ Two) → SameFiles before.shelf after.shelf → UpgradeAnswers before after image upgraded (Err stop.AlreadyNew)
   fails : Rose before.shelf.writes after.shelf.writes → OfImage before.shelf.files image (StoresUpgradedFront before after upgraded) → UpgradeAnswers before after image upgraded (Err stop.Unstored)
-  stores : OfImage before.shelf.files image (StoresUpgraded before after upgraded) → UpgradeAnswers before after image upgraded (Ok tt)
+  stores : after.shelf.writes ≡ before.shelf.writes → OfImage before.shelf.files image (StoresUpgraded before after upgraded) → UpgradeAnswers before after image upgraded (Ok tt)

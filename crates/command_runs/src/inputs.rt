@@ -115,7 +115,7 @@ pub fn read_on<F: Shelf>(
     ensures more { IfOk result (ReadsOn (F.contents shelf.old) name.now taken feed.old.ahead feed.new.ahead) }
     ensures finished { IfOk result (λ n. feed.new.finished ≡ (n == 0)) }
     ensures stop { OnErr result (result ≡ Err (Stop.Unread Input.Events)) }
-    ensures cause { OnErr result (Rose (F.read_faults shelf.old name.now) (F.read_faults shelf.new name.now) ⊎ IsMissing (F.contents shelf.old) name.now) }
+    ensures cause { OnErr result (Rose (F.read_faults shelf.old name.now taken) (F.read_faults shelf.new name.now taken) ⊎ IsMissing (F.contents shelf.old) name.now) }
     ensures same { OnlyReads F.Shelf shelf.old shelf.new }
     ensures no_fault { OnOk result (Same (F.read_faults shelf.old) (F.read_faults shelf.new)) }
 {

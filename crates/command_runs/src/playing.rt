@@ -4,13 +4,13 @@ ghost use Rattle.osek_standard.specs.Apps.{IsDeclared};
 ghost use Rattle.osek_standard.specs.Dispatch.{stepped};
 ghost use Rattle.osek_standard.specs.TraceText.{line_text};
 ghost use Rattle.osek_io.specs.Counts.{Rose};
-ghost use Rattle.osek_io.specs.Pieces.{grown};
 ghost use Rattle.osek_io.specs.Reads.{OnlyReads};
 ghost use Rattle.osek_io.specs.Stored.{WritesPart};
+ghost use Rattle.osek_io.specs.Sunk.{sunk, Writes};
 ghost use Rattle.image_model.specs.ImageStep.{image_step};
 ghost use Rattle.image_model.specs.ImageTrace.{trap_line};
 ghost use Rattle.command_runs.specs.Inputs.{OfFile};
-ghost use Rattle.command_runs.specs.Playing.{plays, plays_fed, played_line, given, Puts, PutsFront, MayFollow, PlaysOn, HeldAnswers, HeldReadAnswers, AnswersEvent, AnswersLine};
+ghost use Rattle.command_runs.specs.Playing.{plays, plays_fed, played_line, given, Puts, PutsFront, MayFollow, HasNoEnd, PlaysOn, HeldAnswers, HeldReadAnswers, AnswersEvent, AnswersLine};
 ghost use Rattle.trace_text.specs.EventWords.{read_line};
 ghost use Rattle.trace_text.specs.EventText.{numbered_lines};
 ghost use Rattle.trace_text.specs.Feeds.{no_bytes};
@@ -41,11 +41,9 @@ pub fn print_line<O: Sink>(
 ) -> Result<(), Stop>
     requires { ArePartsOf machine.now.image.app parts.old }
     ensures parts { ArePartsOf machine.now.image.app parts.new }
-    ensures ok { OnOk result (Puts (given (O.written out.old) buffer.old) (given (O.written out.new) buffer.new) (line_text machine.now.image.app number (stepped machine.now.state notes.now) ++ 10 ∷ [])) }
-    ensures front { OnErr result (PutsFront (given (O.written out.old) buffer.old) (given (O.written out.new) buffer.new) (line_text machine.now.image.app number (stepped machine.now.state notes.now) ++ 10 ∷ [])) }
-    ensures cause { OnErr result (Rose (O.faults out.old) (O.faults out.new)) }
+    ensures ok { OnOk result (Puts (given (sunk O.Sink out.old) buffer.old) (given (sunk O.Sink out.new) buffer.new) (line_text machine.now.image.app number (stepped machine.now.state notes.now) ++ 10 ∷ [])) }
+    ensures front { OnErr result (PutsFront (given (sunk O.Sink out.old) buffer.old) (given (sunk O.Sink out.new) buffer.new) (line_text machine.now.image.app number (stepped machine.now.state notes.now) ++ 10 ∷ [])) }
     ensures error { OnErr result (result ≡ Err Unprinted) }
-    ensures never_falls { O.faults out.old ≤ O.faults out.new }
 {
     parts.show(machine.app(), machine.state());
     parts.count(number);
@@ -63,12 +61,11 @@ pub fn print_line<O: Sink>(
 
 /// Prints what is held back.
 pub fn print_held<O: Sink>(out: &mut O, buffer: &mut PutBuffer) -> Result<(), Stop>
-    ensures ok { OnOk result (O.written out.new ≡ grown (O.written out.old) buffer.old) }
+    ensures ok { OnOk result (Writes (sunk O.Sink out.old) (sunk O.Sink out.new) buffer.old) }
     ensures part { OnErr result (WritesPart (O.written out.old) (O.written out.new) buffer.old) }
     ensures nothing_held { buffer.new ≡ [] }
     ensures cause { OnErr result (Rose (O.faults out.old) (O.faults out.new)) }
     ensures error { OnErr result (result ≡ Err Unprinted) }
-    ensures never_falls { O.faults out.old ≤ O.faults out.new }
 {
     match buffer.flush(out) {
         Ok(()) => Ok(()),
@@ -78,11 +75,9 @@ pub fn print_held<O: Sink>(out: &mut O, buffer: &mut PutBuffer) -> Result<(), St
 
 /// Prints the line of a trap at event n, behind what is held back.
 fn print_trap<O: Sink>(out: &mut O, buffer: &mut PutBuffer, number: u64) -> Result<(), Stop>
-    ensures ok { OnOk result (Puts (given (O.written out.old) buffer.old) (given (O.written out.new) buffer.new) (trap_line number)) }
-    ensures front { OnErr result (PutsFront (given (O.written out.old) buffer.old) (given (O.written out.new) buffer.new) (trap_line number)) }
-    ensures cause { OnErr result (Rose (O.faults out.old) (O.faults out.new)) }
+    ensures ok { OnOk result (Puts (given (sunk O.Sink out.old) buffer.old) (given (sunk O.Sink out.new) buffer.new) (trap_line number)) }
+    ensures front { OnErr result (PutsFront (given (sunk O.Sink out.old) buffer.old) (given (sunk O.Sink out.new) buffer.new) (trap_line number)) }
     ensures error { OnErr result (result ≡ Err Unprinted) }
-    ensures never_falls { O.faults out.old ≤ O.faults out.new }
 {
     match print_held(out, buffer) {
         Ok(()) => {}
@@ -111,8 +106,7 @@ fn play_event<L: Ledger, O: Sink>(
     ensures image { machine.new.image ≡ machine.old.image }
     ensures parts { OnOk result (ArePartsOf machine.old.image.app parts.new) }
     ensures running { OnOk result (machine.new.trapped ≡ false) }
-    ensures never_falls { O.faults out.old ≤ O.faults out.new }
-    ensures event { AnswersEvent (O.faults out.old) (O.faults out.new) (given (O.written out.old) buffer.old) (given (O.written out.new) buffer.new) machine.old.image number machine.new.state (image_step machine.old.image machine.old.state event) result }
+    ensures event { AnswersEvent (given (sunk O.Sink out.old) buffer.old) (given (sunk O.Sink out.new) buffer.new) machine.old.image number machine.new.state (image_step machine.old.image machine.old.state event) result }
 {
     let mut notes = Notes {
         status: None,
@@ -151,8 +145,7 @@ fn play_line<L: Ledger, O: Sink>(
     ensures parts { OnOk result (ArePartsOf machine.old.image.app parts.new) }
     ensures running { OnOk result (machine.new.trapped ≡ false) }
     ensures next { IfOk result (λ n. n ≤ number + 1) }
-    ensures never_falls { O.faults out.old ≤ O.faults out.new }
-    ensures line { AnswersLine (O.faults out.old) (O.faults out.new) (given (O.written out.old) buffer.old) (given (O.written out.new) buffer.new) (λ more. played_line machine.old.image number machine.old.state line_number more (read_line machine.old.image.app event_line.now)) machine.new.state result }
+    ensures line { AnswersLine (given (sunk O.Sink out.old) buffer.old) (given (sunk O.Sink out.new) buffer.new) (λ more. played_line machine.old.image number machine.old.state line_number more (read_line machine.old.image.app event_line.now)) machine.new.state result }
 {
     match read_event(machine.app(), event_line) {
         Ok(None) => Ok(number),
@@ -193,16 +186,16 @@ fn play_ahead<L: Ledger, O: Sink>(
     ensures image { machine.new.image ≡ machine.old.image }
     ensures parts { OnOk result (ArePartsOf machine.old.image.app parts.new) }
     ensures running { OnOk result (machine.new.trapped ≡ false) }
-    ensures never_falls { O.faults out.old ≤ O.faults out.new }
 
     ensures few { IfOk result (λ p. p.event ≤ p.line) }
     ensures fits { IfOk result (λ p. p.line + length feed.new.ahead ≤ start.line + length feed.old.ahead) }
     ensures finished { feed.new.finished ≡ feed.old.finished }
     ensures waits { OnOk result (length feed.new.ahead ≤ MAX_EVENT_LINE) }
     ensures ended { OnOk result (feed.new.finished ≡ true → feed.new.ahead ≡ []) }
+    ensures no_more { OnOk result (HasNoEnd feed.new.ahead) }
 
-    ensures plays { IfOk result (λ p. PlaysOn (given (O.written out.old) buffer.old) (given (O.written out.new) buffer.new) machine.old.image feed.old feed.new start.line start.event machine.old.state p.line p.event machine.new.state) }
-    ensures stops { IfErr result (λ e. (rest : List ℕ) → MayFollow feed.old rest → HeldAnswers (O.faults out.old) (O.faults out.new) (given (O.written out.old) buffer.old) (given (O.written out.new) buffer.new) (plays_fed machine.old.image feed.old rest start.line start.event machine.old.state) (Err e)) }
+    ensures plays { IfOk result (λ p. PlaysOn (given (sunk O.Sink out.old) buffer.old) (given (sunk O.Sink out.new) buffer.new) machine.old.image feed.old feed.new start.line start.event machine.old.state p.line p.event machine.new.state) }
+    ensures stops { IfErr result (λ e. (rest : List ℕ) → MayFollow feed.old rest → HeldAnswers (given (sunk O.Sink out.old) buffer.old) (given (sunk O.Sink out.new) buffer.new) (plays_fed machine.old.image feed.old rest start.line start.event machine.old.state) (Err e)) }
 {
     let mut place = start;
     'lines: while let FeedStep::Line = feed.next() {
@@ -243,8 +236,7 @@ pub fn play<L: Ledger, F: Shelf, O: Sink>(
     requires parts { ArePartsOf machine.old.image.app parts.old }
     requires empty { feed.old ≡ no_bytes }
     requires text { OfFile (F.contents shelf.old) events.now (λ t. length t ≤ MAX_EVENT_TEXT) }
-    ensures never_falls { O.faults out.old ≤ O.faults out.new }
-    ensures answer { HeldReadAnswers (F.contents shelf.old) events.now (F.read_faults shelf.old events.now) (F.read_faults shelf.new events.now) (O.faults out.old) (O.faults out.new) (given (O.written out.old) buffer.old) (given (O.written out.new) buffer.new) (λ t. plays machine.old.image (numbered_lines t) 1 machine.old.state) result }
+    ensures answer { HeldReadAnswers (F.contents shelf.old) events.now (F.read_faults shelf.old events.now) (F.read_faults shelf.new events.now) (given (sunk O.Sink out.old) buffer.old) (given (sunk O.Sink out.new) buffer.new) (λ t. plays machine.old.image (numbered_lines t) 1 machine.old.state) result }
     ensures same { OnlyReads F.Shelf shelf.old shelf.new }
 {
     let mut place = Place { event: 1, line: 1 };

@@ -3,6 +3,7 @@ ghost use Rattle.std.specs.Prelude.{◌≡◌, ◌≤◌, ◌<◌, [], length, t
 ghost use Rattle.std.specs.List.{position};
 ghost use Rattle.std.specs.Str.{bytes_eq};
 ghost use Rattle.osek_io.specs.Reads.{OnlyReads};
+ghost use Rattle.osek_io.specs.Sunk.{sunk};
 ghost use Rattle.trace_text.specs.EventText.{numbered_lines};
 ghost use Rattle.trace_text.specs.Feeds.{no_bytes};
 ghost use Rattle.trace_text.specs.LineParts.{ArePartsOf};
@@ -70,8 +71,7 @@ fn print_trace<L: Ledger, F: Shelf, O: Sink>(
     requires of_app { ArePartsOf machine.old.image.app parts.old }
     requires empty { feed.old ≡ no_bytes }
     requires text { OfFile (F.contents shelf.old) events.name.now (λ t. length t ≤ MAX_EVENT_TEXT) }
-    ensures never_falls { O.faults out.old ≤ O.faults out.new }
-    ensures answer { HeldReadAnswers (F.contents shelf.old) events.entry.name.now (F.read_faults shelf.old events.entry.name.now) (F.read_faults shelf.new events.entry.name.now) (O.faults out.old) (O.faults out.new) (given (O.written out.old) buffer.old) (given (O.written out.new) buffer.new) (λ t. printing (line_of machine.old.image 0 (stepped machine.old.state notes.now)) (plays machine.old.image (numbered_lines t) 1 machine.old.state)) result }
+    ensures answer { HeldReadAnswers (F.contents shelf.old) events.entry.name.now (F.read_faults shelf.old events.entry.name.now) (F.read_faults shelf.new events.entry.name.now) (given (sunk O.Sink out.old) buffer.old) (given (sunk O.Sink out.new) buffer.new) (λ t. printing (line_of machine.old.image 0 (stepped machine.old.state notes.now)) (plays machine.old.image (numbered_lines t) 1 machine.old.state)) result }
     ensures same { OnlyReads F.Shelf shelf.old shelf.new }
 {
     let mut scans = Steps::<L>::of(blank);
@@ -112,7 +112,7 @@ fn play_machine<F: Shelf, O: Sink>(
     requires empty { room.old.feed ≡ no_bytes }
     requires nothing_held { room.old.buffer ≡ [] }
     requires text { OfFile (F.contents shelf.old) events.now (λ t. length t ≤ MAX_EVENT_TEXT) }
-    ensures answer { ReadAnswers (F.contents shelf.old) events.now (F.read_faults shelf.old events.now) (F.read_faults shelf.new events.now) (O.faults out.old) (O.faults out.new) (O.written out.old) (O.written out.new) (λ t. printing (line_of machine.image 0 (stepped machine.state notes.now)) (plays machine.image (numbered_lines t) 1 machine.state)) result }
+    ensures answer { ReadAnswers (F.contents shelf.old) events.now (F.read_faults shelf.old events.now) (F.read_faults shelf.new events.now) (sunk O.Sink out.old) (sunk O.Sink out.new) (λ t. printing (line_of machine.image 0 (stepped machine.state notes.now)) (plays machine.image (numbered_lines t) 1 machine.state)) result }
     ensures same { OnlyReads F.Shelf shelf.old shelf.new }
 {
     let played = print_trace::<Brand, F, O>(
@@ -147,7 +147,7 @@ fn play_with<F: Shelf, O: Sink>(
     requires empty { room.old.feed ≡ no_bytes }
     requires nothing_held { room.old.buffer ≡ [] }
     requires text { OfFile (F.contents shelf.old) events.now (λ t. length t ≤ MAX_EVENT_TEXT) }
-    ensures answer { PlaysWhole (F.contents shelf.old) events.now (F.read_faults shelf.old events.now) (F.read_faults shelf.new events.now) (O.faults out.old) (O.faults out.new) (O.written out.old) (O.written out.new) image mode result }
+    ensures answer { PlaysWhole (F.contents shelf.old) events.now (F.read_faults shelf.old events.now) (F.read_faults shelf.new events.now) (sunk O.Sink out.old) (sunk O.Sink out.new) image mode result }
     ensures same { OnlyReads F.Shelf shelf.old shelf.new }
 {
     let mut parts = LineParts::of(&image.app);
@@ -195,7 +195,7 @@ fn play_image<F: Shelf, O: Sink>(
 ) -> Result<(), Stop>
     requires known { mode.0 < length image.app.modes }
     requires text { OfFile (F.contents shelf.old) events.now (λ t. length t ≤ MAX_EVENT_TEXT) }
-    ensures answer { PlaysWhole (F.contents shelf.old) events.now (F.read_faults shelf.old events.now) (F.read_faults shelf.new events.now) (O.faults out.old) (O.faults out.new) (O.written out.old) (O.written out.new) image mode result }
+    ensures answer { PlaysWhole (F.contents shelf.old) events.now (F.read_faults shelf.old events.now) (F.read_faults shelf.new events.now) (sunk O.Sink out.old) (sunk O.Sink out.new) image mode result }
     ensures same { OnlyReads F.Shelf shelf.old shelf.new }
 {
     match play_room(alloc) {

@@ -13,6 +13,7 @@ pub fn put_two<E: Sink>(err: &mut E, first: &[u8], second: &[u8]) -> Result<(), 
     ensures ok { OnOk result (E.written err.new ≡ grown (E.written err.old) (first.now ++ second.now)) }
     ensures front { OnErr result (WritesFront (E.written err.old) (E.written err.new) (first.now ++ second.now)) }
     ensures cause { OnErr result (Rose (E.faults err.old) (E.faults err.new)) }
+    ensures no_fault { OnOk result (E.faults err.new ≡ E.faults err.old) }
     ensures never_falls { E.faults err.old ≤ E.faults err.new }
 {
     put_all(err, first)?;
@@ -30,6 +31,7 @@ pub fn put_three<E: Sink>(
     ensures ok { OnOk result (E.written err.new ≡ grown (E.written err.old) (first.now ++ second.now ++ third.now)) }
     ensures front { OnErr result (WritesFront (E.written err.old) (E.written err.new) (first.now ++ second.now ++ third.now)) }
     ensures cause { OnErr result (Rose (E.faults err.old) (E.faults err.new)) }
+    ensures no_fault { OnOk result (E.faults err.new ≡ E.faults err.old) }
     ensures never_falls { E.faults err.old ≤ E.faults err.new }
 {
     put_two(err, first, second)?;
@@ -42,6 +44,7 @@ fn put_place<E: Sink>(err: &mut E, file: &[u8], place: u64) -> Result<(), PutErr
     ensures ok { OnOk result (E.written err.new ≡ grown (E.written err.old) (file.now ++ codes ":" ++ decimal place)) }
     ensures front { OnErr result (WritesFront (E.written err.old) (E.written err.new) (file.now ++ codes ":" ++ decimal place)) }
     ensures cause { OnErr result (Rose (E.faults err.old) (E.faults err.new)) }
+    ensures no_fault { OnOk result (E.faults err.new ≡ E.faults err.old) }
     ensures never_falls { E.faults err.old ≤ E.faults err.new }
 {
     let mut digits = Buffer::new();
@@ -59,6 +62,7 @@ pub fn tell_fault<E: Sink>(
     ensures ok { OnOk result (E.written err.new ≡ grown (E.written err.old) (fault_text file.now place rule.now)) }
     ensures front { OnErr result (WritesFront (E.written err.old) (E.written err.new) (fault_text file.now place rule.now)) }
     ensures cause { OnErr result (Rose (E.faults err.old) (E.faults err.new)) }
+    ensures no_fault { OnOk result (E.faults err.new ≡ E.faults err.old) }
     ensures never_falls { E.faults err.old ≤ E.faults err.new }
 {
     put_place(err, file, place)?;

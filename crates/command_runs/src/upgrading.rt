@@ -1,7 +1,8 @@
 //! The command `upgrade`: the image of version 2 that becomes of an image of version 1.
-ghost use Rattle.std.specs.Prelude.{◌≡◌, ◌⊎◌, ℕ, List, Option, IfOk, IfErr};
+ghost use Rattle.std.specs.Prelude.{◌≡◌, ◌⊎◌, IfOk, IfErr};
 ghost use Rattle.image_model.specs.declared.image.Version.TheVariants as a_version;
 ghost use Rattle.image_codec.specs.Spelling.{spelling};
+ghost use Rattle.osek_io.specs.Sunk.{Sunk};
 ghost use Rattle.command_runs.specs.Outside.{beside, told};
 ghost use Rattle.command_runs.specs.Upgrading.{SpellsUpgraded, UpgradeAnswers};
 ghost use Rattle.command_runs.specs.declared.stop.Stop.TheVariants as a_stop;
@@ -48,7 +49,7 @@ pub fn upgrade<F: Shelf>(
     image: &str,
     upgraded: &str,
 ) -> Result<(), Stop>
-    ensures answer { (faults : ℕ) (printed : Option (List ℕ)) → UpgradeAnswers (beside (told F.Shelf shelf.old) faults printed) (beside (told F.Shelf shelf.new) faults printed) image.now upgraded.now result }
+    ensures answer { (out : Sunk) → UpgradeAnswers (beside (told F.Shelf shelf.old) out) (beside (told F.Shelf shelf.new) out) image.now upgraded.now result }
 {
     let loaded = match load_image(alloc, shelf, image) {
         Ok(image) => image,

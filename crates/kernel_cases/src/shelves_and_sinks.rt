@@ -2,7 +2,7 @@
 //! numbers of the calls, and the real files and streams.
 use osek_io::{
     Failed, FileShelf, LoadError, MemShelf, MemSink, PUT_ROOM, PutBuffer, PutError, Shelf, Sink,
-    StdSink, load, put_all, store,
+    StdSink, Stream, load, put_all, store,
 };
 use osek_values::Memory;
 use std::alloc::Global;
@@ -306,6 +306,12 @@ impl Write for Failing {
     fn flush(&mut self) -> io::Result<()> {
         Ok(())
     }
+}
+
+impl Stream for Failing {
+    ghost tells = { false };
+
+    ghost always = { λ _. refl };
 }
 
 #[test]

@@ -76,21 +76,21 @@ pub read_pieces : (s : ShelfState) (o : Option (List ℕ)) (at : ℕ) (into : Li
 read_pieces s o at into len (Ok n) most same e front = λ bytes h. read_meets s at into bytes o n most h (e ∙ ap (read_answer s o at) same) front
 read_pieces s o at into len (Err f) most same e front = tt
 
--- A `create` that is Ok made the file hold nothing, and one that isn't counted a fault.
+-- A `create` that is Ok made the file hold nothing and counted no fault, and one that isn't counted one.
 abbrev Creates : ShelfState → ShelfState → List ℕ → Result (Unit {0}) Failed → Type 0
-Creates s t name r = OnOk r (Some t.files ≡ with_file (Some s.files) name []) × OnErr r (Rose s.write_faults t.write_faults)
+Creates s t name r = OnOk r (Some t.files ≡ with_file (Some s.files) name []) × OnErr r (Rose s.write_faults t.write_faults) × OnOk r (t.write_faults ≡ s.write_faults)
 
 pub create_meets : (s t : ShelfState) (name : List ℕ) (o : Option ℕ) (r : Result (Unit {0}) Failed) → s.write_faults < 2 ^ 64 → r ≡ create_answer s o → t ≡ after_create s name o → Creates s t name r
 create_meets s t name None r range a f =
     let count = ap (λ (x : ShelfState). x.write_faults) f in
-    subst (λ (x : Result (Unit {0}) Failed). Creates s t name x) (sym a) (tt, omega arith)
+    subst (λ (x : Result (Unit {0}) Failed). Creates s t name x) (sym a) (tt, omega arith, tt)
 create_meets s t name (Some room) r range a f =
     elim (is_listed s.fails s.calls) as (λ b. r ≡ cond b (Err (record {})) (Ok tt) → t ≡ cond b (after_failed_write s) (after_write s name []) → Creates s t name r) [
       | true ↦ λ a' f'.
           let count = ap (λ (x : ShelfState). x.write_faults) f' in
-          subst (λ (x : Result (Unit {0}) Failed). Creates s t name x) (sym a') (tt, omega arith)
+          subst (λ (x : Result (Unit {0}) Failed). Creates s t name x) (sym a') (tt, omega arith, tt)
       | false ↦ λ a' f'.
-          subst (λ (x : Result (Unit {0}) Failed). Creates s t name x) (sym a') (ap (λ (x : ShelfState). Some x.files) f', tt)
+          subst (λ (x : Result (Unit {0}) Failed). Creates s t name x) (sym a') (ap (λ (x : ShelfState). Some x.files) f', tt, ap (λ (x : ShelfState). x.write_faults) f')
     ] a f
 
 -- An `append` that is Ok added a front of the piece.

@@ -39,13 +39,10 @@ grows_file before so_far now name bytes done n h e =
     let one : now ≡ with_more (with_file before name (take done bytes)) name (take n (take (length bytes - done) (drop done bytes))) = e ∙ ap (λ (o : Option Files). with_more o name (take n (take (length bytes - done) (drop done bytes)))) h in
     one ∙ with_more-with_file before name _ _ ∙ ap (with_file before name) (sym (one_piece bytes done n))
 
-pub rises : (a b c : ℕ) → a ≤ b → Rose b c → Rose a c
-rises a b c le h = omega arith
-
 -- A file that was set doesn't miss.
-pub rises_there : (before now : Option Files) (name bytes : List ℕ) (a b c : ℕ) → now ≡ with_file before name bytes → a ≤ b → Rose b c ⊎ IsMissing now name → Rose a c
-rises_there before now name bytes a b c e le (inl h) = rises a b c le h
-rises_there before now name bytes a b c e le (inr missing) = absurd (with_file-there before name bytes (subst (λ (o : Option Files). IsMissing o name) e missing))
+pub rises_there : (before now : Option Files) (name bytes : List ℕ) (a b c : ℕ) → now ≡ with_file before name bytes → b ≡ a → Rose b c ⊎ IsMissing now name → Rose a c
+rises_there before now name bytes a b c e same (inl h) = subst (λ (n : ℕ). Rose n c) same h
+rises_there before now name bytes a b c e same (inr missing) = absurd (with_file-there before name bytes (subst (λ (o : Option Files). IsMissing o name) e missing))
 
 -- Another piece was read: what was read is a front of the file.
 pub reads_on : (so_far piece all now : List ℕ) (at n : ℕ) → so_far ≡ take (length so_far) all → at ≡ length so_far → ReadsPiece all at piece n → now ≡ so_far ++ take n piece → now ≡ take (length now) all

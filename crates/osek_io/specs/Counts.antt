@@ -10,13 +10,21 @@ one_more count = min (count + 1) (2 ^ 64 - 1)
 abbrev pub Rose : ℕ → ℕ → Type 0
 Rose before now = one_more before ≤ now
 
--- each name's count is as it was
-abbrev pub Same : (before now : List ℕ → ℕ) → Type 0
-Same before now = (name : List ℕ) → now name ≡ before name
+-- counts of failed reads, by the name of the file and the place in it
+abbrev pub ReadFaults : Type 0
+ReadFaults = List ℕ → ℕ → ℕ
 
--- no name's count fell
-abbrev pub NeverFall : (before now : List ℕ → ℕ) → Type 0
-NeverFall before now = (name : List ℕ) → before name ≤ now name
+-- each count is as it was
+abbrev pub Same : (before now : ReadFaults) → Type 0
+Same before now = (name : List ℕ) (at : ℕ) → now name at ≡ before name at
+
+-- no count fell
+abbrev pub NeverFall : (before now : ReadFaults) → Type 0
+NeverFall before now = (name : List ℕ) (at : ℕ) → before name at ≤ now name at
+
+-- the count of some place rose
+abbrev pub RoseSomewhere : (before now : ℕ → ℕ) → Type 0
+RoseSomewhere before now = (at : ℕ) × Rose (before at) (now at)
 
 -- After so many calls the next one is listed, by its number from 1.
 abbrev pub is_listed : List ℕ → ℕ → Bool

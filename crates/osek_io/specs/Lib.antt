@@ -8,3 +8,4 @@ pub mod MemSink
 pub mod Place
 pub mod MemShelf
 pub mod ShelfCode
+pub mod Sunk

@@ -75,7 +75,7 @@ fn append_to<R: Files>(files: &R, name: &str, piece: &[u8]) -> Result<usize, Fai
 impl<R: Files> Shelf for FileShelf<R> {
     ghost contents = { λ _. None };
 
-    ghost read_faults = { λ s _. s.read_faults };
+    ghost read_faults = { λ s _ _. s.read_faults };
 
     ghost asked = { λ _. 0 };
 

@@ -2,7 +2,7 @@
 //!
 //! `Shelf` and `Sink` are what the project asks of it. `MemShelf` and `MemSink` meet them in memory,
 //! with scripted failures, and tell all that they hold. `FileShelf` and `StdSink` meet them over std's
-//! files and streams, and tell nothing.
+//! files and streams: the first tells nothing, the second what its stream tells.
 #![tactic(auto)]
 
 mod counts;
@@ -32,3 +32,4 @@ pub use shelf::Shelf;
 pub use sink::Sink;
 pub use std_sink::StdSink;
 pub use storing::{PutError, put_all, store};
+pub use stream::Stream;

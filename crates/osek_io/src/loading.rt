@@ -1,6 +1,6 @@
 //! Whole files.
 ghost use Rattle.std.specs.Prelude.{◌≡◌, ◌≤◌, ◌<◌, ◌+◌, ◌⊎◌, ℕ, List, length, max, IfOk, OnOk, IsErrOf};
-ghost use Rattle.osek_io.specs.Counts.{Rose, Same};
+ghost use Rattle.osek_io.specs.Counts.{RoseSomewhere, Same};
 ghost use Rattle.osek_io.specs.Files.{Holds, IsMissing};
 ghost use Rattle.osek_io.specs.Reads.{OnlyReads};
 ghost use Rattle.osek_io.specs.declared.loading.LoadError.TheVariants.{Memory};
@@ -65,7 +65,7 @@ pub fn load<F: Shelf>(
     ensures bytes { IfOk result (λ v. (bytes : List ℕ) → Holds (F.contents shelf.old) name.now bytes → v.items ≡ bytes) }
     ensures within { IfOk result (λ v. length v.items ≤ most) }
 
-    ensures read { IsErrOf result LoadError.Read → Rose (F.read_faults shelf.old name.now) (F.read_faults shelf.new name.now) ⊎ IsMissing (F.contents shelf.old) name.now }
+    ensures read { IsErrOf result LoadError.Read → RoseSomewhere (F.read_faults shelf.old name.now) (F.read_faults shelf.new name.now) ⊎ IsMissing (F.contents shelf.old) name.now }
     ensures missing { IsMissing (F.contents shelf.old) name.now → IsErrOf result LoadError.Read }
     ensures uncounted { IsMissing (F.contents shelf.old) name.now → Same (F.read_faults shelf.old) (F.read_faults shelf.new) }
     ensures too_long { IsErrOf result LoadError.TooLong → ((bytes : List ℕ) → Holds (F.contents shelf.old) name.now bytes → most < length bytes) × Same (F.read_faults shelf.old) (F.read_faults shelf.new) }

@@ -182,7 +182,7 @@ impl Shelf for MemShelf {
 
     ghost contents = { λ s. Some s.files };
 
-    ghost read_faults = { λ s _. s.read_faults };
+    ghost read_faults = { λ s _ _. s.read_faults };
 
     ghost asked = { λ _. 0 };
 
@@ -193,9 +193,9 @@ impl Shelf for MemShelf {
         ensures piece { IfOk result (λ n. (bytes : List ℕ) → Holds (Some self.old.files) name.now bytes → ReadsPiece bytes at into.new n) }
         ensures cause { OnErr result (Rose self.old.read_faults self.new.read_faults ⊎ IsMissing (Some self.old.files) name.now) }
         ensures missing { IsMissing (Some self.old.files) name.now → IsErr result }
-        ensures uncounted { IsMissing (Some self.old.files) name.now → Same (λ _. self.old.read_faults) (λ _. self.new.read_faults) }
-        ensures no_fault { OnOk result (Same (λ _. self.old.read_faults) (λ _. self.new.read_faults)) }
-        ensures never_falls { NeverFall (λ _. self.old.read_faults) (λ _. self.new.read_faults) }
+        ensures uncounted { IsMissing (Some self.old.files) name.now → Same (λ _ _. self.old.read_faults) (λ _ _. self.new.read_faults) }
+        ensures no_fault { OnOk result (Same (λ _ _. self.old.read_faults) (λ _ _. self.new.read_faults)) }
+        ensures never_falls { NeverFall (λ _ _. self.old.read_faults) (λ _ _. self.new.read_faults) }
         ensures asked { 0 ≤ max 0 (at + length into.old) }
         ensures same_files { Some self.new.files ≡ Some self.old.files }
         ensures same_writes { self.new.write_faults ≡ self.old.write_faults }
@@ -209,8 +209,9 @@ impl Shelf for MemShelf {
         ensures ok { OnOk result (Some self.new.files ≡ with_file (Some self.old.files) name.now []) }
         ensures err { OnErr result (Some self.new.files ≡ Some self.old.files) }
         ensures cause { OnErr result (Rose self.old.write_faults self.new.write_faults) }
+        ensures no_fault { OnOk result (self.new.write_faults ≡ self.old.write_faults) }
         ensures never_falls { self.old.write_faults ≤ self.new.write_faults }
-        ensures same_reads { Same (λ _. self.old.read_faults) (λ _. self.new.read_faults) }
+        ensures same_reads { Same (λ _ _. self.old.read_faults) (λ _ _. self.new.read_faults) }
         ensures answer { result ≡ create_answer self.old (get self.old.rooms name.now) }
         ensures after { self.new ≡ after_create self.old name.now (get self.old.rooms name.now) }
     {
@@ -225,8 +226,9 @@ impl Shelf for MemShelf {
         ensures cause { OnErr result (Rose self.old.write_faults self.new.write_faults ⊎ IsMissing (Some self.old.files) name.now) }
         ensures missing { IsMissing (Some self.old.files) name.now → IsErr result }
         ensures uncounted { IsMissing (Some self.old.files) name.now → self.new.write_faults ≡ self.old.write_faults }
+        ensures no_fault { OnOk result (self.new.write_faults ≡ self.old.write_faults) }
         ensures never_falls { self.old.write_faults ≤ self.new.write_faults }
-        ensures same_reads { Same (λ _. self.old.read_faults) (λ _. self.new.read_faults) }
+        ensures same_reads { Same (λ _ _. self.old.read_faults) (λ _ _. self.new.read_faults) }
         ensures answer { result ≡ append_answer self.old (get self.old.files name.now) (unwrap_or (get self.old.rooms name.now) 0) piece.now }
         ensures after { self.new ≡ after_append self.old name.now (get self.old.files name.now) (unwrap_or (get self.old.rooms name.now) 0) piece.now }
     {

@@ -1,5 +1,5 @@
 //! A sink in memory, whose failing calls are listed.
-ghost use Rattle.std.specs.Prelude.{◌≡◌, ◌≤◌, ◌<◌, ◌^◌, ◌-◌, [], length, take, Some, IfOk, OnErr};
+ghost use Rattle.std.specs.Prelude.{◌≡◌, ◌≤◌, ◌<◌, ◌^◌, ◌-◌, [], length, take, Some, IfOk, OnOk, OnErr};
 ghost use Rattle.osek_io.specs.Counts.{Rose};
 ghost use Rattle.osek_io.specs.Pieces.{grown};
 
@@ -86,6 +86,7 @@ impl Sink for MemSink {
         ensures ok { IfOk result (λ n. Some self.new.bytes ≡ grown (Some self.old.bytes) (take n piece.now)) }
         ensures err { OnErr result (Some self.new.bytes ≡ Some self.old.bytes) }
         ensures cause { OnErr result (Rose self.old.faults self.new.faults) }
+        ensures no_fault { OnOk result (self.new.faults ≡ self.old.faults) }
         ensures never_falls { self.old.faults ≤ self.new.faults }
 
         // More than every sink promises: the answer and what is left, exactly.

@@ -63,6 +63,7 @@ impl PutBuffer {
         ensures nothing_held { self.new ≡ [] }
 
         ensures cause { OnErr result (Rose (K.faults sink.old) (K.faults sink.new)) }
+        ensures no_fault { OnOk result (K.faults sink.new ≡ K.faults sink.old) }
         ensures never_falls { K.faults sink.old ≤ K.faults sink.new }
     {
         let written = put_all(sink, &self.bytes[..self.held]);
@@ -82,6 +83,7 @@ impl PutBuffer {
         ensures lost { OnErr result (self.new ≡ []) }
 
         ensures cause { OnErr result (Rose (K.faults sink.old) (K.faults sink.new)) }
+        ensures no_fault { OnOk result (K.faults sink.new ≡ K.faults sink.old) }
         ensures never_falls { K.faults sink.old ≤ K.faults sink.new }
     {
         if bytes.len() <= PUT_ROOM - self.held {
@@ -114,6 +116,7 @@ impl PutBuffer {
         ensures lost { OnErr result (self.new ≡ []) }
 
         ensures cause { OnErr result (Rose (K.faults sink.old) (K.faults sink.new)) }
+        ensures no_fault { OnOk result (K.faults sink.new ≡ K.faults sink.old) }
         ensures never_falls { K.faults sink.old ≤ K.faults sink.new }
     {
         if piece.room() > PUT_ROOM - self.held {

@@ -1,5 +1,5 @@
 //! A place to write bytes to, as the project asks for it.
-ghost use Rattle.std.specs.Prelude.{◌≡◌, ◌≤◌, ℕ, List, length, take, Option, IfOk, OnErr};
+ghost use Rattle.std.specs.Prelude.{◌≡◌, ◌≤◌, ℕ, List, length, take, Option, IfOk, OnOk, OnErr};
 ghost use Rattle.osek_io.specs.Counts.{Rose};
 ghost use Rattle.osek_io.specs.Pieces.{grown};
 
@@ -23,5 +23,6 @@ pub trait Sink {
         ensures err { OnErr result (written self.new ≡ written self.old) }
 
         ensures cause { OnErr result (Rose (faults self.old) (faults self.new)) }
+        ensures no_fault { OnOk result (faults self.new ≡ faults self.old) }
         ensures never_falls { faults self.old ≤ faults self.new };
 }

@@ -1,21 +1,20 @@
 //! A sink over a standard stream.
-ghost use Rattle.std.specs.Prelude.{◌≡◌, None};
+ghost use Rattle.std.specs.Prelude.{◌≡◌};
 
 use crate::counts::one_more;
 use crate::failed::Failed;
 use crate::sink::Sink;
-use crate::stream::write_some;
-use std::io::Write;
+use crate::stream::{Stream, write_some};
 
-/// Standard output or standard error, as std's `stdout()` and `stderr()`, which hold nothing back.
-/// It tells no contents.
+/// Standard output or standard error, as std's `stdout()` and `stderr()`, which hold nothing back. It tells what its stream
+/// tells: those two nothing.
 #[derive(Drop)]
 pub struct StdSink<W> {
     stream: W,
     faults: u64,
 }
 
-impl<W: Write> StdSink<W> {
+impl<W: Stream> StdSink<W> {
     /// A sink over the stream, without a fault yet.
     pub fn new(stream: W) -> StdSink<W>
         ensures { result.faults ≡ 0 }
@@ -24,8 +23,8 @@ impl<W: Write> StdSink<W> {
     }
 }
 
-impl<W: Write> Sink for StdSink<W> {
-    ghost written = { λ _. None };
+impl<W: Stream> Sink for StdSink<W> {
+    ghost written = { λ s. W.contents s.stream };
 
     ghost faults = { λ s. s.faults };
 

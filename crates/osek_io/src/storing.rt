@@ -33,6 +33,7 @@ pub fn put_all<K: Sink>(sink: &mut K, bytes: &[u8]) -> Result<(), PutError>
     ensures part { OnErr result (WritesPart (K.written sink.old) (K.written sink.new) bytes.now) }
 
     ensures cause { OnErr result (Rose (K.faults sink.old) (K.faults sink.new)) }
+    ensures no_fault { OnOk result (K.faults sink.new ≡ K.faults sink.old) }
     ensures never_falls { K.faults sink.old ≤ K.faults sink.new }
 {
     let mut done = 0;
@@ -53,6 +54,7 @@ pub fn store<F: Shelf>(shelf: &mut F, name: &str, bytes: &[u8]) -> Result<(), Pu
     ensures same_others { KeepsOthers (F.contents shelf.old) (F.contents shelf.new) name.now }
 
     ensures cause { OnErr result (Rose (F.write_faults shelf.old) (F.write_faults shelf.new)) }
+    ensures no_fault { OnOk result (F.write_faults shelf.new ≡ F.write_faults shelf.old) }
     ensures never_falls { F.write_faults shelf.old ≤ F.write_faults shelf.new }
     ensures same_reads { Same (F.read_faults shelf.old) (F.read_faults shelf.new) }
 {

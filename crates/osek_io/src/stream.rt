@@ -1,10 +1,36 @@
 //! One read and one write of std, tried again where a signal interrupts them.
 //! Over a reader or a writer that tells its bytes, the contracts say which ones moved.
-ghost use Rattle.std.specs.Prelude.{◌≡◌, ◌≤◌, ◌<◌, length, take, IfOk, OnErr};
+ghost use Rattle.std.specs.Prelude.{◌≡◌, ◌≤◌, ◌<◌, Bool, false, true, is_some, refl, length, take, IfOk, OnErr};
 ghost use Rattle.std.specs.Io.KnownBytes.{Keeps, Appends, Consumes, IsAtEnd};
 
 use crate::failed::Failed;
-use std::io::{ErrorKind, Read, Write};
+use std::io::{ErrorKind, Read, Stderr, Stdout, Write};
+
+/// A writer that always tells its bytes, or never.
+pub trait Stream: Write {
+    /// Whether it tells them.
+    ghost tells: { Bool };
+
+    ghost always: { (stream : Self) → is_some (Self.contents stream) ≡ tells };
+}
+
+impl Stream for Stdout {
+    ghost tells = { false };
+
+    ghost always = { λ _. refl };
+}
+
+impl Stream for Stderr {
+    ghost tells = { false };
+
+    ghost always = { λ _. refl };
+}
+
+impl Stream for Vec<u8> {
+    ghost tells = { true };
+
+    ghost always = { λ _. refl };
+}
 
 /// Reads a piece into the front of a slice: none only where the slice is empty or the reader at its end.
 pub fn read_some<R: Read>(reader: &mut R, into: &mut [u8]) -> Result<usize, Failed>

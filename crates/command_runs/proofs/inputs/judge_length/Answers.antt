@@ -1,11 +1,17 @@
 -- the text has no byte at its limit, has one, or isn't there
-use Rattle.std.proofs.Common.{◌≡◌, ◌≢◌, ◌<◌, ◌≤◌, ℕ, List, length, drop, sym, subst, arith}
+use Rattle.std.proofs.Common.{◌≡◌, ◌≢◌, ◌<◌, ◌≤◌, ◌⊎◌, ℕ, List, length, drop, sym, subst, inl, inr, arith}
 use Rattle.std.proofs.lemmas.List.{length-drop}
+use Rattle.osek_io.specs.Counts.{Rose, RoseSomewhere}
 use Rattle.command_runs.specs.Inputs.{unread, faulty, NotLoaded}
 use Rattle.command_runs.specs.Outside.{told}
 use Rattle.command_runs.specs.declared.stop.Input.TheVariants.{Events}
 use Rattle.command_runs.proofs.InputFiles.{of_told, of_longer}
 use Rattle.command_runs.proofs.inputs.judge_length.Goals as goal
+
+-- a read that failed at a place failed somewhere
+somewhere : {Missing : Type 0} (before after : ℕ → ℕ) (at : ℕ) → Rose (before at) (after at) ⊎ Missing → RoseSomewhere before after ⊎ Missing
+somewhere before after at (inl rose) = inl (at, rose)
+somewhere before after at (inr missing) = inr missing
 
 -- a byte stands at the limit
 over_by : (bytes : List ℕ) (n : ℕ) → n ≤ length (drop 16777216 bytes) → n ≢ 0 → 16777216 < length bytes
@@ -26,4 +32,4 @@ returns-in-Ok-clause-stop g c =
     (λ missing. let e = c.in-Ok.ensures.missing missing in absurd (cc e))))
 
 pub returns-in-Err-clause-stop : goal.returns-in-Err-clause-stop
-returns-in-Err-clause-stop g c = unread c.in-Err.ensures.cause
+returns-in-Err-clause-stop g c = unread (somewhere _ _ 16777216 c.in-Err.ensures.cause)

@@ -3,19 +3,20 @@ use Rattle.std.proofs.Common.{ℕ, List, [], ◌∷◌, ◌++◌, ◌∙◌, ap}
 use Rattle.std.specs.Prelude.{codes}
 use Rattle.osek_io.specs.Pieces.{grown}
 use Rattle.image_model.specs.ImageTrace.{trap_line}
+use Rattle.osek_io.specs.Sunk.{sunk}
 use Rattle.command_runs.specs.Playing.{given}
 use Rattle.command_runs.proofs.GivenTexts.{part_of_held, puts_front_of_first, puts_past}
 use Rattle.command_runs.proofs.playing.print_trap.Goals as goal
 
 pub returns-in-Err-clause-front : goal.returns-in-Err-clause-front
 returns-in-Err-clause-front g c =
-    let old = given (g.O.Sink.written c.args.out.now) c.args.buffer.now in
-    let new = given (g.O.Sink.written c.print_held.new.out) c.print_held.new.buffer in
-    puts_front_of_first old new _ (trap_line c.args.number) (part_of_held old new c.in-Err.ensures.part c.in-Err.ensures.nothing_held)
+    let old = given (sunk g.O.Sink c.args.out.now) c.args.buffer.now in
+    let new = given (sunk g.O.Sink c.print_held.new.out) c.print_held.new.buffer in
+    puts_front_of_first old new _ (trap_line c.args.number) (part_of_held old new c.in-Err.ensures.cause c.in-Err.ensures.part c.in-Err.ensures.nothing_held)
 
 pub returns-in-Ok-put_three-clause-ok : goal.returns-in-Ok-put_three-clause-ok
 returns-in-Ok-put_three-clause-ok g c =
-    let old = given (g.O.Sink.written c.args.out.now) c.args.buffer.now in
-    let new = given (g.O.Sink.written c.put_three.new.err) c.print_held.new.buffer in
-    puts_past old new (g.O.Sink.written c.print_held.new.out) (trap_line c.args.number) c.in-Ok.ensures.ok
-    (c.in-Ok-put_three.ensures.ok ∙ ap (λ (digits : List ℕ). grown (g.O.Sink.written c.print_held.new.out) ((codes "trap " ++ digits) ++ 10 ∷ [])) (c.as_bytes.ensures.value ∙ c.format.ensures.text)) c.in-Ok.ensures.nothing_held
+    let old = given (sunk g.O.Sink c.args.out.now) c.args.buffer.now in
+    let new = given (sunk g.O.Sink c.put_three.new.err) c.print_held.new.buffer in
+    puts_past old new (sunk g.O.Sink c.print_held.new.out) (trap_line c.args.number) c.in-Ok.ensures.ok
+    (c.in-Ok-put_three.ensures.no_fault, c.in-Ok-put_three.ensures.ok ∙ ap (λ (digits : List ℕ). grown (g.O.Sink.written c.print_held.new.out) ((codes "trap " ++ digits) ++ 10 ∷ [])) (c.as_bytes.ensures.value ∙ c.format.ensures.text)) c.in-Ok.ensures.nothing_held

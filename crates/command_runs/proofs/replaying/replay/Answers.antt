@@ -1,6 +1,7 @@
 -- the image that was loaded runs
 use Rattle.std.proofs.Common.{refl}
 use Rattle.image_model.specs.ImageTrace.{image_trace, has_trap}
+use Rattle.osek_io.specs.Sunk.{sunk}
 use Rattle.command_runs.specs.Outside.{Told, beside, outside}
 use Rattle.command_runs.specs.Replaying.{stops, runs}
 use Rattle.command_runs.specs.Running.{RunAnswers}
@@ -17,7 +18,7 @@ returns-clause-answer g c =
       i,
       spells,
       earlier g.F.Shelf c.args.shelf.now c.load_image.new.shelf c.in-Ok.ensures.same c.in-Ok.ensures.no_fault
-          (λ (t : Told). RunAnswers (beside t (g.O.Sink.faults c.args.out.now) (g.O.Sink.written c.args.out.now)) after i.app (image_trace i) (has_trap i) c.args.mode.now c.args.events.now c.run.result) c.run.ensures.answer,
+          (λ (t : Told). RunAnswers (beside t (sunk g.O.Sink c.args.out.now)) after i.app (image_trace i) (has_trap i) c.args.mode.now c.args.events.now c.run.result) c.run.ensures.answer,
     )) c.in-Ok.ensures.image)
 
 pub returns-clause-same : goal.returns-clause-same

@@ -2,6 +2,7 @@
 use Rattle.std.proofs.Common.{◌≡◌, List, ℕ, [], subst, sym, Err}
 use Rattle.osek_standard.specs.Dispatch.{stepped}
 use Rattle.trace_text.specs.EventText.{numbered_lines}
+use Rattle.osek_io.specs.Sunk.{sunk}
 use Rattle.command_runs.specs.Playing.{given, Played, printing, plays, line_of, HeldReadAnswers, ReadAnswers}
 use Rattle.command_runs.specs.declared.stop.Stop.{Stop}
 use Rattle.command_runs.specs.declared.stop.Stop.TheVariants as stop
@@ -14,18 +15,15 @@ returns-in-Ok-clause-answer g c =
     let name = c.args.events.now in
     let reads = g.F.Shelf.read_faults c.args.shelf.now name in
     let reads_after = g.F.Shelf.read_faults c.print_trace-played.new.shelf name in
-    let faults = g.O.Sink.faults c.args.out.now in
-    let between = g.O.Sink.faults c.print_trace-played.new.out in
-    let faults_after = g.O.Sink.faults c.print_held.new.out in
-    let first = g.O.Sink.written c.args.out.now in
-    let mid = given (g.O.Sink.written c.print_trace-played.new.out) c.print_trace-played.new.buffer in
-    let last = g.O.Sink.written c.print_held.new.out in
+    let first = sunk g.O.Sink c.args.out.now in
+    let mid = given (sunk g.O.Sink c.print_trace-played.new.out) c.print_trace-played.new.buffer in
+    let last = sunk g.O.Sink c.print_held.new.out in
     let m = c.args.machine in
     let play : List ℕ → Played = (λ t. printing (line_of m.image 0 (stepped m.state c.args.notes.now)) (plays m.image (numbered_lines t) 1 m.state)) in
     let r = c.print_trace-played.result in
-    let held : HeldReadAnswers files name reads reads_after faults between (given first []) mid play r =
-    subst (λ (xs : List ℕ). HeldReadAnswers files name reads reads_after faults between (given first xs) mid play r) c.requires.nothing_held c.print_trace-played.ensures.answer in
-    all_printed faults between faults_after first mid last files name reads reads_after play r c.in-Ok.ensures.never_falls c.in-Ok.ensures.ok held
+    let held : HeldReadAnswers files name reads reads_after (given first []) mid play r =
+    subst (λ (xs : List ℕ). HeldReadAnswers files name reads reads_after (given first xs) mid play r) c.requires.nothing_held c.print_trace-played.ensures.answer in
+    all_printed files name reads reads_after first mid last c.in-Ok.ensures.ok play r held
 
 pub returns-in-Err-clause-answer : goal.returns-in-Err-clause-answer
 returns-in-Err-clause-answer g c =
@@ -33,17 +31,14 @@ returns-in-Err-clause-answer g c =
     let name = c.args.events.now in
     let reads = g.F.Shelf.read_faults c.args.shelf.now name in
     let reads_after = g.F.Shelf.read_faults c.print_trace-played.new.shelf name in
-    let faults = g.O.Sink.faults c.args.out.now in
-    let between = g.O.Sink.faults c.print_trace-played.new.out in
-    let faults_after = g.O.Sink.faults c.print_held.new.out in
-    let first = g.O.Sink.written c.args.out.now in
-    let mid = given (g.O.Sink.written c.print_trace-played.new.out) c.print_trace-played.new.buffer in
-    let last = g.O.Sink.written c.print_held.new.out in
+    let first = sunk g.O.Sink c.args.out.now in
+    let mid = given (sunk g.O.Sink c.print_trace-played.new.out) c.print_trace-played.new.buffer in
+    let last = sunk g.O.Sink c.print_held.new.out in
     let m = c.args.machine in
     let play : List ℕ → Played = (λ t. printing (line_of m.image 0 (stepped m.state c.args.notes.now)) (plays m.image (numbered_lines t) 1 m.state)) in
     let r = c.print_trace-played.result in
-    let held : HeldReadAnswers files name reads reads_after faults between (given first []) mid play r =
-    subst (λ (xs : List ℕ). HeldReadAnswers files name reads reads_after faults between (given first xs) mid play r) c.requires.nothing_held c.print_trace-played.ensures.answer in
+    let held : HeldReadAnswers files name reads reads_after (given first []) mid play r =
+    subst (λ (xs : List ℕ). HeldReadAnswers files name reads reads_after (given first xs) mid play r) c.requires.nothing_held c.print_trace-played.ensures.answer in
     let unprinted : c.in-Err.stop ≡ stop.Unprinted = cc (c.in-Err.ensures.error) in
-    subst (λ (e : Stop). ReadAnswers files name reads reads_after faults faults_after first last play (Err e)) (sym unprinted)
-    (front_printed faults between faults_after first mid last c.print_trace-played.ensures.never_falls c.in-Err.ensures.cause c.in-Err.ensures.part files name reads reads_after play r held)
+    subst (λ (e : Stop). ReadAnswers files name reads reads_after first last play (Err e)) (sym unprinted)
+    (front_printed files name reads reads_after first mid last c.in-Err.ensures.cause c.in-Err.ensures.part play r held)

@@ -4,6 +4,7 @@ use Rattle.osek_standard.specs.Dispatch.{stepped}
 use Rattle.image_run.specs.Machines.{AtWork}
 use Rattle.trace_text.specs.EventText.{numbered_lines}
 use Rattle.trace_text.specs.LineParts.{ArePartsOf}
+use Rattle.osek_io.specs.Sunk.{sunk}
 use Rattle.command_runs.specs.Playing.{Played, printing, plays, line_of, ReadAnswers, whole_play}
 use Rattle.command_runs.proofs.Runs.{whole_started}
 use Rattle.command_runs.proofs.running.play_with.Goals as goal
@@ -14,7 +15,7 @@ returns-in-Ok-clause-answer g c =
     let same : ◌≡◌ {A = List ℕ → Played} (λ t. printing (line_of m.image 0 (stepped m.state c.in-Ok.notes)) (plays m.image (numbered_lines t) 1 m.state)) (whole_play c.args.image c.args.mode) =
     (λ j t. whole_started c.args.image m.image c.args.mode m.state c.in-Ok.notes (ap (λ (w : AtWork). w.image) c.in-Ok.ensures.machine) c.in-Ok.ensures.start t j) in
     inr (subst (λ (p : List ℕ → Played). ReadAnswers (g.F.Shelf.contents c.args.shelf.now) c.args.events.now (g.F.Shelf.read_faults c.args.shelf.now c.args.events.now) (g.F.Shelf.read_faults c.play_machine.new.shelf c.args.events.now)
-    (g.O.Sink.faults c.args.out.now) (g.O.Sink.faults c.play_machine.new.out) (g.O.Sink.written c.args.out.now) (g.O.Sink.written c.play_machine.new.out) p c.play_machine.result) same c.play_machine.ensures.answer)
+    (sunk g.O.Sink c.args.out.now) (sunk g.O.Sink c.play_machine.new.out) p c.play_machine.result) same c.play_machine.ensures.answer)
 
 pub play_machine-requires-clause-parts : goal.play_machine-requires-clause-parts
 play_machine-requires-clause-parts g c = subst (λ (w : AtWork). ArePartsOf w.image.app c.of-parts.result) (sym c.in-Ok.ensures.machine) c.of-parts.ensures

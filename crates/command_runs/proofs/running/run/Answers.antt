@@ -1,6 +1,7 @@
 -- the answers, from what was read and played
 use Rattle.std.proofs.Common.{◌≡◌, refl, sym, None}
 use Rattle.image_model.specs.ImageTrace.{image_trace, has_trap}
+use Rattle.osek_io.specs.Sunk.{sunk}
 use Rattle.command_runs.specs.Outside.{Told, beside, outside}
 use Rattle.command_runs.specs.Running.{mode_named, no_mode, stops, RunAnswers}
 use Rattle.command_runs.proofs.FaultlessReads.{earlier, then_reads}
@@ -17,7 +18,7 @@ returns-in-Ok-clause-answer g c =
     let i = c.args.image in
     let after = outside g.F.Shelf g.O.Sink c.play_image.new.shelf c.play_image.new.out in
     earlier g.F.Shelf c.args.shelf.now c.judge_length.new.shelf c.in-Ok.ensures.same c.in-Ok.ensures.no_fault
-    (λ (t : Told). RunAnswers (beside t (g.O.Sink.faults c.args.out.now) (g.O.Sink.written c.args.out.now)) after i.app (image_trace i) (has_trap i) c.args.mode.now c.args.events.now c.play_image.result)
+    (λ (t : Told). RunAnswers (beside t (sunk g.O.Sink c.args.out.now)) after i.app (image_trace i) (has_trap i) c.args.mode.now c.args.events.now c.play_image.result)
     (image_runs (outside g.F.Shelf g.O.Sink c.judge_length.new.shelf c.args.out.now) after i c.args.mode.now c.args.events.now c.in-Some.mode (sym c.in-Some.ensures.mode) c.play_image.result c.play_image.ensures.answer)
 
 pub returns-in-Ok-clause-same : goal.returns-in-Ok-clause-same

@@ -2,7 +2,7 @@ use Rattle.std.proofs.Common.{◌≡◌, ◌≢◌, ℕ, ◌+◌, ◌-◌, ◌<�
 use Rattle.std.specs.Result.{IsErrAnd, IsErrOf}
 use Rattle.std.proofs.lemmas.List.{length-append, length-drop, length-take-le}
 use Rattle.std.proofs.lemmas.Result.{err_from_is_err_and}
-use Rattle.osek_io.specs.Counts.{Rose, Same, NeverFall}
+use Rattle.osek_io.specs.Counts.{ReadFaults, Rose, RoseSomewhere, Same, NeverFall}
 use Rattle.osek_io.specs.Files.{Files, Holds, IsMissing}
 use Rattle.osek_io.specs.Pieces.{ReadsPiece}
 use Rattle.osek_io.specs.declared.failed.Failed.{Failed}
@@ -16,17 +16,17 @@ empty_front [] all e = refl
 empty_front (x ∷ xs) all e = absurd (cc)
 
 -- A fault of the last turn is one of the whole, and so is a file that is missing.
-fault_or_missing : (before now : Option Files) (name : List ℕ) (a b c : ℕ) → now ≡ before → b ≡ a → Rose b c ⊎ IsMissing now name → Rose a c ⊎ IsMissing before name
-fault_or_missing before now name a b c e same (inl h) = inl (subst (λ (n : ℕ). Rose n c) same h)
-fault_or_missing before now name a b c e same (inr missing) = inr (subst (λ (o : Option Files). IsMissing o name) e missing)
+fault_or_missing : (before now : Option Files) (name : List ℕ) (at : ℕ) (a b c : ReadFaults) → now ≡ before → Same a b → Rose (b name at) (c name at) ⊎ IsMissing now name → RoseSomewhere (a name) (c name) ⊎ IsMissing before name
+fault_or_missing before now name at a b c e same (inl h) = inl (at, subst (λ (n : ℕ). Rose n (c name at)) (same name at) h)
+fault_or_missing before now name at a b c e same (inr missing) = inr (subst (λ (o : Option Files). IsMissing o name) e missing)
 
 -- More than was left came in.
 too_many : (all piece : List ℕ) (at n most : ℕ) → most - at < n → ReadsPiece all at piece n → most < length all
 too_many all piece at n most h read = omega (arith, read.within, length-drop at all)
 
 -- No count falls.
-never_fall : (a b c : List ℕ → ℕ) → Same a b → NeverFall b c → NeverFall a c
-never_fall a b c same h n = subst (λ (m : ℕ). m ≤ c n) (same n) (h n)
+never_fall : (a b c : ReadFaults) → Same a b → NeverFall b c → NeverFall a c
+never_fall a b c same h n at = subst (λ (m : ℕ). m ≤ c n at) (same n at) (h n at)
 
 -- A turn asks for one byte beyond the limit at most.
 asks_within : (start before now at want most : ℕ) → before ≤ max start (most + 1) → now ≤ max before (at + want) → at + want ≤ most + 1 → now ≤ max start (most + 1)
@@ -67,15 +67,15 @@ still_missing : (before now : Option Files) (name : List ℕ) → now ≡ before
 still_missing before now name same h = subst (λ (o : Option Files). IsMissing o name) (sym same) h
 
 -- What read failed at no turn before reads well.
-still_same : (a b c : List ℕ → ℕ) → Same a b → Same b c → Same a c
-still_same a b c h k n = k n ∙ h n
+still_same : (a b c : ReadFaults) → Same a b → Same b c → Same a c
+still_same a b c h k n at = k n at ∙ h n at
 
 pub loop-count-init : goal.loop-count-init
 loop-count-init g c = record {
   within = omega (arith, ap length c.new-bytes.ensures.items);
   front = λ all h. empty_front c.new-bytes.result.items all c.new-bytes.ensures.items;
   files = refl;
-  reads = λ n. refl;
+  reads = λ n at. refl;
   asked = omega arith;
   writes = refl;
 }
@@ -95,7 +95,7 @@ returns-in_default g c =
     record {
       bytes = tt;
       within = tt;
-      read = λ e. fault_or_missing _ _ c.args.name.now _ _ _ was.files (was.reads c.args.name.now) c.in_default.ensures.cause;
+      read = λ e. fault_or_missing _ _ c.args.name.now c.len-taken.result (g.F.Shelf.read_faults c.args.shelf.now) (g.F.Shelf.read_faults c.loop-count.shelf) (g.F.Shelf.read_faults c.read.new.self) was.files was.reads c.in_default.ensures.cause;
       missing = λ h. refl;
       uncounted = λ h. still_same _ _ _ was.reads (c.read.ensures.uncounted (still_missing _ _ c.args.name.now was.files h));
       too_long = λ e. absurd (read_not_too_long e);

@@ -1,4 +1,4 @@
-use Rattle.std.proofs.Common.{◌∙◌, sym, ap, arith}
+use Rattle.std.proofs.Common.{◌∙◌, refl, sym, ap, arith}
 use Rattle.std.proofs.lemmas.List.{take_all}
 use Rattle.osek_io.specs.Pieces.{grown}
 use Rattle.osek_io.proofs.Turns.{grows, grown-nil, length-rest}
@@ -8,7 +8,7 @@ pub loop-done-init : goal.loop-done-init
 loop-done-init g c = record {
   within = omega arith;
   written = sym (grown-nil _);
-  later = omega arith;
+  no_fault = refl;
 }
 
 pub loop-done-preserved : goal.loop-done-preserved
@@ -18,7 +18,7 @@ loop-done-preserved g c =
     record {
       within = omega (arith, c.in-Ok.ensures.bound, length-rest bytes done);
       written = grows _ _ _ bytes done c.in-Ok.count c.loop-done.invariant.written c.in-Ok.ensures.ok;
-      later = omega (arith, c.put.ensures.never_falls);
+      no_fault = c.in-Ok.ensures.no_fault ∙ c.loop-done.invariant.no_fault;
     }
 
 pub returns-clause-ok : goal.returns-clause-ok

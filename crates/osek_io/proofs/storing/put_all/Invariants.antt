@@ -7,7 +7,7 @@ invariant-loop-done g l =
     record {
       within : l.done ≤ length l.bytes;
       written : g.K.Sink.written l.sink ≡ grown (g.K.Sink.written l.fn.sink) (take l.done l.bytes);
-      later : g.K.Sink.faults l.fn.sink ≤ g.K.Sink.faults l.sink;
+      no_fault : g.K.Sink.faults l.sink ≡ g.K.Sink.faults l.fn.sink;
     }
 
 abbrev pub decreases-loop-done : goal.decreases-loop-done

@@ -12,13 +12,13 @@ loop-added-preserved g c =
     record {
       within = omega (arith, c.in-Ok.ensures.bound, length-rest bytes added);
       files = grows_file _ _ _ c.args.name.now bytes added c.in-Ok.count c.loop-added.invariant.files c.in-Ok.ensures.ok;
-      later = omega (arith, c.append.ensures.never_falls);
-      reads = λ n. c.append.ensures.same_reads n ∙ c.loop-added.invariant.reads n;
+      no_fault = c.in-Ok.ensures.no_fault ∙ c.loop-added.invariant.no_fault;
+      reads = λ n at. c.append.ensures.same_reads n at ∙ c.loop-added.invariant.reads n at;
     }
 
 pub returns-in_default-clause-cause : goal.returns-in_default-clause-cause
 returns-in_default-clause-cause g c =
-    rises_there _ _ c.args.name.now _ _ _ _ c.loop-added.invariant.files c.loop-added.invariant.later c.in_default.ensures.cause
+    rises_there _ _ c.args.name.now _ _ _ _ c.loop-added.invariant.files c.loop-added.invariant.no_fault c.in_default.ensures.cause
 
 pub returns-in_default-clause-part : goal.returns-in_default-clause-part
 returns-in_default-clause-part g c = inr (c.loop-added.added, omega arith, c.in_default.ensures.err ∙ c.loop-added.invariant.files)

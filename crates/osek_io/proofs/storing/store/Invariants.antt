@@ -8,7 +8,7 @@ invariant-loop-added g l =
     record {
       within : l.added ≤ length l.bytes;
       files : g.F.Shelf.contents l.shelf ≡ with_file (g.F.Shelf.contents l.fn.shelf) l.name (take l.added l.bytes);
-      later : g.F.Shelf.write_faults l.fn.shelf ≤ g.F.Shelf.write_faults l.shelf;
+      no_fault : g.F.Shelf.write_faults l.shelf ≡ g.F.Shelf.write_faults l.fn.shelf;
       reads : Same (g.F.Shelf.read_faults l.fn.shelf) (g.F.Shelf.read_faults l.shelf);
     }
 

@@ -18,3 +18,7 @@ returns-clause-missing c =
 pub returns-clause-uncounted : goal.returns-clause-uncounted
 returns-clause-uncounted c =
     (append_meets c.args.self.now c.append_piece.new.self c.args.name.now (get c.args.self.now.files c.args.name.now) (unwrap_or (get c.args.self.now.rooms c.args.name.now) 0) c.args.piece.now c.append_piece.result c.append_piece.ensures.range refl c.append_piece.ensures.answer c.append_piece.ensures.after).1.uncounted
+
+pub returns-clause-no_fault : goal.returns-clause-no_fault
+returns-clause-no_fault c =
+    (append_meets c.args.self.now c.append_piece.new.self c.args.name.now (get c.args.self.now.files c.args.name.now) (unwrap_or (get c.args.self.now.rooms c.args.name.now) 0) c.args.piece.now c.append_piece.result c.append_piece.ensures.range refl c.append_piece.ensures.answer c.append_piece.ensures.after).1.no_fault

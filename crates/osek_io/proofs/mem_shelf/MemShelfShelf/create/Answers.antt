@@ -9,3 +9,7 @@ returns-clause-ok c =
 pub returns-clause-cause : goal.returns-clause-cause
 returns-clause-cause c =
     (create_meets c.args.self.now c.create_file.new.self c.args.name.now (get c.args.self.now.rooms c.args.name.now) c.create_file.result c.create_file.ensures.range c.create_file.ensures.answer c.create_file.ensures.after).1
+
+pub returns-clause-no_fault : goal.returns-clause-no_fault
+returns-clause-no_fault c =
+    (create_meets c.args.self.now c.create_file.new.self c.args.name.now (get c.args.self.now.rooms c.args.name.now) c.create_file.result c.create_file.ensures.range c.create_file.ensures.answer c.create_file.ensures.after).2
