@@ -271,6 +271,7 @@ fn instruct<L: Ledger>(
     requires active { IsActive state.old.processor }
     ensures step { instructed image.now state.old choice ≡ option_map (stepped state.new) (noted_if result notes.new) }
     ensures trap { result ≡ false → state.new ≡ state.old }
+    ensures untold { result ≡ false → notes.new ≡ notes.old }
     ensures well { Well image.now.app state.new }
     ensures ready { IsReady image.now.app state.new ready.new }
     ensures scans { scans.new ≤ scans.old + scans_at (form_at image.now (here_of state.old).block.0) (length image.now.app.tasks) }
@@ -304,6 +305,7 @@ pub fn image_step<L: Ledger>(
     requires declared { IsDeclared image.now.app event }
     ensures step { image_step_of image.now state.old event ≡ option_map (stepped state.new) (noted_if result notes.new) }
     ensures trap { result ≡ false → state.new ≡ state.old }
+    ensures untold { result ≡ false → notes.new ≡ notes.old }
     ensures well { Well image.now.app state.new }
     ensures ready { IsReady image.now.app state.new ready.new }
     ensures scans { scans.new ≤ scans.old + scans_due image.now state.old (instruction_due image.now.app state.old event) }

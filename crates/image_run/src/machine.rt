@@ -89,6 +89,7 @@ impl Machine {
     ) -> bool
         requires { IsDeclared self.old.image.app event }
         ensures step { turn self.old event ≡ turned self.new (noted_if result notes.new) }
+        ensures untold { result ≡ false → notes.new ≡ notes.old }
         ensures scans { scans.new ≤ scans.old + most_scans self.old event }
     {
         if self.trapped {
