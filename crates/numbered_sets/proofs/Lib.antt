@@ -19,4 +19,5 @@ pub mod FlatLaws
 pub mod CopiedPools
 pub mod CopiedEntries
 pub mod NextNumbers
+pub mod ListedLaws
 pub mod SkippedWords
