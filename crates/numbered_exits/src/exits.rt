@@ -23,7 +23,7 @@ use flow_exits::Stay;
 use flow_model::{Asked, EffectCase, Rule, Runner};
 use numbered_levels::Levels;
 use numbered_rules::apply_into;
-use numbered_sets::{NumberedEntry, Pool, plain_set};
+use numbered_sets::{NumberedEntry, Pool, listed};
 use osek_standard::App;
 use osek_values::{Memory, Seq};
 use std::alloc::Global;
@@ -113,8 +113,8 @@ fn effects_at(
         Some(task) => {
             let component = task.index();
             let numbers = entry.sets.set(alloc, component)?;
-            let read = plain_set(alloc, pool, component, &numbers)?;
-            effect_cases(alloc, app, point, read.members.as_slice())?
+            let read = listed(alloc, pool, component, &numbers)?;
+            effect_cases(alloc, app, point, read.as_slice())?
         }
     };
     Ok(effects)

@@ -158,7 +158,7 @@ apart_values vs w m n distinct lt less at also =
     let same : same_part (get_or vs m w) (get_or vs n w) ≡ true = ap₂ same_part at also ∙ part_itself w in
     absurd (cc)
 
-one_number : (vs : List PartValue) (w : PartValue) (m n : ℕ) → IsDistinct same_part vs → m < length vs → n < length vs → get_or vs m w ≡ w → get_or vs n w ≡ w → m ≡ n
+pub one_number : (vs : List PartValue) (w : PartValue) (m n : ℕ) → IsDistinct same_part vs → m < length vs → n < length vs → get_or vs m w ≡ w → get_or vs n w ≡ w → m ≡ n
 one_number vs w m n distinct known less at also = elim (cases_lt m n) [
   | inl lt ↦ absurd (apart_values vs w m n distinct lt less at also)
   | inr le ↦ elim (cases_lt n m) [

@@ -11,6 +11,7 @@ pub mod KeptWords
 pub mod OtherWords
 pub mod MeetLaws
 pub mod SiftLaws
+pub mod AloneLaws
 pub mod ShownLaws
 pub mod FirstWords
 pub mod FurtherLaws
@@ -18,3 +19,5 @@ pub mod FlatLaws
 pub mod CopiedPools
 pub mod CopiedEntries
 pub mod NextNumbers
+pub mod ListedLaws
+pub mod SkippedWords

@@ -25,7 +25,7 @@ pub none_numbered : (d : Domain) → AreNumbered d []
 unfolding IsDistinct
 none_numbered d = record { distinct = tt; within = All-nil (IsWithin d) }
 
-any_seen : (k : Seen) (ks : List Seen) → list_any (same_seen k) ks ≡ list_any (same_part k.value) (seen_values ks)
+pub any_seen : (k : Seen) (ks : List Seen) → list_any (same_seen k) ks ≡ list_any (same_part k.value) (seen_values ks)
 any_seen k [] = refl
 any_seen k (x ∷ xs) = ap (λ (b : Bool). same_part k.value x.value || b) (any_seen k xs)
 

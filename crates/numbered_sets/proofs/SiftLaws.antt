@@ -1,5 +1,5 @@
 -- Tests of values as numbers: what is left of a set, and that an entry's numbers have values.
-use Rattle.std.proofs.Common.{◌≡◌, ℕ, zero, suc, ◌+◌, ◌/◌, ◌%◌, ◌^◌, ◌<◌, ◌≤◌, Bool, true, false, ◌||◌, ◌&&◌, List, [], ◌∷◌, length, get_or, refl, sym, ap, ap₂, subst, ◌∙◌, inl, inr, arith, IsTrue}
+use Rattle.std.proofs.Common.{◌≡◌, ℕ, zero, suc, ◌+◌, ◌/◌, ◌%◌, ◌^◌, ◌<◌, ◌≤◌, Bool, true, false, ◌||◌, ◌&&◌, not, List, [], ◌∷◌, length, get_or, set, refl, sym, ap, ap₂, subst, ◌∙◌, inl, inr, arith, IsTrue, get_or-set_same}
 use Rattle.std.specs.Prelude.{◌==◌}
 use Rattle.std.proofs.Math.Nat.{pow-suc}
 use Rattle.std.proofs.lemmas.Bool.{cases_eq, and_parts, eq-eqb, ne_eqb}
@@ -14,11 +14,13 @@ use Rattle.flow_model.specs.declared.test.Test.{Test}
 use Rattle.flow_model.specs.Tests.{passes}
 use Rattle.numbered_sets.specs.declared.filter.{Filter.{Filter}, Filters.{Filters}}
 use Rattle.numbered_sets.specs.Filters.{IsFilter, AreFilters, IsSifted}
-use Rattle.numbered_sets.specs.Numbers.{Numbers, numbers, has_number, with_number, kept_numbers}
+use Rattle.numbered_sets.specs.Numbers.{Numbers, numbers, has_number, with_number, kept_numbers, other_numbers}
+use Rattle.numbered_sets.specs.NumberedEntries.{no_set}
 use Rattle.numbered_sets.specs.Pools.{IsExtended, with_value}
 use Rattle.numbered_sets.specs.Views.{values_with, plain_set}
 use Rattle.numbered_sets.proofs.BitCounts.{has_either, has_one}
 use Rattle.numbered_sets.proofs.KeptWords.{has_both}
+use Rattle.numbered_sets.proofs.OtherWords.{has_alone}
 use Rattle.numbered_sets.proofs.PlainLaws.{has_value, member_of_plain, any_first, value_with_number}
 use Rattle.numbered_sets.proofs.ViewLaws.{false_unless, extended_with, below_power}
 use Rattle.numbered_sets.proofs.KnownNumbers.{no_bit_of_none}
@@ -45,17 +47,34 @@ value_sifted (v ∷ vs) f g p w h =
     ∙ sifted_first (f 0) (p v) (same_part w v) (has_value vs (λ n. f (suc n)) w) (p w) (λ same. ap p (sym (part_right w v same)))
     ∙ ap (λ (b : Bool). b && p w) (sym (any_first (f 0) v w (values_with vs (λ n. f (suc n)))))
 
-pub sifted : (vs : List PartValue) (f : Filter) (t : Test) (x : Numbers) → IsFilter vs f → f.test ≡ t → length vs ≤ f.judged → IsSifted vs t x (kept_numbers x f.passing)
-sifted vs f t x h same whole = record {
+-- the set that was put in
+pub put_at : (xs ys : List Numbers) (k : ℕ) (x : Numbers) → k < length xs → ys ≡ set xs k x → get_or ys k no_set ≡ x
+put_at xs ys k x lt write = ap (λ (zs : List Numbers). get_or zs k no_set) write ∙ get_or-set_same xs k x no_set lt
+
+-- where a mask has the numbers of those that pass
+pub kept_by : (vs : List PartValue) (t : Test) (x mask : Numbers) → ((n : ℕ) (d : PartValue) → n < length vs → has_number mask n ≡ passes t (get_or vs n d)) → IsSifted vs t x (kept_numbers x mask)
+kept_by vs t x mask h = record {
   domain = refl;
-  fewer = λ n has. (and_parts (has_number x n) (has_number f.passing n) (sym (has_both x.bits f.passing.bits n) ∙ has)).0;
+  fewer = λ n has. (and_parts (has_number x n) (has_number mask n) (sym (has_both x.bits mask.bits n) ∙ has)).0;
   values = λ v.
-      member_of_plain vs (kept_numbers x f.passing) v
-      ∙ value_sifted vs (has_number x) (has_number (kept_numbers x f.passing)) (passes t) v (λ n d lt.
-      has_both x.bits f.passing.bits n
-      ∙ ap (λ (b : Bool). has_number x n && b) (h.each n d (omega (arith, lt, whole)) ∙ ap (λ (u : Test). passes u (get_or vs n d)) same))
+      member_of_plain vs (kept_numbers x mask) v
+      ∙ value_sifted vs (has_number x) (has_number (kept_numbers x mask)) (passes t) v (λ n d lt. has_both x.bits mask.bits n ∙ ap (λ (b : Bool). has_number x n && b) (h n d lt))
       ∙ ap (λ (b : Bool). b && passes t v) (sym (member_of_plain vs x v));
 }
+
+-- where a mask has those of the others
+pub left_by : (vs : List PartValue) (t : Test) (x mask : Numbers) → ((n : ℕ) (d : PartValue) → n < length vs → not (has_number mask n) ≡ passes t (get_or vs n d)) → IsSifted vs t x (other_numbers x mask)
+left_by vs t x mask h = record {
+  domain = refl;
+  fewer = λ n has. (and_parts (has_number x n) (not (has_number mask n)) (sym (has_alone x.bits mask.bits n) ∙ has)).0;
+  values = λ v.
+      member_of_plain vs (other_numbers x mask) v
+      ∙ value_sifted vs (has_number x) (has_number (other_numbers x mask)) (passes t) v (λ n d lt. has_alone x.bits mask.bits n ∙ ap (λ (b : Bool). has_number x n && b) (h n d lt))
+      ∙ ap (λ (b : Bool). b && passes t v) (sym (member_of_plain vs x v));
+}
+
+pub sifted : (vs : List PartValue) (f : Filter) (t : Test) (x : Numbers) → IsFilter vs f → f.test ≡ t → length vs ≤ f.judged → IsSifted vs t x (kept_numbers x f.passing)
+sifted vs f t x h same whole = kept_by vs t x f.passing (λ n d lt. h.each n d (omega (arith, lt, whole)) ∙ ap (λ (u : Test). passes u (get_or vs n d)) same)
 
 -- ---- filters
 

@@ -138,6 +138,9 @@ module _ (before other now : List ℕ) (k added w o n : ℕ) (so_far : AreJoined
   }
 
 -- each word, also past the other's end
+pub nothing_new : (before other : List ℕ) → ((i : ℕ) → i < length other → get_or before i 0 ≡ bit_or (get_or before i 0) (get_or other i 0)) → AreJoinedUpTo before other (length other) before 0
+nothing_new before other has = record { as_long = refl; joined = has; kept = λ i le. refl; count = omega arith; few = omega arith }
+
 pub each_joined : (before other now : List ℕ) (k added : ℕ) → length other ≤ k → AreJoinedUpTo before other k now added → (i : ℕ) → get_or now i 0 ≡ bit_or (get_or before i 0) (get_or other i 0)
 each_joined before other now k added whole h i = elim (cases_lt i k) [
   | inl lt ↦ h.joined i lt

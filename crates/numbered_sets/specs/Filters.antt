@@ -1,6 +1,7 @@
 -- Tests of values, as the numbers of those that pass.
 use Rattle.std.specs.Prelude.{◌≡◌, ℕ, ◌<◌, ◌≤◌, false, ◌&&◌, List, length, map, slice_index_or, IsTrue, All}
 use Rattle.abstract_state.specs.declared.value.PartValue.{PartValue}
+use Rattle.abstract_state.specs.ValueOrder.{same_part}
 use Rattle.abstract_state.specs.Tables.{is_member}
 use Rattle.flow_model.specs.declared.test.Test.{Test}
 use Rattle.flow_model.specs.Tests.{passes}
@@ -20,6 +21,10 @@ pub record IsFilter (vs : List PartValue) (f : Filter) : Type 0 where
 
 abbrev pub AreFilters : List PartValue → Filters → Type 0
 AreFilters vs fs = All (IsFilter vs) fs.all
+
+-- The set has the number of this value, and no other.
+pub record IsNumberAlone (vs : List PartValue) (v : PartValue) (x : Numbers) : Type 0 where
+  pub each : (n : ℕ) (none : PartValue) → n < length vs → has_number x n ≡ same_part (slice_index_or vs n none) v
 
 -- The numbers are left whose values pass.
 pub record IsSifted (vs : List PartValue) (t : Test) (old new : Numbers) : Type 0 where

@@ -4,7 +4,7 @@ ghost use Rattle.std.specs.Bool.{OnTrue};
 
 use crate::numbered_entry::NumberedEntry;
 use crate::numbered_set::NumberedSet;
-use crate::seen::{Seen, block_of};
+use crate::seen::Seen;
 use abstract_state::Domain;
 use flow_model::Test;
 use osek_values::{Memory, Seq};
@@ -162,8 +162,6 @@ fn is_test(test: &Test, other: &Test) -> bool
     ensures { OnTrue result (test.now ≡ other.now) }
 {
     match (test, other) {
-        (Test::Is(value), Test::Is(wanted)) => value.is(wanted),
-        (Test::IsNot(value), Test::IsNot(barred)) => value.is(barred),
         (Test::Suspended, Test::Suspended) => true,
         (Test::NotSuspended, Test::NotSuspended) => true,
         (Test::NotLive, Test::NotLive) => true,
@@ -180,8 +178,7 @@ fn slot_of(test: &Test) -> usize
     ensures { result < 64 }
 {
     match test {
-        Test::Is(value) | Test::IsNot(value) => block_of(value) as usize % 64,
-        Test::Suspended => 0,
+        Test::Suspended | Test::Is(_) | Test::IsNot(_) => 0,
         Test::NotSuspended => 1,
         Test::NotLive => 2,
         Test::HoldsSome => 3,

@@ -3,6 +3,7 @@ ghost use Rattle.std.specs.Prelude.{◌≡◌};
 
 use crate::filter::Filters;
 use crate::numbered_entry::NumberedEntry;
+use crate::numbered_set::NumberedSet;
 use crate::seen::Seen;
 use abstract_state::{Domain, PartValue};
 use flow_model::Test;
@@ -17,8 +18,6 @@ struct Numbering {
     domain: Domain,
     seen: IndexSet<Seen>,
     filters: Filters,
-    // those of single values apart, since there are many of them
-    of_values: Filters,
 }
 
 impl Model for Numbering {
@@ -29,13 +28,16 @@ impl Model for Numbering {
 
     ghost view = { λ n. record { domain = n.domain; values = seen_values n.seen.keys } };
 
-    ghost invariant = { λ n. AreNumbered n.domain (seen_values n.seen.keys) × AreFilters (seen_values n.seen.keys) n.filters × AreFilters (seen_values n.seen.keys) n.of_values };
+    ghost invariant = { λ n. AreNumbered n.domain (seen_values n.seen.keys) × AreFilters (seen_values n.seen.keys) n.filters };
 }
 
 impl Numbering {
-    ghost use Rattle.std.specs.Prelude.{◌≡◌, ◌<◌, length, slice_set, IfOk, OnOk, OnErr};
+    ghost use Rattle.std.specs.Prelude.{◌≡◌, ◌<◌, false, length, slice_set, IfOk, OnOk, OnErr, IfSome, IfNone};
+    ghost use Rattle.std.specs.List.{list_any};
     ghost use Rattle.abstract_state.specs.Domains.{IsWithin, domain_size};
-    ghost use Rattle.numbered_sets.specs.Filters.{IsSifted};
+    ghost use Rattle.abstract_state.specs.ValueOrder.{same_part};
+    ghost use Rattle.flow_model.specs.declared.test.Test.TheVariants as Test;
+    ghost use Rattle.numbered_sets.specs.Filters.{IsNumberAlone, IsSifted};
     ghost use Rattle.numbered_sets.specs.NumberedEntries.{numbers_at};
     ghost use Rattle.numbered_sets.specs.Pools.{no_values, value_seen, AreValues, IsNumberOf};
 
@@ -47,7 +49,6 @@ impl Numbering {
             domain,
             seen: IndexSet::new(alloc),
             filters: Filters::new(alloc),
-            of_values: Filters::new(alloc),
         }
     }
 
@@ -99,15 +100,77 @@ impl Numbering {
         ensures others { OnOk result (entry.new.sets ≡ slice_set entry.old.sets component (numbers_at entry.new component)) }
         ensures err { OnErr result (entry.new ≡ entry.old) }
     {
-        let seen = self.seen.as_slice();
-        if is_of_value(test) {
-            self.of_values
-                .keep_passing(alloc, seen, test, component, entry)?;
-            return Ok(());
+        match test {
+            Test::Is(value) => self.keep_value(alloc, value, component, entry),
+            Test::IsNot(value) => self.leave_value(alloc, value, component, entry),
+            _ => {
+                let seen = self.seen.as_slice();
+                self.filters
+                    .keep_passing(alloc, seen, test, component, entry)?;
+                Ok(())
+            }
         }
-        self.filters
-            .keep_passing(alloc, seen, test, component, entry)?;
+    }
+
+    // leaves out all numbers of a component but that of a value
+    fn keep_value(
+        &self,
+        alloc: Global,
+        value: &PartValue,
+        component: usize,
+        entry: &mut NumberedEntry,
+    ) -> Result<(), Memory>
+        requires { component < length entry.old.sets }
+        ensures passing { OnOk result (IsSifted self.now.values (Test.Is value.now) (numbers_at entry.old component) (numbers_at entry.new component)) }
+        ensures others { OnOk result (entry.new.sets ≡ slice_set entry.old.sets component (numbers_at entry.new component)) }
+        ensures err { OnErr result (entry.new ≡ entry.old) }
+    {
+        let alone = self.alone(alloc, value)?;
+        entry.keep(component, &alone);
         Ok(())
+    }
+
+    // leaves out the number of a value from those of a component
+    fn leave_value(
+        &self,
+        alloc: Global,
+        value: &PartValue,
+        component: usize,
+        entry: &mut NumberedEntry,
+    ) -> Result<(), Memory>
+        requires { component < length entry.old.sets }
+        ensures passing { OnOk result (IsSifted self.now.values (Test.IsNot value.now) (numbers_at entry.old component) (numbers_at entry.new component)) }
+        ensures others { OnOk result (entry.new.sets ≡ slice_set entry.old.sets component (numbers_at entry.new component)) }
+        ensures err { OnErr result (entry.new ≡ entry.old) }
+    {
+        let alone = self.alone(alloc, value)?;
+        entry.leave_out(component, &alone);
+        Ok(())
+    }
+
+    // the set of a value's number; it is empty where the value has none
+    fn alone(&self, alloc: Global, value: &PartValue) -> Result<NumberedSet, Memory>
+        ensures { IfOk result (IsNumberAlone self.now.values value.now) }
+    {
+        let mut alone = NumberedSet::new(alloc, self.domain);
+        match self.number_of(value) {
+            None => Ok(alone),
+            Some(number) => {
+                alone.insert(number)?;
+                Ok(alone)
+            }
+        }
+    }
+
+    // the number of a value, if it has one
+    fn number_of(&self, value: &PartValue) -> Option<usize>
+        ensures number { IfSome result (IsNumberOf self.now.values value.now) }
+        ensures none { IfNone result (list_any (same_part value.now) self.now.values ≡ false) }
+    {
+        let key = Seen {
+            value: value.copy(),
+        };
+        self.seen.get_index_of(&key)
     }
 
     /// The same values under the same numbers. No test was asked of them yet.
@@ -128,11 +191,6 @@ impl Numbering {
     {
         let _domain = self.domain;
     }
-}
-
-// Whether a test is for one value. Where it is looked for makes no difference to what it says.
-fn is_of_value(test: &Test) -> bool {
-    matches!(test, Test::Is(_) | Test::IsNot(_))
 }
 
 /// The values that each component was seen with, in the order of first use. A value keeps its number as more come in.

@@ -1,8 +1,9 @@
 //! Values that were seen, as keys.
 ghost use Rattle.std.specs.Prelude.{◌≡◌};
-ghost use Rattle.numbered_sets.specs.SeenLaws.{block_of as block_of_part, depth_of as depth_of_part};
+ghost use Rattle.numbered_sets.specs.SeenLaws.{block_of as block_of_part, held_by as held_by_part};
 
 use abstract_state::{PartValue, Val};
+use osek_values::ResNo;
 use std::hash::{Hash, Hasher};
 
 /// A value that a component was seen with.
@@ -36,15 +37,17 @@ impl Hash for Seen {
 
     ghost respects_eq = { seen_fed };
 
-    // few values of a task stand at one block with as many resources
+    // a task may stand at one block with the same resources in every order, so each of them counts
     fn hash<H: Hasher>(&self, state: &mut H) {
         block_of(&self.value).hash(state);
-        depth_of(&self.value).hash(state);
+        for resource in held_by(&self.value) {
+            resource.0.hash(state);
+        }
     }
 }
 
-/// The block at which a task stands; 0 for all else.
-pub fn block_of(value: &PartValue) -> u16
+// The block at which a task stands; 0 for all else.
+fn block_of(value: &PartValue) -> u16
     ensures { result ≡ block_of_part value.now }
 {
     match value {
@@ -55,12 +58,13 @@ pub fn block_of(value: &PartValue) -> u16
     }
 }
 
-fn depth_of(value: &PartValue) -> usize
-    ensures { result ≡ depth_of_part value.now }
+// the resources that a task holds
+fn held_by(value: &PartValue) -> &[ResNo]
+    ensures { result.now ≡ held_by_part value.now }
 {
     match value {
-        PartValue::OfTask(Val::Live(live)) => live.held.as_slice().len(),
-        PartValue::OfTask(Val::Suspended | Val::Waiting(_)) => 0,
-        PartValue::OfEvent(_) | PartValue::OfAlarm(_) => 0,
+        PartValue::OfTask(Val::Live(live)) => live.held.as_slice(),
+        PartValue::OfTask(Val::Suspended | Val::Waiting(_)) => &[],
+        PartValue::OfEvent(_) | PartValue::OfAlarm(_) => &[],
     }
 }

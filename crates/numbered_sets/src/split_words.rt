@@ -33,12 +33,8 @@ pub fn next(low: u64, high: u64, more: &[u64], from: usize, below: usize) -> usi
     if number < 128 {
         return number;
     }
-    for further in number..below {
-        if has(low, high, more, further) {
-            return further;
-        }
-    }
-    below
+    let further = words::next(more, number - 128, below - 128);
+    128 + further
 }
 
 // the first number of the first two words from one on; where there is none a number that is in neither

@@ -1,5 +1,5 @@
 //! Words of 64 bits, with a bit for each number.
-ghost use Rattle.std.specs.Prelude.{ℕ, false, IsTrue, ◌≡◌, ◌<◌, ◌≤◌, ◌+◌, ◌/◌, ◌^◌, ◌==◌, not, bit_and, bit_or, bit_xor, count_ones, length, replicate, slice_index_or, slice_set, IfOk, OnOk, OnErr};
+ghost use Rattle.std.specs.Prelude.{ℕ, false, IsTrue, ◌≡◌, ◌<◌, ◌≤◌, ◌+◌, ◌*◌, ◌/◌, ◌^◌, ◌==◌, not, bit_and, bit_or, bit_xor, count_ones, length, replicate, slice_index_or, slice_set, IfOk, OnOk, OnErr};
 ghost use Rattle.std.specs.Bool.{OnTrue};
 ghost use Rattle.osek_standard.specs.Kernel.{has_bit as has_bit_of};
 ghost use Rattle.numbered_sets.specs.Numbers.{AreWords, bits_of_words};
@@ -70,6 +70,51 @@ pub fn next_bit(word: u64, from: usize) -> usize
     from + rest.trailing_zeros() as usize
 }
 
+/// The first number from one on whose bit is set, if it is below a bound; else the bound.
+pub fn next(words: &[u64], from: usize, below: usize) -> usize
+    requires { from ≤ below }
+    ensures up { from ≤ result }
+    ensures few { result ≤ below }
+    ensures has { result < below → IsTrue (has_bit_of (bits_of_words words.now) result) }
+    ensures none { (k : ℕ) → from ≤ k → k < result → has_bit_of (bits_of_words words.now) k ≡ false }
+{
+    are_words(words);
+    for place in from / 64..words.len() {
+        if place > below / 64 {
+            return below;
+        }
+        let bit = next_bit(words[place], begin_in(place, from));
+        if bit < 64 {
+            return at_most(64 * place + bit, below);
+        }
+    }
+    below
+}
+
+// where the numbers from one on begin in the word at a place
+fn begin_in(place: usize, from: usize) -> usize
+    ensures bit { result < 64 }
+    ensures up { from / 64 ≤ place → from ≤ 64 * place + result }
+    ensures all { (k : ℕ) → from ≤ k → 64 * place ≤ k → 64 * place + result ≤ k }
+{
+    if place > from / 64 {
+        return 0;
+    }
+    from % 64
+}
+
+fn at_most(number: usize, bound: usize) -> usize
+    ensures number { result ≤ number }
+    ensures bound { result ≤ bound }
+    ensures is { result < bound → result ≡ number }
+    ensures either { (k : ℕ) → k ≤ number → k ≤ bound → k ≤ result }
+{
+    if number < bound {
+        return number;
+    }
+    bound
+}
+
 /// A word with a bit more.
 pub fn with_bit(word: u64, bit: usize) -> u64
     requires { bit < 64 }
@@ -92,6 +137,37 @@ pub fn new_bits(word: u64, other: u64) -> u64
 
 /// Sets the bits of other words too, and tells how many were not set.
 pub fn join(words: &mut [u64], other: &[u64]) -> u64
+    requires room { length other.now ≤ length words.old }
+    requires few { count_ones (bits_of_words other.now) < 2 ^ 64 }
+    ensures words { (i : ℕ) → slice_index_or words.new i 0 ≡ bit_or (slice_index_or words.old i 0) (slice_index_or other.now i 0) }
+    ensures bits { bits_of_words words.new ≡ bit_or (bits_of_words words.old) (bits_of_words other.now) }
+    ensures count { count_ones (bits_of_words words.new) ≡ count_ones (bits_of_words words.old) + result }
+    ensures few { result ≤ count_ones (bits_of_words other.now) }
+{
+    are_words(words);
+    are_words(other);
+    if have_all(words, other) {
+        return 0;
+    }
+    join_each(words, other)
+}
+
+// Whether each bit of other words is set. Most joins bring nothing new, and this has no branch for each word.
+fn have_all(words: &[u64], other: &[u64]) -> bool
+    requires { length other.now ≤ length words.now }
+    ensures { OnTrue result ((i : ℕ) → i < length other.now → slice_index_or words.now i 0 ≡ bit_or (slice_index_or words.now i 0) (slice_index_or other.now i 0)) }
+{
+    let mut all = true;
+    for place in 0..other.len() {
+        if words[place] | other[place] != words[place] {
+            all = false;
+        }
+    }
+    all
+}
+
+// the same, a word after the other
+fn join_each(words: &mut [u64], other: &[u64]) -> u64
     requires room { length other.now ≤ length words.old }
     requires few { count_ones (bits_of_words other.now) < 2 ^ 64 }
     ensures words { (i : ℕ) → slice_index_or words.new i 0 ≡ bit_or (slice_index_or words.old i 0) (slice_index_or other.now i 0) }

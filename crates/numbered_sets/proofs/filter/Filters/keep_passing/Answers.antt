@@ -1,15 +1,12 @@
-use Rattle.std.proofs.Common.{◌≡◌, ℕ, ◌<◌, ◌≤◌, List, length, get_or, set, sym, ap, subst, ◌∙◌, arith, get_or-set_same}
+use Rattle.std.proofs.Common.{◌≡◌, ◌<◌, ◌≤◌, length, get_or, set, sym, ap, subst, ◌∙◌, arith}
 use Rattle.std.proofs.lemmas.List.{length-map}
 use Rattle.std.proofs.lemmas.List.Elements.{All-get_or}
 use Rattle.numbered_sets.specs.declared.{seen.Seen.{Seen}, filter.Filter.{Filter}}
 use Rattle.numbered_sets.specs.Filters.{seen_values, IsFilter, IsSifted}
-use Rattle.numbered_sets.specs.Numbers.{Numbers, kept_numbers}
-use Rattle.numbered_sets.specs.NumberedEntries.{no_set, numbers_at}
-use Rattle.numbered_sets.proofs.SiftLaws.{sifted}
+use Rattle.numbered_sets.specs.Numbers.{kept_numbers}
+use Rattle.numbered_sets.specs.NumberedEntries.{numbers_at}
+use Rattle.numbered_sets.proofs.SiftLaws.{put_at, sifted}
 use Rattle.numbered_sets.proofs.filter.Filters.keep_passing.Goals as goal
-
-kept_at : (xs ys : List Numbers) (k : ℕ) (x : Numbers) → k < length xs → ys ≡ set xs k x → get_or ys k no_set ≡ x
-kept_at xs ys k x lt write = ap (λ (zs : List Numbers). get_or zs k no_set) write ∙ get_or-set_same xs k x no_set lt
 
 pub returns-clause-passing : goal.returns-clause-passing
 returns-clause-passing c =
@@ -24,9 +21,9 @@ returns-clause-passing c =
     let judged = ap (λ (f : Filter). f.judged) at in
     let whole : length values ≤ filter.judged = (let long = length-map c.args.seen.now (λ (s : Seen). s.value) in omega (arith, long, judged, c.in_ok-renew.ensures.whole filter)) in
     let was = numbers_at c.args.entry.now c.args.component in
-    subst (IsSifted values c.args.test.now was) (sym (kept_at c.args.entry.now.sets c.keep.new.self.sets c.args.component (kept_numbers was filter.passing) c.requires.known c.keep.ensures)) (sifted values filter c.args.test.now was is test whole)
+    subst (IsSifted values c.args.test.now was) (sym (put_at c.args.entry.now.sets c.keep.new.self.sets c.args.component (kept_numbers was filter.passing) c.requires.known c.keep.ensures)) (sifted values filter c.args.test.now was is test whole)
 
 pub returns-clause-others : goal.returns-clause-others
 returns-clause-others c =
     let made = kept_numbers (numbers_at c.args.entry.now c.args.component) c.at.result.now.passing in
-    c.keep.ensures ∙ ap (set c.args.entry.now.sets c.args.component) (sym (kept_at c.args.entry.now.sets c.keep.new.self.sets c.args.component made c.requires.known c.keep.ensures))
+    c.keep.ensures ∙ ap (set c.args.entry.now.sets c.args.component) (sym (put_at c.args.entry.now.sets c.keep.new.self.sets c.args.component made c.requires.known c.keep.ensures))

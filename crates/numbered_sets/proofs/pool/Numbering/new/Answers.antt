@@ -11,5 +11,4 @@ invariant_of-result c =
     let h = c.new.ensures.empty in (
       subst (λ (ks : List Seen). AreNumbered c.args.domain (seen_values ks)) (sym h) (none_numbered c.args.domain),
       no_filters (seen_values c.new.result.keys) c.new-2.result c.new-2.ensures,
-      no_filters (seen_values c.new.result.keys) c.new-3.result c.new-3.ensures,
     )

@@ -2,7 +2,6 @@ use Rattle.std.proofs.Common.{List, sym, ap, subst, ◌∙◌, arith}
 use Rattle.abstract_state.specs.declared.value.{Domain.{Domain}, PartValue.{PartValue}}
 use Rattle.abstract_state.specs.Domains.{IsWithin, domain_size}
 use Rattle.numbered_sets.specs.Pools.{Values, AreNumbered, IsNumberOf, with_value}
-use Rattle.numbered_sets.specs.declared.filter.Filters.{Filters}
 use Rattle.numbered_sets.specs.Filters.{seen_values, AreFilters}
 use Rattle.numbered_sets.proofs.PoolLaws.{values_with_seen, numbered_with, few_values, number_of_seen}
 use Rattle.numbered_sets.proofs.SiftLaws.{filters_with}
@@ -20,9 +19,7 @@ number c = number_of_seen c.insert_full.new.self.keys c.args.value c.in_ok-numbe
 pub invariant_of-self-2 : goal.invariant_of-self-2
 invariant_of-self-2 c =
     let values = ap seen_values c.in_ok-number.ensures.keys ∙ values_with_seen c.self.inside.seen.keys (record { value = c.args.value }) in
-    let kept : (fs : Filters) → AreFilters (seen_values c.self.inside.seen.keys) fs → AreFilters (seen_values c.insert_full.new.self.keys) fs =
-    (λ fs h. subst (λ (vs : List PartValue). AreFilters vs fs) (sym values) (filters_with (seen_values c.self.inside.seen.keys) c.args.value fs h)) in
-    (numbered c, kept c.self.inside.filters c.self.invariant.1, kept c.self.inside.of_values c.self.invariant.2)
+    (numbered c, subst (λ (vs : List PartValue). AreFilters vs c.self.inside.filters) (sym values) (filters_with (seen_values c.self.inside.seen.keys) c.args.value c.self.inside.filters c.self.invariant.1))
 
 pub returns-clause-values : goal.returns-clause-values
 returns-clause-values c =
