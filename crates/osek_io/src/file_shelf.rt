@@ -12,7 +12,7 @@ use std::rt::Files;
 
 /// The files of the system by their paths. It tells no contents. What the system refuses, out of memory
 /// included, is a fault, and so is a read of what is no regular file: a pipe or a terminal would be waited
-/// for, and has no places to seek.
+/// for, and has no places to seek. `/dev/null` alone, which stands for an empty file in scripts, is read as one.
 ///
 /// Each call opens its file anew, and a read seeks to its place: nothing is kept between two calls, and a
 /// file that is read piece by piece costs one opening a piece, wherever the piece is.
@@ -37,6 +37,9 @@ impl<R: Files> FileShelf<R> {
     }
 }
 
+/// The path that scripts name for an empty file.
+const EMPTY_FILE: &str = "/dev/null";
+
 /// Whether a path leads to a regular file.
 fn is_regular<R: Files>(files: &R, name: &str) -> bool {
     match fs::metadata(files, name) {
@@ -49,6 +52,9 @@ fn is_regular<R: Files>(files: &R, name: &str) -> bool {
 fn read_at<R: Files>(files: &R, name: &str, at: u64, into: &mut [u8]) -> Result<usize, Failed>
     ensures bound { IfOk result (λ n. n ≤ length into.new) }
 {
+    if name == EMPTY_FILE {
+        return Ok(0);
+    }
     if !is_regular(files, name) {
         return Err(Failed);
     }
