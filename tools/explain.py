@@ -60,15 +60,17 @@ def explained(refusal, words, rules):
         place = int(match['place'])
         return ['%s: error: %s at byte %d (0x%x): %s' % (match['file'], match['rule'], place, place, meaning), '    look first: ' + first]
     lines = ['%s:%s: error: %s: %s' % (match['file'], max(1, int(match['place'])), match['rule'], meaning)]
-    lines += ['    %s' % text for text in source_line(match['file'], int(match['place']))]
+    before = 1 if match['rule'] == 'S1' else 0
+    lines += ['    %s' % text for text in source_lines(match['file'], int(match['place']), before)]
     lines += ['    without code: %s' % name for name in (without_code(words) if match['rule'] == 'C1' else [])]
     return lines + (['    look first: ' + first] if first else [])
 
 
-def source_line(name, number):
-    """The line of a source, in a list; none where the refusal is of the whole file."""
+def source_lines(name, number, before):
+    """A line of a source with so many before it; none where the refusal is of the whole file."""
     lines = contents(name).splitlines()
-    return [lines[number - 1].strip()[:MOST_SHOWN]] if 0 < number <= len(lines) else []
+    first = max(1, number - before)
+    return ['%4d  %s' % (k, lines[k - 1][:MOST_SHOWN]) for k in range(first, number + 1)] if 0 < number <= len(lines) else []
 
 
 def without_code(words):

@@ -220,6 +220,8 @@ class Annotations(unittest.TestCase):
         self.assertEqual([(row.name, row.reached, row.all) for row in rows],
                          [('statements', 17, 17), ('choices', 2, 2), ('outcomes', 10, 17), ('edges', 31, 99)])
         self.assertIn('outcome: c:12: ReleaseResource(EngineData) goes on', rows[2].missed)
+        for text in ('edge: b3 idle: Injection line 5 to idle', 'edge: b23/- b14: Crank end over nobody to Diagnosis line 21'):
+            self.assertIn(text, rows[3].missed)
 
     def test_show_of_other_texts_is_told(self):
         app = example_app('lamp')
@@ -240,7 +242,7 @@ class Explanations(unittest.TestCase):
                     file.write(text)
             rules, at = explain.rules_of(explain.guide()), [os.path.join(folder, name) for name in ('a.oil', 'a.code', 'b.code')]
             lines = explain.explained(at[1] + ':2: S1', [], rules)
-            self.assertEqual(lines[:2], [at[1] + ":2: error: S1: the token isn't allowed here", '    int x;'])
+            self.assertEqual(lines[:3], [at[1] + ":2: error: S1: the token isn't allowed here", '       1  ', '       2  int x;'])
             self.assertIn('    without code: TASK T1', explain.explained(at[2] + ':0: C1', ['build', at[0], at[2], 'i'], rules))
             self.assertIn('at byte 16 (0x10)', explain.explained('x:16: I3', [], rules)[0])
         self.assertEqual(explain.explained('usage', [], rules), [])
