@@ -14,6 +14,7 @@ import covered
 import events
 import explain
 import house
+import image
 import least_table
 import lint
 import model
@@ -79,6 +80,13 @@ class Models(unittest.TestCase):
     def test_what_show_prints_of_the_examples(self):
         for name in ('first', 'lamp', 'engine'):
             self.assertEqual(least_table.show(example_app(name)), example(name, '.show'), name)
+
+    def test_the_image_of_the_first_example(self):
+        app = example_app('first')
+        analysis = least_table.Analysis(app).solve()
+        self.assertEqual(image.image(app, analysis.shown, analysis.noted).hex(),
+                         '4f53454b464954020001000000010100020254310001010000000000000000010000000201ff0d5245535f5343484544554c4552'
+                         '00000003000000104f5344454641554c544150504d4f4445040000000003000102ff091600000000040000ff')
 
     def test_refusals(self):
         code = ('TASK(T1) { GetResource(R); GetResource(R); TerminateTask(); ReleaseResource(R); ReleaseResource(R); SetEvent(T1, E);'
