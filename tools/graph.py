@@ -91,6 +91,15 @@ class Owners:
         self.blocks = task_code.blocks_of(code) if code is not None else []
         self.ticks = tick_routines(graph, len(self.blocks), system) if code is not None else {}
         self.alarms = alarms_of(self.ticks, system)
+        if code is not None:
+            self.judge(graph)
+
+    def judge(self, graph):
+        """Stops where show speaks of a block that the code doesn't have, or that isn't of its kind."""
+        for point in {point for edge in graph.edges for point in edge if point.block is not None}:
+            owner = self.owner(point)
+            if owner is None or (owner.kind == 'TASK') != (point.kind == 'task'):
+                raise Wrong('show speaks of %s, which this task code does not have' % text_of(point))
 
     def owner(self, point):
         """The owner of a point's block, or None where there is no block or it isn't known."""
