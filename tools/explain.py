@@ -11,6 +11,7 @@ import re
 import subprocess
 import sys
 
+import lint_oil
 import oil
 import task_code
 from given import Wrong, contents, run
@@ -62,7 +63,7 @@ def explained(refusal, words, rules):
     lines = ['%s:%s: error: %s: %s' % (match['file'], max(1, int(match['place'])), match['rule'], meaning)]
     before = 1 if match['rule'] == 'S1' else 0
     lines += ['    %s' % text for text in source_lines(match['file'], int(match['place']), before)]
-    lines += ['    without code: %s' % name for name in (without_code(words) if match['rule'] == 'C1' else [])]
+    lines += ['    ' + text for text in named(match, words)]
     return lines + (['    look first: ' + first] if first else [])
 
 
@@ -73,13 +74,25 @@ def source_lines(name, number, before):
     return ['%4d  %s' % (k, lines[k - 1][:MOST_SHOWN]) for k in range(first, number + 1)] if 0 < number <= len(lines) else []
 
 
-def without_code(words):
-    """The tasks and routines of an OIL text that the task code has no body for, as far as both can be read."""
+def named(match, words):
+    """What a rule leaves open and the texts tell: what is missing, or isn't declared. Nothing where they can't be read."""
     try:
-        system = oil.system_of(contents(words[1]), words[1])
-        there = {block.owner for block in task_code.blocks_of(contents(words[2]), words[2])}
+        if match['rule'] == 'C1':
+            return ['without code: ' + name for name in without_code(words)]
+        if match['rule'] in ('O4', 'O7'):
+            objects, line = oil.objects_of(contents(match['file'])), int(match['place'])
+            if match['rule'] == 'O4':
+                return ['missing: ' + text for text in lint_oil.missing(objects, line)]
+            return ['not declared: ' + text for text in lint_oil.undeclared(objects, line)]
     except (Wrong, OSError, IndexError):
-        return []
+        pass
+    return []
+
+
+def without_code(words):
+    """The tasks and routines of an OIL text that the task code has no body for."""
+    system = oil.system_of(contents(words[1]), words[1])
+    there = {block.owner for block in task_code.blocks_of(contents(words[2]), words[2])}
     declared = [Owner('TASK', name) for name in system.tasks]
     declared += [Owner('ISR', isr.name) for isr in system.isrs.values() if isr.category == 2]
     return ['%s %s' % owner for owner in declared if owner not in there]

@@ -17,6 +17,7 @@ import house
 import image
 import least_table
 import lint
+import lint_oil
 import model
 import oil
 import reached
@@ -254,6 +255,14 @@ class Explanations(unittest.TestCase):
             self.assertIn('    without code: TASK T1', explain.explained(at[2] + ':0: C1', ['build', at[0], at[2], 'i'], rules))
             self.assertIn('at byte 16 (0x10)', explain.explained('x:16: I3', [], rules)[0])
         self.assertEqual(explain.explained('usage', [], rules), [])
+
+    def test_what_is_missing_and_what_is_not_declared_is_named(self):
+        objects = oil.objects_of('CPU c { OS os;\nTASK T { PRIORTY = 1; EVENT = E; AUTOSTART = TRUE { APPMODE = M; }; };\n'
+                                 'ALARM A { COUNTER = C;\nACTION = SETEVENT { TASK = T; };\nAUTOSTART = TRUE { ALARMTIME = 1; }; }; };')
+        self.assertEqual(list(lint_oil.missing(objects, 2)), ['PRIORITY of TASK T'])
+        self.assertEqual(list(lint_oil.missing(objects, 4)), ['EVENT within ACTION of ALARM A'])
+        self.assertEqual(list(lint_oil.missing(objects, 5)), ['CYCLETIME within AUTOSTART of ALARM A'])
+        self.assertEqual(list(lint_oil.undeclared(objects, 2)), ['EVENT E of TASK T', 'APPMODE M of TASK T'])
 
 
 class Regressions(unittest.TestCase):
