@@ -11,11 +11,13 @@ import re
 import subprocess
 import sys
 
+import application
 import lint_oil
 import oil
 import task_code
 from given import Wrong, contents, run
 from task_code import Owner
+from tokens import HINT
 
 DOCS = os.path.join(os.path.dirname(os.path.dirname(os.path.abspath(__file__))), 'docs')
 
@@ -38,12 +40,13 @@ MOST_SHOWN = 160
 
 
 def rules_of(guide):
-    """The rows of the guide's tables of rules: what a rule means, and where to look first."""
+    """The rows of the guide's tables of rules: what a rule means, and where to look first. A rule that has a row for OIL and one for task
+    code has the latter under the letter of C too."""
     found = {}
     for line in guide.splitlines():
         cells = [cell.strip() for cell in re.split(r'(?<!\\)\|', line.strip().strip('|'))]
         if len(cells) > 2 and re.fullmatch(r'[LSOCEI]\d+', cells[0]):
-            found[cells[0]] = (cells[1], cells[-1])
+            found[cells[0] if cells[0] not in found else 'C' + cells[0]] = (cells[1], cells[-1])
     return found
 
 
@@ -56,7 +59,8 @@ def explained(refusal, words, rules):
     match = REFUSAL.fullmatch(refusal)
     if not match or match['rule'] not in rules:
         return []
-    meaning, first = rules[match['rule']]
+    is_code = words[2:3] == [match['file']]
+    meaning, first = rules['C' + match['rule'] if is_code and 'C' + match['rule'] in rules else match['rule']]
     if match['rule'].startswith('I'):
         place = int(match['place'])
         return ['%s: error: %s at byte %d (0x%x): %s' % (match['file'], match['rule'], place, place, meaning), '    look first: ' + first]
@@ -79,6 +83,8 @@ def named(match, words):
     try:
         if match['rule'] == 'C1':
             return ['without code: ' + name for name in without_code(words)]
+        if match['rule'][0] == 'S':
+            return ['here: ' + text for text in wanted(match['file'], int(match['place']), words[2:3] == [match['file']])]
         if match['rule'] in ('O4', 'O7'):
             objects, line = oil.objects_of(contents(match['file'])), int(match['place'])
             if match['rule'] == 'O4':
@@ -87,6 +93,16 @@ def named(match, words):
     except (Wrong, OSError, IndexError):
         pass
     return []
+
+
+def wanted(name, line, is_code):
+    """What the readers of these tools want on the line of a fault of the grammar."""
+    try:
+        blocks = task_code.blocks_of(contents(name), name) if is_code else oil.objects_of(contents(name), name) and []
+    except Wrong as wrong:
+        place, _, text = str(wrong)[len(name) + 1:].partition(': ')
+        return [text.replace(HINT, '')] if place == str(line) else []
+    return [fault for block in blocks if block.line == line for fault in [application.misshapen(block)] if fault][:1]
 
 
 def without_code(words):
