@@ -288,6 +288,10 @@ class Documents(unittest.TestCase):
         text = 'x\n```console\n$ cd a\n$ b\nout\n```\n```\n$ no\n```\n'
         self.assertEqual(check_documents.blocks_of(text), [[(3, 'cd a', []), (4, 'b', ['out'])]])
 
+    def test_links_lead_somewhere(self):
+        self.assertEqual(list(check_documents.broken_links(check_documents.ROOT)), [])
+        self.assertEqual(check_documents.anchors_of("# A B\n```\n# no\n```\n## What it isn't, `x`\n"), {'a-b', 'what-it-isnt-x'})
+
     def test_definitions_are_followed_by_imports(self):
         found = reached.Scope('use Rattle.a.specs.{F.{x, y}, declared.m.T.{T}}\nuse Rattle.a.specs.G as g\nuse Rattle.std.specs.P.{z}\n')
         self.assertEqual(found.names, {'x': ('a', 'F', 'x'), 'y': ('a', 'F', 'y'), 'T': ('a', 'src/m', 'T')})
