@@ -146,7 +146,7 @@ def main():
     if not words.links:
         program = shutil.which(words.program or '')
         if program is None:
-            raise Wrong('%s: no program' % words.program)
+            raise Wrong('%s: no program' % (words.program or 'PROGRAM'))
         found, count = run_all(program)
         faults += found
     for fault in faults:
