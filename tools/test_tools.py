@@ -297,6 +297,12 @@ class Timelines(unittest.TestCase):
         chart = timeline_chart.Chart(lines, None, [])
         self.assertEqual(len(set(chart.rows.values())), 5)
 
+    def test_a_request_while_one_waits_is_lost(self):
+        lines = list(trace_of('0 T T=R\n1 T T=R\n2 T T=R\n3 @I T=R\n4 @I T=R\n5 T T=R\n6 @I T=R\n'))
+        chart = timeline_chart.Chart(lines, None, [(1, '@I'), (2, '@I'), (4, '@I')])
+        self.assertEqual(chart.latches('@I'), [(1, 3), (2, None), (4, 6)])
+        self.assertIn('requested while it waits: lost', words_of(timeline_chart.chart(lines, None, [(1, '@I'), (2, '@I')], '')))
+
     def test_dense_notes_are_drawn_as_how_many_there_are(self):
         text = ''.join('%d T1 T1=R !E_OK =5\n' % n for n in range(500))
         svg = timeline_chart.chart(list(trace_of(text)), None, [], '')
