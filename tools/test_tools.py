@@ -288,8 +288,8 @@ class Timelines(unittest.TestCase):
     def test_btf(self):
         lines = ''.join(btf.dump(trace_of('0 T1 T1=R T2=S\n1 @I T1=R+Q T2=S\n2 T2 T1=Y T2=R\n3 T1 T1=R T2=W:0\n4 - T1=S T2=W:0\n'), [(1, '@I')]))
         self.assertEqual([line.split(',', 1)[0] + ' ' + ' '.join(line.split(',')[3:]) for line in lines.splitlines()[4:]], [
-            '0 T T1 0 activate', '0 T T1 0 start', '1 I I 0 activate', '1 SEM Q 0 lock', '1 T T1 0 preempt', '1 I I 0 start',
-            '2 SEM Q 0 unlock', '2 I I 0 terminate', '2 T T2 0 activate', '2 T T2 0 start', '3 T T2 0 wait', '3 T T1 0 resume',
+            '0 T T1 0 activate', '0 T T1 0 start', '1 I I 0 activate', '1 SEM Q 0 assigned', '1 T T1 0 preempt', '1 I I 0 start',
+            '2 SEM Q 0 released', '2 I I 0 terminate', '2 T T2 0 activate', '2 T T2 0 start', '3 T T2 0 wait', '3 T T1 0 resume',
             '4 T T1 0 terminate'])
 
     def test_a_task_may_be_called_as_a_note_is(self):
