@@ -8,7 +8,6 @@ somewhere; with --links alone that is looked at, and no program is needed.
 
     tools/check_documents.py crates/osekfit/out/osekfit
 """
-import argparse
 import filecmp
 import os
 import re
@@ -18,7 +17,7 @@ import sys
 import tempfile
 from collections import namedtuple
 
-from given import Wrong, contents, run
+from given import Parser, Wrong, contents, run
 
 ROOT = os.path.dirname(os.path.dirname(os.path.abspath(__file__)))
 
@@ -115,7 +114,7 @@ def changed(folder):
 
 
 def arguments():
-    parser = argparse.ArgumentParser(description=__doc__, formatter_class=argparse.RawDescriptionHelpFormatter)
+    parser = Parser(__doc__)
     parser.add_argument('program', nargs='?', metavar='PROGRAM', help='the built osekfit')
     parser.add_argument('--links', action='store_true', help='looks at links alone')
     return parser.parse_args()

@@ -7,7 +7,6 @@ differs is kept.
 
     tools/compare_model.py crates/osekfit/out/osekfit --count 100 --seed 7
 """
-import argparse
 import os
 import random
 import shutil
@@ -19,7 +18,7 @@ import image
 import least_table
 import model
 from application import application_of
-from given import Wrong, run
+from given import Parser, Wrong, run
 
 HOOKS = ['STARTUPHOOK', 'ERRORHOOK', 'SHUTDOWNHOOK', 'PRETASKHOOK', 'POSTTASKHOOK']
 
@@ -137,7 +136,7 @@ def compare(program, seed, folder):
 
 
 def arguments():
-    parser = argparse.ArgumentParser(description=__doc__, formatter_class=argparse.RawDescriptionHelpFormatter)
+    parser = Parser(__doc__)
     parser.add_argument('program', metavar='PROGRAM', help='the built osekfit')
     parser.add_argument('--count', type=int, default=100, metavar='N', help='how many applications are made')
     parser.add_argument('--seed', type=int, default=1, metavar='N', help='the seed of the first; each further one is one more')

@@ -11,14 +11,13 @@ interrupt (into a routine), a return (out of it), a restart (a task that ends an
     tools/graph.py --code a.code --svg --task T1 a.show > t1.svg            one column, and what it has edges with
     tools/graph.py --code a.code --summary a.show                           who dispatches whom, in numbers of edges
 """
-import argparse
 import re
 import sys
 from collections import Counter, namedtuple
 
 import oil
 import task_code
-from given import Wrong, contents, run
+from given import Parser, Wrong, contents, run
 
 Point = namedtuple('Point', 'kind block over')
 """Where the processor stands: kind is halt, idle, task or routine; over is the interrupted task's name, or `-`."""
@@ -260,7 +259,7 @@ def summary(graph, owners):
 
 
 def arguments():
-    parser = argparse.ArgumentParser(description=__doc__, formatter_class=argparse.RawDescriptionHelpFormatter)
+    parser = Parser(__doc__)
     parser.add_argument('show', nargs='?', help='the text of `osekfit show` (standard input where it is missing)')
     parser.add_argument('--code', metavar='FILE', help="the application's task code: names blocks and their owners")
     parser.add_argument('--oil', metavar='FILE', help='its OIL text: names counters and alarms')

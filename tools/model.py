@@ -9,11 +9,10 @@ without fault. The files examples/*/*.show are its answers.
     tools/model.py show a.oil a.code
     tools/model.py build a.oil a.code a.image
 """
-import argparse
 import sys
 
 from application import application_of
-from given import Wrong, contents, run
+from given import Parser, Wrong, contents, run
 from kernel import Kernel
 from services import letter
 from states import HALTED, IDLE, SUSPENDED, Live, Routine
@@ -94,7 +93,7 @@ def store(app, name):
 
 
 def arguments():
-    parser = argparse.ArgumentParser(description=__doc__, formatter_class=argparse.RawDescriptionHelpFormatter)
+    parser = Parser(__doc__)
     verbs = parser.add_subparsers(dest='verb', metavar='trace|show|build', required=True)
     for verb, words in (('trace', ['OIL', 'CODE', 'MODE', 'EVENTS']), ('show', ['OIL', 'CODE']), ('build', ['OIL', 'CODE', 'IMAGE'])):
         one = verbs.add_parser(verb)

@@ -9,13 +9,12 @@ and blank lines. It says where the page and the tree differ, and then the status
     tools/reached.py --list            each file with its lines, as the page's tables have them
     tools/reached.py --write           puts the numbers right; rows that the page lacks, or has too many, are still told
 """
-import argparse
 import os
 import re
 import sys
 from collections import namedtuple
 
-from given import Wrong, contents, run
+from given import Parser, Wrong, contents, run
 
 ROOT = os.path.dirname(os.path.dirname(os.path.abspath(__file__)))
 
@@ -261,7 +260,7 @@ def parts_of(text):
 
 
 def arguments():
-    parser = argparse.ArgumentParser(description=__doc__, formatter_class=argparse.RawDescriptionHelpFormatter)
+    parser = Parser(__doc__)
     parser.add_argument('--list', action='store_true', help='each file of specs/ with its lines')
     parser.add_argument('--write', action='store_true', help='puts the numbers of the page right')
     return parser.parse_args()

@@ -314,10 +314,10 @@ class Ends(unittest.TestCase):
         env = dict(os.environ, LC_ALL='C', PYTHONIOENCODING='')
         return subprocess.run([sys.executable, os.path.join(HERE, words[0])] + words[1:], stdin=subprocess.DEVNULL, stderr=subprocess.PIPE, env=env, **more)
 
-    def test_missing_files_are_told_in_one_line(self):
+    def test_missing_files_and_wrong_words_are_told_in_one_line(self):
         for words in (['annotate.py', 'no', 'no', 'no'], ['check_documents.py', 'no/program'], ['compare_model.py', 'no/program'], ['events.py', 'no'],
                       ['explain.py', 'no/program'], ['graph.py', 'no'], ['lint.py', 'no', 'no'], ['model.py', 'show', 'no', 'no'],
-                      ['regress.py', '--program', 'no/program', 'no'], ['timeline.py', 'no']):
+                      ['regress.py', '--program', 'no/program', 'no'], ['timeline.py', 'no'], ['timeline.py', '--first', 'x', 'no'], ['graph.py', '--no']):
             done = self.ended(words, stdout=subprocess.DEVNULL)
             self.assertEqual((done.returncode, done.stderr.count(b'\n')), (2, 1), (words, done.stderr))
 

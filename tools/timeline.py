@@ -9,14 +9,13 @@ timing tools. A long trace is read line by line, and no more of it is kept than 
     tools/timeline.py --first 2000 --last 2100 a.trace > a.svg
     tools/timeline.py --vcd a.trace > a.vcd
 """
-import argparse
 import re
 import shutil
 import sys
 import tempfile
 from collections import namedtuple
 
-from given import Wrong, contents, opened, run
+from given import Parser, Wrong, contents, opened, run
 
 STATES = {'S': 'suspended', 'Y': 'ready', 'R': 'running', 'W': 'waiting'}
 
@@ -138,7 +137,7 @@ def routines_of(lines, requests=()):
 
 
 def arguments():
-    parser = argparse.ArgumentParser(description=__doc__, formatter_class=argparse.RawDescriptionHelpFormatter)
+    parser = Parser(__doc__)
     parser.add_argument('trace', nargs='?', help='the text of a trace (standard input where it is missing)')
     parser.add_argument('--events', metavar='FILE', help='the event text, to mark where interrupts and ticks were requested')
     form = parser.add_mutually_exclusive_group()
