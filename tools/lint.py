@@ -40,7 +40,7 @@ CODE_CHECKS = {
     'held': lint_code.held_resources,
     'end': lint_code.ends_without_a_call,
     'dead': lint_code.dead_statements,
-    'endless': lint_code.endless_tasks,
+    'endless': lambda code: [*lint_code.endless_tasks(code), *lint_code.endless_routines(code)],
     'wait': lint_code.waits,
 }
 

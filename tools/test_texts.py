@@ -169,6 +169,11 @@ class Lint(unittest.TestCase):
         found = lint.warnings_of(example('body', '.oil'), example('body', '.code'), ('o', 'c'))
         self.assertEqual([text.split(' ')[0] for _, _, text, _ in found], ['CC', 'PRIORITY'])
 
+    def test_a_routine_that_never_ends(self):
+        oil_text = 'CPU c { OS os; %s ISR I { CATEGORY = 2; }; };' % T1
+        self.assertEqual(self.found(oil_text, 'TASK(T1) { TerminateTask(); }\nISR(I) {\nwhile (1) { work 1; }\n}'), [('c', 3, 'endless')])
+        self.assertEqual(self.found(oil_text, 'TASK(T1) { TerminateTask(); }\nISR(I) {\nwhile (?) { work 1; }\n}'), [])
+
     def test_a_resource_that_stays_held_in_a_loop(self):
         oil_text = 'CPU c { OS os; RESOURCE R; TASK T1 { PRIORITY = 1; AUTOSTART = TRUE; RESOURCE = R; }; };'
         self.assertEqual(self.found(oil_text, 'TASK(T1) {\nwhile (1) {\nGetResource(R);\n}\n}'), [('c', 3, 'held')])
