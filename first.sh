@@ -62,7 +62,7 @@ libraries() {
           for (i = 1; i <= n; i++) if (name[i] in wanted && name[i] != "osekfit") print name[i] }' "$here/crates.txt"
 }
 
-echo "The trace of ${names[0]} and ${names[1]}, by a quick build of the program (one to two minutes), which is not proved:"
+echo "The trace of ${names[0]} and ${names[1]}, by a quick build of the program (one to two minutes on a quiet machine), which is not proved:"
 status=0
 dotted quick_trace || status=$?
 cat "$scratch/trace"

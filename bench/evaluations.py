@@ -6,7 +6,6 @@ callers (each site's, for its form). Names are those of the program as LLVM buil
 
     bench/evaluations.py crates/osekfit/out/osekfit app.oil app.code          needs gdb and objdump
 """
-import argparse
 import os
 import re
 import subprocess
@@ -40,7 +39,7 @@ def counts(program, words):
 
 
 def main():
-    parser = argparse.ArgumentParser(description=__doc__, formatter_class=argparse.RawDescriptionHelpFormatter)
+    parser = given.Parser(__doc__)
     parser.add_argument('program', metavar='PROGRAM')
     parser.add_argument('oil', metavar='OIL')
     parser.add_argument('code', metavar='CODE')

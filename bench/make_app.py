@@ -7,7 +7,6 @@ isn't given goes with the number of tasks, up to the limits of an application at
 
     bench/make_app.py --tasks 8 --seed 3 --events 1000 DIR        writes DIR/app.oil, DIR/app.code, DIR/app.events
 """
-import argparse
 import os
 import random
 import sys
@@ -228,7 +227,7 @@ def write_app(size, seed, events, folder):
 
 
 def arguments():
-    parser = argparse.ArgumentParser(description=__doc__, formatter_class=argparse.RawDescriptionHelpFormatter)
+    parser = given.Parser(__doc__)
     parser.add_argument('folder', metavar='DIR', help='where the three texts are written')
     parser.add_argument('--seed', type=int, default=1)
     parser.add_argument('--events', type=int, default=1000, metavar='N', help='how many events the event text has')

@@ -9,7 +9,6 @@ needs for 100 MB here, to compare machines by.
     bench/run.py crates/osekfit/out/osekfit
     bench/run.py --tasks 2,4 --events 10000 crates/osekfit/out/osekfit
 """
-import argparse
 import os
 import shutil
 import subprocess
@@ -102,7 +101,7 @@ def printed(cells, widths):
 
 
 def arguments():
-    parser = argparse.ArgumentParser(description=__doc__, formatter_class=argparse.RawDescriptionHelpFormatter)
+    parser = given.Parser(__doc__)
     parser.add_argument('program', metavar='PROGRAM', help='the built osekfit')
     parser.add_argument('--tasks', default='2,4,8,16', help='numbers of tasks, parted by commas')
     parser.add_argument('--events', type=int, default=1000000, metavar='N', help='how many events are replayed')

@@ -10,14 +10,13 @@ Which statement it was is told by the model of model.py, which plays the events 
 each edge that is taken has to be one of `show`: where not, this is told and the status is 2. With --least N the status of --coverage is
 1 where less than N percent of some row was reached.
 """
-import argparse
 import os
 import sys
 
 import covered
 import model
 from application import application_of
-from given import Wrong, contents, run
+from given import Parser, Wrong, contents, run
 from oil import DEFAULT_MODE
 from states import ARRIVAL, HALTED, IDLE, Routine, place_of
 
@@ -93,7 +92,7 @@ def print_coverage(rows, least):
 
 
 def arguments():
-    parser = argparse.ArgumentParser(description=__doc__, formatter_class=argparse.RawDescriptionHelpFormatter)
+    parser = Parser(__doc__)
     parser.add_argument('oil', metavar='OIL')
     parser.add_argument('code', metavar='CODE')
     parser.add_argument('events', nargs='+', metavar='EVENTS')

@@ -23,6 +23,22 @@ SHAPES = {
 """The services, each with its arguments: a task, a resource, a mask of events, an alarm, a number, a status."""
 
 
+OWN = {'work', 'choice', 'loop', 'end'}
+"""The words of blocks that are no calls."""
+
+
+def misshapen(block):
+    """Why a block of the text is no call of a service, or None."""
+    shape = SHAPES.get(block.word)
+    if block.word in OWN:
+        return None
+    if shape is None:
+        return 'there is no service %s' % block.word
+    if len(shape) != len(block.arguments) or any((letter == 'n') != isinstance(a, int) for letter, a in zip(shape, block.arguments)):
+        return '%s has other arguments than the service' % block.text
+    return None
+
+
 class Application:
     """The tables of an application, by number, and what is looked up in them."""
 
@@ -74,15 +90,11 @@ class Application:
 
     def fault_of(self, block):
         """Why a block of the text can't be done, or None: what its call names isn't there."""
-        if block.word in ('work', 'choice', 'loop', 'end'):
-            return None
-        shape = SHAPES.get(block.word)
-        if shape is None or len(shape) != len(block.arguments):
-            return '%s is no call of a service' % block.text
-        for letter, argument in zip(shape, block.arguments):
+        fault = misshapen(block)
+        if fault or block.word in OWN:
+            return fault
+        for letter, argument in zip(SHAPES[block.word], block.arguments):
             known = {'t': self.task_number, 'r': self.resource_number, 'm': self.events, 'a': self.alarm_number}.get(letter)
-            if (letter == 'n') != isinstance(argument, int):
-                return '%s has a wrong argument' % block.text
             if known is not None and any(name not in known for name in argument):
                 return '%s names what is not declared' % block.text
         return None

@@ -1,5 +1,5 @@
 """A trace in the Best Trace Format, which timing tools of the automotive industry read: one event is a nanosecond. Tasks (T) and routines (I)
-have the events of their states, resources (SEM) those of being locked."""
+have the events of their states, resources (SEM) those of being taken and given back."""
 
 HEAD = ['#version 2.1.3', '#creator timeline.py of osekfit', '#creationDate 1970-01-01T00:00:00Z', '#timeScale ns']
 
@@ -51,7 +51,7 @@ class Writer:
 
     def held_changes(self, line, name, held):
         for resource in sorted(set(self.held.get(name, ())) ^ set(held)):
-            event = 'lock' if resource in held else 'unlock'
+            event = 'assigned' if resource in held else 'released'
             yield '%d,%s,%d,SEM,%s,0,%s' % (line.number, name, self.counts.get(name, 0), resource, event)
         self.held[name] = held
 

@@ -3,20 +3,21 @@
 
 A block of commands begins with ```console. Its lines behind `$ ` are typed in a shell, all of a block in one, from the repository's root;
 what stands below a command is what it has to print, and a command with nothing below may print anything. Each has to end with status 0,
-or, where it prints warnings, with 1; and no file that the repository keeps may change.
+or, where it prints warnings, with 1; and no file that the repository keeps may change. Besides, each link between documents has to lead
+somewhere; with --links alone that is looked at, and no program is needed.
 
     tools/check_documents.py crates/osekfit/out/osekfit
 """
-import argparse
 import filecmp
 import os
+import re
 import shutil
 import subprocess
 import sys
 import tempfile
 from collections import namedtuple
 
-from given import Wrong, contents, run
+from given import Parser, Wrong, contents, run
 
 ROOT = os.path.dirname(os.path.dirname(os.path.abspath(__file__)))
 
@@ -78,6 +79,27 @@ def faults_of(document, folder, program):
     return found, count
 
 
+LINK = re.compile(r'\]\(([^)\s#]*)(?:#([^)\s]+))?\)')
+
+
+def anchors_of(text):
+    """The anchors of a document's headings, as they are made of their words."""
+    headings = re.findall(r'^#+ (.*)$', re.sub(r'^```.*?^```', '', text, flags=re.MULTILINE | re.DOTALL), re.MULTILINE)
+    return {re.sub(r'[^\w\- ]', '', heading.lower()).replace(' ', '-') for heading in headings}
+
+
+def broken_links(root):
+    """The links of all documents that lead nowhere."""
+    names = [name for name in os.listdir(root) if name.endswith('.md')]
+    names += [os.path.join('docs', name) for name in os.listdir(os.path.join(root, 'docs')) if name.endswith('.md')]
+    for name in sorted(names):
+        for target, anchor in LINK.findall(contents(os.path.join(root, name))):
+            if '://' not in target:
+                file = os.path.normpath(os.path.join(root, os.path.dirname(name), target)) if target else os.path.join(root, name)
+                if not os.path.exists(file) or (anchor and anchor not in anchors_of(contents(file))):
+                    yield '%s: the link %s leads nowhere' % (name, target + ('#' + anchor if anchor else ''))
+
+
 def changed(folder):
     """The files of the copy that aren't as the repository has them."""
     found = []
@@ -92,20 +114,19 @@ def changed(folder):
 
 
 def arguments():
-    parser = argparse.ArgumentParser(description=__doc__, formatter_class=argparse.RawDescriptionHelpFormatter)
-    parser.add_argument('program', metavar='PROGRAM', help='the built osekfit')
+    parser = Parser(__doc__)
+    parser.add_argument('program', nargs='?', metavar='PROGRAM', help='the built osekfit')
+    parser.add_argument('--links', action='store_true', help='looks at links alone')
     return parser.parse_args()
 
 
-def main():
-    given = shutil.which(arguments().program)
-    if given is None:
-        raise Wrong('%s: no program' % sys.argv[1])
+def run_all(program):
+    """Runs the commands of all documents in a copy: what is wrong, and how many commands there are."""
     faults, count = [], 0
     with tempfile.TemporaryDirectory(prefix='osekfit-documents-') as folder:
         at = os.path.join(folder, 'bin', 'osekfit')
         os.makedirs(os.path.dirname(at))
-        os.symlink(os.path.abspath(given), at)
+        os.symlink(os.path.abspath(program), at)
         clone = os.path.join(folder, 'osekfit')
         os.makedirs(clone)
         for name in COPIED:
@@ -115,6 +136,18 @@ def main():
             found, commands = faults_of(document, clone, at)
             faults, count = faults + found, count + commands
         faults += ['%s was changed' % name for name in changed(clone)]
+    return faults, count
+
+
+def main():
+    words = arguments()
+    faults, count = list(broken_links(ROOT)), 0
+    if not words.links:
+        program = shutil.which(words.program or '')
+        if program is None:
+            raise Wrong('%s: no program' % (words.program or 'PROGRAM'))
+        found, count = run_all(program)
+        faults += found
     for fault in faults:
         sys.stdout.write(fault + '\n')
     sys.stdout.write('%d commands, %d faults\n' % (count, len(faults)))

@@ -1,12 +1,12 @@
 #!/usr/bin/env python3
 """Compares a built osekfit with the model of model.py on small applications that are made at random.
 
-Each application has all kinds of objects and statements, right or wrong in use: what `trace` prints, and `replay` of the image that
-`build` stores, has to be what the model prints, in each mode; and `show` what it shows. An application that differs is kept.
+Each application has all kinds of objects and statements, right or wrong in use. What `build` stores has to be the model's image, byte for
+byte; what `trace` prints, and `replay` of the image, what the model prints, in each mode; and `show` what it shows. An application that
+differs is kept.
 
     tools/compare_model.py crates/osekfit/out/osekfit --count 100 --seed 7
 """
-import argparse
 import os
 import random
 import shutil
@@ -14,10 +14,11 @@ import subprocess
 import sys
 import tempfile
 
+import image
 import least_table
 import model
 from application import application_of
-from given import Wrong, run
+from given import Parser, Wrong, run
 
 HOOKS = ['STARTUPHOOK', 'ERRORHOOK', 'SHUTDOWNHOOK', 'PRETASKHOOK', 'POSTTASKHOOK']
 
@@ -108,13 +109,20 @@ def differences(program, folder, events):
         with open(os.path.join(folder, name), encoding='ascii') as file:
             texts.append(file.read())
     app, found = application_of(*texts), []
-    if answer(program, ['build', 'a.oil', 'a.code', 'a.image'], folder):
+    analysis = least_table.Analysis(app).solve()
+    refusal = answer(program, ['build', 'a.oil', 'a.code', 'a.image'], folder)
+    if refusal or stored(folder) != image.image(app, analysis.shown, analysis.noted):
         found.append('build')
     for mode in app.modes:
         due = ''.join(model.line(app, n, step) + '\n' for n, (step, _, _) in enumerate(model.play(app, mode, events)))
         found += ['trace %s' % mode] if answer(program, ['trace', 'a.oil', 'a.code', mode, 'a.events'], folder) != due else []
         found += ['replay %s' % mode] if answer(program, ['replay', 'a.image', mode, 'a.events'], folder) != due else []
-    return found + (['show'] if answer(program, ['show', 'a.oil', 'a.code'], folder) != least_table.show(app) else [])
+    return found + (['show'] if answer(program, ['show', 'a.oil', 'a.code'], folder) != least_table.show(app, analysis) else [])
+
+
+def stored(folder):
+    with open(os.path.join(folder, 'a.image'), 'rb') as file:
+        return file.read()
 
 
 def compare(program, seed, folder):
@@ -128,7 +136,7 @@ def compare(program, seed, folder):
 
 
 def arguments():
-    parser = argparse.ArgumentParser(description=__doc__, formatter_class=argparse.RawDescriptionHelpFormatter)
+    parser = Parser(__doc__)
     parser.add_argument('program', metavar='PROGRAM', help='the built osekfit')
     parser.add_argument('--count', type=int, default=100, metavar='N', help='how many applications are made')
     parser.add_argument('--seed', type=int, default=1, metavar='N', help='the seed of the first; each further one is one more')

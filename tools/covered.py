@@ -65,7 +65,8 @@ def site_rows(app, reached, show, show_name, place):
             if words in reached.edges:
                 seen.add(outcome)
     told = row('outcomes', list(outcomes), seen, lambda o: 'outcome: %s %s' % (site_text(app, o[0], place), o[1]))
-    return [told, row('edges', listed, reached.edges, lambda e: 'edge: %s %s' % e)]
+    texts = {words: 'edge: %s %s: %s to %s' % (words + tuple(owners.text(point) for point in edge)) for edge, words in zip(shown.edges, listed)}
+    return [told, row('edges', listed, reached.edges, texts.get)]
 
 
 def site_text(app, block, place):
@@ -73,13 +74,21 @@ def site_text(app, block, place):
 
 
 class Owners:
-    """What an edge from a site is the outcome of."""
+    """Whose points are, and what an edge from a site is the outcome of."""
 
     def __init__(self, app):
         self.app = app
 
     def name(self, point):
         return self.app.blocks[point.block].owner.name if point.kind == 'task' else point.kind
+
+    def text(self, point):
+        """Where a point is, in words."""
+        if point.block is None:
+            return point.kind
+        block = self.app.blocks[point.block]
+        over = '' if point.over is None else ' over nobody' if point.over == '-' else ' over ' + point.over
+        return block.owner.name + (' line %d' % block.line if block.line else ' ' + block.text) + over
 
     def outcome(self, edge, sites):
         """The site's block and what it does with the processor; None where the edge is none of a site's instruction."""

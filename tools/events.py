@@ -15,13 +15,12 @@ text that comes out has plain events alone, and the same script gives the same t
 
     tools/events.py --oil a.oil --code a.code a.script > a.events
 """
-import argparse
 import random
 import sys
 
 import model
 from application import application_of
-from given import Wrong, contents, run
+from given import Parser, Wrong, contents, run
 from kernel import Kernel
 from oil import DEFAULT_MODE
 
@@ -187,7 +186,7 @@ def event_text(script, name='the script', player=None):
 
 
 def arguments():
-    parser = argparse.ArgumentParser(description=__doc__, formatter_class=argparse.RawDescriptionHelpFormatter)
+    parser = Parser(__doc__)
     parser.add_argument('script', nargs='?', metavar='SCRIPT', help='standard input where it is missing')
     parser.add_argument('--oil', metavar='FILE')
     parser.add_argument('--code', metavar='FILE')

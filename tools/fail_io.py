@@ -9,7 +9,6 @@ that move one byte at most, and once with each of them interrupted by a signal a
 
     tools/fail_io.py crates/osekfit/out/osekfit          needs cc: a library that is loaded first lets the call fail
 """
-import argparse
 import re
 import shutil
 import sys
@@ -142,7 +141,7 @@ def fail_all(runner, words, texts, say):
 
 
 def main():
-    parser = argparse.ArgumentParser(description=__doc__, formatter_class=argparse.RawDescriptionHelpFormatter)
+    parser = given.Parser(__doc__)
     parser.add_argument('program', metavar='PROGRAM', help='the built osekfit')
     parser.add_argument('--example', default='first', help='the folder of examples/ whose texts are used')
     words = parser.parse_args()

@@ -1,4 +1,5 @@
 """What all tools share: the text that a tool is given, and how a tool ends."""
+import argparse
 import os
 import sys
 
@@ -8,6 +9,16 @@ STOPPED = 2
 
 class Wrong(Exception):
     """What keeps a tool from its work, as the one line that it tells."""
+
+
+class Parser(argparse.ArgumentParser):
+    """A reader of command lines by a tool's own text, which tells what is wrong with them in one line."""
+
+    def __init__(self, description=None, **more):
+        super().__init__(description=description, formatter_class=argparse.RawDescriptionHelpFormatter, **more)
+
+    def error(self, message):
+        raise Wrong('%s (--help says more)' % message)
 
 
 def opened(name):

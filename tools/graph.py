@@ -11,14 +11,13 @@ interrupt (into a routine), a return (out of it), a restart (a task that ends an
     tools/graph.py --code a.code --svg --task T1 a.show > t1.svg            one column, and what it has edges with
     tools/graph.py --code a.code --summary a.show                           who dispatches whom, in numbers of edges
 """
-import argparse
 import re
 import sys
 from collections import Counter, namedtuple
 
 import oil
 import task_code
-from given import Wrong, contents, run
+from given import Parser, Wrong, contents, run
 
 Point = namedtuple('Point', 'kind block over')
 """Where the processor stands: kind is halt, idle, task or routine; over is the interrupted task's name, or `-`."""
@@ -91,6 +90,15 @@ class Owners:
         self.blocks = task_code.blocks_of(code) if code is not None else []
         self.ticks = tick_routines(graph, len(self.blocks), system) if code is not None else {}
         self.alarms = alarms_of(self.ticks, system)
+        if code is not None:
+            self.judge(graph)
+
+    def judge(self, graph):
+        """Stops where show speaks of a block that the code doesn't have, or that isn't of its kind."""
+        for point in {point for edge in graph.edges for point in edge if point.block is not None}:
+            owner = self.owner(point)
+            if owner is None or (owner.kind == 'TASK') != (point.kind == 'task'):
+                raise Wrong('show speaks of %s, which this task code does not have' % text_of(point))
 
     def owner(self, point):
         """The owner of a point's block, or None where there is no block or it isn't known."""
@@ -251,7 +259,7 @@ def summary(graph, owners):
 
 
 def arguments():
-    parser = argparse.ArgumentParser(description=__doc__, formatter_class=argparse.RawDescriptionHelpFormatter)
+    parser = Parser(__doc__)
     parser.add_argument('show', nargs='?', help='the text of `osekfit show` (standard input where it is missing)')
     parser.add_argument('--code', metavar='FILE', help="the application's task code: names blocks and their owners")
     parser.add_argument('--oil', metavar='FILE', help='its OIL text: names counters and alarms')

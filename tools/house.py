@@ -8,14 +8,13 @@ the processes of the run, so what ends within a second may be missed. The gate's
     tools/house.py --crates                      a line for each crate
     tools/house.py --gate --log gate.log
 """
-import argparse
 import os
 import subprocess
 import sys
 import time
 from collections import Counter, namedtuple
 
-from given import Wrong, run
+from given import Parser, Wrong, run
 
 ROOT = os.path.dirname(os.path.dirname(os.path.abspath(__file__)))
 
@@ -132,7 +131,7 @@ def row(name, sizes, minutes):
 
 
 def arguments():
-    parser = argparse.ArgumentParser(description=__doc__, formatter_class=argparse.RawDescriptionHelpFormatter)
+    parser = Parser(__doc__)
     parser.add_argument('--crates', action='store_true', help='a line for each crate')
     parser.add_argument('--gate', action='store_true', help='runs the gate and measures it')
     parser.add_argument('--log', metavar='FILE', help='where the output of the gate goes')

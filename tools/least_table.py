@@ -33,7 +33,8 @@ class Analysis:
         self.app, self.kernel = app, Kernel(app)
         self.bits = [(t, bit) for t, task in enumerate(app.tasks) for bit in range(64) if task.own >> bit & 1]
         self.table, self.done, self.waiting = {}, {}, []
-        self.edges, self.shown = set(), {block: set() for block in app.sites()}
+        self.edges = set()
+        self.shown, self.noted = ({block: set() for block in app.sites()} for _ in range(2))
         for mode in range(len(app.modes)):
             self.join(self.kernel.start(mode).state)
 
@@ -113,12 +114,13 @@ class Analysis:
         return self
 
     def note(self, point, step):
-        """What a step says of edges and of the form of its site."""
+        """What a step says of edges, and of the form and the status of its site."""
         target = point_of(step.state)
         if target != point or isinstance(step.shown, To):
             self.edges.add((point, target))
         if len(point) > 1 and point[1] in self.shown and step.shown not in (ARRIVAL, NOTHING):
             self.shown[point[1]].add(step.shown)
+            self.noted[point[1]].add(step.status)
 
 
 def form(app, shown):
@@ -143,9 +145,9 @@ def points(app):
     return 2 + tasks + (len(app.blocks) - tasks) * (len(app.tasks) + 1)
 
 
-def show(app):
-    """What `show` prints of an application."""
-    analysis = Analysis(app).solve()
+def show(app, analysis=None):
+    """What `show` prints of an application, whose analysis may be given."""
+    analysis = analysis or Analysis(app).solve()
     lines = ['site b%d line %d %s' % (block, app.blocks[block].line, form(app, shown)) for block, shown in analysis.shown.items()]
     lines += ['edge %s %s' % (shown_point(app, p), shown_point(app, q)) for p, q in sorted(analysis.edges)]
     values = sum(len(seen) for entry in analysis.table.values() for seen in entry)

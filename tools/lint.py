@@ -8,7 +8,6 @@ where something was, and 2 where the texts can't be read. What is told of ways t
     tools/lint.py a.oil a.code
     tools/lint.py --without unused --without end a.oil a.code
 """
-import argparse
 import sys
 
 import lint_code
@@ -16,7 +15,7 @@ import lint_oil
 import oil
 import task_code
 from application import joined
-from given import contents, run
+from given import Parser, contents, run
 
 OIL_CHECKS = {
     'attribute': lambda texts: lint_oil.passed_over(texts.objects, texts.declared),
@@ -41,7 +40,7 @@ CODE_CHECKS = {
     'held': lint_code.held_resources,
     'end': lint_code.ends_without_a_call,
     'dead': lint_code.dead_statements,
-    'endless': lint_code.endless_tasks,
+    'endless': lambda code: [*lint_code.endless_tasks(code), *lint_code.endless_routines(code)],
     'wait': lint_code.waits,
 }
 
@@ -75,7 +74,7 @@ def warnings_of(oil_text, code_text, names, without=()):
 
 
 def arguments():
-    parser = argparse.ArgumentParser(description=__doc__, formatter_class=argparse.RawDescriptionHelpFormatter)
+    parser = Parser(__doc__)
     parser.add_argument('oil', metavar='OIL')
     parser.add_argument('code', metavar='CODE')
     parser.add_argument('--without', action='append', default=[], choices=CHECKS, metavar='CHECK',

@@ -134,6 +134,16 @@ def endless_tasks(code):
                 break
 
 
+def endless_routines(code):
+    """Interrupt routines that come to a loop for ever."""
+    for source in code.app.sources:
+        reached = sorted({number for number, _ in ways(code.app, source.first)})
+        for number in reached if source.mark == '@' else []:
+            if not any(code.app.blocks[b].word == 'end' for b, _ in ways(code.app, number)) and code.app.blocks[number].word == 'loop':
+                yield code.app.blocks[number].line, 'the routine %s never ends from here on: nothing else ever runs' % source.name
+                break
+
+
 def gives_up(block):
     return block.word in ('WaitEvent', 'TerminateTask', 'ChainTask', 'ShutdownOS', 'end')
 

@@ -24,6 +24,43 @@ WITHIN = {
 """Those between the braces of a value, by the kind, the attribute and the value."""
 
 
+REQUIRED = {'TASK': ['PRIORITY'], 'COUNTER': ['MAXALLOWEDVALUE'], 'ALARM': ['COUNTER', 'ACTION'], 'ISR': ['CATEGORY']}
+"""The attributes that an object of a kind has to have."""
+
+REQUIRED_WITHIN = {('ACTION', 'ACTIVATETASK'): ['TASK'], ('ACTION', 'SETEVENT'): ['TASK', 'EVENT'],
+                   ('AUTOSTART', 'TRUE'): ['ALARMTIME', 'CYCLETIME']}
+"""Those that have to stand between the braces of an alarm's attribute, by its name and value."""
+
+REFERENCES = {'RESOURCE': 'RESOURCE', 'EVENT': 'EVENT', 'APPMODE': 'APPMODE', 'COUNTER': 'COUNTER', 'TASK': 'TASK'}
+"""The attributes whose value names an object, and that object's kind."""
+
+
+def missing(objects, line):
+    """What is missing in the objects and attributes of a line, as words."""
+    for found in objects:
+        if found.line == line:
+            yield from ('%s of %s %s' % (name, found.kind, found.name) for name in absent(found.attributes, REQUIRED.get(found.kind, [])))
+        for attribute in found.attributes if found.kind == 'ALARM' else []:
+            if attribute.line == line:
+                wanted = REQUIRED_WITHIN.get((attribute.name, attribute.value), [])
+                yield from ('%s within %s of ALARM %s' % (name, attribute.name, found.name) for name in absent(attribute.attributes, wanted))
+
+
+def absent(attributes, wanted):
+    there = {attribute.name for attribute in attributes}
+    return [name for name in wanted if name not in there]
+
+
+def undeclared(objects, line):
+    """What the attributes of a line name and no object declares, as words."""
+    there = {(o.kind, o.name) for o in objects} | {('APPMODE', oil.DEFAULT_MODE), ('RESOURCE', oil.SCHEDULER)}
+    for found in objects:
+        for attribute in found.attributes + [part for a in found.attributes for part in a.attributes]:
+            kind = REFERENCES.get(attribute.name)
+            if attribute.line == line and kind and (kind, attribute.value) not in there:
+                yield '%s %s of %s %s' % (kind, attribute.value, found.kind, found.name)
+
+
 def nearest(name, known):
     """The known name that is most like this one, as words to add."""
     close = difflib.get_close_matches(name.upper(), sorted(known), 1, 0.6)

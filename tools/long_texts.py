@@ -9,7 +9,6 @@ last lines tell what md5sum takes for a megabyte, and how many runs were wrong.
     tools/long_texts.py crates/osekfit/out/osekfit
     tools/long_texts.py crates/osekfit/out/osekfit --only attributes --half       also at half the size, to see how it grows
 """
-import argparse
 import collections
 import os
 import shutil
@@ -247,7 +246,7 @@ def run_images(table, sizes):
 
 
 def arguments():
-    parser = argparse.ArgumentParser(description=__doc__, formatter_class=argparse.RawDescriptionHelpFormatter)
+    parser = given.Parser(__doc__)
     parser.add_argument('program', metavar='PROGRAM', help='the built osekfit')
     parser.add_argument('--only', metavar='WORD', help='only the texts whose names have this word')
     parser.add_argument('--half', action='store_true', help='also at half the size')

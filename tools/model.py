@@ -1,18 +1,18 @@
 #!/usr/bin/env python3
-"""A model of osekfit's `trace` and `show` in Python, to compare the proved program with.
+"""A model of osekfit's `trace`, `show` and `build` in Python, to compare the proved program with.
 
 It is written from the guide and the definitions, apart from the program, and in the plainest way: the least table is found by steps
-of all states that a table admits, one by one. So `show` is for small applications alone (some five tasks). The texts are taken to be
+of all states that a table admits, one by one. So `show` and `build` are for small applications alone (some five tasks). The texts are taken to be
 without fault. The files examples/*/*.show are its answers.
 
     tools/model.py trace a.oil a.code OSDEFAULTAPPMODE a.events
     tools/model.py show a.oil a.code
+    tools/model.py build a.oil a.code a.image
 """
-import argparse
 import sys
 
 from application import application_of
-from given import Wrong, contents, run
+from given import Parser, Wrong, contents, run
 from kernel import Kernel
 from services import letter
 from states import HALTED, IDLE, SUSPENDED, Live, Routine
@@ -83,10 +83,19 @@ def play(app, mode, events, name='the event text'):
         yield step, words, number
 
 
+def store(app, name):
+    """Stores the image of an application."""
+    import image
+    import least_table
+    analysis = least_table.Analysis(app).solve()
+    with open(name, 'wb') as file:
+        file.write(image.image(app, analysis.shown, analysis.noted))
+
+
 def arguments():
-    parser = argparse.ArgumentParser(description=__doc__, formatter_class=argparse.RawDescriptionHelpFormatter)
-    verbs = parser.add_subparsers(dest='verb', metavar='trace|show', required=True)
-    for verb, words in (('trace', ['OIL', 'CODE', 'MODE', 'EVENTS']), ('show', ['OIL', 'CODE'])):
+    parser = Parser(__doc__)
+    verbs = parser.add_subparsers(dest='verb', metavar='trace|show|build', required=True)
+    for verb, words in (('trace', ['OIL', 'CODE', 'MODE', 'EVENTS']), ('show', ['OIL', 'CODE']), ('build', ['OIL', 'CODE', 'IMAGE'])):
         one = verbs.add_parser(verb)
         for word in words:
             one.add_argument(word.lower(), metavar=word)
@@ -99,6 +108,9 @@ def main():
     if words.verb == 'show':
         import least_table
         sys.stdout.write(least_table.show(app))
+        return
+    if words.verb == 'build':
+        store(app, words.image)
         return
     for number, (step, _, _) in enumerate(play(app, words.mode, events_of(contents(words.events), words.events), words.events)):
         sys.stdout.write(line(app, number, step) + '\n')

@@ -8,7 +8,6 @@ are kept. The last lines count how often each answer came.
 
     tools/mutate.py crates/osekfit/out/osekfit --minutes 5 --seed 7
 """
-import argparse
 import collections
 import os
 import random
@@ -286,7 +285,7 @@ def one_trial(rng, program, examples, knows, counts, keep):
 
 
 def arguments():
-    parser = argparse.ArgumentParser(description=__doc__, formatter_class=argparse.RawDescriptionHelpFormatter)
+    parser = given.Parser(__doc__)
     parser.add_argument('program', metavar='PROGRAM', help='the built osekfit')
     parser.add_argument('--seed', type=int, default=1)
     parser.add_argument('--minutes', type=float, default=1, metavar='M', help='how long to go on')

@@ -7,14 +7,14 @@ and blank lines. It says where the page and the tree differ, and then the status
 
     tools/reached.py
     tools/reached.py --list            each file with its lines, as the page's tables have them
+    tools/reached.py --write           puts the numbers right; rows that the page lacks, or has too many, are still told
 """
-import argparse
 import os
 import re
 import sys
 from collections import namedtuple
 
-from given import Wrong, contents, run
+from given import Parser, Wrong, contents, run
 
 ROOT = os.path.dirname(os.path.dirname(os.path.abspath(__file__)))
 
@@ -236,6 +236,21 @@ def differences(counts, sums):
         yield '%s: %s/%s is not reached, and the page has it' % ((PAGE,) + key)
 
 
+def mended(text, counts, sums):
+    """The page with the numbers of the tree: those of rows, of headings, and the totals."""
+    def row(match):
+        lines = counts.get((match.group(1), match.group(2)))
+        return match.group() if lines is None else re.sub(r'\| \d+ \|$', '| %d |' % lines, match.group())
+    text = ROW.sub(row, text)
+    for title, _, _, body in list(parts_of(text)):
+        found = [int(one[2]) for one in ROW.findall(body)]
+        text = re.sub(r'^### %s: \d+ files, [\d,]+ lines$' % re.escape(title), '### %s: %d files, %d lines' % (title, len(found), sum(found)),
+                      text, flags=re.MULTILINE)
+    said = 'In all %d of %d files and %s of %s lines of `specs/` are reached, and %d types of src/, %s lines' % (
+        sums[0], sums[1], format(sums[2], ','), format(sums[3], ','), sums[4], format(sums[5], ','))
+    return re.sub(SAID.pattern.replace(' ', r'\s+'), said, text)
+
+
 def parts_of(text):
     """The parts of the page whose heading counts: the heading's words and numbers, and what stands below."""
     found = list(HEADING.finditer(text))
@@ -245,8 +260,9 @@ def parts_of(text):
 
 
 def arguments():
-    parser = argparse.ArgumentParser(description=__doc__, formatter_class=argparse.RawDescriptionHelpFormatter)
+    parser = Parser(__doc__)
     parser.add_argument('--list', action='store_true', help='each file of specs/ with its lines')
+    parser.add_argument('--write', action='store_true', help='puts the numbers of the page right')
     return parser.parse_args()
 
 
@@ -260,6 +276,11 @@ def main():
     if words.list:
         for (crate, file), lines in sorted(specs.items()):
             sys.stdout.write('%s/%s %d\n' % (crate, file, lines))
+    if words.write:
+        page = os.path.join(ROOT, PAGE)
+        text = mended(contents(page), specs, sums)
+        with open(page, 'w', encoding='utf-8', newline='') as file:
+            file.write(text)
     found = list(differences(specs, sums))
     for text in found:
         sys.stdout.write(text + '\n')

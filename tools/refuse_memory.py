@@ -11,7 +11,6 @@ a prefix of what is printed with ample memory.
     tools/refuse_memory.py --try --every 10                    by `rt try --fail-alloc`, which needs no proved program, builds it
                                                                anew each time (half a minute), and doesn't show its files
 """
-import argparse
 import collections
 import os
 import re
@@ -184,7 +183,7 @@ def refuse_all(runner, words, texts, every, say):
 
 
 def arguments():
-    parser = argparse.ArgumentParser(description=__doc__, formatter_class=argparse.RawDescriptionHelpFormatter)
+    parser = given.Parser(__doc__)
     parser.add_argument('program', metavar='PROGRAM', nargs='?', help='the built osekfit')
     parser.add_argument('--try', dest='tried', action='store_true', help='by rt try, in place of a built program')
     parser.add_argument('--example', default='first', help='the folder of examples/ whose texts are used')

@@ -11,7 +11,6 @@ what `show` prints. Of each application `build` has to accept the texts; each ru
 
 The status is 0 where all is as written, and 1 else.
 """
-import argparse
 import glob
 import os
 import subprocess
@@ -22,7 +21,7 @@ from collections import namedtuple
 from xml.sax.saxutils import escape, quoteattr
 
 import program
-from given import Wrong, contents, run
+from given import Parser, Wrong, contents, run
 from oil import DEFAULT_MODE
 
 Case = namedtuple('Case', 'application name seconds fault')
@@ -124,7 +123,7 @@ def junit(cases):
 
 
 def arguments():
-    parser = argparse.ArgumentParser(description=__doc__, formatter_class=argparse.RawDescriptionHelpFormatter)
+    parser = Parser(__doc__)
     parser.add_argument('folder', metavar='DIR')
     parser.add_argument('--program', metavar='FILE', help='the built osekfit')
     parser.add_argument('--junit', metavar='FILE', help='where a report for build servers is written')

@@ -75,7 +75,10 @@ class CodeReader(Cursor):
 
     def read_choice(self, word, line):
         self.want('(')
-        condition = self.take()
+        condition = self.ahead()
+        if condition != '?' and (word == 'if' or number_of(condition) != 1):
+            self.stop('a condition is ?, and a loop for ever while (1)')
+        self.take()
         self.want(')')
         self.want('{')
         is_loop = condition != '?'

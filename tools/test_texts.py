@@ -14,8 +14,10 @@ import covered
 import events
 import explain
 import house
+import image
 import least_table
 import lint
+import lint_oil
 import model
 import oil
 import reached
@@ -79,6 +81,13 @@ class Models(unittest.TestCase):
     def test_what_show_prints_of_the_examples(self):
         for name in ('first', 'lamp', 'engine'):
             self.assertEqual(least_table.show(example_app(name)), example(name, '.show'), name)
+
+    def test_the_image_of_the_first_example(self):
+        app = example_app('first')
+        analysis = least_table.Analysis(app).solve()
+        self.assertEqual(image.image(app, analysis.shown, analysis.noted).hex(),
+                         '4f53454b464954020001000000010100020254310001010000000000000000010000000201ff0d5245535f5343484544554c4552'
+                         '00000003000000104f5344454641554c544150504d4f4445040000000003000102ff091600000000040000ff')
 
     def test_refusals(self):
         code = ('TASK(T1) { GetResource(R); GetResource(R); TerminateTask(); ReleaseResource(R); ReleaseResource(R); SetEvent(T1, E);'
@@ -160,6 +169,11 @@ class Lint(unittest.TestCase):
         found = lint.warnings_of(example('body', '.oil'), example('body', '.code'), ('o', 'c'))
         self.assertEqual([text.split(' ')[0] for _, _, text, _ in found], ['CC', 'PRIORITY'])
 
+    def test_a_routine_that_never_ends(self):
+        oil_text = 'CPU c { OS os; %s ISR I { CATEGORY = 2; }; };' % T1
+        self.assertEqual(self.found(oil_text, 'TASK(T1) { TerminateTask(); }\nISR(I) {\nwhile (1) { work 1; }\n}'), [('c', 3, 'endless')])
+        self.assertEqual(self.found(oil_text, 'TASK(T1) { TerminateTask(); }\nISR(I) {\nwhile (?) { work 1; }\n}'), [])
+
     def test_a_resource_that_stays_held_in_a_loop(self):
         oil_text = 'CPU c { OS os; RESOURCE R; TASK T1 { PRIORITY = 1; AUTOSTART = TRUE; RESOURCE = R; }; };'
         self.assertEqual(self.found(oil_text, 'TASK(T1) {\nwhile (1) {\nGetResource(R);\n}\n}'), [('c', 3, 'held')])
@@ -220,6 +234,8 @@ class Annotations(unittest.TestCase):
         self.assertEqual([(row.name, row.reached, row.all) for row in rows],
                          [('statements', 17, 17), ('choices', 2, 2), ('outcomes', 10, 17), ('edges', 31, 99)])
         self.assertIn('outcome: c:12: ReleaseResource(EngineData) goes on', rows[2].missed)
+        for text in ('edge: b3 idle: Injection line 5 to idle', 'edge: b23/- b14: Crank end over nobody to Diagnosis line 21'):
+            self.assertIn(text, rows[3].missed)
 
     def test_show_of_other_texts_is_told(self):
         app = example_app('lamp')
@@ -231,7 +247,7 @@ class Explanations(unittest.TestCase):
         rules = explain.rules_of(explain.guide())
         names = ['L%d' % k for k in range(1, 7)] + ['S1', 'S2', 'S3'] + ['O%d' % k for k in range(1, 16)]
         names += ['C%d' % k for k in (1, 2, 3, 4, 6, 7, 8, 9)] + ['E1', 'E2', 'E3', 'E4'] + ['I%d' % k for k in range(1, 8)]
-        self.assertEqual(sorted(rules), sorted(names))
+        self.assertEqual(sorted(rules), sorted(names + ['CS1']))
 
     def test_a_refusal_has_its_line_and_its_cause(self):
         with tempfile.TemporaryDirectory() as folder:
@@ -240,10 +256,18 @@ class Explanations(unittest.TestCase):
                     file.write(text)
             rules, at = explain.rules_of(explain.guide()), [os.path.join(folder, name) for name in ('a.oil', 'a.code', 'b.code')]
             lines = explain.explained(at[1] + ':2: S1', [], rules)
-            self.assertEqual(lines[:2], [at[1] + ":2: error: S1: the token isn't allowed here", '    int x;'])
+            self.assertEqual(lines[:3], [at[1] + ":2: error: S1: the token isn't allowed here", '       1  ', '       2  int x;'])
             self.assertIn('    without code: TASK T1', explain.explained(at[2] + ':0: C1', ['build', at[0], at[2], 'i'], rules))
             self.assertIn('at byte 16 (0x10)', explain.explained('x:16: I3', [], rules)[0])
         self.assertEqual(explain.explained('usage', [], rules), [])
+
+    def test_what_is_missing_and_what_is_not_declared_is_named(self):
+        objects = oil.objects_of('CPU c { OS os;\nTASK T { PRIORTY = 1; EVENT = E; AUTOSTART = TRUE { APPMODE = M; }; };\n'
+                                 'ALARM A { COUNTER = C;\nACTION = SETEVENT { TASK = T; };\nAUTOSTART = TRUE { ALARMTIME = 1; }; }; };')
+        self.assertEqual(list(lint_oil.missing(objects, 2)), ['PRIORITY of TASK T'])
+        self.assertEqual(list(lint_oil.missing(objects, 4)), ['EVENT within ACTION of ALARM A'])
+        self.assertEqual(list(lint_oil.missing(objects, 5)), ['CYCLETIME within AUTOSTART of ALARM A'])
+        self.assertEqual(list(lint_oil.undeclared(objects, 2)), ['EVENT E of TASK T', 'APPMODE M of TASK T'])
 
 
 class Regressions(unittest.TestCase):
@@ -269,6 +293,10 @@ class Documents(unittest.TestCase):
         text = 'x\n```console\n$ cd a\n$ b\nout\n```\n```\n$ no\n```\n'
         self.assertEqual(check_documents.blocks_of(text), [[(3, 'cd a', []), (4, 'b', ['out'])]])
 
+    def test_links_lead_somewhere(self):
+        self.assertEqual(list(check_documents.broken_links(check_documents.ROOT)), [])
+        self.assertEqual(check_documents.anchors_of("# A B\n```\n# no\n```\n## What it isn't, `x`\n"), {'a-b', 'what-it-isnt-x'})
+
     def test_definitions_are_followed_by_imports(self):
         found = reached.Scope('use Rattle.a.specs.{F.{x, y}, declared.m.T.{T}}\nuse Rattle.a.specs.G as g\nuse Rattle.std.specs.P.{z}\n')
         self.assertEqual(found.names, {'x': ('a', 'F', 'x'), 'y': ('a', 'F', 'y'), 'T': ('a', 'src/m', 'T')})
@@ -291,10 +319,10 @@ class Ends(unittest.TestCase):
         env = dict(os.environ, LC_ALL='C', PYTHONIOENCODING='')
         return subprocess.run([sys.executable, os.path.join(HERE, words[0])] + words[1:], stdin=subprocess.DEVNULL, stderr=subprocess.PIPE, env=env, **more)
 
-    def test_missing_files_are_told_in_one_line(self):
+    def test_missing_files_and_wrong_words_are_told_in_one_line(self):
         for words in (['annotate.py', 'no', 'no', 'no'], ['check_documents.py', 'no/program'], ['compare_model.py', 'no/program'], ['events.py', 'no'],
                       ['explain.py', 'no/program'], ['graph.py', 'no'], ['lint.py', 'no', 'no'], ['model.py', 'show', 'no', 'no'],
-                      ['regress.py', '--program', 'no/program', 'no'], ['timeline.py', 'no']):
+                      ['regress.py', '--program', 'no/program', 'no'], ['timeline.py', 'no'], ['timeline.py', '--first', 'x', 'no'], ['graph.py', '--no']):
             done = self.ended(words, stdout=subprocess.DEVNULL)
             self.assertEqual((done.returncode, done.stderr.count(b'\n')), (2, 1), (words, done.stderr))
 

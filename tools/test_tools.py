@@ -288,14 +288,20 @@ class Timelines(unittest.TestCase):
     def test_btf(self):
         lines = ''.join(btf.dump(trace_of('0 T1 T1=R T2=S\n1 @I T1=R+Q T2=S\n2 T2 T1=Y T2=R\n3 T1 T1=R T2=W:0\n4 - T1=S T2=W:0\n'), [(1, '@I')]))
         self.assertEqual([line.split(',', 1)[0] + ' ' + ' '.join(line.split(',')[3:]) for line in lines.splitlines()[4:]], [
-            '0 T T1 0 activate', '0 T T1 0 start', '1 I I 0 activate', '1 SEM Q 0 lock', '1 T T1 0 preempt', '1 I I 0 start',
-            '2 SEM Q 0 unlock', '2 I I 0 terminate', '2 T T2 0 activate', '2 T T2 0 start', '3 T T2 0 wait', '3 T T1 0 resume',
+            '0 T T1 0 activate', '0 T T1 0 start', '1 I I 0 activate', '1 SEM Q 0 assigned', '1 T T1 0 preempt', '1 I I 0 start',
+            '2 SEM Q 0 released', '2 I I 0 terminate', '2 T T2 0 activate', '2 T T2 0 start', '3 T T2 0 wait', '3 T T1 0 resume',
             '4 T T1 0 terminate'])
 
     def test_a_task_may_be_called_as_a_note_is(self):
         lines = list(trace_of('0 status status=R Startup=Y ^Startup\n1 Startup status=S Startup=R !E_OK\n'))
         chart = timeline_chart.Chart(lines, None, [])
         self.assertEqual(len(set(chart.rows.values())), 5)
+
+    def test_a_request_while_one_waits_is_lost(self):
+        lines = list(trace_of('0 T T=R\n1 T T=R\n2 T T=R\n3 @I T=R\n4 @I T=R\n5 T T=R\n6 @I T=R\n'))
+        chart = timeline_chart.Chart(lines, None, [(1, '@I'), (2, '@I'), (4, '@I')])
+        self.assertEqual(chart.latches('@I'), [(1, 3), (2, None), (4, 6)])
+        self.assertIn('requested while it waits: lost', words_of(timeline_chart.chart(lines, None, [(1, '@I'), (2, '@I')], '')))
 
     def test_dense_notes_are_drawn_as_how_many_there_are(self):
         text = ''.join('%d T1 T1=R !E_OK =5\n' % n for n in range(500))

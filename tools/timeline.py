@@ -9,13 +9,13 @@ timing tools. A long trace is read line by line, and no more of it is kept than 
     tools/timeline.py --first 2000 --last 2100 a.trace > a.svg
     tools/timeline.py --vcd a.trace > a.vcd
 """
-import argparse
+import re
 import shutil
 import sys
 import tempfile
 from collections import namedtuple
 
-from given import Wrong, contents, opened, run
+from given import Parser, Wrong, contents, opened, run
 
 STATES = {'S': 'suspended', 'Y': 'ready', 'R': 'running', 'W': 'waiting'}
 
@@ -42,6 +42,7 @@ class Trace:
 
     def __iter__(self):
         self.file.seek(0)
+        tasks = None
         for place, text in enumerate(self.file, 1):
             text = text.rstrip('\r\n')
             number = number_of(text, self.name, place)
@@ -50,7 +51,11 @@ class Trace:
             elif self.last is not None and number > self.last:
                 return
             elif number >= self.first:
-                yield line_at(text, self.name, place)
+                line = line_at(text, self.name, place)
+                tasks = tasks if tasks is not None else list(line.tasks)
+                if list(line.tasks) != tasks:
+                    raise Wrong('%s:%d: other tasks than in the lines before' % (self.name, place))
+                yield line
 
 
 def number_of(text, name, place):
@@ -64,7 +69,7 @@ def number_of(text, name, place):
 def line_at(text, name, place):
     try:
         return line_of(text)
-    except (ValueError, IndexError):
+    except ValueError:
         raise Wrong('%s:%d: no line of a trace: %s' % (name, place, text[:60])) from None
 
 
@@ -78,31 +83,36 @@ def trace_of(name, first=0, last=None):
     return Trace(file, name or 'standard input', first, last)
 
 
+TASK = re.compile(r'(\w+)=([SYRW])(?::([0-9a-f]+))?((?:\+\w+)*)', re.ASCII)
+
+WHO = re.compile(r'[-#]|[@%]?\w+', re.ASCII)
+
+
 def task_of(word):
-    name, _, rest = word.partition('=')
-    state, *held = rest.split('+')
-    letter, colon, events = state.partition(':')
-    if letter not in STATES:
-        raise ValueError('no state of a task: ' + word)
-    return name, Task(letter, events if colon else None, held)
+    """The name and the state of a task, as a word of a line says them; a ValueError where it says none."""
+    match = TASK.fullmatch(word)
+    if not match:
+        raise ValueError(word)
+    return match.group(1), Task(match.group(2), match.group(3), match.group(4).split('+')[1:])
 
 
 def line_of(text):
-    words = text.split(' ')
-    if not words[1]:
-        raise ValueError(text)
+    """What a line says; a ValueError where it is none of a trace."""
+    number, who, *words = text.split(' ')
     tasks, status, value, hooks = {}, None, None, []
-    for word in words[2:]:
-        if word[0] == '!':
-            status = word[1:]
-        elif word[0] == '^':
-            hooks.append(word[1:])
-        elif word[0] == '=':
+    for word in words:
+        if word[:1] == '!':
+            status = STATUSES[STATUSES.index(word[1:])]
+        elif word[:1] == '^':
+            hooks.append(HOOKS[HOOKS.index(word[1:])])
+        elif word[:1] == '=':
             value = word[1:]
         else:
             name, task = task_of(word)
             tasks[name] = task
-    return Line(int(words[0]), words[1], tasks, status, value, hooks)
+    if not WHO.fullmatch(who) or (who[0] not in '-#@%' and who not in tasks):
+        raise ValueError(who)
+    return Line(int(number), who, tasks, status, value, hooks)
 
 
 def requests_of(text):
@@ -127,7 +137,7 @@ def routines_of(lines, requests=()):
 
 
 def arguments():
-    parser = argparse.ArgumentParser(description=__doc__, formatter_class=argparse.RawDescriptionHelpFormatter)
+    parser = Parser(__doc__)
     parser.add_argument('trace', nargs='?', help='the text of a trace (standard input where it is missing)')
     parser.add_argument('--events', metavar='FILE', help='the event text, to mark where interrupts and ticks were requested')
     form = parser.add_mutually_exclusive_group()

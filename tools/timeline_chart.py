@@ -1,5 +1,5 @@
 """The chart of timeline.py: rows over events, from left to right. Column n shows the state after event n."""
-from drawing import FAINT, INK, LINE, MONO, Drawing
+from drawing import FAINT, INK, LINE, MONO, PAPER, Drawing
 from timeline import HOOKS, routines_of
 
 STATE_COLOURS = {'running': '#0969da', 'interrupted': '#a5cdf8', 'ready': '#f2b84b', 'waiting': '#c7cfd8'}
@@ -130,15 +130,25 @@ class Chart:
 
     def paint_routine(self, name):
         d, y, colour = self.drawing, self.rows[ROUTINE, name], ROUTINE_COLOURS[name[0]]
-        for number in [n for n, source in self.requests if source == name]:
-            begin = self.place_of(number)
-            until = next((p for p in range(begin + 1, len(self.lines)) if self.begins(name, p)), len(self.lines))
-            d.rect(self.x(begin), y + 13, self.step * (until - begin), 4, colour, fill_opacity=0.3)
-            middle = self.x(begin) + self.step / 2
-            title = '%s is requested at %d' % (name, number)
-            d.path('M%.1f %.1fh8l-4 6Z' % (middle - 4, y + 3), 'none', fill=colour, title=title)
+        for begin, until in self.latches(name):
+            x, title = self.x(begin) + self.step / 2 - 4, '%s is requested at %d' % (name, self.lines[begin].number)
+            if until is None:
+                d.path('M%.1f %.1fh8l-4 6Z' % (x, y + 3), colour, fill=PAPER, title=title + ', and this is lost')
+            else:
+                d.rect(self.x(begin), y + 13, self.step * (until - begin), 4, colour, fill_opacity=0.3)
+                d.path('M%.1f %.1fh8l-4 6Z' % (x, y + 3), 'none', fill=colour, title=title)
         for begin, end, _ in spans(self.lines, lambda line: True if line.who == name else None):
             d.rect(self.x(begin), y + 8, self.step * (end - begin), BAR, colour, rx=2)
+
+    def latches(self, name):
+        """The requests of a routine: the place of each, and where the routine begins; None for one that came while another waited, which
+        is lost."""
+        found, last = [], 0
+        for begin in [self.place_of(n) for n, source in self.requests if source == name]:
+            is_lost = begin < last
+            last = last if is_lost else next((p for p in range(begin + 1, len(self.lines)) if self.begins(name, p)), len(self.lines))
+            found.append((begin, None if is_lost else last))
+        return found
 
     def begins(self, name, place):
         return self.lines[place].who == name and self.lines[place - 1].who != name
@@ -248,6 +258,8 @@ class Chart:
         keys += [('bar', ROUTINE_COLOURS[c], t) for c, t in (('@', 'interrupt routine'), ('%', 'tick routine'))
                  if any(name[0] == c for name in self.routines)]
         keys += [('request', '#57606a', 'requested')] if self.requests else []
+        is_lost = any(until is None for name in self.routines for _, until in self.latches(name))
+        keys += [('lost', '#57606a', 'requested while it waits: lost')] if is_lost else []
         keys += [('strip', RESOURCE_COLOURS[k % len(RESOURCE_COLOURS)], 'holds ' + r) for k, r in enumerate(self.resources)]
         statuses = {line.status for line in self.lines}
         keys += [('dot', GOOD, 'E_OK')] if 'E_OK' in statuses else []
@@ -261,6 +273,8 @@ class Chart:
             d.rect(x, y - 2, 24, STRIP, colour)
         elif mark == 'line':
             d.line(x, y, x + 24, y, colour, stroke_width=1.5)
+        elif mark == 'lost':
+            d.path('M%.1f %.1fh8l-4 6Z' % (x + 8, y - 4), colour, fill=PAPER)
         elif mark == 'request':
             d.path('M%.1f %.1fh8l-4 6Z' % (x + 2, y - 6), 'none', fill=colour)
             d.rect(x + 4, y + 2, 20, 3, colour, fill_opacity=0.3)

@@ -30,6 +30,9 @@ def number_of(word):
     return int(word) if word.isascii() and word.isdigit() else None
 
 
+HINT = ' (osekfit says which rule is violated)'
+
+
 class Cursor:
     """A place among the tokens of a text."""
 
@@ -71,4 +74,4 @@ class Cursor:
         return found
 
     def stop(self, what):
-        raise Wrong('%s:%d: %s (osekfit says which rule is violated)' % (self.name, self.line(), what))
+        raise Wrong('%s:%d: %s%s' % (self.name, self.line(), what, HINT))
