@@ -9,9 +9,10 @@ ghost use Rattle.image_model.specs.declared.image.Image.{Image as AnImage};
 
 use crate::block_reading::blocks;
 use crate::fault::{ImageError, ImageFault, ImageRule, ReadError};
+use crate::header::header;
 use crate::parts::Parts;
 use crate::reader::{Reader, fault};
-use crate::table_reading::{header, tables};
+use crate::table_reading::tables;
 use image_model::Image;
 use osek_standard::App;
 use std::alloc::Global;

@@ -1,13 +1,12 @@
 //! The bytes of an image.
-ghost use Rattle.std.specs.Prelude.{◌≡◌, ◌++◌, ◌<◌, length, OnOk, IfOk};
+ghost use Rattle.std.specs.Prelude.{◌≡◌, ◌++◌, length, OnOk, IfOk};
 ghost use Rattle.std.specs.List.{flat_map, zip};
-ghost use Rattle.image_codec.specs.Spelling.{one, eight, magic as magic_of, further, spelling, header_bytes, name_bytes, range_bytes, schedule_number as number_of_schedule, task_bytes, isr_bytes, counter_bytes, action_bytes, alarm_bytes, resource_bytes, lock_number as number_of_lock, kind_number as number_of_kind, operand_bytes, way_bytes, form_number as number_of_form, known_number as number_of_known, site_bytes, block_bytes};
-ghost use Rattle.osek_standard.specs.declared.block.Kind.TheVariants as kind;
+ghost use Rattle.image_codec.specs.Spelling.{one, eight, magic as magic_of, further, spelling, header_bytes, name_bytes, range_bytes, schedule_number as number_of_schedule, task_bytes, isr_bytes, counter_bytes, action_bytes, alarm_bytes, resource_bytes, operand_bytes, way_bytes, site_bytes, block_bytes};
 
-use image_model::{Form, Image, Known, Site, Version, status_number};
+use crate::numbers::{form_number, kind_number, known_number, lock_number};
+use image_model::{Image, Site, Version};
 use osek_standard::{
-    Action, Alarm, AlarmService, App, ArmService, Block, Call, Counter, Isr, Kind, Lock,
-    MaskService, PlainService, Resource, ResourceService, Schedule, Task, TaskService,
+    Action, Alarm, App, Block, Call, Counter, Isr, Kind, Resource, Schedule, Task,
 };
 use osek_values::{AlarmNo, BlockNo, Memory, Name};
 use std::alloc::{AllocError, Global};
@@ -126,60 +125,6 @@ fn put_resource(out: &mut Vec<u8>, version: Version, resource: &Resource) -> Res
     put_further(out, version, &0u16.to_be_bytes())
 }
 
-fn lock_number(lock: Lock) -> u8
-    ensures { result ≡ number_of_lock lock }
-{
-    match lock {
-        Lock::SuspendAll => 0,
-        Lock::ResumeAll => 1,
-        Lock::SuspendOs => 2,
-        Lock::ResumeOs => 3,
-        Lock::DisableAll => 4,
-        Lock::EnableAll => 5,
-    }
-}
-
-fn call_number(call: Call) -> u8
-    ensures { result ≡ number_of_kind (kind.Call call) }
-{
-    match call {
-        Call::Plain(PlainService::TerminateTask) => 4,
-        Call::Plain(PlainService::Schedule) => 6,
-        Call::Plain(PlainService::GetTaskId) => 17,
-        Call::Plain(PlainService::GetActiveApplicationMode) => 19,
-        Call::ShutdownOs => 20,
-        Call::Task(TaskService::ActivateTask, _) => 3,
-        Call::Task(TaskService::ChainTask, _) => 5,
-        Call::Task(TaskService::GetEvent, _) => 11,
-        Call::Task(TaskService::GetTaskState, _) => 18,
-        Call::Resource(ResourceService::GetResource, _) => 7,
-        Call::Resource(ResourceService::ReleaseResource, _) => 8,
-        Call::SetEvent(_, _) => 9,
-        Call::Mask(MaskService::ClearEvent, _) => 10,
-        Call::Mask(MaskService::WaitEvent, _) => 12,
-        Call::Alarm(AlarmService::CancelAlarm, _) => 15,
-        Call::Alarm(AlarmService::GetAlarm, _) => 16,
-        Call::Arm(ArmService::SetRelAlarm, _, _, _) => 13,
-        Call::Arm(ArmService::SetAbsAlarm, _, _, _) => 14,
-        Call::Lock(_) => 21,
-    }
-}
-
-fn kind_number(kind: Kind) -> u8
-    ensures { result ≡ number_of_kind kind }
-{
-    match kind {
-        Kind::Work(_) => 0,
-        Kind::Choice(_) => 1,
-        Kind::Loop => 2,
-        Kind::Call(call) => call_number(call),
-        Kind::TaskEnd => 22,
-        Kind::IsrEnd => 23,
-        Kind::CountUp => 24,
-        Kind::Expire(_) => 25,
-    }
-}
-
 fn put_ticks(out: &mut Vec<u8>, alarm: AlarmNo, ticks: u64, cycle: u64) -> Result<(), AllocError>
     ensures { OnOk result (out.new.items ≡ out.old.items ++ one alarm.0 ++ eight ticks ++ eight cycle) }
 {
@@ -222,28 +167,6 @@ fn put_ways(out: &mut Vec<u8>, kind: Kind, next: BlockNo) -> Result<(), AllocErr
             out.extend_from_slice(&other.0.to_be_bytes())
         }
         _ => out.extend_from_slice(&next.0.to_be_bytes()),
-    }
-}
-
-fn form_number(form: Form) -> u16
-    ensures { result ≡ number_of_form form }
-{
-    match form {
-        Form::Never => 0x0000,
-        Form::Stay => 0x0100,
-        Form::Direct(Some(task)) => 0x0200 + task.0 as u16,
-        Form::Direct(None) => 0x02ff,
-        Form::General => 0x0300,
-    }
-}
-
-fn known_number(known: Known) -> u8
-    ensures { result ≡ number_of_known known }
-{
-    match known {
-        Known::Any => 0xff,
-        Known::Always(None) => 9,
-        Known::Always(Some(status)) => status_number(status),
     }
 }
 

@@ -1,7 +1,7 @@
 use Rattle.std.proofs.Common.{◌≡◌, drop}
 use Rattle.std.specs.List.{list_all, enumerate_from}
 use Rattle.image_codec.specs.BlockReading.{is_due_in}
-use Rattle.image_codec.proofs.block_reading.is_due.Given as goal
+use Rattle.image_codec.proofs.placing.is_due.Given as goal
 
 abbrev pub invariant-loop-number : goal.invariant-loop-number
 invariant-loop-number l =

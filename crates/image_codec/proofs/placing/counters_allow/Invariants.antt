@@ -1,7 +1,7 @@
 use Rattle.std.proofs.Common.{◌≡◌, drop}
 use Rattle.std.specs.List.{list_all, enumerate_from}
 use Rattle.image_codec.specs.BlockReading.{counter_allows}
-use Rattle.image_codec.proofs.block_reading.counters_allow.Given as goal
+use Rattle.image_codec.proofs.placing.counters_allow.Given as goal
 
 abbrev pub invariant-loop-number : goal.invariant-loop-number
 invariant-loop-number l =

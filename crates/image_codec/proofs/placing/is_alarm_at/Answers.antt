@@ -2,7 +2,7 @@ use Rattle.std.proofs.Common.{◌≡◌, ◌∙◌, ◌<◌, ◌+◌, ℕ, eqb, 
 use Rattle.std.proofs.lemmas.Bool.{ne_eqb}
 use Rattle.osek_standard.specs.Validity.{due_of}
 use Rattle.image_codec.proofs.Due.{due_from, due_found, due_passed, due_missing}
-use Rattle.image_codec.proofs.block_reading.is_alarm_at.Goals as goal
+use Rattle.image_codec.proofs.placing.is_alarm_at.Goals as goal
 
 pub returns-then-is_here : goal.returns-then-is_here
 returns-then-is_here c =

@@ -2,7 +2,7 @@ use Rattle.std.proofs.Common.{◌∙◌, sym, ap, List, arith}
 use Rattle.osek_standard.specs.declared.objects.Alarm.{Alarm}
 use Rattle.image_codec.specs.BlockReading.{is_due_in, is_due}
 use Rattle.image_codec.proofs.Due.{all_stops, all_goes_on, all_ends}
-use Rattle.image_codec.proofs.block_reading.is_due.Goals as goal
+use Rattle.image_codec.proofs.placing.is_due.Goals as goal
 
 pub returns-then-not-is_due_in : goal.returns-then-not-is_due_in
 returns-then-not-is_due_in c =

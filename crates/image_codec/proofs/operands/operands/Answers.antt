@@ -3,7 +3,7 @@ use Rattle.std.proofs.Common.{sym, subst}
 use Rattle.osek_standard.specs.declared.block.Kind.{Kind}
 use Rattle.image_codec.specs.Reading.{Gives}
 use Rattle.image_codec.specs.BlockReading.{operands_at}
-use Rattle.image_codec.proofs.block_reading.operands.Goals as goal
+use Rattle.image_codec.proofs.operands.operands.Goals as goal
 
 pub returns-in-Call : goal.returns-in-Call
 returns-in-Call c =

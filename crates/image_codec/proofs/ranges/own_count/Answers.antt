@@ -1,7 +1,7 @@
 -- the count, unless an earlier owner has one of the blocks
 use Rattle.std.proofs.Common.{rules}
 use Rattle.image_codec.specs.Reading.{count_at}
-use Rattle.image_codec.proofs.table_reading.own_count.Goals as goal
+use Rattle.image_codec.proofs.ranges.own_count.Goals as goal
 
 pub returns-then-meets_owner : goal.returns-then-meets_owner
 unfolding count_at

@@ -1,7 +1,7 @@
 use Rattle.std.proofs.Common.{◌∙◌, sym, arith}
 use Rattle.image_codec.specs.BlockReading.{counter_allows, counters_allow}
 use Rattle.image_codec.proofs.Due.{all_stops, all_goes_on, all_ends}
-use Rattle.image_codec.proofs.block_reading.counters_allow.Goals as goal
+use Rattle.image_codec.proofs.placing.counters_allow.Goals as goal
 
 pub returns-then-not-counter_allows : goal.returns-then-not-counter_allows
 returns-then-not-counter_allows c =
