@@ -41,7 +41,7 @@ struct Case {
     words: &'static [&'static str],
     turns: &'static [Turn],
     text: &'static str,
-    /// In how many calls it writes the text: one a line of `show` and `info`; a trace comes before each read of events.
+    /// In how many calls it writes the text: in one, but for a trace, which comes before each read of events.
     puts: u64,
     /// The image that it stores in `x`, in the last of its turns.
     stored: Option<&'static [u8]>,
@@ -132,7 +132,7 @@ const SHOWS: Case = Case {
     words: &["osekfit", "show", "a.oil", "a.c"],
     turns: &[READS_OIL, READS_CODE],
     text: SHOW,
-    puts: 9,
+    puts: 1,
     stored: None,
 };
 
@@ -140,7 +140,7 @@ const INFORMS: Case = Case {
     words: &["osekfit", "info", "i"],
     turns: &[READS_IMAGE],
     text: INFO,
-    puts: 6,
+    puts: 1,
     stored: None,
 };
 

@@ -1,5 +1,5 @@
 -- Where no read or write fails, the answer is the one that is due, or memory ran out.
-use Rattle.std.proofs.Common.{◌≡◌, ℕ, ◌<◌, List, [], Bool, true, false, length, refl, sym, ◌∙◌, ap, subst, inl, inr, ⊎_elim, Some, None, Ok, Err, arith, nat_lt}
+use Rattle.std.proofs.Common.{◌≡◌, ℕ, ◌<◌, List, [], ◌++◌, Bool, true, false, length, refl, sym, ◌∙◌, ap, subst, inl, inr, ⊎_elim, Some, None, Ok, Err, arith, nat_lt}
 use Rattle.std.proofs.lemmas.Bool.Decides.{nat_tests}
 use Rattle.std.specs.Prelude.{◌⊎◌}
 use Rattle.std.specs.FinMap.{get}
@@ -12,11 +12,11 @@ use Rattle.osek_standard.specs.declared.app.App.{App}
 use Rattle.osek_standard.specs.TraceText.{kernel_trace}
 use Rattle.oil_system.specs.declared.system.System.{System}
 use Rattle.front_end.specs.Texts.{DeclaresSystem}
-use Rattle.image_model.specs.declared.image.{Image.{Image}, Version.{Version}}
+use Rattle.image_model.specs.declared.image.{Image.{Image}}
 use Rattle.image_model.specs.ImageTrace.{image_trace, has_trap, image_run}
 use Rattle.trace_text.specs.EventText.{Reading, fault_at, read_text}
 use Rattle.trace_text.specs.declared.fault.EventFault.TheVariants.{E4}
-use Rattle.osek_io.specs.Files.{Files}
+use Rattle.osek_io.specs.{Counts.{ReadFaults}, Files.{Files}, Sunk.{Sunk}}
 use Rattle.commands.specs.Answering.{CommandAnswers}
 use Rattle.commands.specs.Building as building
 use Rattle.commands.specs.Compiling.{SystemStops, CodeStops, CompileStops, OfApp}
@@ -49,22 +49,22 @@ over_ends app traps m text none over =
     let reads : read_text app text ≡ fault_at 0 E4 = rw long refl in
     ap (λ (r : Reading). end_of (traps m r.events) r.fault) reads ∙ ap (λ (b : Bool). end_of b (fault_at 0 E4).fault) none
 
-module _ (files : Files) (after : Outside) (reads : List ℕ → ℕ) (writes faults : ℕ) (printed : Option (List ℕ)) where
+module _ (files : Files) (after : Outside) (reads : ReadFaults) (writes : ℕ) (out : Sunk) where
   abbrev before : Outside
-  before = beside (record { files = Some files; reads = reads; writes = writes }) faults printed
+  before = beside (record { files = Some files; reads = reads; writes = writes }) out
 
   module _ (calm : IsCalm before after) where
     run_due : (app : App) (trace : ModeNo → List Event → List ℕ) (traps : ModeNo → List Event → Bool) (mode events : List ℕ) → ((m : ModeNo) → traps m [] ≡ false) → (r : Result (Unit {0}) Stop) →
         RunAnswers before after app trace traps mode events r → OrMemory (RunDue files app traps mode events) r
     run_due app trace traps mode events starts _ (running.no_mode none same) = inr (no_mode none)
-    run_due app trace traps mode events starts _ (running.stops m s named (unread (inl rose)) same) = absurd (calm.reads events rose)
+    run_due app trace traps mode events starts _ (running.stops m s named (unread (inl (at, rose))) same) = absurd (calm.reads events at rose)
     run_due app trace traps mode events starts _ (running.stops m s named (unread (inr missing)) same) = inr (no_events m named missing)
     run_due app trace traps mode events starts _ (running.stops m s named (faulty u (text, holds, over)) same) =
         inr (subst (RunDue files app traps mode events) (over_ends app traps m text (starts m) over) (ends m text named holds))
     run_due app trace traps mode events starts _ (running.stops m s named no_memory same) = inl refl
-    run_due app trace traps mode events starts _ (running.plays m r named (text, holds, (within, inl (is, prints)))) = inr (subst (RunDue files app traps mode events) (sym is) (ends m text named holds))
-    run_due app trace traps mode events starts _ (running.plays m r named (text, holds, (within, inr (is, rose, front)))) = absurd (calm.faults rose)
-    run_due app trace traps mode events starts _ (running.unread_on m named rose text) = absurd (calm.reads events rose)
+    run_due app trace traps mode events starts _ (running.plays m r named same (text, holds, (within, inl (is, prints)))) = inr (subst (RunDue files app traps mode events) (sym is) (ends m text named holds))
+    run_due app trace traps mode events starts _ (running.plays m r named same (text, holds, (within, inr (is, (rose, front))))) = absurd (calm.out rose)
+    run_due app trace traps mode events starts _ (running.unread_on m named (text, holds, (within, behind))) = absurd (calm.reads events (length (behind.lines ++ behind.begun)) behind.unread)
 
     image_starts : (i : Image) (m : ModeNo) → has_trap i m [] ≡ false
     unfolding image_run
@@ -72,7 +72,7 @@ module _ (files : Files) (after : Outside) (reads : List ℕ → ℕ) (writes fa
 
     module _ (image : List ℕ) (Next : Image → Result (Unit {0}) Stop → Type 0) where
       image_stops : (s : Stop) → replaying.ImageStops before.shelf after.shelf image s → OrMemory (ImageDue files image Next) (Err s)
-      image_stops _ (unread (inl rose)) = absurd (calm.reads image rose)
+      image_stops _ (unread (inl (at, rose))) = absurd (calm.reads image at rose)
       image_stops _ (unread (inr missing)) = inr (no_image missing)
       image_stops _ (faulty f (bytes, holds, first)) = inr (bad_image bytes f holds first)
       image_stops _ no_memory = inl refl
@@ -87,7 +87,7 @@ module _ (files : Files) (after : Outside) (reads : List ℕ → ℕ) (writes fa
     -- what is printed without a fault is printed to its end
     printed_due : (text : List ℕ) (r : Result (Unit {0}) Stop) → PrintAnswers before after text r → r ≡ Ok tt
     printed_due text r (inl h) = h.0
-    printed_due text r (inr h) = absurd (calm.faults h.1)
+    printed_due text r (inr h) = absurd (calm.out h.1.0)
 
     info_due : (image : List ℕ) (r : Result (Unit {0}) Stop) → informing.InfoAnswers before after image r → OrMemory (ImageDue files image IsTold) r
     info_due image _ (informing.stops s h same) = image_stops image IsTold s h
@@ -97,20 +97,20 @@ module _ (files : Files) (after : Outside) (reads : List ℕ → ℕ) (writes fa
     upgrade_due image upgraded _ (upgrading.stops s h same) = image_stops image Upgrades s h
     upgrade_due image upgraded _ (upgrading.already h same) = of_image image Upgrades _ (Err stop.AlreadyNew) (λ i new. inr (sym (ap upgrade_end new))) h
     upgrade_due image upgraded _ (upgrading.fails rose h) = absurd (calm.writes rose)
-    upgrade_due image upgraded _ (upgrading.stores h) = of_image image Upgrades _ (Ok tt) (λ i stored. inr (sym (ap upgrade_end stored.1.upgraded.was_one))) h
+    upgrade_due image upgraded _ (upgrading.stores same h) = of_image image Upgrades _ (Ok tt) (λ i stored. inr (sym (ap upgrade_end stored.1.upgraded.was_one))) h
 
     module _ (oil code : List ℕ) (Next : App → Result (Unit {0}) Stop → Type 0) where
       abbrev Due : Result (Unit {0}) Stop → Type 0
       Due = OrMemory (TextsDue files oil code Next)
 
       oil_stops : (s : Stop) → SystemStops before.shelf after.shelf oil s → Due (Err s)
-      oil_stops _ (unread (inl rose)) = absurd (calm.reads oil rose)
+      oil_stops _ (unread (inl (at, rose))) = absurd (calm.reads oil at rose)
       oil_stops _ (unread (inr missing)) = inr (no_oil missing)
       oil_stops _ (faulty r (text, holds, first)) = inr (bad_oil text r holds first)
       oil_stops _ no_memory = inl refl
 
       code_stops : (text : List ℕ) → get files oil ≡ Some text → (system : System) → DeclaresSystem text system → (s : Stop) → CodeStops before.shelf after.shelf system code s → Due (Err s)
-      code_stops text holds system declares _ (unread (inl rose)) = absurd (calm.reads code rose)
+      code_stops text holds system declares _ (unread (inl (at, rose))) = absurd (calm.reads code at rose)
       code_stops text holds system declares _ (unread (inr missing)) = inr (no_code text system holds declares missing)
       code_stops text holds system declares _ (faulty r (code_text, code_holds, first)) = inr (bad_code text system code_text r holds declares code_holds first)
       code_stops text holds system declares _ no_memory = inl refl
@@ -126,7 +126,7 @@ module _ (files : Files) (after : Outside) (reads : List ℕ → ℕ) (writes fa
     build_due : (oil code image : List ℕ) (r : Result (Unit {0}) Stop) → building.BuildAnswers before after oil code image r → OrMemory (TextsDue files oil code IsBuilt) r
     build_due oil code image _ (building.stops s h same) = texts_stop oil code IsBuilt s h
     build_due oil code image _ (building.fails rose h) = absurd (calm.writes rose)
-    build_due oil code image _ (building.stores h) = of_app oil code IsBuilt _ (Ok tt) (λ app stored. inr refl) h
+    build_due oil code image _ (building.stores same h) = of_app oil code IsBuilt _ (Ok tt) (λ app stored. inr refl) h
 
     trace_due : (oil code mode events : List ℕ) (r : Result (Unit {0}) Stop) → tracing.TraceAnswers before after oil code mode events r →
         OrMemory (TextsDue files oil code (λ app. RunDue files app tracing.never mode events)) r

@@ -1,6 +1,5 @@
 -- From a run in memory to the answers of `gen`.
-use Rattle.std.proofs.Common.{◌≡◌, ℕ, List, sym, ap, subst, inl, inr, Some, Err, refl}
-use Rattle.std.specs.declared.option.Option.{Option}
+use Rattle.std.proofs.Common.{◌≡◌, ℕ, List, sym, subst, inl, inr, Some, Err, refl}
 use Rattle.std.specs.declared.result.Result.{Result}
 use Rattle.osek_standard.specs.declared.app.App.{App}
 use Rattle.flow_text.specs.declared.gen_line.AnalysisCounts.{AnalysisCounts}
@@ -11,7 +10,6 @@ use Rattle.commands.specs.Generating.{AreLeastCounts, IsDefaultTrace, TellsRun, 
 use Rattle.command_runs.specs.Outside.{Outside}
 use Rattle.commands.specs.Printing.{PrintAnswers}
 use Rattle.command_runs.specs.declared.stop.Stop.{Stop}
-use Rattle.command_runs.specs.declared.stop.Stop.TheVariants as stop
 use Rattle.command_runs.proofs.InputFiles.{of_map}
 use Rattle.commands.proofs.OwnRuns.{OwnStops}
 
@@ -19,7 +17,7 @@ module _ (before after : Outside) (seed tasks : ℕ) where
   abbrev Line : Result (Unit {0}) Stop → App → List ℕ → Type 0
   Line r app text = (line : List ℕ) × TellsRun app text line × PrintAnswers before after line r
 
-  pub own_answers : after.printed ≡ before.printed → (s : Stop) → OwnStops (generated_files seed tasks) s → GenAnswers before after seed tasks (Err s)
+  pub own_answers : after.out ≡ before.out → (s : Stop) → OwnStops (generated_files seed tasks) s → GenAnswers before after seed tasks (Err s)
   own_answers same s (inl e) = subst (λ (x : Stop). GenAnswers before after seed tasks (Err x)) (sym e) (no_memory same)
   own_answers same s (inr due) = stops s due same
 

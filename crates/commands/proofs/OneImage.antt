@@ -1,22 +1,20 @@
 -- One image is fitted to an application, and one to the application of two texts.
-use Rattle.std.proofs.Common.{◌≡◌, ℕ, ◌<◌, List, length, get_or, refl, sym, ◌∙◌, ap, subst, IsTrue, Option, Some, None}
+use Rattle.std.proofs.Common.{◌≡◌, ℕ, ◌<◌, length, get_or, refl, sym, ◌∙◌, ap, subst, Option, Some, None}
 use Rattle.std.specs.Prelude.{Bool, true, false, option_map, Ok}
 use Rattle.std.proofs.lemmas.List.{ext_get_or}
 use Rattle.osek_standard.specs.declared.app.App.{App}
 use Rattle.osek_standard.specs.Apps.{is_site}
 use Rattle.oil_system.specs.declared.system.System.{System}
-use Rattle.front_end.specs.Texts.{DeclaresSystem, GivesApp}
+use Rattle.front_end.specs.Texts.{GivesApp}
 use Rattle.front_end.proofs.OneAnswer.{one_oil, one_code}
 use Rattle.image_model.specs.declared.{image.Image.{Image}, site.{Form.{Form}, Known.{Known}, Site.{Site}}}
 use Rattle.image_model.specs.Sites.{IsSiteAt}
-use Rattle.image_model.specs.ImageStep.{form_at}
-use Rattle.image_codec.specs.ImageReading.{parts_of}
 use Rattle.image_codec.specs.Spelling.{spelling}
 use Rattle.image_codec.proofs.DecodeLaws.{image_ext}
 use Rattle.abstract_state.specs.{Forms.{FormOf, KnownOf, HasDictatedForms, HasDictatedStatuses}, Tables.{Sets}}
 use Rattle.abstract_state.proofs.{ContainmentLaws.{one_least}, FormLaws.{one_form, one_known}}
 use Rattle.commands.specs.Fitting.{IsFitted}
-use Rattle.commands.specs.Laws.{AreBuiltFrom, OneImageIsBuilt}
+use Rattle.commands.specs.Laws.{OneImageIsBuilt}
 
 abbrev form_of_site : Option Site → Option Form
 form_of_site x = option_map (λ (s : Site). s.form) x

@@ -10,14 +10,14 @@ use Rattle.osek_values.specs.declared.numbers.ModeNo.{ModeNo}
 use Rattle.osek_standard.specs.declared.app.App.{App}
 use Rattle.osek_standard.specs.TraceText.{kernel_trace}
 use Rattle.oil_system.specs.declared.system.System.{System}
-use Rattle.front_end.specs.Texts.{DeclaresSystem, GivesApp}
+use Rattle.front_end.specs.Texts.{DeclaresSystem}
 use Rattle.image_model.specs.declared.image.Image.{Image}
 use Rattle.image_model.specs.ImageTrace.{image_trace, has_trap, image_run}
 use Rattle.trace_text.specs.EventText.{read_text}
 use Rattle.trace_text.specs.declared.fault.FaultyLine.{FaultyLine}
-use Rattle.osek_io.specs.{Files.{Files}, Pieces.{grown}}
+use Rattle.osek_io.specs.{Counts.{ReadFaults}, Files.{Files}, Pieces.{grown}}
 use Rattle.commands.specs.Compiling.{SystemStops, CodeStops, CompileStops, OfApp}
-use Rattle.commands.specs.Due.{RunDue, no_mode, no_events, ends, TextsDue, bad_oil, bad_code, goes_on, OwnDue}
+use Rattle.commands.specs.Due.{RunDue, no_mode, no_events, ends, bad_oil, bad_code, goes_on, OwnDue}
 use Rattle.commands.specs.Fitting.{IsKernelImage}
 use Rattle.commands.specs.GeneratedFiles.{oil_name, code_name, events_name, default_mode, own_stop}
 use Rattle.commands.specs.Generating.{IsDefaultTrace}
@@ -37,7 +37,7 @@ use Rattle.commands.proofs.NamedModes.{named_known}
 abbrev pub OwnStops : Files → Stop → Type 0
 OwnStops files s = (s ≡ stop.Memory) ⊎ OwnDue files (Err s)
 
-module _ (files : Files) (after : Told) (reads : List ℕ → ℕ) (writes : ℕ) where
+module _ (files : Files) (after : Told) (reads : ReadFaults) (writes : ℕ) where
   abbrev before : Told
   before = record { files = Some files; reads = reads; writes = writes }
 
@@ -101,17 +101,17 @@ module _ (app : App) (i : Image) (kernel : IsKernelImage app i) where
         let (text, holds, over) = told_file events_name _ h in
         inr (never_due files _ (subst (RunDue files app (has_trap i) default_mode events_name) (over_ends app (has_trap i) m text (starts m) over) (ends m text named holds)))
     run_stops _ (running.stops m s named no_memory same) = inl refl
-    run_stops _ (running.unread_on m named rose text) = inl refl
-    run_stops _ (running.plays m r named h) = played r m named (told_file events_name _ h)
+    run_stops _ (running.unread_on m named text) = inl refl
+    run_stops _ (running.plays m r named same h) = played r m named (told_file events_name _ h)
       where
         played : (r : Result (Unit {0}) Stop) (m : ModeNo) → mode_named app default_mode ≡ Some m → OfFile (Some files) events_name (λ text. (length text ≤ MAX_EVENT_TEXT)
-            × PlayAnswers before.faults after.faults before.printed after.printed (running.whole_run app (image_trace i) (has_trap i) m text) r) → RunStops files r
+            × PlayAnswers before.out after.out (running.whole_run app (image_trace i) (has_trap i) m text) r) → RunStops files r
         played r m named (text, holds, (within, inl (is, prints))) =
             subst (RunStops files) (sym is) (by_end files (has_trap i m (read_text app text).events) (read_text app text).fault (never_due files _ (ends m text named holds)))
-        played r m named (text, holds, (within, inr (is, rose, front))) = subst (RunStops files) (sym is) (inl refl)
+        played r m named (text, holds, (within, inr (is, (rose, front)))) = subst (RunStops files) (sym is) (inl refl)
 
   -- what was printed by a run in memory that was done
-  module _ (before after : Outside) (trace : List ℕ) (empty : before.printed ≡ Some []) (kept : after.printed ≡ Some trace) where
+  module _ (before after : Outside) (trace : List ℕ) (empty : before.out.written ≡ Some []) (kept : after.out.written ≡ Some trace) where
     abbrev RunTells : Result (Unit {0}) Stop → Type 0
     RunTells (Ok done) = OfFile before.shelf.files events_name (λ text. IsDefaultTrace app text trace)
     RunTells (Err s) = ⊤
@@ -124,16 +124,16 @@ module _ (app : App) (i : Image) (kernel : IsKernelImage app i) where
         of_bytes before.shelf.files events_name (λ t. IsDefaultTrace app t trace) text holds
         (record { mode = m; named = named; faultless = e; traced = traced ∙ traces m (read_text app text).events named })
 
-    printed_trace : (text : List ℕ) → after.printed ≡ grown before.printed text → trace ≡ text
+    printed_trace : (text : List ℕ) → after.out.written ≡ grown before.out.written text → trace ≡ text
     printed_trace text prints = let same : Some trace ≡ Some text = sym kept ∙ prints ∙ ap (λ (o : Option (List ℕ)). grown o text) empty in cc
 
     pub run_tells : (r : Result (Unit {0}) Stop) → RunAnswers before after app (image_trace i) (has_trap i) default_mode events_name r → RunTells r
     run_tells _ (running.no_mode none same) = tt
     run_tells _ (running.stops m s named h same) = tt
-    run_tells _ (running.unread_on m named rose text) = tt
-    run_tells _ (running.plays m r named (text, holds, (within, inl (is, prints)))) =
-        subst RunTells (sym is) (ended m text named (text, holds, refl) (printed_trace _ prints) (has_trap i m (read_text app text).events) (read_text app text).fault refl)
-    run_tells _ (running.plays m r named (text, holds, (within, inr (is, rose, front)))) = subst RunTells (sym is) tt
+    run_tells _ (running.unread_on m named text) = tt
+    run_tells _ (running.plays m r named same (text, holds, (within, inl (is, prints)))) =
+        subst RunTells (sym is) (ended m text named (text, holds, refl) (printed_trace _ prints.1) (has_trap i m (read_text app text).events) (read_text app text).fault refl)
+    run_tells _ (running.plays m r named same (text, holds, (within, inr (is, (rose, front))))) = subst RunTells (sym is) tt
 
 -- an application whose run in memory stops
 pub own_due : (told : Option Files) (files : Files) (app : App) → told ≡ Some files → OfApp told oil_name code_name (λ a. a ≡ app) → (s : Stop) →

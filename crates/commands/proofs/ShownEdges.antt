@@ -1,8 +1,8 @@
 -- The edges that a least table dictates begin and end at points of the application.
-use Rattle.std.proofs.Common.{◌≡◌, ℕ, ◌<◌, length, get_or, sym, subst}
+use Rattle.std.proofs.Common.{ℕ, ◌<◌, length, get_or, sym, subst}
 use Rattle.std.specs.Prelude.{All}
 use Rattle.std.proofs.lemmas.List.Elements.{Contains-get_or}
-use Rattle.osek_standard.specs.declared.{app.App.{App}, point.Point.{Point}}
+use Rattle.osek_standard.specs.declared.{app.App.{App}}
 use Rattle.osek_standard.specs.Points.{IsPoint}
 use Rattle.abstract_state.specs.{Forms.{Edge}, Tables.{sets_of}}
 use Rattle.abstract_state.proofs.FormLaws.{edge_begins, edge_ends}

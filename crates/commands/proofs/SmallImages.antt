@@ -21,7 +21,7 @@ use Rattle.image_model.specs.CallNames as call
 use Rattle.image_model.specs.declared.site.Site.{Site}
 use Rattle.image_model.specs.declared.image.{Image.{Image}, Version.{Version}}
 use Rattle.image_model.specs.declared.image.Version.TheVariants as version
-use Rattle.image_codec.specs.Spelling.{four, name_bytes, range_bytes, task_bytes, isr_bytes, counter_bytes, action_bytes, alarm_bytes, resource_bytes, operand_bytes, way_bytes, site_bytes, block_bytes, spelling}
+use Rattle.image_codec.specs.Spelling.{name_bytes, task_bytes, isr_bytes, counter_bytes, action_bytes, alarm_bytes, resource_bytes, operand_bytes, way_bytes, site_bytes, block_bytes, spelling}
 
 -- ---- fields
 

@@ -1,5 +1,5 @@
 -- An image that is upgraded is replayed as it was before.
-use Rattle.std.proofs.Common.{◌≡◌, ℕ, List, Bool, refl, sym, subst, Some}
+use Rattle.std.proofs.Common.{◌≡◌, ℕ, List, Bool, refl, sym, subst}
 use Rattle.std.specs.declared.result.Result.{Result}
 use Rattle.osek_values.specs.declared.event.Event.{Event}
 use Rattle.osek_values.specs.declared.numbers.ModeNo.{ModeNo}
@@ -14,7 +14,7 @@ use Rattle.osek_io.specs.Files.{Files}
 use Rattle.command_runs.specs.Replaying.{SpellImage}
 use Rattle.command_runs.specs.Running.{whole_run}
 use Rattle.command_runs.specs.declared.stop.Stop.{Stop}
-use Rattle.commands.specs.Due.{RunDue, ImageDue, no_image, bad_image, is_read, ImageRuns}
+use Rattle.commands.specs.Due.{RunDue, no_image, bad_image, is_read, ImageRuns}
 use Rattle.commands.specs.Laws.{WhatIsUpgradedReplays, WhatIsUpgradedPrintsTheSame}
 use Rattle.commands.proofs.OneDue.{same_found, not_found, same_image, no_image_fault}
 use Rattle.commands.proofs.SmallImages.{small}

@@ -16,10 +16,10 @@ use Rattle.command_runs.specs.declared.stop.Stop.TheVariants as stop
 
 pub memory_answers : (before : Outside) (command : Option Command) → CommandAnswers before before command (Err stop.Memory)
 memory_answers before None = (inr refl, refl)
-memory_answers before (Some (Build oil code image)) = (building.stops stop.Memory (inl no_memory) (refl, refl), refl, refl)
+memory_answers before (Some (Build oil code image)) = (building.stops stop.Memory (inl no_memory) (refl, refl), refl)
 memory_answers before (Some (Replay image mode events)) = (replaying.stops stop.Memory no_memory refl, (refl, refl))
 memory_answers before (Some (Trace oil code mode events)) = (tracing.stops stop.Memory (inl no_memory) refl, (refl, refl))
 memory_answers before (Some (Show oil code)) = (showing.stops stop.Memory (inl no_memory) refl, (refl, refl))
 memory_answers before (Some (Info image)) = (informing.stops stop.Memory no_memory refl, (refl, refl))
 memory_answers before (Some (Gen seed tasks)) = (generating.no_memory refl, refl)
-memory_answers before (Some (Upgrade image upgraded)) = (upgrading.stops stop.Memory no_memory (refl, refl), refl, refl)
+memory_answers before (Some (Upgrade image upgraded)) = (upgrading.stops stop.Memory no_memory (refl, refl), refl)

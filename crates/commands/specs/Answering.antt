@@ -1,7 +1,6 @@
 -- What the top call does: a command's answer, and how it is told.
 use Rattle.std.specs.Prelude.{◌≡◌, ◌⊎◌, ℕ, List, Option, Some, None, Result, Err}
-use Rattle.osek_io.specs.Counts.{Rose}
-use Rattle.osek_io.specs.Pieces.{grown}
+use Rattle.osek_io.specs.Sunk.{Sunk, Writes}
 use Rattle.command_runs.specs.declared.stop.Stop.{Stop}
 use Rattle.command_runs.specs.declared.stop.Stop.TheVariants as stop
 use Rattle.commands.specs.Building.{BuildAnswers}
@@ -11,28 +10,28 @@ use Rattle.command_runs.specs.Outside.{Outside, SameFiles}
 use Rattle.command_runs.specs.Replaying.{ReplayAnswers}
 use Rattle.commands.specs.Showing.{ShowAnswers}
 use Rattle.commands.specs.Statuses.{status_of, text_due}
-use Rattle.command_runs.specs.Telling.{WritesFront}
+use Rattle.command_runs.specs.Telling.{Breaks}
 use Rattle.command_runs.specs.Upgrading.{UpgradeAnswers}
 use Rattle.commands.specs.Tracing.{TraceAnswers}
 use Rattle.commands.specs.Words.{Command, Build, Replay, Trace, Show, Info, Gen, Upgrade}
 
--- err gained the text, and the status is as given; or a write on err failed: it gained a front, and the status is 6
-abbrev pub Tells : (faults faults_after : ℕ) → Option (List ℕ) → Option (List ℕ) → (text : List ℕ) → (status answered : ℕ) → Type 0
-Tells faults faults_after told told_after text status answered =
-    ((answered ≡ status) × (told_after ≡ grown told text))
-    ⊎ ((answered ≡ 6) × Rose faults faults_after × WritesFront told told_after text)
+-- err gained the text, no write on it failed, and the status is as given; or one failed: it gained a front, and the status is 6
+abbrev pub Tells : (err err_after : Sunk) → (text : List ℕ) → (status answered : ℕ) → Type 0
+Tells err err_after text status answered =
+    ((answered ≡ status) × Writes err err_after text)
+    ⊎ ((answered ≡ 6) × Breaks err err_after text)
 
 -- Words of no stated form leave all as it was, also where memory ran out as they were read; `build` and `upgrade` print nothing;
 -- the others write no file.
 abbrev pub CommandAnswers : (before after : Outside) → Option Command → Result (Unit {0}) Stop → Type 0
 CommandAnswers before after None r = ((r ≡ Err stop.Usage) ⊎ (r ≡ Err stop.Memory)) × (after ≡ before)
-CommandAnswers before after (Some (Build oil code image)) r = BuildAnswers before after oil code image r × (after.printed ≡ before.printed) × (after.faults ≡ before.faults)
+CommandAnswers before after (Some (Build oil code image)) r = BuildAnswers before after oil code image r × (after.out ≡ before.out)
 CommandAnswers before after (Some (Replay image mode events)) r = ReplayAnswers before after image mode events r × SameFiles before.shelf after.shelf
 CommandAnswers before after (Some (Trace oil code mode events)) r = TraceAnswers before after oil code mode events r × SameFiles before.shelf after.shelf
 CommandAnswers before after (Some (Show oil code)) r = ShowAnswers before after oil code r × SameFiles before.shelf after.shelf
 CommandAnswers before after (Some (Info image)) r = InfoAnswers before after image r × SameFiles before.shelf after.shelf
 CommandAnswers before after (Some (Gen seed tasks)) r = GenAnswers before after seed tasks r × (after.shelf ≡ before.shelf)
-CommandAnswers before after (Some (Upgrade image upgraded)) r = UpgradeAnswers before after image upgraded r × (after.printed ≡ before.printed) × (after.faults ≡ before.faults)
+CommandAnswers before after (Some (Upgrade image upgraded)) r = UpgradeAnswers before after image upgraded r × (after.out ≡ before.out)
 
 -- The command of the words answers r, of which err has the text and the call the status.
 pub record Does (command : Option Command) (answers : Result (Unit {0}) Stop → Type 0) (tells : List ℕ → ℕ → Type 0) : Type 0 where

@@ -29,4 +29,4 @@ module _ (before after : Outside) (image : List ℕ) where
 pub data BuildAnswers (before after : Outside) (oil code image : List ℕ) : Result (Unit {0}) Stop → Type 0 where
   stops : (s : Stop) → CompileStops before.shelf after.shelf oil code s → SameFiles before.shelf after.shelf → BuildAnswers before after oil code image (Err s)
   fails : Rose before.shelf.writes after.shelf.writes → OfApp before.shelf.files oil code (StoresFront before after image) → BuildAnswers before after oil code image (Err stop.Unstored)
-  stores : OfApp before.shelf.files oil code (Stores before after image) → BuildAnswers before after oil code image (Ok tt)
+  stores : after.shelf.writes ≡ before.shelf.writes → OfApp before.shelf.files oil code (Stores before after image) → BuildAnswers before after oil code image (Ok tt)

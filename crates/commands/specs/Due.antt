@@ -27,9 +27,9 @@ use Rattle.command_runs.specs.declared.stop.Stop.TheVariants as stop
 
 -- no count of faults rose
 pub record IsCalm (before after : Outside) : Type 0 where
-  pub reads : (name : List ℕ) → Rose (before.shelf.reads name) (after.shelf.reads name) → ⊥
+  pub reads : (name : List ℕ) (at : ℕ) → Rose (before.shelf.reads name at) (after.shelf.reads name at) → ⊥
   pub writes : Rose before.shelf.writes after.shelf.writes → ⊥
-  pub faults : Rose before.faults after.faults → ⊥
+  pub out : Rose before.out.faults after.out.faults → ⊥
 
 -- a run: the mode, the event text, and then its lines
 pub data RunDue (files : Files) (app : App) (traps : ModeNo → List Event → Bool) (mode events : List ℕ) : Result (Unit {0}) Stop → Type 0 where

@@ -51,6 +51,6 @@ OfOwn files P = OfApp files oil_name code_name (λ app. OfFile files events_name
 
 -- Memory ran out, or a stop that its own texts are due, and nothing was printed; or the line of the run was printed.
 pub data GenAnswers (before after : Outside) (seed tasks : ℕ) : Result (Unit {0}) Stop → Type 0 where
-  no_memory : after.printed ≡ before.printed → GenAnswers before after seed tasks (Err stop.Memory)
-  stops : (s : Stop) → GenDue seed tasks (Err s) → after.printed ≡ before.printed → GenAnswers before after seed tasks (Err s)
+  no_memory : after.out ≡ before.out → GenAnswers before after seed tasks (Err stop.Memory)
+  stops : (s : Stop) → GenDue seed tasks (Err s) → after.out ≡ before.out → GenAnswers before after seed tasks (Err s)
   tells : (r : Result (Unit {0}) Stop) → OfOwn (Some (generated_files seed tasks)) (λ app text. (line : List ℕ) × TellsRun app text line × PrintAnswers before after line r) → GenAnswers before after seed tasks r

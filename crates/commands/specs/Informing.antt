@@ -8,5 +8,5 @@ use Rattle.command_runs.specs.declared.stop.Stop.{Stop}
 
 -- `info` stops at the image and prints nothing, or prints its counts and its forms.
 pub data InfoAnswers (before after : Outside) (image : List ℕ) : Result (Unit {0}) Stop → Type 0 where
-  stops : (s : Stop) → ImageStops before.shelf after.shelf image s → after.printed ≡ before.printed → InfoAnswers before after image (Err s)
+  stops : (s : Stop) → ImageStops before.shelf after.shelf image s → after.out ≡ before.out → InfoAnswers before after image (Err s)
   tells : (r : Result (Unit {0}) Stop) → OfImage before.shelf.files image (λ i. PrintAnswers before after (info_text i) r) → InfoAnswers before after image r

@@ -36,5 +36,5 @@ pub record TellsLeast (app : App) (text : List ℕ) : Type 0 where
 
 -- `show` stops at the texts and prints nothing, or prints what the least table of their application dictates.
 pub data ShowAnswers (before after : Outside) (oil code : List ℕ) : Result (Unit {0}) Stop → Type 0 where
-  stops : (s : Stop) → CompileStops before.shelf after.shelf oil code s → after.printed ≡ before.printed → ShowAnswers before after oil code (Err s)
+  stops : (s : Stop) → CompileStops before.shelf after.shelf oil code s → after.out ≡ before.out → ShowAnswers before after oil code (Err s)
   tells : (r : Result (Unit {0}) Stop) → OfApp before.shelf.files oil code (λ app. (text : List ℕ) × TellsLeast app text × PrintAnswers before after text r) → ShowAnswers before after oil code r

@@ -14,5 +14,5 @@ never mode events = false
 
 -- `trace` stops at the texts and prints nothing, or the application runs and the kernel's trace is printed.
 pub data TraceAnswers (before after : Outside) (oil code mode events : List ℕ) : Result (Unit {0}) Stop → Type 0 where
-  stops : (s : Stop) → CompileStops before.shelf after.shelf oil code s → after.printed ≡ before.printed → TraceAnswers before after oil code mode events (Err s)
+  stops : (s : Stop) → CompileStops before.shelf after.shelf oil code s → after.out ≡ before.out → TraceAnswers before after oil code mode events (Err s)
   runs : (r : Result (Unit {0}) Stop) → OfApp before.shelf.files oil code (λ app. RunAnswers before after app (kernel_trace app) never mode events r) → TraceAnswers before after oil code mode events r

@@ -1,8 +1,9 @@
 //! The command `build`: the image of an application.
-ghost use Rattle.std.specs.Prelude.{ℕ, List, Option, IfOk};
+ghost use Rattle.std.specs.Prelude.{IfOk};
 ghost use Rattle.osek_standard.specs.Versions.{FitsVersion1};
 ghost use Rattle.commands.specs.Building.{BuildAnswers, SpellsFitted};
 ghost use Rattle.commands.specs.Fitting.{IsFitted};
+ghost use Rattle.osek_io.specs.Sunk.{Sunk};
 ghost use Rattle.command_runs.specs.Outside.{beside, told};
 
 use crate::compiling::compile;
@@ -45,7 +46,7 @@ pub fn build<F: Shelf>(
     code: &str,
     image: &str,
 ) -> Result<(), Stop>
-    ensures answer { (faults : ℕ) (printed : Option (List ℕ)) → BuildAnswers (beside (told F.Shelf shelf.old) faults printed) (beside (told F.Shelf shelf.new) faults printed) oil.now code.now image.now result }
+    ensures answer { (out : Sunk) → BuildAnswers (beside (told F.Shelf shelf.old) out) (beside (told F.Shelf shelf.new) out) oil.now code.now image.now result }
 {
     let bytes = match compile(alloc, shelf, oil, code) {
         Ok(app) => image_bytes(alloc, app),

@@ -1,6 +1,6 @@
 //! The command `gen`: a system that is made from a number, and run in memory.
 ghost use Rattle.std.specs.Prelude.{◌≡◌, ◌⊎◌, ◌≤◌, ◌<◌, length, Some, Err, IfOk, IfErr};
-ghost use Rattle.osek_io.specs.Files.{Files};
+ghost use Rattle.osek_io.specs.{Files.{Files}, Sunk.{sunk}};
 ghost use Rattle.osek_standard.specs.Versions.{FitsVersion1};
 ghost use Rattle.flow_text.specs.GeneratedLine.{text_size, gen_line};
 ghost use Rattle.command_runs.specs.declared.stop.Stop.TheVariants as a_stop;
@@ -122,7 +122,7 @@ fn run_system<F: Shelf>(alloc: Global, shelf: &mut F) -> Result<Ran, Stop>
 /// Prints the line of a system that was run.
 fn print_ran<O: Sink>(out: &mut O, ran: &Ran, line: &mut [u8]) -> Result<(), Stop>
     requires room { LINE_MAX ≤ length line.old }
-    ensures { (shelf : Told) → PrintAnswers (beside shelf (O.faults out.old) (O.written out.old)) (beside shelf (O.faults out.new) (O.written out.new)) (gen_line ran.now.counts (text_size ran.now.trace.bytes)) result }
+    ensures { (shelf : Told) → PrintAnswers (beside shelf (sunk O.Sink out.old)) (beside shelf (sunk O.Sink out.new)) (gen_line ran.now.counts (text_size ran.now.trace.bytes)) result }
 {
     let size = write_gen_line(ran.counts, TextSize::of(ran.trace.bytes()), line);
     match put_all(out, &line[..size]) {
@@ -139,7 +139,7 @@ pub fn generate_and_run<O: Sink>(
     seed: u64,
     tasks: u32,
 ) -> Result<(), Stop>
-    ensures { (shelf : Told) → GenAnswers (beside shelf (O.faults out.old) (O.written out.old)) (beside shelf (O.faults out.new) (O.written out.new)) seed tasks result }
+    ensures { (shelf : Told) → GenAnswers (beside shelf (sunk O.Sink out.old)) (beside shelf (sunk O.Sink out.new)) seed tasks result }
 {
     let Ok(mut shelf) = generated_shelf(alloc, seed, tasks) else {
         return Err(Stop::Memory);

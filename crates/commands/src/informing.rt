@@ -5,37 +5,47 @@ ghost use Rattle.flow_text.specs.Texts.{info_text};
 ghost use Rattle.commands.specs.Informing.{InfoAnswers};
 ghost use Rattle.command_runs.specs.Outside.{outside};
 ghost use Rattle.commands.specs.Printing.{PrintsWhole};
-ghost use Rattle.osek_io.specs.{Counts.{Rose}, Pieces.{grown}};
-ghost use Rattle.command_runs.specs.Telling.{WritesFront};
+ghost use Rattle.osek_io.specs.Sunk.{sunk};
+ghost use Rattle.command_runs.specs.Playing.{given, Puts, PutsFront};
 
 use crate::printing::{print_info, print_sites};
 use command_runs::{Stop, line_room, load_image};
 use image_model::Image;
-use osek_io::{PutError, Shelf, Sink};
+use osek_io::{PutBuffer, PutError, Shelf, Sink};
 use osek_values::limits::LINE_MAX;
 use std::alloc::Global;
 
-/// Prints the text of an image.
-fn print_image<O: Sink>(out: &mut O, image: &Image, line: &mut [u8]) -> Result<(), PutError>
+/// Prints the text of an image, or holds back its end.
+fn print_image<O: Sink>(
+    out: &mut O,
+    buffer: &mut PutBuffer,
+    image: &Image,
+    line: &mut [u8],
+) -> Result<(), PutError>
     requires room { LINE_MAX ≤ length line.old }
-    ensures ok { OnOk result (O.written out.new ≡ grown (O.written out.old) (info_text image.now)) }
-    ensures front { OnErr result (WritesFront (O.written out.old) (O.written out.new) (info_text image.now)) }
-    ensures cause { OnErr result (Rose (O.faults out.old) (O.faults out.new)) }
-    ensures never_falls { O.faults out.old ≤ O.faults out.new }
+    ensures ok { OnOk result (Puts (given (sunk O.Sink out.old) buffer.old) (given (sunk O.Sink out.new) buffer.new) (info_text image.now)) }
+    ensures front { OnErr result (PutsFront (given (sunk O.Sink out.old) buffer.old) (given (sunk O.Sink out.new) buffer.new) (info_text image.now)) }
 {
-    print_info(out, image, line)?;
-    print_sites(out, image, image.version, line)?;
+    print_info(out, buffer, image, line)?;
+    print_sites(out, buffer, image, image.version, line)?;
     Ok(())
 }
 
-/// The same with room for a line.
+/// Prints all of it, with room for a line and for what is held back.
 fn print_told<O: Sink>(alloc: Global, out: &mut O, image: &Image) -> Result<(), Stop>
-    ensures { PrintsWhole (O.faults out.old) (O.faults out.new) (O.written out.old) (O.written out.new) (info_text image.now) result }
+    ensures { PrintsWhole (sunk O.Sink out.old) (sunk O.Sink out.new) (info_text image.now) result }
 {
     let Ok(mut line) = line_room(alloc) else {
         return Err(Stop::Memory);
     };
-    match print_image(out, image, &mut line) {
+    let Ok(mut buffer) = PutBuffer::new(alloc) else {
+        return Err(Stop::Memory);
+    };
+    match print_image(out, &mut buffer, image, &mut line) {
+        Ok(()) => {}
+        Err(PutError::Write) => return Err(Stop::Unprinted),
+    }
+    match buffer.flush(out) {
         Ok(()) => Ok(()),
         Err(PutError::Write) => Err(Stop::Unprinted),
     }

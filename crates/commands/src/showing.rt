@@ -7,8 +7,8 @@ ghost use Rattle.osek_io.specs.Reads.{OnlyReads};
 ghost use Rattle.flow_text.specs.Texts.{show_text};
 ghost use Rattle.commands.specs.Fitting.{IsLeastTable};
 ghost use Rattle.command_runs.specs.Outside.{outside};
-ghost use Rattle.osek_io.specs.{Counts.{Rose}, Pieces.{grown}};
-ghost use Rattle.command_runs.specs.Telling.{WritesFront};
+ghost use Rattle.osek_io.specs.Sunk.{sunk};
+ghost use Rattle.command_runs.specs.Playing.{given, Puts, PutsFront};
 ghost use Rattle.commands.specs.Printing.{PrintsWhole};
 ghost use Rattle.commands.specs.Showing.{IsDictated, ShowAnswers};
 
@@ -20,7 +20,7 @@ use global_cfg::{FlowEdge, edges};
 use image_model::{Image, Version};
 use numbered_flow::values;
 use numbered_table::Table;
-use osek_io::{PutError, Shelf, Sink};
+use osek_io::{PutBuffer, PutError, Shelf, Sink};
 use osek_standard::App;
 use osek_values::limits::LINE_MAX;
 use osek_values::{Memory, Seq};
@@ -63,38 +63,44 @@ fn derive(alloc: Global, app: App) -> Result<Dictated, Memory>
     dictated
 }
 
-/// Prints the text of what is dictated.
+/// Prints the text of what is dictated, or holds back its end.
 fn print_dictated<O: Sink>(
     out: &mut O,
+    buffer: &mut PutBuffer,
     dictated: &Dictated,
     line: &mut [u8],
 ) -> Result<(), PutError>
     requires begin { All (λ (e : AnEdge). IsPoint dictated.now.image.app e.from) dictated.now.edges }
     requires end { All (λ (e : AnEdge). IsPoint dictated.now.image.app e.to) dictated.now.edges }
     requires room { LINE_MAX ≤ length line.old }
-    ensures ok { OnOk result (O.written out.new ≡ grown (O.written out.old) (show_text dictated.now.image.app dictated.now.image.sites dictated.now.edges dictated.now.values)) }
-    ensures front { OnErr result (WritesFront (O.written out.old) (O.written out.new) (show_text dictated.now.image.app dictated.now.image.sites dictated.now.edges dictated.now.values)) }
-    ensures cause { OnErr result (Rose (O.faults out.old) (O.faults out.new)) }
-    ensures never_falls { O.faults out.old ≤ O.faults out.new }
+    ensures ok { OnOk result (Puts (given (sunk O.Sink out.old) buffer.old) (given (sunk O.Sink out.new) buffer.new) (show_text dictated.now.image.app dictated.now.image.sites dictated.now.edges dictated.now.values)) }
+    ensures front { OnErr result (PutsFront (given (sunk O.Sink out.old) buffer.old) (given (sunk O.Sink out.new) buffer.new) (show_text dictated.now.image.app dictated.now.image.sites dictated.now.edges dictated.now.values)) }
 {
     let app = &dictated.image.app;
     let edges = dictated.edges.as_slice();
-    print_sites(out, &dictated.image, Version::One, line)?;
-    print_edges(out, app, edges, line)?;
-    print_counts(out, app, dictated.values, edges.len(), line)?;
+    print_sites(out, buffer, &dictated.image, Version::One, line)?;
+    print_edges(out, buffer, app, edges, line)?;
+    print_counts(out, buffer, app, dictated.values, edges.len(), line)?;
     Ok(())
 }
 
-/// The same with room for a line.
+/// Prints all of it, with room for a line and for what is held back.
 fn print_shown<O: Sink>(alloc: Global, out: &mut O, dictated: &Dictated) -> Result<(), Stop>
     requires begin { All (λ (e : AnEdge). IsPoint dictated.now.image.app e.from) dictated.now.edges }
     requires end { All (λ (e : AnEdge). IsPoint dictated.now.image.app e.to) dictated.now.edges }
-    ensures { PrintsWhole (O.faults out.old) (O.faults out.new) (O.written out.old) (O.written out.new) (show_text dictated.now.image.app dictated.now.image.sites dictated.now.edges dictated.now.values) result }
+    ensures { PrintsWhole (sunk O.Sink out.old) (sunk O.Sink out.new) (show_text dictated.now.image.app dictated.now.image.sites dictated.now.edges dictated.now.values) result }
 {
     let Ok(mut line) = line_room(alloc) else {
         return Err(Stop::Memory);
     };
-    match print_dictated(out, dictated, &mut line) {
+    let Ok(mut buffer) = PutBuffer::new(alloc) else {
+        return Err(Stop::Memory);
+    };
+    match print_dictated(out, &mut buffer, dictated, &mut line) {
+        Ok(()) => {}
+        Err(PutError::Write) => return Err(Stop::Unprinted),
+    }
+    match buffer.flush(out) {
         Ok(()) => Ok(()),
         Err(PutError::Write) => Err(Stop::Unprinted),
     }

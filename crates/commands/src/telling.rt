@@ -2,6 +2,7 @@
 ghost use Rattle.std.specs.Prelude.{◌≡◌, ◌++◌, OnOk, OnErr, option_map, codes};
 ghost use Rattle.osek_io.specs.Counts.{Rose};
 ghost use Rattle.osek_io.specs.Pieces.{grown};
+ghost use Rattle.osek_io.specs.Sunk.{sunk};
 ghost use Rattle.commands.specs.Answering.{Tells};
 ghost use Rattle.commands.specs.Seen.{seen};
 ghost use Rattle.commands.specs.Statuses.{stop_status, stop_text, names_of, output_of, mode_of, text_input as the_text_input};
@@ -79,6 +80,7 @@ fn tell_output<E: Sink>(err: &mut E, command: &Option<Command<'_>>) -> Result<()
     ensures ok { OnOk result (E.written err.new ≡ grown (E.written err.old) (output_of (option_map seen command.now) ++ codes ": write\n")) }
     ensures front { OnErr result (WritesFront (E.written err.old) (E.written err.new) (output_of (option_map seen command.now) ++ codes ": write\n")) }
     ensures cause { OnErr result (Rose (E.faults err.old) (E.faults err.new)) }
+    ensures no_fault { OnOk result (E.faults err.new ≡ E.faults err.old) }
 {
     let output = output_word(command);
     put_two(err, output.as_bytes(), b": write\n")?;
@@ -90,6 +92,7 @@ fn tell_mode<E: Sink>(err: &mut E, command: &Option<Command<'_>>) -> Result<(), 
     ensures ok { OnOk result (E.written err.new ≡ grown (E.written err.old) (mode_of (option_map seen command.now) ++ codes ": no such mode\n")) }
     ensures front { OnErr result (WritesFront (E.written err.old) (E.written err.new) (mode_of (option_map seen command.now) ++ codes ": no such mode\n")) }
     ensures cause { OnErr result (Rose (E.faults err.old) (E.faults err.new)) }
+    ensures no_fault { OnOk result (E.faults err.new ≡ E.faults err.old) }
 {
     let mode = mode_word(command);
     put_two(err, mode.as_bytes(), b": no such mode\n")?;
@@ -107,6 +110,7 @@ fn tell_fault_in<E: Sink>(
     ensures ok { OnOk result (E.written err.new ≡ grown (E.written err.old) (fault_text (names_of (option_map seen command.now) input) place rule.now)) }
     ensures front { OnErr result (WritesFront (E.written err.old) (E.written err.new) (fault_text (names_of (option_map seen command.now) input) place rule.now)) }
     ensures cause { OnErr result (Rose (E.faults err.old) (E.faults err.new)) }
+    ensures no_fault { OnOk result (E.faults err.new ≡ E.faults err.old) }
 {
     tell_fault(err, name_of(command, input).as_bytes(), place, rule)
 }
@@ -121,6 +125,7 @@ fn tell_of<E: Sink>(
     ensures ok { OnOk result (E.written err.new ≡ grown (E.written err.old) (names_of (option_map seen command.now) input ++ said.now)) }
     ensures front { OnErr result (WritesFront (E.written err.old) (E.written err.new) (names_of (option_map seen command.now) input ++ said.now)) }
     ensures cause { OnErr result (Rose (E.faults err.old) (E.faults err.new)) }
+    ensures no_fault { OnOk result (E.faults err.new ≡ E.faults err.old) }
 {
     put_two(err, name_of(command, input).as_bytes(), said)
 }
@@ -134,6 +139,7 @@ fn tell_stop<E: Sink>(
     ensures ok { OnOk result (E.written err.new ≡ grown (E.written err.old) (stop_text (names_of (option_map seen command.now)) (output_of (option_map seen command.now)) (mode_of (option_map seen command.now)) stop.now)) }
     ensures front { OnErr result (WritesFront (E.written err.old) (E.written err.new) (stop_text (names_of (option_map seen command.now)) (output_of (option_map seen command.now)) (mode_of (option_map seen command.now)) stop.now)) }
     ensures cause { OnErr result (Rose (E.faults err.old) (E.faults err.new)) }
+    ensures no_fault { OnOk result (E.faults err.new ≡ E.faults err.old) }
 {
     match stop {
         Stop::Refused(refusal) => {
@@ -172,7 +178,7 @@ fn tell_stop<E: Sink>(
 
 /// Tells why a command stopped.
 pub fn refuse<E: Sink>(err: &mut E, command: &Option<Command<'_>>, stop: &Stop) -> u8
-    ensures { Tells (E.faults err.old) (E.faults err.new) (E.written err.old) (E.written err.new) (stop_text (names_of (option_map seen command.now)) (output_of (option_map seen command.now)) (mode_of (option_map seen command.now)) stop.now) (stop_status stop.now) result }
+    ensures { Tells (sunk E.Sink err.old) (sunk E.Sink err.new) (stop_text (names_of (option_map seen command.now)) (output_of (option_map seen command.now)) (mode_of (option_map seen command.now)) stop.now) (stop_status stop.now) result }
 {
     match tell_stop(err, command, stop) {
         Ok(()) => status(stop),

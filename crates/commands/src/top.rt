@@ -3,6 +3,7 @@ ghost use Rattle.std.specs.Prelude.{◌≡◌, ◌⊎◌, map, option_map, Resul
 ghost use Rattle.std.specs.String.{string_bytes};
 ghost use Rattle.osek_io.specs.Counts.{Rose};
 ghost use Rattle.osek_io.specs.Files.{Files};
+ghost use Rattle.osek_io.specs.Sunk.{sunk};
 ghost use Rattle.command_runs.specs.declared.stop.Stop.{Stop};
 ghost use Rattle.commands.specs.Due.{IsCalm, IsDue};
 ghost use Rattle.commands.specs.Statuses.{status_of};
@@ -76,7 +77,7 @@ fn run_command<F: Shelf, O: Sink, E: Sink>(
 ) -> u8
     ensures does { Does (option_map seen command.now)
         (CommandAnswers (outside F.Shelf O.Sink shelf.old out.old) (outside F.Shelf O.Sink shelf.new out.new) (option_map seen command.now))
-        (λ text status. Tells (E.faults err.old) (E.faults err.new) (E.written err.old) (E.written err.new) text status result) }
+        (λ text status. Tells (sunk E.Sink err.old) (sunk E.Sink err.new) text status result) }
 
     // Over files that are told, where no count of faults rose, the answer is the one that is due, or memory ran out.
     ensures exact { (files : Files) (due : Result (Unit {0}) Stop) → F.contents shelf.old ≡ Some files
@@ -108,7 +109,7 @@ pub fn osekfit<F: Shelf, O: Sink, E: Sink>(
 ) -> u8
     ensures does { Does (command_of (map string_bytes words.now))
         (CommandAnswers (outside F.Shelf O.Sink shelf.old out.old) (outside F.Shelf O.Sink shelf.new out.new) (command_of (map string_bytes words.now)))
-        (λ text status. Tells (E.faults err.old) (E.faults err.new) (E.written err.old) (E.written err.new) text status result) }
+        (λ text status. Tells (sunk E.Sink err.old) (sunk E.Sink err.new) text status result) }
 
     // Over files that are told, where no count of faults rose, the answer is the one that is due, or memory ran out.
     ensures exact { (files : Files) (due : Result (Unit {0}) Stop) → F.contents shelf.old ≡ Some files

@@ -1,5 +1,5 @@
 use Rattle.std.proofs.Common.{ap, Some, refl}
-use Rattle.osek_io.specs.Files.{Files}
+use Rattle.osek_io.specs.{Files.{Files}, Sunk.{sunk}}
 use Rattle.commands.specs.GeneratedFiles.{generated_files}
 use Rattle.commands.specs.Generating.{no_memory}
 use Rattle.command_runs.specs.Outside.{beside}
@@ -14,13 +14,13 @@ returns-in_default-line_room g c = λ shelf. no_memory refl
 
 pub returns-in-Err : goal.returns-in-Err
 returns-in-Err g c = λ shelf.
-    let same = beside shelf (g.O.Sink.faults c.args.out.now) (g.O.Sink.written c.args.out.now) in
+    let same = beside shelf (sunk g.O.Sink c.args.out.now) in
     own_answers same same c.args.seed c.args.tasks refl c.in-Err.stop
     (c.in-Err.ensures.stop (generated_files c.args.seed c.args.tasks) (ap (λ (f : Files). Some f) c.in-Ok.ensures))
 
 pub returns : goal.returns
 returns g c = λ shelf.
-    let before = beside shelf (g.O.Sink.faults c.args.out.now) (g.O.Sink.written c.args.out.now) in
-    let after = beside shelf (g.O.Sink.faults c.print_ran.new.out) (g.O.Sink.written c.print_ran.new.out) in
+    let before = beside shelf (sunk g.O.Sink c.args.out.now) in
+    let after = beside shelf (sunk g.O.Sink c.print_ran.new.out) in
     own_tells before after c.args.seed c.args.tasks c.in-Ok.shelf.files c.in-Ok-run_system.ran.counts c.in-Ok-run_system.ran.trace.bytes c.in-Ok.ensures
     c.in-Ok-run_system.ensures.run c.print_ran.result (c.print_ran.ensures shelf)

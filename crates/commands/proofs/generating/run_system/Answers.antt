@@ -1,8 +1,10 @@
-use Rattle.std.proofs.Common.{◌≡◌, ℕ, List, [], Some, Err, Ok, refl, ap, subst}
+use Rattle.std.proofs.Common.{ℕ, List, Some, Err, Ok, refl, ap}
 use Rattle.osek_standard.specs.declared.app.App.{App}
 use Rattle.image_model.specs.ImageTrace.{image_trace, has_trap}
 use Rattle.commands.specs.GeneratedFiles.{oil_name, code_name, events_name, default_mode}
 use Rattle.commands.specs.Generating.{AreLeastCounts, IsDefaultTrace}
+use Rattle.commands.specs.KeptTexts.{Kept}
+use Rattle.osek_io.specs.Sunk.{Sunk}
 use Rattle.command_runs.specs.Inputs.{OfFile}
 use Rattle.command_runs.specs.Outside.{Told, told, beside}
 use Rattle.command_runs.specs.Running.{RunAnswers}
@@ -11,6 +13,10 @@ use Rattle.command_runs.proofs.FaultlessReads.{earlier}
 use Rattle.command_runs.proofs.InputFiles.{of_map}
 use Rattle.commands.proofs.OwnRuns.{compile_stops, run_stops, run_tells, own_due, over_own}
 use Rattle.commands.proofs.generating.run_system.Goals as goal
+
+-- what a kept text tells as a sink
+abbrev kept : Kept → Sunk
+kept t = record { faults = t.faults; written = Some t.bytes }
 
 pub returns-in-Err-clause-stop : goal.returns-in-Err-clause-stop
 returns-in-Err-clause-stop g c = λ files e.
@@ -22,10 +28,10 @@ returns-in-Ok-run-clause-run g c =
     let app = c.in-Ok.app in
     let trace = c.run.new.out.bytes in
     let files = g.F.Shelf.contents c.args.shelf.now in
-    let before = beside (told g.F.Shelf c.args.shelf.now) c.new-trace.result.faults (Some c.new-trace.result.bytes) in
-    let after = beside (told g.F.Shelf c.run.new.shelf) c.run.new.out.faults (Some trace) in
+    let before = beside (told g.F.Shelf c.args.shelf.now) (kept c.new-trace.result) in
+    let after = beside (told g.F.Shelf c.run.new.shelf) (kept c.run.new.out) in
     let ran = earlier g.F.Shelf c.args.shelf.now c.compile.new.shelf c.in-Ok.ensures.same c.in-Ok.ensures.no_fault
-    (λ (t : Told). RunAnswers (beside t c.new-trace.result.faults (Some c.new-trace.result.bytes)) after i.app (image_trace i) (has_trap i) default_mode events_name (Ok tt)) c.in-Ok-run.ensures.answer in
+    (λ (t : Told). RunAnswers (beside t (kept c.new-trace.result)) after i.app (image_trace i) (has_trap i) default_mode events_name (Ok tt)) c.in-Ok-run.ensures.answer in
     let kernel = c.in-Ok-analyze.ensures.image in
     let tells = run_tells app i kernel before after trace (ap (λ t. Some t.bytes) c.new-trace.ensures) refl (Ok tt) (over_own app i kernel.is before after (Ok tt) ran) in
     over_app files oil_name code_name (λ (a : App). OfFile files events_name (λ (text : List ℕ). AreLeastCounts a c.in-Ok-analyze.analyzed.counts × IsDefaultTrace a text trace)) app
@@ -37,10 +43,10 @@ returns-in-Err-run-clause-stop g c = λ files e.
     let i = c.in-Ok-analyze.analyzed.image in
     let app = c.in-Ok.app in
     let s = c.in-Err-run.stop in
-    let before = beside (told g.F.Shelf c.args.shelf.now) c.new-trace.result.faults (Some c.new-trace.result.bytes) in
-    let after = beside (told g.F.Shelf c.run.new.shelf) c.run.new.out.faults (Some c.run.new.out.bytes) in
+    let before = beside (told g.F.Shelf c.args.shelf.now) (kept c.new-trace.result) in
+    let after = beside (told g.F.Shelf c.run.new.shelf) (kept c.run.new.out) in
     let ran = earlier g.F.Shelf c.args.shelf.now c.compile.new.shelf c.in-Ok.ensures.same c.in-Ok.ensures.no_fault
-    (λ (t : Told). RunAnswers (beside t c.new-trace.result.faults (Some c.new-trace.result.bytes)) after i.app (image_trace i) (has_trap i) default_mode events_name (Err s)) c.in-Err-run.ensures.answer in
+    (λ (t : Told). RunAnswers (beside t (kept c.new-trace.result)) after i.app (image_trace i) (has_trap i) default_mode events_name (Err s)) c.in-Err-run.ensures.answer in
     let kernel = c.in-Ok-analyze.ensures.image in
     let stops = run_stops app i kernel files before after e (Err s) (over_own app i kernel.is before after (Err s) ran) in
     rw c.own_stop-in-Err-run.ensures (own_due (g.F.Shelf.contents c.args.shelf.now) files app e c.in-Ok.ensures.app _ stops)

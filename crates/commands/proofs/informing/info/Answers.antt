@@ -1,6 +1,5 @@
 -- the image that was loaded, and what was printed of it
-use Rattle.std.proofs.Common.{◌≡◌, List, ℕ, refl, inl, inr, subst, sym}
-use Rattle.std.specs.Prelude.{◌⊎◌}
+use Rattle.std.proofs.Common.{List, ℕ, refl, inl, inr, subst, sym}
 use Rattle.std.specs.declared.result.Result.{Result}
 use Rattle.image_model.specs.declared.image.Image.{Image}
 use Rattle.flow_text.specs.Texts.{info_text}
@@ -11,7 +10,7 @@ use Rattle.command_runs.proofs.InputFiles.{of_map}
 use Rattle.commands.proofs.informing.info.Goals as goal
 
 -- what was printed of an image that was loaded
-told : (before after : Outside) (image : List ℕ) (i : Image) (r : Result (Unit {0}) Stop) → OfFile before.shelf.files image (λ b. SpellImage b i) → PrintsWhole before.faults after.faults before.printed after.printed (info_text i) r →
+told : (before after : Outside) (image : List ℕ) (i : Image) (r : Result (Unit {0}) Stop) → OfFile before.shelf.files image (λ b. SpellImage b i) → PrintsWhole before.out after.out (info_text i) r →
     InfoAnswers before after image r
 told before after image i _ holds (inl memory) = subst (InfoAnswers before after image) (sym memory.0) (stops _ no_memory memory.1)
 told before after image i r holds (inr printed) = tells r (of_map before.shelf.files image _ _ (λ b spells. (i, spells, printed)) holds)

@@ -1,10 +1,9 @@
--- the front of the buffer is the line
+-- the front of the line's room is the line
 use Rattle.std.proofs.Common.{◌∙◌}
-use Rattle.flow_text.specs.FlowLines.{edge_line}
-use Rattle.commands.proofs.Printed.{front_of_buffer}
-use Rattle.command_runs.proofs.Results.{on_err}
 use Rattle.commands.proofs.printing.print_edge.Goals as goal
 
-pub returns-in_err-put_all-clause-front : goal.returns-in_err-put_all-clause-front
-returns-in_err-put_all-clause-front g c =
-    on_err _ _ (front_of_buffer _ _ c.front.result.now (edge_line c.args.app.now c.args.edge) (c.front.ensures ∙ c.write_edge_line-size.ensures.line) c.in_err-put_all.ensures.part)
+pub returns-clause-ok : goal.returns-clause-ok
+returns-clause-ok g c = rw (c.front.ensures ∙ c.write_edge_line-size.ensures.line) at c.put_line.ensures.ok
+
+pub returns-clause-front : goal.returns-clause-front
+returns-clause-front g c = rw (c.front.ensures ∙ c.write_edge_line-size.ensures.line) at c.put_line.ensures.front

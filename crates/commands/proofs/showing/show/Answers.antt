@@ -1,11 +1,10 @@
 -- the application of the texts, and what was printed of it
-use Rattle.std.proofs.Common.{◌≡◌, List, ℕ, refl, inl, inr, subst, sym, Err}
-use Rattle.std.specs.Prelude.{◌⊎◌}
+use Rattle.std.proofs.Common.{◌≡◌, List, ℕ, refl, inl, inr, subst, sym}
 use Rattle.std.specs.declared.result.Result.{Result}
 use Rattle.osek_standard.specs.declared.app.App.{App}
 use Rattle.flow_text.specs.Texts.{show_text}
-use Rattle.command_runs.specs.{Inputs.{no_memory}, Outside.{Told, Outside, beside, outside}, declared.stop.Stop.{Stop}}
-use Rattle.commands.specs.{Compiling.{OfApp, CompileStops}, Printing.{PrintsWhole, PrintAnswers}, Showing.{IsDictated, TellsLeast, ShowAnswers, stops, tells}}
+use Rattle.command_runs.specs.{Inputs.{no_memory}, Outside.{Outside, outside}, declared.stop.Stop.{Stop}}
+use Rattle.commands.specs.{Compiling.{OfApp}, Printing.{PrintsWhole, PrintAnswers}, Showing.{IsDictated, TellsLeast, ShowAnswers, stops, tells}}
 use Rattle.commands.specs.declared.showing.Dictated.{Dictated}
 use Rattle.commands.proofs.Compiles.{over_app}
 use Rattle.commands.proofs.ShownEdges.{begin_at_points, end_at_points}
@@ -13,7 +12,7 @@ use Rattle.commands.proofs.showing.show.Goals as goal
 
 -- what was printed of an application that was compiled
 shown : (before after : Outside) (oil code : List ℕ) (app : App) (x : Dictated) (r : Result (Unit {0}) Stop) → OfApp before.shelf.files oil code (λ a. a ≡ app) → IsDictated app x →
-    PrintsWhole before.faults after.faults before.printed after.printed (show_text x.image.app x.image.sites x.edges x.values) r → ShowAnswers before after oil code r
+    PrintsWhole before.out after.out (show_text x.image.app x.image.sites x.edges x.values) r → ShowAnswers before after oil code r
 shown before after oil code app x _ given is (inl memory) = subst (ShowAnswers before after oil code) (sym memory.0) (stops _ (inl no_memory) memory.1)
 shown before after oil code app x r given is (inr printed) =
     tells r (over_app before.shelf.files oil code (λ (a : App). (text : List ℕ) × TellsLeast a text × PrintAnswers before after text r) app

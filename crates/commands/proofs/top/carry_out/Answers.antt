@@ -1,6 +1,7 @@
 -- the answer of the command that it is
 use Rattle.std.proofs.Common.{refl, sym, subst, Some}
 use Rattle.commands.specs.Answering.{CommandAnswers}
+use Rattle.osek_io.specs.Sunk.{sunk}
 use Rattle.command_runs.specs.Outside.{outside}
 use Rattle.commands.specs.Seen.{seen}
 use Rattle.commands.specs.declared.words.Command.{Command}
@@ -11,7 +12,7 @@ returns-in-Build g c =
     subst (λ (k : Command). CommandAnswers
     (outside g.F.Shelf g.O.Sink c.args.shelf.now c.args.out.now)
     (outside g.F.Shelf g.O.Sink c.build.new.shelf c.args.out.now)
-    (Some (seen k)) c.build.result) (sym c.in-Build.is) (c.build.ensures.answer (g.O.Sink.faults c.args.out.now) (g.O.Sink.written c.args.out.now), refl, refl)
+    (Some (seen k)) c.build.result) (sym c.in-Build.is) (c.build.ensures.answer (sunk g.O.Sink c.args.out.now), refl)
 
 pub returns-in-Replay : goal.returns-in-Replay
 returns-in-Replay g c =
@@ -32,4 +33,4 @@ returns-in-Upgrade g c =
     subst (λ (k : Command). CommandAnswers
     (outside g.F.Shelf g.O.Sink c.args.shelf.now c.args.out.now)
     (outside g.F.Shelf g.O.Sink c.upgrade.new.shelf c.args.out.now)
-    (Some (seen k)) c.upgrade.result) (sym c.in-Upgrade.is) (c.upgrade.ensures.answer (g.O.Sink.faults c.args.out.now) (g.O.Sink.written c.args.out.now), refl, refl)
+    (Some (seen k)) c.upgrade.result) (sym c.in-Upgrade.is) (c.upgrade.ensures.answer (sunk g.O.Sink c.args.out.now), refl)

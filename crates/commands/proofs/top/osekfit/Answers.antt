@@ -1,9 +1,10 @@
 -- the command that the words are, its answer, and that it is the one which is due
-use Rattle.std.proofs.Common.{ℕ, List, refl, sym, subst, map, Global, Err}
+use Rattle.std.proofs.Common.{ℕ, List, sym, subst, map, Global, Err}
 use Rattle.std.specs.String.{string_bytes}
 use Rattle.std.specs.declared.option.Option.{Option}
 use Rattle.commands.specs.Answering.{CommandAnswers, Does, Tells}
 use Rattle.commands.specs.Due.{IsDue}
+use Rattle.osek_io.specs.Sunk.{sunk}
 use Rattle.command_runs.specs.Outside.{outside}
 use Rattle.commands.specs.Words.{Command, command_of}
 use Rattle.command_runs.specs.declared.stop.Stop.TheVariants as stop
@@ -15,7 +16,7 @@ pub returns-in-Ok-clause-does : goal.returns-in-Ok-clause-does
 returns-in-Ok-clause-does g c =
     subst (λ (k : Option Command). Does k
     (CommandAnswers (outside g.F.Shelf g.O.Sink c.args.shelf.now c.args.out.now) (outside g.F.Shelf g.O.Sink c.run_command.new.shelf c.run_command.new.out) k)
-    (λ (text : List ℕ) (status : ℕ). Tells (g.E.Sink.faults c.args.err.now) (g.E.Sink.faults c.run_command.new.err) (g.E.Sink.written c.args.err.now) (g.E.Sink.written c.run_command.new.err) text status c.run_command.result))
+    (λ (text : List ℕ) (status : ℕ). Tells (sunk g.E.Sink c.args.err.now) (sunk g.E.Sink c.run_command.new.err) text status c.run_command.result))
     c.in-Ok.ensures c.run_command.ensures.does
 
 pub returns-in-Ok-clause-exact : goal.returns-in-Ok-clause-exact
@@ -33,6 +34,6 @@ pub returns-in-Err-clause-exact : goal.returns-in-Err-clause-exact
 returns-in-Err-clause-exact g c = λ files due told calm still is.
     exact_of files (g.F.Shelf.contents c.args.shelf.now) told
     (outside g.F.Shelf g.O.Sink c.args.shelf.now c.args.out.now)
-    (g.F.Shelf.read_faults c.args.shelf.now) (g.F.Shelf.write_faults c.args.shelf.now) (g.O.Sink.faults c.args.out.now) (g.O.Sink.written c.args.out.now)
-    (g.E.Sink.faults c.args.err.now) (g.E.Sink.faults c.refuse.new.err) (g.E.Sink.written c.args.err.now) (g.E.Sink.written c.refuse.new.err)
+    (g.F.Shelf.read_faults c.args.shelf.now) (g.F.Shelf.write_faults c.args.shelf.now) (sunk g.O.Sink c.args.out.now)
+    (sunk g.E.Sink c.args.err.now) (sunk g.E.Sink c.refuse.new.err)
     (command_of (map (string_bytes {Z = Global}) c.args.words.now)) c.refuse.result calm still due is (returns-in-Err-clause-does g c)

@@ -3,6 +3,7 @@ use Rattle.std.proofs.Common.{refl, inl}
 use Rattle.osek_standard.specs.TraceText.{kernel_trace}
 use Rattle.osek_standard.specs.declared.app.App.{App}
 use Rattle.image_model.specs.ImageTrace.{image_trace, has_trap}
+use Rattle.osek_io.specs.Sunk.{sunk}
 use Rattle.command_runs.specs.Inputs.{no_memory}
 use Rattle.command_runs.specs.Outside.{Told, beside, outside}
 use Rattle.command_runs.specs.Running.{RunAnswers}
@@ -20,7 +21,7 @@ returns-clause-answer g c =
     runs c.run.result (over_app (g.F.Shelf.contents c.args.shelf.now) c.args.oil.now c.args.code.now (λ (app : App). RunAnswers before after app (kernel_trace app) never c.args.mode.now c.args.events.now c.run.result) c.in-Ok.app
     (kernel_runs before after c.args.mode.now c.args.events.now c.in-Ok.app i c.in-Ok-general.ensures.app c.in-Ok-general.ensures.forms c.run.result
     (earlier g.F.Shelf c.args.shelf.now c.compile.new.shelf c.in-Ok.ensures.same c.in-Ok.ensures.no_fault
-    (λ (t : Told). RunAnswers (beside t (g.O.Sink.faults c.args.out.now) (g.O.Sink.written c.args.out.now)) after i.app (image_trace i) (has_trap i) c.args.mode.now c.args.events.now c.run.result) c.run.ensures.answer))
+    (λ (t : Told). RunAnswers (beside t (sunk g.O.Sink c.args.out.now)) after i.app (image_trace i) (has_trap i) c.args.mode.now c.args.events.now c.run.result) c.run.ensures.answer))
     c.in-Ok.ensures.app)
 
 pub returns-clause-same : goal.returns-clause-same
