@@ -1,5 +1,6 @@
 //! Laws over the definitions.
 ghost use Rattle.commands.specs.Laws.{SomeIsDue, OneIsDue, OneImageIsBuilt, WhatIsBuiltReplays, WhatIsBuiltIsTheKernel, WhatIsUpgradedReplays, WhatIsUpgradedPrintsTheSame};
+ghost use Rattle.commands.specs.OneText.{OneTableIsWritten, OneTextIsShown, OneLineIsGenerated};
 
 /// Over files of bytes one answer is due to each command, and no other.
 pub fn one_answer()
@@ -10,6 +11,21 @@ pub fn one_answer()
 /// The bytes that `build` stores are a function of its two texts.
 pub fn one_image_is_built()
     ensures { OneImageIsBuilt }
+{}
+
+/// The least table of an application is written in one way, so that the number of its values is one too.
+pub fn one_table_is_written()
+    ensures { OneTableIsWritten }
+{}
+
+/// What `show` prints is a function of its two texts.
+pub fn one_text_is_shown()
+    ensures { OneTextIsShown }
+{}
+
+/// What `gen` prints is a function of its two numbers.
+pub fn one_line_is_generated()
+    ensures { OneLineIsGenerated }
 {}
 
 /// What `build` stores, `replay` reads and runs to the end of the events, and it prints the kernel's trace.

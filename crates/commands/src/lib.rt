@@ -19,7 +19,10 @@ mod words;
 pub use building::build;
 pub use generating::generate_and_run;
 pub use informing::info;
-pub use laws::{one_answer, one_image_is_built, what_is_built_replays, what_is_upgraded_replays};
+pub use laws::{
+    one_answer, one_image_is_built, one_line_is_generated, one_table_is_written, one_text_is_shown,
+    what_is_built_replays, what_is_upgraded_replays,
+};
 pub use showing::{Dictated, show};
 pub use top::osekfit;
 pub use tracing::trace;
