@@ -3,11 +3,12 @@
 
 For each number of tasks it makes an application by a seed, runs `build` and `show` on it, and `replay` of as many random events
 as asked for, each in a process of its own. The table gives user and system time in seconds, the largest memory in MB, and the
-numbers that the program prints; behind `replay` stands the time that md5sum needs for the trace. The last line is the time that it
-needs for 100 MB here, to compare machines by.
+numbers that the program prints; behind `replay` stands the time that md5sum needs for the trace. A second table is of applications
+whose tasks hold resources in every order (`make_stacks.py`): `show`, and how many times as long it takes as md5sum needs for 100 MB
+here. The last line is that time, to compare machines by.
 
     bench/run.py crates/osekfit/out/osekfit
-    bench/run.py --tasks 2,4 --events 10000 crates/osekfit/out/osekfit
+    bench/run.py --tasks 2,4 --events 10000 --stacks 5x1,5x4x72 crates/osekfit/out/osekfit
 """
 import os
 import shutil
@@ -21,6 +22,7 @@ sys.path.insert(0, os.path.join(os.path.dirname(os.path.dirname(os.path.abspath(
 
 import given
 import make_app
+import make_stacks
 
 Run = namedtuple('Run', 'status seconds megabytes')
 """How a process ended: its status (None where it was stopped, for its time or by a signal), its time, its largest memory."""
@@ -85,6 +87,15 @@ def measured(program, tasks, words, folder):
     return cells + [cell for one in runs for cell in cells_of(one)] + checked
 
 
+def measured_stacks(program, size, words, folder, checksum):
+    """A line of the second table."""
+    make_stacks.write_app(size, folder)
+    shown = run([program, 'show', 'app.oil', 'app.code'], folder, 'show.out', words.limit)
+    counts = counts_of(folder) if shown.status == 0 else {}
+    times = '%.2f' % (shown.seconds / checksum) if shown.status == 0 else '-'
+    return [str(number) for number in size] + [counts.get(name, '-') for name in ('points', 'values', 'edges')] + cells_of(shown) + [times]
+
+
 def cells_of(one):
     seconds = '%.2f' % one.seconds if one.status == 0 else 'stopped' if one.status is None else 'status %d' % one.status
     return [seconds, '%.1f' % one.megabytes]
@@ -104,12 +115,21 @@ def arguments():
     parser = given.Parser(__doc__)
     parser.add_argument('program', metavar='PROGRAM', help='the built osekfit')
     parser.add_argument('--tasks', default='2,4,8,16', help='numbers of tasks, parted by commas')
+    parser.add_argument('--stacks', default='5x1x0,6x1x0,7x1x0,5x4x72,6x8x100', help='resources x tasks x activations, parted by commas')
     parser.add_argument('--events', type=int, default=1000000, metavar='N', help='how many events are replayed')
     parser.add_argument('--seed', type=int, default=1)
     parser.add_argument('--limit', type=float, default=600, metavar='SECONDS', help='how long one command may take')
     parser.add_argument('--keep', metavar='DIR', help='where the texts and outputs are kept')
     return parser.parse_args()
 
+
+def stack_sizes(text):
+    """The sizes that the option names; a number that is left out is 1 task or no activation."""
+    sizes = [[int(number) for number in part.split('x')] for part in text.split(',') if part]
+    return [make_stacks.Size(*(size + [1, 0][len(size) - 1:])) for size in sizes]
+
+
+STACK_HEADINGS = ['resources', 'tasks', 'calls', 'points', 'values', 'edges', 'show s', 'MB', 'md5sums']
 
 HEADINGS = ['tasks', 'points', 'values', 'edges', 'n/s/d/g', 'build s', 'MB', 'show s', 'MB', 'replay s', 'MB', 'md5sum s']
 
@@ -125,7 +145,14 @@ def main():
     try:
         for tasks in map(int, words.tasks.split(',')):
             printed(measured(program, tasks, words, os.path.join(folder, 'tasks%d' % tasks)), widths)
-        print('md5sum of 100 MB: %.2f s' % checksum_seconds(folder))
+        checksum = checksum_seconds(folder)
+        stack_widths = [9, 5, 5, 6, 9, 7, 8, 6, 7]
+        print()
+        printed(STACK_HEADINGS, stack_widths)
+        for size in stack_sizes(words.stacks):
+            name = 'stacks' + 'x'.join(map(str, size))
+            printed(measured_stacks(program, size, words, os.path.join(folder, name), checksum), stack_widths)
+        print('md5sum of 100 MB: %.2f s' % checksum)
     finally:
         if not words.keep:
             shutil.rmtree(folder)

@@ -41,10 +41,10 @@ fn count_set(end: usize, sets: &NumberedSets, component: usize) -> u64
     ensures { result ≡ number_count (set_of sets.now component) }
 {
     let mut found = 0;
-    for number in 0..end {
-        if sets.has(component, number) {
-            found += 1;
-        }
+    let mut number = sets.next(component, 0, end);
+    while number < end {
+        found += 1;
+        number = sets.next(component, number + 1, end);
     }
     found
 }
