@@ -68,9 +68,6 @@ after_none (y ∷ xs) c v e = elim (cases_Bool (names c y)) [
 pub found_at : {o : Option Change} (xs : List Change) (c d : ℕ) → c ≡ d → find (λ (y : Change). y.component.0 == c) xs ≡ o → find (λ (y : Change). y.component.0 == d) xs ≡ o
 found_at xs c d same e = ap (λ (k : ℕ). find (λ (y : Change). y.component.0 == k) xs) (sym same) ∙ e
 
-pub after_same : (xs changes : List Change) (k t : ℕ) (v w : PartValue) → w ≡ value_after xs k v → xs ≡ changes → k ≡ t → w ≡ value_after changes t v
-after_same xs changes k t v w e same number = e ∙ ap (λ (ys : List Change). value_after ys k v) same ∙ ap (λ (i : ℕ). value_after changes i v) number
-
 -- another block changes no priority
 pub below_at_block : (app : App) (u limit : ℕ) (b : BlockNo) (v : PartValue) → is_below app u limit (val_of (part_at_block b v)) ≡ is_below app u limit (val_of v)
 below_at_block app u limit b (OfTask Suspended) = refl
@@ -78,10 +75,6 @@ below_at_block app u limit b (OfTask (Live x)) = refl
 below_at_block app u limit b (OfTask (Waiting c)) = refl
 below_at_block app u limit b (OfEvent e) = refl
 below_at_block app u limit b (OfAlarm e) = refl
-
--- the conditions of limits, for one task more
-pub no_tests : (app : App) (changes : List Change) (claim : Claim) → AreTests app changes claim 0 []
-no_tests app changes claim = record { passes = λ value vals h. passes_none app value; means = λ value vals h u lt. absurd (omega (arith, lt)) }
 
 module _ (app : App) (changes : List Change) (claim : Claim) (t : ℕ) (known : t < length app.tasks) where
   -- the finding says of a value of task t whether the task is under its limit after the changes

@@ -186,20 +186,6 @@ module _ (app : App) (entry : Entry) (effect : EffectCase) where
     pub there : (value : ℕ → PartValue) → Takes app entry effect value → Among (value t.0) members
     there value takes = contained_among members (value t.0) (member_first app entry effect t.0 lt value takes)
 
-    over_itself : (a : Asked) (value : ℕ → PartValue) → is_that_task (running_of a) t.0 ≡ true → Decides app value a (decision.To (Some t)) → ⊥
-    over_itself asked.No value e s = absurd (cc)
-    over_itself (asked.Maybe u) value e s =
-        let same : u.0 ≡ t.0 = eqb-true u.0 t.0 e in
-        let above = s.above in
-        let equal : task_priority app value u.0 ≡ task_priority app value t.0 = ap (task_priority app value) same in
-        omega (arith, above, equal)
-    over_itself asked.Left value e s = absurd (cc)
-    over_itself asked.Free value e s = absurd (cc)
-
-    -- the running task isn't dispatched
-    pub not_over_itself : is_that_task (running_of effect.asked) t.0 ≡ true → (gs : List OutcomeGroup) → AddsGroups app entry effect IsAnything (decision.To (Some t)) gs gs
-    not_over_itself e gs = nothing_more IsAnything (decision.To (Some t)) gs (λ value takes p s. over_itself effect.asked (after value) e s)
-
     -- a loop over priorities
     pub no_priority : (gs : List OutcomeGroup) → AddsGroups app entry effect (HasPriority app effect t.0 []) (decision.To (Some t)) gs gs
     no_priority gs = nothing_more (HasPriority app effect t.0 []) (decision.To (Some t)) gs (λ value takes h s. contained_among [] h.own.priority h.among)

@@ -305,10 +305,6 @@ module _ (app : App) (entry : Entry) (effect : EffectCase) where
 
   -- a task that isn't the application's doesn't run
   module _ (t : TaskNo) (runs : effect.asked ≡ asked.Maybe t) where
-    running_is : (d : Decision) (value : ℕ → PartValue) → Decides app value (asked.Maybe t) d → IsLiveTask app value t.0
-    running_is decision.Keep value s = s.running
-    running_is (decision.To None) value s = absurd s
-    running_is (decision.To (Some u)) value s = s.running
 
     maybe_covers_by : (a b : List OutcomeCase) → AddsCases app entry effect IsAnything decision.Keep [] a → AddsWinners app entry effect (length app.tasks) a b → (value : ℕ → PartValue) → Takes app entry effect value →
         (d : Decision) → Decides app (after value) (asked.Maybe t) d → Scheduled app entry effect value d → HasSomeOutcome app effect b d value

@@ -31,8 +31,6 @@ need_is app u v o need is h = by_value v (subst (λ (x : Option Candidate). IsNe
     by_value (Waiting b) h limit e = omega (arith, h)
 
 module _ (app : App) (changes : List Change) (u : ℕ) where
-  pub no_need : (values : List PartValue) (need : ℕ) → IsNeedOfSet app changes u values 0 need
-  no_need values need j d lt = absurd (omega (arith, lt))
 
   pub more_needed : (values : List PartValue) (i : ℕ) (item : PartValue) (need own least : ℕ) → i < length values → item ≡ get_or values i item → IsNeedOfSet app changes u values i need → IsNeed app u (val_of (value_after changes u item)) own →
       least ≤ need → least ≤ own → IsNeedOfSet app changes u values (i + 1) least
@@ -81,15 +79,6 @@ module _ (app : App) (changes : List Change) (u : ℕ) where
   module _ (to : PartValue) (becomes : (v : PartValue) → value_after changes u v ≡ to) where
     pub need_set : (values : List PartValue) (n need : ℕ) → IsNeed app u (val_of to) need → IsNeedOfSet app changes u values n need
     need_set values n need h j d lt limit e = h limit (subst (λ (w : PartValue). IsTrue (is_below app u limit (val_of w))) (becomes (get_or values j d)) e)
-
-    pub none_within : candidate_of app u (val_of to) ≡ None → (values : List PartValue) → AreWithin app changes u values []
-    none_within none values v own m e = let f : None ≡ Some own = sym none ∙ sym (ap (λ (w : PartValue). candidate_of app u (val_of w)) (becomes v)) ∙ e in absurd (cc)
-
-    pub one_within : (x : Candidate) → candidate_of app u (val_of to) ≡ Some x → (values : List PartValue) → AreWithin app changes u values (x.priority ∷ [])
-    one_within x is values v own m e =
-        let f : Some x ≡ Some own = sym is ∙ sym (ap (λ (w : PartValue). candidate_of app u (val_of w)) (becomes v)) ∙ e in
-        let same : x ≡ own = cc in
-        among_contained (x.priority ∷ []) own.priority (inl (ap (λ (y : Candidate). y.priority) (sym same)))
 
 -- a fact of each item of a list with one more
 each_more : {T : Type 0} (P : ℕ → T → Type 0) (k : ℕ) (xs : List T) (new none : T) → length xs ≡ k → ((u : ℕ) → u < k → P u (get_or xs u none)) → P k new → (u : ℕ) → u < k + 1 → P u (get_or (xs ++ new ∷ []) u none)

@@ -117,9 +117,6 @@ pub record AreMade (rule : Rule) (entry : Entry) (k : ℕ) (sets : List ValueSet
   pub each : (c : ℕ) → c < k → ArePassed rule c (set_at entry c).domain (set_at entry c).members (get_or sets c empty_set)
   pub some : (c : ℕ) → c < k → 0 < length (get_or sets c empty_set).members
 
-pub made_none : (rule : Rule) (entry : Entry) → AreMade rule entry 0 []
-made_none rule entry = record { size = refl; each = λ c lt. absurd (omega (arith, lt)); some = λ c lt. absurd (omega (arith, lt)) }
-
 -- a fact of each set of a list with one more
 each_more : (P : ℕ → ValueSet → Type 0) (k : ℕ) (sets : List ValueSet) (new : ValueSet) → length sets ≡ k → ((c : ℕ) → c < k → P c (get_or sets c empty_set)) → P k new → (c : ℕ) → c < k + 1 → P c (get_or (sets ++ new ∷ []) c empty_set)
 each_more P k sets new size h last c lt = elim (cases_lt c k) [

@@ -1,6 +1,5 @@
 pub mod Arrivals
 pub mod Assembly
-pub mod Ends
 pub mod Instructions
 pub mod Passing
 pub mod RuleGroups

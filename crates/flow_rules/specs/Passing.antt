@@ -27,14 +27,3 @@ pub record ArePassed (rule : Rule) (c : ℕ) (d : Domain) (old : List PartValue)
 -- each set has a value that the rule takes
 abbrev pub AreTaken : Rule → Entry → Type 0
 AreTaken rule entry = (c : ℕ) → c < length entry.sets → Taken rule entry c
-
--- the rule takes the value of component c
-abbrev pub is_taken : Rule → ℕ → PartValue → Bool
-is_taken rule c v = not (list_any (is_failed c v) rule.conditions)
-
-abbrev pub is_filled : ValueSet → Bool
-is_filled set = not (length set.members == 0)
-
--- the rule takes some value of the component that the condition names, if the entry has it
-abbrev pub can_pass : Rule → Entry → Condition → Bool
-can_pass rule entry x = nat_le (length entry.sets) x.component.0 || list_any (is_taken rule x.component.0) (set_at entry x.component.0).members

@@ -3,17 +3,13 @@
 
 mod applying;
 mod arrivals;
-mod ends;
 mod expanding;
 mod group;
 pub mod laws;
-mod possible;
 mod ruling;
 
 pub use applying::apply;
 pub use arrivals::arrival_groups;
-pub use ends::{has_possible_end, is_open_end};
 pub use expanding::rules;
 pub use group::{RuleGroup, ValueRules};
-pub use possible::is_possible;
 pub use ruling::rule_groups;

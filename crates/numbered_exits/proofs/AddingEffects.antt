@@ -55,14 +55,6 @@ pub all_decided : (app : App) (pool : List Values) (leaving : Leaving) (after : 
 all_decided app pool leaving after before now h = record { kept = h.kept; each = h.each; whole = λ value d within decides. h.whole value d within decides tt }
 
 module _ (app : App) (entry : Entry) where
-  pub no_effects : (pool : List Values) (groups : List ExitGroup) → AreKnownGroups pool groups → AddsEffects app entry [] pool groups pool groups
-  no_effects pool groups known = record {
-    longer = longer_itself pool;
-    known = known;
-    kept = λ x m. m;
-    each = λ x m. inl m;
-    some = λ effect m. absurd (contained_among [] effect m);
-  }
 
   more_effects : (effects : List EffectCase) (effect : EffectCase) (pool mid after : List Values) (a b c : List ExitGroup) → AddsEffects app entry effects pool a mid b → AddsEffects app entry (effect ∷ []) mid b after c →
       AddsEffects app entry (effects ++ effect ∷ []) pool a after c

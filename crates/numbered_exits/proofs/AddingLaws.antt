@@ -27,8 +27,6 @@ use Rattle.numbered_exits.proofs.NumberLaws.{member_number}
 use Rattle.numbered_exits.proofs.OwnLevels.{own_levels, own_judged}
 
 module _ (app : App) (pool : List Values) (leaving : Leaving) where
-  abbrev Decided : NumberedEntry → Exit → Type 0
-  Decided after x = IsDecided app leaving.asked leaving.stay leaving.status (plain_entry pool after) x
 
   -- an exit is still there
   still : (before now : List ExitGroup) (d : Decision) (value : ℕ → PartValue) → ((x : Exit) → Contains (all_exits pool before) x → Contains (all_exits pool now) x)

@@ -11,7 +11,6 @@ pub mod KeptWords
 pub mod OtherWords
 pub mod MeetLaws
 pub mod SiftLaws
-pub mod ShownLaws
 pub mod FirstWords
 pub mod FurtherLaws
 pub mod FlatLaws

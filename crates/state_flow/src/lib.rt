@@ -2,14 +2,9 @@
 #![tactic(auto)]
 
 mod cells;
-mod counts;
-mod evaluation;
-mod least_table;
 mod starts;
 mod state_row;
 
 pub use cells::{Cell, join, next_waiting, place_behind};
-pub use counts::values;
-pub use least_table::solve;
 pub use starts::start_row;
 pub use state_row::row_of;

@@ -11,7 +11,7 @@ use Rattle.numbered_sets.proofs.ViewLaws.{same_view, still_known, same_domains}
 use Rattle.numbered_sets.proofs.NumberingLaws.{longer_onward}
 use Rattle.numbered_rules.specs.Applying.{KeepsDomains}
 use Rattle.numbered_rules.proofs.KeptDomains.{exact_keep}
-use Rattle.flow_cases.proofs.rules_at_points.outcomes_by_number.Goals as goal
+use Rattle.flow_cases.proofs.rules_at_points.outcomes.Goals as goal
 
 domains_kept : (ds : List Domain) → pool_domains (map no_values ds) ≡ ds
 domains_kept [] = refl
