@@ -88,6 +88,7 @@ module _ (app : App) (p : Point) (entry : Entry) (exits : List Exit) (is : IsPoi
           target = matches.target;
           within = λ c lt. subst (λ (v : PartValue). IsTrue (is_member (set_at entry c) v)) (sym (matches.parts c lt)) (at.within c lt);
           shows = matches.shows;
+          status = matches.status;
         };
       }
 
@@ -122,6 +123,7 @@ module _ (app : App) (p : Point) (entry : Entry) (exits : List Exit) (is : IsPoi
           target = r.target ∙ sym k.found.target;
           within = λ c lt. subst (λ (v : PartValue). IsTrue (is_member (set_at exit.entry c) v)) (sym (r.parts c lt)) (k.found.within c lt);
           shows = r.shows ∙ sym (exit_marks exit k.decision k.case.status k.found.decision k.found.status);
+          status = r.status ∙ sym k.found.status;
         };
       }
 
@@ -178,6 +180,7 @@ module _ (app : App) (p : Point) (entry : Entry) (exits : List Exit) (is : IsPoi
             target = x.matches.target;
             parts = λ c lt. x.matches.parts c lt ∙ x.has.parts c lt;
             shows = x.matches.shows;
+            status = x.matches.status;
           });
     }
 
@@ -199,6 +202,7 @@ module _ (app : App) (p : Point) (entry : Entry) (exits : List Exit) (is : IsPoi
             target = r.target ∙ sym k.target;
             parts = r.parts;
             shows = r.shows ∙ sym (exit_marks x o.decision k.effect.status o.decides k.status);
+            status = r.status ∙ sym k.status;
           });
     }
 

@@ -73,7 +73,6 @@ module _ (app : App) (p : Point) (entry new : Entry) (rule : Rule) (size : lengt
   ]
 
   module _ (rules : List Rule) (listed : Contains rules rule) (exact : Exact app p entry rules) where
-
     -- each value of a new set is made by a state of the entry
     pub value_shown : (c : ℕ) (v : PartValue) → c < component_count app → IsTrue (is_member (set_at new c) v) → IsMadeBy app p entry rule c v
     value_shown c v lt m =

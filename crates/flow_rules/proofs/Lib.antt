@@ -3,4 +3,3 @@ pub mod Arriving
 pub mod Assembling
 pub mod PointRules
 pub mod Leading
-pub mod RuleGroups

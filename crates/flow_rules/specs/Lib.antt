@@ -2,4 +2,3 @@ pub mod Arrivals
 pub mod Assembly
 pub mod Instructions
 pub mod Passing
-pub mod RuleGroups

@@ -55,7 +55,6 @@ pub all_decided : (app : App) (pool : List Values) (leaving : Leaving) (after : 
 all_decided app pool leaving after before now h = record { kept = h.kept; each = h.each; whole = λ value d within decides. h.whole value d within decides tt }
 
 module _ (app : App) (entry : Entry) where
-
   more_effects : (effects : List EffectCase) (effect : EffectCase) (pool mid after : List Values) (a b c : List ExitGroup) → AddsEffects app entry effects pool a mid b → AddsEffects app entry (effect ∷ []) mid b after c →
       AddsEffects app entry (effects ++ effect ∷ []) pool a after c
   more_effects effects effect pool mid after a b c h k = record {

@@ -27,7 +27,6 @@ use Rattle.numbered_exits.proofs.NumberLaws.{member_number}
 use Rattle.numbered_exits.proofs.OwnLevels.{own_levels, own_judged}
 
 module _ (app : App) (pool : List Values) (leaving : Leaving) where
-
   -- an exit is still there
   still : (before now : List ExitGroup) (d : Decision) (value : ℕ → PartValue) → ((x : Exit) → Contains (all_exits pool before) x → Contains (all_exits pool now) x)
       → HasDecided app leaving.stay leaving.status (all_exits pool before) d value → HasDecided app leaving.stay leaving.status (all_exits pool now) d value

@@ -15,3 +15,7 @@ pub mod ArrivingGroups
 pub mod LeavingPoints
 pub mod ReturningPoints
 pub mod EffectDomains
+pub mod BarredValues
+pub mod AllowedSets
+pub mod AllowedValues
+pub mod RuledExits

@@ -81,7 +81,6 @@ passed_begun rule pool c d =
 
 module _ (rule : Rule) (before : List Values) (c : ℕ) (d : Domain) (done : List PartValue) (pool : List Values) (x : Numbers) (v : PartValue) (n : ℕ) (after : List Values) (h : IsPassedSoFar rule before c d done pool x)
     (known : c < length pool) (grown : after ≡ set pool c (value_seen (seen_at pool c) (value_after rule.changes c v))) (is : IsNumberOf (values_at after c) (value_after rule.changes c v) n) where
-
   grows : IsLonger pool after
   grows = subst (IsLonger pool) (sym grown) (longer_with pool c (value_after rule.changes c v) known)
 

@@ -1,4 +1,4 @@
--- A value alone in the place of a set, and what the rules of values make of an entry out of what their shared rule makes.
+-- A value alone in the place of a set.
 use Rattle.std.proofs.Common.{◌≡◌, ◌≢◌, ℕ, ◌<◌, ◌^◌, Bool, true, false, ◌||◌, List, [], ◌∷◌, length, get_or, set, refl, sym, ap, subst, ◌∙◌, inl, inr, arith, IsTrue, get_or-set_same, get_or-set_other}
 use Rattle.std.specs.Prelude.{◌==◌}
 use Rattle.std.specs.List.{list_any}
@@ -17,10 +17,6 @@ use Rattle.flow_model.specs.declared.{rule.Rule.{Rule}, test.Condition.{Conditio
 use Rattle.flow_model.specs.declared.test.Test.TheVariants as test
 use Rattle.flow_model.specs.Tests.{passes, is_failed, PassesAt, value_after}
 use Rattle.flow_model.specs.Rules.{Applies, Comes, Taken, HasNone}
-use Rattle.flow_dispatch.specs.declared.group.End.{End}
-use Rattle.flow_rules.specs.declared.group.ValueRules.{ValueRules}
-use Rattle.flow_rules.specs.RuleGroups.{rule_at}
-use Rattle.flow_rules.proofs.Passing.{none_fails}
 use Rattle.numbered_sets.specs.declared.numbered_entry.NumberedEntry.{NumberedEntry}
 use Rattle.numbered_sets.specs.Numbers.{Numbers, numbers, has_number, with_number}
 use Rattle.numbered_sets.specs.NumberedEntries.{no_set, numbers_at, number_domains}
@@ -31,8 +27,6 @@ use Rattle.numbered_sets.proofs.PlainLaws.{ascending_in_order, member_of_plain, 
 use Rattle.numbered_sets.proofs.ViewLaws.{only_value, same_domains, same_view, still_known}
 use Rattle.numbered_rules.specs.Replacing.{IsReplaced}
 use Rattle.numbered_rules.proofs.NumbersPassing.{domains_alike, none_passes_bit}
-
--- ---- one set
 
 module _ (pool : List Values) (entry : NumberedEntry) (c : ℕ) (v : PartValue) (after : List Values) (new : NumberedEntry) (n : ℕ) (known : AreNumbersOf pool entry) (there : c < length entry.sets) (longer : IsLonger pool after)
     (is : IsNumberOf (values_at after c) v n) (write : new.sets ≡ set entry.sets c (with_number (numbers (numbers_at entry c).domain 0) n)) where
@@ -81,8 +75,3 @@ module _ (pool : List Values) (entry : NumberedEntry) (c : ℕ) (v : PartValue) 
         ∙ sym (plain_set_at after entry k)
         ∙ ap (λ (e : Entry). set_at e k) (same_view pool after entry longer known);
   }
-
-module _ (g : ValueRules) (x : End) where
-
-  abbrev c : ℕ
-  c = g.component.0

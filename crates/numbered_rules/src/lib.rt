@@ -3,9 +3,7 @@
 
 mod applying;
 pub mod laws;
-mod ruling;
 mod sifting;
 mod updating;
 
 pub use applying::{apply, apply_into};
-pub use ruling::rules;

@@ -147,7 +147,6 @@ module _ (cells : List (Cell Entry)) (place : ℕ) (cell : Cell Entry) (known : 
         }
 
 module _ (app : App) where
-
   pub started_more : (k : ℕ) (mode : ModeNo) (cells after : List (Cell Entry)) (row : TableRow) → mode.0 ≡ k → mode.0 < length app.modes → AreStarted app k cells → IsStartRow app mode row → AreJoined app cells (row ∷ []) after → AreStarted app (k + 1) after
   started_more k mode cells after row is known so_far first joined =
       let here : IsRowIn (sets_in after) row = joined.joins row (0, omega arith, refl) in

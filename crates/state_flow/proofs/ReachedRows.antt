@@ -63,7 +63,3 @@ module _ (app : App) (masks : HasMasks app) where
     allowed = allowed;
     filled = filled;
   }
-
-  module _ (p : Point) (entry : Entry) (proper : IsProperRow app (row_at p entry)) where
-
-    -- what a rule makes of the entry
