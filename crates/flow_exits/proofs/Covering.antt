@@ -35,7 +35,8 @@ use Rattle.flow_model.proofs.Standing.{active_there, active_within}
 use Rattle.flow_dispatch.specs.Deciding.{HasValues}
 use Rattle.flow_rules.specs.Arrivals.{arrival_rule, MayBegin, AreArrivals}
 use Rattle.flow_rules.proofs.Arriving.{all_arrivals, none_alone, task_alone, arrival_covered, arrival_shown}
-use Rattle.flow_exits.specs.Exits.{Exit, exit_mark, IsBySome, CoverSteps, CoverInstructions, IsFilled, IsExact, AreExact}
+use Rattle.flow_exits.specs.declared.exit.Exit.{Exit}
+use Rattle.flow_exits.specs.Exits.{exit_mark, IsBySome, CoverSteps, CoverInstructions, IsFilled, IsExact, AreExact}
 use Rattle.flow_exits.specs.Leaving.{IsOfEffects, HasExitFor, arrival_exit, AreExits}
 use Rattle.flow_exits.proofs.Steps.{changed, some_decision, decided, instruction_ends}
 

@@ -10,7 +10,7 @@ use Rattle.abstract_state.specs.Components.{component_count}
 use Rattle.flow_model.specs.declared.case.{EffectCase.{EffectCase}}
 use Rattle.flow_model.specs.Rules.{Applies, HasNone}
 use Rattle.flow_exits.specs.declared.stay.Stay.TheVariants as stay
-use Rattle.flow_exits.specs.Exits.{Exit}
+use Rattle.flow_exits.specs.declared.exit.Exit.{Exit}
 use Rattle.flow_exits.specs.Leaving.{IsOfEffects, HasExitsFor, AddsDecided, effect_rule}
 use Rattle.flow_exits.proofs.AfterEffect.{decided_comes, decisions_covered, nothing_taken}
 use Rattle.numbered_sets.specs.declared.numbered_entry.NumberedEntry.{NumberedEntry}

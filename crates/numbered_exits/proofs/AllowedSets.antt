@@ -126,4 +126,4 @@ module _ (app : App) (p : Point) (entry part : Entry) (h : IsAllowedPart app p e
   pub part_sound : All IsSound entry.sets → All IsSound part.sets
   part_sound sound = All-from_get_or IsSound part.sets empty_set (λ c lt.
       (let there : c < length entry.sets = let same = h.size in omega (arith, lt, same) in
-      sound_part (may_be app p c) (set_at entry c) (set_at part c) (All-get_or IsSound entry.sets c empty_set sound there) (h.each c there)))
+      sound_part (may_be app p c) (set_at entry c) (set_at part c) (All-get_or IsSound entry.sets c empty_set there sound) (h.each c there)))

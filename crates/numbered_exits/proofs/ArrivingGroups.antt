@@ -11,7 +11,7 @@ use Rattle.osek_standard.proofs.Members.{among_contained, contained_among, among
 use Rattle.abstract_state.specs.declared.table.Entry.{Entry}
 use Rattle.flow_model.specs.declared.rule.Rule.{Rule}
 use Rattle.flow_rules.specs.Arrivals.{arrival_rule, MayBegin, AreArrivals}
-use Rattle.flow_exits.specs.Exits.{Exit}
+use Rattle.flow_exits.specs.declared.exit.Exit.{Exit}
 use Rattle.flow_exits.specs.Leaving.{arrival_exit, IsArrivalExit}
 use Rattle.numbered_sets.specs.declared.numbered_entry.NumberedEntry.{NumberedEntry}
 use Rattle.numbered_sets.specs.Pools.{Values}

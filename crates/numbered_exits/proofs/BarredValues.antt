@@ -1,18 +1,21 @@
 -- Which values pass where values are barred.
-use Rattle.std.proofs.Common.{◌≡◌, ℕ, ◌<◌, Bool, true, false, not, List, [], ◌∷◌, refl, sym, ap, subst, ◌∙◌, inl, inr, IsTrue}
+use Rattle.std.proofs.Common.{◌≡◌, ℕ, ◌+◌, ◌<◌, Bool, true, false, not, List, [], ◌∷◌, ◌++◌, length, get_or, take, flat_map, refl, sym, ap, subst, ◌∙◌, inl, inr, arith, IsTrue}
 use Rattle.std.specs.Prelude.{if◌then◌else◌, Contains}
 use Rattle.std.proofs.lemmas.Bool.{cases_Bool}
+use Rattle.std.proofs.lemmas.Grind.{flat_map-append}
+use Rattle.std.proofs.lemmas.List.{append-nil, get_or_default, take_more}
 use Rattle.std.proofs.lemmas.List.Elements.{Contains-get_or}
 use Rattle.std.proofs.lemmas.Map.Views.{Contains-from_any}
+use Rattle.osek_values.specs.Numbers.{alarm_no}
 use Rattle.osek_standard.specs.declared.app.App.{App}
 use Rattle.osek_standard.proofs.Members.{Among, among_flat_map, flat_map_among, contained_among, among_contained}
 use Rattle.abstract_state.specs.declared.value.{Component.{Component}, ComponentNo.{ComponentNo}, PartValue.{PartValue}}
 use Rattle.abstract_state.specs.declared.value.Component.TheVariants as component
 use Rattle.abstract_state.specs.declared.table.Entry.{Entry}
-use Rattle.abstract_state.specs.Components.{components, component_at, component_count, component_number, component_no}
+use Rattle.abstract_state.specs.Components.{components, component_at, component_count, component_number, component_no, IsComponent}
 use Rattle.abstract_state.specs.Tables.{set_at, is_member}
 use Rattle.abstract_state.specs.ValueOrder.{same_part}
-use Rattle.abstract_state.proofs.ComponentLaws.{component_numbered}
+use Rattle.abstract_state.proofs.ComponentLaws.{component_known, component_numbered}
 use Rattle.abstract_state.proofs.OrderLaws.{part_right, part_itself}
 use Rattle.flow_model.specs.declared.{change.Change.{Change}, test.Condition.{Condition}}
 use Rattle.flow_model.specs.declared.test.Test.TheVariants as test
@@ -77,3 +80,14 @@ module _ (app : App) (changes : List Change) (from kept : Entry) where
         let itself : same_part (value c) (value c) ≡ true = part_itself (value c) in
         absurd (cc))
   ]
+
+-- ---- one component after another
+
+pub flat_more : {X Y : Type 0} (f : X → List Y) (xs : List X) (i : ℕ) (d : X) → i < length xs → flat_map f (take (i + 1) xs) ≡ flat_map f (take i xs) ++ f (get_or xs i d)
+flat_more f xs i d lt = ap (flat_map f) (take_more xs i d lt) ∙ flat_map-append f (take i xs) (get_or xs i d ∷ []) ∙ ap (λ ys. flat_map f (take i xs) ++ ys) (append-nil (f (get_or xs i d)))
+
+-- a component of the list is the application's
+pub listed_component : (app : App) (items : List Component) (i : ℕ) (d : Component) → items ≡ components app → i < length items → IsComponent app (get_or items i d)
+listed_component app items i d is lt =
+    let known : i < component_count app = omega (arith, lt, ap length is) in
+    subst (IsComponent app) (get_or_default (components app) i (component.Alarm (alarm_no 0)) d known ∙ ap (λ (xs : List Component). get_or xs i d) (sym is)) (component_known app i known)

@@ -19,3 +19,4 @@ pub mod BarredValues
 pub mod AllowedSets
 pub mod AllowedValues
 pub mod RuledExits
+pub mod RuledPoints

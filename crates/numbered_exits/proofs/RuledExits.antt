@@ -19,7 +19,7 @@ use Rattle.flow_model.specs.Tests.{PassesAll, values_after}
 use Rattle.flow_rules.specs.Assembly.{rule_of, AreAdded, AreAllAdded}
 use Rattle.flow_rules.specs.Instructions.{AddsInstructions}
 use Rattle.flow_rules.proofs.PointRules.{outcomes_added}
-use Rattle.flow_exits.specs.Exits.{Exit}
+use Rattle.flow_exits.specs.declared.exit.Exit.{Exit}
 use Rattle.numbered_sets.specs.Pools.{Values}
 use Rattle.numbered_exits.specs.declared.group.ExitGroup.{ExitGroup}
 use Rattle.numbered_exits.specs.Groups.{all_exits}
@@ -85,8 +85,12 @@ module _ (app : App) (p : Point) (entry from : Entry) (there : (value : ℕ → 
   pub instructions_added : (effects : List EffectCase) (before after : List Rule) → CoverEffects app p from effects → AreExactEffects app p from effects → AreAllAdded app p entry effects before after → AddsInstructions app p entry before after
   instructions_added effects before after covering exact added = record {
     effects = effects;
-    covering = λ s choice at active. covering s choice (record { well = at.well; point = at.point; within = there (abstract_of app s) at.within
-        (λ c lt. subst (λ (q : Point). IsAllowed app q c (abstract_of app s c)) at.point (well_part app s at.well c lt)) }) active;
+    covering = λ s choice at active. covering s choice (record {
+      well = at.well;
+      point = at.point;
+      within = there (abstract_of app s) at.within
+          (λ c lt. subst (λ (q : Point). IsAllowed app q c (abstract_of app s c)) at.point (well_part app s at.well c lt));
+    }) active;
     exact = λ allowed x value listed within passes. exact x value listed (there value within (λ c lt. allowed c (value c) lt (within c lt))) passes;
     added = added;
   }

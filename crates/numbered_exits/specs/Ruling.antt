@@ -11,7 +11,7 @@ use Rattle.flow_model.specs.declared.{case.{Decision.{Decision}, EffectCase.{Eff
 use Rattle.flow_model.specs.declared.test.Test.TheVariants as test
 use Rattle.flow_model.specs.Tests.{value_after}
 use Rattle.flow_rules.specs.Assembly.{rule_of}
-use Rattle.flow_exits.specs.Exits.{Exit}
+use Rattle.flow_exits.specs.declared.exit.Exit.{Exit}
 use Rattle.flow_exits.specs.Leaving.{IsOfEffects, HasExitsFor}
 
 -- a value is barred of which the changes make none that is kept

@@ -86,7 +86,10 @@ fn fits(app: &App, point: Point, task: usize, val: &Val) -> bool
     match point {
         Point::Halted | Point::Idle => true,
         Point::Task(block) => !owns(app, task, block) || stands_at(block, val),
-        Point::Routine { block: _, over: None } => true,
+        Point::Routine {
+            block: _,
+            over: None,
+        } => true,
         Point::Routine {
             block: _,
             over: Some(over),

@@ -5,9 +5,7 @@ ghost use Rattle.abstract_state.specs.Domains.{domains, domains_of};
 ghost use Rattle.abstract_state.specs.Tables.{set_at, is_member};
 ghost use Rattle.numbered_exits.specs.Ruling.{bars, bars_at, barred as barred_of};
 
-use abstract_state::{
-    ComponentNo, Entry, PartValue, component_number, components,
-};
+use abstract_state::{ComponentNo, Entry, PartValue, component_number, components};
 use flow_model::{Change, Condition, Test, value_after};
 use osek_standard::App;
 use osek_values::{Memory, Seq};

@@ -116,7 +116,13 @@ fn add_effect(
     let copy = copied_effect(alloc, effect)?;
     push_effect(alloc, app, copy, entry, pool, levels, &mut groups)?;
     let exits = exits(alloc, pool, groups.as_slice())?;
-    let outcomes = outcomes(alloc, app, effect.changes.as_slice(), from, exits.as_slice())?;
+    let outcomes = outcomes(
+        alloc,
+        app,
+        effect.changes.as_slice(),
+        from,
+        exits.as_slice(),
+    )?;
     add_rules(alloc, effect, outcomes.as_slice(), rules)
 }
 

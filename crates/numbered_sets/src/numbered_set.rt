@@ -120,5 +120,4 @@ impl NumberedSet {
     {
         split_words::are_clear(self.low, self.high, self.more.as_slice())
     }
-
 }

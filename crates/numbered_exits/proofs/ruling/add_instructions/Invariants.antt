@@ -7,7 +7,7 @@ use Rattle.numbered_exits.proofs.ruling.add_instructions.Given as goal
 
 abbrev pub invariant-loop-effect : goal.invariant-loop-effect
 invariant-loop-effect l = record {
-  added : AreAllAdded l.app l.point (plain_entry l.pool l.entry) (take l.effect-index l.effect-items) l.initial.rules l.rules;
+  added : AreAllAdded l.app l.fn.point (plain_entry l.pool l.entry) (take l.effect-index l.effect-items) l.initial.rules l.rules;
   longer : IsLonger l.initial.grown l.grown;
   levels : AreLevels l.app l.grown l.levels;
 }
