@@ -1,4 +1,4 @@
-//! The least table of possible states of an application.
+//! The points that are reached on the way to the least table, and the rows of its starts.
 #![tactic(auto)]
 
 mod cells;
