@@ -21,7 +21,8 @@ use Rattle.abstract_state.proofs.MarkLaws.{shown_instruction}
 use Rattle.flow_model.specs.declared.case.Decision.{Decision}
 use Rattle.flow_model.specs.Rules.{mark_by}
 use Rattle.flow_model.specs.Scheduling.{outcome_of_decision}
-use Rattle.flow_exits.specs.Exits.{Exit, CoverInstructions, IsStepTo, IsFilled, IsExact, AreExact}
+use Rattle.flow_exits.specs.declared.exit.Exit.{Exit}
+use Rattle.flow_exits.specs.Exits.{CoverInstructions, IsStepTo, IsFilled, IsExact, AreExact}
 use Rattle.numbered_sets.specs.Pools.{Values}
 use Rattle.numbered_exits.specs.declared.group.{NumberEnd.{NumberEnd}, Ends.{Ends}, ExitGroup.{ExitGroup}}
 use Rattle.numbered_exits.specs.declared.group.Ends.TheVariants as ends

@@ -14,7 +14,7 @@ use Rattle.abstract_state.specs.declared.table.TableRow.{TableRow}
 use Rattle.flow_model.specs.declared.case.Decision.{Decision}
 use Rattle.flow_model.specs.Effects.{IsAt}
 use Rattle.flow_model.specs.Scheduling.{outcome_of_decision}
-use Rattle.flow_exits.specs.Exits.{Exit}
+use Rattle.flow_exits.specs.declared.exit.Exit.{Exit}
 use Rattle.numbered_exits.specs.declared.group.Ends.{Ends}
 use Rattle.numbered_exits.specs.declared.group.Ends.TheVariants as ends
 use Rattle.call_tailor.specs.declared.found.{Findings.{Findings}}

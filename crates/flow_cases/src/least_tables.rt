@@ -1,11 +1,10 @@
 //! Least tables of worked applications: how many values they have, in how many entries.
 ghost use Rattle.std.specs.Prelude.{◌≡◌, ◌<◌};
 
-use abstract_state::{PartValue, Point, Table, TableRow, Val};
 use front_end::{TextError, read_app, read_system};
+use numbered_flow::{solve, values};
 use osek_standard::App;
-use osek_values::{BlockNo, Memory, Steps};
-use state_flow::{solve, values};
+use osek_values::{Memory, Steps};
 use std::alloc::Global;
 use std::marker::Brand;
 use std::sync::ledger::{Blank, Ledger};
@@ -26,7 +25,7 @@ fn size_by<L: Ledger>(alloc: Global, app: &App, blank: Blank) -> Result<Size, Me
     let mut steps = Steps::<L>::of(blank);
     let table = solve(alloc, app, &mut steps)?;
     let size = Size {
-        entries: table.rows.len(),
+        entries: table.len(),
         values: values(app, &table),
     };
     drop(table);

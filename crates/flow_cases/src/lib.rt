@@ -3,9 +3,9 @@
 #![tactic(auto)]
 
 #[cfg(test)]
-mod both_tables;
-#[cfg(test)]
 mod least_tables;
+#[cfg(test)]
+mod point_tables;
 #[cfg(test)]
 mod printed_lines;
 #[cfg(test)]

@@ -10,11 +10,10 @@ use flow_text::{write_counts_line, write_edge_line, write_info_line, write_site_
 use front_end::{TextError, read_app, read_system};
 use global_cfg::FlowEdge;
 use image_model::{Form, Image, Known, Site, Version, general, is_within, site_at};
-use numbered_table::numbered;
+use numbered_flow::solve;
 use osek_standard::App;
 use osek_values::limits::LINE_MAX;
 use osek_values::{BlockNo, Memory, Status, Steps, TaskNo};
-use state_flow::solve;
 use std::alloc::Global;
 use std::marker::Brand;
 use std::sync::ledger::{Blank, Ledger};
@@ -185,9 +184,7 @@ fn is_told_by<L: Ledger>(alloc: Global, app: App, want: &[u8], blank: Blank) -> 
     requires version { FitsVersion1 app.tasks }
 {
     let mut steps = Steps::<L>::of(blank);
-    let plain = solve(alloc, &app, &mut steps)?;
-    let table = numbered(alloc, &plain)?;
-    drop(plain);
+    let table = solve(alloc, &app, &mut steps)?;
     let image = tailor(alloc, app, &table)?;
     let told = is_info_line(&image, want) && are_sites(&image);
     drop(image);

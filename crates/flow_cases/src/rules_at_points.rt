@@ -6,9 +6,10 @@ ghost use Rattle.state_flow.specs.Rows.{IsProperRow};
 
 use abstract_state::{Domain, Entry, TableRow};
 use flow_model::{Decision, Rule};
-use flow_rules::{apply, rules};
 use front_end::{TextError, read_app, read_system};
 use generic_kernel::{Ready, start, step};
+use numbered_exits::rules;
+use numbered_rules::apply;
 use numbered_sets::{Pool, numbered};
 use osek_standard::{App, State};
 use osek_values::{Event, Memory, ModeNo, Steps, TaskNo};
@@ -76,29 +77,12 @@ fn outcomes(alloc: Global, app: &App, row: &TableRow) -> Result<Summary, Memory>
         some: false,
         all_dispatch: true,
     };
-    let found = rules(alloc, app, row.point, &row.entry)?;
-    for rule in found.as_slice() {
-        if has_result(alloc, rule, &row.entry)? {
-            outcomes.take(rule);
-        }
-    }
-    Ok(outcomes)
-}
-
-/// The same by the numbers of the row's values.
-fn outcomes_by_number(alloc: Global, app: &App, row: &TableRow) -> Result<Summary, Memory>
-    requires { IsProperRow app.now row.now }
-{
-    let mut outcomes = Summary {
-        some: false,
-        all_dispatch: true,
-    };
     let domains = domains(alloc, &row.entry)?;
     let mut pool = Pool::new(alloc, domains.as_slice())?;
     let entry = numbered(alloc, &mut pool, &row.entry)?;
-    let found = numbered_rules::rules(alloc, app, row.point, &pool, &entry)?;
+    let found = rules(alloc, app, row.point, &pool, &entry)?;
     for rule in found.as_slice() {
-        let new = numbered_rules::apply(alloc, rule, &mut pool, &entry)?;
+        let new = apply(alloc, rule, &mut pool, &entry)?;
         if new.is_some() {
             outcomes.take(rule);
         }
@@ -116,23 +100,13 @@ fn domains(alloc: Global, entry: &Entry) -> Result<Vec<Domain>, Memory>
     Ok(all)
 }
 
-fn has_result(alloc: Global, rule: &Rule, entry: &Entry) -> Result<bool, Memory> {
-    let new = apply(alloc, rule, entry)?;
-    Ok(new.is_some())
-}
-
-/// What the rules come to where the lower task is about to give the resource back and the higher one waits for it, by
-/// values or by their numbers.
-fn outcomes_by_texts(alloc: Global, by_number: bool) -> Result<Summary, TextError> {
+/// What the rules come to where the lower task is about to give the resource back and the higher one waits for it.
+fn outcomes_by_texts(alloc: Global) -> Result<Summary, TextError> {
     let system = read_system(alloc, OIL)?;
     match read_app(alloc, system, CODE) {
         Ok(app) => {
             let row = row_after_two_runs(alloc, &app)?;
-            let outcomes = if by_number {
-                outcomes_by_number(alloc, &app, &row)
-            } else {
-                outcomes(alloc, &app, &row)
-            };
+            let outcomes = outcomes(alloc, &app, &row);
             drop(row);
             drop(app);
             Ok(outcomes?)
@@ -147,6 +121,5 @@ fn where_a_ceiling_falls_every_rule_dispatches_the_higher_task(rt: HostRuntime) 
         some: true,
         all_dispatch: true,
     };
-    assert_eq!(rt; outcomes_by_texts(rt.alloc(), false), Ok(wanted));
-    assert_eq!(rt; outcomes_by_texts(rt.alloc(), true), Ok(wanted));
+    assert_eq!(rt; outcomes_by_texts(rt.alloc()), Ok(wanted));
 }

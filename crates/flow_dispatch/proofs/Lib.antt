@@ -1,11 +1,3 @@
 pub mod KernelDecides
-pub mod MaskBits
 pub mod PriorityTests
 pub mod ClaimLaws
-pub mod ConditionLaws
-pub mod NeedLaws
-pub mod TakenLaws
-pub mod OutcomeLaws
-pub mod GroupLaws
-pub mod KeeperLaws
-pub mod ReadingLaws

@@ -14,12 +14,3 @@ abbrev pub candidate_of : App → ℕ → Val → Option Candidate
 candidate_of app u Suspended = None
 candidate_of app u (Live x) = Some (record { priority = value_priority app u (Live x); block = x.block })
 candidate_of app u (Waiting b) = None
-
--- the same of a value before the changes
-abbrev pub candidate_after : App → List Change → ℕ → PartValue → Option Candidate
-candidate_after app changes u v = candidate_of app u (val_of (value_after changes u v))
-
--- a task at another block
-abbrev pub candidate_at : BlockNo → Option Candidate → Option Candidate
-candidate_at b None = None
-candidate_at b (Some own) = Some (record own { block = b })

@@ -38,17 +38,3 @@ module _ (app : App) where
   -- with these values the tasks below n are under their limits
   abbrev pub AreUnder : Claim → ℕ → (ℕ → PartValue) → Type 0
   AreUnder claim n value = (u : ℕ) → u < n → IsTrue (is_under u (limit_of claim u) (val_of (value u)))
-
-  -- values that the tasks can have
-  abbrev pub AreVals : (ℕ → PartValue) → Type 0
-  AreVals value = (u : ℕ) → u < length app.tasks → IsVal app u (val_of (value u))
-
-  -- these conditions pass exactly where the tasks below n are under their limits after the changes
-  pub record AreTests (changes : List Change) (claim : Claim) (n : ℕ) (conditions : List Condition) : Type 0 where
-    pub passes : (value : ℕ → PartValue) → AreVals value → AreUnder claim n (values_after changes value) → PassesAll app conditions value
-    pub means : (value : ℕ → PartValue) → AreVals value → PassesAll app conditions value → AreUnder claim n (values_after changes value)
-
-  -- one more condition, or none, for the limit of task t; where that can't be met, no values meet it
-  pub record AddsLimit (changes : List Change) (claim : Claim) (t : ℕ) (before now : List Condition) (possible : Bool) : Type 0 where
-    pub tests : IsTrue possible → AreTests changes claim t before → AreTests changes claim (t + 1) now
-    pub never : possible ≡ false → (value : ℕ → PartValue) → AreVals value → IsTrue (is_under t (limit_of claim t) (val_of (values_after changes value t))) → ⊥

@@ -1,20 +1,14 @@
 //! Current priorities of tasks by their values.
-ghost use Rattle.std.specs.Prelude.{◌≡◌, ◌<◌, ℕ, nat_le, length};
-ghost use Rattle.osek_standard.specs.Kernel.{has_bit};
+ghost use Rattle.std.specs.Prelude.{◌≡◌, ◌<◌, length};
 ghost use Rattle.osek_standard.specs.Priority.{base_priority as base_priority_of, ceiling as ceiling_of, highest as highest_of};
-ghost use Rattle.abstract_state.specs.declared.value.PartValue.{PartValue};
 ghost use Rattle.abstract_state.specs.declared.value.Val.TheVariants as val;
-ghost use Rattle.abstract_state.specs.Components.{IsVal};
 ghost use Rattle.abstract_state.specs.Concrete.{val_of};
 ghost use Rattle.flow_model.specs.Values.{value_priority};
-ghost use Rattle.flow_model.specs.Tests.{passes};
-ghost use Rattle.flow_dispatch.specs.Claims.{is_below as is_below_of};
 ghost use Rattle.flow_dispatch.specs.Candidates.{candidate_of};
 
 use abstract_state::{LiveVal, PartValue, Val};
-use flow_model::Test;
 use osek_standard::App;
-use osek_values::{BlockNo, Mask, ResNo, TaskNo};
+use osek_values::{BlockNo, ResNo, TaskNo};
 
 /// What the scheduler reads of a Live task: its current priority, and the block at which it stands.
 #[derive(Clone, Copy, PartialEq, Eq, Debug)]
@@ -74,40 +68,4 @@ pub fn as_candidate(app: &App, task: TaskNo, value: &PartValue) -> Option<Candid
         PartValue::OfTask(Val::Suspended | Val::Waiting(_)) => None,
         PartValue::OfEvent(_) | PartValue::OfAlarm(_) => None,
     }
-}
-
-/// Whether a task with this value is below a limit, or not Live.
-pub fn is_below(app: &App, task: TaskNo, limit: u64, value: &PartValue) -> bool
-    requires { task.0 < length app.now.tasks }
-    ensures { result ≡ is_below_of app.now task.0 limit (val_of value.now) }
-{
-    match value {
-        PartValue::OfTask(Val::Live(live)) => (priority_of(app, task, live) as u64) < limit,
-        PartValue::OfTask(Val::Suspended | Val::Waiting(_)) => true,
-        PartValue::OfEvent(_) | PartValue::OfAlarm(_) => true,
-    }
-}
-
-/// The test that says the same of values that the task can have.
-pub fn below(app: &App, task: TaskNo, limit: u64) -> Test
-    requires { task.0 < length app.now.tasks }
-    ensures { (v : PartValue) → IsVal app.now task.0 (val_of v) → passes result v ≡ is_below_of app.now task.0 limit (val_of v) }
-{
-    if base_priority(app, task) as u64 >= limit {
-        return Test::NotLive;
-    }
-    Test::HoldsNoneOf(barred(app, limit))
-}
-
-/// The resources of a ceiling that isn't below the limit.
-fn barred(app: &App, limit: u64) -> Mask
-    ensures { (r : ℕ) → r < length app.now.resources → has_bit result.0 r ≡ nat_le limit (ceiling_of app.now r) }
-{
-    let mut bits: u64 = 0;
-    for resource in 0..app.resources.len() {
-        if limit <= app.resources.at(resource).ceiling as u64 {
-            bits |= 1 << resource;
-        }
-    }
-    Mask(bits)
 }

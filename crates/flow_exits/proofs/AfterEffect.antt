@@ -12,7 +12,7 @@ use Rattle.flow_model.specs.Effects.{AreIn}
 use Rattle.flow_model.specs.Rules.{Applies, HasNone}
 use Rattle.flow_model.specs.Tests.{PassesAt, value_after, values_after}
 use Rattle.flow_exits.specs.declared.stay.Stay.TheVariants as stay
-use Rattle.flow_exits.specs.Exits.{Exit}
+use Rattle.flow_exits.specs.declared.exit.Exit.{Exit}
 use Rattle.flow_exits.specs.Leaving.{IsOfEffects, HasExitsFor, IsDecided, AddsDecided, effect_rule}
 
 -- a value of the entry that the effect takes, and of which it makes this one

@@ -35,7 +35,8 @@ use Rattle.flow_model.proofs.Standing.{active_there, active_within}
 use Rattle.flow_dispatch.specs.Deciding.{HasValues}
 use Rattle.flow_rules.specs.Arrivals.{arrival_rule, MayBegin, AreArrivals}
 use Rattle.flow_rules.proofs.Arriving.{all_arrivals, none_alone, task_alone, arrival_covered, arrival_shown}
-use Rattle.flow_exits.specs.Exits.{Exit, exit_mark, IsBySome, CoverSteps, CoverInstructions, IsFilled, IsExact, AreExact}
+use Rattle.flow_exits.specs.declared.exit.Exit.{Exit}
+use Rattle.flow_exits.specs.Exits.{exit_mark, IsBySome, CoverSteps, CoverInstructions, IsFilled, IsExact, AreExact}
 use Rattle.flow_exits.specs.Leaving.{IsOfEffects, HasExitFor, arrival_exit, AreExits}
 use Rattle.flow_exits.proofs.Steps.{changed, some_decision, decided, instruction_ends}
 
@@ -88,6 +89,7 @@ module _ (app : App) (p : Point) (entry : Entry) (exits : List Exit) (is : IsPoi
           target = matches.target;
           within = λ c lt. subst (λ (v : PartValue). IsTrue (is_member (set_at entry c) v)) (sym (matches.parts c lt)) (at.within c lt);
           shows = matches.shows;
+          status = matches.status;
         };
       }
 
@@ -122,6 +124,7 @@ module _ (app : App) (p : Point) (entry : Entry) (exits : List Exit) (is : IsPoi
           target = r.target ∙ sym k.found.target;
           within = λ c lt. subst (λ (v : PartValue). IsTrue (is_member (set_at exit.entry c) v)) (sym (r.parts c lt)) (k.found.within c lt);
           shows = r.shows ∙ sym (exit_marks exit k.decision k.case.status k.found.decision k.found.status);
+          status = r.status ∙ sym k.found.status;
         };
       }
 
@@ -178,6 +181,7 @@ module _ (app : App) (p : Point) (entry : Entry) (exits : List Exit) (is : IsPoi
             target = x.matches.target;
             parts = λ c lt. x.matches.parts c lt ∙ x.has.parts c lt;
             shows = x.matches.shows;
+            status = x.matches.status;
           });
     }
 
@@ -199,6 +203,7 @@ module _ (app : App) (p : Point) (entry : Entry) (exits : List Exit) (is : IsPoi
             target = r.target ∙ sym k.target;
             parts = r.parts;
             shows = r.shows ∙ sym (exit_marks x o.decision k.effect.status o.decides k.status);
+            status = r.status ∙ sym k.status;
           });
     }
 

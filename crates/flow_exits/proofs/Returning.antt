@@ -29,7 +29,7 @@ use Rattle.flow_effects.specs.Lists.{AreCasesOf, cases_of_value, cases_of_values
 use Rattle.flow_effects.specs.Returns.{goes_back}
 use Rattle.flow_effects.proofs.ReturnCases.{all_returns}
 use Rattle.flow_exits.specs.declared.stay.Stay.TheVariants as stay
-use Rattle.flow_exits.specs.Exits.{Exit}
+use Rattle.flow_exits.specs.declared.exit.Exit.{Exit}
 use Rattle.flow_exits.specs.Leaving.{IsOfEffects, HasExitsFor, stay_point, IsDecided, AddsDecided, IsWithLive}
 
 -- a Live value is a task's

@@ -34,6 +34,7 @@ pub record Ends (app : App) (x : EffectCase) (d : Decision) (value : ℕ → Par
   pub target : point_of (step app s e).state ≡ end_point app value x.point d
   pub parts : (c : ℕ) → c < component_count app → abstract_of app (step app s e).state c ≡ value c
   pub shows : shows app s e ≡ mark_by (Some d) x.status
+  pub status : (step app s e).notes.status ≡ x.status
 
 module _ (app : App) (s : State) (choice : Bool) (well : Well app s) (x : EffectCase) (h : HasEffect app x s choice) where
   abbrev after : Effect
@@ -59,9 +60,14 @@ module _ (app : App) (s : State) (choice : Bool) (well : Well app s) (x : Effect
       unfolding instruction
       stepped = ap (λ (n : Stepped). n.state) steps ∙ ap (settled app after.state) decided
 
+      noted : (step app s e).notes.status ≡ after.notes.status
+      unfolding instruction
+      noted = ap (λ (n : Stepped). n.notes.status) steps
+
       pub instruction_ends : shows app s e ≡ Did (outcome app s choice) after.notes.status → Ends app x d value s e
       instruction_ends shown = record {
         target = ap point_of stepped ∙ ends_there app after kept x.asked h.asks value same d decides ∙ ap (λ (p : Point). end_point app value p d) h.point;
         parts = λ c lt. ap (λ (r : State). abstract_of app r c) stepped ∙ settled_part app after.state (outcome_of_decision d) (component_at app c) ∙ sym (same c lt);
         shows = shown ∙ ap (λ (o : Outcome). Did o after.notes.status) decided ∙ ap (Did (outcome_of_decision d)) h.status;
+        status = noted ∙ h.status;
       }

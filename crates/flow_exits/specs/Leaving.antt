@@ -21,7 +21,8 @@ use Rattle.flow_model.specs.Tests.{PassesAll, value_after, values_after}
 use Rattle.flow_rules.specs.Arrivals.{arrival_rule, MayBegin}
 use Rattle.flow_exits.specs.declared.stay.Stay.{Stay}
 use Rattle.flow_exits.specs.declared.stay.Stay.TheVariants as stay
-use Rattle.flow_exits.specs.Exits.{Exit, IsFilled}
+use Rattle.flow_exits.specs.declared.exit.Exit.{Exit}
+use Rattle.flow_exits.specs.Exits.{IsFilled}
 
 -- ---- from the values before an effect
 

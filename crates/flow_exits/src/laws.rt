@@ -5,7 +5,8 @@ ghost use Rattle.osek_standard.specs.declared.point.Point.{Point};
 ghost use Rattle.osek_standard.specs.Points.{IsPoint};
 ghost use Rattle.abstract_state.specs.declared.table.Entry.{Entry};
 ghost use Rattle.flow_model.specs.Effects.{AreAllAllowed};
-ghost use Rattle.flow_exits.specs.Exits.{Exit, IsFilled, CoverSteps, CoverInstructions, AreExact};
+ghost use Rattle.flow_exits.specs.declared.exit.Exit.{Exit};
+ghost use Rattle.flow_exits.specs.Exits.{IsFilled, CoverSteps, CoverInstructions, AreExact};
 ghost use Rattle.flow_exits.specs.Leaving.{AreExits};
 
 /// The exits of a point are where its steps end, and each is one of some step.

@@ -47,9 +47,6 @@ sets_first (x ∷ xs) ys c v sets = elim (cases_eq x.component.0 c) [
 pub sets_none : AreSets []
 sets_none x m = absurd m
 
-pub sets_one : (x : Change) → ((v w : PartValue) → updated x.update v ≡ updated x.update w) → AreSets (x ∷ [])
-sets_one x is y m v w = ⊎_elim (λ e. ap (λ (z : Change). updated z.update v) e ∙ is v w ∙ sym (ap (λ (z : Change). updated z.update w) e)) (λ n. absurd n) m
-
 pub sets_both : (xs ys : List Change) → AreSets xs → AreSets ys → AreSets (xs ++ ys)
 sets_both xs ys left right x m = ⊎_elim (left x) (right x) (among_cases x xs ys m)
 

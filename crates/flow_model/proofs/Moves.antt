@@ -86,9 +86,6 @@ module _ (app : App) (s : State) (w : Well app s) (to : Place) where
   pub moved_suspended : (u : ℕ) → is_suspended (task_state (moved s to) u) ≡ is_suspended (task_state s u)
   moved_suspended u = moved_keeps_of (λ x. is_suspended x) (λ x. suspended_at to x.activity x.events) u
 
-  pub moved_events : (u : ℕ) → (task_state (moved s to) u).events ≡ (task_state s u).events
-  moved_events u = moved_keeps_of (λ x. x.events) (λ x. refl) u
-
   alarms_by : (p : Processor) → (moved_by s p to).alarms ≡ s.alarms
   alarms_by processor.Halted = refl
   alarms_by processor.Idle = refl
@@ -100,9 +97,6 @@ module _ (app : App) (s : State) (w : Well app s) (to : Place) where
 
   pub moved_has : (moved s to).processor ≡ s.processor
   moved_has = moved_processor s to s.processor
-
-  pub moved_caller : caller (moved s to).processor ≡ caller s.processor
-  moved_caller = ap caller moved_has
 
 -- one change, at its component and at another
 pub change_here : (t : ℕ) (u : Update) (c : ℕ) (v : PartValue) → c ≡ t → value_after (change t u ∷ []) c v ≡ updated u v

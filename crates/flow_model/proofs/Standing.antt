@@ -118,9 +118,6 @@ module _ (app : App) (s : State) where
     pub owned_here : InOwner app s.processor b.0
     owned_here = runs_own r b h.runs
 
-    pub block_known : b.0 < length app.blocks
-    block_known = in_owner_known app s s.processor h.well.processor b.0 owned_here
-
     pub known_here : BlockHere app s.processor b.0
     known_here = block_here app s s.processor b.0 h.well.processor owned_here
 

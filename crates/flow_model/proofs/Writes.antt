@@ -35,12 +35,6 @@ event_bit (component.Task t) = 0
 event_bit (component.Event t k) = k.0
 event_bit (component.Alarm a) = 0
 
--- a state with the same tasks and alarms has the same components
-pub same_parts : (r s : State) → r.tasks ≡ s.tasks → r.alarms ≡ s.alarms → (k : Component) → part_of r k ≡ part_of s k
-same_parts r s tasks alarms (component.Task t) = ap (λ (xs : List TaskState). OfTask (value_in (task_state (record s { tasks = xs }) t.0).activity)) tasks
-same_parts r s tasks alarms (component.Event t k) = ap (λ (xs : List TaskState). OfEvent (has_bit (task_state (record s { tasks = xs }) t.0).events.0 k.0)) tasks
-same_parts r s tasks alarms (component.Alarm a) = ap (λ (xs : List AlarmState). OfAlarm (is_armed (alarm_state (record s { alarms = xs }) a.0))) alarms
-
 pub task_changes_set : (t : ℕ) (v : _) → AreSets (task_change t v ∷ [])
 task_changes_set t v x (inl e) a b = ap (λ (y : Change). updated y.update a) e ∙ sym (ap (λ (y : Change). updated y.update b) e)
 task_changes_set t v x (inr m) a b = absurd m
@@ -139,13 +133,6 @@ module _ (app : App) where
               ∙ sym (other_events c (abstract_of app s c) (λ k e set. absurd (cc (at, e)))))
           | inr other ↦ change_there (task_change t (value_in x.activity)) (event_changes app t bits flag) c (abstract_of app s c) other
         ]
-
-  -- a write to the activity alone
-  pub activity_written : (s : State) (t : ℕ) (x : TaskState) → t < length s.tasks → t < length app.tasks → x.events ≡ (task_state s t).events → (c : ℕ) → c < component_count app →
-      abstract_of app (with_task s t x) c ≡ value_after (task_change t (value_in x.activity) ∷ []) c (abstract_of app s c)
-  unfolding bits_of
-  activity_written s t x here known kept c lt = task_written t 0 false known (λ k e. absurd (cc (no_bit k))) s x here
-      (λ k below own. ap (λ (m : Mask). has_bit m.0 k) kept ∙ sym (ap (λ (b : Bool). if b then false else has_bit (task_state s t).events.0 k) (no_bit k))) c lt
 
   module _ (s : State) (a : ℕ) (x : AlarmState) (here : a < length s.alarms) (known : a < length app.alarms) (c : ℕ) (lt : c < component_count app) where
     abbrev one : Change

@@ -39,6 +39,7 @@ pub record Matches (app : App) (rule : Rule) (s : State) (e : Event) : Type 0 wh
   pub target : point_of (step app s e).state ≡ rule.target
   pub parts : (c : ℕ) → c < component_count app → abstract_of app (step app s e).state c ≡ value_after rule.changes c (abstract_of app s c)
   pub shows : shows app s e ≡ mark_of rule
+  pub status : (step app s e).notes.status ≡ rule.status
 
 pub record IsMatched (app : App) (rules : List Rule) (s : State) (e : Event) : Type 0 where
   pub rule : Rule

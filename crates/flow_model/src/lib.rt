@@ -12,4 +12,4 @@ pub use case::{Asked, Decision, EffectCase, OutcomeCase};
 pub use change::{Change, Update, value_after};
 pub use rule::Rule;
 pub use runner::{Runner, task_of};
-pub use test::{Condition, Test, passes_each};
+pub use test::{Condition, Test};

@@ -1,9 +1,8 @@
 //! Tests of the values of components.
-ghost use Rattle.std.specs.Prelude.{◌≡◌, not};
+ghost use Rattle.std.specs.Prelude.{◌≡◌};
 ghost use Rattle.std.specs.List.{list_any};
 ghost use Rattle.osek_values.specs.declared.numbers.ResNo.{ResNo};
 ghost use Rattle.osek_standard.specs.Kernel.{has_bit};
-ghost use Rattle.flow_model.specs.Tests.{is_failed};
 
 use abstract_state::{ComponentNo, PartValue, Val};
 use osek_values::{Mask, ResNo};
@@ -82,7 +81,6 @@ impl Test {
 
 impl Condition {
     ghost use Rattle.std.specs.Prelude.{◌≡◌};
-    ghost use Rattle.flow_model.specs.Tests.{is_failed};
 
     /// Another that is the same. It takes no memory.
     pub fn copy(&self) -> Condition
@@ -93,28 +91,6 @@ impl Condition {
             test: self.test.copy(),
         }
     }
-
-    // whether it is on the component, and the value doesn't pass
-    fn fails(&self, component: usize, value: &PartValue) -> bool
-        ensures { result ≡ is_failed component value.now self.now }
-    {
-        self.component.index() == component && !self.test.passes(value)
-    }
-}
-
-/// Whether a value of a component passes each condition on it.
-pub fn passes_each(conditions: &[Condition], component: usize, value: &PartValue) -> bool
-    ensures { result ≡ not (list_any (is_failed component value.now) conditions.now) }
-{
-    !some_fails(conditions, component, value)
-}
-
-fn some_fails(conditions: &[Condition], component: usize, value: &PartValue) -> bool
-    ensures { result ≡ list_any (is_failed component value.now) conditions.now }
-{
-    conditions
-        .iter()
-        .any(|condition| condition.fails(component, value))
 }
 
 fn has_bit(bits: u64, bit: u8) -> bool

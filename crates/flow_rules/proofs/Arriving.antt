@@ -66,6 +66,7 @@ module _ (app : App) (s : State) (k : SourceNo) (choice : Bool) where
         target = ap point_of after ∙ ap (λ (x : Source). point.Routine (place_of_source x).block (task_of s.processor)) (get_or-set_same s.sources k.0 (source.In (begun app k.0)) source.Out known);
         parts = λ c lt. ap (λ (r : State). abstract_of app r c) after ∙ entered_part app s k (component_at app c);
         shows = shown_arrived s.processor is.allowed a;
+        status = ap (λ (n : Stepped). n.notes.status) (run_enters s.processor is.allowed a);
       }
 
 module _ (app : App) (s : State) (w : Well app s) where

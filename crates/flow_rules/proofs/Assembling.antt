@@ -13,13 +13,12 @@ use Rattle.osek_standard.specs.Kernel.{step}
 use Rattle.osek_standard.specs.Outcomes.{Did, shows, IsInstruction}
 use Rattle.osek_standard.specs.Well.{Well, IsActive}
 use Rattle.osek_standard.proofs.Members.{among_left, among_right, among_cases, among_contained, contained_among}
-use Rattle.osek_values.specs.Numbers.{task_no}
 use Rattle.osek_standard.proofs.EffectKeeps.{effect_keeps}
 use Rattle.abstract_state.specs.declared.value.{Component.{Component}, PartValue.{PartValue}}
 use Rattle.abstract_state.specs.declared.value.Component.TheVariants as component
 use Rattle.abstract_state.specs.declared.table.Entry.{Entry}
-use Rattle.abstract_state.specs.Components.{component_count, component_at, part_of, abstract_of, IsVal, IsPart}
-use Rattle.abstract_state.specs.Concrete.{val_of}
+use Rattle.abstract_state.specs.Components.{component_count, component_at, part_of, abstract_of, IsAllowed}
+use Rattle.abstract_state.specs.Concrete.{AreAllowed}
 use Rattle.flow_model.specs.declared.test.Condition.{Condition}
 use Rattle.flow_model.specs.declared.case.{EffectCase.{EffectCase}, OutcomeCase.{OutcomeCase}}
 use Rattle.flow_model.specs.declared.rule.Rule.{Rule}
@@ -29,7 +28,6 @@ use Rattle.flow_model.specs.Scheduling.{AreValuesOf, HasOutcome, end_point, outc
 use Rattle.flow_model.specs.Rules.{Matches, IsMatched, IsForeseen, Shown}
 use Rattle.abstract_state.specs.Tables.{set_at, is_member}
 use Rattle.abstract_state.proofs.AllowedLaws.{well_part}
-use Rattle.abstract_state.proofs.ComponentLaws.{task_counted, task_at_its_number}
 use Rattle.flow_model.proofs.Instructions.{instruction_by, shown_so}
 use Rattle.flow_dispatch.proofs.KernelDecides.{decided_so, some_decided, ends_there}
 use Rattle.flow_rules.specs.Assembly.{rule_of, IsRuleOfSome, AreAllAdded}
@@ -74,19 +72,16 @@ module _ (app : App) (entry : Entry) (effect_case : EffectCase) (x : OutcomeCase
             ∙ ap (λ (p : Point). end_point app value p x.decision) h.point ∙ sym o.target;
         parts = λ c lt. ap (λ (r : State). abstract_of app r c) after ∙ settled_part app f.state (outcome_of_decision x.decision) (component_at app c) ∙ h.parts c lt;
         shows = shown ∙ ap (λ (d : Outcome). Did d f.notes.status) decided ∙ ap (Did (outcome_of_decision x.decision)) h.status;
+        status = ap (λ (n : Stepped). n.notes.status) steps ∙ h.status;
       }
 
--- values of a well-formed state are ones that tasks can have
-vals_of_state : (app : App) (s : State) → Well app s → (u : ℕ) → u < length app.tasks → IsVal app u (val_of (abstract_of app s u))
-vals_of_state app s w u lt =
-    let at : component_at app u ≡ component.Task (task_no u) = task_at_its_number app u lt in
-    let part : IsPart app (point_of s) (component.Task (task_no u)) (part_of s (component.Task (task_no u))) =
-    subst (λ (k : Component). IsPart app (point_of s) k (part_of s k)) at (well_part app s w u (task_counted app u lt)) in
-    subst (λ (k : Component). IsVal app u (val_of (part_of s k))) (sym at) part.0
+-- values of a well-formed state are ones that its components can have at its point
+allowed_there : (app : App) (p : Point) (s : State) → Well app s → point_of s ≡ p → AreAllowed app p (abstract_of app s)
+allowed_there app p s w at c lt = subst (λ (q : Point). IsAllowed app q c (abstract_of app s c)) at (well_part app s w c lt)
 
 -- ---- all rules of a point
 
-module _ (app : App) (p : Point) (entry : Entry) (effects : List EffectCase) (before after : List Rule) (added : AreAllAdded app entry effects before after) where
+module _ (app : App) (p : Point) (entry : Entry) (effects : List EffectCase) (before after : List Rule) (added : AreAllAdded app p entry effects before after) where
   -- an instruction of a state of the entry is a rule's
   pub instruction_covered : CoverEffects app p entry effects → (s : State) (e : Event) (o : Outcome) (x : Option Status) → IsAt app p entry s → IsInstruction app s e o x → shows app s e ≡ Did o x → IsMatched app after s e
   instruction_covered covering s e o x at i shown =
@@ -96,7 +91,7 @@ module _ (app : App) (p : Point) (entry : Entry) (effects : List EffectCase) (be
       let value : ℕ → PartValue = values_after h.case.changes (abstract_of app s) in
       let parts : (c : ℕ) → c < component_count app → value c ≡ abstract_of app f.state c = λ c lt. sym (h.effect.parts c lt) in
       let decided = some_decided app f well h.case.asked h.effect.asks value parts in
-      let values : AreValuesOf app entry (abstract_of app s) = record { within = at.within; vals = vals_of_state app s at.well } in
+      let values : AreValuesOf app p entry (abstract_of app s) = record { within = at.within; allowed = allowed_there app p s at.well at.point } in
       let r = added.some h.case h.listed (abstract_of app s) decided.0 values h.effect.passes decided.1 in
       record {
         rule = rule_of h.case r.outcome;
@@ -114,7 +109,7 @@ module _ (app : App) (p : Point) (entry : Entry) (effects : List EffectCase) (be
       let value : ℕ → PartValue = values_after h.case.changes (abstract_of app s) in
       let parts : (c : ℕ) → c < component_count app → value c ≡ abstract_of app f.state c = λ c lt. sym (h.effect.parts c lt) in
       let decided = some_decided app f well h.case.asked h.effect.asks value parts in
-      let values : AreValuesOf app entry (abstract_of app s) = record { within = at.within; vals = vals_of_state app s at.well } in
+      let values : AreValuesOf app p entry (abstract_of app s) = record { within = at.within; allowed = allowed_there app p s at.well at.point } in
       let r = added.some h.case h.listed (abstract_of app s) decided.0 values h.effect.passes decided.1 in
       record {
         rule = rule_of h.case r.outcome;
@@ -130,7 +125,7 @@ module _ (app : App) (p : Point) (entry : Entry) (effects : List EffectCase) (be
 
   -- a rule of an effect is exact
   pub instruction_shown : AreAllAllowed app p entry → ((s : State) → Well app s → point_of s ≡ p → IsActive s.processor) → AreExactEffects app p entry effects → (rule : Rule) (value : ℕ → PartValue) →
-      IsRuleOfSome app entry effects rule → AreIn app entry value → PassesAll app rule.conditions value → Shown app p rule value
+      IsRuleOfSome app p entry effects rule → AreIn app entry value → PassesAll app rule.conditions value → Shown app p rule value
   instruction_shown allowed active exact rule value r within passes =
       let outcome_of_rule = r.is.outcome in
       let whole : PassesAll app (rule_of r.effect outcome_of_rule).conditions value = subst (λ (y : Rule). PassesAll app y.conditions value) r.is.is passes in
@@ -140,7 +135,7 @@ module _ (app : App) (p : Point) (entry : Entry) (effects : List EffectCase) (be
       let s = shown.from in
       let same : (c : ℕ) → c < component_count app → abstract_of app s c ≡ value c = shown.has.parts in
       let in_entry : AreIn app entry (abstract_of app s) = λ c lt. subst (λ (v : PartValue). IsTrue (is_member (set_at entry c) v)) (sym (same c lt)) (within c lt) in
-      let values : AreValuesOf app entry (abstract_of app s) = record { within = in_entry; vals = vals_of_state app s shown.has.well } in
+      let values : AreValuesOf app p entry (abstract_of app s) = record { within = in_entry; allowed = allowed_there app p s shown.has.well shown.has.point } in
       let passes_here : (xs : List Condition) → PassesAll app xs value → PassesAll app xs (abstract_of app s) = λ xs h c lt. subst (PassesAt xs c) (sym (same c lt)) (h c lt) in
       let has = r.is.exact (abstract_of app s) values (passes_here r.effect.conditions first) (passes_here outcome_of_rule.conditions second) in
       let act : IsActive s.processor = active s shown.has.well shown.has.point in

@@ -17,13 +17,6 @@ use Rattle.flow_model.specs.Effects.{AreIn, IsAt}
 use Rattle.flow_model.specs.Rules.{Matches, Exact, Shown, Applies, HasNone, IsMadeBy}
 use Rattle.flow_rules.specs.Passing.{AreTaken}
 
--- a state of the entry whose step is the rule's
-pub record HasStep (app : App) (p : Point) (entry : Entry) (rule : Rule) : Type 0 where
-  pub from : State
-  pub event : Event
-  pub at : IsAt app p entry from
-  pub matches : Matches app rule from event
-
 -- a rule that takes a value of each set
 module _ (app : App) (p : Point) (entry : Entry) (rule : Rule) (size : length entry.sets ≡ component_count app) (taken : AreTaken rule entry) where
   -- a value of a set that passes
@@ -49,9 +42,6 @@ module _ (app : App) (p : Point) (entry : Entry) (rule : Rule) (size : length en
       point = (picked_shown picks).has.point;
       within = λ k lt. subst (λ (w : PartValue). IsTrue (is_member (set_at entry k) w)) (sym ((picked_shown picks).has.parts k lt)) ((picks k).there lt);
     }
-
-    pub taken_shown : HasStep app p entry rule
-    taken_shown = record { from = (picked_shown some_picked).from; event = (picked_shown some_picked).event; at = picked_at some_picked; matches = (picked_shown some_picked).matches }
 
 module _ (app : App) (p : Point) (entry new : Entry) (rule : Rule) (size : length entry.sets ≡ component_count app) (made : Applies rule entry new) where
   in_sets : (k : ℕ) → k < component_count app → k < length entry.sets
@@ -83,9 +73,6 @@ module _ (app : App) (p : Point) (entry new : Entry) (rule : Rule) (size : lengt
   ]
 
   module _ (rules : List Rule) (listed : Contains rules rule) (exact : Exact app p entry rules) where
-    pub rule_shown : HasStep app p entry rule
-    rule_shown = taken_shown app p entry rule size made.filled rules listed exact
-
     -- each value of a new set is made by a state of the entry
     pub value_shown : (c : ℕ) (v : PartValue) → c < component_count app → IsTrue (is_member (set_at new c) v) → IsMadeBy app p entry rule c v
     value_shown c v lt m =
@@ -109,20 +96,9 @@ module _ (app : App) (p : Point) (entry new : Entry) (rule : Rule) (size : lengt
         within = λ c lt. subst (λ (q : Point). IsTrue (other.has q c (abstract_of app s c))) (sym at.point) (has c (abstract_of app s c) (at.within c lt));
       }
 
-      pub target_contained : IsTrue (other.entry rule.target)
-      target_contained =
-          let after = inductive.step rule_shown.from rule_shown.event (at_in rule_shown.from rule_shown.at) in
-          subst (λ (q : Point). IsTrue (other.entry q)) rule_shown.matches.target after.entry
-
       pub value_contained : (c : ℕ) (v : PartValue) → c < component_count app → IsTrue (is_member (set_at new c) v) → IsTrue (other.has rule.target c v)
       value_contained c v lt m =
           let x = value_shown c v lt m in
           let after = inductive.step x.from x.event (at_in x.from x.at) in
           subst (λ (w : PartValue). IsTrue (other.has rule.target c w)) x.value
           (subst (λ (q : Point). IsTrue (other.has q c (abstract_of app (step app x.from x.event).state c))) x.target (after.within c lt))
-
--- a state that passes a rule's conditions has values in each set, so the rule has a result
-pub passing_state : (app : App) (p : Point) (entry : Entry) (rule : Rule) (s : State) → length entry.sets ≡ component_count app → IsAt app p entry s → PassesAll app rule.conditions (abstract_of app s) → HasNone rule entry → ⊥
-passing_state app p entry rule s size at passes none =
-    let known : none.component < component_count app = subst (λ (n : ℕ). none.component < n) size none.known in
-    none.none (abstract_of app s none.component) (at.within none.component known) (passes none.component known)

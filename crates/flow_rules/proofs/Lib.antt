@@ -1,8 +1,5 @@
 pub mod Passing
-pub mod TakenValues
 pub mod Arriving
 pub mod Assembling
 pub mod PointRules
 pub mod Leading
-pub mod RuleGroups
-pub mod EndRules

@@ -31,9 +31,9 @@ use Rattle.flow_rules.proofs.Arriving.{arrival_covered, arrival_shown}
 use Rattle.flow_rules.proofs.Assembling.{instruction_covered, instruction_foreseen, instruction_shown}
 
 -- the rules of one effect, one for each outcome, at the end of others
-pub outcomes_added : (app : App) (entry : Entry) (effect : EffectCase) (outcomes : List OutcomeCase) (before after : List Rule) → after ≡ before ++ map (rule_of effect) outcomes →
-    CoverOutcomes app entry effect outcomes → AreExactOutcomes app entry effect outcomes → AreAdded app entry effect before after
-outcomes_added app entry effect outcomes before after is covering exact = record {
+pub outcomes_added : (app : App) (p : Point) (entry : Entry) (effect : EffectCase) (outcomes : List OutcomeCase) (before after : List Rule) → after ≡ before ++ map (rule_of effect) outcomes →
+    CoverOutcomes app p entry effect outcomes → AreExactOutcomes app p entry effect outcomes → AreAdded app p entry effect before after
+outcomes_added app p entry effect outcomes before after is covering exact = record {
   kept = λ r m. subst (λ (xs : List Rule). Contains xs r) (sym is) (among_contained whole r (among_left r before (map (rule_of effect) outcomes) (contained_among before r m)));
   each = λ r m. elim (among_cases r before (map (rule_of effect) outcomes) (contained_among whole r (subst (λ (xs : List Rule). Contains xs r) is m))) [
     | inl old ↦ inl (among_contained before r old)
@@ -52,12 +52,12 @@ outcomes_added app entry effect outcomes before after is covering exact = record
     whole : List Rule
     whole = before ++ map (rule_of effect) outcomes
 
-pub none_added : (app : App) (entry : Entry) (rules : List Rule) → AreAllAdded app entry [] rules rules
-none_added app entry rules = record { kept = λ r m. m; each = λ r m. inl m; some = λ effect m. absurd (omega (arith, m.1)) }
+pub none_added : (app : App) (p : Point) (entry : Entry) (rules : List Rule) → AreAllAdded app p entry [] rules rules
+none_added app p entry rules = record { kept = λ r m. m; each = λ r m. inl m; some = λ effect m. absurd (omega (arith, m.1)) }
 
 -- the rules of one effect more
-pub more_added : (app : App) (entry : Entry) (effects : List EffectCase) (effect : EffectCase) (before mid after : List Rule) → AreAllAdded app entry effects before mid → AreAdded app entry effect mid after → AreAllAdded app entry (effects ++ effect ∷ []) before after
-more_added app entry effects effect before mid after h more = record {
+pub more_added : (app : App) (p : Point) (entry : Entry) (effects : List EffectCase) (effect : EffectCase) (before mid after : List Rule) → AreAllAdded app p entry effects before mid → AreAdded app p entry effect mid after → AreAllAdded app p entry (effects ++ effect ∷ []) before after
+more_added app p entry effects effect before mid after h more = record {
   kept = λ r m. more.kept r (h.kept r m);
   each = λ r m. elim (more.each r m) [
     | inl old ↦ elim (h.each r old) [
@@ -69,22 +69,22 @@ more_added app entry effects effect before mid after h more = record {
   some = λ x m. elim (among_cases x effects (effect ∷ []) (contained_among (effects ++ effect ∷ []) x m)) [
     | inl old ↦ still x (h.some x (among_contained effects x old))
     | inr last ↦ elim last [
-      | inl same ↦ subst (λ (y : EffectCase). HasRulesFor app entry y after) (sym same) more.some
+      | inl same ↦ subst (λ (y : EffectCase). HasRulesFor app p entry y after) (sym same) more.some
       | inr none ↦ absurd none
     ]
   ];
 }
   where
-    still : (x : EffectCase) → HasRulesFor app entry x mid → HasRulesFor app entry x after
+    still : (x : EffectCase) → HasRulesFor app p entry x mid → HasRulesFor app p entry x after
     still x has value d values passes decides =
         let r = has value d values passes decides in
         record { outcome = r.outcome; listed = more.kept (rule_of x r.outcome) r.listed; decision = r.decision; is = r.is }
 
-pub added_on : (app : App) (entry : Entry) (effects : List EffectCase) (i : ℕ) (effect : EffectCase) (before mid after : List Rule) → i < length effects → get_or effects i effect ≡ effect →
-    AreAllAdded app entry (take i effects) before mid → AreAdded app entry effect mid after → AreAllAdded app entry (take (i + 1) effects) before after
-added_on app entry effects i effect before mid after lt is h more =
+pub added_on : (app : App) (p : Point) (entry : Entry) (effects : List EffectCase) (i : ℕ) (effect : EffectCase) (before mid after : List Rule) → i < length effects → get_or effects i effect ≡ effect →
+    AreAllAdded app p entry (take i effects) before mid → AreAdded app p entry effect mid after → AreAllAdded app p entry (take (i + 1) effects) before after
+added_on app p entry effects i effect before mid after lt is h more =
     let last : take (i + 1) effects ≡ take i effects ++ effect ∷ [] = take_more effects i effect lt ∙ ap (λ (x : EffectCase). take i effects ++ x ∷ []) is in
-    subst (λ (xs : List EffectCase). AreAllAdded app entry xs before after) (sym last) (more_added app entry (take i effects) effect before mid after h more)
+    subst (λ (xs : List EffectCase). AreAllAdded app p entry xs before after) (sym last) (more_added app p entry (take i effects) effect before mid after h more)
 
 -- a task or a routine executes there
 abbrev pub IsExecuting : Point → Type 0

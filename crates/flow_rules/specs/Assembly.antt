@@ -18,10 +18,10 @@ abbrev pub rule_of : EffectCase → OutcomeCase → Rule
 rule_of effect outcome = rule_by effect outcome.conditions outcome.decision outcome.target
 
 -- the rule is that of an effect and an outcome which is right wherever both pass
-pub record IsRuleOf (app : App) (entry : Entry) (effect : EffectCase) (rule : Rule) : Type 0 where
+pub record IsRuleOf (app : App) (p : Point) (entry : Entry) (effect : EffectCase) (rule : Rule) : Type 0 where
   pub outcome : OutcomeCase
   pub is : rule ≡ rule_of effect outcome
-  pub exact : (value : ℕ → PartValue) → AreValuesOf app entry value → PassesAll app effect.conditions value → PassesAll app outcome.conditions value → HasOutcome app effect outcome value
+  pub exact : (value : ℕ → PartValue) → AreValuesOf app p entry value → PassesAll app effect.conditions value → PassesAll app outcome.conditions value → HasOutcome app effect outcome value
 
 -- a rule of the effect is among these, whose outcome is the one decided
 pub record HasRuleFor (app : App) (effect : EffectCase) (rules : List Rule) (d : Decision) (value : ℕ → PartValue) : Type 0 where
@@ -31,24 +31,24 @@ pub record HasRuleFor (app : App) (effect : EffectCase) (rules : List Rule) (d :
   pub is : HasOutcome app effect outcome value
 
 -- what the scheduler decides after the effect has a rule
-abbrev pub HasRulesFor : App → Entry → EffectCase → List Rule → Type 0
-HasRulesFor app entry effect rules =
-    (value : ℕ → PartValue) (d : Decision) → AreValuesOf app entry value → PassesAll app effect.conditions value → Decides app (values_after effect.changes value) effect.asked d → HasRuleFor app effect rules d value
+abbrev pub HasRulesFor : App → Point → Entry → EffectCase → List Rule → Type 0
+HasRulesFor app p entry effect rules =
+    (value : ℕ → PartValue) (d : Decision) → AreValuesOf app p entry value → PassesAll app effect.conditions value → Decides app (values_after effect.changes value) effect.asked d → HasRuleFor app effect rules d value
 
 -- the rules of an effect come to these
-pub record AreAdded (app : App) (entry : Entry) (effect : EffectCase) (before after : List Rule) : Type 0 where
+pub record AreAdded (app : App) (p : Point) (entry : Entry) (effect : EffectCase) (before after : List Rule) : Type 0 where
   pub kept : (rule : Rule) → Contains before rule → Contains after rule
-  pub each : (rule : Rule) → Contains after rule → Contains before rule ⊎ IsRuleOf app entry effect rule
-  pub some : HasRulesFor app entry effect after
+  pub each : (rule : Rule) → Contains after rule → Contains before rule ⊎ IsRuleOf app p entry effect rule
+  pub some : HasRulesFor app p entry effect after
 
 -- the rule is that of one of these effects
-pub record IsRuleOfSome (app : App) (entry : Entry) (effects : List EffectCase) (rule : Rule) : Type 0 where
+pub record IsRuleOfSome (app : App) (p : Point) (entry : Entry) (effects : List EffectCase) (rule : Rule) : Type 0 where
   pub effect : EffectCase
   pub listed : Contains effects effect
-  pub is : IsRuleOf app entry effect rule
+  pub is : IsRuleOf app p entry effect rule
 
 -- the rules of all these effects came to those that there were
-pub record AreAllAdded (app : App) (entry : Entry) (effects : List EffectCase) (before after : List Rule) : Type 0 where
+pub record AreAllAdded (app : App) (p : Point) (entry : Entry) (effects : List EffectCase) (before after : List Rule) : Type 0 where
   pub kept : (rule : Rule) → Contains before rule → Contains after rule
-  pub each : (rule : Rule) → Contains after rule → Contains before rule ⊎ IsRuleOfSome app entry effects rule
-  pub some : (effect : EffectCase) → Contains effects effect → HasRulesFor app entry effect after
+  pub each : (rule : Rule) → Contains after rule → Contains before rule ⊎ IsRuleOfSome app p entry effects rule
+  pub some : (effect : EffectCase) → Contains effects effect → HasRulesFor app p entry effect after

@@ -12,4 +12,4 @@ pub record AddsInstructions (app : App) (p : Point) (entry : Entry) (before afte
   pub effects : List EffectCase
   pub covering : CoverEffects app p entry effects
   pub exact : AreAllAllowed app p entry → AreExactEffects app p entry effects
-  pub added : AreAllAdded app entry effects before after
+  pub added : AreAllAdded app p entry effects before after

@@ -1,6 +1,4 @@
 pub mod Arrivals
 pub mod Assembly
-pub mod Ends
 pub mod Instructions
 pub mod Passing
-pub mod RuleGroups

@@ -1,13 +1,17 @@
 -- What a rule makes of the values of one component.
 use Rattle.std.specs.Prelude.{◌≡◌, ◌<◌, ◌==◌, ◌||◌, ℕ, Bool, not, List, length, nat_le, IsTrue}
 use Rattle.std.specs.List.{list_any}
+use Rattle.osek_standard.specs.declared.app.App.{App}
 use Rattle.abstract_state.specs.declared.value.{PartValue.{PartValue}, Domain.{Domain}}
 use Rattle.abstract_state.specs.declared.table.{ValueSet.{ValueSet}, Entry.{Entry}}
 use Rattle.abstract_state.specs.ValueOrder.{same_part, IsAscending}
+use Rattle.abstract_state.specs.Components.{component_at, component_count}
+use Rattle.abstract_state.specs.Domains.{IsWithin, domain_of}
 use Rattle.abstract_state.specs.Tables.{set_at, is_member}
 use Rattle.flow_model.specs.declared.test.Condition.{Condition}
 use Rattle.flow_model.specs.declared.rule.Rule.{Rule}
-use Rattle.flow_model.specs.Tests.{is_failed, PassesAt, value_after}
+use Rattle.flow_model.specs.Effects.{AreIn}
+use Rattle.flow_model.specs.Tests.{is_failed, PassesAt, PassesAll, value_after}
 use Rattle.flow_model.specs.Rules.{Taken}
 
 -- a value of a list that the rule takes, and what it makes of it
@@ -28,13 +32,7 @@ pub record ArePassed (rule : Rule) (c : ℕ) (d : Domain) (old : List PartValue)
 abbrev pub AreTaken : Rule → Entry → Type 0
 AreTaken rule entry = (c : ℕ) → c < length entry.sets → Taken rule entry c
 
--- the rule takes the value of component c
-abbrev pub is_taken : Rule → ℕ → PartValue → Bool
-is_taken rule c v = not (list_any (is_failed c v) rule.conditions)
-
-abbrev pub is_filled : ValueSet → Bool
-is_filled set = not (length set.members == 0)
-
--- the rule takes some value of the component that the condition names, if the entry has it
-abbrev pub can_pass : Rule → Entry → Condition → Bool
-can_pass rule entry x = nat_le (length entry.sets) x.component.0 || list_any (is_taken rule x.component.0) (set_at entry x.component.0).members
+-- What the rule makes of the entry's values that pass lies in their components' domains.
+abbrev pub StaysInDomains : App → Entry → Rule → Type 0
+StaysInDomains app entry rule =
+    (value : ℕ → PartValue) → AreIn app entry value → PassesAll app rule.conditions value → (c : ℕ) → c < component_count app → IsWithin (domain_of app (component_at app c)) (value_after rule.changes c (value c))

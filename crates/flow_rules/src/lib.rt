@@ -1,19 +1,9 @@
-//! Rules: every step from the states of an entry, as cases, and what a case makes of an entry.
+//! Rules: every step from the states of an entry, as cases, and which routines may begin.
 #![tactic(auto)]
 
-mod applying;
-mod arrivals;
-mod ends;
-mod expanding;
-mod group;
+mod beginning;
 pub mod laws;
-mod possible;
 mod ruling;
 
-pub use applying::apply;
-pub use arrivals::arrival_groups;
-pub use ends::{has_possible_end, is_open_end};
-pub use expanding::rules;
-pub use group::{RuleGroup, ValueRules};
-pub use possible::is_possible;
-pub use ruling::rule_groups;
+pub use beginning::arrivals;
+pub use ruling::{add_rules, copied_effect};

@@ -41,13 +41,6 @@ from_one p targets order i j d lt below =
     (subst (IsBefore (flow_edge p (get_or targets i p))) (sym second) (inr (refl, order.pairs i j p lt there)))
 
 module _ (app : App) where
-  pub of_no_rows : AreOfRows app [] []
-  of_no_rows = record {
-    ascending = λ i j d lt below. absurd (omega (arith, below));
-    each = λ x h. absurd (omega (arith, h.1));
-    all = λ row q h. absurd (omega (arith, h.1));
-  }
-
   -- one more row, whose point is above those of the others
   pub of_more_rows : (done : List TableRow) (row : TableRow) (edges : List FlowEdge) (targets : List Point) → ((x : TableRow) → Contains done x → point_number x.point < point_number row.point) → AreOfRows app done edges → AreTargets app row.point row.entry targets
       → AreOfRows app (done ++ row ∷ []) (edges ++ map (flow_edge row.point) targets)

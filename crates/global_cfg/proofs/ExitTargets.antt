@@ -16,7 +16,8 @@ use Rattle.abstract_state.specs.Forms.{IsAnew}
 use Rattle.abstract_state.specs.Tables.{set_at, is_member}
 use Rattle.abstract_state.proofs.AllowedLaws.{well_point}
 use Rattle.flow_model.specs.Effects.{IsAt}
-use Rattle.flow_exits.specs.Exits.{Exit, IsBy, CoverSteps, IsStepTo, IsFilled, IsExact, AreExact}
+use Rattle.flow_exits.specs.declared.exit.Exit.{Exit}
+use Rattle.flow_exits.specs.Exits.{IsBy, CoverSteps, IsStepTo, IsFilled, IsExact, AreExact}
 use Rattle.global_cfg.specs.Targets.{IsEndOf, AreEndsPut, LeadsTo, AreTargets}
 use Rattle.global_cfg.proofs.LeadingOn.{next_well, target_point, moves_on, leads_where_it_moves, stays_silent}
 

@@ -8,6 +8,3 @@ module _ {X : Type 0} (items : List X) (i : ℕ) (x : X) (lt : i < length items)
   -- what is done after a turn
   pub turn_done : take i items ++ x ∷ [] ≡ take (i + 1) items
   turn_done = ap (λ (y : X). take i items ++ y ∷ []) is ∙ sym (take_more items i x lt)
-
-  pub turn_listed : Contains items x
-  turn_listed = subst (Contains items) (sym is) (Contains-get_or items i x lt)

@@ -9,7 +9,7 @@ use Rattle.osek_standard.proofs.Members.{among_contained, among_map, contained_a
 use Rattle.osek_standard.specs.declared.point.Point.{Point}
 use Rattle.osek_standard.specs.Points.{point_number}
 use Rattle.flow_model.specs.declared.case.Decision.{Decision}
-use Rattle.flow_exits.specs.Exits.{Exit}
+use Rattle.flow_exits.specs.declared.exit.Exit.{Exit}
 use Rattle.numbered_sets.specs.Pools.{Values}
 use Rattle.numbered_exits.specs.declared.group.{NumberEnd.{NumberEnd}, ExitGroup.{ExitGroup}}
 use Rattle.numbered_exits.specs.declared.group.Ends.TheVariants as ends

@@ -12,7 +12,7 @@ use Rattle.abstract_state.specs.Forms.{IsAnew}
 use Rattle.flow_model.specs.declared.case.Decision.{Decision}
 use Rattle.flow_model.specs.declared.case.Decision.TheVariants as decision
 use Rattle.flow_model.specs.Effects.{IsAt}
-use Rattle.flow_exits.specs.Exits.{Exit}
+use Rattle.flow_exits.specs.declared.exit.Exit.{Exit}
 use Rattle.numbered_exits.specs.declared.group.NumberEnd.{NumberEnd}
 use Rattle.global_cfg.specs.PointOrder.{AreInOrder, HasNumber}
 

@@ -10,7 +10,7 @@ use Rattle.abstract_state.specs.Components.{component_count}
 use Rattle.flow_model.specs.declared.case.{EffectCase.{EffectCase}}
 use Rattle.flow_model.specs.Rules.{Applies, HasNone}
 use Rattle.flow_exits.specs.declared.stay.Stay.TheVariants as stay
-use Rattle.flow_exits.specs.Exits.{Exit}
+use Rattle.flow_exits.specs.declared.exit.Exit.{Exit}
 use Rattle.flow_exits.specs.Leaving.{IsOfEffects, HasExitsFor, AddsDecided, effect_rule}
 use Rattle.flow_exits.proofs.AfterEffect.{decided_comes, decisions_covered, nothing_taken}
 use Rattle.numbered_sets.specs.declared.numbered_entry.NumberedEntry.{NumberedEntry}
@@ -55,15 +55,6 @@ pub all_decided : (app : App) (pool : List Values) (leaving : Leaving) (after : 
 all_decided app pool leaving after before now h = record { kept = h.kept; each = h.each; whole = λ value d within decides. h.whole value d within decides tt }
 
 module _ (app : App) (entry : Entry) where
-  pub no_effects : (pool : List Values) (groups : List ExitGroup) → AreKnownGroups pool groups → AddsEffects app entry [] pool groups pool groups
-  no_effects pool groups known = record {
-    longer = longer_itself pool;
-    known = known;
-    kept = λ x m. m;
-    each = λ x m. inl m;
-    some = λ effect m. absurd (contained_among [] effect m);
-  }
-
   more_effects : (effects : List EffectCase) (effect : EffectCase) (pool mid after : List Values) (a b c : List ExitGroup) → AddsEffects app entry effects pool a mid b → AddsEffects app entry (effect ∷ []) mid b after c →
       AddsEffects app entry (effects ++ effect ∷ []) pool a after c
   more_effects effects effect pool mid after a b c h k = record {

@@ -12,7 +12,7 @@ use Rattle.flow_model.specs.declared.case.Decision.{Decision}
 use Rattle.flow_model.specs.declared.case.Decision.TheVariants as decision
 use Rattle.flow_model.specs.Values.{is_live_value}
 use Rattle.flow_model.specs.Effects.{AreIn}
-use Rattle.flow_exits.specs.Exits.{Exit}
+use Rattle.flow_exits.specs.declared.exit.Exit.{Exit}
 use Rattle.flow_exits.specs.Leaving.{IsDecided, HasDecided}
 use Rattle.numbered_sets.specs.declared.numbered_entry.NumberedEntry.{NumberedEntry}
 use Rattle.numbered_sets.specs.Pools.{Values, values_at}
@@ -27,9 +27,6 @@ use Rattle.numbered_exits.proofs.NumberLaws.{member_number}
 use Rattle.numbered_exits.proofs.OwnLevels.{own_levels, own_judged}
 
 module _ (app : App) (pool : List Values) (leaving : Leaving) where
-  abbrev Decided : NumberedEntry → Exit → Type 0
-  Decided after x = IsDecided app leaving.asked leaving.stay leaving.status (plain_entry pool after) x
-
   -- an exit is still there
   still : (before now : List ExitGroup) (d : Decision) (value : ℕ → PartValue) → ((x : Exit) → Contains (all_exits pool before) x → Contains (all_exits pool now) x)
       → HasDecided app leaving.stay leaving.status (all_exits pool before) d value → HasDecided app leaving.stay leaving.status (all_exits pool now) d value

@@ -1,9 +1,7 @@
 -- The exits by which routines begin.
-use Rattle.std.proofs.Common.{◌≡◌, ℕ, ◌+◌, ◌<◌, true, List, [], ◌∷◌, ◌++◌, length, get_or, take, map, refl, sym, ap, subst, ◌∙◌, inl, inr, arith, None}
+use Rattle.std.proofs.Common.{◌≡◌, ℕ, ◌<◌, true, List, [], ◌∷◌, ◌++◌, length, map, refl, sym, ap, subst, ◌∙◌, inl, inr, arith, None}
 use Rattle.std.specs.Prelude.{◌==◌, Contains}
 use Rattle.std.proofs.lemmas.Bool.{eqb-true}
-use Rattle.std.proofs.lemmas.List.{take_more, map-append}
-use Rattle.std.proofs.lemmas.Grind.{flat_map-append}
 use Rattle.std.specs.declared.option.Option.{Option}
 use Rattle.osek_values.specs.declared.numbers.TaskNo.{TaskNo}
 use Rattle.osek_standard.specs.declared.app.App.{App}
@@ -12,11 +10,8 @@ use Rattle.osek_standard.specs.Apps.{source_count}
 use Rattle.osek_standard.proofs.Members.{among_contained, contained_among, among_map, map_among}
 use Rattle.abstract_state.specs.declared.table.Entry.{Entry}
 use Rattle.flow_model.specs.declared.rule.Rule.{Rule}
-use Rattle.flow_rules.specs.declared.group.{ValueRules.{ValueRules}, RuleGroup.{RuleGroup}}
-use Rattle.flow_rules.specs.declared.group.RuleGroup.TheVariants as rules
-use Rattle.flow_rules.specs.Arrivals.{arrival_rule, MayBegin}
-use Rattle.flow_rules.specs.RuleGroups.{rules_of, all_rules, AreArrivalGroups}
-use Rattle.flow_exits.specs.Exits.{Exit}
+use Rattle.flow_rules.specs.Arrivals.{arrival_rule, MayBegin, AreArrivals}
+use Rattle.flow_exits.specs.declared.exit.Exit.{Exit}
 use Rattle.flow_exits.specs.Leaving.{arrival_exit, IsArrivalExit}
 use Rattle.numbered_sets.specs.declared.numbered_entry.NumberedEntry.{NumberedEntry}
 use Rattle.numbered_sets.specs.Pools.{Values}
@@ -28,24 +23,21 @@ use Rattle.numbered_exits.specs.Leaving.{AddsArrivals}
 use Rattle.numbered_exits.proofs.GroupLaws.{old_exit, new_exit, exit_cases, known_with}
 
 -- where nothing begins
-pub nothing_begins : (app : App) (p : Point) (entry : Entry) (pool : List Values) (groups : List ExitGroup) (begun : List RuleGroup) → AreArrivalGroups app p begun → begun ≡ [] → AreKnownGroups pool groups → AddsArrivals app p entry pool groups groups
+pub nothing_begins : (app : App) (p : Point) (entry : Entry) (pool : List Values) (groups : List ExitGroup) (begun : List Rule) → AreArrivals app p begun → begun ≡ [] → AreKnownGroups pool groups → AddsArrivals app p entry pool groups groups
 nothing_begins app p entry pool groups begun arrivals none known = record {
   known = known;
   kept = λ x m. m;
   each = λ x m. inl m;
-  some = λ k over lt may. absurd (contained_among [] (arrival_rule app over k) (subst (λ (gs : List RuleGroup). Contains (all_rules gs) (arrival_rule app over k)) none (arrivals.arrivals.some k over lt may)));
+  some = λ k over lt may. absurd (contained_among [] (arrival_rule app over k) (subst (λ (rules : List Rule). Contains rules (arrival_rule app over k)) none (arrivals.some k over lt may)));
 }
 
-module _ (app : App) (p : Point) (pool : List Values) (entry : NumberedEntry) (before : List ExitGroup) (begun : List RuleGroup) (arrivals : AreArrivalGroups app p begun) where
-  abbrev pub rules_begun : List Rule
-  rules_begun = all_rules begun
-
+module _ (app : App) (p : Point) (pool : List Values) (entry : NumberedEntry) (before : List ExitGroup) (begun : List Rule) (arrivals : AreArrivals app p begun) where
   abbrev pub target_of : Rule → Point
   target_of rule = rule.target
 
-  module _ (g : ExitGroup) (undecided : g.decision ≡ None) (unnoted : g.status ≡ None) (its : g.entry ≡ entry) (at : g.ends ≡ ends.At (map target_of rules_begun)) where
+  module _ (g : ExitGroup) (undecided : g.decision ≡ None) (unnoted : g.status ≡ None) (its : g.entry ≡ entry) (at : g.ends ≡ ends.At (map target_of begun)) where
     abbrev begun_group : ExitGroup
-    begun_group = record { decision = None; status = None; entry = entry; ends = ends.At (map target_of rules_begun) }
+    begun_group = record { decision = None; status = None; entry = entry; ends = ends.At (map target_of begun) }
 
     is : g ≡ begun_group
     is i = record { decision = undecided i; status = unnoted i; entry = its i; ends = at i }
@@ -55,9 +47,9 @@ module _ (app : App) (p : Point) (pool : List Values) (entry : NumberedEntry) (b
 
     each_begins : (x : Exit) → Contains (exits_of pool begun_group) x → IsArrivalExit app p (plain_entry pool entry) x
     each_begins x m =
-        let q = map_among exit_to x (map target_of rules_begun) (contained_among (exits_of pool begun_group) x m) in
-        let rule = map_among target_of q.0 rules_begun q.1 in
-        let a = arrivals.arrivals.each rule.0 (among_contained rules_begun rule.0 rule.1) in
+        let q = map_among exit_to x (map target_of begun) (contained_among (exits_of pool begun_group) x m) in
+        let rule = map_among target_of q.0 begun q.1 in
+        let a = arrivals.each rule.0 (among_contained begun rule.0 rule.1) in
         record {
           source = a.source;
           over = a.over;
@@ -68,9 +60,9 @@ module _ (app : App) (p : Point) (pool : List Values) (entry : NumberedEntry) (b
 
     some_begins : (k : ℕ) (over : Option TaskNo) → k < source_count app → MayBegin app p over → Contains (exits_of pool begun_group) (arrival_exit app (plain_entry pool entry) over k)
     some_begins k over lt may =
-        let rule = arrivals.arrivals.some k over lt may in
+        let rule = arrivals.some k over lt may in
         among_contained (exits_of pool begun_group) (arrival_exit app (plain_entry pool entry) over k)
-        (among_map exit_to (target_of (arrival_rule app over k)) (map target_of rules_begun) (among_map target_of (arrival_rule app over k) rules_begun (contained_among rules_begun (arrival_rule app over k) rule)))
+        (among_map exit_to (target_of (arrival_rule app over k)) (map target_of begun) (among_map target_of (arrival_rule app over k) begun (contained_among begun (arrival_rule app over k) rule)))
 
     pub routines_begin : AreNumbersOf pool entry → AreKnownGroups pool before → AddsArrivals app p (plain_entry pool entry) pool before (before ++ g ∷ [])
     routines_begin numbers known = subst (λ (h : ExitGroup). AddsArrivals app p (plain_entry pool entry) pool before (before ++ h ∷ [])) (sym is) (record {
@@ -83,17 +75,6 @@ module _ (app : App) (p : Point) (pool : List Values) (entry : NumberedEntry) (b
       some = λ k over lt may. new_exit pool before begun_group (arrival_exit app (plain_entry pool entry) over k) (some_begins k over lt may);
     })
 
--- the targets of the rules by which routines begin, one group after another
-pub target_more : (items : List RuleGroup) (i : ℕ) (g : RuleGroup) (rule : Rule) → i < length items → g ≡ get_or items i g → g ≡ rules.One rule →
-    map (λ (r : Rule). r.target) (all_rules (take (i + 1) items)) ≡ map (λ (r : Rule). r.target) (all_rules (take i items)) ++ rule.target ∷ []
-target_more items i g rule lt e is =
-    ap (λ (gs : List RuleGroup). map (λ (r : Rule). r.target) (all_rules gs)) (take_more items i g lt ∙ ap (λ (h : RuleGroup). take i items ++ h ∷ []) (sym e ∙ is))
-    ∙ ap (map (λ (r : Rule). r.target)) (flat_map-append rules_of (take i items) (rules.One rule ∷ []))
-    ∙ map-append (λ (r : Rule). r.target) (all_rules (take i items)) (rule ∷ [])
-
-pub nothing_there : (xs : List RuleGroup) → (length xs == 0) ≡ true → xs ≡ []
+pub nothing_there : (xs : List Rule) → (length xs == 0) ≡ true → xs ≡ []
 nothing_there [] e = refl
 nothing_there (x ∷ xs) e = (let none = eqb-true (length (x ∷ xs)) 0 e in absurd (omega (arith, none)))
-
-pub never_each : (app : App) (p : Point) (begun : List RuleGroup) → AreArrivalGroups app p begun → (g : RuleGroup) (k : ValueRules) → Contains begun g → g ≡ rules.Each k → ⊥
-never_each app p begun arrivals g k m is = arrivals.alone k (subst (Contains begun) is m)

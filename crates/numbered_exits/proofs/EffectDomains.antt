@@ -16,7 +16,7 @@ use Rattle.abstract_state.proofs.DomainValues.{allowed_within}
 use Rattle.flow_model.specs.declared.case.EffectCase.{EffectCase}
 use Rattle.flow_model.specs.Tests.{value_after}
 use Rattle.flow_model.specs.Effects.{AreExactEffects}
-use Rattle.flow_rules.specs.RuleGroups.{StaysInDomains}
+use Rattle.flow_rules.specs.Passing.{StaysInDomains}
 use Rattle.flow_exits.specs.Leaving.{effect_rule}
 use Rattle.numbered_rules.specs.Applying.{KeepsDomains}
 use Rattle.numbered_rules.proofs.KeptDomains.{shared_keep}

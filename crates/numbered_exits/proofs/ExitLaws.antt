@@ -17,7 +17,8 @@ use Rattle.flow_model.specs.Effects.{AreIn}
 use Rattle.flow_model.specs.Scheduling.{end_point}
 use Rattle.flow_exits.specs.declared.stay.Stay.{Stay}
 use Rattle.flow_exits.specs.declared.stay.Stay.TheVariants as stay
-use Rattle.flow_exits.specs.Exits.{Exit, IsFilled}
+use Rattle.flow_exits.specs.declared.exit.Exit.{Exit}
+use Rattle.flow_exits.specs.Exits.{IsFilled}
 use Rattle.flow_exits.specs.Leaving.{stay_point, HasDecided}
 use Rattle.numbered_sets.specs.declared.numbered_entry.NumberedEntry.{NumberedEntry}
 use Rattle.numbered_sets.specs.NumberedEntries.{AreFilled}

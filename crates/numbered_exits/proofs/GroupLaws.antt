@@ -4,7 +4,7 @@ use Rattle.std.specs.Prelude.{Contains}
 use Rattle.std.proofs.lemmas.List.{append-nil}
 use Rattle.std.proofs.lemmas.List.Elements.{Contains-append_left, Contains-append_right, Contains-append_cases, Contains-push_cases}
 use Rattle.std.proofs.lemmas.Grind.{flat_map-append}
-use Rattle.flow_exits.specs.Exits.{Exit}
+use Rattle.flow_exits.specs.declared.exit.Exit.{Exit}
 use Rattle.numbered_sets.specs.Pools.{Values}
 use Rattle.numbered_exits.specs.declared.group.ExitGroup.{ExitGroup}
 use Rattle.numbered_exits.specs.Groups.{exits_of, all_exits, IsKnownGroup, AreKnownGroups}

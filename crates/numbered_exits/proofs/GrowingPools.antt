@@ -4,7 +4,7 @@ use Rattle.std.proofs.lemmas.List.{get_or_default, length-append}
 use Rattle.osek_standard.specs.declared.point.Point.{Point}
 use Rattle.osek_standard.proofs.Members.{Among, among_contained}
 use Rattle.abstract_state.specs.declared.{value.{PartValue.{PartValue}, PartValue.TheVariants.{OfAlarm}}, table.Entry.{Entry}}
-use Rattle.flow_exits.specs.Exits.{Exit}
+use Rattle.flow_exits.specs.declared.exit.Exit.{Exit}
 use Rattle.numbered_sets.specs.declared.numbered_entry.NumberedEntry.{NumberedEntry}
 use Rattle.numbered_sets.specs.Pools.{Values, values_at, IsLonger}
 use Rattle.numbered_sets.specs.Views.{plain_entry, AreNumbersOf}

@@ -16,3 +16,8 @@ pub mod LeavingPoints
 pub mod ReadValues
 pub mod ReturningPoints
 pub mod EffectDomains
+pub mod BarredValues
+pub mod AllowedSets
+pub mod AllowedValues
+pub mod RuledExits
+pub mod RuledPoints

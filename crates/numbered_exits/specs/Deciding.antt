@@ -14,7 +14,7 @@ use Rattle.flow_model.specs.Effects.{AreIn}
 use Rattle.flow_model.specs.Scheduling.{Decides}
 use Rattle.flow_exits.specs.declared.stay.Stay.{Stay}
 use Rattle.flow_exits.specs.declared.stay.Stay.TheVariants as stay
-use Rattle.flow_exits.specs.Exits.{Exit}
+use Rattle.flow_exits.specs.declared.exit.Exit.{Exit}
 use Rattle.flow_exits.specs.Leaving.{IsDecided, HasDecided}
 use Rattle.numbered_sets.specs.declared.numbered_entry.NumberedEntry.{NumberedEntry}
 use Rattle.numbered_sets.specs.Numbers.{has_number}

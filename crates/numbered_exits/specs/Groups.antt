@@ -7,7 +7,7 @@ use Rattle.numbered_sets.specs.Numbers.{numbers, with_number}
 use Rattle.numbered_sets.specs.NumberedEntries.{numbers_at}
 use Rattle.numbered_sets.specs.Pools.{Values, values_at}
 use Rattle.numbered_sets.specs.Views.{plain_entry, AreNumbersOf}
-use Rattle.flow_exits.specs.Exits.{Exit}
+use Rattle.flow_exits.specs.declared.exit.Exit.{Exit}
 use Rattle.numbered_exits.specs.declared.group.{NumberEnd.{NumberEnd}, Ends.{Ends}, ExitGroup.{ExitGroup}}
 use Rattle.numbered_exits.specs.declared.group.Ends.TheVariants as ends
 

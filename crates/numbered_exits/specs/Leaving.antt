@@ -11,7 +11,7 @@ use Rattle.abstract_state.specs.declared.table.Entry.{Entry}
 use Rattle.flow_model.specs.declared.case.EffectCase.{EffectCase}
 use Rattle.flow_model.specs.Effects.{AreAllAllowed, CoverEffects, AreExactEffects}
 use Rattle.flow_rules.specs.Arrivals.{MayBegin}
-use Rattle.flow_exits.specs.Exits.{Exit}
+use Rattle.flow_exits.specs.declared.exit.Exit.{Exit}
 use Rattle.flow_exits.specs.Leaving.{IsOfEffects, HasExitsFor, arrival_exit, IsArrivalExit}
 use Rattle.numbered_sets.specs.Pools.{Values, IsLonger}
 use Rattle.numbered_exits.specs.declared.group.ExitGroup.{ExitGroup}

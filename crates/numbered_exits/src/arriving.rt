@@ -1,16 +1,15 @@
 //! Routines that may begin at a point.
 ghost use Rattle.std.specs.Prelude.{◌≡◌, map, IfOk, OnOk};
-ghost use Rattle.osek_standard.specs.declared.{app.App.{App}, point.Point.{Point}};
 ghost use Rattle.osek_standard.specs.Points.{IsPoint};
 ghost use Rattle.flow_model.specs.declared.rule.Rule.{Rule};
-ghost use Rattle.flow_rules.specs.RuleGroups.{all_rules, AreArrivalGroups};
 ghost use Rattle.numbered_sets.specs.Views.{plain_entry, AreNumbersOf};
 ghost use Rattle.numbered_exits.specs.Groups.{AreKnownGroups};
 ghost use Rattle.numbered_exits.specs.Leaving.{AddsArrivals};
 
 use crate::group::{Ends, ExitGroup};
 use abstract_state::Point;
-use flow_rules::{RuleGroup, arrival_groups};
+use flow_model::Rule;
+use flow_rules::arrivals;
 use numbered_sets::{NumberedEntry, Pool};
 use osek_standard::App;
 use osek_values::{Memory, Seq};
@@ -30,11 +29,11 @@ pub fn push_arrivals(
     requires known { AreKnownGroups pool.now groups.old.items }
     ensures { OnOk result (AddsArrivals app.now point (plain_entry pool.now entry.now) pool.now groups.old.items groups.new.items) }
 {
-    let begun = arrival_groups(alloc, app, point)?;
+    let begun = arrivals(alloc, app, point)?;
     if begun.is_empty() {
         return Ok(());
     }
-    let targets = targets(alloc, &begun)?;
+    let targets = targets(alloc, begun.as_slice())?;
     let entry = entry.copy(alloc)?;
     groups.push(ExitGroup {
         decision: None,
@@ -46,15 +45,12 @@ pub fn push_arrivals(
 }
 
 // the points at which they begin
-fn targets(alloc: Global, begun: &Seq<RuleGroup>) -> Result<Seq<Point>, Memory>
-    ensures { (app : App) (p : Point) → AreArrivalGroups app p begun.now → IfOk result (λ targets. targets ≡ map (λ (rule : Rule). rule.target) (all_rules begun.now)) }
+fn targets(alloc: Global, begun: &[Rule]) -> Result<Seq<Point>, Memory>
+    ensures { IfOk result (λ targets. targets ≡ map (λ (rule : Rule). rule.target) begun.now) }
 {
     let mut targets = Seq::of(Vec::with_capacity(alloc, begun.len())?);
-    for group in begun.as_slice() {
-        match group {
-            RuleGroup::One(rule) => targets.push(rule.target)?,
-            RuleGroup::Each(_values) => {}
-        }
+    for rule in begun {
+        targets.push(rule.target)?;
     }
     Ok(targets)
 }

@@ -94,8 +94,8 @@ fn push_instructions(
     }
 }
 
-// the effects of the instruction, by the values of the one task that it goes by
-fn effects_at(
+/// The effects of the instruction, by the values of the one task that it goes by
+pub fn effects_at(
     alloc: Global,
     app: &App,
     point: Point,
@@ -148,8 +148,8 @@ fn push_effects(
     Ok(())
 }
 
-// adds the exits of an effect, if it takes a value of each component
-fn push_effect(
+/// Adds the exits of an effect, if it takes a value of each component
+pub fn push_effect(
     alloc: Global,
     app: &App,
     effect: EffectCase,

@@ -12,7 +12,7 @@ ghost use Rattle.numbered_exits.specs.Deciding.{AddsOne, AddsFor, IsAlive, IsIt,
 use crate::claiming::left_by;
 use crate::deciding::{Leaving, at_blocks};
 use crate::group::ExitGroup;
-use flow_dispatch::Claim;
+use flow_dispatch::{Claim, is_running};
 use flow_model::Decision;
 use numbered_levels::{Level, Levels};
 use numbered_sets::{NumberedEntry, Pool};
@@ -84,15 +84,6 @@ fn push_winner(
         )?;
     }
     Ok(())
-}
-
-fn is_running(over: Option<TaskNo>, task: TaskNo) -> bool
-    ensures { result ≡ is_that_task over task.0 }
-{
-    match over {
-        None => false,
-        Some(running) => running.0 == task.0,
-    }
 }
 
 fn push_winner_at(

@@ -9,7 +9,8 @@ use Rattle.abstract_state.specs.declared.{table.{ValueSet.{ValueSet}, TableRow.{
 use Rattle.abstract_state.specs.Domains.{HasMasks, domains, domains_of}
 use Rattle.abstract_state.specs.ValueOrder.{IsAscending}
 use Rattle.abstract_state.specs.Tables.{empty_set, AreAscending}
-use Rattle.flow_exits.specs.Exits.{Exit, IsFilled, AreExact}
+use Rattle.flow_exits.specs.declared.exit.Exit.{Exit}
+use Rattle.flow_exits.specs.Exits.{IsFilled, AreExact}
 use Rattle.flow_exits.specs.Leaving.{AreExits}
 use Rattle.flow_exits.proofs.Covering.{exits_cover, exits_shown}
 use Rattle.numbered_sets.specs.declared.numbered_entry.NumberedEntry.{NumberedEntry}

@@ -14,7 +14,7 @@ use Rattle.numbered_sets.specs.Views.{plain_entry}
 use Rattle.numbered_exits.specs.declared.group.{NumberEnd.{NumberEnd}, Ends.{Ends}, ExitGroup.{ExitGroup}}
 use Rattle.numbered_exits.specs.declared.group.Ends.TheVariants as ends
 use Rattle.numbered_exits.specs.Groups.{holding, exits_by, exits_of, all_exits}
-use Rattle.flow_exits.specs.Exits.{Exit}
+use Rattle.flow_exits.specs.declared.exit.Exit.{Exit}
 use Rattle.state_flow.specs.declared.cells.Cell.{Cell}
 use Rattle.state_flow.specs.Rows.{row_at, IsProperRow}
 use Rattle.state_flow.proofs.Joining.{joined_none, joined_then}

@@ -146,10 +146,6 @@ module _ (app : App) (pool : List Values) (cells : List (Cell NumberedEntry)) (p
         (subst (λ (xs : List (Cell Entry)). AreJoined app xs h.rows (plain_cells after end)) asked_same h.joined) n progress.progress;
   }
 
--- an entry of the pool's numbers has a set for each of its components
-pub sets_as_many : (pool : List Values) (entry : NumberedEntry) → AreNumbersOf pool entry → length entry.sets ≡ length pool
-sets_as_many pool entry known = sym (length-map entry.sets (λ (x : Numbers). x.domain)) ∙ ap length known.domains ∙ length-map pool (λ (x : Values). x.domain)
-
 pub domains_kept : (ds : List Domain) → pool_domains (map no_values ds) ≡ ds
 domains_kept [] = refl
 domains_kept (d ∷ ds) = ap (λ (es : List Domain). d ∷ es) (domains_kept ds)

@@ -12,15 +12,6 @@ ghost use Rattle.state_flow.specs.declared.cells.Cell.{Cell};
 ghost use Rattle.state_flow.specs.Cells.{IsRaised, IsJoined};
 ghost use Rattle.numbered_flow.specs.PlainCells.{plain_cell, plain_cells, AreCellsOf};
 
-/// Where a numbered entry was joined to a cell's, the entry of its values was joined to that of the cell's values.
-pub fn numbered_cells_are_raised_as_plain_ones()
-    ensures known { (pool : List Values) (cell after : Cell NumberedEntry) (entry : NumberedEntry) → All AreValues pool → AreNumbersOf pool cell.entry → AreNumbersOf pool entry →
-        IsRaised AreSoundNumbers (λ a b. number_domains a ≡ number_domains b) IsBelowNumbers entry_numbers cell entry after → AreNumbersOf pool after.entry }
-    ensures raised { (pool : List Values) (cell after : Cell NumberedEntry) (entry : NumberedEntry) → All AreValues pool → AreNumbersOf pool cell.entry → AreNumbersOf pool entry →
-        IsRaised AreSoundNumbers (λ a b. number_domains a ≡ number_domains b) IsBelowNumbers entry_numbers cell entry after →
-        IsRaised IsSoundEntry (λ a b. domains a ≡ domains b) IsBelow entry_values (plain_cell pool cell) (plain_entry pool entry) (plain_cell pool after) }
-{}
-
 /// So it is for the cells of all points.
 pub fn numbered_cells_are_joined_as_plain_ones()
     ensures known { (pool : List Values) (cells after : List (Cell NumberedEntry)) (point : Point) (entry : NumberedEntry) → All AreValues pool → AreCellsOf pool cells → AreNumbersOf pool entry →

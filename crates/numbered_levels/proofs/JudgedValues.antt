@@ -57,16 +57,6 @@ live_if_some app u (Waiting b) own e = absurd (cc)
 pub is_live_at : (app : App) (u : ℕ) (v : PartValue) (o : Option Candidate) (own : Candidate) → o ≡ candidate_of app u (val_of v) → o ≡ Some own → IsLiveAt app u own.priority v
 is_live_at app u v o own read some = (let live = live_if_some app u (val_of v) own (sym read ∙ some) in record { live = live.0; priority = live.1 })
 
--- ---- levels
-
-pub none_judged : (app : App) (u : ℕ) (vs : List PartValue) (x : TaskLevels) (d : Domain) → x.judged ≡ 0 → x.dead ≡ numbers d 0 → x.levels ≡ [] → AreTaskLevels app u vs x
-none_judged app u vs x d begun dead none = record {
-  few = omega (arith, begun);
-  dead = λ n v has. absurd (none_of x.dead d n dead has);
-  levels = λ level there. absurd (let no = ap length none in omega (arith, there.1, no));
-  whole = λ n lt. absurd (omega (arith, lt, begun));
-}
-
 module _ (app : App) (u : ℕ) (vs : List PartValue) where
   -- a level without a number
   pub level_added : (x : TaskLevels) (levels : List Level) (l : Level) (d : Domain) → AreTaskLevels app u vs x → levels ≡ x.levels ++ l ∷ [] → l.numbers ≡ numbers d 0 → AreTaskLevels app u vs (record x { levels = levels })

@@ -51,9 +51,6 @@ pub record AreLevelsUpTo (app : App) (pool : List Values) (k : ℕ) (tasks : Lis
   pub size : length tasks ≡ k
   pub each : (u : ℕ) (d : TaskLevels) → u < k → AreTaskLevels app u (values_at pool u) (get_or tasks u d)
 
-pub no_levels : (app : App) (pool : List Values) → AreLevelsUpTo app pool 0 []
-no_levels app pool = record { size = refl; each = λ u d lt. absurd (omega (arith, lt)) }
-
 pub levels_next : (app : App) (pool : List Values) (k : ℕ) (tasks : List TaskLevels) (x : TaskLevels) → AreLevelsUpTo app pool k tasks → ((u : ℕ) (vs : List PartValue) → AreTaskLevels app u vs x) → AreLevelsUpTo app pool (k + 1) (tasks ++ x ∷ [])
 levels_next app pool k tasks x h each = record {
   size = omega (arith, length-append tasks (x ∷ []), h.size);
@@ -89,33 +86,6 @@ module _ (app : App) (pool : List Values) (levels after : Levels) (k : ℕ) (x :
     | inl same ↦ ap (λ (y : TaskLevels). y.judged) (here u d same) ∙ all ∙ ap (λ (j : ℕ). length (values_at pool j)) (sym same)
     | inr differ ↦ ap (λ (y : TaskLevels). y.judged) (there u d differ) ∙ so_far u d (omega (arith, lt, differ))
   ]
-
--- ---- the numbers of an entry
-
-pub all_judged : (app : App) (pool : List Values) (levels : Levels) (entry : NumberedEntry) (u : ℕ) (d : TaskLevels) → AreAllLevels app pool levels → AreNumbersOf pool entry → u < length app.tasks
-    → AreAllJudged (get_or levels.tasks u d) (numbers_at entry u)
-all_judged app pool levels entry u d h known lt n has = (let all = h.all u d lt in let there = known.known u n has in omega (arith, all, there))
-
--- The number is one of the entry's, and that of a value with which the task is Live at the level's priority.
-pub record IsAtLevel (app : App) (u : ℕ) (vs : List PartValue) (level : Level) (x : Numbers) (n : ℕ) (d : PartValue) : Type 0 where
-  pub has : IsTrue (has_number x n)
-  pub known : n < length vs
-  pub live : IsLiveAt app u level.priority (get_or vs n d)
-
-module _ (app : App) (u : ℕ) (vs : List PartValue) (levels : TaskLevels) (level : Level) (h : AreTaskLevels app u vs levels) (listed : Contains levels.levels level) (x : Numbers) where
-  -- what a level leaves of the numbers
-  pub kept_at_level : (n : ℕ) (d : PartValue) → IsTrue (has_number (kept_numbers x level.numbers) n) → IsAtLevel app u vs level x n d
-  kept_at_level n d has =
-      let both = and_parts (has_number x n) (has_number level.numbers n) (sym (has_kept x level.numbers n) ∙ has) in
-      let its = h.levels level listed n d both.1 in
-      record { has = both.0; known = omega (arith, its.0, h.few); live = its.1 }
-
-  -- where the entry meets the level there is one
-  pub some_at_level : (d : PartValue) → IsTrue (meets x level.numbers) → (n : ℕ) × IsAtLevel app u vs level x n d
-  some_at_level d met =
-      let common = common_of x level.numbers met in
-      let its = h.levels level listed common.number d common.second in
-      (common.number, record { has = common.first; known = omega (arith, its.0, h.few); live = its.1 })
 
 -- ---- what a narrowed entry means
 
@@ -153,50 +123,8 @@ module _ (P : PartValue → Bool) (pool : List Values) (c : ℕ) (entry after : 
       ∙ value_sifted vs (has_number (numbers_at entry c)) (has_number (numbers_at after c)) P v (λ n d lt. h.each n d)
       ∙ ap (λ (b : Bool). b && P v) (sym (member_of_plain vs (numbers_at entry c) v) ∙ ap (λ (s : ValueSet). is_member s v) (sym (plain_set_at pool entry c)))
 
-  pub narrowed_domain : (set_at (plain_entry pool after) c).domain ≡ (set_at (plain_entry pool entry) c).domain
-  narrowed_domain =
-      ap (λ (s : ValueSet). s.domain) (plain_set_at pool after c) ∙ h.domain ∙ ap (λ (s : ValueSet). s.domain) (sym (plain_set_at pool entry c))
-
   pub narrowed_beside : (k : ℕ) → k ≢ c → set_at (plain_entry pool after) k ≡ set_at (plain_entry pool entry) k
   narrowed_beside k differ = plain_set_at pool after k ∙ ap (plain_set (values_at pool k)) (narrowed_elsewhere k differ) ∙ sym (plain_set_at pool entry k)
 
   pub narrowed_size : length after.sets ≡ length entry.sets
   narrowed_size = ap length h.rest ∙ length-set entry.sets c (numbers_at after c)
-
--- where all pass nothing changes
-pub not_narrowed : (pool : List Values) (c : ℕ) (entry : NumberedEntry) → IsNarrowed (λ v. true) pool c entry entry
-not_narrowed pool c entry = record {
-  rest = sym (set-get_or entry.sets c no_set);
-  domain = refl;
-  each = λ n d. and_true (has_number (numbers_at entry c) n);
-}
-  where
-    and_true : (b : Bool) → b ≡ (b && true)
-    and_true true = refl
-    and_true false = refl
-
-and_onward : (a b c : Bool) → ((a && b) && c) ≡ (a && (b && c))
-and_onward true b c = refl
-and_onward false b c = refl
-
--- one after the other, of one component
-pub narrowed_twice : (P Q : PartValue → Bool) (pool : List Values) (c : ℕ) (entry between after : NumberedEntry) → IsNarrowed P pool c entry between → IsNarrowed Q pool c between after → IsNarrowed (λ v. P v && Q v) pool c entry after
-narrowed_twice P Q pool c entry between after h k = record {
-  rest = k.rest ∙ ap (λ (xs : List Numbers). set xs c (numbers_at after c)) h.rest ∙ set-set entry.sets c (numbers_at between c) (numbers_at after c);
-  domain = k.domain ∙ h.domain;
-  each = λ n d.
-      k.each n d ∙ ap (λ (b : Bool). b && Q (get_or (values_at pool c) n d)) (h.each n d)
-      ∙ and_onward (has_number (numbers_at entry c) n) (P (get_or (values_at pool c) n d)) (Q (get_or (values_at pool c) n d));
-}
-
--- tests that agree on the component's values
-pub narrowed_alike : (P Q : PartValue → Bool) (pool : List Values) (c : ℕ) (entry after : NumberedEntry) → ((v : PartValue) → P v ≡ Q v) → IsNarrowed P pool c entry after → IsNarrowed Q pool c entry after
-narrowed_alike P Q pool c entry after same h = record {
-  rest = h.rest;
-  domain = h.domain;
-  each = λ n d. h.each n d ∙ ap (λ (b : Bool). has_number (numbers_at entry c) n && b) (same (get_or (values_at pool c) n d));
-}
-
--- judged numbers stay judged
-pub narrowed_judged : (P : PartValue → Bool) (pool : List Values) (c k : ℕ) (entry after : NumberedEntry) (levels : TaskLevels) → IsNarrowed P pool c entry after → AreAllJudged levels (numbers_at entry k) → AreAllJudged levels (numbers_at after k)
-narrowed_judged P pool c k entry after levels h all n has = all n (narrowed_fewer P pool c entry after h k n (OfAlarm false) has)

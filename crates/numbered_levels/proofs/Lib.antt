@@ -1,4 +1,3 @@
 pub mod JudgedValues
 pub mod NarrowingLaws
 pub mod LevelLaws
-pub mod LevelMembers

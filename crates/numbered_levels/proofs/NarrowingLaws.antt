@@ -189,16 +189,6 @@ pub record AreCutUpTo (levels : List Level) (limit c k : ℕ) (entry after : Num
   pub gone : (n i : ℕ) (d : Level) → IsTrue (has_number (numbers_at after c) n) → i < k → limit ≤ (get_or levels i d).priority → has_number (get_or levels i d).numbers n ≡ false
   pub stays : (n : ℕ) → IsTrue (has_number (numbers_at entry c) n) → ((i : ℕ) (d : Level) → i < k → limit ≤ (get_or levels i d).priority → has_number (get_or levels i d).numbers n ≡ false) → IsTrue (has_number (numbers_at after c) n)
 
-pub none_cut : (levels : List Level) (limit c : ℕ) (entry : NumberedEntry) → AreCutUpTo levels limit c 0 entry entry
-none_cut levels limit c entry = record {
-  few = omega arith;
-  as_many = refl;
-  replaced = not_replaced c entry;
-  fewer = λ n has. has;
-  gone = λ n i d has lt. absurd (omega (arith, lt));
-  stays = λ n has none. has;
-}
-
 lacks : (a b : Bool) → (a && not b) ≡ true → b ≡ false
 lacks true true e = absurd (cc)
 lacks true false e = refl

@@ -21,20 +21,21 @@ use Rattle.abstract_state.proofs.DomainValues.{allowed_within}
 use Rattle.flow_model.specs.declared.rule.Rule.{Rule}
 use Rattle.flow_model.specs.Tests.{PassesAt, value_after}
 use Rattle.flow_model.specs.Rules.{Exact, Shown}
-use Rattle.flow_rules.specs.RuleGroups.{StaysInDomains}
+use Rattle.flow_rules.specs.Passing.{StaysInDomains}
 use Rattle.numbered_rules.specs.Applying.{AreTaken, KeepsDomains}
 
-module _ (app : App) (entry : Entry) (rule : Rule) (alike : domains entry ≡ domains_of app) (taken : AreTaken rule entry) where
-  size : length entry.sets ≡ component_count app
+module _ (app : App) (entry : Entry) (alike : domains entry ≡ domains_of app) where
+  pub size : length entry.sets ≡ component_count app
   size = sym (length-map entry.sets (λ (s : ValueSet). s.domain)) ∙ ap length alike ∙ length-map (components app) (domain_of app)
 
-  its_domain : (c : ℕ) → c < component_count app → (set_at entry c).domain ≡ domain_of app (component_at app c)
+  pub its_domain : (c : ℕ) → c < component_count app → (set_at entry c).domain ≡ domain_of app (component_at app c)
   its_domain c lt =
       sym (get_or-map (λ (s : ValueSet). s.domain) entry.sets c empty_set)
       ∙ get_or_default (domains entry) c empty_set.domain (domain_of app (component.Alarm (alarm_no 0))) (omega (arith, lt, size, length-map entry.sets (λ (s : ValueSet). s.domain)))
       ∙ ap (λ (ds : List Domain). get_or ds c (domain_of app (component.Alarm (alarm_no 0)))) alike
       ∙ get_or-map (domain_of app) (components app) c (component.Alarm (alarm_no 0))
 
+module _ (app : App) (entry : Entry) (rule : Rule) (alike : domains entry ≡ domains_of app) (taken : AreTaken rule entry) where
   -- a value of each set that passes, a given one at component c
   record Pick (c : ℕ) (was : PartValue) (k : ℕ) : Type 0 where
     pick : PartValue
@@ -52,7 +53,7 @@ module _ (app : App) (entry : Entry) (rule : Rule) (alike : domains entry ≡ do
         chosen = λ e. refl;
       }
       | inr other ↦ elim (cases_lt k (component_count app)) [
-        | inl below ↦ (let t = taken k (omega (arith, below, size)) in record { pick = t.was; there = λ lt. t.there; passes = λ lt. t.passes; chosen = λ e. absurd (other e) })
+        | inl below ↦ (let t = taken k (omega (arith, below, size app entry alike)) in record { pick = t.was; there = λ lt. t.there; passes = λ lt. t.passes; chosen = λ e. absurd (other e) })
         | inr above ↦ record { pick = OfAlarm false; there = λ lt. absurd (omega (arith, lt, above)); passes = λ lt. absurd (omega (arith, lt, above)); chosen = λ e. absurd (other e) }
       ]
     ]
@@ -61,7 +62,7 @@ module _ (app : App) (entry : Entry) (rule : Rule) (alike : domains entry ≡ do
     by_domains : StaysInDomains app entry rule → IsWithin (set_at entry c).domain (value_after rule.changes c was)
     by_domains stays =
         let within = stays (λ k. (picked k).pick) (λ k lt. (picked k).there lt) (λ k lt. (picked k).passes lt) c known in
-        subst (λ (d : Domain). IsWithin d (value_after rule.changes c was)) (sym (its_domain c known))
+        subst (λ (d : Domain). IsWithin d (value_after rule.changes c was)) (sym (its_domain app entry alike c known))
         (subst (λ (v : PartValue). IsWithin (domain_of app (component_at app c)) (value_after rule.changes c v)) ((picked c).chosen refl) within)
 
     -- by what is exact
@@ -74,13 +75,13 @@ module _ (app : App) (entry : Entry) (rule : Rule) (alike : domains entry ≡ do
           let after = (step app shown.from shown.event).state in
           let well : Well app after = step_keeps app shown.from shown.event shown.has.well in
           let made : abstract_of app after c ≡ value_after rule.changes c was = shown.matches.parts c known ∙ ap (value_after rule.changes c) (shown.has.parts c known ∙ (picked c).chosen refl) in
-          subst (λ (d : Domain). IsWithin d (value_after rule.changes c was)) (sym (its_domain c known))
+          subst (λ (d : Domain). IsWithin d (value_after rule.changes c was)) (sym (its_domain app entry alike c known))
           (subst (IsWithin (domain_of app (component_at app c))) made (allowed_within app _ c (abstract_of app after c) known (well_part app after well c known)))
 
 pub exact_keep : (app : App) (p : Point) (entry : Entry) (rules : List Rule) (rule : Rule) → domains entry ≡ domains_of app → Contains rules rule → Exact app p entry rules → KeepsDomains rule entry
 exact_keep app p entry rules rule alike listed exact = record {
   sets = λ taken c lt. record {
-    each = λ v there passes. made_within app entry rule alike taken c v (let long = size app entry rule alike taken in omega (arith, lt, long)) there passes p rules listed exact;
+    each = λ v there passes. made_within app entry rule alike taken c v (let long = size app entry alike in omega (arith, lt, long)) there passes p rules listed exact;
   };
 }
 
@@ -88,6 +89,6 @@ exact_keep app p entry rules rule alike listed exact = record {
 pub shared_keep : (app : App) (entry : Entry) (rule : Rule) → domains entry ≡ domains_of app → StaysInDomains app entry rule → KeepsDomains rule entry
 shared_keep app entry rule alike stays = record {
   sets = λ taken c lt. record {
-    each = λ v there passes. by_domains app entry rule alike taken c v (let long = size app entry rule alike taken in omega (arith, lt, long)) there passes stays;
+    each = λ v there passes. by_domains app entry rule alike taken c v (let long = size app entry alike in omega (arith, lt, long)) there passes stays;
   };
 }

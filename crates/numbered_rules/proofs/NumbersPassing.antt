@@ -81,9 +81,6 @@ passed_begun rule pool c d =
 
 module _ (rule : Rule) (before : List Values) (c : ℕ) (d : Domain) (done : List PartValue) (pool : List Values) (x : Numbers) (v : PartValue) (n : ℕ) (after : List Values) (h : IsPassedSoFar rule before c d done pool x)
     (known : c < length pool) (grown : after ≡ set pool c (value_seen (seen_at pool c) (value_after rule.changes c v))) (is : IsNumberOf (values_at after c) (value_after rule.changes c v) n) where
-  made : PartValue
-  made = value_after rule.changes c v
-
   grows : IsLonger pool after
   grows = subst (IsLonger pool) (sym grown) (longer_with pool c (value_after rule.changes c v) known)
 
@@ -163,15 +160,6 @@ module _ (rule : Rule) (before : List Values) (entry : NumberedEntry) (k : ℕ) 
 
   same_number_domains : number_domains new ≡ number_domains entry
   same_number_domains = domains_alike new.sets entry.sets (omega (arith, h.size, whole)) same_domain_there
-
-  pub made_known : AreNumbersOf pool new
-  made_known = record {
-    domains = same_number_domains ∙ known.domains ∙ sym h.longer.domains;
-    known = λ c n has. elim (cases_lt c k) [
-      | inl lt ↦ (h.each c lt).known n has
-      | inr le ↦ absurd (no_bit_of_none n (sym (ap (λ (x : Numbers). has_number x n) (get_or-eq_default new.sets no_set (omega (arith, h.size, le)))) ∙ has))
-    ];
-  }
 
   at_entry : (c : ℕ) → c < length (plain_entry before entry).sets → c < k
   at_entry c lt = (let long = length_plain before 0 entry.sets in omega (arith, lt, long, whole))

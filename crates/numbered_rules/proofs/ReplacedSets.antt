@@ -1,4 +1,4 @@
--- A value alone in the place of a set, and what the rules of values make of an entry out of what their shared rule makes.
+-- A value alone in the place of a set.
 use Rattle.std.proofs.Common.{◌≡◌, ◌≢◌, ℕ, ◌<◌, ◌^◌, Bool, true, false, ◌||◌, List, [], ◌∷◌, length, get_or, set, refl, sym, ap, subst, ◌∙◌, inl, inr, arith, IsTrue, get_or-set_same, get_or-set_other}
 use Rattle.std.specs.Prelude.{◌==◌}
 use Rattle.std.specs.List.{list_any}
@@ -17,10 +17,6 @@ use Rattle.flow_model.specs.declared.{rule.Rule.{Rule}, test.Condition.{Conditio
 use Rattle.flow_model.specs.declared.test.Test.TheVariants as test
 use Rattle.flow_model.specs.Tests.{passes, is_failed, PassesAt, value_after}
 use Rattle.flow_model.specs.Rules.{Applies, Comes, Taken, HasNone}
-use Rattle.flow_dispatch.specs.declared.group.End.{End}
-use Rattle.flow_rules.specs.declared.group.ValueRules.{ValueRules}
-use Rattle.flow_rules.specs.RuleGroups.{rule_at}
-use Rattle.flow_rules.proofs.Passing.{none_fails}
 use Rattle.numbered_sets.specs.declared.numbered_entry.NumberedEntry.{NumberedEntry}
 use Rattle.numbered_sets.specs.Numbers.{Numbers, numbers, has_number, with_number}
 use Rattle.numbered_sets.specs.NumberedEntries.{no_set, numbers_at, number_domains}
@@ -29,10 +25,8 @@ use Rattle.numbered_sets.specs.Views.{values_with, plain_set, plain_entry, AreNu
 use Rattle.numbered_sets.proofs.BitCounts.{has_either, has_one}
 use Rattle.numbered_sets.proofs.PlainLaws.{ascending_in_order, member_of_plain, plain_set_at}
 use Rattle.numbered_sets.proofs.ViewLaws.{only_value, same_domains, same_view, still_known}
-use Rattle.numbered_rules.specs.Replacing.{IsReplaced, AppliesBeside}
+use Rattle.numbered_rules.specs.Replacing.{IsReplaced}
 use Rattle.numbered_rules.proofs.NumbersPassing.{domains_alike, none_passes_bit}
-
--- ---- one set
 
 module _ (pool : List Values) (entry : NumberedEntry) (c : ℕ) (v : PartValue) (after : List Values) (new : NumberedEntry) (n : ℕ) (known : AreNumbersOf pool entry) (there : c < length entry.sets) (longer : IsLonger pool after)
     (is : IsNumberOf (values_at after c) v n) (write : new.sets ≡ set entry.sets c (with_number (numbers (numbers_at entry c).domain 0) n)) where
@@ -81,101 +75,3 @@ module _ (pool : List Values) (entry : NumberedEntry) (c : ℕ) (v : PartValue) 
         ∙ sym (plain_set_at after entry k)
         ∙ ap (λ (e : Entry). set_at e k) (same_view pool after entry longer known);
   }
-
--- ---- what rules make
-
-pub applies_beside : (rule : Rule) (c : ℕ) (entry new : Entry) → Applies rule entry new → AppliesBeside rule c entry new
-applies_beside rule c entry new h = record {
-  domains = h.domains;
-  ascending = h.ascending;
-  from = λ k v lt _ m. h.from k v lt m;
-  to = λ k v lt _ m p. h.to k v lt m p;
-  filled = h.filled;
-}
-
-pub still_beside : (rule : Rule) (c : ℕ) (entry new other : Entry) → AppliesBeside rule c entry new → domains other ≡ domains new → AreAscending other → ((k : ℕ) → k ≢ c → set_at other k ≡ set_at new k) → AppliesBeside rule c entry other
-still_beside rule c entry new other h same up others = record {
-  domains = same ∙ h.domains;
-  ascending = up;
-  from = λ k v lt differ m. h.from k v lt differ (ap (λ (s : ValueSet). is_member s v) (sym (others k differ)) ∙ m);
-  to = λ k v lt differ m p. ap (λ (s : ValueSet). is_member s (value_after rule.changes k v)) (others k differ) ∙ h.to k v lt differ m p;
-  filled = h.filled;
-}
-
--- where an entry has a value it has the set
-pub member_known : (entry : Entry) (c : ℕ) (v : PartValue) → IsTrue (is_member (set_at entry c) v) → c < length entry.sets
-member_known entry c v m = elim (cases_lt c (length entry.sets)) [
-  | inl lt ↦ lt
-  | inr le ↦ (let none : false ≡ true = ap (λ (s : ValueSet). is_member s v) (sym (get_or-eq_default entry.sets empty_set le)) ∙ m in absurd (cc))
-]
-
-module _ (g : ValueRules) (x : End) where
-  abbrev own : Condition
-  own = record { component = g.component; test = test.Is x.value }
-
-  abbrev c : ℕ
-  c = g.component.0
-
-  shared_passes : (k : ℕ) (v : PartValue) → PassesAt (rule_at g x).conditions k v → PassesAt g.rule.conditions k v
-  shared_passes k v p y m e = p y (Contains-append_left g.rule.conditions (own ∷ []) y m) e
-
-  passes_beside : (k : ℕ) (v : PartValue) → k ≢ c → PassesAt g.rule.conditions k v → PassesAt (rule_at g x).conditions k v
-  passes_beside k v differ p y m e = elim (Contains-push_cases g.rule.conditions own y m) [
-    | inl old ↦ p y old e
-    | inr same ↦ absurd (differ (sym (ap (λ (z : Condition). z.component.0) same ∙ e)))
-  ]
-
-  passes_here : PassesAt g.rule.conditions c x.value → PassesAt (rule_at g x).conditions c x.value
-  passes_here p y m e = elim (Contains-push_cases g.rule.conditions own y m) [
-    | inl old ↦ p y old e
-    | inr same ↦ ap (λ (z : Condition). passes z.test x.value) (sym same) ∙ part_itself x.value
-  ]
-
-  is_its : (v : PartValue) → PassesAt (rule_at g x).conditions c v → v ≡ x.value
-  is_its v p = part_right v x.value (p own (Contains-push g.rule.conditions own) refl)
-
-  pub none_of_shared : (entry : Entry) → HasNone g.rule entry → HasNone (rule_at g x) entry
-  none_of_shared entry h = record { component = h.component; known = h.known; none = λ v m p. h.none v m (shared_passes h.component v p) }
-
-  -- the value doesn't pass
-  pub none_of_failing : (entry : Entry) → IsTrue (is_member (set_at entry c) x.value) → list_any (is_failed c x.value) g.rule.conditions ≡ true → HasNone (rule_at g x) entry
-  none_of_failing entry there fails = record {
-    component = c;
-    known = member_known entry c x.value there;
-    none = λ v m p.
-        (let its : PassesAt g.rule.conditions c x.value = subst (PassesAt g.rule.conditions c) (is_its v p) (shared_passes c v p) in
-        let none = none_fails g.rule.conditions c x.value its in
-        absurd (cc));
-  }
-
-  module _ (entry new : Entry) (there : IsTrue (is_member (set_at entry c) x.value)) (here : PassesAt g.rule.conditions c x.value) (value : (w : PartValue) → is_member (set_at new c) w ≡ same_part w (value_after g.rule.changes c x.value)) (h : AppliesBeside g.rule c entry new) where
-    abbrev its_taken : Taken (rule_at g x) entry c
-    its_taken = record { was = x.value; there = there; passes = passes_here here }
-
-    pub value_applies : Applies (rule_at g x) entry new
-    value_applies = record {
-      domains = h.domains;
-      ascending = h.ascending;
-      from = λ k v lt m. elim (cases_eq k c) [
-        | inl same ↦
-            (let at : same_part v (value_after g.rule.changes c x.value) ≡ true = sym (value v) ∙ ap (λ (i : ℕ). is_member (set_at new i) v) (sym same) ∙ m in
-            subst (λ (i : ℕ). Comes (rule_at g x) entry i v) (sym same) (record { taken = its_taken; becomes = sym (part_right v (value_after g.rule.changes c x.value) at) }))
-        | inr differ ↦
-            (let o = h.from k v lt differ m in
-            record { taken = record { was = o.taken.was; there = o.taken.there; passes = passes_beside k o.taken.was differ o.taken.passes }; becomes = o.becomes })
-      ];
-      to = λ k v lt m p. elim (cases_eq k c) [
-        | inl same ↦
-            (let passing : PassesAt (rule_at g x).conditions c v = subst (λ (i : ℕ). PassesAt (rule_at g x).conditions i v) same p in
-            let its = is_its v passing in
-            ap (λ (i : ℕ). is_member (set_at new i) (value_after g.rule.changes i v)) same
-            ∙ ap (λ (w : PartValue). is_member (set_at new c) (value_after g.rule.changes c w)) its
-            ∙ value (value_after g.rule.changes c x.value)
-            ∙ part_itself (value_after g.rule.changes c x.value))
-        | inr differ ↦ h.to k v lt differ m (shared_passes k v p)
-      ];
-      filled = λ k lt. elim (cases_eq k c) [
-        | inl same ↦ subst (Taken (rule_at g x) entry) (sym same) its_taken
-        | inr differ ↦ (let t = h.filled k lt in record { was = t.was; there = t.there; passes = passes_beside k t.was differ t.passes })
-      ];
-    }

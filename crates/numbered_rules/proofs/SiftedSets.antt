@@ -31,22 +31,6 @@ use Rattle.numbered_rules.specs.Changing.{up_to, AreAllPassed}
 use Rattle.numbered_rules.specs.Sifting.{IsSiftedBy, AreSifted, LeavesNone}
 use Rattle.numbered_rules.proofs.NumbersPassing.{domains_alike}
 
--- ---- one condition after another
-
-and_all : (b : Bool) → b ≡ (b && not false)
-and_all true = refl
-and_all false = refl
-
-kept_whole : (vs : List PartValue) (c : ℕ) (xs : List Condition) (x : Numbers) → ((v : PartValue) → list_any (is_failed c v) xs ≡ false) → IsSiftedBy vs c xs x x
-kept_whole vs c xs x none = record {
-  domain = refl;
-  fewer = λ n has. has;
-  values = λ v. and_all (is_member (plain_set vs x) v) ∙ ap (λ (b : Bool). is_member (plain_set vs x) v && not b) (sym (none v));
-}
-
-pub sifted_none : (pool : List Values) (entry : NumberedEntry) → AreSifted pool [] entry entry
-sifted_none pool entry = record { as_many = refl; each = λ c lt. kept_whole (values_at pool c) c [] (numbers_at entry c) (λ v. refl) }
-
 both_pass : (a p q : Bool) → ((a && not p) && not q) ≡ (a && not (p || q))
 both_pass true true q = refl
 both_pass true false q = refl
@@ -69,48 +53,6 @@ sifted_more pool xs x a b e h k = record {
             ∙ ap (λ (f : Bool). is_member (plain_set vs (numbers_at a c)) v && not f) (sym (list_any-append (is_failed c v) xs (x ∷ [])));
       });
 }
-
-not_on : (x : Condition) (c : ℕ) (v : PartValue) → x.component.0 ≢ c → list_any (is_failed c v) (x ∷ []) ≡ false
-not_on x c v differ = ap (λ (b : Bool). (b && not (passes x.test v)) || false) (ne_eqb x.component.0 c differ)
-
-pub sifted_beyond : (pool : List Values) (x : Condition) (entry : NumberedEntry) → length entry.sets ≤ x.component.0 → AreSifted pool (x ∷ []) entry entry
-sifted_beyond pool x entry le = record {
-  as_many = refl;
-  each = λ c lt. kept_whole (values_at pool c) c (x ∷ []) (numbers_at entry c) (λ v. not_on x c v (λ e. omega (arith, e, lt, le)));
-}
-
-passing_there : (b p : Bool) → b ≡ true → p ≡ not ((b && not p) || false)
-passing_there true true e = refl
-passing_there true false e = refl
-passing_there false p e = absurd (cc)
-
-pub sifted_at : (pool : List Values) (x : Condition) (entry after : NumberedEntry) (s : Numbers) → x.component.0 < length entry.sets → after.sets ≡ set entry.sets x.component.0 s
-    → IsSifted (values_at pool x.component.0) x.test (numbers_at entry x.component.0) s → AreSifted pool (x ∷ []) entry after
-sifted_at pool x entry after s lt write h = record {
-  as_many = ap length write ∙ length-set entry.sets x.component.0 s;
-  each = λ c less. elim (cases_eq x.component.0 c) [
-    | inl same ↦ subst (λ (k : ℕ). IsSiftedBy (values_at pool k) k (x ∷ []) (numbers_at entry k) (numbers_at after k)) same here
-    | inr differ ↦
-        (let there : numbers_at after c ≡ numbers_at entry c = ap (λ (xs : List Numbers). get_or xs c no_set) write ∙ get_or-set_other entry.sets x.component.0 c s no_set (λ e. differ (sym e)) in
-        subst (IsSiftedBy (values_at pool c) c (x ∷ []) (numbers_at entry c)) (sym there) (kept_whole (values_at pool c) c (x ∷ []) (numbers_at entry c) (λ v. not_on x c v differ)))
-  ];
-}
-  where
-    at : numbers_at after x.component.0 ≡ s
-    at = ap (λ (xs : List Numbers). get_or xs x.component.0 no_set) write ∙ get_or-set_same entry.sets x.component.0 s no_set lt
-
-    its : IsSiftedBy (values_at pool x.component.0) x.component.0 (x ∷ []) (numbers_at entry x.component.0) s
-    its = record {
-      domain = h.domain;
-      fewer = h.fewer;
-      values = λ v.
-          h.values v
-          ∙ ap (λ (b : Bool). is_member (plain_set (values_at pool x.component.0) (numbers_at entry x.component.0)) v && b)
-          (passing_there (x.component.0 == x.component.0) (passes x.test v) (eq-eqb x.component.0 x.component.0 refl));
-    }
-
-    here : IsSiftedBy (values_at pool x.component.0) x.component.0 (x ∷ []) (numbers_at entry x.component.0) (numbers_at after x.component.0)
-    here = subst (IsSiftedBy (values_at pool x.component.0) x.component.0 (x ∷ []) (numbers_at entry x.component.0)) (sym at) its
 
 -- ---- what a rule takes
 

@@ -18,12 +18,3 @@ pub record IsReplaced (pool : List Values) (entry : NumberedEntry) (c : ℕ) (v 
   pub ascending : AreAscending (plain_entry after new)
   pub value : (w : PartValue) → is_member (set_at (plain_entry after new) c) w ≡ same_part w v
   pub others : (k : ℕ) → k ≢ c → set_at (plain_entry after new) k ≡ set_at (plain_entry pool entry) k
-
--- Each set but that of component c holds exactly what the rule makes of the old set's values that pass, of which each set
--- has one.
-pub record AppliesBeside (rule : Rule) (c : ℕ) (entry new : Entry) : Type 0 where
-  pub domains : domains new ≡ domains entry
-  pub ascending : AreAscending new
-  pub from : (k : ℕ) (v : PartValue) → k < length entry.sets → k ≢ c → IsTrue (is_member (set_at new k) v) → Comes rule entry k v
-  pub to : (k : ℕ) (v : PartValue) → k < length entry.sets → k ≢ c → IsTrue (is_member (set_at entry k) v) → PassesAt rule.conditions k v → IsTrue (is_member (set_at new k) (value_after rule.changes k v))
-  pub filled : (k : ℕ) → k < length entry.sets → Taken rule entry k

@@ -3,11 +3,7 @@
 
 mod applying;
 pub mod laws;
-mod replacing;
-mod ruling;
 mod sifting;
 mod updating;
 
 pub use applying::{apply, apply_into};
-pub use replacing::{replace, replace_by_number};
-pub use ruling::rules;

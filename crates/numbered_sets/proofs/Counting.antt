@@ -80,13 +80,6 @@ passing_past p n (suc m) le h = elim (cases_eq n (suc m)) [
       omega (arith, rest, last, passing_suc p m))
 ]
 
--- two bounds from which on it passes nothing
-pub passing_at_both : (p : ℕ → Bool) (n m : ℕ) → ((k : ℕ) → n ≤ k → p k ≡ false) → ((k : ℕ) → m ≤ k → p k ≡ false) → passing_below p n ≡ passing_below p m
-passing_at_both p n m h g = elim (cases_lt n m) [
-  | inl lt ↦ sym (passing_past p n m (omega (arith, lt)) h)
-  | inr le ↦ passing_past p m n le g
-]
-
 or_none : (b : Bool) → (b || false) ≡ b
 or_none true = refl
 or_none false = refl
@@ -100,21 +93,6 @@ with_other b k y differ = ap (λ (c : Bool). b || c) (ne_eqb k y differ) ∙ or_
 
 pub with_that : (b : Bool) (k y : ℕ) → k ≡ y → (b || k == y) ≡ true
 with_that b k y same = ap (λ (c : Bool). b || c) (eq-eqb k y same) ∙ or_yes b
-
--- one number more
-pub passing_with : (p q : ℕ → Bool) (x n : ℕ) → x < n → p x ≡ false → ((k : ℕ) → q k ≡ (p k || k == x)) → passing_below q n ≡ passing_below p n + 1
-passing_with p q x zero lt e h = absurd (omega (arith, lt))
-passing_with p q x (suc n) lt e h = elim (cases_eq x n) [
-  | inl same ↦
-      (let rest = passing_same q p n (λ k less. h k ∙ with_other (p k) k x (λ at. omega (arith, same, less, at))) in
-      let was : flag (p n) ≡ 0 = ap flag (subst (λ (j : ℕ). p j ≡ false) same e) in
-      let is : flag (q n) ≡ 1 = ap flag (h n ∙ with_that (p n) n x (sym same)) in
-      omega (arith, rest, was, is, passing_suc p n, passing_suc q n))
-  | inr differ ↦
-      (let rest = passing_with p q x n (omega (arith, lt, differ)) e h in
-      let last : flag (q n) ≡ flag (p n) = ap flag (h n ∙ with_other (p n) n x (λ at. differ (sym at))) in
-      omega (arith, rest, last, passing_suc p n, passing_suc q n))
-]
 
 -- a difference that stays where the tests agree
 pub passing_apart : (p q : ℕ → Bool) (n m d : ℕ) → n ≤ m → passing_below p n ≡ passing_below q n + d → ((k : ℕ) → n ≤ k → p k ≡ q k) → passing_below p m ≡ passing_below q m + d

@@ -110,9 +110,6 @@ unfolding bits_of_words
 bits_of_none [] none = refl
 bits_of_none (u ∷ us) none = absurd (omega (arith, none))
 
-pub either_none : (ws us : List ℕ) → length us ≡ 0 → bits_of_words ws ≡ bit_or (bits_of_words ws) (bits_of_words us)
-either_none ws us none = sym (ap (bit_or (bits_of_words ws)) (bits_of_none us none) ∙ or_zero_r (bits_of_words ws))
-
 pub clear_two : (a b : ℕ) (ws : List ℕ) → a ≡ 0 → b ≡ 0 → (bits_of_words ws == 0) ≡ (bits_of_words (a ∷ b ∷ ws) == 0)
 clear_two a b ws none too = elim (cases_eq (bits_of_words ws) 0) [
   | inl e ↦ eq-eqb (bits_of_words ws) 0 e ∙ sym (eq-eqb (bits_of_words (a ∷ b ∷ ws)) 0 (none_first a (b ∷ ws) none (none_first b ws too e)))

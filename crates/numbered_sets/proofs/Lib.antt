@@ -12,7 +12,6 @@ pub mod OtherWords
 pub mod MeetLaws
 pub mod SiftLaws
 pub mod AloneLaws
-pub mod ShownLaws
 pub mod FirstWords
 pub mod FurtherLaws
 pub mod FlatLaws

@@ -39,23 +39,6 @@ pub record AreLeftOutUpTo (before other : List ℕ) (k : ℕ) (now : List ℕ) :
   pub cut : (i : ℕ) → i < k → get_or now i 0 ≡ bit_xor (get_or before i 0) (bit_and (get_or before i 0) (get_or other i 0))
   pub kept : (i : ℕ) → k ≤ i → get_or now i 0 ≡ get_or before i 0
 
-pub none_left_out : (before other : List ℕ) → AreLeftOutUpTo before other 0 before
-none_left_out before other = record { as_long = refl; cut = λ i lt. absurd (omega (arith, lt)); kept = λ i le. refl }
-
-pub one_more_left_out : (before other now : List ℕ) (k w : ℕ) → AreLeftOutUpTo before other k now → k < length now
-    → w ≡ bit_xor (get_or now k 0) (bit_and (get_or now k 0) (get_or other k 0)) → AreLeftOutUpTo before other (k + 1) (set now k w)
-one_more_left_out before other now k w h known is = record {
-  as_long = length-set now k w ∙ h.as_long;
-  cut = λ i lt. elim (cases_eq i k) [
-    | inl same ↦
-        ap (λ j. get_or (set now k w) j 0) same ∙ get_or-set_same now k w 0 known ∙ is
-        ∙ ap (λ x. bit_xor x (bit_and x (get_or other k 0))) (h.kept k (omega arith))
-        ∙ ap (λ j. bit_xor (get_or before j 0) (bit_and (get_or before j 0) (get_or other j 0))) (sym same)
-    | inr differ ↦ get_or-set_other now k i w 0 differ ∙ h.cut i (omega (arith, lt, differ))
-  ];
-  kept = λ i le. get_or-set_other now k i w 0 (λ e. omega (arith, e, le)) ∙ h.kept i (omega (arith, le));
-}
-
 module _ (before other now : List ℕ) (k : ℕ) (whole : length before ≤ k) (h : AreLeftOutUpTo before other k now) where
   all_left_out : (n : ℕ) → word_has now n ≡ (word_has before n && not (word_has other n))
   all_left_out n = elim (cases_lt (n / 64) k) [

@@ -103,12 +103,6 @@ values_with_none [] has none = refl
 values_with_none (v ∷ vs) has none =
     ap (λ (b : Bool). (if b then v ∷ [] else []) ++ values_with vs (λ n. has (suc n))) (none 0) ∙ values_with_none vs (λ n. has (suc n)) (λ n. none (suc n))
 
--- tests that agree
-pub values_with_same : (vs : List PartValue) (f g : ℕ → Bool) → ((n : ℕ) → f n ≡ g n) → values_with vs f ≡ values_with vs g
-values_with_same [] f g h = refl
-values_with_same (v ∷ vs) f g h =
-    ap₂ (λ (b : Bool) (ws : List PartValue). (if b then v ∷ [] else []) ++ ws) (h 0) (values_with_same vs (λ n. f (suc n)) (λ n. g (suc n)) (λ n. h (suc n)))
-
 append_first : (b : Bool) (v : PartValue) (xs ys : List PartValue) → (if b then v ∷ [] else []) ++ (xs ++ ys) ≡ ((if b then v ∷ [] else []) ++ xs) ++ ys
 append_first true v xs ys = refl
 append_first false v xs ys = refl
@@ -250,9 +244,6 @@ plain_whole vs x k set whole h =
 pub record AreFirstPlain (pool : List Values) (entry : NumberedEntry) (k : ℕ) (sets : List ValueSet) : Type 0 where
   pub size : length sets ≡ k
   pub each : (c : ℕ) → c < k → get_or sets c empty_set ≡ set_at (plain_entry pool entry) c
-
-pub none_plain : (pool : List Values) (entry : NumberedEntry) → AreFirstPlain pool entry 0 []
-none_plain pool entry = record { size = refl; each = λ c lt. absurd (omega (arith, lt)) }
 
 pub plain_next : (pool : List Values) (entry : NumberedEntry) (k : ℕ) (sets : List ValueSet) (x : Numbers) (set : ValueSet) → AreFirstPlain pool entry k sets → numbers_at entry k ≡ x → set ≡ plain_set (values_at pool k) x
     → AreFirstPlain pool entry (k + 1) (sets ++ set ∷ [])

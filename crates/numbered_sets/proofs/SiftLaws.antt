@@ -78,13 +78,6 @@ sifted vs f t x h same whole = kept_by vs t x f.passing (λ n d lt. h.each n d (
 
 -- ---- filters
 
-pub filter_begun : (vs : List PartValue) (f : Filter) (d : Domain) → f.passing ≡ numbers d 0 → f.judged ≡ 0 → IsFilter vs f
-filter_begun vs f d none begun = record {
-  few = omega (arith, begun);
-  each = λ n v lt. absurd (omega (arith, lt, begun));
-  past = λ n le. ap (λ (x : Numbers). has_number x n) none ∙ false_unless (has_bit 0 n) ⊥ (no_bit_of_none n) (λ no. no);
-}
-
 pub filter_longer : (vs ws : List PartValue) (f : Filter) → IsExtended vs ws → IsFilter vs f → IsFilter ws f
 filter_longer vs ws f more h = record {
   few = omega (arith, h.few, ap length more.is, length-append vs more.more);

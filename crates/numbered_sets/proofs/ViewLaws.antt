@@ -92,46 +92,6 @@ longer_with pool c v lt = record {
   ];
 }
 
--- ---- joins
-
-join_of_plain : (vs : List PartValue) (a b : Numbers) → IsJoin (plain_set vs a) (plain_set vs b) (plain_set vs (joined_numbers a b))
-join_of_plain vs a b = record {
-  domain = refl;
-  ascending = ascending_in_order (values_with vs (has_number (joined_numbers a b)));
-  members = λ w.
-      member_of_plain vs (joined_numbers a b) w
-      ∙ value_of_either vs (has_number a) (has_number b) (has_number (joined_numbers a b)) w (has_either a.bits b.bits)
-      ∙ sym (ap₂ (λ (p q : Bool). p || q) (member_of_plain vs a w) (member_of_plain vs b w));
-}
-
-module _ (P : ValueSet → ValueSet → ValueSet → Type 0) (pool : List Values) (a b x : NumberedEntry) where
-  related_at : (c : ℕ) → P (plain_set (values_at pool c) (numbers_at a c)) (plain_set (values_at pool c) (numbers_at b c)) (plain_set (values_at pool c) (numbers_at x c))
-      → P (set_at (plain_entry pool a) c) (set_at (plain_entry pool b) c) (set_at (plain_entry pool x) c)
-  related_at c h =
-      subst (λ (s : ValueSet). P s (set_at (plain_entry pool b) c) (set_at (plain_entry pool x) c)) (sym (plain_set_at pool a c))
-      (subst (λ (s : ValueSet). P (plain_set (values_at pool c) (numbers_at a c)) s (set_at (plain_entry pool x) c)) (sym (plain_set_at pool b c))
-      (subst (P (plain_set (values_at pool c) (numbers_at a c)) (plain_set (values_at pool c) (numbers_at b c))) (sym (plain_set_at pool x c)) h))
-
-pub plain_join : (pool : List Values) (a b x : NumberedEntry) → IsNumberJoin a b x → IsSetBySet IsJoin (plain_entry pool a) (plain_entry pool b) (plain_entry pool x)
-plain_join pool a b x join = record {
-  as_many = length_plain pool 0 x.sets ∙ join.as_many ∙ sym (length_plain pool 0 a.sets);
-  each = λ c. related_at IsJoin pool a b x c
-      (subst (λ (y : Numbers). IsJoin (plain_set (values_at pool c) (numbers_at a c)) (plain_set (values_at pool c) (numbers_at b c)) (plain_set (values_at pool c) y)) (sym (join.each c))
-      (join_of_plain (values_at pool c) (numbers_at a c) (numbers_at b c)));
-}
-
-part_of_plain : (vs : List PartValue) (a b x : Numbers) → (x ≡ joined_numbers a b) ⊎ (x ≡ a) → IsPartOfJoin (plain_set vs a) (plain_set vs b) (plain_set vs x)
-part_of_plain vs a b x (inl e) =
-    subst (λ (y : Numbers). IsPartOfJoin (plain_set vs a) (plain_set vs b) (plain_set vs y)) (sym e) (join_part (plain_set vs a) (plain_set vs b) (plain_set vs (joined_numbers a b)) (join_of_plain vs a b))
-part_of_plain vs a b x (inr e) =
-    subst (λ (y : Numbers). IsPartOfJoin (plain_set vs a) (plain_set vs b) (plain_set vs y)) (sym e) (part_of_none (plain_set vs a) (plain_set vs b) (ascending_in_order (values_with vs (has_number a))))
-
-pub plain_part : (pool : List Values) (a b x : NumberedEntry) → IsPartOfNumberJoin a b x → IsSetBySet IsPartOfJoin (plain_entry pool a) (plain_entry pool b) (plain_entry pool x)
-plain_part pool a b x part = record {
-  as_many = length_plain pool 0 x.sets ∙ part.as_many ∙ sym (length_plain pool 0 a.sets);
-  each = λ c. related_at IsPartOfJoin pool a b x c (part_of_plain (values_at pool c) (numbers_at a c) (numbers_at b c) (numbers_at x c) (part.each c));
-}
-
 -- ---- a number more
 
 same_after : (k n : ℕ) → (suc k == suc n) ≡ (k == n)
@@ -153,25 +113,6 @@ only_value (x ∷ xs) has zero v w is lt at =
 only_value (x ∷ xs) has (suc n) v w is lt at =
     ap (λ (b : Bool). list_any (same_part w) ((if b then x ∷ [] else []) ++ values_with xs (λ k. has (suc k)))) (is 0 ∙ ne_eqb 0 (suc n) (λ e. omega (arith, e)))
     ∙ only_value xs (λ k. has (suc k)) n v w (λ k. is (suc k) ∙ same_after k n) (omega (arith, lt)) at
-
-pub plain_with : (pool : List Values) (entry after : NumberedEntry) (c n : ℕ) (v : PartValue) → c < length entry.sets → IsNumberOf (values_at pool c) v n → after.sets ≡ set entry.sets c (with_number (numbers_at entry c) n)
-    → (w : PartValue) → is_member (set_at (plain_entry pool after) c) w ≡ (is_member (set_at (plain_entry pool entry) c) w || same_part w v)
-plain_with pool entry after c n v known is write w =
-    let vs = values_at pool c in
-    let x = numbers_at entry c in
-    let here : numbers_at after c ≡ with_number x n = ap (λ (xs : List Numbers). get_or xs c no_set) write ∙ get_or-set_same entry.sets c (with_number x n) no_set known in
-    ap (λ (s : ValueSet). is_member s w) (plain_set_at pool after c ∙ ap (plain_set vs) here)
-    ∙ member_of_plain vs (with_number x n) w
-    ∙ value_of_either vs (has_number x) (has_bit (2 ^ n)) (has_number (with_number x n)) w (has_either x.bits (2 ^ n))
-    ∙ ap₂ (λ (p q : Bool). p || q) (sym (member_of_plain vs x w)) (only_value vs (has_bit (2 ^ n)) n v w (has_one n) is.known (is.is v))
-    ∙ ap (λ (s : ValueSet). is_member s w || same_part w v) (sym (plain_set_at pool entry c))
-
--- the other sets stay
-pub plain_beside : (pool : List Values) (entry after : NumberedEntry) (c n k : ℕ) → k ≢ c → after.sets ≡ set entry.sets c (with_number (numbers_at entry c) n) → set_at (plain_entry pool after) k ≡ set_at (plain_entry pool entry) k
-plain_beside pool entry after c n k differ write =
-    let there : numbers_at after k ≡ numbers_at entry k =
-    ap (λ (xs : List Numbers). get_or xs k no_set) write ∙ get_or-set_other entry.sets c k (with_number (numbers_at entry c) n) no_set differ in
-    plain_set_at pool after k ∙ ap (plain_set (values_at pool k)) there ∙ sym (plain_set_at pool entry k)
 
 -- ---- how many values
 
@@ -313,15 +254,15 @@ module _ (pool : List Values) (entry : NumberedEntry) (all : All AreValues pool)
       ∙ ap (λ (ds : List Domain). get_or ds c domain.Alarm) known.domains
       ∙ get_or-map (λ (x : Values). x.domain) pool c (no_values domain.Alarm)
 
+  pub sound_sets : All IsSound (plain_entry pool entry).sets
+  sound_sets = All-from_get_or IsSound (plain_entry pool entry).sets empty_set (λ c lt.
+      subst IsSound (sym (plain_set_at pool entry c))
+      (record {
+        within = within_in_order (numbers_at entry c).domain (values_with (values_at pool c) (has_number (numbers_at entry c)))
+            (within_with (numbers_at entry c).domain (values_at pool c) (has_number (numbers_at entry c))
+            (subst (λ (d : Domain). All (IsWithin d) (values_at pool c)) (sym (its_domain c)) (values_of pool c all).within));
+        ascending = ascending_in_order (values_with (values_at pool c) (has_number (numbers_at entry c)));
+      }))
+
   pub plain_sound : numbers_height entry < 2 ^ 64 → IsSoundEntry (plain_entry pool entry)
-  plain_sound few = record {
-    sets = All-from_get_or IsSound (plain_entry pool entry).sets empty_set (λ c lt.
-        subst IsSound (sym (plain_set_at pool entry c))
-        (record {
-          within = within_in_order (numbers_at entry c).domain (values_with (values_at pool c) (has_number (numbers_at entry c)))
-              (within_with (numbers_at entry c).domain (values_at pool c) (has_number (numbers_at entry c))
-              (subst (λ (d : Domain). All (IsWithin d) (values_at pool c)) (sym (its_domain c)) (values_of pool c all).within));
-          ascending = ascending_in_order (values_with (values_at pool c) (has_number (numbers_at entry c)));
-        }));
-    few = (let same = same_heights pool 0 entry.sets in omega (arith, same, few));
-  }
+  plain_sound few = record { sets = sound_sets; few = (let same = same_heights pool 0 entry.sets in omega (arith, same, few)) }

@@ -90,15 +90,6 @@ pub record AreJoinedUpTo (before other : List ℕ) (k : ℕ) (now : List ℕ) (a
   pub count : passing_below (word_has now) (64 * k) ≡ passing_below (word_has before) (64 * k) + added
   pub few : added ≤ passing_below (word_has other) (64 * k)
 
-pub none_joined : (before other : List ℕ) → AreJoinedUpTo before other 0 before 0
-none_joined before other = record {
-  as_long = refl;
-  joined = λ i lt. absurd (omega (arith, lt));
-  kept = λ i le. refl;
-  count = omega arith;
-  few = omega arith;
-}
-
 module _ (before other now : List ℕ) (k added w o n : ℕ) (so_far : AreJoinedUpTo before other k now added) (known : k < length now)
     (word : get_or now k 0 ≡ w) (its : get_or other k 0 ≡ o) (small : w < 2 ^ 64) (small_too : o < 2 ^ 64) (more : count_ones (bit_or w o) ≡ count_ones w + n) (few : n ≤ count_ones o) where
   after : List ℕ

@@ -6,4 +6,3 @@ pub mod Pools
 pub mod SeenLaws
 pub mod SetLists
 pub mod Views
-pub mod Shown

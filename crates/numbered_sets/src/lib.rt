@@ -12,7 +12,6 @@ mod numbered_set;
 mod plain_form;
 mod pool;
 mod seen;
-mod shown;
 mod split_words;
 mod words;
 
@@ -22,4 +21,3 @@ pub use numbered_form::numbered;
 pub use numbered_set::NumberedSet;
 pub use plain_form::{listed, plain, plain_set};
 pub use pool::Pool;
-pub use shown::ShownEntry;

@@ -186,23 +186,6 @@ fn join_each(words: &mut [u64], other: &[u64]) -> u64
     added
 }
 
-/// Sets the bits of further words too, and tells how many were not set.
-pub fn join_in(words: &mut Vec<u64>, other: &[u64]) -> Result<u64, Memory>
-    requires { count_ones (bits_of_words other.now) < 2 ^ 64 }
-    ensures bits { OnOk result (bits_of_words words.new.items ≡ bit_or (bits_of_words words.old.items) (bits_of_words other.now)) }
-    ensures count { IfOk result (λ n. count_ones (bits_of_words words.new.items) ≡ count_ones (bits_of_words words.old.items) + n) }
-    ensures few { IfOk result (λ n. n ≤ count_ones (bits_of_words other.now)) }
-    ensures err { OnErr result (bits_of_words words.new.items ≡ bits_of_words words.old.items) }
-{
-    let count = other.len();
-    if count == 0 {
-        return Ok(0);
-    }
-    widen(words, count)?;
-    let added = join(words.as_mut_slice(), other);
-    Ok(added)
-}
-
 /// The same words again.
 pub fn copied(alloc: Global, words: &[u64]) -> Result<Vec<u64>, Memory>
     ensures { IfOk result (λ copy. copy.items ≡ words.now) }

@@ -2,4 +2,3 @@ pub mod GrownPools
 pub mod CountedNumbers
 pub mod RowsByNumber
 pub mod WrittenRows
-pub mod AlikeRows

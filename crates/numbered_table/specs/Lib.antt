@@ -1,3 +1,2 @@
 pub mod PlainTables
-pub mod Alike
 pub mod Counts

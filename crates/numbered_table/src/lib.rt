@@ -3,8 +3,6 @@
 #![tactic(auto)]
 
 mod counts;
-mod numbering;
 mod table;
 
-pub use numbering::numbered;
 pub use table::{NumberedRow, NumberedRows, Table};

@@ -78,9 +78,6 @@ module _ {E : Type 0} where
             absurd (omega (arith, order.before k.0 h.0 a above h.1, ap cell_number h.2, ap cell_number at_b, e))
       ]
 
-  pub order_none : AreInOrder {E = E} []
-  order_none = record { before = λ i j d lt below. absurd (omega (arith, below)) }
-
   -- a cell of the same number in its place
   pub order_set : (cells : List (Cell E)) (place : ℕ) (cell : Cell E) → AreInOrder cells → place < length cells → cell_number (get_or cells place cell) ≡ cell_number cell → AreInOrder (set cells place cell)
   order_set cells place cell order known same = record {

@@ -27,7 +27,7 @@ use Rattle.state_flow.specs.Rows.{row_at, row_of, sets_in, IsProperRow, IsRowIn}
 use Rattle.state_flow.specs.Starts.{IsStartRow}
 use Rattle.state_flow.specs.Reaching.{IsLed, Leads}
 use Rattle.state_flow.specs.Progress.{AreProperCells, IsClosed, values_in, AreJoined, Progress, AreStarted}
-use Rattle.state_flow.proofs.CellLists.{set_cases, order_none, order_set}
+use Rattle.state_flow.proofs.CellLists.{set_cases, order_set}
 use Rattle.state_flow.proofs.RowLaws.{entry_cell, cell_entry, cell_value, only_there, value_cell}
 
 silent_or : (m : Mark) → (m ≡ Silent) ⊎ (m ≡ Silent → ⊥)
@@ -147,22 +147,6 @@ module _ (cells : List (Cell Entry)) (place : ℕ) (cell : Cell Entry) (known : 
         }
 
 module _ (app : App) where
-  none_proper : AreProperCells app []
-  none_proper = record { order = order_none; each = λ cell h. absurd (omega (arith, h.1)) }
-
-  pub started_none : AreStarted app 0 []
-  started_none = record {
-    cells_proper = none_proper;
-    start = λ mode lt. absurd (omega (arith, lt));
-    waits = λ cell h. absurd (omega (arith, h.1));
-    least = λ other inductive. record {
-      entry = λ p e. absurd (let x = entry_cell [] p e in omega (arith, x.among.1));
-      has = λ p c v e. absurd (let x = value_cell [] p c v e in omega (arith, x.among.1));
-    };
-    most = omega arith;
-    fewest = omega arith;
-  }
-
   pub started_more : (k : ℕ) (mode : ModeNo) (cells after : List (Cell Entry)) (row : TableRow) → mode.0 ≡ k → mode.0 < length app.modes → AreStarted app k cells → IsStartRow app mode row → AreJoined app cells (row ∷ []) after → AreStarted app (k + 1) after
   started_more k mode cells after row is known so_far first joined =
       let here : IsRowIn (sets_in after) row = joined.joins row (0, omega arith, refl) in

@@ -18,7 +18,8 @@ use Rattle.abstract_state.specs.Domains.{domains, domains_of, HasMasks}
 use Rattle.abstract_state.specs.Tables.{Sets, In, Inductive, set_at, is_member, AreAscending}
 use Rattle.abstract_state.proofs.AllowedLaws.{well_point, well_part}
 use Rattle.flow_model.specs.Effects.{AreAllAllowed, IsAt}
-use Rattle.flow_exits.specs.Exits.{Exit, CoverSteps, IsStepTo, IsExact, AreExact}
+use Rattle.flow_exits.specs.declared.exit.Exit.{Exit}
+use Rattle.flow_exits.specs.Exits.{CoverSteps, IsStepTo, IsExact, AreExact}
 use Rattle.state_flow.specs.Rows.{row_at, IsFilled, IsProperRow, IsRowIn}
 use Rattle.state_flow.specs.Reaching.{IsLed, IsReached, Leads}
 use Rattle.state_flow.proofs.RowLaws.{set_known}

@@ -127,11 +127,3 @@ module _ (app : App) where
     counts = omega (arith, so_far.counts, more.counts);
     sizes = omega (arith, so_far.sizes, more.sizes);
   }
-
-  -- in a loop over the rows
-  pub joined_on : (cells now after : List (Cell Entry)) (rows : List TableRow) (i : ℕ) (row : TableRow) → i < length rows → row ≡ get_or rows i row → AreJoined app cells (take i rows) now → AreJoined app now (row ∷ []) after → AreJoined app cells (take (i + 1) rows) after
-  joined_on cells now after rows i row lt is so_far next =
-      subst (λ (xs : List TableRow). AreJoined app cells xs after) (ap (λ (x : TableRow). take i rows ++ x ∷ []) is ∙ sym (take_more rows i row lt)) (joined_then cells now after (take i rows) (row ∷ []) so_far next)
-
-  pub joined_all : (cells after : List (Cell Entry)) (rows : List TableRow) (i : ℕ) → length rows ≤ i → AreJoined app cells (take i rows) after → AreJoined app cells rows after
-  joined_all cells after rows i le = subst (λ (xs : List TableRow). AreJoined app cells xs after) (take_all i rows le)

@@ -110,8 +110,3 @@ pub listed_component : (app : App) (items : List Component) (i : ℕ) (d : Compo
 listed_component app items i d is lt =
     let known : i < component_count app = omega (arith, lt, ap length is) in
     subst (IsComponent app) (get_or_default (components app) i (component.Alarm (alarm_no 0)) d known ∙ ap (λ (xs : List Component). get_or xs i d) (sym is)) (component_known app i known)
-
--- the sets so far, in a loop over the components
-pub sets_more : (app : App) (s : State) (items : List Component) (i : ℕ) (k : Component) (sets : List ValueSet) → i < length items → k ≡ get_or items i k → sets ≡ map (set_of app s) (take i items) → sets ++ set_of app s k ∷ [] ≡ map (set_of app s) (take (i + 1) items)
-sets_more app s items i k sets lt is so_far =
-    ap₂ (λ (xs : List ValueSet) (x : Component). xs ++ set_of app s x ∷ []) so_far is ∙ sym (map_more (set_of app s) items i k lt)

@@ -33,9 +33,6 @@ pub record IsProperRow (app : App) (x : TableRow) : Type 0 where
   pub allowed : AreAllAllowed app x.point x.entry
   pub filled : IsFilled app x.entry
 
-pub record AreProperRows (app : App) (rows : List TableRow) : Type 0 where
-  pub each : (row : TableRow) → Contains rows row → IsProperRow app row
-
 -- The table has an entry at the row's point, with all the row's values.
 pub record IsRowIn (table : Sets) (row : TableRow) : Type 0 where
   pub entry : IsTrue (table.entry row.point)

@@ -1,15 +1,10 @@
-//! The least table of possible states of an application.
+//! The points that are reached on the way to the least table, and the rows of its starts.
 #![tactic(auto)]
 
 mod cells;
-mod counts;
-mod evaluation;
-mod least_table;
 mod starts;
 mod state_row;
 
 pub use cells::{Cell, join, next_waiting, place_behind};
-pub use counts::values;
-pub use least_table::solve;
 pub use starts::start_row;
 pub use state_row::row_of;

@@ -1,6 +1,6 @@
 use Rattle.std.proofs.Common.{◌∙◌, List, subst, take}
 use Rattle.std.proofs.lemmas.List.{take_all}
-use Rattle.flow_exits.specs.Exits.{Exit}
+use Rattle.flow_exits.specs.declared.exit.Exit.{Exit}
 use Rattle.numbered_exits.specs.declared.group.ExitGroup.{ExitGroup}
 use Rattle.numbered_exits.specs.Groups.{all_exits}
 use Rattle.numbered_exits.proofs.LeavingPoints.{filled_numbers}

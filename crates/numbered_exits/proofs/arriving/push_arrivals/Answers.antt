@@ -1,4 +1,5 @@
-use Rattle.std.proofs.Common.{◌∙◌, List, refl, sym, ap, subst, None}
+use Rattle.std.proofs.Common.{◌∙◌, List, map, refl, sym, ap, subst, None}
+use Rattle.flow_model.specs.declared.rule.Rule.{Rule}
 use Rattle.numbered_sets.specs.Views.{plain_entry}
 use Rattle.numbered_exits.specs.declared.group.ExitGroup.{ExitGroup}
 use Rattle.numbered_exits.specs.declared.group.Ends.TheVariants as ends
@@ -19,4 +20,4 @@ returns c =
     let arrivals = c.in_ok-begun.ensures in
     subst (λ (gs : List ExitGroup). AddsArrivals app p (plain_entry pool c.args.entry.now) pool before gs) (sym c.in_ok-push.ensures.items)
     (routines_begin app p pool c.args.entry.now before c.in_ok-begun.begun arrivals (record { decision = None; status = None; entry = c.in_ok-entry.entry; ends = ends.At c.in_ok-targets.targets }) refl refl c.in_ok-entry.ensures
-    (ap ends.At (c.in_ok-targets.ensures app p arrivals)) c.requires.numbers c.requires.known)
+    (ap ends.At (c.in_ok-targets.ensures ∙ ap (map (λ (rule : Rule). rule.target)) c.as_slice.ensures)) c.requires.numbers c.requires.known)
