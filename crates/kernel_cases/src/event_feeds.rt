@@ -65,6 +65,7 @@ fn ends_of_texts_are_lines(rt: HostRuntime) {
         come_out(rt.alloc(), b"\r\r\n\nx", 2, &[b"\r", b"", b"x"]),
         Ok(true)
     );
+    assert_eq!(rt; come_out(rt.alloc(), b"\r\n\n", 1, &[b"", b""]), Ok(true));
 }
 
 /// So many marks of a comment, and then an end.
@@ -93,6 +94,22 @@ fn long_lines_show_that_they_are(rt: HostRuntime) {
     assert_eq!(rt; is_cut(rt.alloc(), 257, b"\n", 257), Ok(true));
     assert_eq!(rt; is_cut(rt.alloc(), 900, b"", 257), Ok(true));
     assert_eq!(rt; is_cut(rt.alloc(), 256, b"", 256), Ok(true));
+}
+
+/// Whether the lines come out of a text of one line of 600 bytes and a short one, for pieces of a size.
+fn go_on_behind(alloc: Global, size: usize) -> Result<bool, Memory>
+    requires { 0 < size }
+{
+    let text = long_line(alloc, 600, b"\r\nrun 0\n")?;
+    let long = [b'#'; 257];
+    come_out(alloc, &text, size, &[&long, &long, &[b'#'; 86], b"run 0"])
+}
+
+#[test]
+fn lines_behind_a_long_one_are_the_same(rt: HostRuntime) {
+    assert_eq!(rt; go_on_behind(rt.alloc(), 1), Ok(true));
+    assert_eq!(rt; go_on_behind(rt.alloc(), 300), Ok(true));
+    assert_eq!(rt; go_on_behind(rt.alloc(), 4096), Ok(true));
 }
 
 /// What a feed takes of two pieces of a size, and of a third once it is finished.

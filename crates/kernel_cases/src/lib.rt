@@ -7,6 +7,8 @@ mod changed_images;
 #[cfg(test)]
 mod event_feeds;
 #[cfg(test)]
+mod files_of_the_system;
+#[cfg(test)]
 mod image_bytes;
 #[cfg(test)]
 mod joins;

@@ -1,14 +1,14 @@
 //! What no clause says: that the calls succeed where memory is there, the scripted failures by the
-//! numbers of the calls, and the real files and streams.
+//! numbers of the calls, and the real streams.
 use osek_io::{
-    Failed, FileShelf, LoadError, MemShelf, MemSink, PUT_ROOM, PutBuffer, PutError, Shelf, Sink,
-    StdSink, Stream, load, put_all, store,
+    Failed, LoadError, MemShelf, MemSink, PUT_ROOM, PutBuffer, PutError, Shelf, Sink, StdSink,
+    Stream, load, put_all, store,
 };
 use osek_values::Memory;
 use std::alloc::Global;
+use std::io;
 use std::io::{ErrorKind, Write};
 use std::test::Fail;
-use std::{env, fs, io, process};
 
 /// A call over a shelf with its answer, or what the shelf tells.
 #[derive(Clone, Copy)]
@@ -245,45 +245,6 @@ fn makes_room_for_what_is_put(rt: HostRuntime) {
         Held::Called(3),
     ];
     assert_eq!(rt; first_wrong_held(rt.alloc(), 200_000, &steps), Ok(None));
-}
-
-/// The path of a file that isn't there yet.
-fn a_path(rt: &HostRuntime) -> Result<String, Fail> {
-    let folder = env::temp_dir(rt)?;
-    let number = process::id(rt.process());
-    let path = format!(in rt.alloc(); "{}/osek-io-{number}", folder.display())?;
-    Ok(path)
-}
-
-/// Whether a file that isn't there is refused, made and replaced.
-fn keeps<F: Shelf>(alloc: Global, shelf: &mut F, name: &str, bytes: &[u8]) -> bool {
-    load(alloc, shelf, name, 9).err() == Some(LoadError::Read)
-        && shelf.append(name, b"x") == Err(Failed)
-        && store(shelf, name, b"older, to be replaced") == Ok(())
-        && store(shelf, name, bytes) == Ok(())
-}
-
-/// Whether the 9,000 bytes of a file are read, and are too many for a limit below.
-fn reads<F: Shelf>(alloc: Global, shelf: &mut F, name: &str, bytes: &[u8]) -> bool {
-    match (
-        load(alloc, shelf, name, 9_000),
-        load(alloc, shelf, name, 8_999),
-    ) {
-        (Ok(found), Err(error)) => found.as_slice() == bytes && error == LoadError::TooLong,
-        _ => false,
-    }
-}
-
-#[test]
-fn keeps_a_file_of_the_system(rt: HostRuntime) -> Result<(), Fail> {
-    let path = a_path(&rt)?;
-    let mut bytes = [1; 9_000];
-    bytes[5_000..].fill(2);
-    let mut shelf = FileShelf::new(&rt);
-    assert!(rt; keeps(rt.alloc(), &mut shelf, path.as_str(), &bytes));
-    assert!(rt; reads(rt.alloc(), &mut shelf, path.as_str(), &bytes));
-    fs::remove_file(&rt, path.as_str())?;
-    Ok(())
 }
 
 /// A stream that is interrupted, takes two bytes at a time, and then fails.

@@ -1,20 +1,19 @@
 //! Lines of a small application: an extended task, an ISR and a counter.
-ghost use Rattle.std.specs.Prelude.{◌≡◌, ◌≤◌, length, IfOk};
+ghost use Rattle.std.specs.Prelude.{◌≡◌, IfOk};
 ghost use Rattle.osek_standard.specs.Well.{Well};
-ghost use Rattle.trace_text.specs.EventText.{read_text};
 ghost use Rattle.kernel_cases.specs.Sample.{IsOfSampleSize, sample, sample_state};
 
 use crate::lists::{block, default_mode, listed, name, one, scheduler};
 use osek_standard::{
     Activity, App, Block, Counter, Isr, Kind, Processor, Schedule, Source, State, Task, TaskState,
 };
-use osek_values::limits::{LINE_MAX, MAX_EVENT_TEXT};
+use osek_values::limits::LINE_MAX;
 use osek_values::{
     BlockNo, CounterNo, Event, HookSet, IsrNo, Mask, Memory, ModeNo, Notes, Seq, Status, TaskNo,
     Value,
 };
 use std::alloc::Global;
-use trace_text::{EventFault, EventLine, EventLines, FaultyLine, read_event, write_line};
+use trace_text::{EventFault, FEED_ROOM, FaultyLine, Feed, FeedStep, read_event, write_line};
 
 fn tasks(alloc: Global) -> Result<Seq<Task>, Memory>
     ensures { IfOk result (λ x. x ≡ sample.tasks) }
@@ -134,67 +133,38 @@ fn reads_event_lines(rt: HostRuntime) {
     assert_eq!(rt; sample_reads(rt.alloc()), Ok(true));
 }
 
-fn lines_are(text: &[u8], want: &[&[u8]]) -> bool
-    requires { length text.now ≤ MAX_EVENT_TEXT }
-{
-    let mut lines = EventLines::new(text);
-    for (index, bytes) in want.iter().enumerate() {
-        let Some(line) = lines.next_line() else {
-            return false;
-        };
-        if line.number as usize != index + 1 || line.bytes != *bytes {
-            return false;
+/// The first fault of a text that comes in one piece.
+fn first_fault(alloc: Global, app: &App, text: &[u8]) -> Result<Option<FaultyLine>, Memory> {
+    let mut feed = Feed::new(alloc)?;
+    let _ = feed.give(text);
+    feed.finish();
+    for line in 1..=FEED_ROOM as u32 {
+        if feed.next() != FeedStep::Line {
+            return Ok(None);
+        }
+        if let Err(rule) = read_event(app, feed.line()) {
+            return Ok(Some(FaultyLine { line, rule }));
         }
     }
-    lines.next_line().is_none()
-}
-
-#[test]
-fn parts_a_text_into_lines(rt: HostRuntime) {
-    assert!(rt; lines_are(b"", &[]));
-    assert!(rt; lines_are(b"run 0", &[b"run 0"]));
-    assert!(rt; lines_are(b"run 0\n", &[b"run 0"]));
-    assert!(rt; lines_are(b"\r\n\n", &[b"", b""]));
-    assert!(rt;
-        lines_are(
-            b"run 0\r\n# x\r\r\n\nrun 1\r",
-            &[b"run 0", b"# x\r", b"", b"run 1\r"]
-        )
-    );
-}
-
-// The first fault of a text, as a caller finds it.
-fn first_fault(app: &App, text: &[u8]) -> Option<FaultyLine>
-    requires { length text.now ≤ MAX_EVENT_TEXT }
-    ensures { result ≡ (read_text app.now text.now).fault }
-{
-    let mut lines = EventLines::new(text);
-    while let Some(line) = lines.next_line() {
-        if let Err(rule) = read_event(app, line.bytes) {
-            return Some(FaultyLine {
-                line: line.number,
-                rule,
-            });
-        }
-    }
-    None
+    Ok(None)
 }
 
 /// Whether a text without a fault and one with two give what they should.
-fn are_found(app: &App) -> bool {
+fn are_found(alloc: Global, app: &App) -> Result<bool, Memory> {
     let unknown = FaultyLine {
         line: 3,
         rule: EventFault::E2,
     };
-    first_fault(app, b"run 0\r\n\n# x\r\nirq I") == None
-        && first_fault(app, b"run 0\nrun 0\nirq X\nrun 2\n") == Some(unknown)
+    let none = first_fault(alloc, app, b"run 0\r\n\n# x\r\nirq I")?;
+    let first = first_fault(alloc, app, b"run 0\nrun 0\nirq X\nrun 2\n")?;
+    Ok(none == None && first == Some(unknown))
 }
 
 fn sample_finds(alloc: Global) -> Result<bool, Memory> {
     let app = sample(alloc)?;
-    let found = are_found(&app);
+    let found = are_found(alloc, &app);
     drop(app);
-    Ok(found)
+    found
 }
 
 #[test]

@@ -23,7 +23,7 @@ empty_or_some : (xs : List ℕ) → ltb 0 (length xs) ≡ false → xs ≡ []
 empty_or_some [] h = refl
 empty_or_some (x ∷ xs) h = let none : length (x ∷ xs) ≤ 0 = ltb-false 0 (length (x ∷ xs)) h in absurd (omega (arith, none))
 
-both_true : (a b : Bool) → (a && b) ≡ true → (a ≡ true) × (b ≡ true)
+pub both_true : (a b : Bool) → (a && b) ≡ true → (a ≡ true) × (b ≡ true)
 both_true true b h = (refl, h)
 both_true false b h = absurd (cc)
 
@@ -54,7 +54,7 @@ peels finished ahead rest last_of = by_place (position is_lf (take 257 ahead)) r
     by_place (Some k) e = ap lines_to_long (short_line 257 k ahead rest refl e)
     by_place None e = peels_whole 257 finished ahead rest refl last_of e (ltb 256 (length ahead)) (finished && ltb 0 (length ahead)) refl refl
 
-no_line : (finished : Bool) → answer_by finished None ≡ Line → ⊥
+pub no_line : (finished : Bool) → answer_by finished None ≡ Line → ⊥
 no_line true e = cc
 no_line false e = cc
 
@@ -126,7 +126,7 @@ shorter_by s None h e = absurd (no_line s.finished e)
 pub line_shortens : (s : FeedState) → next_answer s ≡ Line → length (after_next s).ahead < length s.ahead
 line_shortens s e = shorter_by s (peeled s.finished s.ahead) (peels_shorter s.finished s.ahead) e
 
-stays_ahead : (s : FeedState) (o : Option Peeled) → answer_by s.finished o ≡ More → (left_by s o).ahead ≡ s.ahead
+pub stays_ahead : (s : FeedState) (o : Option Peeled) → answer_by s.finished o ≡ More → (left_by s o).ahead ≡ s.ahead
 stays_ahead s (Some p) e = absurd (cc)
 stays_ahead s None e = refl
 
@@ -135,7 +135,7 @@ taken_within true a r n h = omega arith
 taken_within false a r n h = omega (arith, h)
 
 -- what is given goes from the rest to the bytes ahead
-given : (s : FeedState) (rest : List ℕ) (n : ℕ) → (after_give s (take n rest)).ahead ++ drop (taken_count s (take n rest)) rest ≡ s.ahead ++ rest
+pub given : (s : FeedState) (rest : List ℕ) (n : ℕ) → (after_give s (take n rest)).ahead ++ drop (taken_count s (take n rest)) rest ≡ s.ahead ++ rest
 given s rest n =
     let k = taken_count s (take n rest) in
     let le : k ≤ n = taken_within s.finished (length (take n rest)) (8192 - length s.ahead) n (omega (arith, length-take n rest)) in
@@ -143,7 +143,7 @@ given s rest n =
     ∙ ap (λ t. s.ahead ++ (t ++ drop k rest)) (take-take k n rest le)
     ∙ ap (λ t. s.ahead ++ t) (take-append-drop k rest)
 
-drops_nothing : (k : ℕ) (rest : List ℕ) → rest ≡ [] → drop k rest ≡ []
+pub drops_nothing : (k : ℕ) (rest : List ℕ) → rest ≡ [] → drop k rest ≡ []
 drops_nothing k rest e = drop_all k rest (omega (arith, ap length e))
 
 behind_a_line : (line : List ℕ) (some others : List (List ℕ)) → lines_to_long some ≡ lines_to_long others → lines_to_long (line ∷ some) ≡ lines_to_long (line ∷ others)

@@ -1,16 +1,16 @@
 -- The first line of a text, from its first bytes.
-use Rattle.std.proofs.Common.{◌≡◌, ℕ, ◌+◌, ◌-◌, ◌<◌, ◌≤◌, Bool, true, false, cond, List, [], ◌∷◌, ◌++◌, length, take, drop, get_or, Option, Some, None, IfSome, refl, sym, ◌∙◌, ap, arith, inl, inr}
+use Rattle.std.proofs.Common.{◌≡◌, ℕ, ◌+◌, ◌<◌, ◌≤◌, Bool, true, false, cond, List, [], ◌∷◌, ◌++◌, length, take, drop, get_or, Option, Some, None, IfSome, refl, sym, ◌∙◌, ap, arith, inl, inr}
 use Rattle.std.specs.List.{position, position_or_len}
 use Rattle.std.specs.Str.Lines.{strip_carriage_return}
 use Rattle.std.proofs.lemmas.Bool.{lt-ltb, le-ltb, cases_lt}
-use Rattle.std.proofs.lemmas.List.{append-nil, drop_all, drop-append-le, get_or-take, get_or_append_left, length-append, length-take, length-take-le, take-append-le, take-take, take_all}
+use Rattle.std.proofs.lemmas.List.{append-nil, drop-append-le, get_or-take, get_or_append_left, length-append, length-take, length-take-le, take-append-le, take-take, take_all}
 use Rattle.std.proofs.lemmas.List.Quantifiers.{position-Some}
 use Rattle.std.proofs.lemmas.List.Sums.{fails_before_first}
 use Rattle.trace_text.specs.EventText.{ended_line, text_lines}
 use Rattle.trace_text.specs.Feeds.{lines_to_long}
 use Rattle.trace_text.proofs.EventLaws.{position_is}
 use Rattle.trace_text.proofs.LineLaws.{is_lf, line_before_lf, line_without_lf}
-use Rattle.trace_text.proofs.Parts.{none_found, whole_tail}
+use Rattle.trace_text.proofs.Parts.{none_found}
 
 -- an element of a front stands there with more behind it too
 in_front : (w j : ℕ) (xs more : List ℕ) → j < w → j < length xs → get_or (xs ++ more) j 0 ≡ get_or (take w xs) j 0
@@ -65,10 +65,8 @@ short_line w k xs rest is e =
     let size : length (take k xs) ≡ k = length-take-le k xs (omega (arith, within)) in
     let line : ended_line (take k (xs ++ rest)) ≡ strip_carriage_return (take k xs) =
     ap ended_line (take-append-le k xs rest (omega (arith, within))) ∙ ended_short (take k xs) (omega (arith, size, small, is)) in
-    let tail : take (length (xs ++ rest) - (k + 1)) (drop (k + 1) (xs ++ rest)) ≡ drop (k + 1) xs ++ rest =
-    whole_tail (k + 1) (xs ++ rest) ∙ drop-append-le (k + 1) xs rest (omega (arith, within)) in
-    line_before_lf (xs ++ rest) k at.2 ∙ ap (λ l. l ∷ text_lines (take (length (xs ++ rest) - (k + 1)) (drop (k + 1) (xs ++ rest)))) line
-    ∙ ap (λ t. strip_carriage_return (take k xs) ∷ text_lines t) tail
+    line_before_lf (xs ++ rest) k at.2 ∙ ap (λ l. l ∷ text_lines (drop (k + 1) (xs ++ rest))) line
+    ∙ ap (λ t. strip_carriage_return (take k xs) ∷ text_lines t) (drop-append-le (k + 1) xs rest (omega (arith, within)))
 
 -- no LF stands among the first bytes, and they are too many
 pub long_line : (w : ℕ) (xs rest : List ℕ) → w ≡ 257 → 256 < length xs → position is_lf (take w xs) ≡ None → lines_to_long (text_lines (xs ++ rest)) ≡ take w xs ∷ []
@@ -85,18 +83,16 @@ long_line w xs rest is h none = by_place (position is_lf (xs ++ rest)) refl
         let behind : w ≤ k = place_behind is_lf w k xs rest (omega (arith, is, h)) none e in
         let at = position-Some is_lf (xs ++ rest) k 0 e in
         let size : length (take k (xs ++ rest)) ≡ k = length-take-le k (xs ++ rest) (omega (arith, at.0)) in
-        let tail = text_lines (take (length (xs ++ rest) - (k + 1)) (drop (k + 1) (xs ++ rest))) in
+        let tail = text_lines (drop (k + 1) (xs ++ rest)) in
         ap lines_to_long (line_before_lf (xs ++ rest) k e) ∙ ap (λ l. lines_to_long (l ∷ tail)) (ended_long (take k (xs ++ rest)) (omega (arith, size, behind, is)))
         ∙ long_first w (take k (xs ++ rest)) tail is (omega (arith, size, behind, is)) ∙ ap (λ l. l ∷ []) (take-take w k (xs ++ rest) behind ∙ front)
     by_place None e =
-        let tail = text_lines (take (length (xs ++ rest) - length (xs ++ rest)) (drop (length (xs ++ rest)) (xs ++ rest))) in
-        ap lines_to_long (line_without_lf (xs ++ rest) e (omega (arith, more, h))) ∙ long_first w (xs ++ rest) tail is (omega (arith, more, h)) ∙ ap (λ l. l ∷ []) front
+        ap lines_to_long (line_without_lf (xs ++ rest) e (omega (arith, more, h))) ∙ long_first w (xs ++ rest) [] is (omega (arith, more, h)) ∙ ap (λ l. l ∷ []) front
 
 -- the last bytes of a text have no LF
 pub last_line : (w : ℕ) (xs : List ℕ) → w ≡ 257 → length xs ≤ 256 → 0 < length xs → position is_lf (take w xs) ≡ None → text_lines (xs ++ []) ≡ xs ∷ text_lines []
 last_line w xs is short some none =
     ap text_lines (append-nil xs) ∙ line_without_lf xs (ap (position is_lf) (sym (take_all w xs (omega (arith, is, short)))) ∙ none) some
-    ∙ ap (λ t. xs ∷ text_lines t) (whole_tail (length xs) xs ∙ drop_all (length xs) xs (omega arith))
 
 -- a place in a front is a place of all
 pub place_within : (w : ℕ) (xs : List ℕ) (o : Option ℕ) → o ≡ position is_lf (take w xs) → IfSome o (λ k. k < length xs)

@@ -1,4 +1,5 @@
 pub mod EventLaws
+pub mod FedLines
 pub mod FeedLaws
 pub mod FirstLines
 pub mod GrammarLaws

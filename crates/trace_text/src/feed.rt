@@ -1,9 +1,9 @@
 //! The lines of an event text that comes in pieces.
 ghost use Rattle.std.specs.Prelude.{◌≡◌, ◌≤◌, ◌+◌, ◌==◌, ◌<◌, length, take, drop, vec_len, vec_capacity, IfOk, IfSome, option_map};
 ghost use Rattle.std.specs.List.{position};
+ghost use Rattle.std.specs.Str.Lines.{strip_carriage_return};
 ghost use Rattle.trace_text.specs.Feeds.{peeled};
 
-use crate::event_lines::{line_end, without_cr};
 use osek_values::Memory;
 use osek_values::limits::MAX_EVENT_LINE;
 use std::alloc::Global;
@@ -51,6 +51,21 @@ impl Model for Feed {
     ghost view = { λ f. record { ahead = drop f.ahead f.bytes.items; finished = f.finished; line = take (f.line_end - f.line_start) (drop f.line_start f.bytes.items) } };
 
     ghost invariant = { λ f. (f.ahead ≤ vec_len f.bytes) × (f.line_start ≤ f.line_end) × (f.line_end ≤ vec_len f.bytes) × (vec_len f.bytes ≤ FEED_ROOM) × (FEED_ROOM ≤ vec_capacity f.bytes) };
+}
+
+fn line_end(text: &[u8]) -> Option<usize>
+    ensures { result ≡ position (λ c. c == 10) text.now }
+{
+    text.iter().position(|byte| *byte == b'\n')
+}
+
+fn without_cr(line: &[u8]) -> &[u8]
+    ensures { result.now ≡ strip_carriage_return line.now }
+{
+    match line {
+        [front @ .., b'\r'] => front,
+        _ => line,
+    }
 }
 
 // Where an LF ends the first line of the bytes ahead, unless the line is too long.

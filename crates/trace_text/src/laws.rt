@@ -48,8 +48,10 @@ pub fn a_feed_gives_the_first_line()
     ensures more { (s : FeedState) → next_answer s ≡ More → (s.finished ≡ false) × (length s.ahead ≤ MAX_EVENT_LINE) }
 {}
 
-/// However a text is cut into pieces, the same lines come out up to the first that is too long, and say what the text says.
+/// However a text is cut into pieces, the same lines come out. Up to the first that is too long they are the lines of the text, and
+/// they say what it says.
 pub fn the_lines_of_a_text_come_out_for_every_cut()
+    ensures same { (text : List ℕ) (lines others : List (List ℕ)) → ComesOut no_bytes text lines → ComesOut no_bytes text others → lines ≡ others }
     ensures lines { (text : List ℕ) (lines : List (List ℕ)) → ComesOut no_bytes text lines → lines_to_long lines ≡ lines_to_long (text_lines text) }
     ensures reading { (app : App) (text : List ℕ) (lines : List (List ℕ)) → ComesOut no_bytes text lines → read_lines app (enumerate_from 1 lines) ≡ read_lines app (numbered_lines text) }
 {}

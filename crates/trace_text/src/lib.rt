@@ -1,7 +1,6 @@
 //! Event lines in, trace lines out.
 #![tactic(auto)]
 
-mod event_lines;
 mod event_words;
 mod fault;
 mod feed;
@@ -12,7 +11,6 @@ mod shown;
 mod trace_line;
 mod trace_notes;
 
-pub use event_lines::{EventLine, EventLines};
 pub use event_words::read_event;
 pub use fault::{EventFault, FaultyLine};
 pub use feed::{FEED_ROOM, Feed, FeedStep};
