@@ -6,7 +6,7 @@ pub const GEN_ONE: &str =
     "points 22 height 65 values 130 never 0 stay 3 direct 1 general 2 bytes 15382 lines 1001\n";
 
 /// Rows of `gen`.
-pub const GEN_ROWS: [Row; 3] = [
+pub const GEN_ROWS: [Row; 4] = [
     Row {
         name: "gen of one task",
         files: &[],
@@ -48,6 +48,16 @@ pub const GEN_ROWS: [Row; 3] = [
                 "",
             ),
         ],
+    },
+    // Each line of the trace shows sixteen tasks, so that it is longer than a megabyte.
+    Row {
+        name: "gen of sixteen tasks",
+        files: &[],
+        acts: &[Act::Frames(
+            &["gen", "1", "16"],
+            "points 247 height 1010 values ",
+            " lines 16001\n",
+        )],
     },
     Row {
         name: "gen of no such numbers, and a command that isn't there",

@@ -14,6 +14,10 @@ mod gen_rows;
 #[cfg(test)]
 mod hostile_images;
 #[cfg(test)]
+mod kind_rows;
+#[cfg(test)]
+mod long_inputs;
+#[cfg(test)]
 mod long_rows;
 #[cfg(test)]
 mod real_files;

@@ -3,6 +3,7 @@ use crate::edge_rows::{MODE_ROWS, TEXT_ROWS};
 use crate::example_rows::EXAMPLE_ROWS;
 use crate::flow_rows::FLOW_ROWS;
 use crate::gen_rows::GEN_ROWS;
+use crate::kind_rows::KIND_ROWS;
 use crate::long_rows::{LONG_ROWS, LongRow, Repeated};
 use crate::rows::{Act, EVENT_ROWS, Row, TASK_ROWS};
 use commands::osekfit;
@@ -447,6 +448,11 @@ fn the_rows_of_the_analysis(rt: HostRuntime) {
 #[test]
 fn the_rows_of_examples(rt: HostRuntime) {
     assert_eq!(rt; first_wrong(rt.alloc(), &EXAMPLE_ROWS), Ok(""));
+}
+
+#[test]
+fn the_rows_of_kinds(rt: HostRuntime) {
+    assert_eq!(rt; first_wrong(rt.alloc(), &KIND_ROWS), Ok(""));
 }
 
 fn text_of(alloc: Global, text: &Repeated) -> Result<Vec<u8>, Memory> {

@@ -1,4 +1,9 @@
 //! What is told on err, and how much of it where a write there fails: with each refusal, status 6 and a front of its text.
+ghost use Rattle.std.specs.Prelude.{◌≡◌, Option, Err, codes};
+ghost use Rattle.command_runs.specs.declared.stop.Stop.TheVariants as stop;
+ghost use Rattle.commands.specs.Statuses.{status_of, text_due};
+ghost use Rattle.commands.specs.Words.{Command};
+
 use crate::failing_calls::words_of;
 use crate::stored::{CODE, EVENTS, IMAGE, OIL, UPGRADED_IMAGE};
 use commands::osekfit;
@@ -150,6 +155,17 @@ fn first_wrong(alloc: Global, refused: &Refused) -> Result<Option<usize>, Memory
         }
     }
     Ok(None)
+}
+
+/// What is told where memory runs out, which a test doesn't bring about.
+fn want_of_memory_is_told()
+    ensures text { (command : Option Command) → text_due command (Err stop.Memory) ≡ codes "memory\n" }
+    ensures status { status_of (Err stop.Memory) ≡ 7 }
+{}
+
+#[test]
+fn the_text_of_want_of_memory() {
+    want_of_memory_is_told();
 }
 
 #[test]

@@ -3,6 +3,7 @@
 
 use commands::osekfit;
 use osek_io::{FileShelf, StdSink};
+use std::alloc::Global;
 use std::env::{Env, FillError};
 use std::process::ExitCode;
 use std::{env, io};
@@ -29,23 +30,34 @@ impl<R: Env> Env for NamelessWords<R> {
     }
 }
 
-fn words_given(rt: &HostRuntime) -> io::Result<Vec<String>> {
-    let mut words = Vec::new(rt.alloc());
-    for word in env::args(&(NamelessWords(rt), rt.alloc()))? {
+fn words_given<R: Env + Drop>(alloc: Global, env: R) -> io::Result<Vec<String>> {
+    let mut words = Vec::new(alloc);
+    for word in env::args(&(NamelessWords(env), alloc))? {
         words.push(word)?;
     }
     Ok(words)
 }
 
-fn main(rt: HostRuntime) -> ExitCode {
-    let words = match words_given(&rt) {
-        Ok(words) => words,
+/// The words of a command, or the status where memory is wanted for them.
+fn command_words<R: Env + Drop>(alloc: Global, env: R) -> Result<Vec<String>, u8> {
+    match words_given(alloc, env) {
+        Ok(words) => Ok(words),
         // A word that isn't UTF-8 is no word of a command: the words are of no stated form.
-        Err(error) if error.kind() == io::ErrorKind::InvalidData => Vec::new(rt.alloc()),
-        Err(_) => return ExitCode::from(7),
+        Err(error) if error.kind() == io::ErrorKind::InvalidData => Ok(Vec::new(alloc)),
+        Err(_) => Err(7),
+    }
+}
+
+fn main(rt: HostRuntime) -> ExitCode {
+    let words = match command_words(rt.alloc(), &rt) {
+        Ok(words) => words,
+        Err(status) => return ExitCode::from(status),
     };
     let mut shelf = FileShelf::new(&rt);
     let mut out = StdSink::new(rt.stdout());
     let mut err = StdSink::new(rt.stderr());
     ExitCode::from(osekfit(rt.alloc(), &words, &mut shelf, &mut out, &mut err))
 }
+
+#[cfg(test)]
+mod tests;

@@ -1,0 +1,97 @@
+//! An image and an event text at their limits, and of one byte more.
+use crate::failing_calls::words_of;
+use crate::stored::ONE_TASK_IMAGE;
+use commands::osekfit;
+use osek_io::{MemShelf, MemSink};
+use osek_values::Memory;
+use std::alloc::Global;
+
+/// What a run answers and writes.
+#[derive(Clone, Copy)]
+struct Told {
+    status: u8,
+    out: &'static str,
+    err: &'static str,
+}
+
+/// Whether a run with these words, over an image `i` and an event text `e`, is so.
+fn gives(
+    alloc: Global,
+    words: &[&str],
+    image: &[u8],
+    events: &[u8],
+    told: Told,
+) -> Result<bool, Memory> {
+    let mut shelf = MemShelf::new(alloc, Vec::new(alloc));
+    shelf.set("i", Some(image), 0)?;
+    shelf.set("e", Some(events), 0)?;
+    let words = words_of(alloc, words)?;
+    let mut out = MemSink::new(alloc, Vec::new(alloc), 100)?;
+    let mut err = MemSink::new(alloc, Vec::new(alloc), 100)?;
+    let status = osekfit(alloc, &words, &mut shelf, &mut out, &mut err);
+    Ok(
+        status == told.status
+            && out.bytes() == told.out.as_bytes()
+            && err.bytes() == told.err.as_bytes(),
+    )
+}
+
+/// What `info` tells of an image with so many bytes in all, of which those behind its end are zeros.
+fn image_gives(alloc: Global, size: usize, err: &'static str) -> Result<bool, Memory> {
+    let mut image = vec![in alloc; 0; size]?;
+    if ONE_TASK_IMAGE.len() > size {
+        return Ok(false);
+    }
+    image[..ONE_TASK_IMAGE.len()].copy_from_slice(ONE_TASK_IMAGE);
+    let told = Told {
+        status: 3,
+        out: "",
+        err,
+    };
+    gives(alloc, &["osekfit", "info", "i"], &image, b"", told)
+}
+
+#[test]
+fn an_image_of_a_megabyte_and_of_one_byte_more(rt: HostRuntime) {
+    assert_eq!(rt; image_gives(rt.alloc(), 1_048_576, "i:89: I6\n"), Ok(true));
+    assert_eq!(rt;
+        image_gives(rt.alloc(), 1_048_577, "i:1048576: I7\n"),
+        Ok(true)
+    );
+}
+
+/// Comments of 256 bytes with their LFs, and one event at the end: 16 MiB in all, and what comes behind.
+fn events_of(alloc: Global, behind: &[u8]) -> Result<Vec<u8>, Memory> {
+    let mut comment = [b'#'; 256];
+    comment[255] = b'\n';
+    let mut text = Vec::new(alloc);
+    for _ in 0..65_535 {
+        text.extend_from_slice(&comment)?;
+    }
+    text.extend_from_slice(&comment[6..])?;
+    text.extend_from_slice(b"run 0\n")?;
+    text.extend_from_slice(behind)?;
+    Ok(text)
+}
+
+fn events_give(alloc: Global, behind: &[u8], told: Told) -> Result<bool, Memory> {
+    let events = events_of(alloc, behind)?;
+    let words = ["osekfit", "replay", "i", "OSDEFAULTAPPMODE", "e"];
+    gives(alloc, &words, ONE_TASK_IMAGE, &events, told)
+}
+
+#[test]
+fn an_event_text_of_16_megabytes_and_of_one_byte_more(rt: HostRuntime) {
+    let whole = Told {
+        status: 0,
+        out: "0 T1 T1=R\n1 - T1=S\n",
+        err: "",
+    };
+    let beyond = Told {
+        status: 4,
+        out: "",
+        err: "e:0: E4\n",
+    };
+    assert_eq!(rt; events_give(rt.alloc(), b"", whole), Ok(true));
+    assert_eq!(rt; events_give(rt.alloc(), b"\n", beyond), Ok(true));
+}
