@@ -17,8 +17,7 @@ SHAPES = {
     'ActivateTask': 't', 'TerminateTask': '', 'ChainTask': 't', 'Schedule': '', 'GetTaskID': '', 'GetTaskState': 't',
     'GetResource': 'r', 'ReleaseResource': 'r', 'SetEvent': 'tm', 'ClearEvent': 'm', 'GetEvent': 't', 'WaitEvent': 'm',
     'SetRelAlarm': 'ann', 'SetAbsAlarm': 'ann', 'CancelAlarm': 'a', 'GetAlarm': 'a', 'GetActiveApplicationMode': '', 'ShutdownOS': 's',
-    'SuspendAllInterrupts': '', 'ResumeAllInterrupts': '', 'SuspendOSInterrupts': '', 'ResumeOSInterrupts': '',
-    'DisableAllInterrupts': '', 'EnableAllInterrupts': '',
+    **dict.fromkeys(task_code.LOCKS, ''),
 }
 """The services, each with its arguments: a task, a resource, a mask of events, an alarm, a number, a status."""
 

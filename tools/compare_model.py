@@ -19,11 +19,8 @@ import least_table
 import model
 from application import application_of
 from given import Parser, Wrong, run
-
-HOOKS = ['STARTUPHOOK', 'ERRORHOOK', 'SHUTDOWNHOOK', 'PRETASKHOOK', 'POSTTASKHOOK']
-
-LOCKS = [('SuspendAllInterrupts', 'ResumeAllInterrupts'), ('SuspendOSInterrupts', 'ResumeOSInterrupts'),
-         ('DisableAllInterrupts', 'EnableAllInterrupts')]
+from oil import HOOKS
+from task_code import CLOSERS, OPENERS
 
 FOR_TASKS = ['ActivateTask(%(task)s)', 'ActivateTask(%(task)s)', 'ChainTask(%(task)s)', 'TerminateTask()', 'Schedule()', 'GetResource(%(resource)s)',
              'GetResource(%(resource)s)', 'ReleaseResource(%(resource)s)', 'ReleaseResource(%(resource)s)', 'WaitEvent(%(mask)s)', 'WaitEvent(%(mask)s)']
@@ -88,7 +85,7 @@ class Maker:
         inner = self.statements(words, 2, depth)
         kind = self.random.randrange(4)
         if kind == 0:
-            opener, closer = self.random.choice(LOCKS)
+            opener, closer = self.random.choice(list(zip(OPENERS, CLOSERS)))
             return '%s(); work %d; %s();' % (opener, self.random.randint(1, 2), closer)
         head = ['', 'if (?)', 'while (?)', 'while (1)'][kind]
         return '%s {\n%s}%s' % (head, inner, ' else { work 1; }' if kind == 1 and self.chance(0.5) else '')

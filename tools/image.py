@@ -1,6 +1,7 @@
 """The bytes of an image of version 2, in the model of model.py: the guide's tables of fields, written down."""
 from application import SHAPES
-from states import KEEP
+from states import KEEP, STATUSES
+from task_code import LOCKS
 
 KINDS = {
     'work': 0, 'choice': 1, 'loop': 2, 'ActivateTask': 3, 'TerminateTask': 4, 'ChainTask': 5, 'Schedule': 6, 'GetResource': 7,
@@ -11,12 +12,7 @@ KINDS = {
 
 END_OF_TASK, END_OF_ROUTINE, LOCK = 22, 23, 21
 
-LOCKS = ['SuspendAllInterrupts', 'ResumeAllInterrupts', 'SuspendOSInterrupts', 'ResumeOSInterrupts', 'DisableAllInterrupts',
-         'EnableAllInterrupts']
-
 HOOKS = ['Startup', 'Shutdown', 'Error', 'PreTask', 'PostTask']
-
-STATUSES = ['E_OK', 'E_OS_ACCESS', 'E_OS_CALLEVEL', 'E_OS_ID', 'E_OS_LIMIT', 'E_OS_NOFUNC', 'E_OS_RESOURCE', 'E_OS_STATE', 'E_OS_VALUE']
 
 NONE_NOTED, ANY, NOBODY = 9, 255, 255
 

@@ -2,10 +2,7 @@
 tested: a pair of a condition and a status."""
 from states import HALTED, IDLE, LEFT, MAYBE, NO, OK, SUSPENDED, Armed, Effect, Live, Routine, Running, Waiting, executing, \
     replaced, with_alarm, with_task
-
-QUIET = {'SuspendAllInterrupts', 'ResumeAllInterrupts', 'SuspendOSInterrupts', 'ResumeOSInterrupts', 'DisableAllInterrupts',
-         'EnableAllInterrupts'}
-"""Calls that do nothing but to go on: what they lock stands in the blocks."""
+from task_code import LOCKS
 
 
 class Call:
@@ -164,7 +161,7 @@ class Call:
 
 def service_effect(app, before, moved, block):
     """The effect of a call; `moved` has its caller at the next block."""
-    if block.word in QUIET:
+    if block.word in LOCKS:  # what they lock stands in the blocks
         return Effect(moved, NO, None, None, False)
     return getattr(Call(app, before, moved, block), block.word)()
 

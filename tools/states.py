@@ -34,7 +34,10 @@ Effect = namedtuple('Effect', 'state ask status value shut_down')
 
 NO, MAYBE, LEFT = 'no', 'maybe', 'left'
 
-OK = 'E_OK'
+STATUSES = ['E_OK', 'E_OS_ACCESS', 'E_OS_CALLEVEL', 'E_OS_ID', 'E_OS_LIMIT', 'E_OS_NOFUNC', 'E_OS_RESOURCE', 'E_OS_STATE', 'E_OS_VALUE']
+"""The statuses by their numbers in ISO 17356-3."""
+
+OK = STATUSES[0]
 
 
 def replaced(parts, place, part):

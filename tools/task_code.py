@@ -12,9 +12,11 @@ a list of names for a mask."""
 Owner = namedtuple('Owner', 'kind name')
 """Who a body belongs to: kind is TASK, ISR or, for a tick routine, TICK."""
 
-OPENERS = {'SuspendAllInterrupts': 'ResumeAllInterrupts', 'SuspendOSInterrupts': 'ResumeOSInterrupts',
-           'DisableAllInterrupts': 'EnableAllInterrupts'}
-"""Each call that locks interrupts, with the one that ends the lock."""
+LOCKS = ['SuspendAllInterrupts', 'ResumeAllInterrupts', 'SuspendOSInterrupts', 'ResumeOSInterrupts', 'DisableAllInterrupts',
+         'EnableAllInterrupts']
+"""The calls that lock interrupts, each before the one that ends its lock."""
+
+OPENERS, CLOSERS = LOCKS[::2], LOCKS[1::2]
 
 
 class Statement:
@@ -70,7 +72,7 @@ class CodeReader(Cursor):
             return Statement(self.push(line, 'work ' + number, 'work', [number_of(number) or 1]))
         arguments, text = self.read_arguments()
         number = self.push(line, word + text, word, arguments)
-        self.locks += (word in OPENERS) - (word in OPENERS.values())
+        self.locks += (word in OPENERS) - (word in CLOSERS)
         return Statement(number)
 
     def read_choice(self, word, line):

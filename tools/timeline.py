@@ -16,11 +16,9 @@ import tempfile
 from collections import namedtuple
 
 from given import Parser, Wrong, contents, opened, run
+from states import STATUSES
 
 STATES = {'S': 'suspended', 'Y': 'ready', 'R': 'running', 'W': 'waiting'}
-
-STATUSES = ['E_OK', 'E_OS_ACCESS', 'E_OS_CALLEVEL', 'E_OS_ID', 'E_OS_LIMIT', 'E_OS_NOFUNC', 'E_OS_RESOURCE', 'E_OS_STATE',
-            'E_OS_VALUE']
 
 MOST = 2000
 """The most lines that a chart shows."""

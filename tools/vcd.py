@@ -5,7 +5,8 @@ resource that it holds somewhere is a wire. A routine is a wire that is 1 while 
 its event. The status is a number, and x where none was noted."""
 from collections import namedtuple
 
-from timeline import HOOKS, STATUSES
+from states import STATUSES
+from timeline import HOOKS
 
 Signal = namedtuple('Signal', 'scope name width value')
 """A signal: value gives its bits at a line of the trace."""
