@@ -1,5 +1,7 @@
 //! What no clause says: that the calls succeed where memory is there, the scripted failures by the
 //! numbers of the calls, and the real streams.
+ghost use Rattle.std.specs.Prelude.{false, refl};
+
 use osek_io::{
     Failed, LoadError, MemShelf, MemSink, PUT_ROOM, PutBuffer, PutError, Shelf, Sink, StdSink,
     Stream, load, put_all, store,
