@@ -5,7 +5,7 @@ use osek_io::{FileShelf, LoadError, load};
 #[test]
 fn a_device_is_no_input(rt: HostRuntime) {
     let mut shelf = FileShelf::new(&rt);
-    let refused = match load(rt.alloc(), &mut shelf, "/dev/null", 16) {
+    let refused = match load(rt.alloc(), &mut shelf, "/dev/zero", 16) {
         Ok(bytes) => {
             drop(bytes);
             false
@@ -13,4 +13,15 @@ fn a_device_is_no_input(rt: HostRuntime) {
         Err(error) => error == LoadError::Read,
     };
     assert!(rt; refused);
+}
+
+/// The device that stands for an empty file in scripts is read as one.
+#[test]
+fn the_null_device_is_an_empty_file(rt: HostRuntime) {
+    let mut shelf = FileShelf::new(&rt);
+    let is_empty = match load(rt.alloc(), &mut shelf, "/dev/null", 16) {
+        Ok(bytes) => bytes.is_empty(),
+        Err(_) => false,
+    };
+    assert!(rt; is_empty);
 }
