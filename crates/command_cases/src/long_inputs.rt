@@ -38,11 +38,11 @@ fn gives(
 
 /// What `info` tells of an image with so many bytes in all, of which those behind its end are zeros.
 fn image_gives(alloc: Global, size: usize, err: &'static str) -> Result<bool, Memory> {
-    let mut image = vec![in alloc; 0; size]?;
-    if ONE_TASK_IMAGE.len() > size {
-        return Ok(false);
+    let mut image = Vec::new(alloc);
+    image.extend_from_slice(ONE_TASK_IMAGE)?;
+    for _ in ONE_TASK_IMAGE.len()..size {
+        image.extend_from_slice(&[0])?;
     }
-    image[..ONE_TASK_IMAGE.len()].copy_from_slice(ONE_TASK_IMAGE);
     let told = Told {
         status: 3,
         out: "",
