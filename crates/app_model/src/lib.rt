@@ -5,6 +5,7 @@
 pub use activation::activate;
 pub use oil_system::{CounterObject, EventObject, System, TaskObject};
 pub use osek_standard::{
-    Action, Activity, Alarm, AlarmState, App, Block, Call, Caller, Counter, Isr, Kind, Lock, Place,
+    Action, Activity, Alarm, AlarmState, App, Block, Call, Caller, Counter, Isr, Kind, Place,
     Point, Processor, Resource, Schedule, Source, Standing, State, Task, TaskState,
 };
+pub use osek_values::Lock;

@@ -5,8 +5,8 @@ use Rattle.std.specs.List.{list_any, list_all, enumerate_from}
 use Rattle.osek_values.specs.Numbers.{task_no, alarm_no, res_no, block_no, mask}
 use Rattle.osek_standard.specs.declared.objects.{Task.{Task}, Isr.{Isr}, Counter.{Counter}, Alarm.{Alarm}}
 use Rattle.osek_standard.specs.declared.block.{Block.{Block}, Kind.{Kind}}
-use Rattle.osek_standard.specs.declared.call.Lock.{Lock}
-use Rattle.osek_standard.specs.declared.call.Lock.TheVariants as lock
+use Rattle.osek_values.specs.declared.lock.Lock.{Lock}
+use Rattle.osek_values.specs.declared.lock.Lock.TheVariants as lock
 use Rattle.osek_standard.specs.declared.block.Kind.TheVariants as kind
 use Rattle.image_model.specs.CallNames as call
 use Rattle.osek_standard.specs.Validity.{owners, is_within, task_may, isr_may, due_of}

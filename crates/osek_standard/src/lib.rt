@@ -15,7 +15,7 @@ mod task_state;
 pub use app::App;
 pub use block::{Block, Kind};
 pub use call::{
-    AlarmService, ArmService, Call, Lock, MaskService, PlainService, ResourceService, TaskService,
+    AlarmService, ArmService, Call, MaskService, PlainService, ResourceService, TaskService,
 };
 pub use objects::{Action, Alarm, Counter, Isr, Resource, Schedule, Task};
 pub use point::Point;
