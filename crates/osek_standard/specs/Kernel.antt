@@ -1,6 +1,7 @@
 -- One step of the kernel, its start in an application mode, and its runs (ISO 17356-3).
-use Rattle.std.specs.Prelude.{ℕ, ◌+◌, ◌%◌, ◌/◌, ◌^◌, Bool, false, true, ◌==◌, List, [], ◌∷◌, length, map, replicate, if◌then◌else◌, Some, None}
+use Rattle.std.specs.Prelude.{ℕ, ◌+◌, Bool, false, true, List, [], ◌∷◌, length, map, replicate, if◌then◌else◌, Some, None}
 use Rattle.std.specs.declared.option.Option.{Option}
+use Rattle.osek_values.specs.Bits.{has_bit}
 use Rattle.osek_values.specs.Hooks.{startup}
 use Rattle.osek_values.specs.Numbers.{mask}
 use Rattle.osek_values.specs.declared.status.Ask.TheVariants as ask
@@ -45,10 +46,6 @@ module _ {R : Type 0} (plain : Stepped → R) (app : App) (s : State) where
 -- One step of the kernel.
 abbrev pub step : App → State → Event → Stepped
 step app s e = step_with (λ n. n) app s (instruction app s) e
-
--- bit k of a number
-abbrev pub has_bit : ℕ → ℕ → Bool
-has_bit n k = ((n / 2 ^ k) % 2) == 1
 
 abbrev pub started_task : ℕ → Task → TaskState
 started_task mode x =

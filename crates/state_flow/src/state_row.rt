@@ -1,7 +1,7 @@
 //! The row of one state.
 ghost use Rattle.std.specs.Prelude.{◌≡◌, ◌<◌, [], ◌∷◌, length, map, IfOk};
+ghost use Rattle.osek_values.specs.Bits.{has_bit as has_bit_of};
 ghost use Rattle.osek_standard.specs.Points.{point_of as point_of_state};
-ghost use Rattle.osek_standard.specs.Kernel.{has_bit as has_bit_of};
 ghost use Rattle.osek_standard.specs.Well.{Well};
 ghost use Rattle.abstract_state.specs.Components.{IsComponent, value_in as value_of_activity, is_armed as is_armed_state, part_of};
 ghost use Rattle.abstract_state.specs.Domains.{domain_of as domain_of_component};
