@@ -3,8 +3,10 @@ use Rattle.std.proofs.Common.{◌≡◌, ℕ, ◌+◌, ◌^◌, ◌<◌, ◌≤�
 use Rattle.std.specs.Prelude.{◌==◌}
 use Rattle.std.specs.List.{IsDistinct}
 use Rattle.std.proofs.lemmas.List.Elements.{All-from_recursion}
-use Rattle.osek_standard.specs.declared.objects.{Task.{Task}, Isr.{Isr}, Counter.{Counter}, Resource.{Resource}}
-use Rattle.osek_standard.specs.Validity.{IsValid, IsIsrCode, greatest_ceiling, isr_may}
+use Rattle.oil_system.specs.declared.objects.Resource.{Resource}
+use Rattle.oil_system.specs.Objects.{greatest_ceiling}
+use Rattle.osek_standard.specs.declared.objects.{Task.{Task}, Isr.{Isr}, Counter.{Counter}}
+use Rattle.osek_standard.specs.Validity.{IsValid, IsIsrCode, isr_may}
 use Rattle.kernel_cases.specs.Sample.{sample}
 use Rattle.worked_cases.proofs.ValidLaws.{HasCode, HasOwner, HasTick, IsName, Owns, TicksRight, among_each, block_at, has_code, no_names, owns}
 

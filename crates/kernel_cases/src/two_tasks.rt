@@ -2,9 +2,9 @@
 ghost use Rattle.std.specs.Prelude.{◌≡◌, ◌<◌, length, IsTrue, IfOk};
 ghost use Rattle.osek_values.specs.Names.{is_name};
 ghost use Rattle.osek_values.specs.Numbers.{block_no, mask};
+ghost use Rattle.oil_system.specs.declared.objects.Schedule.TheVariants as schedule;
 ghost use Rattle.osek_standard.specs.Versions.{FitsVersion1};
 ghost use Rattle.worked_cases.specs.WorkedApps.{activation as worked};
-ghost use Rattle.osek_standard.specs.declared.objects.Schedule.TheVariants as schedule;
 
 use crate::lists;
 use crate::lists::{block, default_mode, listed, one, scheduler};

@@ -7,8 +7,9 @@ use Rattle.osek_values.specs.Numbers.{mask}
 use Rattle.osek_values.specs.declared.status.Ask.TheVariants as ask
 use Rattle.osek_values.specs.declared.event.{Event.{Event}, Event.TheVariants.{Run, Irq, Tick}}
 use Rattle.osek_values.specs.declared.numbers.{ModeNo.{ModeNo}, SourceNo.{SourceNo}}
+use Rattle.oil_system.specs.declared.objects.Alarm.{Alarm}
 use Rattle.osek_standard.specs.declared.app.App.{App}
-use Rattle.osek_standard.specs.declared.objects.{Task.{Task}, Alarm.{Alarm}}
+use Rattle.osek_standard.specs.declared.objects.Task.{Task}
 use Rattle.osek_standard.specs.declared.task_state.{TaskState.{TaskState}, Activity.TheVariants.{Live}}
 use Rattle.osek_standard.specs.declared.state.{State.{State}, AlarmState.{AlarmState}, Processor.{Processor}}
 use Rattle.osek_standard.specs.declared.state.AlarmState.TheVariants as alarm

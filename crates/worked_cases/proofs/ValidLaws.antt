@@ -4,10 +4,12 @@ use Rattle.std.specs.Prelude.{⊤, slice_index_or, map, ◌==◌, ◌^◌}
 use Rattle.std.specs.List.{IsDistinct, list_any}
 use Rattle.std.proofs.lemmas.Bool.{cases_eq}
 use Rattle.std.proofs.lemmas.List.Elements.{All-from_recursion}
-use Rattle.osek_values.specs.Names.{is_name}
+use Rattle.osek_values.specs.Names.{is_name, AreNames}
+use Rattle.oil_system.specs.declared.objects.{Alarm.{Alarm}, Resource.{Resource}}
+use Rattle.oil_system.specs.Objects.{greatest_ceiling}
 use Rattle.osek_standard.specs.declared.block.Block.{Block}
-use Rattle.osek_standard.specs.declared.objects.{Task.{Task}, Counter.{Counter}, Alarm.{Alarm}, Resource.{Resource}}
-use Rattle.osek_standard.specs.Validity.{AreNames, IsValid, IsAlarmOf, IsAmong, IsBlock, IsOwner, IsTaskCode, IsTickCode, due_of, greatest_ceiling, is_own_next, is_within, no_block, no_counter, owners, task_may, tick_may}
+use Rattle.osek_standard.specs.declared.objects.{Task.{Task}, Counter.{Counter}}
+use Rattle.osek_standard.specs.Validity.{IsValid, IsAlarmOf, IsAmong, IsBlock, IsOwner, IsTaskCode, IsTickCode, due_of, is_own_next, is_within, no_block, no_counter, owners, task_may, tick_may}
 use Rattle.osek_standard.specs.Tables.{Tables}
 use Rattle.worked_cases.specs.WorkedApps.{activation, ceiling, event, alarm, two_alarms}
 

@@ -1,8 +1,9 @@
 -- A line that each application with certain tables shows, shown at these tables.
 use Rattle.std.proofs.Common.{◌≡◌, ℕ, List, sym, subst}
 use Rattle.osek_values.specs.declared.notes.Notes.{Notes}
+use Rattle.oil_system.specs.declared.objects.Resource.{Resource}
 use Rattle.osek_standard.specs.declared.app.App.{App}
-use Rattle.osek_standard.specs.declared.objects.{Task.{Task}, Resource.{Resource}}
+use Rattle.osek_standard.specs.declared.objects.Task.{Task}
 use Rattle.osek_standard.specs.declared.state.State.{State}
 use Rattle.osek_standard.specs.Apps.{tables}
 use Rattle.osek_standard.specs.Tables.{Tables}

@@ -6,9 +6,10 @@ use Rattle.osek_values.specs.declared.status.Status.{Status}
 use Rattle.osek_values.specs.declared.notes.{Notes.{Notes}, Value.{Value}}
 use Rattle.osek_values.specs.Hooks.{hook_set}
 use Rattle.osek_values.specs.Numbers.{block_no, mask, mode_no}
+use Rattle.oil_system.specs.declared.objects.Resource.{Resource}
+use Rattle.oil_system.specs.declared.objects.Schedule.TheVariants as schedule
 use Rattle.osek_standard.specs.declared.app.App.{App}
-use Rattle.osek_standard.specs.declared.objects.{Task.{Task}, Resource.{Resource}}
-use Rattle.osek_standard.specs.declared.objects.Schedule.TheVariants as schedule
+use Rattle.osek_standard.specs.declared.objects.Task.{Task}
 use Rattle.osek_standard.specs.declared.state.{State.{State}, Processor.{Processor}}
 use Rattle.osek_standard.specs.declared.task_state.{TaskState.{TaskState}, Activity.TheVariants.{Suspended, Live, Waiting}}
 use Rattle.osek_standard.specs.Dispatch.{stepped}
