@@ -7,7 +7,7 @@ use Rattle.osek_standard.specs.declared.state.State.{State}
 use Rattle.osek_standard.specs.Services.{Answer, activate_task, activated, answer, is_full}
 use Rattle.osek_standard.specs.Well.{Well}
 use Rattle.osek_standard.proofs.Keeps.{activate_keeps}
-use Rattle.activation.proofs.activate.Goals as goal
+use Rattle.osek_standard.proofs.activation.activate.Goals as goal
 
 full : (app : App) (s : State) (t : ℕ) → is_full app s t ≡ true → activate_task app s t ≡ answer s (Some status.Limit) None ask.No
 unfolding activate_task

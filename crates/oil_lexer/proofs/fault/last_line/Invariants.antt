@@ -1,6 +1,6 @@
 use Rattle.std.proofs.Common.{◌≡◌, length}
-use Rattle.oil_grammar.specs.Tokens.{last_line}
-use Rattle.oil_grammar.proofs.fault.last_line.Given as goal
+use Rattle.oil_lexer.specs.Tokens.{last_line}
+use Rattle.oil_lexer.proofs.fault.last_line.Given as goal
 
 abbrev pub invariant-loop-token : goal.invariant-loop-token
 invariant-loop-token l = last_line l.line l.rest ≡ last_line 1 l.tokens

@@ -3,8 +3,8 @@
 use Rattle.std.specs.Prelude.{◌≡◌, ℕ, ◌≤◌, List, [], ◌∷◌, ◌++◌, IsTrue}
 use Rattle.osek_values.specs.declared.refusal.{SyntaxRule.{SyntaxRule}, SyntaxRule.TheVariants.{S1, S2, S3}}
 use Rattle.oil_lexer.specs.declared.token.Token.{Token}
-use Rattle.oil_grammar.specs.Tokens.{is_open, last_line}
-use Rattle.oil_grammar.specs.Depth.{depth_from}
+use Rattle.oil_lexer.specs.Tokens.{is_open, last_line}
+use Rattle.oil_lexer.specs.Depth.{depth_from}
 
 module _ (Tree : Type 0) (IsSentence : List Token → Tree → Type 0) (limit : ℕ) where
   -- the tokens are a prefix of a sentence

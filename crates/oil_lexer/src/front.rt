@@ -1,10 +1,11 @@
 //! The token at the front.
 ghost use Rattle.std.specs.Prelude.{◌≡◌, [], ◌∷◌, MatchResult};
-ghost use Rattle.oil_grammar.specs.declared.fault.Stop.TheVariants.{Ends};
-ghost use Rattle.oil_grammar.specs.Tokens.{is_open, is_close};
+ghost use Rattle.oil_lexer.specs.declared.fault.Stop.TheVariants.{Ends};
+ghost use Rattle.oil_lexer.specs.Tokens.{is_open, is_close};
 
+use crate::cursor::Tokens;
 use crate::fault::Stop;
-use oil_lexer::{Mark, Token, TokenKind, Tokens};
+use crate::token::{Mark, Token, TokenKind};
 
 /// The first token, and the others.
 pub fn first<'a>(tokens: &Tokens<'a>) -> Result<(Token<'a>, Tokens<'a>), Stop>

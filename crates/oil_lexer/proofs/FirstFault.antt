@@ -4,15 +4,15 @@ use Rattle.std.specs.Prelude.{Option, Some, None, option_and_then, ◌&&◌, nat
 use Rattle.std.proofs.lemmas.List.{append-nil}
 use Rattle.std.proofs.lemmas.Bool.Decides.{nat_tests}
 use Rattle.oil_lexer.specs.declared.token.{TokenKind.{TokenKind}, Token.{Token}}
-use Rattle.oil_grammar.specs.declared.fault.{Stop.{Stop}, Stop.TheVariants.{NotAllowed, TooDeep, Ends}}
+use Rattle.oil_lexer.specs.declared.fault.{Stop.{Stop}, Stop.TheVariants.{NotAllowed, TooDeep, Ends}}
 use Rattle.osek_values.specs.declared.refused.LineFault.{LineFault}
 use Rattle.osek_values.specs.declared.refusal.SyntaxRule.{SyntaxRule}
-use Rattle.oil_grammar.specs.Faults as faults
-use Rattle.oil_grammar.specs.Tokens.{is_open}
-use Rattle.oil_grammar.specs.Depth.{deeper, depth_from}
-use Rattle.oil_grammar.specs.Scan as scans
-use Rattle.oil_grammar.specs.Scan.{at_end, fault_of}
-use Rattle.oil_grammar.proofs.Splits.{split_push}
+use Rattle.oil_lexer.specs.Faults as faults
+use Rattle.oil_lexer.specs.Tokens.{is_open}
+use Rattle.oil_lexer.specs.Depth.{deeper, depth_from}
+use Rattle.oil_lexer.specs.Scan as scans
+use Rattle.oil_lexer.specs.Scan.{at_end, fault_of}
+use Rattle.oil_lexer.proofs.Splits.{split_push}
 
 depth_push : (d : ℕ) (done : List Token) (t : Token) → depth_from d (done ++ t ∷ []) ≡ deeper (depth_from d done) t.kind
 depth_push d [] t = refl

@@ -1,15 +1,14 @@
 //! The activation of a task (ISO 17356-3, ActivateTask).
-#![tactic(auto)]
-
 ghost use Rattle.std.specs.Prelude.{◌≡◌, ◌<◌, length, Some, None};
 ghost use Rattle.osek_standard.specs.Services.{activate_task, answer, maybe_if};
 ghost use Rattle.osek_standard.specs.Well.{Well};
 
-use osek_standard::{App, State};
+use crate::app::App;
+use crate::state::State;
 use osek_values::{Status, TaskNo};
 
 /// ActivateTask, for a service or an alarm: a task that isn't suspended takes no further activation, E_OS_LIMIT.
-#[tactic(auto, unfolding(osek_standard::specs::Services::activate_task))]
+#[tactic(auto, unfolding(crate::specs::Services::activate_task))]
 pub fn activate(app: &App, state: &mut State, task: TaskNo) -> Status
     requires known { task.0 < length app.now.tasks }
     requires well { Well app.now state.old }

@@ -1,5 +1,5 @@
 -- the fault of each place
-use Rattle.oil_grammar.proofs.fault.fault_of.Goals as goal
+use Rattle.oil_lexer.proofs.fault.fault_of.Goals as goal
 
 pub returns-in-NotAllowed : goal.returns-in-NotAllowed
 returns-in-NotAllowed c = rw c.in-NotAllowed.is

@@ -1,10 +1,10 @@
 //! Faults of grammar, and where reading stops.
 ghost use Rattle.std.specs.Prelude.{◌≡◌};
-ghost use Rattle.oil_grammar.specs.Tokens.{last_line};
-ghost use Rattle.oil_grammar.specs.Scan.{fault_of};
+ghost use Rattle.oil_lexer.specs.Tokens.{last_line};
+ghost use Rattle.oil_lexer.specs.Scan.{fault_of};
 ghost use Rattle.osek_values.specs.declared.refused.Refused.TheVariants.{Fault};
 
-use oil_lexer::Tokens;
+use crate::cursor::Tokens;
 use osek_values::{LineFault, Refused, SyntaxRule};
 
 /// A fault of grammar, and its line.

@@ -2,8 +2,8 @@
 use Rattle.std.proofs.Common.{◌≡◌, ℕ, ⊎_elim, List, refl, sym, ap, ◌∙◌, subst}
 use Rattle.oil_lexer.specs.declared.token.Token.{Token}
 use Rattle.osek_values.specs.declared.refusal.{SyntaxRule.{SyntaxRule}, SyntaxRule.TheVariants.{S1, S2, S3}}
-use Rattle.oil_grammar.specs.Faults as faults
-use Rattle.oil_grammar.proofs.Splits.{split_two}
+use Rattle.oil_lexer.specs.Faults as faults
+use Rattle.oil_lexer.proofs.Splits.{split_two}
 
 module _ (Tree : Type 0) (IsSentence : List Token → Tree → Type 0) (limit : ℕ) where
   abbrev FailsS1 : List Token → Token → Type 0
