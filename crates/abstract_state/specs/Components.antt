@@ -1,5 +1,5 @@
 -- The parts of a state that a table keeps, under one index, and what each can be.
-use Rattle.std.specs.Prelude.{◌≡◌, ⊤, ℕ, zero, suc, ◌+◌, ◌<◌, Bool, true, false, List, ◌++◌, length, map, filter, flat_map, slice_index_or, IsTrue, if◌then◌else◌, Some, None}
+use Rattle.std.specs.Prelude.{◌≡◌, ⊤, ℕ, zero, suc, ◌+◌, ◌<◌, Bool, true, false, List, ◌++◌, length, map, filter, flat_map, slice_index_or, IsTrue, Some, None}
 use Rattle.std.specs.List.{range_with_len}
 use Rattle.osek_values.specs.Bits.{has_bit, passing_below}
 use Rattle.osek_values.specs.Numbers.{task_no, event_no, alarm_no}

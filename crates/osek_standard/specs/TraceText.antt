@@ -1,5 +1,5 @@
 -- Trace text: a line for the start, and one for each event (this project's profile).
-use Rattle.std.specs.Prelude.{ℕ, ◌+◌, ◌-◌, Bool, false, not, ◌==◌, bit_and, List, [], ◌∷◌, ◌++◌, length, slice_index_or, if◌then◌else◌, Some, None, codes}
+use Rattle.std.specs.Prelude.{ℕ, ◌+◌, ◌-◌, Bool, not, ◌==◌, bit_and, List, [], ◌∷◌, ◌++◌, length, slice_index_or, if◌then◌else◌, Some, None, codes}
 use Rattle.std.specs.List.{flat_map, enumerate_from}
 use Rattle.std.specs.Fmt.{decimal}
 use Rattle.std.specs.declared.option.Option.{Option}
