@@ -5,16 +5,16 @@ use Rattle.image_model.specs.declared.site.Site.{Site}
 use Rattle.image_model.specs.Sites.{AreSites}
 use Rattle.image_model.specs.Versions.{FitsAlone}
 use Rattle.image_run.proofs.SiteForms.{with_site}
-use Rattle.kernel_cases.proofs.machines.image_with.Goals as goal
+use Rattle.kernel_cases.proofs.machines.with_site.Goals as goal
 
 pub invariant_of-image : goal.invariant_of-image
 invariant_of-image c =
-    let i = c.in_ok-image.image in
+    let i = c.args.image in
     let site : Site = record { form = c.args.form; known = c.args.known } in
     record {
       both_versions = i.both_versions;
       its_version = subst (FitsAlone i.version) (sym c.put.ensures)
-          (subst (λ (v : Version). FitsAlone v (slice_set i.sites 0 (Some site))) (sym c.in_ok-image.ensures.version) tt);
+          (subst (λ (v : Version). FitsAlone v (slice_set i.sites 0 (Some site))) (sym c.requires.version) tt);
       valid = subst (AreSites i.app) (sym c.put.ensures)
-          (with_site i 0 c.in-Some._site site c.in_ok-image.ensures.app.1 (sym c.site_at.ensures.site ∙ c.in-Some.is) (c.requires _));
+          (with_site i 0 c.in-Some._site site c.requires.blocks (sym c.site_at.ensures.site ∙ c.in-Some.is) (c.requires.form _));
     }
