@@ -6,12 +6,12 @@ use Rattle.std.proofs.lemmas.Bool.{cases_Bool, cases_lt}
 use Rattle.std.proofs.lemmas.List.{get_or_append_left, get_or-append_right, length-append}
 use Rattle.std.proofs.lemmas.List.FromFn.{length-map-range_with_len, get_or-map-range_with_len}
 use Rattle.osek_values.specs.Numbers.{task_no, event_no, alarm_no}
+use Rattle.osek_values.specs.Bits.{has_bit, passing_below}
 use Rattle.osek_standard.specs.declared.app.App.{App}
 use Rattle.osek_standard.specs.Apps.{the_task}
-use Rattle.osek_standard.specs.Kernel.{has_bit}
 use Rattle.abstract_state.specs.declared.value.Component.{Component}
 use Rattle.abstract_state.specs.declared.value.Component.TheVariants as component
-use Rattle.abstract_state.specs.Components.{passing_below, events_of, components, component_count, component_at, IsComponent, event_start, component_number}
+use Rattle.abstract_state.specs.Components.{events_of, components, component_count, component_at, IsComponent, event_start, component_number}
 
 -- each element fits its place, counted from a number on
 abbrev Each : {X : Type 0} → (ℕ → X → Type 0) → ℕ → List X → Type 0

@@ -8,6 +8,7 @@ use Rattle.std.proofs.lemmas.List.{get_or_past, get_or-replicate, length-replica
 use Rattle.std.proofs.lemmas.List.FromFn.{length-map-range_with_len, get_or-map-range_with_len}
 use Rattle.osek_values.specs.Numbers.{task_no, source_no, mode_no, event_no, alarm_no}
 use Rattle.osek_values.specs.declared.numbers.{TaskNo.{TaskNo}, BlockNo.{BlockNo}, SourceNo.{SourceNo}}
+use Rattle.osek_values.specs.Bits.{has_bit}
 use Rattle.osek_standard.specs.declared.app.App.{App}
 use Rattle.osek_standard.specs.declared.task_state.TaskState.{TaskState}
 use Rattle.osek_standard.specs.declared.state.{Source.{Source}, AlarmState.{AlarmState}}
@@ -17,7 +18,6 @@ use Rattle.osek_standard.specs.Apps.{the_task, the_counter, the_block, source_co
 use Rattle.osek_standard.specs.TaskStates.{suspended, is_live, is_live_activity}
 use Rattle.osek_standard.specs.States.{task_state, source_state, alarm_state, place_in, place_of_source}
 use Rattle.osek_standard.specs.Effects.{place_at}
-use Rattle.osek_standard.specs.Kernel.{has_bit}
 use Rattle.osek_standard.specs.Well.{HasProcessor, IsActivityOf, IsAlarmState, IsArmed, IsOffsetAt, IsProcessor, IsRunningAt, IsTaskState}
 use Rattle.osek_standard.proofs.WellLaws.{own_block, routine_block}
 use Rattle.osek_standard.proofs.Keeps.{offset_0}

@@ -1,19 +1,17 @@
 -- The height of an entry with an application's domains, and how high it is at most.
-use Rattle.std.proofs.Common.{◌≡◌, ℕ, zero, suc, ◌+◌, ◌*◌, ◌/◌, ◌%◌, ◌^◌, ◌<◌, ◌≤◌, Bool, true, false, cond, List, [], ◌∷◌, ◌++◌, length, map, filter, flat_map, get_or, refl, sym, ap, ap₂, ◌∙◌, arith, All}
-use Rattle.std.proofs.Math.Nat.{mul-le-mul, pow-suc}
-use Rattle.std.specs.Prelude.{◌==◌, count_ones}
+use Rattle.std.proofs.Common.{◌≡◌, ℕ, suc, ◌+◌, ◌*◌, ◌^◌, ◌<◌, ◌≤◌, List, [], ◌∷◌, ◌++◌, length, map, flat_map, get_or, refl, sym, ap, ap₂, ◌∙◌, arith, All}
+use Rattle.std.proofs.Math.Nat.{mul-le-mul}
 use Rattle.std.specs.List.{range_with_len, sum_by}
 use Rattle.std.proofs.lemmas.List.FromFn.{length-range_with_len}
 use Rattle.std.proofs.lemmas.List.Sums.{sum_by-cons, sum_by-append, sum_by-le}
 use Rattle.std.proofs.lemmas.Nat.{ones-le}
-use Rattle.std.proofs.lemmas.Nat.Bits.{bit_at_lowest, bit_at-suc}
 use lib.Count.{ones_step}
 use Rattle.osek_values.specs.Numbers.{task_no, event_no, alarm_no}
+use Rattle.osek_values.specs.Bits.{has_bit}
 use Rattle.osek_standard.specs.declared.app.App.{App}
 use Rattle.osek_standard.specs.declared.objects.Task.{Task}
 use Rattle.osek_standard.specs.Apps.{the_task, no_task}
 use Rattle.osek_standard.specs.Counts.{stacks, task_height, event_height, height}
-use Rattle.osek_standard.specs.Kernel.{has_bit}
 use Rattle.osek_standard.proofs.CountLaws.{few_stacks}
 use Rattle.abstract_state.specs.declared.value.Component.{Component}
 use Rattle.abstract_state.specs.declared.value.Component.TheVariants as component
@@ -45,31 +43,6 @@ module _ {X : Type 0} where
       let here : g a ≡ h x = ap g (omega arith) ∙ each 0 (omega arith) in
       let rest : sum_by g (range_with_len (a + 1) (length xs)) ≡ sum_by h xs = sum_places h d g (a + 1) xs (λ i lt. ap g (omega arith) ∙ each (suc i) (omega (arith, lt))) in
       sum_by-cons g a (range_with_len (a + 1) (length xs)) ∙ ap₂ (λ (m n : ℕ). m + n) here rest ∙ sym (sum_by-cons h x xs)
-
--- the bits of a number below 2 ^ w, counted by a test of each
-lowest_counted : (n k : ℕ) → n < 2 → cond (n == 1) (k + 1) k ≡ n + k
-lowest_counted zero k lt = omega arith
-lowest_counted (suc zero) k lt = omega arith
-lowest_counted (suc (suc n)) k lt = absurd (omega (arith, lt))
-
-counted_by : (b : Bool) (a : ℕ) (xs : List ℕ) → length (cond b (a ∷ xs) xs) ≡ cond b (length xs + 1) (length xs)
-counted_by true a xs = omega arith
-counted_by false a xs = refl
-
-pub bits_counted : (test : ℕ → Bool) (w a m : ℕ) → m < 2 ^ w → ((k : ℕ) → k < w → test (a + k) ≡ has_bit m k) → length (filter test (range_with_len a w)) ≡ count_ones m
-bits_counted test zero a m lt each =
-    omega (arith, ones-le 0 m lt)
-bits_counted test (suc w) a m lt each =
-    let more = range_with_len (a + 1) w in
-    let half : m / 2 < 2 ^ w = omega (arith, lt, pow-suc 2 w) in
-    let low : test a ≡ (m % 2 == 1) = ap test (omega arith) ∙ each 0 (omega arith) ∙ ap (λ (n : ℕ). n == 1) (bit_at_lowest m) in
-    let rest : length (filter test more) ≡ count_ones (m / 2) =
-    bits_counted test w (a + 1) (m / 2) half (λ k less. ap test (omega arith) ∙ each (suc k) (omega (arith, less)) ∙ ap (λ (n : ℕ). n == 1) (bit_at-suc m k)) in
-    counted_by (test a) a (filter test more)
-    ∙ ap (λ (b : Bool). cond b (length (filter test more) + 1) (length (filter test more))) low
-    ∙ lowest_counted (m % 2) (length (filter test more)) (omega arith)
-    ∙ ap (λ (n : ℕ). m % 2 + n) rest
-    ∙ sym (ones_step m)
 
 module _ (app : App) where
   -- the size of a component's domain

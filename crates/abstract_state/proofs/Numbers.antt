@@ -4,15 +4,15 @@ use Rattle.std.specs.Prelude.{◌^◌, count_ones}
 use Rattle.std.specs.List.{range_with_len}
 use Rattle.std.proofs.lemmas.List.{get_or_default, length-map}
 use Rattle.osek_values.specs.Numbers.{task_no, event_no, alarm_no}
+use Rattle.osek_values.specs.Bits.{has_bit}
+use Rattle.osek_values.proofs.BitCounts.{bits_counted}
 use Rattle.osek_standard.specs.declared.app.App.{App}
 use Rattle.osek_standard.specs.Apps.{the_task}
-use Rattle.osek_standard.specs.Kernel.{has_bit}
 use Rattle.osek_standard.proofs.Members.{Among, among_contained, among_left, among_right, among_map, among_flat_map, among_range, among_passing}
 use Rattle.abstract_state.specs.declared.value.Component.{Component}
 use Rattle.abstract_state.specs.declared.value.Component.TheVariants as component
 use Rattle.abstract_state.specs.Components.{component_count, component_at, component_number, components, events_of, event_start, own_bits, IsComponent}
 use Rattle.abstract_state.proofs.ComponentLaws.{component_numbered}
-use Rattle.abstract_state.proofs.HeightLaws.{bits_counted}
 
 module _ (app : App) where
   abbrev of_tasks : List Component

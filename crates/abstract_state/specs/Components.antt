@@ -1,6 +1,7 @@
 -- The parts of a state that a table keeps, under one index, and what each can be.
-use Rattle.std.specs.Prelude.{◌≡◌, ⊤, ℕ, zero, suc, ◌+◌, ◌<◌, Bool, true, false, List, ◌++◌, length, map, filter, flat_map, slice_index_or, IsTrue, if◌then◌else◌, Some, None}
+use Rattle.std.specs.Prelude.{◌≡◌, ⊤, ℕ, zero, suc, ◌+◌, ◌<◌, Bool, true, false, List, ◌++◌, length, map, filter, flat_map, slice_index_or, IsTrue, Some, None}
 use Rattle.std.specs.List.{range_with_len}
+use Rattle.osek_values.specs.Bits.{has_bit, passing_below}
 use Rattle.osek_values.specs.Numbers.{task_no, event_no, alarm_no}
 use Rattle.osek_values.specs.declared.numbers.{BlockNo.{BlockNo}, ResNo.{ResNo}}
 use Rattle.osek_standard.specs.declared.app.App.{App}
@@ -10,17 +11,11 @@ use Rattle.osek_standard.specs.declared.state.{State.{State}, AlarmState.{AlarmS
 use Rattle.osek_standard.specs.declared.state.AlarmState.TheVariants as alarm
 use Rattle.osek_standard.specs.Apps.{the_task}
 use Rattle.osek_standard.specs.States.{task_state, alarm_state}
-use Rattle.osek_standard.specs.Kernel.{has_bit}
 use Rattle.osek_standard.specs.Well.{IsOwn, IsStack, IsWaitingAt}
 use Rattle.osek_standard.specs.declared.point.Point.{Point}
 use Rattle.osek_standard.specs.declared.point.Point.TheVariants as point
 use Rattle.abstract_state.specs.declared.value.{Val.{Val}, LiveVal.{LiveVal}, Val.TheVariants.{Suspended, Live, Waiting}, Component.{Component}, ComponentNo.{ComponentNo}, PartValue.{PartValue}, PartValue.TheVariants.{OfTask, OfEvent, OfAlarm}}
 use Rattle.abstract_state.specs.declared.value.Component.TheVariants as component
-
--- how many numbers below k pass a test
-abbrev pub passing_below : (ℕ → Bool) → ℕ → ℕ
-passing_below test zero = 0
-passing_below test (suc k) = passing_below test k + (if test k then 1 else 0)
 
 module _ (app : App) where
   -- the numbers of a task's own events

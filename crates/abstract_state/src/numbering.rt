@@ -2,15 +2,15 @@
 ghost use Rattle.std.specs.Prelude.{◌≡◌, ◌+◌, ◌<◌, ◌≤◌, ◌^◌, ◌++◌, count_ones, length, map, flat_map, IfOk, OnOk};
 ghost use Rattle.std.specs.List.{range_with_len};
 ghost use Rattle.osek_values.specs.Numbers.{task_no, event_no, alarm_no};
+ghost use Rattle.osek_values.specs.Bits.{has_bit, passing_below};
 ghost use Rattle.osek_standard.specs.Apps.{the_task};
-ghost use Rattle.osek_standard.specs.Kernel.{has_bit as has_bit_of};
 ghost use Rattle.abstract_state.specs.declared.value.Component.TheVariants as component;
-ghost use Rattle.abstract_state.specs.Components.{passing_below, own_bits, events_of, event_start as event_start_of, components as components_of, component_number as component_number_of, IsComponent};
+ghost use Rattle.abstract_state.specs.Components.{own_bits, events_of, event_start as event_start_of, components as components_of, component_number as component_number_of, IsComponent};
 ghost use Rattle.abstract_state.specs.Domains.{HasMasks};
 
 use crate::value::{Component, ComponentNo};
 use osek_standard::App;
-use osek_values::{AlarmNo, EventNo, Memory, Seq, TaskNo};
+use osek_values::{AlarmNo, EventNo, Mask, Memory, Seq, TaskNo};
 use std::alloc::Global;
 
 /// The components of an application's states, in the order of their numbers.
@@ -72,21 +72,14 @@ pub fn own_events(alloc: Global, app: &App, task: TaskNo) -> Result<Seq<EventNo>
     requires { task.0 < length app.now.tasks }
     ensures { IfOk result (λ events. events ≡ map event_no (own_bits app.now task.0)) }
 {
-    let own = app.task(task).own.0;
+    let own = app.task(task).own;
     let mut events = Seq::new(alloc);
     for bit in 0..64 {
-        if has_bit(own, bit) {
+        if own.has(bit) {
             events.push(EventNo(bit))?;
         }
     }
     Ok(events)
-}
-
-fn has_bit(bits: u64, bit: u8) -> bool
-    requires { bit < 64 }
-    ensures { result ≡ has_bit_of bits bit }
-{
-    (bits >> bit) % 2 == 1
 }
 
 /// The number of a component.
@@ -98,7 +91,7 @@ pub fn component_number(app: &App, component: Component) -> ComponentNo
     match component {
         Component::Task(task) => ComponentNo(task.0 as u16),
         Component::Event { task, bit } => {
-            let own = own_below(app.task(task).own.0, bit.0);
+            let own = own_below(app.task(task).own, bit.0);
             ComponentNo(tasks as u16 + event_start(app, task.index()) + own)
         }
         Component::Alarm(alarm) => {
@@ -130,14 +123,14 @@ fn size(own: u64) -> u16
 }
 
 /// How many of a task's own event bits are below this one.
-fn own_below(own: u64, bit: u8) -> u16
+fn own_below(own: Mask, bit: u8) -> u16
     requires { bit < 64 }
-    ensures value { result ≡ passing_below (has_bit_of own) bit }
+    ensures value { result ≡ passing_below (has_bit own.0) bit }
     ensures few { result ≤ bit }
 {
     let mut found = 0;
     for below in 0..bit {
-        if has_bit(own, below) {
+        if own.has(below) {
             found += 1;
         }
     }

@@ -3,7 +3,7 @@ use Rattle.std.proofs.Common.{◌≡◌, ℕ, ◌+◌, ◌<◌, ◌≤◌, Bool,
 use Rattle.std.specs.Prelude.{if◌then◌else◌}
 use Rattle.std.specs.List.{filter, enumerate_from}
 use Rattle.std.proofs.lemmas.List.{nil_from_length}
-use Rattle.osek_standard.specs.declared.objects.Alarm.{Alarm}
+use Rattle.oil_system.specs.declared.objects.Alarm.{Alarm}
 
 -- the alarms of counter c among those from number n on
 abbrev pub due_from : ℕ → List Alarm → ℕ → List ℕ

@@ -5,12 +5,14 @@ use Rattle.std.specs.List.{IsDistinct, enumerate_from, filter}
 use Rattle.std.proofs.lemmas.Bool.Decides.{nat_tests}
 use Rattle.std.proofs.lemmas.List.{length-append, length-map, map-id}
 use Rattle.std.proofs.lemmas.List.Sums.{count_by-le-length, sum_by-cons}
-use Rattle.osek_standard.specs.declared.objects.{Action.{Action}, Alarm.{Alarm}, Counter.{Counter}, Isr.{Isr}, Task.{Task}}
-use Rattle.osek_standard.specs.declared.objects.Action.TheVariants as action
-use Rattle.osek_standard.specs.declared.block.Block.{Block}
-use Rattle.osek_standard.specs.Validity.{AreNames, IsAction, IsAlarmOf, due_of, is_cycle_of, no_counter}
-use Rattle.osek_standard.specs.Versions.{FitsVersion1}
+use Rattle.oil_system.specs.declared.objects.{Action.{Action}, Alarm.{Alarm}}
+use Rattle.osek_values.specs.Names.{AreNames}
+use Rattle.oil_system.specs.declared.objects.Action.TheVariants as action
 use Rattle.oil_system.specs.declared.system.{CounterObject.{CounterObject}, TaskObject.{TaskObject}, System.{System}}
+use Rattle.osek_standard.specs.declared.objects.{Counter.{Counter}, Isr.{Isr}, Task.{Task}}
+use Rattle.osek_standard.specs.declared.block.Block.{Block}
+use Rattle.osek_standard.specs.Validity.{IsAction, IsAlarmOf, due_of, is_cycle_of, no_counter}
+use Rattle.osek_standard.specs.Versions.{FitsVersion1}
 use Rattle.oil_model.specs.Linkable.{IsActionAmong, IsAlarmAmong, IsLinkable, is_cycle_of_object, no_counter_object}
 use Rattle.task_code.specs.declared.tree.{Body.{Body}, Code.{Code}}
 use Rattle.task_code.specs.declared.tree.BodyKind.TheVariants as body_kind

@@ -3,10 +3,10 @@ use Rattle.std.proofs.Common.{◌≡◌, ℕ, ◌+◌, ◌<◌, ◌≤◌, Bool,
 use Rattle.std.specs.Prelude.{All}
 use Rattle.std.proofs.lemmas.Bool.{eq-eqb, ne_eqb}
 use Rattle.std.proofs.lemmas.List.Sums.{sum_by-cons}
-use Rattle.osek_standard.specs.declared.block.Block.{Block}
-use Rattle.osek_standard.specs.declared.objects.Alarm.{Alarm}
-use Rattle.osek_standard.specs.Validity.{IsIsrCode, IsOwner, IsTaskCode, IsTickCode, due_of, isr_may, no_block, task_may}
+use Rattle.oil_system.specs.declared.objects.Alarm.{Alarm}
 use Rattle.oil_system.specs.declared.system.System.{System}
+use Rattle.osek_standard.specs.declared.block.Block.{Block}
+use Rattle.osek_standard.specs.Validity.{IsIsrCode, IsOwner, IsTaskCode, IsTickCode, due_of, isr_may, no_block, task_may}
 use Rattle.oil_model.specs.Linkable.{IsLinkable}
 use Rattle.task_code.specs.declared.tree.{Body.{Body}, BodyKind.{BodyKind}}
 use Rattle.task_code.specs.declared.tree.BodyKind.TheVariants as body_kind

@@ -7,10 +7,10 @@ use Rattle.std.proofs.lemmas.Bool.{and_from, eq-eqb, lt-ltb}
 use Rattle.std.proofs.lemmas.List.{append_assoc, append-nil, length_push}
 use Rattle.std.proofs.lemmas.List.Elements.{All-filter, All-head, All-map, All-tail}
 use Rattle.std.proofs.lemmas.List.FromFn.{get_or-enumerate_from, length-enumerate_from}
-use Rattle.osek_standard.specs.declared.block.Block.{Block}
-use Rattle.osek_standard.specs.declared.objects.Alarm.{Alarm}
-use Rattle.osek_standard.specs.Validity.{due_of, tick_may}
+use Rattle.oil_system.specs.declared.objects.Alarm.{Alarm}
 use Rattle.oil_system.specs.declared.system.System.{System}
+use Rattle.osek_standard.specs.declared.block.Block.{Block}
+use Rattle.osek_standard.specs.Validity.{due_of, tick_may}
 use Rattle.task_code.specs.declared.tree.Body.{Body}
 use Rattle.block_graph.specs.Blocks.{expiries, routine}
 use Rattle.block_graph.proofs.OwnersEach.{AllFrom}

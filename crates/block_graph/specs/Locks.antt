@@ -3,8 +3,8 @@
 use Rattle.std.specs.Prelude.{ℕ, ◌-◌, nat_lt, ◌&&◌, Bool, true, false, not, if◌then◌else◌, List, [], ◌∷◌, ◌++◌, length, take, Option, Some, None, Result, Ok, Err, slice_get, unwrap_or}
 use Rattle.std.specs.List.{list_any}
 use Rattle.osek_values.specs.declared.limits.TheConstants.{MAX_LOCKS}
-use Rattle.osek_standard.specs.declared.call.Lock.{Lock}
-use Rattle.osek_standard.specs.declared.call.Lock.TheVariants as lock
+use Rattle.osek_values.specs.declared.lock.Lock.{Lock}
+use Rattle.osek_values.specs.declared.lock.Lock.TheVariants as lock
 use Rattle.task_code.specs.declared.call.{Call.{Call}, Call.TheVariants.{LockCall}}
 use Rattle.task_code.specs.declared.tree.Body.{Body}
 use Rattle.block_graph.specs.declared.locks.{Opener.{Opener}, Opener.TheVariants.{SuspendAll, SuspendOs, DisableAll}, Role.{Role}, Role.TheVariants.{Opens, Closes}}

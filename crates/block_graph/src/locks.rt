@@ -5,7 +5,7 @@ ghost use Rattle.block_graph.specs.declared.locks.Opener.TheVariants.{DisableAll
 ghost use Rattle.block_graph.specs.Locks.{role_of as the_role_of, is_opener as is_the_opener, are_same as are_the_same, is_doubled as is_it_doubled};
 
 use arrayvec::ArrayVec;
-use osek_standard::Lock;
+use osek_values::Lock;
 use osek_values::limits::MAX_LOCKS;
 use std::marker::Model;
 use task_code::Call;

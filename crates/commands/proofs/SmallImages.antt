@@ -11,8 +11,9 @@ use Rattle.std.proofs.lemmas.List.Sums.{sum_by-le}
 use Rattle.osek_values.specs.Names.{is_word, is_name}
 use Rattle.osek_values.specs.declared.limits.TheConstants.{MAX_BLOCKS, MAX_FILE, MAX_NAME, MAX_TASKS}
 use Rattle.osek_values.specs.declared.numbers.BlockNo.{BlockNo}
-use Rattle.osek_standard.specs.declared.objects.{Task.{Task}, Isr.{Isr}, Counter.{Counter}, Alarm.{Alarm}, Resource.{Resource}, Action.{Action}}
-use Rattle.osek_standard.specs.declared.objects.Action.TheVariants as action
+use Rattle.oil_system.specs.declared.objects.{Alarm.{Alarm}, Resource.{Resource}, Action.{Action}}
+use Rattle.oil_system.specs.declared.objects.Action.TheVariants as action
+use Rattle.osek_standard.specs.declared.objects.{Task.{Task}, Isr.{Isr}, Counter.{Counter}}
 use Rattle.osek_standard.specs.declared.block.{Block.{Block}, Kind.{Kind}}
 use Rattle.osek_standard.specs.declared.block.Kind.TheVariants as kind
 use Rattle.osek_standard.specs.Apps.{tables}

@@ -1,6 +1,6 @@
 //! The ranges of the numbers in an image.
 ghost use Rattle.std.specs.Prelude.{All, ◌<◌, ◌^◌};
-ghost use Rattle.osek_standard.specs.declared.objects.Alarm.{Alarm};
+ghost use Rattle.oil_system.specs.declared.objects.Alarm.{Alarm};
 ghost use Rattle.osek_standard.specs.declared.objects.Counter.{Counter};
 ghost use Rattle.image_codec.specs.Fits.{FitsAction, FitsBlock, FitsFormat, FitsKind, FitsTask};
 

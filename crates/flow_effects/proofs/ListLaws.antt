@@ -1,8 +1,7 @@
 -- Lists that grow at their end in a loop over numbers.
 use Rattle.std.proofs.Common.{◌≡◌, ℕ, ◌+◌, List, [], ◌∷◌, ◌++◌, map, filter, sym, ap, ◌∙◌, append_assoc, arith}
 use Rattle.std.specs.List.{range_with_len}
-use Rattle.osek_standard.specs.Kernel.{has_bit}
-use Rattle.flow_model.specs.Changes.{bits_of}
+use Rattle.osek_values.specs.Bits.{has_bit, bits_of}
 use Rattle.std.proofs.lemmas.List.FromFn.{map-range_with_len_more}
 
 module _ {X : Type 0} (f : ℕ → X) where

@@ -12,6 +12,7 @@ use Rattle.osek_values.specs.declared.numbers.{TaskNo.{TaskNo}, BlockNo.{BlockNo
 use Rattle.osek_values.specs.declared.status.Status.TheVariants as status
 use Rattle.osek_values.specs.declared.status.{Status.{Status}, Ask.{Ask}}
 use Rattle.osek_values.specs.declared.status.Ask.TheVariants as ask
+use Rattle.osek_values.specs.Bits.{has_bit}
 use Rattle.osek_standard.specs.declared.app.App.{App}
 use Rattle.osek_standard.specs.declared.block.Kind.{Kind}
 use Rattle.osek_standard.specs.declared.block.Kind.TheVariants as kind
@@ -45,7 +46,6 @@ use Rattle.flow_model.specs.Tests.{passes, PassesAll, value_after}
 use Rattle.flow_model.specs.Runners.{Stands, OwnsBlock, change, runner_point}
 use Rattle.flow_model.specs.Effects.{AreIn, HasEffect}
 use Rattle.flow_model.specs.Cases.{goes_on, asked_after, asked_for}
-use Rattle.osek_standard.specs.Kernel.{has_bit}
 use Rattle.flow_model.proofs.ChangeLaws.{each_passes, passes_each}
 use Rattle.flow_model.proofs.Standing.{known_here, next_owned, task_calls, routine_calls}
 use Rattle.flow_model.proofs.Moves.{activity_parts, moved_held, moved_parts, moved_has, went_on}

@@ -2,8 +2,8 @@
 use Rattle.std.proofs.Common.{◌≡◌, ℕ, ◌<◌, Bool, List, [], ◌∷◌, length, refl, ap, subst, ◌∙◌, inl, Some, None}
 use Rattle.osek_values.specs.declared.numbers.{TaskNo.{TaskNo}, BlockNo.{BlockNo}}
 use Rattle.osek_values.specs.declared.status.Ask.TheVariants as ask
+use Rattle.oil_system.specs.declared.objects.{Schedule.{Schedule}, Schedule.TheVariants.{Non, Full}}
 use Rattle.osek_standard.specs.declared.app.App.{App}
-use Rattle.osek_standard.specs.declared.objects.{Schedule.{Schedule}, Schedule.TheVariants.{Non, Full}}
 use Rattle.osek_standard.specs.declared.block.Kind.TheVariants as kind
 use Rattle.osek_standard.specs.declared.state.{State.{State}, Processor.{Processor}}
 use Rattle.osek_standard.specs.declared.state.Source.TheVariants as source

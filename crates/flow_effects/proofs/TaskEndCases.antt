@@ -6,6 +6,7 @@ use Rattle.std.specs.declared.option.Option.{Option}
 use Rattle.osek_values.specs.declared.numbers.{TaskNo.{TaskNo}, BlockNo.{BlockNo}, ResNo.{ResNo}, SourceNo.{SourceNo}}
 use Rattle.osek_values.specs.declared.status.Status.TheVariants as status
 use Rattle.osek_values.specs.declared.status.Ask.TheVariants as ask
+use Rattle.oil_system.specs.declared.objects.{Schedule.{Schedule}, Schedule.TheVariants.{Non, Full}}
 use Rattle.osek_standard.specs.declared.app.App.{App}
 use Rattle.osek_standard.specs.declared.block.Kind.{Kind}
 use Rattle.osek_standard.specs.declared.block.Kind.TheVariants as kind
@@ -16,7 +17,6 @@ use Rattle.osek_standard.specs.declared.task_state.Activity.TheVariants as activ
 use Rattle.osek_standard.specs.Apps.{the_task, the_block}
 use Rattle.osek_standard.specs.States.{task_state, caller}
 use Rattle.osek_standard.specs.Services.{unnoted, refused, accepted, left, ended, holds_some, terminate_task, schedule}
-use Rattle.osek_standard.specs.declared.objects.{Schedule.{Schedule}, Schedule.TheVariants.{Non, Full}}
 use Rattle.osek_standard.specs.Effects.{noted, end_task, place_at, moved_to, called, asked_under}
 use Rattle.osek_standard.specs.Well.{Well}
 use Rattle.abstract_state.specs.declared.value.{Component.{Component}, PartValue.{PartValue}, Val.TheVariants.{Suspended}, PartValue.TheVariants.{OfTask}}

@@ -11,6 +11,7 @@ use Rattle.osek_values.specs.declared.numbers.{TaskNo.{TaskNo}, BlockNo.{BlockNo
 use Rattle.osek_values.specs.declared.status.Status.{Status}
 use Rattle.osek_values.specs.declared.status.Status.TheVariants as status
 use Rattle.osek_values.specs.declared.status.Ask.TheVariants as ask
+use Rattle.osek_values.specs.Bits.{has_bit, bits_of}
 use Rattle.osek_standard.specs.declared.app.App.{App}
 use Rattle.osek_standard.specs.declared.block.Kind.TheVariants as kind
 use Rattle.flow_effects.specs.CallNames as call
@@ -21,7 +22,6 @@ use Rattle.osek_standard.specs.Apps.{the_task, the_block, is_extended, no_task}
 use Rattle.osek_standard.specs.States.{task_state, with_task, caller, here}
 use Rattle.osek_standard.specs.Services.{Answer, answer, refused, accepted, left, share, holds_some, wait_event}
 use Rattle.osek_standard.specs.Effects.{effect, noted, goes_on_unless_left, moved_to}
-use Rattle.osek_standard.specs.Kernel.{has_bit}
 use Rattle.osek_standard.proofs.Members.{Among, among_map, map_among}
 use Rattle.abstract_state.specs.declared.value.{Val.TheVariants.{Waiting}, PartValue.TheVariants.{OfTask, OfEvent}}
 use Rattle.abstract_state.specs.declared.value.Component.TheVariants as component
@@ -39,7 +39,6 @@ use Rattle.flow_model.specs.declared.runner.Runner.TheVariants as runner
 use Rattle.flow_model.specs.Tests.{passes, PassesAll}
 use Rattle.flow_model.specs.Runners.{Stands, OwnsBlock, runner_point}
 use Rattle.flow_model.specs.Effects.{HasEffect}
-use Rattle.flow_model.specs.Changes.{bits_of}
 use Rattle.flow_model.specs.Cases.{goes_on}
 use Rattle.flow_model.proofs.BitRange.{no_such_bit}
 use Rattle.flow_model.proofs.BitsOf.{bits_among, among_bits, bit_within, own_bit, no_bit}

@@ -4,6 +4,7 @@ use Rattle.osek_values.specs.Numbers.{event_no}
 use Rattle.osek_values.specs.declared.mask.Mask.{Mask}
 use Rattle.osek_values.specs.declared.numbers.{TaskNo.{TaskNo}, BlockNo.{BlockNo}}
 use Rattle.osek_values.specs.declared.status.Status.TheVariants as status
+use Rattle.osek_values.specs.Bits.{bits_of}
 use Rattle.osek_standard.specs.declared.app.App.{App}
 use Rattle.osek_standard.specs.declared.point.Point.TheVariants as point
 use Rattle.osek_standard.specs.Apps.{the_task, is_extended}
@@ -17,7 +18,6 @@ use Rattle.flow_model.specs.declared.test.Test.TheVariants as test
 use Rattle.flow_model.specs.declared.change.Update.TheVariants as update
 use Rattle.flow_model.specs.declared.runner.Runner.{Runner}
 use Rattle.flow_model.specs.declared.runner.Runner.TheVariants as runner
-use Rattle.flow_model.specs.Changes.{bits_of}
 use Rattle.flow_model.specs.Runners.{change}
 use Rattle.flow_model.specs.Cases.{condition, effect_case, goes_on}
 use Rattle.flow_effects.specs.Lists.{of_task}

@@ -1,7 +1,7 @@
 //! WaitEvent.
 ghost use Rattle.std.specs.Prelude.{◌≡◌, ◌<◌, ◌++◌, IsTrue, IfOk, OnOk, false, length, map, bit_and};
+ghost use Rattle.osek_values.specs.Bits.{has_bit};
 ghost use Rattle.osek_standard.specs.Apps.{the_task, is_extended};
-ghost use Rattle.osek_standard.specs.Kernel.{has_bit};
 ghost use Rattle.flow_model.specs.Runners.{IsKnown};
 ghost use Rattle.flow_effects.specs.Waiting.{of_event, awaited_events, goes_on_by, waits, extended_cases, wait_cases};
 

@@ -1,12 +1,12 @@
 -- What an activation does to the components.
 use Rattle.std.proofs.Common.{◌≡◌, ℕ, ◌<◌, Bool, false, length, sym, ap, ◌∙◌, inl, inr}
 use Rattle.std.specs.Prelude.{if◌then◌else◌}
+use Rattle.osek_values.specs.Bits.{has_bit}
 use Rattle.osek_standard.specs.declared.app.App.{App}
 use Rattle.osek_standard.specs.declared.state.State.{State}
 use Rattle.osek_standard.specs.Apps.{the_task}
 use Rattle.osek_standard.specs.States.{task_state}
 use Rattle.osek_standard.specs.Services.{activated, activated_state}
-use Rattle.osek_standard.specs.Kernel.{has_bit}
 use Rattle.abstract_state.specs.Components.{component_count, abstract_of}
 use Rattle.flow_model.specs.Tests.{value_after}
 use Rattle.flow_model.specs.Changes.{activating, started}

@@ -5,9 +5,8 @@ use Rattle.std.specs.Int.{bit_at}
 use Rattle.std.proofs.Math.Nat.{zero-div}
 use Rattle.std.proofs.lemmas.Bool.{eqb-true, eq-eqb}
 use Rattle.std.proofs.lemmas.Nat.Bits.{bit_at_and, bit_at_or, bit_at_xor, bit_at-lt}
-use Rattle.osek_standard.specs.Kernel.{has_bit}
+use Rattle.osek_values.specs.Bits.{has_bit, bits_of}
 use Rattle.osek_standard.proofs.Members.{Among, among_passing, passing_among}
-use Rattle.flow_model.specs.Changes.{bits_of}
 
 pub bits_among : (n k : ℕ) → k < 64 → has_bit n k ≡ true → Among k (bits_of n)
 unfolding bits_of

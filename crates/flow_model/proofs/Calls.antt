@@ -6,8 +6,8 @@ use Rattle.osek_values.specs.declared.status.Ask.TheVariants as ask
 use Rattle.osek_values.specs.declared.notes.{Notes.{Notes}, Value.{Value}}
 use Rattle.std.specs.declared.option.Option.{Option}
 use Rattle.osek_values.specs.declared.numbers.{TaskNo.{TaskNo}, BlockNo.{BlockNo}}
+use Rattle.oil_system.specs.declared.objects.{Schedule.{Schedule}, Schedule.TheVariants.{Non, Full}}
 use Rattle.osek_standard.specs.declared.app.App.{App}
-use Rattle.osek_standard.specs.declared.objects.{Schedule.{Schedule}, Schedule.TheVariants.{Non, Full}}
 use Rattle.osek_standard.specs.declared.block.{Block.{Block}, Kind.{Kind}}
 use Rattle.osek_standard.specs.declared.state.{State.{State}, Processor.{Processor}, Caller.TheVariants.{Task}}
 use Rattle.osek_standard.specs.declared.state.Processor.TheVariants as processor

@@ -6,6 +6,7 @@ use Rattle.std.specs.declared.option.Option.{Option}
 use Rattle.osek_values.specs.Numbers.{task_no}
 use Rattle.osek_values.specs.declared.mask.Mask.{Mask}
 use Rattle.osek_values.specs.declared.numbers.{TaskNo.{TaskNo}, BlockNo.{BlockNo}, SourceNo.{SourceNo}}
+use Rattle.osek_values.specs.Bits.{has_bit}
 use Rattle.osek_standard.specs.declared.app.App.{App}
 use Rattle.osek_standard.specs.declared.state.{State.{State}, Processor.{Processor}, Source.{Source}}
 use Rattle.osek_standard.specs.declared.state.Source.TheVariants as source
@@ -16,7 +17,6 @@ use Rattle.osek_standard.specs.Apps.{the_block}
 use Rattle.osek_standard.specs.TaskStates.{suspended, is_live, is_live_activity, is_suspended, held, held_in}
 use Rattle.osek_standard.specs.States.{task_state, with_task, source_state, with_source, place_by, place_in, place_of_source, here, caller}
 use Rattle.osek_standard.specs.Effects.{place_at, standing_at, task_at, source_at, moved_by, moved, moved_to}
-use Rattle.osek_standard.specs.Kernel.{has_bit}
 use Rattle.osek_standard.specs.Well.{Well, InOwner, IsOffsetAt, IsProcessor, IsRunningAt}
 use Rattle.osek_standard.proofs.Callers.{enters, moved_processor}
 use Rattle.osek_standard.proofs.Keeps.{moved_keeps, task_after}

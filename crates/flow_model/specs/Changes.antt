@@ -1,20 +1,15 @@
 -- What becomes of the components: of a task, of its events, of an alarm.
-use Rattle.std.specs.Prelude.{ℕ, Bool, false, List, [], ◌∷◌, map, filter}
-use Rattle.std.specs.List.{range_with_len}
+use Rattle.std.specs.Prelude.{ℕ, Bool, false, List, [], ◌∷◌, map}
+use Rattle.osek_values.specs.Bits.{bits_of}
 use Rattle.osek_values.specs.Numbers.{task_no, event_no, alarm_no}
 use Rattle.osek_standard.specs.declared.app.App.{App}
 use Rattle.osek_standard.specs.Apps.{the_task}
-use Rattle.osek_standard.specs.Kernel.{has_bit}
 use Rattle.abstract_state.specs.declared.value.{Val.{Val}, Val.TheVariants.{Live}, PartValue.TheVariants.{OfTask, OfEvent, OfAlarm}}
 use Rattle.abstract_state.specs.declared.value.Component.TheVariants as component
 use Rattle.abstract_state.specs.Components.{component_number, live_val}
 use Rattle.flow_model.specs.declared.change.Change.{Change}
 use Rattle.flow_model.specs.declared.change.Update.TheVariants as update
 use Rattle.flow_model.specs.Runners.{change}
-
--- the bits of a word that are set
-unfoldable pub bits_of : ℕ → List ℕ
-bits_of n = filter (has_bit n) (range_with_len 0 64)
 
 -- a task becomes this
 abbrev pub task_change : ℕ → Val → Change

@@ -2,7 +2,7 @@
 ghost use Rattle.std.specs.Prelude.{◌≡◌};
 ghost use Rattle.std.specs.List.{list_any};
 ghost use Rattle.osek_values.specs.declared.numbers.ResNo.{ResNo};
-ghost use Rattle.osek_standard.specs.Kernel.{has_bit};
+ghost use Rattle.osek_values.specs.Bits.{has_bit};
 
 use abstract_state::{ComponentNo, PartValue, Val};
 use osek_values::{Mask, ResNo};

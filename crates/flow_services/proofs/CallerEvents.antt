@@ -8,13 +8,13 @@ use Rattle.osek_values.specs.declared.numbers.{TaskNo.{TaskNo}, SourceNo.{Source
 use Rattle.osek_values.specs.declared.notes.Value.TheVariants as value
 use Rattle.osek_values.specs.declared.status.Ask.TheVariants as ask
 use Rattle.osek_values.specs.declared.status.Status.TheVariants as status
+use Rattle.osek_values.specs.Bits.{has_bit}
 use Rattle.osek_standard.specs.declared.app.App.{App}
 use Rattle.osek_standard.specs.declared.state.{State.{State}, Caller.TheVariants.{Task, Routine}}
 use Rattle.osek_standard.specs.Apps.{the_task, is_extended}
 use Rattle.osek_standard.specs.TaskStates.{is_suspended}
 use Rattle.osek_standard.specs.States.{task_state}
 use Rattle.osek_standard.specs.Services.{Answer, clear_event, get_event, refused, accepted, accepted_with, with_events}
-use Rattle.osek_standard.specs.Kernel.{has_bit}
 use Rattle.abstract_state.specs.Components.{abstract_of}
 use Rattle.flow_model.specs.declared.test.Test.TheVariants as test
 use Rattle.flow_model.specs.declared.runner.Runner.TheVariants as runner

@@ -3,8 +3,8 @@ use Rattle.std.proofs.Common.{◌≡◌, ℕ, true, sym, ap, subst, ◌∙◌}
 use Rattle.std.specs.Prelude.{bit_and}
 use Rattle.osek_values.specs.Numbers.{mask}
 use Rattle.osek_values.specs.declared.mask.Mask.{Mask}
+use Rattle.osek_values.specs.Bits.{has_bit}
 use Rattle.osek_standard.specs.declared.objects.Task.{Task}
-use Rattle.osek_standard.specs.Kernel.{has_bit}
 use Rattle.flow_model.proofs.BitsOf.{bit_within}
 
 module _ (task of : Task) (m : ℕ) (events : Mask) (same : task ≡ of) (is : events ≡ mask (bit_and m of.own.0)) where

@@ -7,6 +7,7 @@ use Rattle.osek_values.specs.Numbers.{mask}
 use Rattle.osek_values.specs.declared.numbers.BlockNo.{BlockNo}
 use Rattle.osek_values.specs.declared.status.Ask.TheVariants as ask
 use Rattle.osek_values.specs.declared.status.Status.TheVariants as status
+use Rattle.osek_values.specs.Bits.{has_bit}
 use Rattle.osek_standard.specs.declared.app.App.{App}
 use Rattle.osek_standard.specs.declared.state.State.{State}
 use Rattle.osek_standard.specs.declared.task_state.{TaskState.{TaskState}, Activity.{Activity}}
@@ -15,7 +16,6 @@ use Rattle.osek_standard.specs.Apps.{the_task, the_block, is_extended}
 use Rattle.osek_standard.specs.TaskStates.{is_suspended, is_live_activity}
 use Rattle.osek_standard.specs.States.{task_state}
 use Rattle.osek_standard.specs.Services.{set_event, refused, accepted, waits_in, waits_for, woken, with_events, events_set, released_from}
-use Rattle.osek_standard.specs.Kernel.{has_bit}
 use Rattle.osek_standard.proofs.Members.{Among, among_map, map_among, among_flat_map, flat_map_among, contained_among}
 use Rattle.abstract_state.specs.declared.value.{Val.TheVariants.{Suspended, Live, Waiting}, PartValue.{PartValue}, PartValue.TheVariants.{OfTask, OfEvent, OfAlarm}}
 use Rattle.abstract_state.specs.declared.table.Entry.{Entry}

@@ -1,8 +1,8 @@
 //! The cases of SetEvent, ClearEvent and GetEvent.
 ghost use Rattle.std.specs.Prelude.{◌≡◌, ◌<◌, ℕ, true, ◌++◌, length, map, All, IfOk, OnOk};
 ghost use Rattle.osek_values.specs.declared.numbers.BlockNo.{BlockNo};
+ghost use Rattle.osek_values.specs.Bits.{has_bit as has_bit_of};
 ghost use Rattle.osek_standard.specs.Apps.{the_task, awaited as awaited_at};
-ghost use Rattle.osek_standard.specs.Kernel.{has_bit as has_bit_of};
 ghost use Rattle.flow_model.specs.Runners.{IsKnown};
 ghost use Rattle.flow_services.specs.Occasions.{case_at};
 ghost use Rattle.flow_services.specs.Services.{awaits as awaits_at, awaiting_blocks as awaiting_blocks_in, not_awaiting as not_awaiting_case, waking as waking_case, event_settings, event_clearings as event_clearings_of, event_readings as event_readings_of};

@@ -1,7 +1,7 @@
 //! The cases of ActivateTask, and what becomes of a task and its events.
 ghost use Rattle.std.specs.Prelude.{◌≡◌, ◌<◌, ℕ, true, [], ◌∷◌, ◌++◌, length, map, IfOk, OnOk};
+ghost use Rattle.osek_values.specs.Bits.{has_bit as has_bit_of};
 ghost use Rattle.osek_standard.specs.Apps.{the_task};
-ghost use Rattle.osek_standard.specs.Kernel.{has_bit as has_bit_of};
 ghost use Rattle.abstract_state.specs.declared.value.Val.TheVariants.{Live};
 ghost use Rattle.abstract_state.specs.Components.{live_val};
 ghost use Rattle.flow_model.specs.Changes.{event_changes, task_change, activating as activating_of};

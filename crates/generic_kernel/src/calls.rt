@@ -11,14 +11,13 @@ ghost use Rattle.osek_standard.specs.Well.{Well, IsActive, IsWaitEvent};
 
 use crate::replies::Reply;
 use crate::services::{chain_task, schedule, terminate_task};
-use activation::activate;
 use event_alarm::{
     cancel_alarm, clear_event, count_up, expire, get_alarm, get_event, set_abs_alarm, set_event,
     set_rel_alarm,
 };
 use osek_standard::{
     AlarmService, App, ArmService, Call, Caller, Kind, MaskService, PlainService, ResourceService,
-    State, TaskService,
+    State, TaskService, activate,
 };
 use osek_values::{AlarmNo, Ask, CounterNo, ResNo, Status, TaskNo, Value};
 

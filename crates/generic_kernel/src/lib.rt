@@ -18,7 +18,7 @@ pub use arrivals::take_arrival;
 pub use changes::named_here;
 pub use dispatch::{conclude, switch_to};
 pub use effects::{effect, silent_effect};
-pub use places::here;
+pub use places::{here, point_of};
 pub use ready::Ready;
 pub use replies::Effect;
 pub use startup::start;

@@ -1,11 +1,12 @@
 //! Where the processor stands, and how a caller goes on.
 ghost use Rattle.std.specs.Prelude.{◌≡◌};
 ghost use Rattle.osek_standard.specs.Apps.{the_block};
+ghost use Rattle.osek_standard.specs.Points.{point_of as point_of_state};
 ghost use Rattle.osek_standard.specs.States.{here as here_of};
 ghost use Rattle.osek_standard.specs.Effects.{moved as moved_of};
 ghost use Rattle.osek_standard.specs.Well.{Well, IsActive, InOwner, IsOffsetAt};
 
-use osek_standard::{Activity, App, Place, Processor, RoutineStanding, Source, State};
+use osek_standard::{Activity, App, Place, Point, Processor, RoutineStanding, Source, State};
 
 /// Where the task or the routine stands that has the processor.
 pub fn here(app: &App, state: &State) -> Place
@@ -23,6 +24,22 @@ pub fn here(app: &App, state: &State) -> Place
         Processor::Interrupted { source, .. } => match *state.sources.at(source.index()) {
             Source::Out => unreachable!(),
             Source::In(standing) => standing.at,
+        },
+    }
+}
+
+/// Where the processor stands, by the block alone.
+pub fn point_of(app: &App, state: &State) -> Point
+    requires { Well app.now state.now }
+    ensures { result ≡ point_of_state state.now }
+{
+    match state.processor {
+        Processor::Halted => Point::Halted,
+        Processor::Idle => Point::Idle,
+        Processor::Running(_) => Point::Task(here(app, state).block),
+        Processor::Interrupted { over, .. } => Point::Routine {
+            block: here(app, state).block,
+            over,
         },
     }
 }

@@ -6,8 +6,9 @@ use Rattle.std.proofs.lemmas.List.{length_push}
 use Rattle.osek_values.specs.Numbers.{task_no, alarm_no, res_no, block_no, mask}
 use Rattle.osek_standard.specs.declared.block.Kind.{Kind}
 use Rattle.osek_standard.specs.declared.block.Kind.TheVariants as kind
-use Rattle.osek_standard.specs.declared.call.{Call.{Call}, Lock.{Lock}}
-use Rattle.osek_standard.specs.declared.call.Lock.TheVariants as lock
+use Rattle.osek_values.specs.declared.lock.Lock.{Lock}
+use Rattle.osek_standard.specs.declared.call.Call.{Call}
+use Rattle.osek_values.specs.declared.lock.Lock.TheVariants as lock
 use Rattle.image_model.specs.CallNames as call
 use Rattle.image_model.specs.declared.site.{Form.{Form}, Known.{Known}, Site.{Site}}
 use Rattle.image_model.specs.declared.site.Known.TheVariants as known

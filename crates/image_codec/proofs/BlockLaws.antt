@@ -9,7 +9,7 @@ use Rattle.osek_standard.specs.declared.block.{Block.{Block}, Kind.{Kind}}
 use Rattle.osek_standard.specs.declared.block.Kind.TheVariants as kind
 use Rattle.osek_standard.specs.declared.call.Call.{Call}
 use Rattle.image_model.specs.CallNames as call
-use Rattle.osek_standard.specs.declared.call.Lock.TheVariants as lock
+use Rattle.osek_values.specs.declared.lock.Lock.TheVariants as lock
 use Rattle.image_codec.specs.declared.fault.ImageRule.TheVariants.{I3, I5}
 use Rattle.image_model.specs.declared.site.Site.{Site}
 use Rattle.image_model.specs.declared.image.Version.{Version}

@@ -5,7 +5,7 @@ use Rattle.std.specs.List.{filter, enumerate_from, list_all}
 use Rattle.std.proofs.lemmas.Bool.{eqb-true, eqb-false, and_parts}
 use Rattle.std.proofs.lemmas.List.{nil_from_length}
 use Rattle.std.proofs.lemmas.List.Sums.{sum_by-cons}
-use Rattle.osek_standard.specs.declared.objects.Alarm.{Alarm}
+use Rattle.oil_system.specs.declared.objects.Alarm.{Alarm}
 use Rattle.osek_standard.specs.Validity.{due_of}
 
 -- the alarms from a number on

@@ -6,8 +6,7 @@ use Rattle.std.proofs.lemmas.Bool.{or_parts, or_from, not_from_false, not-true, 
 use Rattle.std.proofs.lemmas.List.{append-nil, length-append, get_or-map, length-map}
 use Rattle.std.proofs.lemmas.List.Elements.{All-push, All-nil, All-get_or, All-map}
 use Rattle.std.proofs.Math.Seq.{get_or-append_seam}
-use Rattle.osek_values.specs.Names.{is_name}
-use Rattle.osek_standard.specs.Validity.{AreNames}
+use Rattle.osek_values.specs.Names.{is_name, AreNames}
 use Rattle.image_codec.proofs.Spells.{Each}
 use Rattle.image_codec.proofs.FieldLaws.{is_fresh}
 

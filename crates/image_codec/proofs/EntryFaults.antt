@@ -5,8 +5,10 @@ use Rattle.std.specs.Int.{Width, w8, w16, w32, w64}
 use Rattle.osek_values.specs.declared.limits.TheConstants.{MAX_TASKS, MAX_ISRS, MAX_COUNTERS, MAX_ALARMS, MAX_RESOURCES, MAX_MODES, MAX_BLOCKS}
 use Rattle.osek_values.specs.Hooks.{hook_set}
 use Rattle.osek_values.specs.Numbers.{counter_no, mask}
-use Rattle.osek_standard.specs.declared.objects.{Task.{Task}, Isr.{Isr}, Counter.{Counter}, Alarm.{Alarm}, Resource.{Resource}, Schedule.{Schedule}, Action.{Action}}
-use Rattle.osek_standard.specs.Validity.{no_counter, owners, greatest_ceiling}
+use Rattle.oil_system.specs.declared.objects.{Alarm.{Alarm}, Resource.{Resource}, Schedule.{Schedule}, Action.{Action}}
+use Rattle.oil_system.specs.Objects.{greatest_ceiling}
+use Rattle.osek_standard.specs.declared.objects.{Task.{Task}, Isr.{Isr}, Counter.{Counter}}
+use Rattle.osek_standard.specs.Validity.{no_counter, owners}
 use Rattle.image_codec.specs.declared.fault.ImageRule.TheVariants.{I3, I5}
 use Rattle.image_codec.specs.declared.parts.{Header.{Header}, Range.{Range}}
 use Rattle.image_model.specs.declared.image.Version.{Version}

@@ -9,7 +9,7 @@ use Rattle.std.proofs.lemmas.Slice.Eq.{bytes_eq-Decides}
 use Rattle.std.proofs.lemmas.List.{take_at, drop_at, take-append-drop, length-append, length-take}
 use Rattle.osek_values.specs.Names.{is_word, is_name}
 use Rattle.osek_values.specs.Numbers.{block_no}
-use Rattle.osek_standard.specs.declared.objects.{Schedule.{Schedule}, Schedule.TheVariants.{Non, Full}}
+use Rattle.oil_system.specs.declared.objects.{Schedule.{Schedule}, Schedule.TheVariants.{Non, Full}}
 use Rattle.osek_standard.specs.Validity.{meet}
 use Rattle.image_codec.specs.declared.fault.{ImageRule.TheVariants.{I1, I3, I4, I5}}
 use Rattle.image_codec.specs.declared.parts.Range.{Range}

@@ -6,8 +6,8 @@ use Rattle.std.specs.List.{range_with_len}
 use Rattle.std.proofs.lemmas.Option.{slice_get-map, slice_get_within, get_or_from_slice_get}
 use Rattle.std.proofs.lemmas.List.FromFn.{get_or-range_with_len}
 use Rattle.osek_values.specs.Numbers.{task_no, alarm_no, res_no, mask}
-use Rattle.osek_standard.specs.declared.call.Lock.{Lock}
-use Rattle.osek_standard.specs.declared.call.Lock.TheVariants as lock
+use Rattle.osek_values.specs.declared.lock.Lock.{Lock}
+use Rattle.osek_values.specs.declared.lock.Lock.TheVariants as lock
 use Rattle.osek_standard.specs.declared.block.Kind.{Kind}
 use Rattle.osek_standard.specs.declared.block.Kind.TheVariants as kind
 use Rattle.image_model.specs.CallNames as call

@@ -5,8 +5,9 @@ use Rattle.std.specs.Int.{w16, w32, w64}
 use Rattle.std.specs.List.{list_any, flat_map}
 use Rattle.std.proofs.lemmas.Bool.{ltb-true, lt-ltb, eqb-true}
 use Rattle.osek_values.specs.Numbers.{task_no, counter_no, mask}
-use Rattle.osek_standard.specs.declared.objects.{Task.{Task}, Isr.{Isr}, Counter.{Counter}, Alarm.{Alarm}, Resource.{Resource}, Action.{Action}, Schedule.{Schedule}}
-use Rattle.osek_standard.specs.declared.objects.Action.TheVariants as action
+use Rattle.oil_system.specs.declared.objects.{Alarm.{Alarm}, Resource.{Resource}, Action.{Action}, Schedule.{Schedule}}
+use Rattle.oil_system.specs.declared.objects.Action.TheVariants as action
+use Rattle.osek_standard.specs.declared.objects.{Task.{Task}, Isr.{Isr}, Counter.{Counter}}
 use Rattle.osek_standard.specs.Validity.{no_counter, owners}
 use Rattle.image_codec.specs.declared.fault.ImageRule.TheVariants.{I3, I5}
 use Rattle.image_codec.specs.declared.parts.{Header.{Header}, Range.{Range}, Tables.{Tables}}

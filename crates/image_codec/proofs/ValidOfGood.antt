@@ -4,13 +4,15 @@ use Rattle.std.specs.Prelude.{slice_index_or, nat_eq}
 use Rattle.std.specs.List.{list_any, zip, IsDistinct}
 use Rattle.std.proofs.lemmas.Bool.{and_parts, eqb-true, eq-eqb, leb-true, ltb-true, not-true, or_left}
 use Rattle.std.proofs.lemmas.List.{append-nil}
-use Rattle.osek_standard.specs.declared.objects.{Task.{Task}, Isr.{Isr}, Counter.{Counter}, Alarm.{Alarm}, Resource.{Resource}, Action.{Action}}
-use Rattle.osek_standard.specs.declared.objects.Action.TheVariants as action
+use Rattle.oil_system.specs.declared.objects.{Alarm.{Alarm}, Resource.{Resource}, Action.{Action}}
+use Rattle.osek_values.specs.Names.{AreNames}
+use Rattle.oil_system.specs.declared.objects.Action.TheVariants as action
+use Rattle.osek_standard.specs.declared.objects.{Task.{Task}, Isr.{Isr}, Counter.{Counter}}
 use Rattle.osek_standard.specs.declared.block.{Block.{Block}, Kind.{Kind}}
 use Rattle.osek_standard.specs.declared.block.Kind.TheVariants as kind
 use Rattle.image_model.specs.CallNames as call
 use Rattle.osek_standard.specs.declared.app.App.{App}
-use Rattle.osek_standard.specs.Validity.{no_block, no_counter, AreNames, meet, owners, is_cycle_of, IsAction, IsAlarmOf, IsValid}
+use Rattle.osek_standard.specs.Validity.{no_block, no_counter, meet, owners, is_cycle_of, IsAction, IsAlarmOf, IsValid}
 use Rattle.osek_standard.specs.Versions.{FitsVersion1}
 use Rattle.osek_standard.specs.Apps.{is_site, is_site_in}
 use Rattle.image_model.specs.declared.site.{Form.{Form}, Known.{Known}, Site.{Site}}

@@ -3,10 +3,12 @@ use Rattle.std.specs.Prelude.{ℕ, ◌+◌, ◌-◌, ◌≤◌, Bool, true, fals
 use Rattle.std.specs.Int.{w16, w32, w64}
 use Rattle.std.specs.List.{list_any, list_all, enumerate_from}
 use Rattle.osek_values.specs.Numbers.{task_no, alarm_no, res_no, block_no, mask}
-use Rattle.osek_standard.specs.declared.objects.{Task.{Task}, Isr.{Isr}, Counter.{Counter}, Alarm.{Alarm}}
+use Rattle.oil_system.specs.declared.objects.Alarm.{Alarm}
+use Rattle.osek_values.specs.declared.lock.Lock.{Lock}
+use Rattle.osek_values.specs.declared.lock.Lock.TheVariants as lock
+use Rattle.osek_values.specs.declared.status.Status.TheVariants as status
+use Rattle.osek_standard.specs.declared.objects.{Task.{Task}, Isr.{Isr}, Counter.{Counter}}
 use Rattle.osek_standard.specs.declared.block.{Block.{Block}, Kind.{Kind}}
-use Rattle.osek_standard.specs.declared.call.Lock.{Lock}
-use Rattle.osek_standard.specs.declared.call.Lock.TheVariants as lock
 use Rattle.osek_standard.specs.declared.block.Kind.TheVariants as kind
 use Rattle.image_model.specs.CallNames as call
 use Rattle.osek_standard.specs.Validity.{owners, is_within, task_may, isr_may, due_of}
@@ -16,7 +18,6 @@ use Rattle.image_model.specs.declared.site.Form.TheVariants as form
 use Rattle.image_model.specs.declared.site.Known.TheVariants as known
 use Rattle.image_model.specs.declared.image.Version.{Version}
 use Rattle.image_model.specs.declared.image.Version.TheVariants as version
-use Rattle.osek_values.specs.declared.status.Status.TheVariants as status
 use Rattle.image_codec.specs.declared.parts.{Tables.{Tables}, Parts.{Parts}}
 use Rattle.image_codec.specs.Reading.{Read, ◌>>=◌, fault_at, kept, byte_at, number_at, tested_at, byte_below_at, found_at, flag_at, entries_at}
 use Rattle.osek_standard.specs.Apps.{is_site_in}

@@ -1,8 +1,9 @@
 -- The ranges of the format's fields, where no condition on an application keeps them: what is spelled has one
 -- spelling within these alone.
 use Rattle.std.specs.Prelude.{⊤, ◌^◌, ◌<◌, List, All}
-use Rattle.osek_standard.specs.declared.objects.{Task.{Task}, Counter.{Counter}, Alarm.{Alarm}, Action.{Action}}
-use Rattle.osek_standard.specs.declared.objects.Action.TheVariants as action
+use Rattle.oil_system.specs.declared.objects.{Alarm.{Alarm}, Action.{Action}}
+use Rattle.oil_system.specs.declared.objects.Action.TheVariants as action
+use Rattle.osek_standard.specs.declared.objects.{Task.{Task}, Counter.{Counter}}
 use Rattle.osek_standard.specs.declared.block.{Block.{Block}, Kind.{Kind}}
 use Rattle.osek_standard.specs.declared.block.Kind.TheVariants as kind
 use Rattle.image_model.specs.CallNames as call

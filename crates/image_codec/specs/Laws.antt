@@ -6,7 +6,8 @@ use Rattle.image_codec.specs.Spelling.{spelling}
 use Rattle.image_codec.specs.Fits.{FitsFormat}
 use Rattle.image_codec.specs.ImageReading.{located, read_image, parts_of}
 use Rattle.image_codec.specs.Reading.{AreBytes, name_at}
-use Rattle.osek_standard.specs.declared.objects.{Task.{Task}, Isr.{Isr}, Counter.{Counter}, Alarm.{Alarm}, Resource.{Resource}}
+use Rattle.oil_system.specs.declared.objects.{Alarm.{Alarm}, Resource.{Resource}}
+use Rattle.osek_standard.specs.declared.objects.{Task.{Task}, Isr.{Isr}, Counter.{Counter}}
 use Rattle.image_codec.specs.declared.parts.{Header.{Header}, Tables.{Tables}}
 use Rattle.image_codec.specs.TableReading.{header_at, task_at, isr_at, counter_at, alarm_at, resource_at, tables_at}
 use Rattle.image_codec.specs.BlockReading.{blocks_at}

@@ -4,12 +4,14 @@ use Rattle.std.specs.Prelude.{ℕ, ◌+◌, Bool, List, [], ◌∷◌, ◌++◌,
 use Rattle.std.specs.List.{flat_map, zip}
 use Rattle.std.specs.Int.{to_be_bytes, w16, w32, w64}
 use Rattle.osek_values.specs.declared.numbers.BlockNo.{BlockNo}
+use Rattle.osek_values.specs.declared.lock.Lock.{Lock}
+use Rattle.osek_values.specs.declared.lock.Lock.TheVariants as lock
+use Rattle.oil_system.specs.declared.objects.{Alarm.{Alarm}, Resource.{Resource}, Schedule.{Schedule}, Schedule.TheVariants.{Non, Full}, Action.{Action}}
+use Rattle.oil_system.specs.declared.objects.Action.TheVariants as action
 use Rattle.osek_standard.specs.declared.app.App.{App}
-use Rattle.osek_standard.specs.declared.objects.{Task.{Task}, Isr.{Isr}, Counter.{Counter}, Alarm.{Alarm}, Resource.{Resource}, Schedule.{Schedule}, Schedule.TheVariants.{Non, Full}, Action.{Action}}
-use Rattle.osek_standard.specs.declared.objects.Action.TheVariants as action
+use Rattle.osek_standard.specs.declared.objects.{Task.{Task}, Isr.{Isr}, Counter.{Counter}}
 use Rattle.osek_standard.specs.declared.block.{Block.{Block}, Kind.{Kind}}
-use Rattle.osek_standard.specs.declared.call.{Lock.{Lock}, PlainService.{PlainService}, TaskService.{TaskService}, ResourceService.{ResourceService}, MaskService.{MaskService}, AlarmService.{AlarmService}, ArmService.{ArmService}}
-use Rattle.osek_standard.specs.declared.call.Lock.TheVariants as lock
+use Rattle.osek_standard.specs.declared.call.{PlainService.{PlainService}, TaskService.{TaskService}, ResourceService.{ResourceService}, MaskService.{MaskService}, AlarmService.{AlarmService}, ArmService.{ArmService}}
 use Rattle.osek_standard.specs.declared.block.Kind.TheVariants as kind
 use Rattle.image_model.specs.CallNames as call
 use Rattle.image_model.specs.declared.site.{Form.{Form}, Known.{Known}, Site.{Site}}

@@ -6,9 +6,11 @@ use Rattle.std.specs.Str.{bytes_eq}
 use Rattle.osek_values.specs.declared.limits.TheConstants.{MAX_TASKS, MAX_ISRS, MAX_COUNTERS, MAX_ALARMS, MAX_RESOURCES, MAX_MODES, MAX_BLOCKS}
 use Rattle.osek_values.specs.Hooks.{hook_set}
 use Rattle.osek_values.specs.Numbers.{task_no, counter_no, mask}
-use Rattle.osek_standard.specs.declared.objects.{Task.{Task}, Isr.{Isr}, Counter.{Counter}, Alarm.{Alarm}, Resource.{Resource}, Schedule.{Schedule}, Schedule.TheVariants.{Non, Full}, Action.{Action}}
-use Rattle.osek_standard.specs.declared.objects.Action.TheVariants as action
-use Rattle.osek_standard.specs.Validity.{no_counter, greatest_ceiling, is_cycle_of, owners}
+use Rattle.oil_system.specs.declared.objects.{Alarm.{Alarm}, Resource.{Resource}, Schedule.{Schedule}, Schedule.TheVariants.{Non, Full}, Action.{Action}}
+use Rattle.oil_system.specs.declared.objects.Action.TheVariants as action
+use Rattle.oil_system.specs.Objects.{greatest_ceiling}
+use Rattle.osek_standard.specs.declared.objects.{Task.{Task}, Isr.{Isr}, Counter.{Counter}}
+use Rattle.osek_standard.specs.Validity.{no_counter, is_cycle_of, owners}
 use Rattle.image_codec.specs.declared.fault.ImageRule.TheVariants.{I2, I3, I5}
 use Rattle.image_codec.specs.declared.parts.{Header.{Header}, Tables.{Tables}}
 use Rattle.image_codec.specs.Spelling.{magic}

@@ -6,10 +6,9 @@ ghost use Rattle.image_codec.specs.Spelling.{lock_number as number_of_lock, kind
 
 use image_model::{Form, Known, status_number};
 use osek_standard::{
-    AlarmService, ArmService, Call, Kind, Lock, MaskService, PlainService, ResourceService,
-    TaskService,
+    AlarmService, ArmService, Call, Kind, MaskService, PlainService, ResourceService, TaskService,
 };
-use osek_values::{AlarmNo, BlockNo, Mask, ResNo, Status, TaskNo};
+use osek_values::{AlarmNo, BlockNo, Lock, Mask, ResNo, Status, TaskNo};
 
 pub(crate) fn lock_number(lock: Lock) -> u8
     ensures { result ≡ number_of_lock lock }

@@ -11,8 +11,8 @@ use crate::numbers::lock_of;
 use crate::parts::Tables;
 use crate::placing::is_due;
 use crate::reader::{Reader, fault};
-use osek_standard::{Call, Kind, Lock};
-use osek_values::{AlarmNo, Mask, ResNo, TaskNo};
+use osek_standard::{Call, Kind};
+use osek_values::{AlarmNo, Lock, Mask, ResNo, TaskNo};
 
 /// The number of a task.
 fn task_no(reader: &mut Reader, tables: &Tables) -> Result<TaskNo, ReadError>

@@ -1,14 +1,16 @@
 //! Two tasks, of which one activates the other, from the start on.
-ghost use Rattle.std.specs.Prelude.{◌≡◌, ◌<◌, length};
+ghost use Rattle.std.specs.Prelude.{◌≡◌, ◌<◌};
 ghost use Rattle.osek_standard.specs.Well.{Well};
 
-use crate::two_tasks::activation;
+use crate::applications::activation;
+use front_end::TextError;
 use generic_kernel::{Ready, nothing, start, step};
 use osek_standard::{App, Processor, State};
 use osek_values::{Event, ModeNo, Notes, Status, Steps, TaskNo};
 use std::alloc::Global;
 use std::marker::Brand;
 use std::sync::ledger::{Blank, Ledger};
+use std::test::*;
 
 fn three_runs<L: Ledger>(app: &App, state: &mut State, blank: Blank) -> [(Processor, Notes); 3]
     requires name { blank.name ≡ L.name }
@@ -54,9 +56,7 @@ fn runs_as(app: &App, state: &mut State, wanted: &[(Processor, Notes); 3]) -> bo
 }
 
 /// Whether the start in the mode gives the processor to the first task and notes nothing, and runs so.
-fn starts_and_runs_as(alloc: Global, app: &App, wanted: &[(Processor, Notes); 3]) -> bool
-    requires { 0 < length app.now.modes }
-{
+fn starts_and_runs_as(alloc: Global, app: &App, wanted: &[(Processor, Notes); 3]) -> bool {
     match start(alloc, app, ModeNo(0)) {
         Ok((mut state, notes)) => {
             let right = state.processor == Processor::Running(TaskNo(0))
@@ -69,6 +69,13 @@ fn starts_and_runs_as(alloc: Global, app: &App, wanted: &[(Processor, Notes); 3]
     }
 }
 
+fn activation_runs_as(alloc: Global, wanted: &[(Processor, Notes); 3]) -> Result<bool, TextError> {
+    let app = activation(alloc)?;
+    let right = starts_and_runs_as(alloc, &app, wanted);
+    drop(app);
+    Ok(right)
+}
+
 #[test]
 fn activation_preempts(rt: HostRuntime) {
     let (low, high) = (TaskNo(0), TaskNo(1));
@@ -77,6 +84,5 @@ fn activation_preempts(rt: HostRuntime) {
         (Processor::Running(low), noted(None)),
         (Processor::Idle, noted(None)),
     ];
-    let app = activation(rt.alloc()).expect(&rt, "memory");
-    assert!(rt; starts_and_runs_as(rt.alloc(), &app, &wanted));
+    assert_eq!(rt; activation_runs_as(rt.alloc(), &wanted), Ok(true));
 }

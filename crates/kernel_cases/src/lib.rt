@@ -3,6 +3,8 @@
 #![tactic(auto)]
 
 #[cfg(test)]
+mod applications;
+#[cfg(test)]
 mod changed_images;
 #[cfg(test)]
 mod event_feeds;
@@ -26,7 +28,5 @@ mod shelves_and_sinks;
 mod stored_images;
 #[cfg(test)]
 mod trace_lines;
-#[cfg(test)]
-mod two_tasks;
 #[cfg(test)]
 mod version_2_bytes;

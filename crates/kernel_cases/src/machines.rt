@@ -3,34 +3,36 @@ ghost use Rattle.std.specs.Prelude.{◌≡◌, ◌<◌, ℕ, length, IfOk};
 ghost use Rattle.image_model.specs.Sites.{IsForm};
 ghost use Rattle.image_model.specs.declared.image.Version.TheVariants as version;
 
-use crate::two_tasks::activation;
+use crate::applications::activation;
+use front_end::TextError;
 use image_model::{Form, Image, Known, Site, general, site_at};
 use image_run::{Machine, Trap};
 use osek_standard::Processor;
-use osek_values::{BlockNo, Event, HookSet, Memory, ModeNo, Notes, Status, Steps, TaskNo};
+use osek_values::{BlockNo, Event, HookSet, ModeNo, Notes, Status, Steps, TaskNo};
 use std::alloc::Global;
 use std::marker::Brand;
 use std::sync::ledger::{Blank, Ledger};
+use std::test::*;
 
 /// The image of general forms.
-fn image(alloc: Global) -> Result<Image, Memory>
-    ensures version { IfOk result (λ i. i.version ≡ version.Two) }
-    ensures app { IfOk result (λ i. (length i.app.modes ≡ 1) × (0 < length i.app.blocks)) }
+fn image(alloc: Global) -> Result<Image, TextError>
+    ensures { IfOk result (λ i. i.version ≡ version.Two) }
 {
-    general(alloc, activation(alloc)?)
+    let app = activation(alloc)?;
+    Ok(general(alloc, app)?)
 }
 
 /// The same, but for the site of the first block, which activates the second task.
-fn image_with(alloc: Global, form: Form, known: Known) -> Result<Image, Memory>
-    requires { (n : ℕ) → IsForm n form }
-    ensures { IfOk result (λ i. (length i.app.modes ≡ 1) × (0 < length i.app.blocks)) }
+fn with_site(mut image: Image, form: Form, known: Known) -> Image
+    requires blocks { 0 < length image.app.blocks }
+    requires version { image.version ≡ version.Two }
+    requires form { (n : ℕ) → IsForm n form }
 {
-    let mut image = image(alloc)?;
     let Some(_site) = site_at(&image, BlockNo(0)) else {
-        return Ok(image);
+        return image;
     };
     image.sites.put(0, Some(Site { form, known }));
-    Ok(image)
+    image
 }
 
 /// What three runs note, and who has the processor then.
@@ -103,35 +105,71 @@ fn traps() -> [Turn; 3] {
     [(Processor::Running(TaskNo(0)), Err(Trap)); 3]
 }
 
+/// Whether the image of general forms runs so.
+fn general_runs_as(alloc: Global, wanted: &[Turn; 3]) -> Result<bool, TextError> {
+    let image = image(alloc)?;
+    if image.app.modes.is_empty() {
+        return Ok(false);
+    }
+    Ok(starts_and_runs_as(alloc, image, wanted))
+}
+
 #[test]
 fn general_forms_run_as_the_kernel(rt: HostRuntime) {
-    let image = image(rt.alloc()).expect(&rt, "memory");
-    assert!(rt; starts_and_runs_as(rt.alloc(), image, &kernels_runs()));
+    assert_eq!(rt; general_runs_as(rt.alloc(), &kernels_runs()), Ok(true));
+}
+
+/// Whether the image with another first site runs so.
+fn changed_runs_as(
+    alloc: Global,
+    form: Form,
+    known: Known,
+    wanted: &[Turn; 3],
+) -> Result<bool, TextError>
+    requires { (n : ℕ) → IsForm n form }
+{
+    let image = image(alloc)?;
+    if image.app.blocks.is_empty() {
+        return Ok(false);
+    }
+    let changed = with_site(image, form, known);
+    if changed.app.modes.is_empty() {
+        return Ok(false);
+    }
+    Ok(starts_and_runs_as(alloc, changed, wanted))
 }
 
 #[test]
 fn a_trap_is_answered_again(rt: HostRuntime) {
-    let image = image_with(rt.alloc(), Form::Never, Known::Any).expect(&rt, "memory");
-    assert!(rt; starts_and_runs_as(rt.alloc(), image, &traps()));
+    assert_eq!(rt;
+        changed_runs_as(rt.alloc(), Form::Never, Known::Any, &traps()),
+        Ok(true)
+    );
 }
 
 #[test]
 fn the_known_status_is_noted(rt: HostRuntime) {
     let known = Known::Always(Some(Status::Ok));
-    let image = image_with(rt.alloc(), Form::General, known).expect(&rt, "memory");
-    assert!(rt; starts_and_runs_as(rt.alloc(), image, &kernels_runs()));
+    assert_eq!(rt;
+        changed_runs_as(rt.alloc(), Form::General, known, &kernels_runs()),
+        Ok(true)
+    );
 }
 
 #[test]
 fn another_status_than_the_known_one_traps(rt: HostRuntime) {
     let known = Known::Always(Some(Status::Limit));
-    let image = image_with(rt.alloc(), Form::General, known).expect(&rt, "memory");
-    assert!(rt; starts_and_runs_as(rt.alloc(), image, &traps()));
+    assert_eq!(rt;
+        changed_runs_as(rt.alloc(), Form::General, known, &traps()),
+        Ok(true)
+    );
 }
 
 #[test]
 fn a_status_where_none_is_known_traps(rt: HostRuntime) {
     let known = Known::Always(None);
-    let image = image_with(rt.alloc(), Form::General, known).expect(&rt, "memory");
-    assert!(rt; starts_and_runs_as(rt.alloc(), image, &traps()));
+    assert_eq!(rt;
+        changed_runs_as(rt.alloc(), Form::General, known, &traps()),
+        Ok(true)
+    );
 }

@@ -1,96 +1,20 @@
 //! Lines of a small application: an extended task, an ISR and a counter.
 ghost use Rattle.std.specs.Prelude.{◌≡◌, IfOk};
+ghost use Rattle.std.specs.Bool.{OnTrue};
 ghost use Rattle.osek_standard.specs.Well.{Well};
-ghost use Rattle.kernel_cases.specs.Sample.{IsOfSampleSize, sample, sample_state};
+ghost use Rattle.kernel_cases.specs.Sample.{IsOfSampleSize, sample_state};
 
-use crate::lists::{block, default_mode, listed, name, one, scheduler};
-use osek_standard::{
-    Activity, App, Block, Counter, Isr, Kind, Processor, Schedule, Source, State, Task, TaskState,
-};
+use crate::applications::sample;
+use crate::lists::{listed, one};
+use front_end::TextError;
+use osek_standard::{Activity, App, Processor, Source, State, TaskState};
 use osek_values::limits::LINE_MAX;
 use osek_values::{
-    BlockNo, CounterNo, Event, HookSet, IsrNo, Mask, Memory, ModeNo, Notes, Seq, Status, TaskNo,
-    Value,
+    CounterNo, Event, HookSet, IsrNo, Mask, Memory, ModeNo, Notes, Seq, Status, TaskNo, Value,
 };
 use std::alloc::Global;
+use std::test::*;
 use trace_text::{EventFault, FEED_ROOM, FaultyLine, Feed, FeedStep, read_event, write_line};
-
-fn tasks(alloc: Global) -> Result<Seq<Task>, Memory>
-    ensures { IfOk result (λ x. x ≡ sample.tasks) }
-{
-    let name = name(alloc, b"T1")?;
-    let task = Task {
-        name,
-        priority: 1,
-        schedule: Schedule::Full,
-        own: Mask(1),
-        autostart: 1,
-        first: BlockNo(0),
-        count: 1,
-    };
-    one(alloc, task)
-}
-
-fn isrs(alloc: Global) -> Result<Seq<Isr>, Memory>
-    ensures { IfOk result (λ x. x ≡ sample.isrs) }
-{
-    let name = name(alloc, b"I")?;
-    let isr = Isr {
-        name,
-        first: BlockNo(1),
-        count: 1,
-    };
-    one(alloc, isr)
-}
-
-fn counters(alloc: Global) -> Result<Seq<Counter>, Memory>
-    ensures { IfOk result (λ x. x ≡ sample.counters) }
-{
-    let name = name(alloc, b"C")?;
-    let counter = Counter {
-        name,
-        max: 9,
-        min_cycle: 1,
-        first: BlockNo(2),
-        count: 2,
-    };
-    one(alloc, counter)
-}
-
-fn blocks(alloc: Global) -> Result<Seq<Block>, Memory>
-    ensures { IfOk result (λ x. x ≡ sample.blocks) }
-{
-    listed(
-        alloc,
-        &[
-            block(Kind::TaskEnd, 1, 0),
-            block(Kind::IsrEnd, 2, 1),
-            block(Kind::CountUp, 0, 3),
-            block(Kind::IsrEnd, 0, 3),
-        ],
-    )
-}
-
-fn sample(alloc: Global) -> Result<App, Memory>
-    ensures { IfOk result IsOfSampleSize }
-{
-    let tasks = tasks(alloc)?;
-    let isrs = isrs(alloc)?;
-    let counters = counters(alloc)?;
-    let resources = scheduler(alloc, 3)?;
-    let modes = default_mode(alloc)?;
-    let blocks = blocks(alloc)?;
-    Ok(App {
-        hooks: HookSet(31),
-        tasks,
-        isrs,
-        counters,
-        alarms: Seq::new(alloc),
-        resources,
-        modes,
-        blocks,
-    })
-}
 
 /// Lines with what is read of them.
 const LINES: [(&[u8], Result<Option<Event>, EventFault>); 14] = [
@@ -121,7 +45,7 @@ fn are_read(app: &App) -> bool {
         && read_event(app, &[b'#'; 257]) == Err(EventFault::E3)
 }
 
-fn sample_reads(alloc: Global) -> Result<bool, Memory> {
+fn sample_reads(alloc: Global) -> Result<bool, TextError> {
     let app = sample(alloc)?;
     let read = are_read(&app);
     drop(app);
@@ -160,11 +84,11 @@ fn are_found(alloc: Global, app: &App) -> Result<bool, Memory> {
     Ok(none == None && first == Some(unknown))
 }
 
-fn sample_finds(alloc: Global) -> Result<bool, Memory> {
+fn sample_finds(alloc: Global) -> Result<bool, TextError> {
     let app = sample(alloc)?;
     let found = are_found(alloc, &app);
     drop(app);
-    found
+    Ok(found?)
 }
 
 #[test]
@@ -203,6 +127,15 @@ fn is_line(app: &App, n: u64, state: &State, notes: &Notes, want: &[u8]) -> bool
     &buf[..length] == want
 }
 
+/// A service that is done, with its value.
+fn valued(value: Value) -> Notes {
+    Notes {
+        status: Some(Status::Ok),
+        value: Some(value),
+        hooks: HookSet(0),
+    }
+}
+
 /// Whether lines with nothing, with a value and with all hooks are written.
 fn are_written(app: &App, state: &State) -> bool
     requires { Well app.now state.now }
@@ -212,11 +145,7 @@ fn are_written(app: &App, state: &State) -> bool
         value: None,
         hooks: HookSet(0),
     };
-    let events = Notes {
-        status: Some(Status::Ok),
-        value: Some(Value::Mask(Mask(0x2af0))),
-        hooks: HookSet(0),
-    };
+    let events = valued(Value::Mask(Mask(0x2af0)));
     let all = Notes {
         status: Some(Status::Limit),
         value: Some(Value::Task(Some(TaskNo(0)))),
@@ -226,13 +155,37 @@ fn are_written(app: &App, state: &State) -> bool
         b"18446744073709551615 - T1=S !E_OS_LIMIT ^Error =T1 ^Startup ^Shutdown ^PostTask ^PreTask\n";
     is_line(app, 0, state, &nothing, b"0 - T1=S\n")
         && is_line(app, 12, state, &events, b"12 - T1=S !E_OK =2af0\n")
+        && is_line(
+            app,
+            27,
+            state,
+            &valued(Value::Number(9)),
+            b"27 - T1=S !E_OK =9\n",
+        )
+        && is_line(
+            app,
+            1,
+            state,
+            &valued(Value::Task(None)),
+            b"1 - T1=S !E_OK =-\n",
+        )
         && is_line(app, u64::MAX, state, &all, longest)
 }
 
-fn sample_is_written(alloc: Global) -> Result<bool, Memory> {
+fn is_of_sample_size(app: &App) -> bool
+    ensures { OnTrue result (IsOfSampleSize app.now) }
+{
+    app.tasks.len() == 1
+        && app.isrs.len() == 1
+        && app.counters.len() == 1
+        && app.alarms.is_empty()
+        && app.modes.len() == 1
+}
+
+fn sample_is_written(alloc: Global) -> Result<bool, TextError> {
     let state = idle(alloc)?;
     let app = sample(alloc)?;
-    let written = are_written(&app, &state);
+    let written = is_of_sample_size(&app) && are_written(&app, &state);
     drop(app);
     drop(state);
     Ok(written)

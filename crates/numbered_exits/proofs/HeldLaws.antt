@@ -2,7 +2,7 @@
 use Rattle.std.proofs.Common.{◌≡◌, ◌≢◌, ℕ, ◌<◌, ◌^◌, Bool, ◌||◌, List, length, sym, ap, subst, ◌∙◌, inl, inr, IsTrue, get_or-set_same, get_or-set_other}
 use Rattle.std.specs.Prelude.{◌==◌}
 use Rattle.std.proofs.lemmas.Bool.{cases_eq}
-use Rattle.osek_standard.specs.Kernel.{has_bit}
+use Rattle.osek_values.specs.Bits.{has_bit}
 use Rattle.osek_standard.specs.declared.app.App.{App}
 use Rattle.abstract_state.specs.declared.{value.PartValue.{PartValue}, table.ValueSet.{ValueSet}}
 use Rattle.abstract_state.specs.ValueOrder.{same_part}

@@ -6,7 +6,7 @@ use Rattle.std.proofs.Math.Bool.{or-true}
 use Rattle.std.proofs.lemmas.Bool.{cases_eq, or_cases, eq-eqb, eqb-true}
 use Rattle.std.proofs.lemmas.List.{length-set, get_or_default}
 use Rattle.std.proofs.lemmas.List.Elements.{All-set, All-contains, Contains-get_or, Contains-append_left, Contains-push_cases}
-use Rattle.osek_standard.specs.Kernel.{has_bit}
+use Rattle.osek_values.specs.Bits.{has_bit}
 use Rattle.osek_standard.specs.declared.app.App.{App}
 use Rattle.abstract_state.specs.declared.value.{Domain.{Domain}, Val.{Val}, Val.TheVariants.{Suspended, Live, Waiting}, PartValue.{PartValue}}
 use Rattle.abstract_state.specs.Concrete.{val_of}

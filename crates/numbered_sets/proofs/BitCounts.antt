@@ -4,9 +4,8 @@ use Rattle.std.specs.Prelude.{◌==◌, bit_or, count_ones}
 use Rattle.std.specs.Int.{bit_at}
 use Rattle.std.proofs.lemmas.Bool.{cases_eq, eq-eqb, ne_eqb}
 use Rattle.std.proofs.lemmas.Nat.Bits.{bit_at_or, bit_at-lt, bit_at_above, bit_at-pow_same, bit_at-pow_other, same_from_bits}
-use Rattle.osek_standard.specs.Kernel.{has_bit}
-use Rattle.abstract_state.specs.Components.{passing_below}
-use Rattle.abstract_state.proofs.HeightLaws.{bits_counted}
+use Rattle.osek_values.specs.Bits.{has_bit, passing_below}
+use Rattle.osek_values.proofs.BitCounts.{bits_counted}
 use Rattle.numbered_sets.proofs.Counting.{passing_up}
 
 -- a bit of either word

@@ -5,7 +5,7 @@ use Rattle.std.specs.Prelude.{◌==◌, bit_and, bit_or, count_ones}
 use Rattle.std.specs.Int.Bits.{or_zero_r}
 use Rattle.std.proofs.lemmas.Bool.{cases_eq, eq-eqb, ne_eqb}
 use Rattle.std.proofs.lemmas.Nat.{or_block, and_block, ones_cat, pow_below, pow-add}
-use Rattle.osek_standard.specs.Kernel.{has_bit}
+use Rattle.osek_values.specs.Bits.{has_bit}
 use Rattle.numbered_sets.specs.Numbers.{bits_of_words}
 use Rattle.numbered_sets.proofs.WordLaws.{low_bit, high_bit}
 use Rattle.numbered_sets.proofs.KeptWords.{no_bits}

@@ -5,7 +5,7 @@ use Rattle.std.specs.Int.{bit_at, trailing_zeros}
 use Rattle.std.proofs.lemmas.Bool.{cases_lt, cases_eq}
 use Rattle.std.proofs.lemmas.Nat.{shr-shr, shr_le}
 use Rattle.std.proofs.lemmas.Nat.Bits.{bit_at-zero, bit_at-trailing_zeros}
-use Rattle.osek_standard.specs.Kernel.{has_bit}
+use Rattle.osek_values.specs.Bits.{has_bit}
 use Rattle.abstract_state.specs.declared.value.PartValue.{PartValue}
 use Rattle.abstract_state.specs.declared.table.{ValueSet.{ValueSet}}
 use Rattle.numbered_sets.specs.Numbers.{Numbers, bits_of_words, has_number}

@@ -10,10 +10,9 @@ use Rattle.std.proofs.lemmas.List.Elements.{All-head, All-tail, All-get_or, All-
 use Rattle.std.proofs.lemmas.Nat.{or_lt}
 use Rattle.std.proofs.lemmas.List.Sums.{sum_by-cons}
 use Rattle.osek_values.specs.declared.memory.Memory.{Memory}
-use Rattle.osek_standard.specs.Kernel.{has_bit}
+use Rattle.osek_values.specs.Bits.{has_bit, passing_below}
 use Rattle.abstract_state.specs.declared.value.Domain.{Domain}
 use Rattle.abstract_state.specs.Domains.{domain_size}
-use Rattle.abstract_state.specs.Components.{passing_below}
 use Rattle.abstract_state.proofs.HeightLaws.{sum_map}
 use Rattle.numbered_sets.specs.declared.numbered_entry.NumberedEntry.{NumberedEntry}
 use Rattle.numbered_sets.specs.Numbers.{Numbers, has_number, with_number, joined_numbers, number_count, AreSound}

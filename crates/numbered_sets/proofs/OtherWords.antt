@@ -9,7 +9,7 @@ use Rattle.std.proofs.lemmas.List.{length-set}
 use Rattle.std.proofs.lemmas.List.Elements.{All-head, All-tail, All-from_get_or}
 use Rattle.std.proofs.lemmas.Nat.{and_comm, and_le_l, and_block, xor_block, xor_lt}
 use Rattle.std.proofs.lemmas.Nat.Bits.{bit_at_and, bit_at_xor, bit_at-lt}
-use Rattle.osek_standard.specs.Kernel.{has_bit}
+use Rattle.osek_values.specs.Bits.{has_bit}
 use Rattle.numbered_sets.specs.Numbers.{AreWords, bits_of_words}
 use Rattle.numbered_sets.proofs.BitCounts.{same_bits}
 use Rattle.numbered_sets.proofs.WordLaws.{word_has, number_at, number_past, small_at, has_of_words}

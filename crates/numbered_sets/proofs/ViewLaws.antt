@@ -13,12 +13,11 @@ use Rattle.std.proofs.lemmas.List.Elements.{All-cons, All-head, All-tail, All-ge
 use Rattle.std.proofs.lemmas.List.Sums.{sum_by-cons}
 use Rattle.std.proofs.lemmas.Map.Keys.{IsDistinct-head, IsDistinct-tail, IsDistinct-cons}
 use Rattle.std.proofs.lemmas.Map.Views.{All-insert_key}
-use Rattle.osek_standard.specs.Kernel.{has_bit}
+use Rattle.osek_values.specs.Bits.{has_bit, passing_below}
 use Rattle.abstract_state.specs.declared.value.{Domain.{Domain}, PartValue.{PartValue}}
 use Rattle.abstract_state.specs.declared.value.Domain.TheVariants as domain
 use Rattle.abstract_state.specs.declared.table.{ValueSet.{ValueSet}}
 use Rattle.abstract_state.specs.ValueOrder.{part_order, same_part}
-use Rattle.abstract_state.specs.Components.{passing_below}
 use Rattle.abstract_state.specs.Domains.{IsWithin, IsSound, IsSoundEntry, domain_size}
 use Rattle.abstract_state.specs.Tables.{empty_set, set_at, is_member, entry_values, IsJoin, IsPartOfJoin, IsSetBySet}
 use Rattle.abstract_state.proofs.JoinLaws.{join_part}

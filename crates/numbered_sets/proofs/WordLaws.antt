@@ -10,9 +10,8 @@ use Rattle.std.proofs.lemmas.List.Elements.{All-head, All-tail, All-set, All-fro
 use Rattle.std.proofs.Math.Nat.{mul_assoc, mul_comm, pow-suc}
 use Rattle.std.proofs.lemmas.Nat.{or_lt, pow-add}
 use Rattle.std.proofs.lemmas.Nat.Bits.{bit_at-zero, bit_at_lowest, bit_at-suc, bit_at_set_same, bit_at_set_other}
-use Rattle.osek_standard.specs.Kernel.{has_bit}
-use Rattle.abstract_state.specs.Components.{passing_below}
-use Rattle.abstract_state.proofs.HeightLaws.{bits_counted}
+use Rattle.osek_values.specs.Bits.{has_bit, passing_below}
+use Rattle.osek_values.proofs.BitCounts.{bits_counted}
 use Rattle.numbered_sets.specs.Numbers.{AreWords, bits_of_words}
 use Rattle.numbered_sets.proofs.BitCounts.{has_either, has_one, same_bits, ones_below}
 use Rattle.numbered_sets.proofs.Counting.{passing_same, passing_grows, passing_or, passing_up, passing_apart, passing_higher, with_other, with_that}

@@ -1,6 +1,6 @@
 -- Sets of numbers, each the number whose bits they are.
 use Rattle.std.specs.Prelude.{ℕ, ◌+◌, ◌*◌, ◌<◌, ◌^◌, ◌==◌, Bool, not, List, [], ◌∷◌, bit_and, bit_or, bit_xor, count_ones, All}
-use Rattle.osek_standard.specs.Kernel.{has_bit}
+use Rattle.osek_values.specs.Bits.{has_bit}
 use Rattle.abstract_state.specs.declared.value.Domain.{Domain}
 use Rattle.abstract_state.specs.Domains.{domain_size}
 

@@ -1,6 +1,6 @@
 //! The words of a set, of which the first two stand apart.
 ghost use Rattle.std.specs.Prelude.{ℕ, List, false, IsTrue, ◌≡◌, ◌∷◌, ◌<◌, ◌≤◌, ◌==◌};
-ghost use Rattle.osek_standard.specs.Kernel.{has_bit as has_bit_of};
+ghost use Rattle.osek_values.specs.Bits.{has_bit as has_bit_of};
 ghost use Rattle.numbered_sets.specs.Numbers.{bits_of_words};
 
 use crate::words;

@@ -1,7 +1,7 @@
 //! Words of 64 bits, with a bit for each number.
 ghost use Rattle.std.specs.Prelude.{ℕ, false, IsTrue, ◌≡◌, ◌<◌, ◌≤◌, ◌+◌, ◌*◌, ◌/◌, ◌^◌, ◌==◌, not, bit_and, bit_or, bit_xor, count_ones, length, replicate, slice_index_or, slice_set, IfOk, OnOk, OnErr};
 ghost use Rattle.std.specs.Bool.{OnTrue};
-ghost use Rattle.osek_standard.specs.Kernel.{has_bit as has_bit_of};
+ghost use Rattle.osek_values.specs.Bits.{has_bit as has_bit_of};
 ghost use Rattle.numbered_sets.specs.Numbers.{AreWords, bits_of_words};
 
 use osek_values::Memory;

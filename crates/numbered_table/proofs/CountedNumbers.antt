@@ -4,8 +4,7 @@ use Rattle.std.specs.Prelude.{filter}
 use Rattle.std.specs.List.{range_with_len}
 use Rattle.std.proofs.lemmas.List.{take_more}
 use Rattle.std.proofs.lemmas.List.Sums.{sum_by-cons, sum_by_push}
-use Rattle.osek_standard.specs.Kernel.{has_bit}
-use Rattle.abstract_state.specs.Components.{passing_below}
+use Rattle.osek_values.specs.Bits.{has_bit, passing_below}
 use Rattle.abstract_state.specs.declared.table.TableRow.{TableRow}
 use Rattle.abstract_state.specs.Tables.{entry_values, value_count}
 use Rattle.numbered_sets.specs.Numbers.{Numbers, has_number, number_count}

@@ -1,3 +1,7 @@
+pub mod Braces
+pub mod FirstFault
+pub mod OneFault
+pub mod Splits
 pub mod AheadSteps
 pub mod EachFront
 pub mod EachText

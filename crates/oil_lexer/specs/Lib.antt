@@ -1,7 +1,11 @@
 pub mod Ahead
 pub mod Answers
 pub mod Classes
+pub mod Depth
+pub mod Faults
 pub mod Fronts
 pub mod Numbers
 pub mod Pieces
+pub mod Scan
 pub mod Text
+pub mod Tokens

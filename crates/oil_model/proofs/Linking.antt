@@ -6,10 +6,9 @@ use Rattle.std.specs.Str.{bytes_eq}
 use Rattle.std.proofs.lemmas.Bool.Decides.{nat_tests}
 use Rattle.std.proofs.lemmas.Cmp.{nat_list_eq_equiv, nat_eq_equiv}
 use Rattle.std.proofs.lemmas.Map.Keys.{IsDistinct-push, IsDistinct-cons, IsDistinct-head, IsDistinct-tail}
-use Rattle.osek_values.specs.Names.{is_name}
+use Rattle.osek_values.specs.Names.{is_name, AreNames}
 use Rattle.osek_values.specs.declared.refusal.OilRule.TheVariants.{O2, O4, O6, O7, O8, O11, O12, O13, O14}
-use Rattle.osek_standard.specs.declared.objects.{Alarm.{Alarm}, Resource.{Resource}}
-use Rattle.osek_standard.specs.Validity.{AreNames}
+use Rattle.oil_system.specs.declared.objects.{Alarm.{Alarm}, Resource.{Resource}}
 use Rattle.oil_system.specs.declared.system.{TaskObject.{TaskObject}, CounterObject.{CounterObject}, EventObject.{EventObject}}
 use Rattle.oil_model.specs.declared.objects.Category.TheVariants.{One, Two}
 use Rattle.oil_model.specs.Linkable.{no_counter_object, is_cycle_of_object, IsActionAmong, IsAlarmAmong, IsLinkable}

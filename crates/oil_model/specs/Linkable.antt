@@ -3,8 +3,9 @@ use Rattle.std.specs.Prelude.{◌≡◌, ℕ, ◌^◌, ◌<◌, ◌≤◌, Bool,
 use Rattle.std.specs.List.{IsDistinct, list_any}
 use Rattle.std.specs.Str.{bytes_eq}
 use Rattle.osek_values.specs.declared.limits.TheConstants.{MAX_TASKS, MAX_ISRS, MAX_COUNTERS, MAX_ALARMS, MAX_RESOURCES, MAX_MODES}
-use Rattle.osek_standard.specs.declared.objects.{Action.{Action}, Action.TheVariants.{ActivateTask, SetEvent}, Alarm.{Alarm}, Resource.{Resource}}
-use Rattle.osek_standard.specs.Validity.{AreNames, greatest_ceiling}
+use Rattle.oil_system.specs.declared.objects.{Action.{Action}, Action.TheVariants.{ActivateTask, SetEvent}, Alarm.{Alarm}, Resource.{Resource}}
+use Rattle.osek_values.specs.Names.{AreNames}
+use Rattle.oil_system.specs.Objects.{greatest_ceiling}
 use Rattle.oil_system.specs.declared.system.{TaskObject.{TaskObject}, CounterObject.{CounterObject}, EventObject.{EventObject}, System.{System}}
 
 -- past the end of the table stands a counter that declares nothing

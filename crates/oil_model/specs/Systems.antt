@@ -4,7 +4,7 @@ use Rattle.std.specs.List.{list_any}
 use Rattle.std.specs.Str.{bytes_eq}
 use Rattle.osek_values.specs.Hooks.{hook_set, when, startup, shutdown, error, pre_task, post_task}
 use Rattle.osek_values.specs.Numbers.{mask, task_no, counter_no}
-use Rattle.osek_standard.specs.declared.objects.{Schedule.{Schedule}, Schedule.TheVariants.{Non, Full}, Action.{Action}, Action.TheVariants.{ActivateTask, SetEvent}, Alarm.{Alarm}, Resource.{Resource}}
+use Rattle.oil_system.specs.declared.objects.{Schedule.{Schedule}, Schedule.TheVariants.{Non, Full}, Action.{Action}, Action.TheVariants.{ActivateTask, SetEvent}, Alarm.{Alarm}, Resource.{Resource}}
 use Rattle.oil_system.specs.declared.system.{TaskObject.{TaskObject}, CounterObject.{CounterObject}, EventObject.{EventObject}, System.{System}}
 use Rattle.oil_tree.specs.declared.tree.{Attr.{Attr}, Object.{Object}}
 use Rattle.oil_tree.specs.AttrLists.{attr_list}

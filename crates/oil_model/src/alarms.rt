@@ -11,9 +11,8 @@ use crate::look_up::{inner, number, says, word};
 use crate::modes::autostart;
 use crate::objects::{is_called, is_kind, maximum, minimum, start};
 use crate::times::{alarm_time, cycle_time};
-use oil_system::{CounterObject, EventObject};
+use oil_system::{Action, Alarm, CounterObject, EventObject};
 use oil_tree::{Attr, Object};
-use osek_standard::{Action, Alarm};
 use osek_values::{CounterNo, Mask, Memory, Name, Seq, TaskNo, copied};
 use std::alloc::Global;
 

@@ -9,8 +9,8 @@ use crate::look_up::{is_named, word_of};
 use crate::names;
 use crate::objects::{has_scheduler, is_kind, is_ordinary, priority};
 use crate::tasks::narrow;
+use oil_system::Resource;
 use oil_tree::{Attr, Object};
-use osek_standard::Resource;
 use osek_values::{Memory, Seq, copied};
 use std::alloc::Global;
 

@@ -9,9 +9,8 @@ use crate::events::own_bits;
 use crate::look_up::says;
 use crate::modes::autostart;
 use crate::objects::{Category, is_isr, is_kind, priority};
-use oil_system::{EventObject, TaskObject};
+use oil_system::{EventObject, Schedule, TaskObject};
 use oil_tree::{Attr, Object};
-use osek_standard::Schedule;
 use osek_values::{Mask, Memory, Name, Seq, copied};
 use std::alloc::Global;
 

@@ -1,6 +1,6 @@
 //! What an OIL file declares: an application without the blocks of its code, and the names that only code refers to.
 
-use osek_standard::{Alarm, Resource, Schedule};
+use crate::objects::{Alarm, Resource, Schedule};
 use osek_values::{HookSet, Mask, Name, Seq};
 
 /// A TASK object.

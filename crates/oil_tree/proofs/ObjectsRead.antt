@@ -4,11 +4,11 @@ use Rattle.std.proofs.lemmas.List.{append-nil}
 use Rattle.oil_lexer.specs.declared.token.{TokenKind.{TokenKind}, TokenKind.TheVariants.{Name, Number, Text, Mark}, Mark.TheVariants.{CloseBrace}, Token.{Token}}
 use Rattle.oil_tree.specs.declared.tree.Object.{Object}
 use Rattle.oil_tree.specs.Attrs.{Attrs}
-use Rattle.oil_grammar.specs.Tokens.{name, mark, is_close}
+use Rattle.oil_lexer.specs.Tokens.{name, mark, is_close}
 use Rattle.oil_tree.specs.Grammar.{IsObjects, no_objects, one_object}
 use Rattle.oil_tree.specs.Expect.{some_objects, Stack, scan}
 use Rattle.oil_tree.specs.Phrases.{object_phrases, ReadsBody, ReadsObject, ReadsObjects}
-use Rattle.oil_grammar.proofs.Braces.{close_kind, front_is}
+use Rattle.oil_lexer.proofs.Braces.{close_kind, front_is}
 use Rattle.oil_tree.proofs.Ends.{shorter_body}
 
 not_close_kind : (kind : TokenKind) (line : ℕ) (stack : Stack) (ts : List Token) → is_close kind ≡ false → scan 1 (some_objects ∷ stack) (record { kind = kind; line = line } ∷ ts) ≡ scan 1 (object_phrases ++ some_objects ∷ stack) (record { kind = kind; line = line } ∷ ts)

@@ -6,9 +6,9 @@ use Rattle.oil_tree.specs.declared.tree.{Value.{Value}, Object.{Object}, Tree.{T
 use Rattle.osek_values.specs.declared.refused.LineFault.{LineFault}
 use Rattle.osek_values.specs.declared.refusal.SyntaxRule.{SyntaxRule}
 use Rattle.oil_tree.specs.Attrs.{Attrs, attr_then}
-use Rattle.oil_grammar.specs.Tokens.{name, mark}
+use Rattle.oil_lexer.specs.Tokens.{name, mark}
 use Rattle.oil_tree.specs.Grammar.{IsValue, is_name, is_text, is_number, is_plus, is_minus, IsEnd, plain, described, IsAttrs, no_more, one_more, IsBody, bare, nested, IsObjects, no_objects, one_object, IsBalanced, closed, braces, other, IsCpu, cpu, IsUnversioned, no_impl, impl, IsFile, no_version, version, IsSentence}
-use Rattle.oil_grammar.proofs.OneFault.{same_fault, no_fault}
+use Rattle.oil_lexer.proofs.OneFault.{same_fault, no_fault}
 use Rattle.osek_values.specs.declared.limits.TheConstants.{MAX_OIL_DEPTH}
 use Rattle.oil_tree.specs.Answers.{IsAnswer}
 

@@ -2,8 +2,8 @@
 use Rattle.std.specs.Prelude.{ℕ, List, [], ◌∷◌, ◌++◌, Option, Some, None}
 use Rattle.oil_lexer.specs.declared.token.{TokenKind.{TokenKind}, TokenKind.TheVariants.{Name, Number, Text, Mark}, Mark.TheVariants.{OpenBrace, CloseBrace, Equals, Semicolon, Colon, Plus, Minus}, Token.{Token}}
 use Rattle.oil_tree.specs.declared.words.{Word.{Word}, Word.TheVariants.{Version, Implementation, Cpu, Other}}
-use Rattle.oil_grammar.specs.declared.fault.Stop.{Stop}
-use Rattle.oil_grammar.specs.Scan as scans
+use Rattle.oil_lexer.specs.declared.fault.Stop.{Stop}
+use Rattle.oil_lexer.specs.Scan as scans
 use Rattle.oil_tree.specs.Words.{word_of}
 use Rattle.osek_values.specs.declared.limits.TheConstants.{MAX_OIL_DEPTH}
 

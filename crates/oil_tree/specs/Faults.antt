@@ -3,7 +3,7 @@ use Rattle.std.specs.Prelude.{ℕ, List}
 use Rattle.osek_values.specs.declared.limits.TheConstants.{MAX_OIL_DEPTH}
 use Rattle.osek_values.specs.declared.refusal.SyntaxRule.{SyntaxRule}
 use Rattle.oil_lexer.specs.declared.token.Token.{Token}
-use Rattle.oil_grammar.specs.Faults as faults
+use Rattle.oil_lexer.specs.Faults as faults
 use Rattle.oil_tree.specs.declared.tree.Tree.{Tree}
 use Rattle.oil_tree.specs.Grammar.{IsSentence}
 

@@ -6,8 +6,7 @@ ghost use Rattle.oil_tree.specs.Phrases.{StopsIn, attr_phrases, ReadsAttr, Reads
 
 use crate::phrases::{end, equals, name_of, value};
 use crate::tree::{Attr, AttrList};
-use oil_grammar::{PhraseError, Stop, first, is_close, is_open};
-use oil_lexer::Tokens;
+use oil_lexer::{PhraseError, Stop, Tokens, first, is_close, is_open};
 use osek_values::limits::MAX_OIL_DEPTH;
 use std::alloc::Global;
 

@@ -1,5 +1,5 @@
 //! Why tokens have no tree.
-use oil_grammar::SyntaxFault;
+use oil_lexer::SyntaxFault;
 use osek_values::Refused;
 
 /// Why tokens have no tree.

@@ -1,6 +1,6 @@
 //! Objects, and the parts of a file.
 ghost use Rattle.std.specs.Prelude.{◌≡◌, ◌≤◌, ℕ, List, [], ◌∷◌, Some, MatchResult};
-ghost use Rattle.oil_grammar.specs.Tokens.{name};
+ghost use Rattle.oil_lexer.specs.Tokens.{name};
 ghost use Rattle.osek_values.specs.Answers.{Refuses};
 ghost use Rattle.oil_tree.specs.Words.{word_of};
 ghost use Rattle.oil_tree.specs.Expect.{scan, a_file, an_unversioned, a_cpu, some_objects, some_balanced};
@@ -10,8 +10,7 @@ use crate::attrs::body;
 use crate::phrases::{end, equals, name_of, open_brace, text};
 use crate::tree::{Object, ObjectList, Tree};
 use crate::words::{Word, word_of};
-use oil_grammar::{PhraseError, Stop, first, is_close, is_open};
-use oil_lexer::{TokenKind, Tokens};
+use oil_lexer::{PhraseError, Stop, TokenKind, Tokens, first, is_close, is_open};
 use osek_values::limits::MAX_OIL_DEPTH;
 use std::alloc::Global;
 

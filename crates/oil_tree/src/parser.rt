@@ -10,8 +10,7 @@ ghost use Rattle.oil_tree.specs.Answers.{IsAnswer};
 use crate::error::ParseError;
 use crate::file::whole;
 use crate::tree::Tree;
-use oil_grammar::{PhraseError, fault_of};
-use oil_lexer::Tokens;
+use oil_lexer::{PhraseError, Tokens, fault_of};
 use std::alloc::Global;
 
 fn read(alloc: Global, tokens: &Tokens<'_>) -> Result<Tree, ParseError>

@@ -1,8 +1,12 @@
--- Lists without a second of any element: joined lists, and lists of what each element gives.
-use Rattle.std.proofs.Common.{◌≡◌, ℕ, zero, suc, ◌+◌, Bool, true, false, List, [], ◌∷◌, ◌++◌, sym, subst, ◌∙◌, inl, inr, arith, nat_eq, flat_map, refl}
+-- Lists without a second of any element: joined lists, lists of what each element gives, and of numbers those that pass.
+use Rattle.std.proofs.Common.{◌≡◌, ℕ, zero, suc, ◌+◌, Bool, true, false, cond, List, [], ◌∷◌, ◌++◌, length, filter, sym, subst, ◌∙◌, inl, inr, arith, nat_eq, flat_map, refl}
 use Rattle.std.specs.List.{IsDistinct, range_with_len}
+use Rattle.std.specs.Set.{is_member}
 use Rattle.std.proofs.lemmas.Bool.{ne_eqb, true≢false}
-use Rattle.osek_standard.proofs.Members.{Among, among_cases, among_each, among_left, among_right, each_among, flat_map_among, range_among}
+use Rattle.std.proofs.lemmas.Cmp.{nat_eq_equiv}
+use Rattle.std.proofs.lemmas.Map.Made.{length-le_from_is_member}
+use Rattle.std.proofs.lemmas.Map.Views.{Contains-from_any, exact_unsigned_eq, list_any-from_Contains}
+use Rattle.osek_standard.proofs.Members.{Among, among_cases, among_contained, among_each, among_left, among_right, contained_among, each_among, filter_among, flat_map_among, range_among}
 
 module _ {X : Type 0} (same : X → X → Bool) where
   abbrev Differs : X → X → Type 0
@@ -62,3 +66,27 @@ pub distinct_range : (a n : ℕ) → IsDistinct nat_eq (range_with_len a n)
 unfolding IsDistinct
 distinct_range a zero = tt
 distinct_range a (suc n) = distinct_first nat_eq a (range_with_len (a + 1) n) (λ t m. ne_eqb a t (λ e. omega (arith, e, (range_among (a + 1) n t m).0))) (distinct_range (a + 1) n)
+
+-- those that pass
+pub distinct_passing : (q : ℕ → Bool) (xs : List ℕ) → IsDistinct nat_eq xs → IsDistinct nat_eq (filter q xs)
+unfolding IsDistinct
+distinct_passing q [] d = tt
+distinct_passing q (x ∷ xs) d =
+    let rest : IsDistinct nat_eq (filter q xs) = distinct_passing q xs d.1 in
+    elim (q x) as (λ b. IsDistinct nat_eq (cond b (x ∷ filter q xs) (filter q xs))) [
+      | true ↦ distinct_first nat_eq x (filter q xs) (λ t m. among_each (λ (y : ℕ). nat_eq x y ≡ false) xs d.0 t (filter_among q t xs m).1) rest
+      | false ↦ rest
+    ]
+
+-- lists without a second of any number, each with the numbers of the other, are as long
+member_among : (xs : List ℕ) (t : ℕ) → is_member nat_eq xs t ≡ true → Among t xs
+member_among xs t h = contained_among xs t (Contains-from_any exact_unsigned_eq t xs h)
+
+among_member : (xs : List ℕ) (t : ℕ) → Among t xs → is_member nat_eq xs t ≡ true
+among_member xs t m = list_any-from_Contains nat_eq_equiv t xs (among_contained xs t m)
+
+pub same_length : (xs ys : List ℕ) → IsDistinct nat_eq xs → IsDistinct nat_eq ys → ((t : ℕ) → Among t xs → Among t ys) → ((t : ℕ) → Among t ys → Among t xs) → length xs ≡ length ys
+same_length xs ys d e f g =
+    let most = length-le_from_is_member nat_eq_equiv xs ys d (λ t h. among_member ys t (f t (member_among xs t h))) in
+    let least = length-le_from_is_member nat_eq_equiv ys xs e (λ t h. among_member xs t (g t (member_among ys t h))) in
+    omega (arith, most, least)

@@ -92,15 +92,15 @@ among-filter {X} q t (x ∷ xs) (inr h) e =
       | false ↦ among-filter q t xs h e
     ]
 
-filter-among : {X : Type 0} (q : X → Bool) (t : X) (xs : List X) → Among t (filter q xs) → (q t ≡ true) × Among t xs
-filter-among q t [] m = absurd m
-filter-among {X} q t (x ∷ xs) m = elim (cases_Bool (q x)) [
+pub filter_among : {X : Type 0} (q : X → Bool) (t : X) (xs : List X) → Among t (filter q xs) → (q t ≡ true) × Among t xs
+filter_among q t [] m = absurd m
+filter_among {X} q t (x ∷ xs) m = elim (cases_Bool (q x)) [
   | inl f ↦
       (let m2 : Among t (x ∷ filter q xs) = subst (λ (b : Bool). Among t (cond b (x ∷ filter q xs) (filter q xs))) f m in
-      elim m2 [ inl h ↦ (ap q h ∙ f, inl h) | inr h ↦ ((filter-among q t xs h).0, inr (filter-among q t xs h).1) ])
+      elim m2 [ inl h ↦ (ap q h ∙ f, inl h) | inr h ↦ ((filter_among q t xs h).0, inr (filter_among q t xs h).1) ])
   | inr f ↦
       (let m2 : Among t (filter q xs) = subst (λ (b : Bool). Among t (cond b (x ∷ filter q xs) (filter q xs))) f m in
-      ((filter-among q t xs m2).0, inr (filter-among q t xs m2).1))
+      ((filter_among q t xs m2).0, inr (filter_among q t xs m2).1))
 ]
 
 -- a number in a row of numbers
@@ -121,7 +121,7 @@ pub among_passing : (q : ℕ → Bool) (n t : ℕ) → t < n → q t ≡ true �
 among_passing q n t below passes = among-filter q t (range_with_len 0 n) (among_range 0 n t (omega arith) (omega arith)) passes
 
 pub passing_among : (q : ℕ → Bool) (n t : ℕ) → Among t (filter q (range_with_len 0 n)) → (q t ≡ true) × (t < n)
-passing_among q n t m = let p = filter-among q t (range_with_len 0 n) m in (p.0, omega (arith, (range_among 0 n t p.1).1))
+passing_among q n t m = let p = filter_among q t (range_with_len 0 n) m in (p.0, omega (arith, (range_among 0 n t p.1).1))
 
 -- a test of each and a test of all
 pub all_of : {X : Type 0} (p : X → Bool) (xs : List X) → ((u : X) → Among u xs → p u ≡ true) → list_all p xs ≡ true

@@ -84,15 +84,16 @@ module _ (app : App) where
   abbrev pub blocks_of_routines : List ℕ
   blocks_of_routines = blocks_of (map of_isr app.isrs) ++ blocks_of (map of_counter app.counters)
 
-  -- each block once
-  pub blocks_apart : IsDistinct nat_eq (blocks_of_tasks ++ blocks_of_routines)
-  blocks_apart =
+  pub owners_joined : blocks_of (owners app.tasks app.isrs app.counters) ≡ blocks_of_tasks ++ blocks_of_routines
+  owners_joined =
       let xs : List (ℕ × ℕ) = map of_task app.tasks in
       let ys : List (ℕ × ℕ) = map of_isr app.isrs in
       let zs : List (ℕ × ℕ) = map of_counter app.counters in
-      subst (IsDistinct nat_eq)
-      (flat_map-append blocks_within (xs ++ ys) zs ∙ ap (λ (bs : List ℕ). bs ++ blocks_of zs) (flat_map-append blocks_within xs ys) ∙ append_assoc (blocks_of xs) (blocks_of ys) (blocks_of zs))
-      (once_owned (owners app.tasks app.isrs app.counters) app.valid.apart)
+      flat_map-append blocks_within (xs ++ ys) zs ∙ ap (λ (bs : List ℕ). bs ++ blocks_of zs) (flat_map-append blocks_within xs ys) ∙ append_assoc (blocks_of xs) (blocks_of ys) (blocks_of zs)
+
+  -- each block once
+  pub blocks_apart : IsDistinct nat_eq (blocks_of_tasks ++ blocks_of_routines)
+  blocks_apart = subst (IsDistinct nat_eq) owners_joined (once_owned (owners app.tasks app.isrs app.counters) app.valid.apart)
 
   -- a routine's blocks are those of its counter or its ISR
   abbrev IsOfSource : Bool → ℕ → ℕ → Type 0

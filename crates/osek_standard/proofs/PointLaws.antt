@@ -1,9 +1,16 @@
--- Points: no two have one number, and the count of points is that of a list of them all.
-use Rattle.std.proofs.Common.{◌≡◌, ◌≢◌, ℕ, ◌+◌, ◌*◌, ◌<◌, ◌≤◌, true, false, List, [], ◌∷◌, ◌++◌, length, map, sym, subst, ap, ◌∙◌, inl, inr, arith, nat_eq, refl, Some, None, length-append}
-use Rattle.std.specs.Prelude.{IfSome}
-use Rattle.std.specs.List.{IsDistinct, flat_map, range_with_len, sum_by}
+-- Points in their order: their numbers ascend, they are the points of an application, and so many as its count says.
+use Rattle.std.proofs.Common.{◌≡◌, ◌≢◌, ℕ, zero, suc, ◌+◌, ◌*◌, ◌<◌, ◌≤◌, Bool, true, false, cond, Less, List, [], ◌∷◌, ◌++◌, length, map, filter, sym, subst, ap, ◌∙◌, ◌⊎◌, inl, inr, arith, nat_eq, nat_lt, refl, Some, None, length-append}
+use Rattle.std.specs.Prelude.{IfSome, nat_le, not, ◌||◌}
+use Rattle.std.specs.Cmp.{nat_cmp_is}
+use Rattle.std.specs.List.{IsDistinct, flat_map, list_any, range_with_len, sum_by}
+use Rattle.std.specs.List.Sorted.{IsStrictlySortedBy}
+use Rattle.std.specs.Ordering.{nat_cmp}
 use Rattle.std.specs.declared.option.Option.{Option}
-use Rattle.std.proofs.lemmas.Bool.{eq-eqb, eqb-false, ne_eqb}
+use Rattle.std.proofs.Math.Bool.{or-true}
+use Rattle.std.proofs.Math.Nat.{add-mul, zero-mul}
+use Rattle.std.proofs.lemmas.Bool.{and_from, and_parts, cases_Bool, eq-eqb, eqb-false, le-leb, lt-ltb, ne_eqb, or_cases}
+use Rattle.std.proofs.lemmas.Bool.Decides.{nat_tests}
+use Rattle.std.proofs.lemmas.List.{length-map}
 use Rattle.std.proofs.lemmas.List.FromFn.{length-range_with_len}
 use Rattle.osek_values.specs.declared.numbers.{BlockNo.{BlockNo}, TaskNo.{TaskNo}}
 use Rattle.osek_values.specs.Numbers.{block_no, task_no}
@@ -11,12 +18,14 @@ use Rattle.osek_standard.specs.declared.app.App.{App}
 use Rattle.osek_standard.specs.declared.objects.Isr.{Isr}
 use Rattle.osek_standard.specs.declared.point.Point.{Point}
 use Rattle.osek_standard.specs.declared.point.Point.TheVariants as point
-use Rattle.osek_standard.specs.Apps.{no_task}
+use Rattle.osek_standard.specs.Apps.{is_task_block, no_task}
 use Rattle.osek_standard.specs.Counts.{points, task_blocks, routine_blocks}
-use Rattle.osek_standard.specs.Points.{ArePoints, IsPoint, StandsAt, point_number, over_number, same_number}
-use Rattle.osek_standard.proofs.Members.{Among, among_cases, among_contained, among_flat_map, among_left, among_range, among_right, contained_among, flat_map_among, length_flat_map, range_among}
-use Rattle.osek_standard.proofs.Distinct.{distinct_across, distinct_first, distinct_flat_map, distinct_joined, distinct_left, distinct_once, distinct_one, distinct_range, distinct_right}
-use Rattle.osek_standard.proofs.OwnerLaws.{blocks_apart, blocks_of, blocks_of_routines, blocks_of_tasks, length_owned, of_counter, of_isr, of_routine, of_task, owned, routine_at, task_at}
+use Rattle.osek_standard.specs.Points.{ArePoints, IsPoint, StandsAt, block_points, over_number, point_number, points_by, points_in_order, routine_points, same_number}
+use Rattle.osek_standard.specs.Validity.{is_within, owners}
+use Rattle.osek_standard.proofs.Members.{Among, among_cases, among_contained, among_flat_map, among_left, among_map, among_passing, among_range, among_right, contained_among, each_among, flat_map_among, map_among, passing_among, range_among}
+use Rattle.osek_standard.proofs.Distinct.{distinct_across, distinct_first, distinct_left, distinct_once, distinct_passing, distinct_range, distinct_right, same_length}
+use Rattle.osek_standard.proofs.OwnerLaws.{blocks_apart, blocks_of, blocks_of_routines, blocks_of_tasks, blocks_within, length_owned, of_counter, of_isr, of_routine, of_task, owned, owners_joined, routine_at, task_at}
+use Rattle.osek_standard.proofs.WellLaws.{own_known, routine_known}
 
 same_if : (p q : Point) → point_number p ≡ point_number q → same_number p q ≡ true
 same_if p q e = eq-eqb (point_number p) (point_number q) e
@@ -24,81 +33,82 @@ same_if p q e = eq-eqb (point_number p) (point_number q) e
 apart_if : (p q : Point) → (point_number p ≡ point_number q → ⊥) → same_number p q ≡ false
 apart_if p q h = ne_eqb (point_number p) (point_number q) h
 
-task_point : ℕ → List Point
-task_point b = point.Task (block_no b) ∷ []
+-- ---- lists of points whose numbers ascend, from one number on and below another
 
-over_task : ℕ → ℕ → List Point
-over_task b t = point.Routine (block_no b) (Some (task_no t)) ∷ []
+abbrev Ascends : ℕ → List Point → ℕ → Type 0
+Ascends low [] high = low ≤ high
+Ascends low (p ∷ ps) high = (low ≤ point_number p) × Ascends (point_number p + 1) ps high
 
-over_tasks : ℕ → ℕ → List Point
-over_tasks n b = flat_map (over_task b) (range_with_len 0 n)
+ascends_from : (low other high : ℕ) (ps : List Point) → low ≤ other → Ascends other ps high → Ascends low ps high
+ascends_from low other high [] le h = omega (arith, le, h)
+ascends_from low other high (p ∷ ps) le h = (omega (arith, le, h.0), h.1)
 
--- over none, and over each of n tasks
-routine_points : ℕ → ℕ → List Point
-routine_points n b = point.Routine (block_no b) None ∷ over_tasks n b
+ascends_joined : (low other high : ℕ) (ps qs : List Point) → Ascends low ps other → Ascends other qs high → Ascends low (ps ++ qs) high
+ascends_joined low other high [] qs h k = ascends_from low other high qs h k
+ascends_joined low other high (p ∷ ps) qs h k = (h.0, ascends_joined (point_number p + 1) other high ps qs h.1 k)
 
--- ---- the numbers of the points of a block
+at_least : (low high : ℕ) (ps : List Point) → Ascends low ps high → (q : Point) → Among q ps → low ≤ point_number q
+at_least low high [] h q m = absurd m
+at_least low high (p ∷ ps) h q (inl e) = let same : point_number q ≡ point_number p = ap (λ (x : Point). point_number x) e in omega (arith, same, h.0)
+at_least low high (p ∷ ps) h q (inr m) = omega (arith, h.0, at_least (point_number p + 1) high ps h.1 q m)
 
-task_number : (b : ℕ) (p : Point) → Among p (task_point b) → point_number p ≡ 2 + 257 * b
-unfolding task_point
-task_number b p (inl e) = ap (λ (q : Point). point_number q) e
-task_number b p (inr m) = absurd m
+each_once : (low high : ℕ) (ps : List Point) → Ascends low ps high → IsDistinct same_number ps
+unfolding IsDistinct
+each_once low high [] h = tt
+each_once low high (p ∷ ps) h =
+    distinct_first same_number p ps (λ q m. apart_if p q (λ e. absurd (omega (arith, e, at_least (point_number p + 1) high ps h.1 q m))))
+    (each_once (point_number p + 1) high ps h.1)
 
-over_task_number : (b t : ℕ) (p : Point) → Among p (over_task b t) → point_number p ≡ 2 + 257 * b + (1 + t)
-unfolding over_task
-over_task_number b t p (inl e) = ap (λ (q : Point). point_number q) e
-over_task_number b t p (inr m) = absurd m
-
--- how far behind the first number of its block a point is
-record IsBehind (n b : ℕ) (p : Point) : Type 0 where
-  offset : ℕ
-  few : offset ≤ n
-  is : point_number p ≡ 2 + 257 * b + offset
-
-routine_number : (n b : ℕ) (p : Point) → Among p (routine_points n b) → IsBehind n b p
-unfolding routine_points over_tasks
-routine_number n b p (inl e) = record { offset = 0; few = omega arith; is = ap (λ (q : Point). point_number q) e }
-routine_number n b p (inr m) =
-    let h = flat_map_among (over_task b) p (range_with_len 0 n) m in
-    let below : h.0 < 0 + n = (range_among 0 n h.0 h.1).1 in
-    record { offset = 1 + h.0; few = omega (arith, below); is = over_task_number b h.0 p h.2 }
-
--- ---- no two of a block, and of all blocks
-
-tasks_apart : (b c : ℕ) → nat_eq b c ≡ false → (p q : Point) → Among p (task_point b) → Among q (task_point c) → same_number p q ≡ false
-tasks_apart b c e p q m n = apart_if p q (λ same. eqb-false b c e (omega (arith, task_number b p m, task_number c q n, same)))
-
-overs_apart : (b t u : ℕ) → nat_eq t u ≡ false → (p q : Point) → Among p (over_task b t) → Among q (over_task b u) → same_number p q ≡ false
-overs_apart b t u e p q m n = apart_if p q (λ same. eqb-false t u e (omega (arith, over_task_number b t p m, over_task_number b u q n, same)))
-
-one_task : (b : ℕ) → IsDistinct same_number (task_point b)
-unfolding task_point
-one_task b = distinct_one same_number (point.Task (block_no b))
-
-one_over : (b t : ℕ) → IsDistinct same_number (over_task b t)
-unfolding over_task
-one_over b t = distinct_one same_number (point.Routine (block_no b) (Some (task_no t)))
-
-overs_distinct : (n b : ℕ) → IsDistinct same_number (over_tasks n b)
-unfolding over_tasks
-overs_distinct n b = distinct_flat_map (over_task b) nat_eq same_number (one_over b) (overs_apart b) (range_with_len 0 n) (distinct_range 0 n)
-
-none_apart : (n b : ℕ) (q : Point) → Among q (over_tasks n b) → same_number (point.Routine (block_no b) None) q ≡ false
-unfolding over_tasks
-none_apart n b q m =
-    let h = flat_map_among (over_task b) q (range_with_len 0 n) m in
-    apart_if (point.Routine (block_no b) None) q (λ same. absurd (omega (arith, over_task_number b h.0 q h.2, same)))
-
-routine_distinct : (n b : ℕ) → IsDistinct same_number (routine_points n b)
-unfolding routine_points
-routine_distinct n b = distinct_first same_number (point.Routine (block_no b) None) (over_tasks n b) (none_apart n b) (overs_distinct n b)
+numbers_ascend : (low high : ℕ) (ps : List Point) → Ascends low ps high → IsStrictlySortedBy nat_cmp (map point_number ps)
+unfolding IsStrictlySortedBy
+numbers_ascend low high [] h = tt
+numbers_ascend low high (p ∷ ps) h = (
+  each_among (λ (n : ℕ). nat_cmp (point_number p) n ≡ Less) (map point_number ps)
+      (λ n m. let at = map_among point_number n ps m in sym (nat_cmp_is (point_number p) n Less (omega (arith, at.2, at_least (point_number p + 1) high ps h.1 at.0 at.1)))),
+  numbers_ascend (point_number p + 1) high ps h.1,
+)
 
 -- a block has room for its points
-other_block : (n b c : ℕ) → n ≤ 256 → nat_eq b c ≡ false → (p q : Point) → IsBehind n b p → IsBehind n c q → same_number p q ≡ false
-other_block n b c few e p q h k = apart_if p q (λ same. eqb-false b c e (omega (arith, few, h.few, h.is, k.few, k.is, same)))
+overs_ascend : (b t n : ℕ) → t + n ≤ 256 → Ascends (2 + 257 * b + (1 + t)) (map (λ u. point.Routine (block_no b) (Some (task_no u))) (range_with_len t n)) (2 + 257 * (b + 1))
+overs_ascend b t zero few = omega (arith, few)
+overs_ascend b t (suc n) few = (
+  omega arith,
+  ascends_from (2 + 257 * b + (1 + t) + 1) (2 + 257 * b + (1 + (t + 1))) (2 + 257 * (b + 1)) (map (λ u. point.Routine (block_no b) (Some (task_no u))) (range_with_len (t + 1) n))
+      (omega arith) (overs_ascend b (t + 1) n (omega (arith, few))),
+)
 
-task_behind : (n b : ℕ) (p : Point) → Among p (task_point b) → IsBehind n b p
-task_behind n b p m = record { offset = 0; few = omega arith; is = omega (arith, task_number b p m) }
+points_by_ascend : (c : Bool) (n b : ℕ) → n ≤ 256 → Ascends (2 + 257 * b) (points_by c n b) (2 + 257 * (b + 1))
+points_by_ascend true n b few = (omega arith, omega arith)
+points_by_ascend false n b few = (
+  omega arith,
+  ascends_from (2 + 257 * b + 0 + 1) (2 + 257 * b + (1 + 0)) (2 + 257 * (b + 1)) (map (λ u. point.Routine (block_no b) (Some (task_no u))) (range_with_len 0 n))
+      (omega arith) (overs_ascend b 0 n (omega (arith, few))),
+)
+
+-- a range is in a pair's list exactly where the pair has it
+within_range : (o : ℕ × ℕ) (b : ℕ) → is_within b o ≡ true → Among b (blocks_within o)
+within_range o b e = let h = and_parts (nat_le o.0 b) (nat_lt b (o.0 + o.1)) e in among_range o.0 o.1 b (grind (arith, nat_tests)) (grind (arith, nat_tests))
+
+range_within : (o : ℕ × ℕ) (b : ℕ) → Among b (blocks_within o) → is_within b o ≡ true
+range_within o b m = let h = range_among o.0 o.1 b m in and_from (nat_le o.0 b) (nat_lt b (o.0 + o.1)) (le-leb o.0 b h.0) (lt-ltb b (o.0 + o.1) h.1)
+
+any_among : (os : List (ℕ × ℕ)) (b : ℕ) → list_any (is_within b) os ≡ true → Among b (blocks_of os)
+any_among [] b e = absurd (cc)
+any_among (o ∷ os) b e = elim (or_cases (is_within b o) (list_any (is_within b) os) e) [
+  | inl h ↦ among_left b (blocks_within o) (blocks_of os) (within_range o b h)
+  | inr h ↦ among_right b (blocks_within o) (blocks_of os) (any_among os b h)
+]
+
+among_any : (os : List (ℕ × ℕ)) (b : ℕ) → Among b (blocks_of os) → list_any (is_within b) os ≡ true
+among_any [] b m = absurd m
+among_any (o ∷ os) b m = elim (among_cases b (blocks_within o) (blocks_of os) m) [
+  | inl l ↦ ap (λ (c : Bool). c || list_any (is_within b) os) (range_within o b l)
+  | inr r ↦ ap (λ (c : Bool). is_within b o || c) (among_any os b r) ∙ or-true (is_within b o)
+]
+
+any_map : {X : Type 0} (own : X → ℕ × ℕ) (b : ℕ) (xs : List X) → list_any (λ (x : X). is_within b (own x)) xs ≡ list_any (is_within b) (map own xs)
+any_map own b [] = refl
+any_map own b (x ∷ xs) = ap (λ (c : Bool). is_within b (own x) || c) (any_map own b xs)
 
 -- ---- all points
 
@@ -109,140 +119,158 @@ module _ (app : App) where
   few : n ≤ 256
   few = let most : n ≤ 16 = app.valid.few_tasks in omega (arith, most)
 
-  of_tasks : List Point
-  of_tasks = flat_map task_point (blocks_of_tasks app)
+  blocks_ascend : (b m : ℕ) → Ascends (2 + 257 * b) (flat_map (block_points app) (range_with_len b m)) (2 + 257 * (b + m))
+  blocks_ascend b zero = omega arith
+  blocks_ascend b (suc m) =
+      let rest = flat_map (block_points app) (range_with_len (b + 1) m) in
+      let same : b + 1 + m ≡ b + suc m = omega arith in
+      ascends_joined (2 + 257 * b) (2 + 257 * (b + 1)) (2 + 257 * (b + suc m)) (block_points app b) rest (points_by_ascend (is_task_block app b) n b few)
+      (subst (λ (e : ℕ). Ascends (2 + 257 * (b + 1)) rest (2 + 257 * e)) same (blocks_ascend (b + 1) m))
 
-  of_routines : List Point
-  of_routines = flat_map (routine_points n) (blocks_of_routines app)
+  all_ascend : Ascends 0 (points_in_order app) (2 + 257 * (0 + length app.blocks))
+  unfolding points_in_order
+  all_ascend = (omega arith, (omega arith, blocks_ascend 0 (length app.blocks)))
 
-  of_blocks : List Point
-  of_blocks = of_tasks ++ of_routines
+  pub points_ascend : IsStrictlySortedBy nat_cmp (map point_number (points_in_order app))
+  points_ascend = numbers_ascend 0 (2 + 257 * (0 + length app.blocks)) (points_in_order app) all_ascend
 
-  all_points : List Point
-  all_points = point.Halted ∷ point.Idle ∷ of_blocks
+  -- a block is a task's or a routine's, and not both
+  task_has : (b : ℕ) → is_task_block app b ≡ true → Among b (blocks_of_tasks app)
+  task_has b e = any_among (map of_task app.tasks) b (sym (any_map of_task b app.tasks) ∙ e)
 
-  across : (p q : Point) → Among p of_tasks → Among q of_routines → same_number p q ≡ false
-  unfolding of_tasks of_routines
-  across p q m k =
-      let h = flat_map_among task_point p (blocks_of_tasks app) m in
-      let g = flat_map_among (routine_points n) q (blocks_of_routines app) k in
-      other_block n h.0 g.0 few (distinct_across nat_eq (blocks_of_tasks app) (blocks_of_routines app) (blocks_apart app) h.0 g.0 h.1 g.1)
-      p q (task_behind n h.0 p h.2) (routine_number n g.0 q g.2)
+  has_task : (b : ℕ) → Among b (blocks_of_tasks app) → is_task_block app b ≡ true
+  has_task b m = any_map of_task b app.tasks ∙ among_any (map of_task app.tasks) b m
 
-  tasks_once : IsDistinct same_number of_tasks
-  unfolding of_tasks
-  tasks_once = distinct_flat_map task_point nat_eq same_number one_task tasks_apart (blocks_of_tasks app) (distinct_left nat_eq (blocks_of_tasks app) (blocks_of_routines app) (blocks_apart app))
-
-  routines_once : IsDistinct same_number of_routines
-  unfolding of_routines
-  routines_once = distinct_flat_map (routine_points n) nat_eq same_number (routine_distinct n)
-      (λ b c e p q m k. other_block n b c few e p q (routine_number n b p m) (routine_number n c q k))
-      (blocks_of_routines app) (distinct_right nat_eq (blocks_of_tasks app) (blocks_of_routines app) (blocks_apart app))
-
-  -- halted and idle come first
-  behind_two : (p : Point) → Among p of_blocks → 2 ≤ point_number p
-  unfolding of_blocks of_tasks of_routines
-  behind_two p m = elim (among_cases p of_tasks of_routines m) [
-    | inl l ↦ (let h = flat_map_among task_point p (blocks_of_tasks app) l in omega (arith, task_number h.0 p h.2))
-    | inr r ↦ (let h = flat_map_among (routine_points n) p (blocks_of_routines app) r in let g = routine_number n h.0 p h.2 in omega (arith, g.is))
+  has_none : (b : ℕ) → Among b (blocks_of_routines app) → is_task_block app b ≡ false
+  has_none b m = elim (cases_Bool (is_task_block app b)) [
+    | inl e ↦ absurd (eqb-false b b (distinct_across nat_eq (blocks_of_tasks app) (blocks_of_routines app) (blocks_apart app) b b (task_has b e) m) refl)
+    | inr e ↦ e
   ]
 
-  behind_idle : (p : Point) → Among p (point.Idle ∷ of_blocks) → 1 ≤ point_number p
-  behind_idle p (inl e) = let is : point_number p ≡ 1 = ap (λ (q : Point). point_number q) e in omega (arith, is)
-  behind_idle p (inr m) = omega (arith, behind_two p m)
+  some_owner : (b : ℕ) → b < length app.blocks → Among b (blocks_of_tasks app) ⊎ Among b (blocks_of_routines app)
+  some_owner b known = among_cases b (blocks_of_tasks app) (blocks_of_routines app)
+      (subst (Among b) (owners_joined app) (any_among (owners app.tasks app.isrs app.counters) b (app.valid.owned b known)))
 
-  all_once : IsDistinct same_number all_points
-  unfolding all_points of_blocks
-  all_once = distinct_first same_number point.Halted (point.Idle ∷ of_blocks) (λ p m. apart_if point.Halted p (λ e. absurd (omega (arith, e, behind_idle p m))))
-      (distinct_first same_number point.Idle of_blocks (λ p m. apart_if point.Idle p (λ e. absurd (omega (arith, e, behind_two p m))))
-      (distinct_joined same_number of_tasks of_routines tasks_once routines_once across))
+  task_known : (b : ℕ) → Among b (blocks_of_tasks app) → b < length app.blocks
+  task_known b m = let h = task_at app (block_no b) m in own_known app h.task b h.known h.own
+
+  other_known : (b : ℕ) → Among b (blocks_of_routines app) → b < length app.blocks
+  other_known b m = let h = routine_at app (block_no b) None tt m in routine_known app h.source b h.known h.own
+
+  at_block_among : (b : ℕ) (p : Point) (c : Bool) → b < length app.blocks → is_task_block app b ≡ c → Among p (points_by c n b) → Among p (points_in_order app)
+  unfolding points_in_order
+  at_block_among b p c known is m = inr (inr (among_flat_map (block_points app) b p (range_with_len 0 (length app.blocks)) (among_range 0 (length app.blocks) b (omega arith) (omega (arith, known)))
+      (subst (λ (d : Bool). Among p (points_by d n b)) (sym is) m)))
 
   over_among : (b : ℕ) (over : Option TaskNo) → IfSome over (λ (t : TaskNo). t.0 < n) → Among (point.Routine (block_no b) over) (routine_points n b)
-  unfolding routine_points over_tasks over_task
   over_among b None h = inl refl
-  over_among b (Some t) h = inr (among_flat_map (over_task b) t.0 (point.Routine (block_no b) (Some t)) (range_with_len 0 n) (among_range 0 n t.0 (omega arith) (omega (arith, h))) (inl refl))
+  over_among b (Some t) h = inr (among_map (λ u. point.Routine (block_no b) (Some (task_no u))) t.0 (range_with_len 0 n) (among_range 0 n t.0 (omega arith) (omega (arith, h))))
 
-  point_among : (p : Point) → IsPoint app p → Among p all_points
-  unfolding all_points of_blocks of_tasks of_routines task_point
+  point_among : (p : Point) → IsPoint app p → Among p (points_in_order app)
+  unfolding points_in_order
   point_among point.Halted h = inl refl
   point_among point.Idle h = inr (inl refl)
-  point_among (point.Task b) h = inr (inr (among_left (point.Task b) of_tasks of_routines
-      (among_flat_map task_point b.0 (point.Task b) (blocks_of_tasks app) (owned of_task app.tasks h.task no_task b.0 h.known h.own) (inl refl))))
-  point_among (point.Routine b over) h = inr (inr (among_right (point.Routine b over) of_tasks of_routines
-      (among_flat_map (routine_points n) b.0 (point.Routine b over) (blocks_of_routines app) (of_routine app h.source b.0 h.known h.own) (over_among b.0 over h.task))))
+  point_among (point.Task b) h =
+      let m = owned of_task app.tasks h.task no_task b.0 h.known h.own in
+      at_block_among b.0 (point.Task b) true (task_known b.0 m) (has_task b.0 m) (inl refl)
+  point_among (point.Routine b over) h =
+      let m = of_routine app h.source b.0 h.known h.own in
+      at_block_among b.0 (point.Routine b over) false (other_known b.0 m) (has_none b.0 m) (over_among b.0 over h.task)
 
-  task_is_point : (b : ℕ) (p : Point) → Among b (blocks_of_tasks app) → Among p (task_point b) → IsPoint app p
-  unfolding task_point
+  task_is_point : (b : ℕ) (p : Point) → Among b (blocks_of_tasks app) → Among p (points_by true n b) → IsPoint app p
   task_is_point b p m (inl e) = subst (IsPoint app) (sym e) (task_at app (block_no b) m)
   task_is_point b p m (inr k) = absurd k
 
-  over_is_point : (b t : ℕ) (p : Point) → t < n → Among b (blocks_of_routines app) → Among p (over_task b t) → IsPoint app p
-  unfolding over_task
-  over_is_point b t p lt m (inl e) = subst (IsPoint app) (sym e) (routine_at app (block_no b) (Some (task_no t)) lt m)
-  over_is_point b t p lt m (inr k) = absurd k
-
-  routine_is_point : (b : ℕ) (p : Point) → Among b (blocks_of_routines app) → Among p (routine_points n b) → IsPoint app p
-  unfolding routine_points over_tasks
+  routine_is_point : (b : ℕ) (p : Point) → Among b (blocks_of_routines app) → Among p (points_by false n b) → IsPoint app p
   routine_is_point b p m (inl e) = subst (IsPoint app) (sym e) (routine_at app (block_no b) None tt m)
   routine_is_point b p m (inr k) =
-      let h = flat_map_among (over_task b) p (range_with_len 0 n) k in
-      over_is_point b h.0 p (omega (arith, (range_among 0 n h.0 h.1).1)) m h.2
+      let h = map_among (λ u. point.Routine (block_no b) (Some (task_no u))) p (range_with_len 0 n) k in
+      subst (IsPoint app) (sym h.2) (routine_at app (block_no b) (Some (task_no h.0)) (omega (arith, (range_among 0 n h.0 h.1).1)) m)
 
-  among_point : (p : Point) → Among p all_points → IsPoint app p
-  unfolding all_points of_blocks of_tasks of_routines
-  among_point p (inl e) = subst (IsPoint app) (sym e) tt
-  among_point p (inr (inl e)) = subst (IsPoint app) (sym e) tt
-  among_point p (inr (inr m)) = elim (among_cases p of_tasks of_routines m) [
-    | inl l ↦ (let h = flat_map_among task_point p (blocks_of_tasks app) l in task_is_point h.0 p h.1 h.2)
-    | inr r ↦ (let h = flat_map_among (routine_points n) p (blocks_of_routines app) r in routine_is_point h.0 p h.1 h.2)
+  block_is_point : (b : ℕ) (p : Point) → b < length app.blocks → Among p (block_points app b) → IsPoint app p
+  block_is_point b p known m = elim (some_owner b known) [
+    | inl t ↦ task_is_point b p t (subst (λ (d : Bool). Among p (points_by d n b)) (has_task b t) m)
+    | inr r ↦ routine_is_point b p r (subst (λ (d : Bool). Among p (points_by d n b)) (has_none b r) m)
   ]
 
-  all_are_points : ArePoints app all_points
-  all_are_points = record {
-    each = λ p h. among_contained all_points p (point_among p h);
-    no_other = λ p c. among_point p (contained_among all_points p c);
-    once = all_once;
+  among_point : (p : Point) → Among p (points_in_order app) → IsPoint app p
+  unfolding points_in_order
+  among_point p (inl e) = subst (IsPoint app) (sym e) tt
+  among_point p (inr (inl e)) = subst (IsPoint app) (sym e) tt
+  among_point p (inr (inr m)) =
+      let h = flat_map_among (block_points app) p (range_with_len 0 (length app.blocks)) m in
+      block_is_point h.0 p (omega (arith, (range_among 0 (length app.blocks) h.0 h.1).1)) h.2
+
+  once : IsDistinct same_number (points_in_order app)
+  once = each_once 0 (2 + 257 * (0 + length app.blocks)) (points_in_order app) all_ascend
+
+  pub are_points : ArePoints app (points_in_order app)
+  are_points = record {
+    each = λ p h. among_contained (points_in_order app) p (point_among p h);
+    no_other = λ p c. among_point p (contained_among (points_in_order app) p c);
+    once = once;
   }
 
   -- no two points have one number
   pub one_number : (p q : Point) → IsPoint app p → IsPoint app q → point_number p ≡ point_number q → p ≡ q
-  one_number p q h k e = distinct_once same_number all_points p q all_once (point_among p h) (point_among q k) (same_if p q e) (same_if q p (sym e))
+  one_number p q h k e = distinct_once same_number (points_in_order app) p q once (point_among p h) (point_among q k) (same_if p q e) (same_if q p (sym e))
 
   -- ---- how many
 
-  routine_size : (b : ℕ) → length (routine_points n b) ≡ n + 1
-  unfolding routine_points over_tasks over_task
-  routine_size b =
-      let overs : length (over_tasks n b) ≡ length (range_with_len 0 n) * 1 = length_flat_map (over_task b) 1 (range_with_len 0 n) (λ t m. refl) in
-      omega (arith, overs, length-range_with_len 0 n)
+  abbrev is_other : ℕ → Bool
+  is_other b = not (is_task_block app b)
 
-  tasks_size : length of_tasks ≡ task_blocks app
-  unfolding of_tasks task_point
+  more : (m k : ℕ) → k ≡ m + 1 → k * (n + 1) ≡ m * (n + 1) + (n + 1)
+  more m k e = ap (λ (l : ℕ). l * (n + 1)) e ∙ omega (arith, add-mul m 1 (n + 1))
+
+  size : (xs : List ℕ) → length (flat_map (block_points app) xs) ≡ length (filter (is_task_block app) xs) + length (filter is_other xs) * (n + 1)
+  size [] = omega (arith, zero-mul (n + 1))
+  size (b ∷ xs) =
+      let f = filter (is_task_block app) xs in
+      let g = filter is_other xs in
+      length-append (block_points app b) (flat_map (block_points app) xs)
+      ∙ (elim (is_task_block app b) as (λ c. length (points_by c n b) + length (flat_map (block_points app) xs) ≡ length (cond c (b ∷ f) f) + length (cond (not c) (b ∷ g) g) * (n + 1)) [
+        | true ↦ omega (arith, size xs)
+        | false ↦ omega (arith, size xs, more (length g) (length (b ∷ g)) (omega arith), length-map (range_with_len 0 n) (λ u. point.Routine (block_no b) (Some (task_no u))), length-range_with_len 0 n)
+      ])
+
+  tasks_size : length (filter (is_task_block app) (range_with_len 0 (length app.blocks))) ≡ task_blocks app
   tasks_size =
-      let each : length of_tasks ≡ length (blocks_of_tasks app) * 1 = length_flat_map task_point 1 (blocks_of_tasks app) (λ b m. refl) in
-      let all : length (blocks_of_tasks app) ≡ task_blocks app = length_owned of_task app.tasks in
-      omega (arith, each, all)
+      let xs = filter (is_task_block app) (range_with_len 0 (length app.blocks)) in
+      same_length xs (blocks_of_tasks app)
+      (distinct_passing (is_task_block app) (range_with_len 0 (length app.blocks)) (distinct_range 0 (length app.blocks)))
+      (distinct_left nat_eq (blocks_of_tasks app) (blocks_of_routines app) (blocks_apart app))
+      (λ b m. task_has b (passing_among (is_task_block app) (length app.blocks) b m).0)
+      (λ b m. among_passing (is_task_block app) (length app.blocks) b (task_known b m) (has_task b m))
+      ∙ length_owned of_task app.tasks
 
-  routines_size : length of_routines ≡ routine_blocks app * (n + 1)
-  unfolding of_routines
+  other_passes : (b : ℕ) → is_task_block app b ≡ false → is_other b ≡ true
+  other_passes b e = ap not e
+
+  other_has : (b : ℕ) → b < length app.blocks → is_other b ≡ true → Among b (blocks_of_routines app)
+  other_has b known passes = elim (some_owner b known) [
+    | inl t ↦ (let e : is_task_block app b ≡ true = has_task b t in absurd (cc))
+    | inr r ↦ r
+  ]
+
+  routines_size : length (filter is_other (range_with_len 0 (length app.blocks))) ≡ routine_blocks app
   routines_size =
       let isrs = blocks_of (map of_isr app.isrs) in
       let counters = blocks_of (map of_counter app.counters) in
-      let all : length (blocks_of_routines app) ≡ routine_blocks app
-      = length-append isrs counters ∙ ap (λ (m : ℕ). m + length counters) (length_owned of_isr app.isrs) ∙ ap (λ (m : ℕ). sum_by (λ (x : Isr). x.count) app.isrs + m) (length_owned of_counter app.counters) in
-      length_flat_map (routine_points n) (n + 1) (blocks_of_routines app) (λ b m. routine_size b) ∙ ap (λ (m : ℕ). m * (n + 1)) all
+      same_length (filter is_other (range_with_len 0 (length app.blocks))) (blocks_of_routines app)
+      (distinct_passing is_other (range_with_len 0 (length app.blocks)) (distinct_range 0 (length app.blocks)))
+      (distinct_right nat_eq (blocks_of_tasks app) (blocks_of_routines app) (blocks_apart app))
+      (λ b m. let h = passing_among is_other (length app.blocks) b m in other_has b h.1 h.0)
+      (λ b m. among_passing is_other (length app.blocks) b (other_known b m) (other_passes b (has_none b m)))
+      ∙ length-append isrs counters ∙ ap (λ (m : ℕ). m + length counters) (length_owned of_isr app.isrs) ∙ ap (λ (m : ℕ). sum_by (λ (x : Isr). x.count) app.isrs + m) (length_owned of_counter app.counters)
 
-  total : (l a b t r : ℕ) → l ≡ a + b → a ≡ t → b ≡ r → l + 2 ≡ 2 + t + r
-  total l a b t r e f g = omega (arith, e, f, g)
-
-  all_size : length all_points ≡ points app
-  unfolding all_points of_blocks
-  all_size =
-      let two : length all_points ≡ length of_blocks + 2 = omega arith in
-      two ∙ total (length of_blocks) (length of_tasks) (length of_routines) (task_blocks app) (routine_blocks app * (n + 1)) (length-append of_tasks of_routines) tasks_size routines_size
-
-  pub counted : (ps : List Point) × (ArePoints app ps × (length ps ≡ points app))
-  counted = (all_points, (all_are_points, all_size))
+  pub points_counted : length (points_in_order app) ≡ points app
+  unfolding points_in_order
+  points_counted =
+      let blocks = flat_map (block_points app) (range_with_len 0 (length app.blocks)) in
+      let two : length (point.Halted ∷ point.Idle ∷ blocks) ≡ length blocks + 2 = omega arith in
+      let others = ap (λ (m : ℕ). m * (n + 1)) routines_size in
+      omega (arith, two, size (range_with_len 0 (length app.blocks)), tasks_size, others)
 
 -- ---- their order
 
@@ -258,11 +286,17 @@ after_idle point.Idle other further = absurd (further refl)
 after_idle (point.Task b) other further = omega arith
 after_idle (point.Routine b over) other further = omega arith
 
+-- how far behind the first number of its block a point is
+record IsBehind (b : ℕ) (p : Point) : Type 0 where
+  offset : ℕ
+  few : offset ≤ 256
+  is : point_number p ≡ 2 + 257 * b + offset
+
 over_few : (app : App) (over : Option TaskNo) → IfSome over (λ (t : TaskNo). t.0 < length app.tasks) → over_number over ≤ 256
 over_few app None h = omega arith
 over_few app (Some t) h = let most : length app.tasks ≤ 16 = app.valid.few_tasks in omega (arith, h, most)
 
-at_block : (app : App) (p : Point) (b : BlockNo) → IsPoint app p → StandsAt p b → IsBehind 256 b.0 p
+at_block : (app : App) (p : Point) (b : BlockNo) → IsPoint app p → StandsAt p b → IsBehind b.0 p
 at_block app point.Halted b h at = absurd at
 at_block app point.Idle b h at = absurd at
 at_block app (point.Task c) b h at =

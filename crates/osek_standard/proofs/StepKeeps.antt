@@ -9,6 +9,7 @@ use Rattle.osek_values.specs.declared.status.Ask.{Ask}
 use Rattle.osek_values.specs.declared.status.Ask.TheVariants as ask
 use Rattle.osek_values.specs.declared.event.{Event.{Event}, Event.TheVariants.{Run, Irq, Tick}}
 use Rattle.osek_values.specs.declared.numbers.{TaskNo.{TaskNo}, SourceNo.{SourceNo}, ModeNo.{ModeNo}}
+use Rattle.osek_values.specs.Bits.{has_bit}
 use Rattle.osek_standard.specs.declared.app.App.{App}
 use Rattle.osek_standard.specs.declared.state.{State.{State}, Processor.{Processor}, Caller.{Caller}, Caller.TheVariants.{Nobody, Task, Routine}}
 use Rattle.osek_standard.specs.declared.state.Source.TheVariants as source
@@ -22,7 +23,7 @@ use Rattle.osek_standard.specs.Priority.{best, current_priority}
 use Rattle.osek_standard.specs.Effects.{Effect, effect}
 use Rattle.osek_standard.specs.Dispatch.{Stepped, if_any, if_above, preempted_by, outcome_by, outcome_of, concluded, dispatched, settled, instruction}
 use Rattle.osek_standard.specs.Arrivals.{arrival}
-use Rattle.osek_standard.specs.Kernel.{step, run_by, entered_or, start, initial, has_bit, started_task, started_alarm}
+use Rattle.osek_standard.specs.Kernel.{step, run_by, entered_or, start, initial, started_task, started_alarm}
 use Rattle.osek_standard.specs.Well.{Well, AreOut, HasProcessor, IsAlarmState, IsTaskState}
 use Rattle.osek_standard.proofs.PriorityLaws.{best_is_live}
 use Rattle.osek_standard.proofs.Keeps.{activated_is_right, with_processor_keeps}

@@ -1,13 +1,15 @@
 -- One step of the kernel, its start in an application mode, and its runs (ISO 17356-3).
-use Rattle.std.specs.Prelude.{ℕ, ◌+◌, ◌%◌, ◌/◌, ◌^◌, Bool, false, true, ◌==◌, List, [], ◌∷◌, length, map, replicate, if◌then◌else◌, Some, None}
+use Rattle.std.specs.Prelude.{ℕ, ◌+◌, Bool, false, true, List, [], ◌∷◌, length, map, replicate, if◌then◌else◌, Some, None}
 use Rattle.std.specs.declared.option.Option.{Option}
+use Rattle.osek_values.specs.Bits.{has_bit}
 use Rattle.osek_values.specs.Hooks.{startup}
 use Rattle.osek_values.specs.Numbers.{mask}
 use Rattle.osek_values.specs.declared.status.Ask.TheVariants as ask
 use Rattle.osek_values.specs.declared.event.{Event.{Event}, Event.TheVariants.{Run, Irq, Tick}}
 use Rattle.osek_values.specs.declared.numbers.{ModeNo.{ModeNo}, SourceNo.{SourceNo}}
+use Rattle.oil_system.specs.declared.objects.Alarm.{Alarm}
 use Rattle.osek_standard.specs.declared.app.App.{App}
-use Rattle.osek_standard.specs.declared.objects.{Task.{Task}, Alarm.{Alarm}}
+use Rattle.osek_standard.specs.declared.objects.Task.{Task}
 use Rattle.osek_standard.specs.declared.task_state.{TaskState.{TaskState}, Activity.TheVariants.{Live}}
 use Rattle.osek_standard.specs.declared.state.{State.{State}, AlarmState.{AlarmState}, Processor.{Processor}}
 use Rattle.osek_standard.specs.declared.state.AlarmState.TheVariants as alarm
@@ -45,10 +47,6 @@ module _ {R : Type 0} (plain : Stepped → R) (app : App) (s : State) where
 -- One step of the kernel.
 abbrev pub step : App → State → Event → Stepped
 step app s e = step_with (λ n. n) app s (instruction app s) e
-
--- bit k of a number
-abbrev pub has_bit : ℕ → ℕ → Bool
-has_bit n k = ((n / 2 ^ k) % 2) == 1
 
 abbrev pub started_task : ℕ → Task → TaskState
 started_task mode x =

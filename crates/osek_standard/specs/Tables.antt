@@ -1,7 +1,8 @@
 -- The tables of an application, together.
 use Rattle.std.specs.Prelude.{ℕ, List}
 use Rattle.osek_values.specs.declared.hooks.HookSet.{HookSet}
-use Rattle.osek_standard.specs.declared.objects.{Task.{Task}, Isr.{Isr}, Counter.{Counter}, Alarm.{Alarm}, Resource.{Resource}}
+use Rattle.oil_system.specs.declared.objects.{Alarm.{Alarm}, Resource.{Resource}}
+use Rattle.osek_standard.specs.declared.objects.{Task.{Task}, Isr.{Isr}, Counter.{Counter}}
 use Rattle.osek_standard.specs.declared.block.Block.{Block}
 
 pub record Tables : Type 0 where

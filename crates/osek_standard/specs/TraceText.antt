@@ -1,7 +1,7 @@
 -- Trace text: a line for the start, and one for each event (this project's profile).
-use Rattle.std.specs.Prelude.{ℕ, ◌+◌, ◌-◌, Bool, false, not, ◌==◌, bit_and, List, [], ◌∷◌, ◌++◌, length, slice_index_or, if◌then◌else◌, Some, None, codes}
+use Rattle.std.specs.Prelude.{ℕ, ◌+◌, ◌-◌, Bool, not, ◌==◌, bit_and, List, [], ◌∷◌, ◌++◌, length, slice_index_or, if◌then◌else◌, Some, None, codes}
 use Rattle.std.specs.List.{flat_map, enumerate_from}
-use Rattle.std.specs.Fmt.{decimal, digits}
+use Rattle.std.specs.Fmt.{decimal}
 use Rattle.std.specs.declared.option.Option.{Option}
 use Rattle.osek_values.specs.declared.status.{Status.{Status}, Letter.{Letter}, Letter.TheVariants.{S, Y, R, W}}
 use Rattle.osek_values.specs.declared.status.Status.TheVariants as status
@@ -11,6 +11,7 @@ use Rattle.osek_values.specs.declared.event.Event.{Event}
 use Rattle.osek_values.specs.declared.numbers.{ModeNo.{ModeNo}, ResNo.{ResNo}}
 use Rattle.osek_values.specs.declared.hooks.HookSet.{HookSet}
 use Rattle.osek_values.specs.Hooks.{startup, shutdown, error, pre_task, post_task}
+use Rattle.osek_values.specs.Numbers.{hexadecimal}
 use Rattle.osek_standard.specs.declared.app.App.{App}
 use Rattle.osek_standard.specs.declared.objects.Task.{Task}
 use Rattle.osek_standard.specs.declared.state.{State.{State}, Processor.{Processor}}
@@ -38,10 +39,6 @@ letter S = codes "S"
 letter Y = codes "Y"
 letter R = codes "R"
 letter W = codes "W"
-
--- lower-case hexadecimal without leading zeros
-abbrev pub hexadecimal : ℕ → List ℕ
-hexadecimal n = digits 16 false n
 
 abbrev pub task_name : App → ℕ → List ℕ
 task_name app t = (the_task app t).name

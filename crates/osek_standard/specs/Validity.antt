@@ -1,15 +1,16 @@
 -- What each application keeps: the conditions on its tables.
 use Rattle.std.specs.Prelude.{◌≡◌, ⊤, ℕ, ◌+◌, ◌-◌, ◌^◌, ◌<◌, ◌≤◌, Bool, true, false, not, ◌==◌, nat_lt, nat_le, ◌||◌, ◌&&◌, IsTrue, [], ◌++◌, List, length, map, slice_index_or, All, if◌then◌else◌}
 use Rattle.std.specs.List.{IsDistinct, IsDistinct-prop, list_any, filter, enumerate_from}
-use Rattle.std.specs.Str.{bytes_eq}
 use Rattle.std.specs.Coded.{×_prop, Unit-prop, le_prop}
 use Rattle.std.proofs.Props.{props}
 use Rattle.osek_values.specs.declared.limits.TheConstants.{MAX_TASKS, MAX_ISRS, MAX_COUNTERS, MAX_ALARMS, MAX_RESOURCES, MAX_MODES, MAX_BLOCKS}
-use Rattle.osek_values.specs.Names.{is_name}
+use Rattle.osek_values.specs.Names.{AreNames}
 use Rattle.osek_values.specs.Numbers.{task_no, counter_no, block_no, mask}
-use Rattle.osek_standard.specs.declared.objects.{Task.{Task}, Isr.{Isr}, Counter.{Counter}, Alarm.{Alarm}, Resource.{Resource}, Action.{Action}}
-use Rattle.osek_standard.specs.declared.objects.Action.TheVariants as action
-use Rattle.osek_standard.specs.declared.objects.Schedule.TheVariants as schedule
+use Rattle.oil_system.specs.Objects.{greatest_ceiling}
+use Rattle.oil_system.specs.declared.objects.{Alarm.{Alarm}, Resource.{Resource}, Action.{Action}}
+use Rattle.oil_system.specs.declared.objects.Action.TheVariants as action
+use Rattle.oil_system.specs.declared.objects.Schedule.TheVariants as schedule
+use Rattle.osek_standard.specs.declared.objects.{Task.{Task}, Isr.{Isr}, Counter.{Counter}}
 use Rattle.osek_standard.specs.Tables.{Tables}
 use Rattle.osek_standard.specs.declared.block.{Block.{Block}, Kind.{Kind}}
 use Rattle.osek_standard.specs.declared.block.Kind.TheVariants as kind
@@ -39,18 +40,9 @@ no_block = record { kind = kind.Loop; locked = false; line = 0; next = block_no 
 abbrev pub IsAmong : ℕ → ℕ → ℕ → Type 0
 IsAmong b first count = (first ≤ b) × (b < first + count)
 
--- above the greatest base priority, which is twice a number of 16 bits
-abbrev pub greatest_ceiling : ℕ
-greatest_ceiling = 131071
-
 -- a cycle is 0, for a single alarm, or from MINCYCLE to MAXALLOWEDVALUE
 abbrev pub is_cycle_of : Counter → ℕ → Bool
 is_cycle_of c cycle = (cycle == 0) || (nat_le c.min_cycle cycle && nat_le cycle c.max)
-
--- each is a name, and no two are the same
-pub record AreNames (names : List (List ℕ)) : Type 0 where
-  pub each : All (λ (n : List ℕ). IsTrue (is_name n)) names
-  pub distinct : IsDistinct bytes_eq names
 
 -- the blocks of the owners, each as its first and how many
 abbrev pub owners : List Task → List Isr → List Counter → List (ℕ × ℕ)

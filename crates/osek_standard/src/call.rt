@@ -1,16 +1,5 @@
 //! The services of ISO 17356-3 that a block may call.
-use osek_values::{AlarmNo, Mask, ResNo, TaskNo};
-
-/// One of the six interrupt lock calls (ISO 17356-3, interrupt handling).
-#[derive(Clone, Copy, PartialEq, Eq, Debug)]
-pub enum Lock {
-    SuspendAll,
-    ResumeAll,
-    SuspendOs,
-    ResumeOs,
-    DisableAll,
-    EnableAll,
-}
+use osek_values::{AlarmNo, Lock, Mask, ResNo, TaskNo};
 
 /// The services without operands.
 #[derive(Clone, Copy, PartialEq, Eq, Debug)]

@@ -1,6 +1,8 @@
 //! Laws of the definitions, each on a function that does nothing.
-ghost use Rattle.std.specs.Prelude.{◌≡◌, ◌≢◌, ◌⊎◌, ℕ, ◌<◌, Bool, Some, None, List, true, false, length};
+ghost use Rattle.std.specs.Prelude.{◌≡◌, ◌≢◌, ◌⊎◌, ℕ, ◌<◌, Bool, Some, None, true, false, length, map};
 ghost use Rattle.std.specs.List.{position};
+ghost use Rattle.std.specs.List.Sorted.{IsStrictlySortedBy};
+ghost use Rattle.std.specs.Ordering.{nat_cmp};
 ghost use Rattle.osek_values.specs.declared.event.Event.{Event};
 ghost use Rattle.osek_values.specs.declared.numbers.BlockNo.{BlockNo};
 ghost use Rattle.osek_values.specs.declared.numbers.ModeNo.{ModeNo};
@@ -12,7 +14,7 @@ ghost use Rattle.osek_standard.specs.declared.state.State.{State};
 ghost use Rattle.osek_standard.specs.declared.point.Point.{Point};
 ghost use Rattle.osek_standard.specs.declared.point.Point.TheVariants as point;
 ghost use Rattle.osek_standard.specs.Counts.{points};
-ghost use Rattle.osek_standard.specs.Points.{ArePoints, IsPoint, StandsAt, point_number};
+ghost use Rattle.osek_standard.specs.Points.{ArePoints, IsPoint, StandsAt, point_number, points_in_order};
 ghost use Rattle.osek_standard.specs.TaskStates.{is_live};
 ghost use Rattle.osek_standard.specs.States.{task_state, is_latched};
 ghost use Rattle.osek_standard.specs.Priority.{best, first_of_all, IsBest};
@@ -61,7 +63,10 @@ pub fn numbers_order_the_points()
     ensures by_task { (b : BlockNo) (t u : TaskNo) → t.0 < u.0 → point_number (point.Routine b (Some t)) < point_number (point.Routine b (Some u)) }
 {}
 
-/// The count of points is that of the points: there are so many, each once, and no other.
+/// The points of an application in their order are its points, each once and no other; they are so many as the count says,
+/// and their numbers ascend.
 pub fn points_are_counted()
-    ensures { (app : App) → (ps : List Point) × (ArePoints app ps × (length ps ≡ points app)) }
+    ensures points { (app : App) → ArePoints app (points_in_order app) }
+    ensures count { (app : App) → length (points_in_order app) ≡ points app }
+    ensures order { (app : App) → IsStrictlySortedBy nat_cmp (map point_number (points_in_order app)) }
 {}

@@ -2,6 +2,7 @@
 //! (in `specs/`), in the order and the words of ISO 17356-3.
 #![tactic(auto)]
 
+mod activation;
 mod app;
 mod block;
 mod call;
@@ -12,10 +13,11 @@ mod point;
 mod state;
 mod task_state;
 
+pub use activation::activate;
 pub use app::App;
 pub use block::{Block, Kind};
 pub use call::{
-    AlarmService, ArmService, Call, Lock, MaskService, PlainService, ResourceService, TaskService,
+    AlarmService, ArmService, Call, MaskService, PlainService, ResourceService, TaskService,
 };
 pub use objects::{Action, Alarm, Counter, Isr, Resource, Schedule, Task};
 pub use point::Point;

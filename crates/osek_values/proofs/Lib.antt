@@ -1,3 +1,4 @@
+pub mod BitCounts
 pub mod LeastFaults
 pub mod OneAnswer
 pub mod Refusals

@@ -1,4 +1,5 @@
 pub mod Answers
+pub mod Bits
 pub mod Hooks
 pub mod LeastFaults
 pub mod Lines

@@ -1,10 +1,11 @@
-//! Small values that every crate speaks of: numbers of objects, names, event masks, hooks, statuses, notes.
+//! Small values that every crate speaks of: numbers of objects, names, event masks, hooks, locks, statuses, notes.
 #![tactic(auto)]
 
 mod event;
 mod held;
 mod hooks;
 pub mod limits;
+mod lock;
 mod mask;
 mod memory;
 mod name;
@@ -19,6 +20,7 @@ mod steps;
 pub use event::Event;
 pub use held::Held;
 pub use hooks::HookSet;
+pub use lock::Lock;
 pub use mask::Mask;
 pub use memory::Memory;
 pub use name::{Name, copied, is_name};

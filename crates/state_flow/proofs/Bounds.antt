@@ -14,9 +14,9 @@ use Rattle.std.proofs.lemmas.Map.Made.{length-le_from_is_member}
 use Rattle.std.proofs.lemmas.Map.Views.{Contains-from_any, list_any-from_Contains, tells_apart}
 use Rattle.osek_standard.specs.declared.app.App.{App}
 use Rattle.osek_standard.specs.Counts.{points, height}
-use Rattle.osek_standard.specs.Points.{point_number, IsPoint}
+use Rattle.osek_standard.specs.Points.{point_number, points_in_order, IsPoint}
 use Rattle.osek_standard.proofs.Members.{among_map, map_among, contained_among, among_contained}
-use Rattle.osek_standard.proofs.PointLaws.{counted}
+use Rattle.osek_standard.proofs.PointLaws.{are_points, points_counted}
 use Rattle.abstract_state.specs.declared.table.{Entry.{Entry}, TableRow.{TableRow}, Table.{Table}}
 use Rattle.abstract_state.specs.Domains.{HasMasks}
 use Rattle.abstract_state.specs.Tables.{entry_values, value_count}
@@ -39,20 +39,20 @@ number_of row = point_number row.point
 
 module _ (app : App) (table : Table) (written : IsWritten app table) where
   -- the number of a row is that of a point
-  among_points : (n : ℕ) → IsTrue (list_any (eq_by_cmp nat_cmp n) (map number_of table.rows)) → IsTrue (list_any (eq_by_cmp nat_cmp n) (map point_number (counted app).0))
+  among_points : (n : ℕ) → IsTrue (list_any (eq_by_cmp nat_cmp n) (map number_of table.rows)) → IsTrue (list_any (eq_by_cmp nat_cmp n) (map point_number (points_in_order app)))
   among_points n h =
       let row = map_among number_of n table.rows (contained_among (map number_of table.rows) n (Contains-from_any (tells_apart exact_unsigned) n (map number_of table.rows) h)) in
       let at = among_contained table.rows row.0 row.1 in
       let point = ap (λ (x : TableRow). x.point) at.2 in
       let known = (written.rows at.0 row.0 at.1).point in
-      let listed = (counted app).1.0.each row.0.point (subst (λ (x : TableRow). IsPoint app x.point) at.2 known) in
-      list_any-from_Contains same_laws n (map point_number (counted app).0)
-      (subst (Contains (map point_number (counted app).0)) (sym row.2) (among_contained (map point_number (counted app).0) (number_of row.0) (among_map point_number row.0.point (counted app).0 (contained_among (counted app).0 row.0.point listed))))
+      let listed = (are_points app).each row.0.point (subst (λ (x : TableRow). IsPoint app x.point) at.2 known) in
+      list_any-from_Contains same_laws n (map point_number (points_in_order app))
+      (subst (Contains (map point_number (points_in_order app))) (sym row.2) (among_contained (map point_number (points_in_order app)) (number_of row.0) (among_map point_number row.0.point (points_in_order app) (contained_among (points_in_order app) row.0.point listed))))
 
   pub rows_few : length table.rows ≤ points app
   rows_few =
-      let most = length-le_from_is_member same_laws (map number_of table.rows) (map point_number (counted app).0) (IsDistinct-from_sorted nat_cmp (map number_of table.rows) written.ascending) among_points in
-      omega (arith, most, length-map table.rows number_of, length-map (counted app).0 point_number, (counted app).1.1)
+      let most = length-le_from_is_member same_laws (map number_of table.rows) (map point_number (points_in_order app)) (IsDistinct-from_sorted nat_cmp (map number_of table.rows) written.ascending) among_points in
+      omega (arith, most, length-map table.rows number_of, length-map (points_in_order app) point_number, points_counted app)
 
   pub entry_few : HasMasks app → (i : ℕ) (d : TableRow) → i < length table.rows → entry_values (get_or table.rows i d).entry ≤ height app
   entry_few masks i d lt =

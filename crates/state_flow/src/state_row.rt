@@ -1,7 +1,7 @@
 //! The row of one state.
 ghost use Rattle.std.specs.Prelude.{◌≡◌, ◌<◌, [], ◌∷◌, length, map, IfOk};
+ghost use Rattle.osek_values.specs.Bits.{has_bit as has_bit_of};
 ghost use Rattle.osek_standard.specs.Points.{point_of as point_of_state};
-ghost use Rattle.osek_standard.specs.Kernel.{has_bit as has_bit_of};
 ghost use Rattle.osek_standard.specs.Well.{Well};
 ghost use Rattle.abstract_state.specs.Components.{IsComponent, value_in as value_of_activity, is_armed as is_armed_state, part_of};
 ghost use Rattle.abstract_state.specs.Domains.{domain_of as domain_of_component};
@@ -9,11 +9,11 @@ ghost use Rattle.state_flow.specs.Rows.{row_at, IsProperRow};
 ghost use Rattle.state_flow.specs.Starts.{HasPart, single as single_set, entry_of as entry_of_state};
 
 use abstract_state::{
-    Component, Domain, Entry, LiveVal, PartValue, Point, TableRow, Val, ValueSet, components,
+    Component, Domain, Entry, LiveVal, PartValue, TableRow, Val, ValueSet, components,
     masks_are_few,
 };
-use generic_kernel::here;
-use osek_standard::{Activity, AlarmState, App, Processor, State};
+use generic_kernel::point_of;
+use osek_standard::{Activity, AlarmState, App, State};
 use osek_values::{Memory, Seq};
 use std::alloc::Global;
 
@@ -28,21 +28,6 @@ pub fn row_of(alloc: Global, app: &App, state: &State) -> Result<TableRow, Memor
         point: point_of(app, state),
         entry: entry_of(alloc, app, state)?,
     })
-}
-
-fn point_of(app: &App, state: &State) -> Point
-    requires { Well app.now state.now }
-    ensures { result ≡ point_of_state state.now }
-{
-    match state.processor {
-        Processor::Halted => Point::Halted,
-        Processor::Idle => Point::Idle,
-        Processor::Running(_) => Point::Task(here(app, state).block),
-        Processor::Interrupted { over, .. } => Point::Routine {
-            block: here(app, state).block,
-            over,
-        },
-    }
 }
 
 /// The entry that has one state alone.

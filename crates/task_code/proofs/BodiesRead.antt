@@ -4,7 +4,7 @@ use Rattle.std.specs.Prelude.{All}
 use Rattle.std.proofs.lemmas.List.{append-nil}
 use Rattle.std.proofs.lemmas.List.Elements.{All-push}
 use Rattle.oil_lexer.specs.declared.token.{Mark.TheVariants.{OpenBrace, OpenParen, CloseParen}, Token.{Token}}
-use Rattle.oil_grammar.specs.Tokens.{name, mark}
+use Rattle.oil_lexer.specs.Tokens.{name, mark}
 use Rattle.task_code.specs.declared.call.Reference.{Reference}
 use Rattle.task_code.specs.declared.tree.Body.{Body}
 use Rattle.task_code.specs.Statements.{Statements}

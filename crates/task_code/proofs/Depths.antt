@@ -5,8 +5,8 @@ use Rattle.std.proofs.str.Laws.{order}
 use Rattle.std.specs.Prelude.{⊤, All}
 use Rattle.osek_values.specs.declared.limits.TheConstants.{MAX_CODE_DEPTH}
 use Rattle.oil_lexer.specs.declared.token.{Token.{Token}, Mark.TheVariants.{CloseParen, OpenBrace}}
-use Rattle.oil_grammar.specs.Depth.{deeper, depth_from}
-use Rattle.oil_grammar.specs.Tokens.{is_open, mark}
+use Rattle.oil_lexer.specs.Depth.{deeper, depth_from}
+use Rattle.oil_lexer.specs.Tokens.{is_open, mark}
 use Rattle.task_code.specs.declared.call.{Call.{Call}, Reference.{Reference}}
 use Rattle.task_code.specs.declared.tree.{Body.{Body}, Code.{Code}, Condition.{Condition}}
 use Rattle.task_code.specs.declared.words.Service.{Service}

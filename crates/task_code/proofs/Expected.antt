@@ -2,7 +2,7 @@
 use Rattle.std.proofs.Common.{◌≡◌, List, [], ◌∷◌, ◌++◌, refl, ap, ◌∙◌}
 use Rattle.std.specs.Prelude.{Option, Some, option_and_then}
 use Rattle.oil_lexer.specs.declared.token.{Mark.TheVariants.{OpenBrace, OpenParen, CloseParen, Semicolon, Question}, Token.{Token}}
-use Rattle.oil_grammar.specs.Tokens.{name, number, mark}
+use Rattle.oil_lexer.specs.Tokens.{name, number, mark}
 use Rattle.task_code.specs.declared.call.{Reference.{Reference}, Call.{Call}}
 use Rattle.task_code.specs.declared.tree.{Body.{Body}, Condition.{Condition}}
 use Rattle.task_code.specs.declared.words.{Service.{Service}, StatementWord.{StatementWord}}

@@ -4,8 +4,8 @@ use Rattle.std.specs.Prelude.{Some, Result, Ok, Err}
 use Rattle.osek_values.specs.declared.refusal.{Rule.{Rule}, Rule.TheVariants.{Lex, Syntax, Oil, Code as of_code}, SyntaxRule.{SyntaxRule}, CodeRule.TheVariants.{C1, C2, C3, C4, C6, C7, C8, C9}}
 use Rattle.osek_values.specs.declared.limits.TheConstants.{MAX_CODE_DEPTH}
 use Rattle.oil_lexer.specs.declared.token.{Mark.TheVariants.{Semicolon}, Token.{Token}}
-use Rattle.oil_grammar.specs.Tokens.{name, mark}
-use Rattle.oil_grammar.proofs.OneFault.{same_fault, no_fault}
+use Rattle.oil_lexer.specs.Tokens.{name, mark}
+use Rattle.oil_lexer.proofs.OneFault.{same_fault, no_fault}
 use Rattle.task_code.specs.declared.call.{Reference.{Reference}, Call.{Call}}
 use Rattle.task_code.specs.declared.call.Call.TheVariants as call
 use Rattle.task_code.specs.declared.tree.{Body.{Body}, Code.{Code}, Condition.{Condition}}

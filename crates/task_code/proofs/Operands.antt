@@ -1,7 +1,7 @@
 -- A call that is read operand by operand.
 use Rattle.std.proofs.Common.{◌≡◌, ℕ, List, [], ◌∷◌, ◌++◌, sym, ap, ◌∙◌, subst, append_assoc}
 use Rattle.oil_lexer.specs.declared.token.{TokenKind.TheVariants.{Mark}, Mark.{Mark as AMark}, Mark.TheVariants.{CloseParen, Bar}, Token.{Token}}
-use Rattle.oil_grammar.specs.Tokens.{name, mark}
+use Rattle.oil_lexer.specs.Tokens.{name, mark}
 use Rattle.task_code.specs.declared.call.{Reference.{Reference}, Call.{Call}}
 use Rattle.task_code.specs.declared.words.Service.{Service}
 use Rattle.task_code.specs.Grammar.{IsMask, last_event, more_events, IsCall}

@@ -3,10 +3,10 @@ use Rattle.std.proofs.Common.{◌≡◌, ℕ, ◌+◌, ◌<◌, true, List, ◌�
 use Rattle.std.specs.Prelude.{Option}
 use Rattle.osek_values.specs.declared.limits.TheConstants.{MAX_CODE_DEPTH}
 use Rattle.oil_lexer.specs.declared.token.{Mark.TheVariants.{OpenBrace, CloseParen}, Token.{Token}}
-use Rattle.oil_grammar.specs.declared.fault.{Stop.{Stop}}
-use Rattle.oil_grammar.specs.Tokens.{name, mark}
-use Rattle.oil_grammar.specs.Scan as scans
-use Rattle.oil_grammar.proofs.Braces.{shallow}
+use Rattle.oil_lexer.specs.declared.fault.{Stop.{Stop}}
+use Rattle.oil_lexer.specs.Tokens.{name, mark}
+use Rattle.oil_lexer.specs.Scan as scans
+use Rattle.oil_lexer.proofs.Braces.{shallow}
 use Rattle.task_code.specs.declared.call.{Reference.{Reference}, Call.{Call}}
 use Rattle.task_code.specs.declared.tree.{Condition.{Condition}}
 use Rattle.task_code.specs.declared.words.{Service.{Service}, StatementWord.{StatementWord}}

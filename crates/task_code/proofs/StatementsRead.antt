@@ -2,9 +2,9 @@
 use Rattle.std.proofs.Common.{◌≡◌, ℕ, ◌+◌, ◌-◌, ◌<◌, ◌≤◌, true, false, List, [], ◌∷◌, ◌++◌, length, refl, sym, ap, ◌∙◌, subst, arith}
 use Rattle.std.specs.Prelude.{Some, None, max}
 use Rattle.oil_lexer.specs.declared.token.{TokenKind.{TokenKind}, TokenKind.TheVariants.{Name, Number, Text, Mark}, Mark.{Mark as AMark}, Mark.TheVariants.{OpenBrace, CloseBrace, OpenParen, CloseParen, Semicolon, Question}, Token.{Token}}
-use Rattle.oil_grammar.specs.declared.fault.{Stop.{Stop}, Stop.TheVariants.{NotAllowed}}
-use Rattle.oil_grammar.specs.Tokens.{name, number, mark, is_open}
-use Rattle.oil_grammar.proofs.Braces.{open_kind, front_is}
+use Rattle.oil_lexer.specs.declared.fault.{Stop.{Stop}, Stop.TheVariants.{NotAllowed}}
+use Rattle.oil_lexer.specs.Tokens.{name, number, mark, is_open}
+use Rattle.oil_lexer.proofs.Braces.{open_kind, front_is}
 use Rattle.task_code.specs.declared.call.Call.{Call as ACall}
 use Rattle.task_code.specs.declared.tree.{Condition.{Condition}, Statement.{Statement}, Statement.TheVariants.{Work, If, While, Call}}
 use Rattle.task_code.specs.declared.words.{Service.{Service}, StatementWord.{StatementWord}}

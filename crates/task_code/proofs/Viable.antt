@@ -5,10 +5,10 @@ use Rattle.std.specs.Prelude.{Result, Ok, Err, Option, Some, None, option_and_th
 use Rattle.osek_values.specs.declared.status.Status.{Status}
 use Rattle.osek_values.specs.declared.limits.TheConstants.{MAX_CODE_DEPTH}
 use Rattle.oil_lexer.specs.declared.token.{TokenKind.{TokenKind}, TokenKind.TheVariants.{Name, Number, Text, Mark}, Mark.TheVariants.{OpenBrace, CloseBrace, OpenParen, CloseParen, Comma, Semicolon, Question, Bar}, Token.{Token}}
-use Rattle.oil_grammar.specs.declared.fault.Stop.{Stop}
-use Rattle.oil_grammar.specs.Tokens.{name, number, mark}
-use Rattle.oil_grammar.specs.Scan.{fault_of}
-use Rattle.oil_grammar.proofs.FirstFault as first
+use Rattle.oil_lexer.specs.declared.fault.Stop.{Stop}
+use Rattle.oil_lexer.specs.Tokens.{name, number, mark}
+use Rattle.oil_lexer.specs.Scan.{fault_of}
+use Rattle.oil_lexer.proofs.FirstFault as first
 use Rattle.task_code.specs.declared.call.{Reference.{Reference}, Call.{Call}}
 use Rattle.task_code.specs.declared.call.Call.TheVariants as call
 use Rattle.task_code.specs.Services.{plain_call, object_call, mask_call, alarm_call}

@@ -1,8 +1,8 @@
 -- What may still come, as a stack of phrases, and what a token makes of it. Below the stack any bodies may come.
 use Rattle.std.specs.Prelude.{ℕ, List, [], ◌∷◌, ◌++◌, Bool, true, false, ◌==◌, if◌then◌else◌, Option, Some, None}
 use Rattle.oil_lexer.specs.declared.token.{TokenKind.{TokenKind}, TokenKind.TheVariants.{Name, Number, Mark}, Mark.TheVariants.{OpenBrace, CloseBrace, OpenParen, CloseParen, Comma, Semicolon, Question, Bar}, Token.{Token}}
-use Rattle.oil_grammar.specs.declared.fault.Stop.{Stop}
-use Rattle.oil_grammar.specs.Scan as scans
+use Rattle.oil_lexer.specs.declared.fault.Stop.{Stop}
+use Rattle.oil_lexer.specs.Scan as scans
 use Rattle.osek_values.specs.declared.limits.TheConstants.{MAX_CODE_DEPTH}
 use Rattle.osek_values.specs.declared.status.Status.{Status}
 use Rattle.task_code.specs.declared.tree.BodyKind.{BodyKind}

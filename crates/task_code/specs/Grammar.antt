@@ -4,7 +4,7 @@
 use Rattle.std.specs.Prelude.{◌≡◌, ℕ, true, List, [], ◌∷◌, Some}
 use Rattle.osek_values.specs.declared.status.Status.{Status}
 use Rattle.oil_lexer.specs.declared.token.{Mark.TheVariants.{OpenBrace, CloseBrace, OpenParen, CloseParen, Comma, Semicolon, Question, Bar}, Token.{Token}}
-use Rattle.oil_grammar.specs.Tokens.{name, number, mark}
+use Rattle.oil_lexer.specs.Tokens.{name, number, mark}
 use Rattle.task_code.specs.declared.call.{Reference.{Reference}, Call.{Call}}
 use Rattle.task_code.specs.declared.call.Call.TheVariants as call
 use Rattle.task_code.specs.declared.tree.{BodyKind.{BodyKind}, Body.{Body}, Code.{Code}, Condition.{Condition}, Condition.TheVariants.{Choice, Always}}

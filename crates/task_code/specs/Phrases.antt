@@ -2,8 +2,8 @@
 use Rattle.std.specs.Prelude.{◌≡◌, ℕ, ◌+◌, ◌-◌, ◌≤◌, ◌<◌, List, [], ◌∷◌, ◌++◌, length, All, Some, None}
 use Rattle.osek_values.specs.declared.limits.TheConstants.{MAX_CODE_DEPTH}
 use Rattle.oil_lexer.specs.declared.token.{Token.{Token}, Mark.TheVariants.{OpenBrace}}
-use Rattle.oil_grammar.specs.declared.fault.Stop.{Stop}
-use Rattle.oil_grammar.specs.Tokens.{name, mark}
+use Rattle.oil_lexer.specs.declared.fault.Stop.{Stop}
+use Rattle.oil_lexer.specs.Tokens.{name, mark}
 use Rattle.task_code.specs.declared.tree.{Statement.{Statement}, Body.{Body}, BodyKind.{BodyKind}}
 use Rattle.task_code.specs.declared.call.Reference.{Reference}
 use Rattle.task_code.specs.declared.words.StatementWord.{StatementWord}

@@ -4,7 +4,7 @@ use Rattle.std.specs.Borrow.{Bor}
 use Rattle.std.specs.Str.{bytes_eq}
 use Rattle.osek_values.specs.declared.status.Status.{Status}
 use Rattle.osek_values.specs.declared.status.Status.TheVariants as status
-use Rattle.osek_standard.specs.declared.call.Lock.TheVariants.{SuspendAll, ResumeAll, SuspendOs, ResumeOs, DisableAll, EnableAll}
+use Rattle.osek_values.specs.declared.lock.Lock.TheVariants.{SuspendAll, ResumeAll, SuspendOs, ResumeOs, DisableAll, EnableAll}
 use Rattle.task_code.specs.declared.tree.{BodyKind.{BodyKind}, BodyKind.TheVariants.{Task, Isr}}
 use Rattle.task_code.specs.declared.words.{PlainService.{PlainService}, PlainService.TheVariants.{TerminateTask, Schedule, GetTaskId, GetActiveApplicationMode, Lock}, ObjectService.{ObjectService}, ObjectService.TheVariants.{ActivateTask, ChainTask, GetResource, ReleaseResource, GetEvent, CancelAlarm, GetAlarm, GetTaskState}, MaskService.TheVariants.{ClearEvent, WaitEvent}, AlarmService.TheVariants.{SetRelAlarm, SetAbsAlarm}, Service.{Service}, Service.TheVariants.{Plain, Object, Mask, SetEvent, Alarm, ShutdownOs}, StatementWord.{StatementWord}, StatementWord.TheVariants.{Work, If, While, Service as a_service}}
 

@@ -9,8 +9,7 @@ use crate::phrases::{close_paren, object_name, open_paren};
 use crate::statements::block;
 use crate::tree::{Body, StatementList};
 use crate::words::body_kind;
-use oil_grammar::{PhraseError, Stop};
-use oil_lexer::{Token, TokenKind, Tokens};
+use oil_lexer::{PhraseError, Stop, Token, TokenKind, Tokens};
 use osek_values::Seq;
 use std::alloc::Global;
 

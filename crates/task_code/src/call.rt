@@ -1,6 +1,5 @@
 //! Calls of services, with the names that they hold.
-use osek_standard::Lock;
-use osek_values::{Name, Seq, Status};
+use osek_values::{Lock, Name, Seq, Status};
 
 /// The name of an object, where it stands in the text.
 #[derive(Debug, Drop)]

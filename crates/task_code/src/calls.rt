@@ -1,7 +1,7 @@
 //! Calls: what stands between their parentheses.
 ghost use Rattle.std.specs.Prelude.{◌≡◌, ℕ, List, [], ◌∷◌, Some, MatchResult};
 ghost use Rattle.task_code.specs.Services.{plain_call as the_plain_call, object_call as the_object_call, mask_call as the_mask_call, alarm_call as the_alarm_call};
-ghost use Rattle.oil_grammar.specs.Tokens.{name, number as a_number_token, mark};
+ghost use Rattle.oil_lexer.specs.Tokens.{name, number as a_number_token, mark};
 ghost use Rattle.oil_lexer.specs.declared.token.Mark.TheVariants.{Comma};
 ghost use Rattle.task_code.specs.Words.{status_of as the_status_of};
 ghost use Rattle.task_code.specs.Grammar.{IsMask, IsCall};
@@ -13,8 +13,7 @@ ghost use Rattle.osek_values.specs.declared.status.Status.{Status};
 use crate::call::{Call, Reference};
 use crate::phrases::{close_paren, comma, number, object_name};
 use crate::words::{AlarmService, MaskService, ObjectService, PlainService, Service, status_of};
-use oil_grammar::{PhraseError, Stop, first};
-use oil_lexer::{Mark, TokenKind, Tokens};
+use oil_lexer::{Mark, PhraseError, Stop, TokenKind, Tokens, first};
 use osek_values::{Seq, Status};
 use std::alloc::Global;
 

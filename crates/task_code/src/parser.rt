@@ -2,7 +2,7 @@
 ghost use Rattle.std.specs.Prelude.{◌≡◌, List, Result, Ok, Err, IfOk};
 ghost use Rattle.oil_lexer.specs.declared.token.Token.{Token};
 ghost use Rattle.osek_values.specs.declared.refusal.Rule.TheVariants.{Syntax};
-ghost use Rattle.oil_grammar.specs.Scan.{fault_of as the_fault_of};
+ghost use Rattle.oil_lexer.specs.Scan.{fault_of as the_fault_of};
 ghost use Rattle.osek_values.specs.declared.refused.LineFault.{LineFault};
 ghost use Rattle.osek_values.specs.declared.refusal.Rule.{Rule};
 ghost use Rattle.task_code.specs.declared.tree.Code.{Code};
@@ -14,8 +14,7 @@ use crate::bodies::bodies;
 use crate::error::{CodeError, CodeFault};
 use crate::tree::Code;
 use crate::works::wrong_work_in;
-use oil_grammar::{PhraseError, Stop, fault_of};
-use oil_lexer::Tokens;
+use oil_lexer::{PhraseError, Stop, Tokens, fault_of};
 use osek_values::{CodeRule, Rule};
 use std::alloc::Global;
 

@@ -1,7 +1,7 @@
 //! Phrases of one token.
 ghost use Rattle.std.specs.Prelude.{◌≡◌, ℕ, [], ◌∷◌, MatchResult};
 ghost use Rattle.oil_lexer.specs.declared.token.Mark.TheVariants.{OpenParen, CloseParen, Comma, Semicolon, Question};
-ghost use Rattle.oil_grammar.specs.Tokens.{name, number, mark};
+ghost use Rattle.oil_lexer.specs.Tokens.{name, number, mark};
 ghost use Rattle.task_code.specs.Grammar.{IsCondition};
 ghost use Rattle.task_code.specs.Expect.{a_name, a_number, a_condition, open_paren as the_open_paren, close_paren as the_close_paren, a_comma, a_semicolon, a_question};
 ghost use Rattle.task_code.specs.Phrases.{StopsIn};
@@ -9,8 +9,7 @@ ghost use Rattle.osek_values.specs.Answers.{Refuses};
 
 use crate::call::Reference;
 use crate::tree::Condition;
-use oil_grammar::{PhraseError, Stop, first};
-use oil_lexer::{Mark, Token, TokenKind, Tokens, Word};
+use oil_lexer::{Mark, PhraseError, Stop, Token, TokenKind, Tokens, Word, first};
 use std::alloc::Global;
 
 /// `(`

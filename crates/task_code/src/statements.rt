@@ -1,7 +1,7 @@
 //! Statements, and lists of them in braces.
 ghost use Rattle.std.specs.Prelude.{◌≡◌, ℕ, ◌≤◌, List, [], ◌∷◌, true, MatchResult, MatchOption};
 ghost use Rattle.osek_values.specs.Answers.{Refuses};
-ghost use Rattle.oil_grammar.specs.Tokens.{name as a_name_token, mark};
+ghost use Rattle.oil_lexer.specs.Tokens.{name as a_name_token, mark};
 ghost use Rattle.oil_lexer.specs.declared.token.Mark.TheVariants.{OpenParen, Question, CloseParen};
 ghost use Rattle.task_code.specs.declared.words.StatementWord.TheVariants.{Work, If, While, Service as a_service};
 ghost use Rattle.task_code.specs.Words.{is_else as the_is_else};
@@ -12,8 +12,7 @@ use crate::calls::call;
 use crate::phrases::{close_paren, condition, number, open_paren, question, semicolon};
 use crate::tree::{Statement, StatementList};
 use crate::words::{Service, StatementWord, is_else, statement_word};
-use oil_grammar::{PhraseError, Stop, first, is_open};
-use oil_lexer::{Mark, TokenKind, Tokens, Word};
+use oil_lexer::{Mark, PhraseError, Stop, TokenKind, Tokens, Word, first, is_open};
 use osek_values::limits::MAX_CODE_DEPTH;
 use std::alloc::Global;
 

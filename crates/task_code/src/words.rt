@@ -3,8 +3,7 @@ ghost use Rattle.std.specs.Prelude.{◌≡◌, map};
 ghost use Rattle.task_code.specs.Words.{body_kind as the_body_kind, is_else as is_the_else, status_of as the_status, plain_service as the_plain_service, object_service as the_object_service, service_of as the_service, statement_word as the_statement_word, found_in as meaning_in, entry};
 
 use crate::tree::BodyKind;
-use osek_standard::Lock;
-use osek_values::Status;
+use osek_values::{Lock, Status};
 
 /// Services without operands.
 #[derive(Clone, Copy)]

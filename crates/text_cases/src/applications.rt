@@ -9,9 +9,9 @@ use oil_lexer::tokens;
 use oil_model::resolve;
 use oil_tree::parse;
 use osek_standard::{
-    AlarmService, App, Block, Call, Counter, Isr, Kind, Lock, PlainService, Task, TaskService,
+    AlarmService, App, Block, Call, Counter, Isr, Kind, PlainService, Task, TaskService,
 };
-use osek_values::{AlarmNo, BlockNo, CodeRule, Mask, TaskNo};
+use osek_values::{AlarmNo, BlockNo, CodeRule, Lock, Mask, TaskNo};
 use std::alloc::{AllocError, Global};
 use task_code::{Code, parse_code};
 

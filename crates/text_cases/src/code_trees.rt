@@ -1,7 +1,6 @@
 //! Texts with their code, and with their first fault.
 use oil_lexer::tokens;
-use osek_standard::Lock;
-use osek_values::{CodeRule, Rule, Status, SyntaxRule};
+use osek_values::{CodeRule, Lock, Rule, Status, SyntaxRule};
 use std::alloc::{AllocError, Global};
 use task_code::{
     Body, BodyKind, Call, CodeError, Condition, Reference, Statement, one_answer, parse_code,

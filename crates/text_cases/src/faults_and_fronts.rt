@@ -1,6 +1,7 @@
 //! The fault of a place, and the token at the front.
-use oil_grammar::{Stop, SyntaxFault, fault_of, first, is_close, is_open};
-use oil_lexer::{Token, TokenKind, Tokens, tokens};
+use oil_lexer::{
+    Stop, SyntaxFault, Token, TokenKind, Tokens, fault_of, first, is_close, is_open, tokens,
+};
 use osek_values::{SyntaxRule, copied};
 use std::alloc::Global;
 

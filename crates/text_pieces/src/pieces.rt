@@ -2,7 +2,7 @@
 //! the place stays, and what stands behind the piece has no meaning. No call takes memory.
 ghost use Rattle.std.specs.Prelude.{◌≡◌, ◌+◌, ◌<◌, ◌≤◌, false, [], ◌∷◌, ◌++◌, length, take, decimal};
 ghost use Rattle.std.specs.Fmt.{digit_glyph};
-ghost use Rattle.osek_standard.specs.TraceText.{hexadecimal};
+ghost use Rattle.osek_values.specs.Numbers.{hexadecimal};
 
 use osek_values::Name;
 use osek_values::limits::MAX_NAME;

@@ -1,18 +1,18 @@
 use Rattle.std.proofs.Common.{◌≡◌, ℕ, map, filter, ap, sym, ◌∙◌, arith}
 use Rattle.std.specs.List.{range_with_len}
 use Rattle.osek_values.specs.Numbers.{event_no}
+use Rattle.osek_values.specs.Bits.{has_bit}
 use Rattle.osek_standard.specs.declared.objects.Task.{Task}
-use Rattle.osek_standard.specs.Kernel.{has_bit}
 use Rattle.abstract_state.proofs.RangeLaws.{passed_more, failed_more}
 use Rattle.abstract_state.proofs.numbering.own_events.Goals as goal
-use Rattle.abstract_state.proofs.numbering.own_events.Goals.{then-has_bit+in_ok-push, else-has_bit}
+use Rattle.abstract_state.proofs.numbering.own_events.Goals.{then-has+in_ok-push, else-has}
 
 pub loop-bit-preserved : goal.loop-bit-preserved
 loop-bit-preserved c =
     let own = c.task.result.now.own.0 in
-    elim c.if-has_bit.branch [
-      | then-has_bit+in_ok-push w ↦ w.events-is ∙ w.in_ok-push.ensures.ok ∙ passed_more (has_bit own) event_no c.loop-bit.events c.loop-bit.bit c.loop-bit.invariant (sym c.has_bit.ensures ∙ w.if-has_bit.true)
-      | else-has_bit w ↦ w.events-is ∙ failed_more (has_bit own) event_no c.loop-bit.events c.loop-bit.bit c.loop-bit.invariant (sym c.has_bit.ensures ∙ w.if-has_bit.false)
+    elim c.if-has.branch [
+      | then-has+in_ok-push w ↦ w.events-is ∙ w.in_ok-push.ensures.ok ∙ passed_more (has_bit own) event_no c.loop-bit.events c.loop-bit.bit c.loop-bit.invariant (sym c.has.ensures ∙ w.if-has.true)
+      | else-has w ↦ w.events-is ∙ failed_more (has_bit own) event_no c.loop-bit.events c.loop-bit.bit c.loop-bit.invariant (sym c.has.ensures ∙ w.if-has.false)
     ]
 
 pub returns : goal.returns

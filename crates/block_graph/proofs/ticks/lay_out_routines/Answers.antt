@@ -1,5 +1,5 @@
 use Rattle.std.proofs.Common.{◌≡◌, ℕ, ◌+◌, ◌<◌, ◌++◌, length, List, ◌∙◌, ap, drop, arith}
-use Rattle.osek_standard.specs.declared.objects.Alarm.{Alarm}
+use Rattle.oil_system.specs.declared.objects.Alarm.{Alarm}
 use Rattle.osek_standard.specs.Validity.{due_of}
 use Rattle.block_graph.specs.Blocks.{routine, routine_size, routines}
 use Rattle.block_graph.proofs.BlocksTicks.{ticks_laid_out}

@@ -1,5 +1,5 @@
 use Rattle.std.proofs.Common.{ℕ, ◌<◌, get_or}
-use Rattle.osek_standard.specs.declared.objects.Alarm.{Alarm}
+use Rattle.oil_system.specs.declared.objects.Alarm.{Alarm}
 use Rattle.image_codec.specs.Fits.{FitsAction}
 use Rattle.commands.proofs.ranges.read_alarms.Given as goal
 

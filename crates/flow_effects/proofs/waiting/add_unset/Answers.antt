@@ -1,7 +1,6 @@
 use Rattle.std.proofs.Common.{◌≡◌, ℕ, ◌∙◌, arith, false, List, [], ◌∷◌, ◌++◌, map, sym, ap}
+use Rattle.osek_values.specs.Bits.{has_bit, bits_of}
 use Rattle.osek_standard.specs.Apps.{the_task}
-use Rattle.osek_standard.specs.Kernel.{has_bit}
-use Rattle.flow_model.specs.Changes.{bits_of}
 use Rattle.flow_model.specs.declared.test.Condition.{Condition}
 use Rattle.flow_model.proofs.BitsOf.{bit_within}
 use Rattle.flow_effects.specs.Waiting.{of_event}

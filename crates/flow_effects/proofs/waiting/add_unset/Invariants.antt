@@ -1,7 +1,7 @@
 -- those of the bits so far
 use Rattle.std.proofs.Common.{◌≡◌, ◌++◌, false, map, filter}
 use Rattle.std.specs.List.{range_with_len}
-use Rattle.osek_standard.specs.Kernel.{has_bit}
+use Rattle.osek_values.specs.Bits.{has_bit}
 use Rattle.flow_effects.specs.Waiting.{of_event}
 use Rattle.flow_effects.proofs.waiting.add_unset.Given as goal
 

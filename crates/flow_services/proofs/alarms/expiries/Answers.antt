@@ -1,8 +1,8 @@
 -- the two cases of an alarm that doesn't expire, and those of its action after either of two occasions
 use Rattle.std.proofs.Common.{◌≡◌, ℕ, Bool, true, false, List, [], ◌∷◌, ◌++◌, map, sym, ap, subst, ◌∙◌, Some}
 use Rattle.osek_values.specs.declared.numbers.BlockNo.{BlockNo}
+use Rattle.oil_system.specs.declared.objects.{Action.{Action}, Alarm.{Alarm}}
 use Rattle.osek_standard.specs.declared.app.App.{App}
-use Rattle.osek_standard.specs.declared.objects.{Action.{Action}, Alarm.{Alarm}}
 use Rattle.osek_standard.specs.Apps.{the_alarm}
 use Rattle.abstract_state.specs.declared.value.{PartValue.{PartValue}, PartValue.TheVariants.{OfAlarm}}
 use Rattle.abstract_state.specs.declared.table.Entry.{Entry}

@@ -1,5 +1,5 @@
 use Rattle.std.proofs.Common.{◌∙◌, sym, ap, List, arith}
-use Rattle.osek_standard.specs.declared.objects.Alarm.{Alarm}
+use Rattle.oil_system.specs.declared.objects.Alarm.{Alarm}
 use Rattle.image_codec.specs.BlockReading.{is_due_in, is_due}
 use Rattle.image_codec.proofs.Due.{all_stops, all_goes_on, all_ends}
 use Rattle.image_codec.proofs.placing.is_due.Goals as goal

@@ -1,6 +1,6 @@
 use Rattle.std.proofs.Common.{◌*◌, ap, ◌∙◌, inl, inr, arith}
 use Rattle.std.proofs.lemmas.Bool.{cases_lt}
-use Rattle.osek_standard.specs.Kernel.{has_bit}
+use Rattle.osek_values.specs.Bits.{has_bit}
 use Rattle.numbered_sets.specs.Numbers.{bits_of_words}
 use Rattle.numbered_sets.proofs.SkippedWords.{bit_of_word, none_skipped, none_past}
 use Rattle.numbered_sets.proofs.words.next.Goals as goal

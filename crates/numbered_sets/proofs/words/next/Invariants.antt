@@ -1,5 +1,5 @@
 use Rattle.std.proofs.Common.{◌≡◌, ℕ, ◌*◌, ◌/◌, ◌<◌, ◌≤◌, false}
-use Rattle.osek_standard.specs.Kernel.{has_bit}
+use Rattle.osek_values.specs.Bits.{has_bit}
 use Rattle.numbered_sets.specs.Numbers.{bits_of_words}
 use Rattle.numbered_sets.proofs.words.next.Given as goal
 

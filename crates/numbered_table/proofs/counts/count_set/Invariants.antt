@@ -1,5 +1,5 @@
 use Rattle.std.proofs.Common.{◌≡◌, ◌-◌, ◌≤◌, ◌<◌, IsTrue}
-use Rattle.abstract_state.specs.Components.{passing_below}
+use Rattle.osek_values.specs.Bits.{passing_below}
 use Rattle.numbered_sets.specs.Numbers.{has_number}
 use Rattle.numbered_sets.specs.SetLists.{set_of}
 use Rattle.numbered_table.proofs.counts.count_set.Given as goal

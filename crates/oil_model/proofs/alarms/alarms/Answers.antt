@@ -1,7 +1,7 @@
 use Rattle.std.proofs.Common.{List, ◌++◌, ◌∷◌, [], map, sym, ◌∙◌, arith}
 use Rattle.std.specs.Prelude.{codes, filter}
 use Rattle.oil_tree.specs.declared.tree.Object.{Object}
-use Rattle.osek_standard.specs.declared.objects.Alarm.{Alarm}
+use Rattle.oil_system.specs.declared.objects.Alarm.{Alarm}
 use Rattle.oil_tree.specs.AttrLists.{attr_list}
 use Rattle.oil_model.specs.LookUp.{word}
 use Rattle.oil_model.specs.Objects.{is_kind, objects_of, cycle_time, start}

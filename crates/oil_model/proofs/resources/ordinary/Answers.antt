@@ -1,6 +1,6 @@
 use Rattle.std.proofs.Common.{ℕ, List, ◌++◌, ◌∷◌, [], map, sym, ap, ◌∙◌}
 use Rattle.std.specs.Prelude.{codes, filter}
-use Rattle.osek_standard.specs.declared.objects.Resource.{Resource}
+use Rattle.oil_system.specs.declared.objects.Resource.{Resource}
 use Rattle.oil_model.specs.Objects.{is_ordinary, objects_of}
 use Rattle.oil_model.specs.Systems.{resource, ceiling}
 use Rattle.oil_model.proofs.Collected.{collects, passes_over, collected}

@@ -1,7 +1,7 @@
 use Rattle.std.proofs.Common.{◌∷◌, sym, ap, ◌∙◌, arith}
 use Rattle.osek_values.specs.declared.limits.TheConstants.{MAX_OIL_DEPTH}
 use Rattle.oil_lexer.specs.declared.token.{TokenKind.TheVariants.{Mark}, Mark.TheVariants.{OpenBrace}}
-use Rattle.oil_grammar.proofs.Braces.{open_kind, front_is, deep}
+use Rattle.oil_lexer.proofs.Braces.{open_kind, front_is, deep}
 use Rattle.oil_tree.specs.Expect.{some_balanced, scan}
 use Rattle.oil_tree.proofs.BalancedRead.{reads_balanced, balanced_shorter, braces_join, braces_taken, other_joins, other_taken}
 use Rattle.oil_tree.proofs.file.+balanced.Goals as goal

@@ -3,7 +3,7 @@ use Rattle.std.proofs.Math.ListN.{length-set}
 use Rattle.std.proofs.Math.Seq.{take-set-lt}
 use Rattle.std.proofs.lemmas.List.{length-take-le}
 use Rattle.std.specs.Fmt.{digits, digit_glyph}
-use Rattle.osek_standard.specs.TraceText.{hexadecimal}
+use Rattle.osek_values.specs.Numbers.{hexadecimal}
 use Rattle.text_pieces.proofs.HexadecimalLaws.{digit_first, fewer, turn, written_front, some_place}
 use Rattle.text_pieces.proofs.pieces.put_hexadecimal.Goals as goal
 

@@ -1,7 +1,7 @@
 -- the digits that are written stand behind those of what is left
 use Rattle.std.proofs.Common.{◌≡◌, ◌+◌, ◌^◌, ◌<◌, false, length, take, drop}
 use Rattle.std.specs.Fmt.{digits_onto}
-use Rattle.osek_standard.specs.TraceText.{hexadecimal}
+use Rattle.osek_values.specs.Numbers.{hexadecimal}
 use Rattle.text_pieces.proofs.pieces.put_hexadecimal.Given as goal
 
 abbrev pub invariant-loop-left : goal.invariant-loop-left

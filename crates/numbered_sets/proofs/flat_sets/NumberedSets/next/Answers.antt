@@ -1,5 +1,5 @@
 use Rattle.std.proofs.Common.{◌≡◌, ℕ, false, IsTrue, subst}
-use Rattle.osek_standard.specs.Kernel.{has_bit}
+use Rattle.osek_values.specs.Bits.{has_bit}
 use Rattle.numbered_sets.proofs.FlatLaws.{read_is}
 use Rattle.numbered_sets.proofs.flat_sets.NumberedSets.next.Goals as goal
 

@@ -1,5 +1,5 @@
 use Rattle.std.proofs.Common.{◌∷◌, List, ℕ, ap, ◌∙◌}
-use Rattle.osek_standard.specs.Kernel.{has_bit}
+use Rattle.osek_values.specs.Bits.{has_bit}
 use Rattle.numbered_sets.specs.Numbers.{Numbers, bits_of_words, has_number}
 use Rattle.numbered_sets.proofs.numbered_set.NumberedSet.has.Goals as goal
 

@@ -1,5 +1,5 @@
 use Rattle.std.proofs.Common.{◌≡◌, ◌∷◌, false, List, ℕ, IsTrue, ap, subst, ◌∙◌}
-use Rattle.osek_standard.specs.Kernel.{has_bit}
+use Rattle.osek_values.specs.Bits.{has_bit}
 use Rattle.numbered_sets.specs.Numbers.{Numbers, bits_of_words}
 use Rattle.numbered_sets.proofs.numbered_set.NumberedSet.next.Goals as goal
 

@@ -1,4 +1,0 @@
-pub mod Braces
-pub mod FirstFault
-pub mod OneFault
-pub mod Splits

@@ -1,4 +1,0 @@
-pub mod Depth
-pub mod Faults
-pub mod Scan
-pub mod Tokens

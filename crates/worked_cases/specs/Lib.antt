@@ -1,3 +1,0 @@
-pub mod WorkedApps
-pub mod WorkedLines
-pub mod WorkedTables
