@@ -9,6 +9,7 @@ HERE = os.path.dirname(os.path.abspath(__file__))
 sys.path.insert(0, HERE)
 
 import annotate
+import causes
 import check_documents
 import covered
 import events
@@ -20,6 +21,7 @@ import lint
 import lint_oil
 import model
 import oil
+import prove
 import reached
 import regress
 from application import application_of
@@ -269,6 +271,33 @@ class Explanations(unittest.TestCase):
         self.assertEqual(list(lint_oil.missing(objects, 5)), ['CYCLETIME within AUTOSTART of ALARM A'])
         self.assertEqual(list(lint_oil.undeclared(objects, 2)), ['EVENT E of TASK T', 'APPMODE M of TASK T'])
 
+    def test_what_the_texts_tell_of_a_refusal(self):
+        objects = ('EVENT Go; COUNTER C { MAXALLOWEDVALUE = 9; };\nTASK Door { PRIORITY = -1; };\nTASK Motor { PRIORITY = 7; SCHEDULE = ON; };\n'
+                   'TASK Motor { PRIORITY = 7; };\nALARM A { COUNTER = C; AUTOSTART = TRUE { CYCLETIME = 10; }; };\nISR Tooth { CATEGORY = 2; }; '
+                   'ISR J { CATEGORY = 1; };')
+        code = 'TASK(Door) {\nint x;\n}\n'
+        named = 'TASK(Door) {\nSetEvent(Moter, Goo); SetRelAlarm(C, 1, 0);\n}\nTASK(Tooth) { }\nISR(J) { }\n'
+        for rule, line, text, told in (
+                ('O6', 2, code, ['here: PRIORITY of TASK Door takes 0 to 65,535, larger is higher, not -1']),
+                ('O6', 3, code, ['here: SCHEDULE of TASK Motor takes NON, FULL, not ON']),
+                ('O2', 4, code, ['first: TASK Motor on line 3']), ('O8', 4, code, ['first: TASK Motor has 7 too']),
+                ('O14', 5, code, ['here: COUNTER C has MINCYCLE 1 and MAXALLOWEDVALUE 9']),
+                ('S1', 2, code, ['here: int begins no statement: these are work, if, while and calls of services']),
+                ('S1', 2, code.replace('int x', 'work'), ['here: a number is wanted, not ;']),
+                ('S1', 3, 'TASK(Door) {\n\nTASK(Motor) { }', ['here: TASK begins a body: a } is missing above']),
+                ('S1', 3, 'TASK(Door) {\n}\n}', ['here: a } too many, here or above']),
+                ('L1', 2, 'TASK(Door) {\nif (x > 1) { } // é', ['here: >']), ('L1', 1, '\ufeffTASK', ['here: a byte order mark']),
+                ('C4', 2, named, ['not declared: the task Moter; Motor is', 'not declared: the event Goo; Go is', 'not declared: the alarm C']),
+                ('C1', 0, named, ['without code: TASK Motor', 'without code: ISR Tooth', 'of category 1, which has no code: ISR J',
+                                  'not declared: TASK Tooth; ISR Tooth is'])):
+            with self.subTest(rule=rule, line=line), tempfile.TemporaryDirectory() as folder:
+                at = [os.path.join(folder, name) for name in ('a.oil', 'a.code')]
+                for name, content in zip(at, ('CPU c { OS os; %s };' % objects, text)):
+                    with open(name, 'w', encoding='utf-8') as file:
+                        file.write(content)
+                texts = causes.Texts(at[rule[0] != 'O'], line, ['build'] + at)
+                self.assertEqual(causes.told(rule, texts, explain.guide()), told)
+
 
 class Regressions(unittest.TestCase):
     def test_differences_are_told(self):
@@ -307,6 +336,21 @@ class Documents(unittest.TestCase):
     def test_the_house_is_counted(self):
         sizes = house.sizes_of('osek_values')
         self.assertTrue(sizes.code > 0 and sizes.definitions > 0 and sizes.files > 2)
+
+    def test_crates_from_which_the_longest_way_leads_up_go_first(self):
+        order = prove.Order.__new__(prove.Order)
+        order.below = {'base': set(), 'side': {'base'}, 'low': {'base'}, 'high': {'base', 'low'}}
+        order.seconds = {'base': 5, 'side': 20, 'low': 10, 'high': 15}
+        order.way = order.ways()
+        self.assertEqual(order.way, {'base': 30, 'side': 20, 'low': 25, 'high': 15})
+        self.assertEqual((order.next(['side', 'low'], {'base'}), order.next(['high'], {'base'})), ('low', None))
+        self.assertEqual((order.whole(1), order.whole(2)), (50, 30))
+
+    def test_crates_are_read_with_all_that_they_stand_on(self):
+        crates = prove.Crates(prove.ROOT)
+        self.assertTrue({'osek_values', 'commands'} <= set(crates.libraries(['osekfit'])))
+        self.assertEqual(crates.libraries(['osek_values']), ['osek_values'])
+        self.assertRaises(Wrong, crates.libraries, ['nobody'])
 
 
 TOOLS = ['annotate.py', 'check_documents.py', 'compare_model.py', 'events.py', 'explain.py', 'graph.py', 'lint.py', 'model.py', 'regress.py', 'timeline.py']
