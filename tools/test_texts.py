@@ -337,6 +337,13 @@ class Documents(unittest.TestCase):
         sizes = house.sizes_of('osek_values')
         self.assertTrue(sizes.code > 0 and sizes.definitions > 0 and sizes.files > 2)
 
+    def test_what_a_process_of_the_gate_works_on(self):
+        for words, folder, told in (
+                ('rattle check --crate-name a src/lib.rt', '/x/crates/a', ('a', 'proofs')), ('rattle build --crate-name a --test', '/x/crates/a', ('a', 'tests')),
+                ('rattle check --crate-name a src/lib.rt', '/tmp/rt-edit-7-x', ('a', 'edits')), ('rattle-test --seconds 60 /tmp/rt-run-7-x/bin/a_tests', '/tmp/y', ('a', 'tests')),
+                ('/tmp/rt-run-7-x/bin/a', '/tmp/y', ('a', 'tests')), ('rattle-link out/a.o', '/x/crates/a', ('a', 'proofs')), ('sh -c read', '/x', None)):
+            self.assertEqual(house.work_told(words.split(' '), folder), told)
+
     def test_crates_from_which_the_longest_way_leads_up_go_first(self):
         order = prove.Order.__new__(prove.Order)
         order.below = {'base': set(), 'side': {'base'}, 'low': {'base'}, 'high': {'base', 'low'}}
