@@ -1,5 +1,6 @@
 """Tests of the tools that read OIL, task code, events and refusals, and of the model; `python3 tools/test_tools.py` runs them too."""
 import os
+import re
 import subprocess
 import sys
 import tempfile
@@ -117,7 +118,7 @@ class Models(unittest.TestCase):
 
 FAULTY_OIL = """CPU c { OS os; EVENT A { MASK = 1; }; EVENT B { MASK = 3; }; EVENT U; RESOURCE R; RESOURCE S;
  COUNTER C { MAXALLOWEDVALUE = 9; }; COUNTER D { MAXALLOWEDVALUE = 9; }; APPMODE M;
- TASK T1 { PRIORITY = 3; SCHEDUEL = NON; AUTOSTART = TRUE { APPMOD = x; APPMODE = OSDEFAULTAPPMODE; }; EVENT = A; };
+ TASK T1 { PRIORITY = 3; SCHEDUEL = NON; AUTOSTART = TRUE { APPMOD = x; APPMODE = OSDEFAULTAPPMODE; }; EVENT = A; RESOURCE = S; };
  TASK T2 { PRIORITY = 2; AUTOSTART = TRUE { APPMODE = OSDEFAULTAPPMODE; }; RESOURCE = R; };
  TASK T3 { PRIORITY = 1; };
  ALARM Z { COUNTER = C; ACTION = SETEVENT { TASK = T2; EVENT = A; }; };
@@ -175,6 +176,12 @@ class Lint(unittest.TestCase):
         oil_text = 'CPU c { OS os; %s ISR I { CATEGORY = 2; }; };' % T1
         self.assertEqual(self.found(oil_text, 'TASK(T1) { TerminateTask(); }\nISR(I) {\nwhile (1) { work 1; }\n}'), [('c', 3, 'endless')])
         self.assertEqual(self.found(oil_text, 'TASK(T1) { TerminateTask(); }\nISR(I) {\nwhile (?) { work 1; }\n}'), [])
+
+    def test_what_is_refused_neither_ends_nor_takes(self):
+        oil_text = ('CPU c { OS os; RESOURCE R; TASK T1 { PRIORITY = 2; AUTOSTART = TRUE; }; TASK T2 { PRIORITY = 1; AUTOSTART = TRUE; RESOURCE = R; };'
+                    ' ISR I { CATEGORY = 2; }; };')
+        code = 'TASK(T1) {\nGetResource(R);\nTerminateTask();\n}\nTASK(T2) { TerminateTask(); }\nISR(I) {\nTerminateTask();\nActivateTask(T2);\n}'
+        self.assertEqual([row for row in self.found(oil_text, code) if row[0] == 'c'], [('c', 2, 'resource'), ('c', 7, 'routine')])
 
     def test_a_resource_that_stays_held_in_a_loop(self):
         oil_text = 'CPU c { OS os; RESOURCE R; TASK T1 { PRIORITY = 1; AUTOSTART = TRUE; RESOURCE = R; }; };'
@@ -332,6 +339,23 @@ class Documents(unittest.TestCase):
         self.assertEqual(found.modules, {'g': ('a', 'G')})
         texts = reached.definitions_of('use Rattle.a.specs.F.{x}\n-- of a\nabbrev pub one : A\none = x\n\npub record Two : B where\n  pub f : C\n')
         self.assertEqual(texts, {'one': '-- of a\nabbrev pub one : A\none = x\n', 'Two': 'pub record Two : B where\n  pub f : C\n'})
+
+    def test_confidence_names_what_is_there(self):
+        crates = os.path.join(check_documents.ROOT, 'crates')
+        code, words = {}, ''
+        for crate in os.listdir(crates):
+            code[crate] = ''.join(contents(file) for file in house.files_of(os.path.join(crates, crate, 'src'), '.rt'))
+            words += code[crate] + ''.join(file + contents(file) for file in house.files_of(os.path.join(crates, crate, 'specs'), '.antt'))
+        matrix = contents(os.path.join(check_documents.ROOT, 'docs', 'CONFIDENCE.md')).partition('## From ISO 17356-3')[2]
+        for service, definitions, functions, runs in list(causes.rows_of(matrix, 4))[2:]:
+            for name in re.findall(r'`([^`]+)`', definitions):
+                self.assertRegex(words, r'\b%s\b' % name.rpartition('/')[2], service)
+            crate = None
+            for name in re.findall(r'`([^`]+)`', functions):
+                crate, function = name.split('::') if '::' in name else (name, '') if name in code else (crate, name)
+                self.assertIn('fn %s' % function if function else '', code[crate], service)
+            for run in runs.split('; ') if runs != 'all' else []:
+                self.assertIn('"%s"' % run, code['command_cases'], service)
 
     def test_the_house_is_counted(self):
         sizes = house.sizes_of('osek_values')
