@@ -69,9 +69,9 @@ none_alone d vs v none = record {
 -- a value is among those of some numbers where its number is
 pub number_tells : (vs : List PartValue) (has : ℕ → Bool) (v : PartValue) (n : ℕ) → IsDistinct same_part vs → IsNumberOf vs v n → has n ≡ has_value vs has v
 number_tells vs has v n distinct number = elim (cases_Bool (has n)) [
-  | inl yes ↦ yes ∙ sym (value_with_number vs has n v number.known (number.is v) yes)
-  | inr no ↦
-      no
+  | inl among ↦ among ∙ sym (value_with_number vs has n v number.known (number.is v) among)
+  | inr missing ↦
+      missing
       ∙ sym (false_unless (has_value vs has v) ⊥
       (λ there.
       let x = found vs has v there in

@@ -154,6 +154,7 @@ impl Numbering {
     fn has_value(&self, value: &PartValue, component: usize, entry: &NumberedEntry) -> bool
         ensures { result ≡ is_member (plain_set self.now.values (numbers_at entry.now component)) value.now }
     {
+        self.are_values();
         match self.number_of(value) {
             None => false,
             Some(number) => entry.sets.has(component, number),

@@ -1,9 +1,6 @@
-use Rattle.std.proofs.Common.{sym, subst, ◌∙◌}
-use Rattle.std.specs.List.{IsDistinct}
-use Rattle.abstract_state.specs.ValueOrder.{same_part}
+use Rattle.std.proofs.Common.{sym, ◌∙◌}
 use Rattle.numbered_sets.specs.Numbers.{has_number}
 use Rattle.numbered_sets.specs.NumberedEntries.{numbers_at}
-use Rattle.numbered_sets.specs.Pools.{Values}
 use Rattle.numbered_sets.proofs.AloneLaws.{number_tells, absent_tells}
 use Rattle.numbered_sets.proofs.PlainLaws.{member_of_plain}
 use Rattle.numbered_sets.proofs.pool.Numbering.has_value.Goals as goal
@@ -20,5 +17,4 @@ returns-in-Some c =
     let values = c.args.self.now.values in
     let numbers = numbers_at c.args.entry.now c.args.component in
     let v = c.args.value.now in
-    let distinct : IsDistinct same_part values = subst (λ (x : Values). IsDistinct same_part x.values) c.self.view_is c.self.invariant.0.distinct in
-    c.has.ensures ∙ number_tells values (has_number numbers) v c.in-Some.number distinct c.in-Some.ensures.number ∙ sym (member_of_plain values numbers v)
+    c.has.ensures ∙ number_tells values (has_number numbers) v c.in-Some.number c.are_values.ensures.distinct c.in-Some.ensures.number ∙ sym (member_of_plain values numbers v)
