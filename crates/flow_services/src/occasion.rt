@@ -5,7 +5,7 @@ ghost use Rattle.flow_model.specs.Runners.{moving};
 ghost use Rattle.flow_services.specs.Occasions.{expired_conditions, expired_changes};
 
 use abstract_state::{ComponentNo, PartValue};
-use flow_model::{Asked, Change, Condition, EffectCase, Runner, Test, Update};
+use flow_model::{Asked, Change, Condition, EffectCase, Leaving, Runner, Stay, Test, Update};
 use osek_values::{BlockNo, Memory, Seq, Status, TaskNo};
 use std::alloc::Global;
 
@@ -103,9 +103,11 @@ impl Occasion {
         Ok(EffectCase {
             conditions,
             changes,
-            asked: if may_dispatch { self.asked } else { Asked::No },
-            status,
-            point: self.runner.at(self.next),
+            leaving: Leaving {
+                asked: if may_dispatch { self.asked } else { Asked::No },
+                stay: Stay::At(self.runner.at(self.next)),
+                status,
+            },
         })
     }
 
