@@ -16,7 +16,6 @@ use Rattle.osek_standard.specs.States.{caller, alarm_state}
 use Rattle.osek_standard.specs.Services.{Answer, clear_event}
 use Rattle.osek_standard.specs.Effects.{is_schedule, moved_to, place_at, row}
 use Rattle.osek_standard.proofs.Members.{map_among, among_map, contained_among, among_contained}
-use Rattle.abstract_state.specs.declared.table.Entry.{Entry}
 use Rattle.abstract_state.specs.Components.{component_count, abstract_of, is_armed}
 use Rattle.flow_model.specs.declared.change.Change.{Change}
 use Rattle.flow_model.specs.declared.case.{EffectCase.{EffectCase}}
@@ -26,7 +25,7 @@ use Rattle.flow_model.specs.declared.runner.Runner.TheVariants as runner
 use Rattle.flow_model.specs.Cases.{asked_for, asked_after}
 use Rattle.flow_model.specs.Runners.{Stands, OwnsBlock, runner_point, moving}
 use Rattle.flow_model.specs.Tests.{PassesAll, value_after}
-use Rattle.flow_model.specs.Effects.{HasEffect, CoverEffects, AreAllAllowed, AreExactEffects}
+use Rattle.flow_model.specs.Effects.{HasEffect, AreCasesOf}
 use Rattle.flow_model.proofs.ChangeLaws.{AreSets, sets_first, passes_left, passes_both, passes_none}
 use Rattle.flow_model.proofs.Moves.{moved_parts, went_on, moved_has, moved_alarms}
 use Rattle.flow_model.proofs.Standing.{point_there, next_owned, known_here, task_calls, routine_calls}
@@ -35,7 +34,7 @@ use Rattle.flow_model.proofs.Listing.{AreEffects, covers, exact}
 use Rattle.flow_services.specs.Occasions.{ServiceCase, case_at, accepted_case, unnoted_case}
 use Rattle.flow_services.specs.Services.{is_service_call, call_cases, calling, event_clearings}
 use Rattle.flow_services.proofs.Seeing.{Sees, moved_sees}
-use Rattle.flow_services.proofs.Serving.{Serves, IsServed, point_stays, keeps_serves, always_served}
+use Rattle.flow_services.proofs.Serving.{Serves, IsServed, point_stays, keeps_serves, always_served, stay_there}
 use Rattle.flow_services.proofs.ActivationLaws.{activation_served}
 use Rattle.flow_services.proofs.SettingEvents.{setting_served}
 use Rattle.flow_services.proofs.CallerEvents.{task_clearing_served, routine_clearing_served, reading_served}
@@ -164,16 +163,17 @@ module _ (app : App) (s : State) (r : Runner) (b : BlockNo) (h : Stands app s r 
           passes_both app (abstract_of app s) some.0.conditions [] some.2 (passes_none app (abstract_of app s)),
         )
 
--- The cases of a call cover and are exact.
-module _ (app : App) (r : Runner) (b : BlockNo) (entry : Entry) (owns : OwnsBlock app r b) (c : Call) (service : is_service_call c ≡ true) (is : (the_block app b.0).kind ≡ kind.Call c) where
+-- The cases of a call are those of the block.
+module _ (app : App) (r : Runner) (b : BlockNo) (owns : OwnsBlock app r b) (c : Call) (service : is_service_call c ≡ true) (is : (the_block app b.0).kind ≡ kind.Call c) where
   abbrev cases : List EffectCase
   cases = map (case_at (calling app r (the_block app b.0).next)) (call_cases app r c)
 
-  are_effects : AreEffects app r b entry owns cases
-  are_effects x s choice listed h within passing = call_has_effect app s r b h c service is x choice listed passing
+  are_effects : AreEffects app r b owns cases
+  are_effects x s choice listed h passing = call_has_effect app s r b h c service is x choice listed passing
 
-  pub calls_cover : CoverEffects app (runner_point r b) entry cases
-  calls_cover = covers app r b entry owns cases are_effects (λ s h within. call_has_some app s r b h c service is)
-
-  pub calls_exact : AreAllAllowed app (runner_point r b) entry → AreExactEffects app (runner_point r b) entry cases
-  calls_exact all = exact app r b entry owns cases all are_effects
+  pub calls_are_cases : AreCasesOf app (runner_point r b) cases
+  calls_are_cases = record {
+    covering = covers app r b owns cases are_effects (λ s h. call_has_some app s r b h c service is);
+    exact = exact app r b owns cases are_effects;
+    stays = λ x listed. stay_there app (calling app r (the_block app b.0).next) (call_cases app r c) x (contained_among cases x listed);
+  }

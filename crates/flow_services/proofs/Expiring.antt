@@ -34,7 +34,7 @@ use Rattle.flow_model.specs.declared.case.Asked.TheVariants as asked
 use Rattle.flow_model.specs.declared.runner.Runner.{Runner}
 use Rattle.flow_model.specs.Runners.{Stands, OwnsBlock, runner_point}
 use Rattle.flow_model.specs.Tests.{PassesAll, value_after}
-use Rattle.flow_model.specs.Effects.{AreIn, HasEffect, HasSomeEffect, ShowsEffect, CoverEffects, AreAllAllowed, AreExactEffects}
+use Rattle.flow_model.specs.Effects.{AreIn, HasEffect, HasSomeEffect, ShowsEffect, AreAllAllowed, AreCasesOf, IsKnownStay}
 use Rattle.flow_model.specs.Changes.{alarm_change}
 use Rattle.flow_model.proofs.ChangeLaws.{sets_first, sets_both, passes_left, passes_right, passes_both, passes_one, one_passes}
 use Rattle.flow_model.proofs.Writes.{alarm_written, alarm_changes_set}
@@ -45,7 +45,7 @@ use Rattle.flow_model.proofs.Listing.{covers_by, values_allowed, made_passes}
 use Rattle.flow_services.specs.Occasions.{ServiceCase, case_at, unnoted_case}
 use Rattle.flow_services.specs.Services.{actions, alarm_is, looking, expiring, expiries}
 use Rattle.flow_services.proofs.Seeing.{Sees, tests_alarm, alarm_tested}
-use Rattle.flow_services.proofs.Serving.{Serves, IsServed, Stays, point_stays}
+use Rattle.flow_services.proofs.Serving.{Serves, IsServed, Stays, point_stays, stay_there}
 use Rattle.flow_services.proofs.ActivationLaws.{activation_served}
 use Rattle.flow_services.proofs.SettingEvents.{setting_served}
 use Rattle.flow_services.proofs.Calling.{moved_well, parts_after, sees_moved}
@@ -189,14 +189,11 @@ module _ (app : App) (s : State) (r : Runner) (b : BlockNo) (h : Stands app s r 
       ]
     ]
 
-module _ (app : App) (r : Runner) (b : BlockNo) (entry : Entry) (owns : OwnsBlock app r b) (a : ℕ) (known : a < length app.alarms) (is : (the_block app b.0).kind ≡ kind.Expire (alarm_no a)) where
+module _ (app : App) (r : Runner) (b : BlockNo) (owns : OwnsBlock app r b) (a : ℕ) (known : a < length app.alarms) (is : (the_block app b.0).kind ≡ kind.Expire (alarm_no a)) where
   abbrev cases : List EffectCase
   cases = expiries app r (the_block app b.0).next a
 
-  pub expiries_cover : CoverEffects app (runner_point r b) entry cases
-  expiries_cover = covers_by app r b entry owns cases (λ s choice h within. some_effect app s r b h a known is choice)
-
-  module _ (all : AreAllAllowed app (runner_point r b) entry) (value : ℕ → PartValue) (within : AreIn app entry value) where
+  module _ (entry : Entry) (all : AreAllAllowed app (runner_point r b) entry) (value : ℕ → PartValue) (within : AreIn app entry value) where
     abbrev next_block : BlockNo
     next_block = (the_block app b.0).next
 
@@ -272,5 +269,17 @@ module _ (app : App) (r : Runner) (b : BlockNo) (entry : Entry) (owns : OwnsBloc
             let g = map_among (case_at (expiring app r next_block a again)) x (actions app (the_alarm app a).action) n in
             subst (λ (y : EffectCase). ShowsEffect app p y value) (sym g.2) (shows_due g.0 g.1 again (subst (λ (y : EffectCase). PassesAll app y.conditions value) g.2 passing))
 
-  pub expiries_exact : AreAllAllowed app (runner_point r b) entry → AreExactEffects app (runner_point r b) entry cases
-  expiries_exact all x value listed within passing = shows_listed all value within x (contained_among cases x listed) passing
+  acts_stay : (again : Bool) (x : EffectCase) → Among x (map (case_at (expiring app r (the_block app b.0).next a again)) (actions app (the_alarm app a).action)) → IsKnownStay app x.leaving.stay
+  acts_stay again x m = stay_there app (expiring app r (the_block app b.0).next a again) (actions app (the_alarm app a).action) x m
+
+  each_stays : (x : EffectCase) → Among x cases → IsKnownStay app x.leaving.stay
+  each_stays x (inl e) = subst (λ (y : EffectCase). IsKnownStay app y.leaving.stay) (sym e) tt
+  each_stays x (inr (inl e)) = subst (λ (y : EffectCase). IsKnownStay app y.leaving.stay) (sym e) tt
+  each_stays x (inr (inr m)) = ⊎_elim (acts_stay false x) (acts_stay true x) (among_cases x _ _ m)
+
+  pub expiries_are_cases : AreCasesOf app (runner_point r b) cases
+  expiries_are_cases = record {
+    covering = covers_by app r b owns cases (λ s choice h. some_effect app s r b h a known is choice);
+    exact = λ entry all x value listed within passing. shows_listed entry all value within x (contained_among cases x listed) passing;
+    stays = λ x listed. each_stays x (contained_among cases x listed);
+  }

@@ -2,9 +2,8 @@
 ghost use Rattle.std.specs.Prelude.{◌≡◌, ◌<◌, length, map, IsTrue, IfOk};
 ghost use Rattle.osek_standard.specs.Apps.{tables, the_block};
 ghost use Rattle.osek_standard.specs.Validity.{HasOperands};
-ghost use Rattle.abstract_state.specs.declared.table.Entry.{Entry};
 ghost use Rattle.flow_model.specs.Runners.{runner_point, OwnsBlock, IsKnown};
-ghost use Rattle.flow_model.specs.Effects.{CoverEffects, AreAllAllowed, AreExactEffects, HaveKnownStays};
+ghost use Rattle.flow_model.specs.Effects.{AreCasesOf};
 ghost use Rattle.flow_services.specs.Occasions.{case_at};
 ghost use Rattle.flow_services.specs.Services.{is_service_call as is_service_call_of, is_service as is_service_of, call_cases as call_cases_of};
 
@@ -109,9 +108,7 @@ pub fn service_cases(
 ) -> Result<Seq<EffectCase>, Memory>
     requires owns { OwnsBlock app.now runner block }
     requires service { IsTrue (is_service_of (the_block app.now block.0).kind) }
-    ensures covering { IfOk result (λ cases. (entry : Entry) → CoverEffects app.now (runner_point runner block) entry cases) }
-    ensures exact { IfOk result (λ cases. (entry : Entry) → AreAllAllowed app.now (runner_point runner block) entry → AreExactEffects app.now (runner_point runner block) entry cases) }
-    ensures stays { IfOk result (λ cases. HaveKnownStays app.now cases) }
+    ensures { IfOk result (AreCasesOf app.now (runner_point runner block)) }
 {
     let place = app.block(block);
     match place.kind {
