@@ -28,8 +28,11 @@ abbrev pub effect_by : List Condition → List Change → Leaving → EffectCase
 effect_by conditions changes leaving = record { conditions = conditions; changes = changes; leaving = leaving }
 
 -- the processor stays at this point
+abbrev pub leaving_at : Point → Asked → Option Status → Leaving
+leaving_at point asked status = record { asked = asked; stay = stay.At point; status = status }
+
 abbrev pub effect_case : List Condition → List Change → Asked → Option Status → Point → EffectCase
-effect_case conditions changes asked status point = effect_by conditions changes (record { asked = asked; stay = stay.At point; status = status })
+effect_case conditions changes asked status point = effect_by conditions changes (leaving_at point asked status)
 
 -- what an ask of a task's instruction asks of the scheduler
 abbrev pub asked_when : TaskNo → Ask → Asked

@@ -86,3 +86,9 @@ pub record ShowsEffect (app : App) (p : Point) (x : EffectCase) (value : ℕ →
 abbrev pub AreExactEffects : App → Point → Entry → List EffectCase → Type 0
 AreExactEffects app p entry cases =
     (x : EffectCase) (value : ℕ → PartValue) → Contains cases x → AreIn app entry value → PassesAll app x.conditions value → ShowsEffect app p x value
+
+-- These are the cases of the instructions at the point, whatever the entry there.
+pub record AreCasesOf (app : App) (p : Point) (cases : List EffectCase) : Type 0 where
+  pub covering : (entry : Entry) → CoverEffects app p entry cases
+  pub exact : (entry : Entry) → AreAllAllowed app p entry → AreExactEffects app p entry cases
+  pub stays : HaveKnownStays app cases

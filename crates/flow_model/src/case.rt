@@ -36,6 +36,22 @@ pub struct Leaving {
     pub status: Option<Status>,
 }
 
+impl Leaving {
+    ghost use Rattle.std.specs.Prelude.{◌≡◌};
+    ghost use Rattle.flow_model.specs.Cases.{leaving_at};
+
+    /// The processor stays at a point.
+    pub fn at(point: Point, asked: Asked, status: Option<Status>) -> Leaving
+        ensures { result ≡ leaving_at point asked status }
+    {
+        Leaving {
+            asked,
+            stay: Stay::At(point),
+            status,
+        }
+    }
+}
+
 /// A case of the effect of an instruction: the values of components that it takes, and what it does then. A component
 /// passes where it passes each condition on it; the first change that names it says what becomes of it, and where none
 /// does it stays as it is.
