@@ -5,4 +5,3 @@ pub mod TaskEnds
 pub mod Resources
 pub mod Waiting
 pub mod Returns
-pub mod Reading

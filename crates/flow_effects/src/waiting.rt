@@ -9,7 +9,7 @@ use crate::conditions::if_task;
 use crate::moves::refuses;
 use crate::task_ends::refused_holding;
 use abstract_state::{Component, ComponentNo, PartValue, Point, Val, component_number};
-use flow_model::{Asked, Change, Condition, EffectCase, Runner, Test, Update};
+use flow_model::{Asked, Change, Condition, EffectCase, Leaving, Runner, Test, Update};
 use osek_standard::App;
 use osek_values::{BlockNo, EventNo, Mask, Memory, Seq, Status, TaskNo};
 use std::alloc::Global;
@@ -125,9 +125,7 @@ fn waits(
     Ok(EffectCase {
         conditions,
         changes,
-        asked: Asked::Left,
-        status: Some(Status::Ok),
-        point: Point::Idle,
+        leaving: Leaving::at(Point::Idle, Asked::Left, Some(Status::Ok)),
     })
 }
 

@@ -6,4 +6,4 @@ pub mod laws;
 mod sifting;
 mod updating;
 
-pub use applying::{apply, apply_into};
+pub use applying::apply;

@@ -88,12 +88,6 @@ all_bits_joined before other now c whole h k = elim (cases_lt k c) [
       ∙ ap (bit_or (further_bits before k)) (sym (no_further other k (omega (arith, whole, le))))
 ]
 
--- the bits of components up to one are the other's
-pub record AreBitsPutUpTo (before other : List (Vec ℕ)) (c : ℕ) (now : List (Vec ℕ)) : Type 0 where
-  pub as_many : length now ≡ length before
-  pub done : (k : ℕ) → k < c → further_bits now k ≡ further_bits other k
-  pub kept : (k : ℕ) → c ≤ k → further_at now k ≡ further_at before k
-
 -- the words of components up to one stand in a copy
 pub record AreWordsCopied (more : List (Vec ℕ)) (c : ℕ) (copy : List (Vec ℕ)) : Type 0 where
   pub as_many : length copy ≡ c

@@ -81,13 +81,13 @@ order_onward pool a b below = record {
 }
 
 -- the number by which a value is there
-record Found (vs : List PartValue) (has : ℕ → Bool) (w : PartValue) : Type 0 where
-  number : ℕ
-  known : number < length vs
-  is : (d : PartValue) → get_or vs number d ≡ w
-  there : has number ≡ true
+pub record Found (vs : List PartValue) (has : ℕ → Bool) (w : PartValue) : Type 0 where
+  pub number : ℕ
+  pub known : number < length vs
+  pub is : (d : PartValue) → get_or vs number d ≡ w
+  pub there : has number ≡ true
 
-found : (vs : List PartValue) (has : ℕ → Bool) (w : PartValue) → has_value vs has w ≡ true → Found vs has w
+pub found : (vs : List PartValue) (has : ℕ → Bool) (w : PartValue) → has_value vs has w ≡ true → Found vs has w
 found [] has w e = absurd (cc)
 found (v ∷ vs) has w e = elim (or_cases (has 0 && same_part w v) (has_value vs (λ n. has (suc n)) w) (sym (any_first (has 0) v w (values_with vs (λ n. has (suc n)))) ∙ e)) [
   | inl here ↦ (let parts = and_parts (has 0) (same_part w v) here in record { number = 0; known = omega arith; is = λ d. sym (part_right w v parts.1); there = parts.0 })

@@ -8,9 +8,6 @@ use Rattle.numbered_sets.specs.Numbers.{Numbers, numbers, joined_numbers, number
 abbrev pub set_of : List Numbers → ℕ → Numbers
 set_of sets c = slice_index_or sets c (numbers domain.Alarm 0)
 
-abbrev pub domains_of : List Numbers → List Domain
-domains_of sets = map (λ (x : Numbers). x.domain) sets
-
 -- How many numbers there are in all.
 abbrev pub all_numbers : List Numbers → ℕ
 all_numbers sets = sum_by number_count sets
