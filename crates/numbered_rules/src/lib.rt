@@ -2,7 +2,6 @@
 #![tactic(auto)]
 
 mod applying;
-pub mod laws;
 mod sifting;
 mod updating;
 
