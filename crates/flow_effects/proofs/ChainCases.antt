@@ -18,7 +18,6 @@ use Rattle.osek_standard.specs.TaskStates.{is_suspended}
 use Rattle.osek_standard.specs.States.{task_state, caller}
 use Rattle.osek_standard.specs.Services.{unnoted, refused, left, ended, activated, holds_some, is_full, chain_task}
 use Rattle.osek_standard.specs.Effects.{place_at, moved_to}
-use Rattle.abstract_state.specs.declared.table.Entry.{Entry}
 use Rattle.abstract_state.specs.Components.{component_count, abstract_of}
 use Rattle.flow_model.specs.declared.case.EffectCase.{EffectCase}
 use Rattle.flow_model.specs.declared.case.Asked.TheVariants as asked

@@ -151,31 +151,40 @@ module _ (app : App) (r : Runner) (b : BlockNo) (owns : OwnsBlock app r b) where
 
   -- nothing is done at all
   pub idle_cases : ((s : State) (choice : Bool) → Stands app s r b → effect app s choice ≡ noted app (unnoted s ask.No)) → AreCases (stays r b ∷ [])
-  idle_cases nothing = one_case app r b owns (stays r b) refl (tt, λ s choice h passing.
-      has_effect app (stays r b) s choice (noted app (unnoted s ask.No)) (nothing s choice h) passing (point_there app s r b h) (λ c lt. refl) refl refl)
+  idle_cases nothing = one_case app r b owns (stays r b) refl (
+    tt,
+    λ s choice h passing.
+        has_effect app (stays r b) s choice (noted app (unnoted s ask.No)) (nothing s choice h) passing (point_there app s r b h) (λ c lt. refl) refl refl,
+  )
 
   pub loop_cases : (the_block app b.0).kind ≡ kind.Loop → AreCases (onward r next)
   loop_cases is = goes_on_cases app r b owns kind.Loop None (λ s choice p x. refl) is (λ s h. refl)
 
   pub count_cases : (the_block app b.0).kind ≡ kind.CountUp → AreCases (onward r next)
-  count_cases is = one_case app r b owns (passes_by r next) refl (tt, λ s choice h passing.
-      let after : State = moved_to s next in
-      let by : Caller = caller s.processor in
-      call_has app (passes_by r next) s choice r b kind.CountUp (unnoted (counted_by app after by) ask.No) (λ s choice p x. refl) h is refl passing (record {
-        point = counted_point app after by ∙ point_there app after r next (went_on app s r b next h (next_owned app s r b h));
-        parts = λ c lt. counted_parts app after by (component_at app c) ∙ moved_parts app s next 0 r b h c lt;
-        asked = asked_none app r kind.CountUp;
-        kept = λ _. counted_kept app after by ∙ moved_has app s h.well (place_at next 0);
-        status = refl;
-      }))
+  count_cases is = one_case app r b owns (passes_by r next) refl (
+    tt,
+    λ s choice h passing.
+        let after : State = moved_to s next in
+        let by : Caller = caller s.processor in
+        call_has app (passes_by r next) s choice r b kind.CountUp (unnoted (counted_by app after by) ask.No) (λ s choice p x. refl) h is refl passing (record {
+          point = counted_point app after by ∙ point_there app after r next (went_on app s r b next h (next_owned app s r b h));
+          parts = λ c lt. counted_parts app after by (component_at app c) ∙ moved_parts app s next 0 r b h c lt;
+          asked = asked_none app r kind.CountUp;
+          kept = λ _. counted_kept app after by ∙ moved_has app s h.well (place_at next 0);
+          status = refl;
+        }),
+  )
 
   pub halt_cases : (the_block app b.0).kind ≡ kind.Call call.ShutdownOs → AreCases (halts r next)
-  halt_cases is = one_case app r b owns _ refl (tt, λ s choice h passing.
-      let after : State = moved_to s next in
-      let on = went_on app s r b next h (next_owned app s r b h) in
-      has_effect app _ s choice (shut_down app after) (effect_there app s r b (kind.Call call.ShutdownOs) choice h is) passing
-      (halted_point after after.processor (is_active app after r next on))
-      (λ c lt. halted_parts after after.processor (component_at app c) ∙ moved_parts app s next 0 r b h c lt) refl refl)
+  halt_cases is = one_case app r b owns _ refl (
+    tt,
+    λ s choice h passing.
+        let after : State = moved_to s next in
+        let on = went_on app s r b next h (next_owned app s r b h) in
+        has_effect app _ s choice (shut_down app after) (effect_there app s r b (kind.Call call.ShutdownOs) choice h is) passing
+        (halted_point after after.processor (is_active app after r next on))
+        (λ c lt. halted_parts after after.processor (component_at app c) ∙ moved_parts app s next 0 r b h c lt) refl refl,
+  )
 
   module _ (other : BlockNo) (is : (the_block app b.0).kind ≡ kind.Choice other) where
     chosen : (s : State) (choice : Bool) → Stands app s r b → HasEffect app (passes_by r (if choice then next else other)) s choice

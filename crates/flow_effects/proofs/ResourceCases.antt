@@ -1,5 +1,5 @@
 -- The cases of GetResource and ReleaseResource are their effects.
-use Rattle.std.proofs.Common.{◌≡◌, ℕ, ◌-◌, ◌^◌, ◌<◌, Bool, true, false, not, ◌&&◌, ◌||◌, nat_eq, nat_lt, List, [], ◌∷◌, ◌++◌, length, length-append, take, refl, sym, ap, subst, ◌∙◌, inl, inr, arith, Some, None, IsTrue, get_or, suc, get_or-set_same}
+use Rattle.std.proofs.Common.{◌≡◌, ℕ, ◌-◌, ◌^◌, ◌<◌, Bool, true, false, not, ◌||◌, nat_eq, List, [], ◌∷◌, ◌++◌, length, length-append, take, refl, sym, ap, subst, ◌∙◌, inl, inr, arith, Some, None, IsTrue, get_or, suc, get_or-set_same}
 use Rattle.std.specs.Prelude.{◌==◌, if◌then◌else◌}
 use Rattle.std.specs.List.{list_any, range_with_len}
 use Rattle.std.specs.Int.{bit_at}
@@ -27,7 +27,7 @@ use Rattle.osek_standard.specs.States.{task_state, caller, place_by, place_in, i
 use Rattle.osek_standard.specs.Points.{point_at, point_of}
 use Rattle.osek_standard.specs.Services.{unnoted, refused, accepted, with_stack, with_held, is_on_top, get_resource, release_resource, get_resource_by, release_resource_by}
 use Rattle.osek_standard.specs.Effects.{place_at, moved_to, called}
-use Rattle.osek_standard.proofs.Members.{Among, among_map, map_among, among_range, range_among}
+use Rattle.osek_standard.proofs.Members.{among_map, map_among, among_range, range_among}
 use Rattle.osek_standard.specs.Well.{Well}
 use Rattle.osek_standard.proofs.StackLaws.{held_stack, not_taken, push_stack, stack_few}
 use Rattle.flow_services.proofs.ServiceListing.{operands_of}

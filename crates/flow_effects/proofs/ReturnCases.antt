@@ -1,5 +1,5 @@
 -- The cases of the end of a routine are its effects.
-use Rattle.std.proofs.Common.{◌≡◌, ℕ, ◌<◌, Bool, List, [], ◌∷◌, length, refl, sym, ap, subst, ◌∙◌, Some, None}
+use Rattle.std.proofs.Common.{◌≡◌, ℕ, ◌<◌, Bool, [], ◌∷◌, length, refl, sym, ap, subst, ◌∙◌, Some, None}
 use Rattle.osek_values.specs.declared.numbers.{TaskNo.{TaskNo}, BlockNo.{BlockNo}}
 use Rattle.osek_values.specs.declared.status.Ask.TheVariants as ask
 use Rattle.osek_standard.specs.declared.app.App.{App}
@@ -9,10 +9,8 @@ use Rattle.osek_standard.specs.declared.state.{State.{State}, Processor.{Process
 use Rattle.osek_standard.specs.declared.state.Source.TheVariants as source
 use Rattle.osek_standard.specs.declared.state.Processor.TheVariants as processor
 use Rattle.osek_standard.specs.declared.task_state.Activity.{Activity}
-use Rattle.osek_standard.specs.declared.task_state.Activity.TheVariants as activity
 use Rattle.osek_standard.specs.declared.point.Point.TheVariants as point
 use Rattle.osek_standard.specs.Apps.{the_task, the_block}
-use Rattle.osek_standard.specs.TaskStates.{held_in}
 use Rattle.osek_standard.specs.States.{task_state, with_processor, with_source, place_in}
 use Rattle.osek_standard.specs.Services.{unnoted}
 use Rattle.osek_standard.specs.Effects.{effect, noted, asked_over, returned_by}
@@ -21,8 +19,6 @@ use Rattle.abstract_state.specs.declared.value.{Component.{Component}, Val.{Val}
 use Rattle.abstract_state.specs.Concrete.{val_of}
 use Rattle.abstract_state.specs.declared.value.Component.TheVariants as component
 use Rattle.abstract_state.specs.Components.{component_at, part_of, abstract_of}
-use Rattle.flow_model.specs.declared.case.EffectCase.{EffectCase}
-use Rattle.flow_model.specs.declared.test.Test.TheVariants as test
 use Rattle.flow_model.specs.declared.runner.Runner.{Runner}
 use Rattle.flow_model.specs.declared.runner.Runner.TheVariants as runner
 use Rattle.flow_model.specs.Runners.{Stands, OwnsBlock, runner_point}
@@ -53,11 +49,14 @@ module _ (app : App) (b : BlockNo) (is : (the_block app b.0).kind ≡ kind.IsrEn
 
   -- over none
   none_returns : OwnsBlock app (runner.Routine None) b → AreCasesOf app (runner_point (runner.Routine None) b) (leaves_idle ∷ [])
-  none_returns owns = one_case app (runner.Routine None) b owns leaves_idle refl (tt, λ s choice h passing.
-      let k = h.runs.source in
-      has_effect app leaves_idle s choice (noted app (unnoted (with_processor (with_source s k.0 source.Out) processor.Idle) ask.Free))
-      (return_effect (runner.Routine None) s choice (processor.Interrupted k None) h h.runs.runs) passing refl
-      (λ c lt. back_parts s k.0 processor.Idle (component_at app c)) refl refl)
+  none_returns owns = one_case app (runner.Routine None) b owns leaves_idle refl (
+    tt,
+    λ s choice h passing.
+        let k = h.runs.source in
+        has_effect app leaves_idle s choice (noted app (unnoted (with_processor (with_source s k.0 source.Out) processor.Idle) ask.Free))
+        (return_effect (runner.Routine None) s choice (processor.Interrupted k None) h h.runs.runs) passing refl
+        (λ c lt. back_parts s k.0 processor.Idle (component_at app c)) refl refl,
+  )
 
   -- over a task
   module _ (t : TaskNo) (owns : OwnsBlock app (runner.Routine (Some t)) b) where

@@ -21,7 +21,6 @@ use Rattle.osek_standard.specs.Effects.{noted, end_task, place_at, moved_to, cal
 use Rattle.osek_standard.specs.Well.{Well}
 use Rattle.abstract_state.specs.declared.value.{Component.{Component}, PartValue.{PartValue}, Val.TheVariants.{Suspended}, PartValue.TheVariants.{OfTask}}
 use Rattle.abstract_state.specs.declared.value.Component.TheVariants as component
-use Rattle.abstract_state.specs.declared.table.Entry.{Entry}
 use Rattle.abstract_state.specs.Components.{component_count, component_at, abstract_of, part_of}
 use Rattle.flow_model.specs.declared.case.EffectCase.{EffectCase}
 use Rattle.flow_model.specs.declared.case.Asked.TheVariants as asked
@@ -87,10 +86,13 @@ module _ (app : App) (t : TaskNo) (b : BlockNo) (owns : OwnsBlock app (runner.Ta
 
   -- the end of a task
   pub task_end : (the_block app b.0).kind ≡ kind.TaskEnd → AreCasesOf app (runner_point r b) (task_end_cases r b)
-  task_end is = one_case app r b owns (ends t []) refl (tt, λ s choice h passing.
-      has_effect app (ends t []) s choice (noted app (unnoted (left (ended app s t.0)) ask.Left))
-      (effect_there app s r b kind.TaskEnd choice h is ∙ ap (λ (c : Caller). noted app (end_task app s c)) (task_calls app s t b h))
-      passing refl (ended_parts app s h.well t owns.0) refl refl)
+  task_end is = one_case app r b owns (ends t []) refl (
+    tt,
+    λ s choice h passing.
+        has_effect app (ends t []) s choice (noted app (unnoted (left (ended app s t.0)) ask.Left))
+        (effect_there app s r b kind.TaskEnd choice h is ∙ ap (λ (c : Caller). noted app (end_task app s c)) (task_calls app s t b h))
+        passing refl (ended_parts app s h.well t owns.0) refl refl,
+  )
 
   -- what the caller holds is as before the move
   pub same_holds : (s : State) → Stands app s r b → holds_some (after s) t.0 ≡ holds_some s t.0

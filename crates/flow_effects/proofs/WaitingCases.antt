@@ -25,7 +25,6 @@ use Rattle.osek_standard.specs.Kernel.{has_bit}
 use Rattle.osek_standard.proofs.Members.{Among, among_map, map_among}
 use Rattle.abstract_state.specs.declared.value.{Val.TheVariants.{Waiting}, PartValue.TheVariants.{OfTask, OfEvent}}
 use Rattle.abstract_state.specs.declared.value.Component.TheVariants as component
-use Rattle.abstract_state.specs.declared.table.Entry.{Entry}
 use Rattle.abstract_state.specs.Components.{component_at, component_count, component_number, abstract_of, part_of}
 use Rattle.abstract_state.specs.Domains.{HasMasks}
 use Rattle.abstract_state.proofs.Numbers.{component_here, number_known}
@@ -265,12 +264,15 @@ module _ (app : App) (b : BlockNo) (m : Mask) (is : (the_block app b.0).kind ≡
     at_interrupt s c k e = ap (λ (d : Caller). wait_event app s d m.0) e
 
     wait_routine_cases : AreCasesOf app (runner_point (runner.Routine over) b) (refuses (runner.Routine over) onto status.CallLevel)
-    wait_routine_cases = one_case app (runner.Routine over) b owns (goes_on (runner.Routine over) onto [] asked.No (Some status.CallLevel)) refl (tt, λ s choice h passing.
-        has_effect app (goes_on (runner.Routine over) onto [] asked.No (Some status.CallLevel)) s choice (noted app (answer (moved_to s onto) (Some status.CallLevel) None ask.No))
-        (effect_there app s (runner.Routine over) b (kind.Call (call.Mask call.WaitEvent m)) choice h is
-        ∙ ap (λ (y : Answer). noted app (goes_on_unless_left onto y)) (at_interrupt s (caller s.processor) h.runs.source (routine_calls app s over b h)))
-        passing (point_there app (moved_to s onto) (runner.Routine over) onto (went_on app s (runner.Routine over) b onto h (next_owned app s (runner.Routine over) b h)))
-        (λ c lt. moved_parts app s onto 0 (runner.Routine over) b h c lt) refl refl)
+    wait_routine_cases = one_case app (runner.Routine over) b owns (goes_on (runner.Routine over) onto [] asked.No (Some status.CallLevel)) refl (
+      tt,
+      λ s choice h passing.
+          has_effect app (goes_on (runner.Routine over) onto [] asked.No (Some status.CallLevel)) s choice (noted app (answer (moved_to s onto) (Some status.CallLevel) None ask.No))
+          (effect_there app s (runner.Routine over) b (kind.Call (call.Mask call.WaitEvent m)) choice h is
+          ∙ ap (λ (y : Answer). noted app (goes_on_unless_left onto y)) (at_interrupt s (caller s.processor) h.runs.source (routine_calls app s over b h)))
+          passing (point_there app (moved_to s onto) (runner.Routine over) onto (went_on app s (runner.Routine over) b onto h (next_owned app s (runner.Routine over) b h)))
+          (λ c lt. moved_parts app s onto 0 (runner.Routine over) b h c lt) refl refl,
+    )
 
   pub all_waits : (r : Runner) → HasMasks app → OwnsBlock app r b → AreCasesOf app (runner_point r b) (wait_cases app r b (the_block app b.0).next m)
   all_waits (runner.Task t) few owns = wait_task_cases app t b owns m is few
