@@ -2,7 +2,7 @@ pub mod EndedLines
 pub mod EventSteps
 pub mod FaultlessReads
 pub mod FedPlays
-pub mod Fronts
+pub mod Prefixes
 pub mod GivenTexts
 pub mod InputFiles
 pub mod PlayEnds
