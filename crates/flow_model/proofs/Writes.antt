@@ -3,6 +3,7 @@ use Rattle.std.proofs.Common.{◌≡◌, ◌≢◌, ℕ, ◌<◌, Bool, true, fa
 use Rattle.std.specs.Prelude.{if◌then◌else◌}
 use Rattle.std.proofs.lemmas.Bool.{cases_Bool, cases_eq}
 use Rattle.osek_values.specs.Numbers.{task_no, event_no, alarm_no}
+use Rattle.osek_values.specs.Bits.{has_bit, bits_of}
 use Rattle.osek_standard.specs.declared.app.App.{App}
 use Rattle.osek_standard.specs.declared.state.{State.{State}, AlarmState.{AlarmState}}
 use Rattle.osek_standard.specs.declared.state.AlarmState.TheVariants as alarm
