@@ -415,6 +415,8 @@ class Ends(unittest.TestCase):
         self.assertIn('→ '.encode() if b'direct' in done.stdout else 'é'.encode(), done.stdout)
 
     def test_scripts_can_be_run(self):
-        for name in sorted(os.listdir(HERE)):
-            if name.endswith('.py') and "__name__ == '__main__'" in contents(os.path.join(HERE, name)) and not name.startswith('test_texts'):
-                self.assertTrue(os.access(os.path.join(HERE, name), os.X_OK), name)
+        for folder in (HERE, os.path.join(check_documents.ROOT, 'bench')):
+            for name in sorted(os.listdir(folder)):
+                file = os.path.join(folder, name)
+                if name.endswith('.py') and "__name__ == '__main__'" in contents(file) and not name.startswith('test_texts'):
+                    self.assertTrue(os.access(file, os.X_OK), name)
