@@ -20,6 +20,7 @@ import image
 import least_table
 import lint
 import lint_oil
+import locks
 import model
 import oil
 import prove
@@ -304,6 +305,18 @@ class Explanations(unittest.TestCase):
                         file.write(content)
                 texts = causes.Texts(at[rule[0] != 'O'], line, ['build'] + at)
                 self.assertEqual(causes.told(rule, texts, explain.guide()), told)
+
+    def test_locks_that_do_not_pair(self):
+        for body, told in (('SuspendAllInterrupts();\nResumeOSInterrupts();', [(3, 'ResumeOSInterrupts meets SuspendAllInterrupts of line 2 open')]),
+                           ('ResumeAllInterrupts();', [(2, 'ResumeAllInterrupts meets no lock open')]),
+                           ('DisableAllInterrupts();\nDisableAllInterrupts();', [(3, 'twice, since DisableAllInterrupts of line 2 open')]),
+                           ('SuspendOSInterrupts();\nSchedule();', [(3, 'Schedule within SuspendOSInterrupts of line 2 open')]),
+                           ('SuspendOSInterrupts();\n' * 9, [(10, 'a ninth lock')]),
+                           ('if (?) { SuspendOSInterrupts();\n}', [(3, 'one branch ends with SuspendOSInterrupts of line 2 open, and the other way has no lock open')]),
+                           ('while (?) { SuspendOSInterrupts();\n}', [(3, 'the loop goes round with SuspendOSInterrupts of line 2 open, and the other way has no lock open')]),
+                           ('SuspendOSInterrupts();', [(3, 'the body ends with SuspendOSInterrupts of line 2 open')]),
+                           ('if (?) { SuspendOSInterrupts(); work 1; } else { SuspendOSInterrupts(); }\nResumeOSInterrupts();', [])):
+            self.assertEqual(locks.faults_of('TASK(T) {\n%s\n}\nTASK(U) { }' % body, 'c'), told)
 
 
 class Regressions(unittest.TestCase):
