@@ -5,6 +5,7 @@ import re
 
 import application
 import lint_oil
+import locks
 import oil
 import task_code
 from given import Wrong, contents
@@ -169,6 +170,10 @@ def names_in_calls(texts, _):
     return ['not declared: the %s %s%s' % (KINDS[letter], name, nearest(name, known[letter])) for letter, name in names]
 
 
+def locks_that_do_not_pair(texts, _):
+    return ('here: ' + what for line, what in locks.faults_of(contents(texts.words[2]), texts.name) if line == texts.place)
+
+
 def sources(texts, _):
     """The sources of interrupts of the two texts that the command names."""
     if texts.words[:1] == ['trace']:
@@ -178,5 +183,6 @@ def sources(texts, _):
 
 
 TELLERS = {'L1': signs, 'S': wanted, 'O2': second_ones, 'O4': missing, 'O6': unfit_values, 'O7': undeclared, 'O8': shared_priorities,
-           'O14': counters, 'C1': bodies, 'C2': bodies, 'C4': names_in_calls, 'E2': sources}
+           'O14': counters, 'C1': bodies, 'C2': bodies, 'C4': names_in_calls,
+           'C7': locks_that_do_not_pair, 'E2': sources}
 """What tells of a rule, or of a letter of rules."""

@@ -148,10 +148,12 @@ def table(sizes, minutes, each):
     head = ['crate'] + list(Sizes._fields) + (['%s min' % kind for kind in KINDS] if minutes is not None else [])
     rows = [head]
     for name, one in sizes.items() if each or minutes is not None else []:
-        rows.append(row(name, one, minutes and minutes.get(name, Counter())))
+        rows.append(row(name, one, None if minutes is None else minutes.get(name, Counter())))
     tests = {name: one for name, one in sizes.items() if name.endswith('_cases')}
     for name, some in (('%d crates' % len(sizes), sizes), ('of these %d of tests' % len(tests), tests)):
         total = None if minutes is None else sum((minutes.get(crate, Counter()) for crate in some), Counter())
+        if not some:
+            break
         rows.append(row(name, Sizes(*map(sum, zip(*some.values()))), total))
     return rows
 

@@ -24,8 +24,8 @@ ROOT = os.path.dirname(os.path.dirname(os.path.abspath(__file__)))
 
 MEMORY_EACH = 4 << 30
 
-SECONDS_EACH, SECONDS_A_LINE = 12, 0.09
-"""What a first check takes of a processor: so much, and more for each line of code. Measured, crate by crate, within a third or so."""
+SECONDS_EACH, SECONDS_A_LINE = 12, 0.11
+"""What a first check takes of a processor: so much, and more for each line of code. Measured, crate by crate, within twice or half of it."""
 
 SHOWN = 20
 """How many lines of what rt said are shown where a crate isn't proved."""

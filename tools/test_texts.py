@@ -20,6 +20,7 @@ import image
 import least_table
 import lint
 import lint_oil
+import locks
 import model
 import oil
 import prove
@@ -305,6 +306,18 @@ class Explanations(unittest.TestCase):
                 texts = causes.Texts(at[rule[0] != 'O'], line, ['build'] + at)
                 self.assertEqual(causes.told(rule, texts, explain.guide()), told)
 
+    def test_locks_that_do_not_pair(self):
+        for body, told in (('SuspendAllInterrupts();\nResumeOSInterrupts();', [(3, 'ResumeOSInterrupts meets SuspendAllInterrupts of line 2 open')]),
+                           ('ResumeAllInterrupts();', [(2, 'ResumeAllInterrupts meets no lock open')]),
+                           ('DisableAllInterrupts();\nDisableAllInterrupts();', [(3, 'twice, since DisableAllInterrupts of line 2 open')]),
+                           ('SuspendOSInterrupts();\nSchedule();', [(3, 'Schedule within SuspendOSInterrupts of line 2 open')]),
+                           ('SuspendOSInterrupts();\n' * 9, [(10, 'a ninth lock')]),
+                           ('if (?) { SuspendOSInterrupts();\n}', [(3, 'one branch ends with SuspendOSInterrupts of line 2 open, and the other way has no lock open')]),
+                           ('while (?) { SuspendOSInterrupts();\n}', [(3, 'the loop goes round with SuspendOSInterrupts of line 2 open, and the other way has no lock open')]),
+                           ('SuspendOSInterrupts();', [(3, 'the body ends with SuspendOSInterrupts of line 2 open')]),
+                           ('if (?) { SuspendOSInterrupts(); work 1; } else { SuspendOSInterrupts(); }\nResumeOSInterrupts();', [])):
+            self.assertEqual(locks.faults_of('TASK(T) {\n%s\n}\nTASK(U) { }' % body, 'c'), told)
+
 
 class Regressions(unittest.TestCase):
     def test_differences_are_told(self):
@@ -415,6 +428,8 @@ class Ends(unittest.TestCase):
         self.assertIn('→ '.encode() if b'direct' in done.stdout else 'é'.encode(), done.stdout)
 
     def test_scripts_can_be_run(self):
-        for name in sorted(os.listdir(HERE)):
-            if name.endswith('.py') and "__name__ == '__main__'" in contents(os.path.join(HERE, name)) and not name.startswith('test_texts'):
-                self.assertTrue(os.access(os.path.join(HERE, name), os.X_OK), name)
+        for folder in (HERE, os.path.join(check_documents.ROOT, 'bench')):
+            for name in sorted(os.listdir(folder)):
+                file = os.path.join(folder, name)
+                if name.endswith('.py') and "__name__ == '__main__'" in contents(file) and not name.startswith('test_texts'):
+                    self.assertTrue(os.access(file, os.X_OK), name)
