@@ -36,7 +36,7 @@ use Rattle.flow_model.proofs.Standing.{next_owned, task_calls, routine_calls}
 use Rattle.flow_model.proofs.Moves.{moved_suspended, went_on}
 use Rattle.flow_model.proofs.Calls.{asked_none, call_goes_on, call_has}
 use Rattle.flow_model.specs.Effects.{AreCasesOf}
-use Rattle.flow_effects.specs.Lists.{of_task}
+use Rattle.flow_effects.specs.Conditions.{of_task}
 use Rattle.flow_effects.specs.TaskEnds.{suspends, refused_holding, chains, holding_nothing, chain_to_itself, chain_to_another, chain_cases}
 use Rattle.flow_effects.proofs.Listed.{IsEffect, IsTaken, are_cases, more_listed, one_listed}
 use Rattle.flow_services.proofs.Seeing.{tests_suspended, tests_not_suspended}

@@ -26,7 +26,7 @@ module _ (app : App) (r : Runner) (b : BlockNo) where
   abbrev pub AreListed : List EffectCase → Type 0
   AreListed xs = (x : EffectCase) → Among x xs → IsCase x
 
-  pub none_listed : AreListed []
+  none_listed : AreListed []
   none_listed x m = absurd m
 
   pub more_listed : (x : EffectCase) (xs : List EffectCase) → IsCase x → AreListed xs → AreListed (x ∷ xs)

@@ -51,7 +51,7 @@ use Rattle.flow_model.proofs.ChangeLaws.{each_passes, passes_each}
 use Rattle.flow_model.proofs.Standing.{next_owned, task_calls, routine_calls}
 use Rattle.flow_model.proofs.Moves.{activity_parts, moved_held, moved_parts, moved_has, went_on}
 use Rattle.flow_model.proofs.Calls.{IsCall, asked_none, asked_maybe, call_goes_on, call_has}
-use Rattle.flow_effects.specs.Lists.{of_task}
+use Rattle.flow_effects.specs.Conditions.{of_task}
 use Rattle.flow_effects.specs.Moves.{refuses}
 use Rattle.flow_effects.specs.Resources.{restacks, only, nobody_holds, taken_cases, takes, gives_back, isnt_on_top, is_barred, get_cases, release_cases}
 use Rattle.flow_effects.proofs.Listed.{IsEffect, IsCase, AreListed, IsTaken, are_cases, both_listed, more_listed, one_listed, taken_first, taken_then}

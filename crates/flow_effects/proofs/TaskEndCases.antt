@@ -38,7 +38,7 @@ use Rattle.flow_model.proofs.Instructions.{effect_there}
 use Rattle.flow_model.proofs.Moves.{activity_parts, change_here, change_there, moved_held, moved_parts, went_on}
 use Rattle.flow_model.proofs.Calls.{IsCall, asked_none, call_goes_on, call_has, has_effect}
 use Rattle.flow_model.specs.Effects.{AreCasesOf}
-use Rattle.flow_effects.specs.Lists.{of_task}
+use Rattle.flow_effects.specs.Conditions.{of_task}
 use Rattle.flow_effects.specs.TaskEnds.{ends, task_end_cases, refused_holding, terminate_cases, schedule_cases}
 use Rattle.flow_effects.proofs.Listed.{IsEffect, IsTaken, are_cases, more_listed, one_listed}
 use Rattle.flow_effects.proofs.TaskValues.{task_passes, passes_task, some_is, holds_none, none_holds}

@@ -48,7 +48,7 @@ use Rattle.flow_model.proofs.Instructions.{effect_there}
 use Rattle.flow_model.proofs.Moves.{activity_parts, moved_parts, went_on}
 use Rattle.flow_model.proofs.Calls.{has_effect}
 use Rattle.flow_model.specs.Effects.{AreCasesOf}
-use Rattle.flow_effects.specs.Lists.{of_task}
+use Rattle.flow_effects.specs.Conditions.{of_task}
 use Rattle.flow_effects.specs.Moves.{refuses}
 use Rattle.flow_effects.specs.TaskEnds.{refused_holding}
 use Rattle.flow_effects.specs.Waiting.{of_event, awaited_events, goes_on_by, waits, extended_cases, wait_cases}

@@ -1,5 +1,5 @@
 pub mod CallNames
-pub mod Lists
+pub mod Conditions
 pub mod Moves
 pub mod TaskEnds
 pub mod Resources

@@ -17,7 +17,7 @@ use Rattle.flow_model.specs.declared.runner.Runner.{Runner}
 use Rattle.flow_model.specs.declared.runner.Runner.TheVariants as runner
 use Rattle.flow_model.specs.Runners.{change, runner_point}
 use Rattle.flow_model.specs.Cases.{effect_case, goes_on, asked_after}
-use Rattle.flow_effects.specs.Lists.{of_task}
+use Rattle.flow_effects.specs.Conditions.{of_task}
 use Rattle.flow_effects.specs.Moves.{onward, refuses}
 
 -- the task goes on to a block, and its stack becomes another there

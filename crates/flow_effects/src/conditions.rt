@@ -1,6 +1,6 @@
 //! Conditions.
 ghost use Rattle.std.specs.Prelude.{◌≡◌, [], ◌∷◌, IfOk};
-ghost use Rattle.flow_effects.specs.Lists.{of_task};
+ghost use Rattle.flow_effects.specs.Conditions.{of_task};
 
 use abstract_state::ComponentNo;
 use flow_model::{Condition, EffectCase, Test};

@@ -1,6 +1,6 @@
 //! The end of a task, and TerminateTask, ChainTask and Schedule.
 ghost use Rattle.std.specs.Prelude.{◌≡◌, ◌<◌, [], ◌∷◌, ◌++◌, length, IfOk};
-ghost use Rattle.flow_effects.specs.Lists.{of_task as condition_of};
+ghost use Rattle.flow_effects.specs.Conditions.{of_task as condition_of};
 ghost use Rattle.flow_effects.specs.TaskEnds.{suspends, ends, task_end_cases, refused_holding, terminate_cases, chains, holding_nothing, chain_to_itself, chain_to_another, chain_cases, schedule_cases};
 
 use crate::conditions::{if_task, of_task, one};

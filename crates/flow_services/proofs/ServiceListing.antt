@@ -1,24 +1,21 @@
 -- The lists that code makes are the cases of the block.
-use Rattle.std.proofs.Common.{◌≡◌, ◌<◌, Bool, true, false, List, length, map, sym, ap, subst, ◌∙◌, inl, inr, ⊎_elim, None, IsTrue}
+use Rattle.std.proofs.Common.{◌≡◌, ◌<◌, true, List, length, map, sym, ap, subst, ◌∙◌, None, IsTrue}
 use Rattle.osek_values.specs.declared.numbers.{AlarmNo.{AlarmNo}, BlockNo.{BlockNo}}
 use Rattle.osek_standard.specs.declared.app.App.{App}
 use Rattle.osek_standard.specs.declared.block.{Block.{Block}, Kind.{Kind}}
 use Rattle.osek_standard.specs.declared.block.Kind.TheVariants as kind
 use Rattle.osek_standard.specs.declared.call.Call.{Call}
-use Rattle.osek_standard.specs.Apps.{tables, the_block, the_alarm}
+use Rattle.osek_standard.specs.Apps.{tables, the_block}
 use Rattle.osek_standard.specs.Validity.{NamesEntries}
-use Rattle.osek_standard.proofs.Members.{Among, map_among, among_cases, contained_among}
 use Rattle.osek_standard.proofs.WellLaws.{own_block, routine_block}
-use Rattle.abstract_state.specs.declared.table.Entry.{Entry}
 use Rattle.flow_model.specs.declared.case.{Asked.{Asked}, EffectCase.{EffectCase}}
 use Rattle.flow_model.specs.declared.runner.Runner.{Runner}
 use Rattle.flow_model.specs.declared.runner.Runner.TheVariants as runner
 use Rattle.flow_model.specs.Cases.{asked_after}
 use Rattle.flow_model.specs.Effects.{AreCasesOf}
 use Rattle.flow_model.specs.Runners.{OwnsBlock, runner_point}
-use Rattle.flow_services.specs.declared.occasion.Occasion.{Occasion}
-use Rattle.flow_services.specs.Occasions.{ServiceCase, case_at}
-use Rattle.flow_services.specs.Services.{is_service, is_service_call, call_cases, calling, actions, expiring, expiries}
+use Rattle.flow_services.specs.Occasions.{case_at}
+use Rattle.flow_services.specs.Services.{is_service, call_cases, calling, expiries}
 use Rattle.flow_services.proofs.Calling.{calls_are_cases}
 use Rattle.flow_services.proofs.Expiring.{expiries_are_cases}
 
