@@ -18,6 +18,8 @@ struct Numbering {
     domain: Domain,
     seen: IndexSet<Seen>,
     filters: Filters,
+    // where the value that is asked for next stands most likely: behind the one that was asked for last
+    next: usize,
 }
 
 impl Model for Numbering {
@@ -51,11 +53,30 @@ impl Numbering {
             domain,
             seen: IndexSet::new(alloc),
             filters: Filters::new(alloc),
+            next: 0,
         }
     }
 
     /// The number of a value, which comes in last where it is new.
     fn number(&mut self, value: PartValue) -> Result<usize, Memory>
+        requires { IsWithin self.old.domain value }
+        ensures values { OnOk result (self.new ≡ value_seen self.old value) }
+        ensures number { IfOk result (IsNumberOf self.new.values value) }
+        ensures below { IfOk result (λ n. n < domain_size self.old.domain) }
+        ensures err { OnErr result (self.new ≡ self.old) }
+    {
+        let next = self.next;
+        if next < self.len() && self.value(next).is(&value) {
+            self.next = next + 1;
+            return Ok(next);
+        }
+        let number = self.number_by_search(value)?;
+        self.next = number.saturating_add(1);
+        Ok(number)
+    }
+
+    // the same by a search
+    fn number_by_search(&mut self, value: PartValue) -> Result<usize, Memory>
         requires { IsWithin self.old.domain value }
         ensures values { OnOk result (self.new ≡ value_seen self.old value) }
         ensures number { IfOk result (IsNumberOf self.new.values value) }
