@@ -1,5 +1,5 @@
--- A point and a form have each a text of their own.
-use Rattle.std.proofs.Common.{◌≡◌, ℕ, ◌<◌, ◌^◌, true, List, [], ◌∷◌, ◌++◌, map, length, refl, sym, ◌∙◌, ap, subst, arith, append_assoc, Option, Some, None}
+-- A point has a text of its own.
+use Rattle.std.proofs.Common.{◌≡◌, ℕ, ◌<◌, ◌^◌, true, List, [], ◌++◌, map, length, refl, sym, ◌∙◌, ap, subst, arith, append_assoc, Option, Some, None}
 use Rattle.std.specs.Prelude.{codes, IfSome}
 use Rattle.std.specs.Fmt.{decimal}
 use Rattle.std.proofs.Math.ListN.{get_or-map}
@@ -15,12 +15,9 @@ use Rattle.osek_standard.specs.Apps.{no_task}
 use Rattle.osek_standard.specs.Points.{IsPoint, IsTaskBlock, IsRoutineBlock}
 use Rattle.osek_standard.specs.TraceText.{task_name}
 use Rattle.osek_standard.proofs.WellLaws.{own_known, routine_known}
-use Rattle.image_model.specs.declared.site.Form.{Form}
-use Rattle.image_model.specs.declared.site.Form.TheVariants as form
-use Rattle.image_model.specs.Sites.{IsForm}
 use Rattle.text_pieces.proofs.NameLaws.{lacks, name_is, name_once}
-use Rattle.flow_text.specs.FlowLines.{block_text, form_text, point_text, task_or_dash}
-use Rattle.flow_text.proofs.Parting.{Lacks, byte_lacks, has_it, heads_differ, lacks_both, number_lacks, parted}
+use Rattle.trace_text.specs.PointTexts.{block_text, point_text, task_or_dash}
+use Rattle.trace_text.proofs.Parting.{Lacks, byte_lacks, has_it, heads_differ, lacks_both, number_lacks, parted}
 
 pub block_once : (b c : ℕ) → b < 2 ^ 64 → c < 2 ^ 64 → block_text b ≡ block_text c → b ≡ c
 block_once b c low high e = decimal_injective b c low high (append_cancel_left (codes "b") (decimal b) (decimal c) e)
@@ -29,7 +26,7 @@ pub block_lacks : (c b : ℕ) → c < 48 → b < 2 ^ 64 → Lacks c (block_text 
 block_lacks c b h fits = lacks_both c (codes "b") (decimal b) (byte_lacks c 98 (omega (arith, h))) (number_lacks c b h fits)
 
 module _ (app : App) where
-  abbrev IsKnown : Option TaskNo → Type 0
+  abbrev pub IsKnown : Option TaskNo → Type 0
   IsKnown x = IfSome x (λ t. t.0 < length app.tasks)
 
   named : (t : ℕ) → t < length app.tasks → is_name (task_name app t) ≡ true
@@ -38,61 +35,16 @@ module _ (app : App) where
       let within : t < length (map name app.tasks) = omega (arith, length-map app.tasks name, h) in
       subst (λ n. is_name n ≡ true) (get_or-map name app.tasks t no_task) (app.valid.task_names.each t [] within)
 
-  task_once : (x y : Option TaskNo) → IsKnown x → IsKnown y → task_or_dash app x ≡ task_or_dash app y → x ≡ y
+  pub task_once : (x y : Option TaskNo) → IsKnown x → IsKnown y → task_or_dash app x ≡ task_or_dash app y → x ≡ y
   task_once None None h k e = refl
   task_once None (Some t) h k e = absurd (true≢false (sym (named t.0 k) ∙ ap is_name (sym e)))
   task_once (Some t) None h k e = absurd (true≢false (sym (named t.0 h) ∙ ap is_name e))
   task_once (Some t) (Some u) h k e =
       ap (λ (n : ℕ). Some (task_no n)) (name_once (λ (x : Task). x.name) app.tasks no_task app.valid.task_names.distinct t.0 u.0 h k e)
 
-  task_lacks : (x : Option TaskNo) → IsKnown x → Lacks 32 (task_or_dash app x)
+  pub task_lacks : (x : Option TaskNo) → IsKnown x → Lacks 32 (task_or_dash app x)
   task_lacks None h = refl
   task_lacks (Some t) h = lacks 32 (task_name app t.0) refl (name_is (task_name app t.0) (named t.0 h)).bytes
-
-  direct_known : (x : Option TaskNo) → IsForm (length app.tasks) (form.Direct x) → IsKnown x
-  direct_known None h = tt
-  direct_known (Some t) h = h
-
-  pub form_once : (x y : Form) → IsForm (length app.tasks) x → IsForm (length app.tasks) y → form_text app x ≡ form_text app y → x ≡ y
-  form_once form.Never form.Never h k e = refl
-  form_once form.Never form.Stay h k e = absurd (heads_differ _ _ e refl)
-  form_once form.Never (form.Direct y) h k e = absurd (heads_differ _ _ e refl)
-  form_once form.Never form.General h k e = absurd (heads_differ _ _ e refl)
-  form_once form.Stay form.Never h k e = absurd (heads_differ _ _ e refl)
-  form_once form.Stay form.Stay h k e = refl
-  form_once form.Stay (form.Direct y) h k e = absurd (heads_differ _ _ e refl)
-  form_once form.Stay form.General h k e = absurd (heads_differ _ _ e refl)
-  form_once (form.Direct x) form.Never h k e = absurd (heads_differ _ _ e refl)
-  form_once (form.Direct x) form.Stay h k e = absurd (heads_differ _ _ e refl)
-  form_once (form.Direct x) (form.Direct y) h k e =
-      ap form.Direct (task_once x y (direct_known x h) (direct_known y k) (append_cancel_left (codes "direct ") (task_or_dash app x) (task_or_dash app y) e))
-  form_once (form.Direct x) form.General h k e = absurd (heads_differ _ _ e refl)
-  form_once form.General form.Never h k e = absurd (heads_differ _ _ e refl)
-  form_once form.General form.Stay h k e = absurd (heads_differ _ _ e refl)
-  form_once form.General (form.Direct y) h k e = absurd (heads_differ _ _ e refl)
-  form_once form.General form.General h k e = refl
-
-  -- a form, a blank, and what stands behind it
-  pub form_first : (x y : Form) (r s : List ℕ) → IsForm (length app.tasks) x → IsForm (length app.tasks) y → form_text app x ++ 32 ∷ r ≡ form_text app y ++ 32 ∷ s → (x ≡ y) × (r ≡ s)
-  form_first form.Never form.Never r s h k e = (refl, append_cancel_left (codes "never ") r s e)
-  form_first form.Never form.Stay r s h k e = absurd (heads_differ _ _ e refl)
-  form_first form.Never (form.Direct y) r s h k e = absurd (heads_differ _ _ e refl)
-  form_first form.Never form.General r s h k e = absurd (heads_differ _ _ e refl)
-  form_first form.Stay form.Never r s h k e = absurd (heads_differ _ _ e refl)
-  form_first form.Stay form.Stay r s h k e = (refl, append_cancel_left (codes "stay ") r s e)
-  form_first form.Stay (form.Direct y) r s h k e = absurd (heads_differ _ _ e refl)
-  form_first form.Stay form.General r s h k e = absurd (heads_differ _ _ e refl)
-  form_first (form.Direct x) form.Never r s h k e = absurd (heads_differ _ _ e refl)
-  form_first (form.Direct x) form.Stay r s h k e = absurd (heads_differ _ _ e refl)
-  form_first (form.Direct x) (form.Direct y) r s h k e =
-      let parts = parted 32 (task_or_dash app x) (task_or_dash app y) r s (task_lacks x (direct_known x h)) (task_lacks y (direct_known y k))
-      (append_cancel_left (codes "direct ") (task_or_dash app x ++ 32 ∷ r) (task_or_dash app y ++ 32 ∷ s) e) in
-      (ap form.Direct (task_once x y (direct_known x h) (direct_known y k) parts.0), parts.1)
-  form_first (form.Direct x) form.General r s h k e = absurd (heads_differ _ _ e refl)
-  form_first form.General form.Never r s h k e = absurd (heads_differ _ _ e refl)
-  form_first form.General form.Stay r s h k e = absurd (heads_differ _ _ e refl)
-  form_first form.General (form.Direct y) r s h k e = absurd (heads_differ _ _ e refl)
-  form_first form.General form.General r s h k e = (refl, append_cancel_left (codes "general ") r s e)
 
   pub few : (b : ℕ) → b < length app.blocks → b < 2 ^ 64
   few b h = omega (arith, h, app.valid.few_blocks)
