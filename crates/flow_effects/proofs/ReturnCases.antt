@@ -8,7 +8,6 @@ use Rattle.osek_standard.specs.declared.block.Kind.TheVariants as kind
 use Rattle.osek_standard.specs.declared.state.{State.{State}, Processor.{Processor}}
 use Rattle.osek_standard.specs.declared.state.Source.TheVariants as source
 use Rattle.osek_standard.specs.declared.state.Processor.TheVariants as processor
-use Rattle.osek_standard.specs.declared.task_state.Activity.{Activity}
 use Rattle.osek_standard.specs.declared.point.Point.TheVariants as point
 use Rattle.osek_standard.specs.Apps.{the_task, the_block}
 use Rattle.osek_standard.specs.States.{task_state, with_processor, with_source, place_in}
@@ -73,7 +72,6 @@ module _ (app : App) (b : BlockNo) (is : (the_block app b.0).kind ≡ kind.IsrEn
     -- and stands at the block of its value
     stands_there : (s : State) → Stands app s r b → point.Task (block_of (val_of (abstract_of app s t.0))) ≡ point.Task (place_in (task_state s t.0).activity).block
     stands_there s h =
-        let a : Activity = (task_state s t.0).activity in
         ap (λ (v : PartValue). point.Task (block_of (val_of v))) (task_value app s t.0 known)
         ∙ ap (λ (v : Val). point.Task (block_of v)) (live_value (place_in (task_state s t.0).activity).block (task_state s t.0).activity (interrupted s h).1 refl)
 

@@ -17,7 +17,7 @@ pub enum Update {
     Set(PartValue),
     /// A Live task stands at this block, and holds what it held.
     Block(BlockNo),
-    /// A Live task stands at the block, and holds the resource on top besides.
+    /// A Live task stands at the block, and holds the resource on top besides, unless it holds as many as there may be.
     Take { resource: ResNo, block: BlockNo },
     /// A Live task stands at the block, and has given back what was on top.
     Give { block: BlockNo },
