@@ -15,7 +15,7 @@ use Rattle.command_runs.specs.Upgrading.{UpgradeAnswers}
 use Rattle.commands.specs.Tracing.{TraceAnswers}
 use Rattle.commands.specs.Words.{Command, Build, Replay, Trace, Show, Info, Gen, Upgrade}
 
--- err gained the text, no write on it failed, and the status is as given; or one failed: it gained a front, and the status is 6
+-- err gained the text, no write on it failed, and the status is as given; or one failed: it gained a prefix, and the status is 6
 abbrev pub Tells : (err err_after : Sunk) → (text : List ℕ) → (status answered : ℕ) → Type 0
 Tells err err_after text status answered =
     ((answered ≡ status) × Writes err err_after text)
