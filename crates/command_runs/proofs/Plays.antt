@@ -38,21 +38,23 @@ pub line_played : (old new : Given) (i : Image) (n : ℕ) (s t : State) (number 
     GoesOn old new (λ more. played_line i n s number more r) (n + 1) t
 line_played old new i n s t number r e None is step (inl h) = absurd (cc (h.0))
 line_played old new i n s t number r e None is step (inr h) = absurd (cc (h.0))
-line_played old new i n s t number r e (Some x) is step (same, inl h) = record {
+line_played old new i n s t number r e (Some x) is step (inl h) = record {
   text = line_of i n x;
-  prints = h.1;
-  goes_on = λ more. ap (played_line i n s number more) is ∙ ap (played_after i n (more (n + 1))) step ∙ ap (λ (u : State). printing (line_of i n x) (more (n + 1) u)) (sym same);
+  prints = h.2;
+  goes_on = λ more. ap (played_line i n s number more) is ∙ ap (played_after i n (more (n + 1))) step ∙ ap (λ (u : State). printing (line_of i n x) (more (n + 1) u)) (sym h.1);
 }
-line_played old new i n s t number r e (Some x) is step (same, inr h) = absurd (cc (h.0))
+line_played old new i n s t number r e (Some x) is step (inr h) = absurd (cc (h.0))
 
 -- an event at which the play ends
 pub line_ends : (old new : Given) (i : Image) (n : ℕ) (s t : State) (number : ℕ) (r : Result (Option Event) EventFault) (e : Event) (x : Option Stepped) (end : Stop) →
     r ≡ Ok (Some e) → image_step i s e ≡ x → AnswersEvent old new i n t x (Err end) →
     (more : ℕ → State → Played) → HeldAnswers old new (played_line i n s number more r) (Err end)
-line_ends old new i n s t number r e None end is step h more =
-    subst (λ (p : Played). HeldAnswers old new p (Err end)) (sym (ap (played_line i n s number more) is ∙ ap (played_after i n (more (n + 1))) step)) h
-line_ends old new i n s t number r e (Some x) end is step (any, inl h) more = absurd (cc (h.0))
-line_ends old new i n s t number r e (Some x) end is step (any, inr h) more =
+line_ends old new i n s t number r e None end is step (inl h) more =
+    subst (λ (p : Played). HeldAnswers old new p (Err end)) (sym (ap (played_line i n s number more) is ∙ ap (played_after i n (more (n + 1))) step)) (inl (h.0, h.1))
+line_ends old new i n s t number r e None end is step (inr h) more =
+    subst (λ (p : Played). HeldAnswers old new p (Err end)) (sym (ap (played_line i n s number more) is ∙ ap (played_after i n (more (n + 1))) step)) (inr (h.0, h.1))
+line_ends old new i n s t number r e (Some x) end is step (inl h) more = absurd (cc (h.0))
+line_ends old new i n s t number r e (Some x) end is step (inr h) more =
     subst (λ (p : Played). HeldAnswers old new p (Err end)) (sym (ap (played_line i n s number more) is ∙ ap (played_after i n (more (n + 1))) step))
     (inr (h.0, puts_prefix_of_first old new (line_of i n x) (more (n + 1) x.state).text h.1))
 
@@ -70,6 +72,19 @@ came_to_end first now next play i lines n s r (inl h) c =
 came_to_end first now next play i lines n s r (inr h) c =
     inr (h.0, subst (PutsPrefix first next) (sym (ap (λ (p : Played). p.text) c.rest)) (puts_prefix_behind first now next c.text (plays i lines n s).text c.prints h.1))
 
+-- what is put is the line
+line_is : (app seen : App) (n : ℕ) (s t : State) (notes : Notes) (text : List ℕ) → text ≡ line_text seen n (stepped t notes) ++ 10 ∷ [] → seen ≡ app → t ≡ s → text ≡ line_text app n (stepped s notes) ++ 10 ∷ []
+line_is app seen n s t notes text e a b = e ∙ ap (λ (x : App). line_text x n (stepped t notes) ++ 10 ∷ []) a ∙ ap (λ (x : State). line_text app n (stepped x notes) ++ 10 ∷ []) b
+
+pub line_put : (old new : Given) (app seen : App) (n : ℕ) (s t : State) (notes : Notes) (text : List ℕ) →
+    text ≡ line_text seen n (stepped t notes) ++ 10 ∷ [] → seen ≡ app → t ≡ s → Puts old new text → Puts old new (line_text app n (stepped s notes) ++ 10 ∷ [])
+line_put old new app seen n s t notes text e a b p = subst (Puts old new) (line_is app seen n s t notes text e a b) p
+
+pub line_prefix : (old new : Given) (app seen : App) (n : ℕ) (s t : State) (notes : Notes) (text : List ℕ) →
+    text ≡ line_text seen n (stepped t notes) ++ 10 ∷ [] → seen ≡ app → t ≡ s → Rose old.out.faults new.out.faults → WritesProperPrefix old.out.written new.out.written (old.held ++ text) → new.held ≡ [] → PutsPrefix old new (line_text app n (stepped s notes) ++ 10 ∷ [])
+line_prefix old new app seen n s t notes text e a b rose p none =
+    subst (PutsPrefix old new) (line_is app seen n s t notes text e a b) ((rose, prefix_of_proper old.out.written new.out.written (old.held ++ text) p), none)
+
 -- a text, and then a play
 pub printed_first : (first now next : Given) (text : List ℕ) (p : Played) (r : Result (Unit {0}) Stop) →
     Puts first now text → HeldAnswers now next p r → HeldAnswers first next (printing text p) r
@@ -78,12 +93,6 @@ printed_first first now next text p r e (inl h) =
 printed_first first now next text p r e (inr h) =
     inr (h.0, puts_prefix_behind first now next text p.text e h.1)
 
--- a text that was put
-pub was_put : (first next : Given) (text : List ℕ) → HeldAnswers first next (played text (Ok tt)) (Ok tt) → Puts first next text
-was_put first next text (inl h) = h.1
-was_put first next text (inr h) = absurd (cc (h.0))
-
--- or wasn't, and no more of a play is printed
-pub first_fails : (first next : Given) (text : List ℕ) (p : Played) (end : Stop) → HeldAnswers first next (played text (Ok tt)) (Err end) → HeldAnswers first next (printing text p) (Err end)
-first_fails first next text p end (inl h) = absurd (cc (h.0))
-first_fails first next text p end (inr h) = inr (h.0, puts_prefix_of_first first next text p.text h.1)
+pub first_fails : (first next : Given) (text : List ℕ) (p : Played) (end : Stop) → end ≡ stop.Unprinted →
+    PutsPrefix first next text → HeldAnswers first next (printing text p) (Err end)
+first_fails first next text p end is h = inr (ap (λ (e : Stop). Err e) is, puts_prefix_of_first first next text p.text h)

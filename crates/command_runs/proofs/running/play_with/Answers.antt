@@ -7,7 +7,7 @@ use Rattle.trace_text.specs.LineParts.{ArePartsOf}
 use Rattle.osek_io.specs.Sunk.{sunk}
 use Rattle.command_runs.specs.Playing.{Played, printing, plays, line_of, ReadAnswers, whole_play}
 use Rattle.command_runs.proofs.Runs.{whole_started}
-use Rattle.command_runs.proofs.running.play_image.Goals as goal
+use Rattle.command_runs.proofs.running.play_with.Goals as goal
 
 pub returns-in-Ok-clause-answer : goal.returns-in-Ok-clause-answer
 returns-in-Ok-clause-answer g c =

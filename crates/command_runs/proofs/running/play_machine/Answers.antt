@@ -7,7 +7,7 @@ use Rattle.command_runs.specs.Playing.{given, Played, printing, plays, line_of, 
 use Rattle.command_runs.specs.declared.stop.Stop.{Stop}
 use Rattle.command_runs.specs.declared.stop.Stop.TheVariants as stop
 use Rattle.command_runs.proofs.PlayEnds.{all_printed, prefix_printed}
-use Rattle.command_runs.proofs.running.play_started.Goals as goal
+use Rattle.command_runs.proofs.running.play_machine.Goals as goal
 
 pub returns-in-Ok-clause-answer : goal.returns-in-Ok-clause-answer
 returns-in-Ok-clause-answer g c =
