@@ -1,5 +1,5 @@
 -- What the step of an instruction is, by values after its effect with which the scheduler decides.
-use Rattle.std.proofs.Common.{◌≡◌, ℕ, ◌<◌, Bool, refl, sym, ap, ◌∙◌, Some}
+use Rattle.std.proofs.Common.{◌≡◌, ℕ, ◌<◌, Bool, sym, ap, ◌∙◌, Some}
 use Rattle.osek_values.specs.declared.event.Event.{Event}
 use Rattle.osek_standard.specs.declared.app.App.{App}
 use Rattle.osek_standard.specs.declared.state.State.{State}

@@ -1,5 +1,5 @@
 -- Rules out of effects and outcomes: they cover each step that shows something, and each is exact.
-use Rattle.std.proofs.Common.{◌≡◌, ℕ, ◌<◌, Bool, List, ◌++◌, length, IsTrue, refl, sym, ap, subst, ◌∙◌, inl, inr}
+use Rattle.std.proofs.Common.{◌≡◌, ℕ, ◌<◌, Bool, List, ◌++◌, IsTrue, refl, sym, ap, subst, ◌∙◌, inl, inr}
 use Rattle.std.specs.declared.option.Option.{Option}
 use Rattle.osek_values.specs.declared.event.{Event.{Event}, Event.TheVariants.{Run}}
 use Rattle.osek_values.specs.declared.status.Status.{Status}

@@ -20,7 +20,7 @@ use Rattle.numbered_sets.proofs.BitCounts.{has_either, has_one}
 use Rattle.numbered_sets.proofs.PlainLaws.{has_value, value_with_number}
 use Rattle.numbered_sets.proofs.PoolLaws.{any_seen}
 use Rattle.numbered_sets.proofs.ViewLaws.{false_unless}
-use Rattle.numbered_sets.proofs.KnownNumbers.{no_bit_of_none, one_number, Found, found}
+use Rattle.numbered_sets.proofs.KnownNumbers.{no_bit_of_none, one_number, found}
 
 no_bit : (n : ℕ) → has_bit 0 n ≡ false
 no_bit n = false_unless (has_bit 0 n) ⊥ (no_bit_of_none n) (λ no. no)

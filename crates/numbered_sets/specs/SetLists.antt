@@ -1,6 +1,5 @@
 -- Lists of sets of numbers, one for each component.
-use Rattle.std.specs.Prelude.{◌≡◌, ℕ, List, length, map, slice_index_or, sum_by}
-use Rattle.abstract_state.specs.declared.value.Domain.{Domain}
+use Rattle.std.specs.Prelude.{◌≡◌, ℕ, List, length, slice_index_or, sum_by}
 use Rattle.abstract_state.specs.declared.value.Domain.TheVariants as domain
 use Rattle.numbered_sets.specs.Numbers.{Numbers, numbers, joined_numbers, number_count}
 

@@ -35,8 +35,7 @@ loop-place-init c =
     let entry = c.args.entry.now in
     let sifted : AreSifted pool rule.conditions entry c.sift.new.entry =
     subst (λ (xs : List Condition). AreSifted pool xs entry c.sift.new.entry) c.as_slice-2.ensures
-    (subst (λ (e : NumberedEntry). AreSifted pool c.as_slice-2.result.now e c.sift.new.entry) c.in_ok-made.ensures (OnTrue_at c.if-not-branch.false c.in_ok-sift.ensures.sifted)) in
-    (
+    (subst (λ (e : NumberedEntry). AreSifted pool c.as_slice-2.result.now e c.sift.new.entry) c.in_ok-made.ensures (OnTrue_at c.if-not-branch.false c.in_ok-sift.ensures.sifted)) in (
       subst (λ (p : List Values). AreAllPassed (up_to rule 0) p entry (length entry.sets) p c.sift.new.entry.sets) (sym c.in_ok-sift.ensures.same) (all_sifted pool rule entry c.sift.new.entry c.requires.numbers sifted),
       sifted_domains pool rule.conditions entry c.sift.new.entry sifted,
     )
