@@ -3,7 +3,7 @@ use Rattle.std.proofs.Common.{◌≡◌, ℕ, zero, suc, ◌+◌, ◌<◌, ◌�
 use Rattle.std.specs.Prelude.{◌==◌, if◌then◌else◌}
 use Rattle.std.specs.List.{range_with_len}
 use Rattle.std.proofs.lemmas.Bool.{cases_eq, eq-eqb, ne_eqb}
-use Rattle.abstract_state.specs.Components.{passing_below}
+use Rattle.osek_values.specs.Bits.{passing_below}
 
 -- one for a number that passes
 abbrev pub flag : Bool → ℕ
