@@ -5,7 +5,7 @@ use Rattle.std.proofs.lemmas.Bool.{cases_eq, cases_lt}
 use Rattle.std.proofs.Math.ListN.{get_or-eq_default}
 use Rattle.std.proofs.lemmas.List.{length-set, get_or_default, same_lists}
 use Rattle.std.proofs.lemmas.List.Elements.{All-head, All-tail}
-use Rattle.abstract_state.specs.declared.table.{ValueSet.{ValueSet}, Entry.{Entry}}
+use Rattle.abstract_state.specs.declared.table.{ValueSet.{ValueSet}, PlainEntry.{PlainEntry}}
 use Rattle.abstract_state.specs.ValueOrder.{IsAscending}
 use Rattle.abstract_state.specs.Tables.{empty_set, set_at, AreAscending, IsJoin, IsPartOfJoin, IsSetBySet, IsWrite}
 use Rattle.abstract_state.proofs.OrderLaws.{ascending_none}
@@ -23,7 +23,7 @@ ascending_at (x ∷ xs) (suc c) all = ascending_at xs c (All-tail (λ (s : Value
 pub same_sets : (xs ys : List ValueSet) → length xs ≡ length ys → ((c : ℕ) → get_or xs c empty_set ≡ get_or ys c empty_set) → xs ≡ ys
 same_sets xs ys e h = same_lists xs ys e (λ k d lt. get_or_default xs k d empty_set lt ∙ h k ∙ get_or_default ys k empty_set d (omega (arith, e, lt)))
 
-pub entry_join_one : (a b x y : Entry) → IsSetBySet IsJoin a b x → IsSetBySet IsJoin a b y → x ≡ y
+pub entry_join_one : (a b x y : PlainEntry) → IsSetBySet IsJoin a b x → IsSetBySet IsJoin a b y → x ≡ y
 entry_join_one a b x y one two =
     let sets = same_sets x.sets y.sets (one.as_many ∙ sym two.as_many) (λ c. join_one (set_at a c) (set_at b c) (set_at x c) (set_at y c) (one.each c) (two.each c)) in
     λ i. record { sets = sets i }
@@ -36,12 +36,12 @@ pub part_of_none : (a b : ValueSet) → IsAscending a.members → IsPartOfJoin a
 part_of_none a b up = join_stopped a b a 0 0 0 (join_begun a b.members up)
 
 -- the sets below a place are joined, and the rest are as they were
-pub record AreJoinedBelow (before other : Entry) (place : ℕ) (now : Entry) : Type 0 where
+pub record AreJoinedBelow (before other : PlainEntry) (place : ℕ) (now : PlainEntry) : Type 0 where
   pub as_many : length now.sets ≡ length before.sets
   pub joined : (c : ℕ) → c < place → IsJoin (set_at before c) (set_at other c) (set_at now c)
   pub kept : (c : ℕ) → place ≤ c → set_at now c ≡ set_at before c
 
-module _ (before other now after : Entry) (i : ℕ) (x : ValueSet) (known : i < length now.sets) (is : set_at other i ≡ x) (so_far : AreJoinedBelow before other i now) where
+module _ (before other now after : PlainEntry) (i : ℕ) (x : ValueSet) (known : i < length now.sets) (is : set_at other i ≡ x) (so_far : AreJoinedBelow before other i now) where
   module _ (P : ValueSet → ValueSet → ValueSet → Type 0) (write : IsWrite P i x now after) where
     here : P (set_at before i) (set_at other i) (set_at after i)
     here =
@@ -80,7 +80,7 @@ module _ (before other now after : Entry) (i : ℕ) (x : ValueSet) (known : i < 
     ];
   }
 
-pub all_joined : (before other after : Entry) (i : ℕ) → i ≡ length other.sets → length before.sets ≡ length other.sets → AreAscending before → AreJoinedBelow before other i after → IsSetBySet IsJoin before other after
+pub all_joined : (before other after : PlainEntry) (i : ℕ) → i ≡ length other.sets → length before.sets ≡ length other.sets → AreAscending before → AreJoinedBelow before other i after → IsSetBySet IsJoin before other after
 all_joined before other after i e as_many up so_far = record {
   as_many = so_far.as_many;
   each = λ c. elim (cases_lt c i) [

@@ -10,7 +10,7 @@ use Rattle.osek_values.specs.declared.numbers.{TaskNo.{TaskNo}, BlockNo.{BlockNo
 use Rattle.osek_standard.specs.declared.point.Point.{Point}
 use Rattle.osek_standard.specs.declared.point.Point.TheVariants as point
 use Rattle.abstract_state.specs.declared.value.PartValue.{PartValue}
-use Rattle.abstract_state.specs.declared.table.{TableRow.{TableRow}, Table.{Table}}
+use Rattle.abstract_state.specs.declared.table.{TableRow.{TableRow}, PlainTable.{PlainTable}}
 use Rattle.abstract_state.specs.Tables.{same_over, same_point, set_at, is_member, is_row_of, sets_of, HasRow, HasValue}
 use Rattle.abstract_state.proofs.OrderLaws.{part_right, part_laws}
 
@@ -48,7 +48,7 @@ point_itself (point.Routine b over) = and_from (b.0 == b.0) (same_over over over
 abbrev has_value_at : Point → ℕ → PartValue → TableRow → Bool
 has_value_at p c v row = is_row_of p row && is_member (set_at row.entry c) v
 
-module _ (table : Table) (p : Point) where
+module _ (table : PlainTable) (p : Point) where
   row_found : IsTrue ((sets_of table).entry p) → HasRow table p
   row_found e =
       let r = Any-from_list_any (is_row_of p) table.rows e in

@@ -15,7 +15,7 @@ use Rattle.osek_standard.specs.Counts.{stacks, task_height, event_height, height
 use Rattle.osek_standard.proofs.CountLaws.{few_stacks}
 use Rattle.abstract_state.specs.declared.value.Component.{Component}
 use Rattle.abstract_state.specs.declared.value.Component.TheVariants as component
-use Rattle.abstract_state.specs.declared.table.{ValueSet.{ValueSet}, Entry.{Entry}}
+use Rattle.abstract_state.specs.declared.table.{ValueSet.{ValueSet}, PlainEntry.{PlainEntry}}
 use Rattle.abstract_state.specs.Components.{own_bits, events_of, components}
 use Rattle.abstract_state.specs.Domains.{domain_size, domain_of, domains_of, domains, entry_height, HasMasks}
 
@@ -83,7 +83,7 @@ module _ (app : App) where
       omega (arith, ends, begins, tasks_sum, events_sum masks, alarms_sum)
 
   -- an entry with the application's domains has its height
-  pub entry_height_is : HasMasks app → (entry : Entry) → domains entry ≡ domains_of app → entry_height entry ≡ height app
+  pub entry_height_is : HasMasks app → (entry : PlainEntry) → domains entry ≡ domains_of app → entry_height entry ≡ height app
   entry_height_is masks entry e =
       sym (sum_map domain_size (λ (set : ValueSet). set.domain) entry.sets)
       ∙ ap (sum_by domain_size) e

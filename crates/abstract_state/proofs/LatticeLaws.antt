@@ -8,7 +8,7 @@ use Rattle.std.proofs.lemmas.List.Elements.{All-head, All-tail, All-weaker, All-
 use Rattle.std.proofs.lemmas.List.Sums.{sum_by-cons}
 use Rattle.osek_values.specs.declared.memory.Memory.{Memory}
 use Rattle.abstract_state.specs.declared.value.Domain.{Domain}
-use Rattle.abstract_state.specs.declared.table.{ValueSet.{ValueSet}, Entry.{Entry}}
+use Rattle.abstract_state.specs.declared.table.{ValueSet.{ValueSet}, PlainEntry.{PlainEntry}}
 use Rattle.abstract_state.specs.ValueOrder.{IsAscending}
 use Rattle.abstract_state.specs.Domains.{domain_size, IsCounted, IsSound, IsSoundEntry, IsBelow, domains, entry_height}
 use Rattle.abstract_state.specs.Tables.{empty_set, set_at, entry_values, AreAscending, IsJoin, IsPartOfJoin, IsSetBySet, IsSubset}
@@ -17,10 +17,10 @@ use Rattle.abstract_state.proofs.EntryJoins.{size, ascending_at, same_sets}
 use Rattle.abstract_state.proofs.HeightLaws.{sum_map}
 use Rattle.abstract_state.proofs.SoundSets.{most_members, sound_part}
 
-pub below_itself : (x : Entry) → IsBelow x x
+pub below_itself : (x : PlainEntry) → IsBelow x x
 below_itself x = record { each = λ c v h. h }
 
-pub below_onward : (x y z : Entry) → IsBelow x y → IsBelow y z → IsBelow x z
+pub below_onward : (x y z : PlainEntry) → IsBelow x y → IsBelow y z → IsBelow x z
 below_onward x y z h k = record { each = λ c v member. k.each c v (h.each c v member) }
 
 -- the domains of sets, and how many values these can have
@@ -43,7 +43,7 @@ same_domain_at xs ys c e =
     ∙ get_or-map (λ (s : ValueSet). s.domain) ys c empty_set
 
 -- alike entries have one height
-pub heights_agree : (x y : Entry) → domains x ≡ domains y → entry_height x ≡ entry_height y
+pub heights_agree : (x y : PlainEntry) → domains x ≡ domains y → entry_height x ≡ entry_height y
 heights_agree x y e = same_room x.sets y.sets e
 
 -- each set is contained in the one at its place
@@ -70,10 +70,10 @@ none_above (x ∷ xs) (y ∷ ys) sound e below few (suc c) v h =
     none_above xs ys (All-tail IsSound x xs sound) (omega (arith, e)) (λ k. below (suc k)) (omega (arith, sum_by-cons size x xs, sum_by-cons size y ys, first, few)) c v h
 
 -- what is above has at least as many values, and where it has no more it is also below
-pub values_grow : (x y : Entry) → IsSoundEntry x → IsSoundEntry y → domains x ≡ domains y → IsBelow x y → entry_values x ≤ entry_values y
+pub values_grow : (x y : PlainEntry) → IsSoundEntry x → IsSoundEntry y → domains x ≡ domains y → IsBelow x y → entry_values x ≤ entry_values y
 values_grow x y sound other alike below = more_above x.sets y.sets sound.sets (as_long x.sets y.sets alike) below.each
 
-pub growth_shows : (x y : Entry) → IsSoundEntry x → IsSoundEntry y → domains x ≡ domains y → IsBelow x y → entry_values y ≤ entry_values x → IsBelow y x
+pub growth_shows : (x y : PlainEntry) → IsSoundEntry x → IsSoundEntry y → domains x ≡ domains y → IsBelow x y → entry_values y ≤ entry_values x → IsBelow y x
 growth_shows x y sound other alike below few = record { each = none_above x.sets y.sets sound.sets (as_long x.sets y.sets alike) below.each few }
 
 -- where domains are counted, sound sets have no more values than these
@@ -84,14 +84,14 @@ module _ (counted : (d : Domain) → IsCounted d) where
       let first = most_members x (counted x.domain) (All-head IsSound x xs sound) in
       omega (arith, sum_by-cons size x xs, sum_by-cons room x xs, first, within_room xs (All-tail IsSound x xs sound))
 
-  pub most_values : (entry : Entry) → IsSoundEntry entry → entry_values entry ≤ entry_height entry
+  pub most_values : (entry : PlainEntry) → IsSoundEntry entry → entry_values entry ≤ entry_height entry
   most_values entry sound = within_room entry.sets sound.sets
 
-pub sound_ascends : (x : Entry) → IsSoundEntry x → AreAscending x
+pub sound_ascends : (x : PlainEntry) → IsSoundEntry x → AreAscending x
 sound_ascends x sound = All-weaker IsSound (λ (s : ValueSet). IsAscending s.members) (λ s one. one.ascending) x.sets sound.sets
 
 -- sound entries below one another are equal
-pub equal_entries : (x y : Entry) → IsSoundEntry x → IsSoundEntry y → domains x ≡ domains y → IsBelow x y → IsBelow y x → x ≡ y
+pub equal_entries : (x y : PlainEntry) → IsSoundEntry x → IsSoundEntry y → domains x ≡ domains y → IsBelow x y → IsBelow y x → x ≡ y
 equal_entries x y sound other alike below back =
     let sets =
     same_sets x.sets y.sets (as_long x.sets y.sets alike) (λ c.
@@ -107,13 +107,13 @@ same_domains (x ∷ xs) [] e h = absurd (omega (arith, e))
 same_domains (x ∷ xs) (y ∷ ys) e h = ap₂ (λ (d : Domain) (ds : List Domain). d ∷ ds) (h 0) (same_domains xs ys (omega (arith, e)) (λ c. h (suc c)))
 
 -- What a join leaves, done or stopped: a sound entry, alike, above what was there and below whatever is above both.
-pub record IsOnTheWay (before other after : Entry) : Type 0 where
+pub record IsOnTheWay (before other after : PlainEntry) : Type 0 where
   pub element : IsSoundEntry after
   pub alike : domains before ≡ domains after
   pub grows : IsBelow before after
-  pub least : (z : Entry) → IsBelow before z → IsBelow other z → IsBelow after z
+  pub least : (z : PlainEntry) → IsBelow before z → IsBelow other z → IsBelow after z
 
-module _ (before other : Entry) (sound : IsSoundEntry before) (too : IsSoundEntry other) (alike : domains before ≡ domains other) (after : Entry) where
+module _ (before other : PlainEntry) (sound : IsSoundEntry before) (too : IsSoundEntry other) (alike : domains before ≡ domains other) (after : PlainEntry) where
   part_on_the_way : IsSetBySet IsPartOfJoin before other after → IsOnTheWay before other after
   part_on_the_way part =
       let long = as_long before.sets other.sets alike in

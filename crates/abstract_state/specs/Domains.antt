@@ -10,7 +10,7 @@ use Rattle.osek_standard.specs.Well.{IsStackOutOf}
 use Rattle.abstract_state.specs.declared.value.{Val.{Val}, Val.TheVariants.{Suspended, Live, Waiting}, Component.{Component}, Domain.{Domain}, PartValue.{PartValue}, PartValue.TheVariants.{OfTask, OfEvent, OfAlarm}}
 use Rattle.abstract_state.specs.declared.value.Component.TheVariants as component
 use Rattle.abstract_state.specs.declared.value.Domain.TheVariants as domain
-use Rattle.abstract_state.specs.declared.table.{ValueSet.{ValueSet}, Entry.{Entry}}
+use Rattle.abstract_state.specs.declared.table.{ValueSet.{ValueSet}, PlainEntry.{PlainEntry}}
 use Rattle.abstract_state.specs.Components.{components}
 use Rattle.abstract_state.specs.ValueOrder.{same_part, IsAscending}
 use Rattle.abstract_state.specs.Tables.{set_at, IsSubset}
@@ -56,7 +56,7 @@ abbrev pub domains_of : App → List Domain
 domains_of app = map (domain_of app) (components app)
 
 -- the domains that an entry keeps
-abbrev pub domains : Entry → List Domain
+abbrev pub domains : PlainEntry → List Domain
 domains entry = map (λ (set : ValueSet). set.domain) entry.sets
 
 -- each task's own event bits are below the 64th, as in a mask of the program
@@ -64,7 +64,7 @@ abbrev pub HasMasks : App → Type 0
 HasMasks app = All (λ (x : Task). x.own.0 < 2 ^ 64) app.tasks
 
 -- How many values an entry can have.
-abbrev pub entry_height : Entry → ℕ
+abbrev pub entry_height : PlainEntry → ℕ
 entry_height entry = sum_by (λ (set : ValueSet). domain_size set.domain) entry.sets
 
 -- values of the domain, in their order
@@ -73,10 +73,10 @@ pub record IsSound (set : ValueSet) : Type 0 where
   pub ascending : IsAscending set.members
 
 -- each set is sound, and a count of 64 bits holds the number of values
-pub record IsSoundEntry (entry : Entry) : Type 0 where
+pub record IsSoundEntry (entry : PlainEntry) : Type 0 where
   pub sets : All IsSound entry.sets
   pub few : entry_height entry < 2 ^ 64
 
 -- The order of entries: each set is contained in the other's.
-pub record IsBelow (entry other : Entry) : Type 0 where
+pub record IsBelow (entry other : PlainEntry) : Type 0 where
   pub each : (c : ℕ) → IsSubset (set_at entry c) (set_at other c)

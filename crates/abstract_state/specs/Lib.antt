@@ -7,3 +7,4 @@ pub mod Forms
 pub mod Tables
 pub mod ValueOrder
 pub mod Written
+pub mod Edges

@@ -12,7 +12,7 @@ use Rattle.osek_standard.specs.declared.point.Point.{Point}
 use Rattle.osek_standard.specs.declared.point.Point.TheVariants as point
 use Rattle.abstract_state.specs.declared.value.{Domain.{Domain}, PartValue.{PartValue}}
 use Rattle.abstract_state.specs.declared.value.Domain.TheVariants as domain
-use Rattle.abstract_state.specs.declared.table.{ValueSet.{ValueSet}, Entry.{Entry}, TableRow.{TableRow}, Table.{Table}}
+use Rattle.abstract_state.specs.declared.table.{ValueSet.{ValueSet}, PlainEntry.{PlainEntry}, TableRow.{TableRow}, PlainTable.{PlainTable}}
 use Rattle.osek_standard.specs.Points.{point_of, IsPoint}
 use Rattle.abstract_state.specs.ValueOrder.{same_part, IsAscending}
 use Rattle.abstract_state.specs.Components.{component_count, abstract_of, IsAllowed}
@@ -87,7 +87,7 @@ empty_of d = record { domain = d; members = [] }
 abbrev pub empty_set : ValueSet
 empty_set = empty_of domain.Alarm
 
-abbrev pub set_at : Entry → ℕ → ValueSet
+abbrev pub set_at : PlainEntry → ℕ → ValueSet
 set_at entry c = slice_index_or entry.sets c empty_set
 
 abbrev pub is_member : ValueSet → PartValue → Bool
@@ -110,19 +110,19 @@ pub record IsPartOfJoin (set other after : ValueSet) : Type 0 where
   pub keeps : IsSubset set after
   pub from : (v : PartValue) → IsTrue (is_member after v) → IsTrue (is_member set v || is_member other v)
 
-abbrev pub entry_values : Entry → ℕ
+abbrev pub entry_values : PlainEntry → ℕ
 entry_values entry = sum_by (λ (set : ValueSet). length set.members) entry.sets
 
-abbrev pub AreAscending : Entry → Type 0
+abbrev pub AreAscending : PlainEntry → Type 0
 AreAscending entry = All (λ (set : ValueSet). IsAscending set.members) entry.sets
 
 -- The sets for each component are so related, and there are as many after.
-pub record IsSetBySet (P : ValueSet → ValueSet → ValueSet → Type 0) (entry other after : Entry) : Type 0 where
+pub record IsSetBySet (P : ValueSet → ValueSet → ValueSet → Type 0) (entry other after : PlainEntry) : Type 0 where
   pub as_many : length after.sets ≡ length entry.sets
   pub each : (c : ℕ) → P (set_at entry c) (set_at other c) (set_at after c)
 
 -- the set for component c is so related to another set, and the rest stays
-pub record IsWrite (P : ValueSet → ValueSet → ValueSet → Type 0) (c : ℕ) (other : ValueSet) (entry after : Entry) : Type 0 where
+pub record IsWrite (P : ValueSet → ValueSet → ValueSet → Type 0) (c : ℕ) (other : ValueSet) (entry after : PlainEntry) : Type 0 where
   pub set : ValueSet
   pub is : P (set_at entry c) other set
   pub written : after.sets ≡ slice_set entry.sets c set
@@ -131,24 +131,24 @@ abbrev pub is_row_of : Point → TableRow → Bool
 is_row_of p row = same_point p row.point
 
 -- What a written table says.
-abbrev pub sets_of : Table → Sets
+abbrev pub sets_of : PlainTable → Sets
 sets_of table = record {
   entry = λ p. list_any (is_row_of p) table.rows;
   has = λ p c v. list_any (λ row. is_row_of p row && is_member (set_at row.entry c) v) table.rows;
 }
 
 -- The number of values in all sets of all entries.
-abbrev pub value_count : Table → ℕ
+abbrev pub value_count : PlainTable → ℕ
 value_count table = sum_by (λ (row : TableRow). entry_values row.entry) table.rows
 
 -- a row of the table is the point's
-pub record HasRow (table : Table) (p : Point) : Type 0 where
+pub record HasRow (table : PlainTable) (p : Point) : Type 0 where
   pub row : TableRow
   pub among : Contains table.rows row
   pub point : row.point ≡ p
 
 -- and its set for component c has the value
-pub record HasValue (table : Table) (p : Point) (c : ℕ) (v : PartValue) : Type 0 where
+pub record HasValue (table : PlainTable) (p : Point) (c : ℕ) (v : PartValue) : Type 0 where
   pub row : TableRow
   pub among : Contains table.rows row
   pub point : row.point ≡ p

@@ -4,7 +4,7 @@ use Rattle.std.specs.List.Sorted.{IsStrictlySortedBy}
 use Rattle.std.specs.Ordering.{nat_cmp}
 use Rattle.osek_standard.specs.declared.app.App.{App}
 use Rattle.osek_standard.specs.Points.{point_number, IsPoint}
-use Rattle.abstract_state.specs.declared.table.{TableRow.{TableRow}, Table.{Table}}
+use Rattle.abstract_state.specs.declared.table.{TableRow.{TableRow}, PlainTable.{PlainTable}}
 use Rattle.abstract_state.specs.Tables.{IsProper, sets_of}
 use Rattle.abstract_state.specs.Domains.{domains, domains_of, IsSoundEntry}
 
@@ -15,7 +15,7 @@ pub record IsRow (app : App) (row : TableRow) : Type 0 where
   pub domains : domains row.entry ≡ domains_of app
 
 -- The rows strictly ascend by their points, and the table is proper.
-pub record IsWritten (app : App) (table : Table) : Type 0 where
+pub record IsWritten (app : App) (table : PlainTable) : Type 0 where
   pub ascending : IsStrictlySortedBy nat_cmp (map (λ (row : TableRow). point_number row.point) table.rows)
   pub rows : All (IsRow app) table.rows
   pub proper : IsProper app (sets_of table)

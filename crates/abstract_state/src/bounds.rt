@@ -4,7 +4,7 @@ ghost use Rattle.osek_standard.specs.declared.app.App.{App};
 ghost use Rattle.osek_standard.specs.Counts.{height};
 ghost use Rattle.osek_standard.specs.declared.point.Point.{Point};
 ghost use Rattle.abstract_state.specs.declared.value.Domain.{Domain};
-ghost use Rattle.abstract_state.specs.declared.table.Entry.{Entry};
+ghost use Rattle.abstract_state.specs.declared.table.PlainEntry.{PlainEntry};
 ghost use Rattle.abstract_state.specs.declared.value.PartValue.{PartValue};
 ghost use Rattle.abstract_state.specs.Components.{component_at, component_count, IsAllowed};
 ghost use Rattle.abstract_state.specs.Domains.{IsWithin, IsCounted, domain_of, domains, domains_of, entry_height, HasMasks};
@@ -22,6 +22,6 @@ pub fn the_size_counts_a_domains_values()
 /// An entry with the domains of an application has its height, which a count of 64 bits holds. (Masks are of 64 bits, as
 /// their type has it.)
 pub fn an_entrys_height_is_the_applications()
-    ensures height { (app : App) → HasMasks app → (entry : Entry) → domains entry ≡ domains_of app → entry_height entry ≡ height app }
+    ensures height { (app : App) → HasMasks app → (entry : PlainEntry) → domains entry ≡ domains_of app → entry_height entry ≡ height app }
     ensures few { (app : App) → HasMasks app → height app < 2 ^ 64 }
 {}

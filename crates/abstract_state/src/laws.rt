@@ -20,8 +20,8 @@ ghost use Rattle.image_model.specs.ImageStep.{image_step};
 ghost use Rattle.image_model.specs.Laws.{IsKernelsRun};
 ghost use Rattle.osek_standard.specs.declared.point.Point.{Point};
 ghost use Rattle.abstract_state.specs.declared.table.ValueSet.{ValueSet};
-ghost use Rattle.abstract_state.specs.declared.table.Entry.{Entry};
-ghost use Rattle.abstract_state.specs.declared.table.Table.{Table};
+ghost use Rattle.abstract_state.specs.declared.table.PlainEntry.{PlainEntry};
+ghost use Rattle.abstract_state.specs.declared.table.PlainTable.{PlainTable};
 ghost use Rattle.abstract_state.specs.declared.value.Component.{Component};
 ghost use Rattle.abstract_state.specs.declared.value.{LiveVal.{LiveVal}, Val.TheVariants.{Live}, PartValue.{PartValue}, PartValue.TheVariants.{OfTask}};
 ghost use Rattle.osek_standard.specs.declared.point.Point.TheVariants as point;
@@ -91,8 +91,8 @@ pub fn allowed_parts_make_a_state()
 
 /// A written table says what stands in its rows.
 pub fn a_written_table_says_its_rows()
-    ensures entry { (table : Table) (p : Point) → IsTrue ((sets_of table).entry p) ↔ HasRow table p }
-    ensures has { (table : Table) (p : Point) (c : ℕ) (v : PartValue) → IsTrue ((sets_of table).has p c v) ↔ HasValue table p c v }
+    ensures entry { (table : PlainTable) (p : Point) → IsTrue ((sets_of table).entry p) ↔ HasRow table p }
+    ensures has { (table : PlainTable) (p : Point) (c : ℕ) (v : PartValue) → IsTrue ((sets_of table).has p c v) ↔ HasValue table p c v }
 {}
 
 /// The order of values is total, and ties no two.
@@ -116,9 +116,9 @@ pub fn the_join_is_the_least_set_above_both()
 
 /// Entries join set by set, and where a join stopped each set lies between what it was and the join.
 pub fn entries_join_set_by_set()
-    ensures one { (a b x y : Entry) → IsSetBySet IsJoin a b x → IsSetBySet IsJoin a b y → x ≡ y }
-    ensures before { (a b p : Entry) (c : ℕ) → IsSetBySet IsPartOfJoin a b p → IsSubset (set_at a c) (set_at p c) }
-    ensures after { (a b p x : Entry) (c : ℕ) → IsSetBySet IsPartOfJoin a b p → IsSetBySet IsJoin a b x → IsSubset (set_at p c) (set_at x c) }
+    ensures one { (a b x y : PlainEntry) → IsSetBySet IsJoin a b x → IsSetBySet IsJoin a b y → x ≡ y }
+    ensures before { (a b p : PlainEntry) (c : ℕ) → IsSetBySet IsPartOfJoin a b p → IsSubset (set_at a c) (set_at p c) }
+    ensures after { (a b p x : PlainEntry) (c : ℕ) → IsSetBySet IsPartOfJoin a b p → IsSetBySet IsJoin a b x → IsSubset (set_at p c) (set_at x c) }
 {}
 
 /// A step does what it shows: an instruction with this outcome and status, the begin of a routine, or nothing that a
@@ -179,7 +179,7 @@ pub fn sound_sets_grow_by_their_members()
 /// Sound sets of one domain with the same values are equal, and so are sound entries below one another.
 pub fn sound_sets_are_their_values()
     ensures sets { (a b : ValueSet) → IsSound a → IsSound b → a.domain ≡ b.domain → IsSubset a b → IsSubset b a → a ≡ b }
-    ensures entries { (a b : Entry) → IsSoundEntry a → IsSoundEntry b → domains a ≡ domains b → IsBelow a b → IsBelow b a → a ≡ b }
+    ensures entries { (a b : PlainEntry) → IsSoundEntry a → IsSoundEntry b → domains a ≡ domains b → IsBelow a b → IsBelow b a → a ≡ b }
 {}
 
 /// Each component stands at its number.

@@ -3,12 +3,14 @@
 #![tactic(auto)]
 
 pub mod bounds;
+mod edge;
 pub mod laws;
 mod numbering;
 mod table;
 mod value;
 
+pub use edge::FlowEdge;
 pub use numbering::{component_number, components, masks_are_few, own_events};
 pub use osek_standard::Point;
-pub use table::{Entry, Table, TableRow, ValueSet};
+pub use table::{PlainEntry, PlainTable, TableRow, ValueSet};
 pub use value::{Component, ComponentNo, Domain, LiveVal, PartValue, Val};

@@ -16,7 +16,7 @@ pub struct ValueSet {
 
 /// What the parts of a state can be: a set for each component, in the order of the components.
 #[derive(Drop)]
-pub struct Entry {
+pub struct PlainEntry {
     pub sets: Seq<ValueSet>,
 }
 
@@ -24,12 +24,12 @@ pub struct Entry {
 #[derive(Drop)]
 pub struct TableRow {
     pub point: Point,
-    pub entry: Entry,
+    pub entry: PlainEntry,
 }
 
 /// An entry for some of the points.
 #[derive(Drop)]
-pub struct Table {
+pub struct PlainTable {
     pub rows: Seq<TableRow>,
 }
 
@@ -155,7 +155,7 @@ impl ValueSet {
     }
 }
 
-impl Entry {
+impl PlainEntry {
     ghost use Rattle.std.specs.Prelude.{◌≡◌, ◌<◌, ◌≤◌, ◌+◌, ◌^◌, length, IfOk, OnOk, OnErr};
     ghost use Rattle.abstract_state.specs.ValueOrder.{IsAscending};
     ghost use Rattle.abstract_state.specs.Tables.{set_at, entry_values, AreAscending, IsJoin, IsPartOfJoin, IsSetBySet, IsWrite};
@@ -177,7 +177,7 @@ impl Entry {
 
     /// Joins another entry into this one, set by set, and tells how many values are new. Where memory is wanted it lies
     /// between what it was and the join.
-    pub fn join_into(&mut self, other: &Entry) -> Result<u64, Memory>
+    pub fn join_into(&mut self, other: &PlainEntry) -> Result<u64, Memory>
         requires as_many { length self.old.sets ≡ length other.now.sets }
         requires ascending { AreAscending self.old }
         requires ascending_too { AreAscending other.now }

@@ -25,7 +25,7 @@ use Rattle.osek_standard.proofs.StepKeeps.{instruction_keeps}
 use Rattle.image_model.specs.declared.site.{Form.{Form}, Known.{Known}, Site.{Site}}
 use Rattle.image_model.specs.declared.site.Known.TheVariants as known
 use Rattle.image_model.specs.Sites.{IsForm, IsSiteAt, AreSites}
-use Rattle.abstract_state.specs.declared.table.{TableRow.{TableRow}, Table.{Table}}
+use Rattle.abstract_state.specs.declared.table.{TableRow.{TableRow}, PlainTable.{PlainTable}}
 use Rattle.abstract_state.specs.Components.{abstract_of}
 use Rattle.abstract_state.specs.Tables.{Sets, In, set_at, is_member, sets_of}
 use Rattle.abstract_state.specs.Written.{IsWritten}
@@ -77,7 +77,7 @@ record Stands {X : Type 0} (app : App) (read : State → Bool → X) (table : Se
   stands : (here from).block.0 ≡ b
   is : read from choice ≡ x
 
-module _ (app : App) (table : Table) (written : IsWritten app table) where
+module _ (app : App) (table : PlainTable) (written : IsWritten app table) where
   module _ {X : Type 0} (read : State → Bool → X) (b : ℕ) (x : X) where
     stands_arises : Stands app read (sets_of table) b x → ArisesAt app read table.rows b x
     stands_arises h =

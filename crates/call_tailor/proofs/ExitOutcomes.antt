@@ -14,7 +14,7 @@ use Rattle.osek_standard.specs.Dispatch.{outcome}
 use Rattle.osek_standard.specs.Outcomes.{Did, shows}
 use Rattle.osek_standard.proofs.Members.{among_contained, contained_among, map_among}
 use Rattle.abstract_state.specs.declared.value.{PartValue.{PartValue}, PartValue.TheVariants.{OfAlarm}}
-use Rattle.abstract_state.specs.declared.table.{Entry.{Entry}, TableRow.{TableRow}}
+use Rattle.abstract_state.specs.declared.table.{PlainEntry.{PlainEntry}, TableRow.{TableRow}}
 use Rattle.abstract_state.specs.Components.{component_count}
 use Rattle.abstract_state.specs.Tables.{set_at, is_member}
 use Rattle.abstract_state.proofs.MarkLaws.{shown_instruction}
@@ -24,9 +24,9 @@ use Rattle.flow_model.specs.Scheduling.{outcome_of_decision}
 use Rattle.flow_exits.specs.declared.exit.Exit.{Exit}
 use Rattle.flow_exits.specs.Exits.{CoverInstructions, IsStepTo, IsFilled, IsExact, AreExact}
 use Rattle.numbered_sets.specs.Pools.{Values}
-use Rattle.numbered_exits.specs.declared.group.{NumberEnd.{NumberEnd}, Ends.{Ends}, ExitGroup.{ExitGroup}}
-use Rattle.numbered_exits.specs.declared.group.Ends.TheVariants as ends
-use Rattle.numbered_exits.specs.Groups.{holding, exit_at, exits_by, exits_of, all_exits}
+use Rattle.flow_rules.specs.declared.group.{NumberEnd.{NumberEnd}, Ends.{Ends}, ExitGroup.{ExitGroup}}
+use Rattle.flow_rules.specs.declared.group.Ends.TheVariants as ends
+use Rattle.flow_rules.specs.Groups.{holding, exit_at, exits_by, exits_of, all_exits}
 use Rattle.call_tailor.specs.declared.found.Findings.{Findings}
 use Rattle.call_tailor.specs.Found.{Seen, Nothing, Alone, IsSeen, AreJoined, outcome_seen, status_seen, AreJoinedFindings, IsTold}
 use Rattle.call_tailor.specs.Outcomes.{end_count, status_noted, Arises, IsOfExit, IsOfExits, AreOfRow, AreOfExits}
@@ -153,7 +153,7 @@ groups_more pool items i x lt e =
     ∙ ap (all_exits pool) (ap (λ (y : ExitGroup). take i items ++ y ∷ []) e ∙ sym (take_more items i x lt))
 
 -- a value of each set
-some_value : (app : App) (entry : Entry) → IsFilled app entry → (c : ℕ) → (v : PartValue) × (c < component_count app → IsTrue (is_member (set_at entry c) v))
+some_value : (app : App) (entry : PlainEntry) → IsFilled app entry → (c : ℕ) → (v : PartValue) × (c < component_count app → IsTrue (is_member (set_at entry c) v))
 some_value app entry filled c = elim (cases_lt c (component_count app)) [
   | inl below ↦ (let some = filled c below in (some.value, λ lt. some.member))
   | inr above ↦ (OfAlarm false, λ lt. absurd (omega (arith, lt, above)))

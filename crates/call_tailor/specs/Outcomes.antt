@@ -15,8 +15,8 @@ use Rattle.flow_model.specs.declared.case.Decision.{Decision}
 use Rattle.flow_model.specs.Effects.{IsAt}
 use Rattle.flow_model.specs.Scheduling.{outcome_of_decision}
 use Rattle.flow_exits.specs.declared.exit.Exit.{Exit}
-use Rattle.numbered_exits.specs.declared.group.Ends.{Ends}
-use Rattle.numbered_exits.specs.declared.group.Ends.TheVariants as ends
+use Rattle.flow_rules.specs.declared.group.Ends.{Ends}
+use Rattle.flow_rules.specs.declared.group.Ends.TheVariants as ends
 use Rattle.call_tailor.specs.declared.found.{Findings.{Findings}}
 use Rattle.call_tailor.specs.declared.found.Found.TheVariants as found
 use Rattle.call_tailor.specs.Found.{AreFindings}

@@ -12,7 +12,7 @@ ghost use Rattle.call_tailor.specs.Found.{site_of as site_by};
 use crate::found::Findings;
 use crate::outcomes::findings;
 use image_model::{Image, Site, Version};
-use numbered_table::Table;
+use numbered_sets::Table;
 use osek_standard::App;
 use osek_values::{Memory, Seq};
 use std::alloc::Global;

@@ -4,7 +4,7 @@ use Rattle.std.specs.declared.option.Option.{Option}
 use Rattle.std.specs.declared.result.Result.{Result}
 use Rattle.osek_values.specs.declared.event.Event.{Event}
 use Rattle.osek_standard.specs.declared.state.State.{State}
-use Rattle.osek_standard.specs.Dispatch.{Stepped}
+use Rattle.osek_standard.specs.Dispatch.{Stepped, stepped}
 use Rattle.image_model.specs.declared.image.Image.{Image}
 use Rattle.image_model.specs.ImageStep.{image_step}
 use Rattle.trace_text.specs.declared.fault.EventFault.{EventFault}
@@ -14,7 +14,6 @@ use Rattle.command_runs.specs.declared.stop.Stop.{Stop}
 use Rattle.command_runs.specs.declared.stop.Stop.TheVariants as stop
 use Rattle.osek_values.specs.declared.notes.Notes.{Notes}
 use Rattle.osek_standard.specs.declared.app.App.{App}
-use Rattle.osek_standard.specs.Dispatch.{stepped}
 use Rattle.osek_standard.specs.TraceText.{line_text}
 use Rattle.osek_io.specs.Stored.{WritesProperPrefix}
 use Rattle.command_runs.proofs.Prefixes.{prefix_of_proper}

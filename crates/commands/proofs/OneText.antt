@@ -6,9 +6,9 @@ use Rattle.osek_standard.specs.{Counts.{points, height}, TraceText.{kernel_trace
 use Rattle.oil_system.specs.declared.system.System.{System}
 use Rattle.front_end.specs.Texts.{DeclaresSystem, GivesApp}
 use Rattle.front_end.proofs.OneAnswer.{one_oil, one_code}
-use Rattle.abstract_state.specs.declared.table.Table.{Table}
+use Rattle.abstract_state.specs.declared.table.PlainTable.{PlainTable}
 use Rattle.abstract_state.specs.{Forms.{HasDictatedForms}, Tables.{sets_of, value_count}}
-use Rattle.global_cfg.specs.declared.graph.FlowEdge.{FlowEdge}
+use Rattle.abstract_state.specs.declared.edge.FlowEdge.{FlowEdge}
 use Rattle.global_cfg.specs.Edges.{IsBefore}
 use Rattle.trace_text.specs.EventText.{read_text}
 use Rattle.flow_text.specs.declared.gen_line.AnalysisCounts.{AnalysisCounts}
@@ -24,7 +24,7 @@ never_both x y (inl h) (inr k) = omega (arith, h, k.0)
 never_both x y (inr h) (inl k) = omega (arith, h.0, k)
 never_both x y (inr h) (inr k) = omega (arith, h.1, k.1)
 
-one_list_of_edges : (app : App) (table : Table) (xs ys : List FlowEdge) → AreEdges app table xs → AreEdges app table ys → xs ≡ ys
+one_list_of_edges : (app : App) (table : PlainTable) (xs ys : List FlowEdge) → AreEdges app table xs → AreEdges app table ys → xs ≡ ys
 one_list_of_edges app table xs ys a b =
     one_in_order IsBefore never_both xs ys a.ascending b.ascending
     (λ e h. (b.exact e.from e.to).1 ((a.exact e.from e.to).0 h))
@@ -33,16 +33,16 @@ one_list_of_edges app table xs ys a b =
 one_told : (app : App) (text other : List ℕ) → TellsLeast app text → TellsLeast app other → text ≡ other
 one_told app text other x y =
     let tables = one_table app x.is.table y.is.table x.is.least y.is.least in
-    let forms = same_forms app (sets_of y.is.table) x.dictated.image y.dictated.image x.is.is y.is.is (subst (λ (t : Table). HasDictatedForms (sets_of t) x.dictated.image) tables x.is.forms) y.is.forms in
+    let forms = same_forms app (sets_of y.is.table) x.dictated.image y.dictated.image x.is.is y.is.is (subst (λ (t : PlainTable). HasDictatedForms (sets_of t) x.dictated.image) tables x.is.forms) y.is.forms in
     let sites = same_texts app x.dictated.image.sites y.dictated.image.sites forms in
-    let edges = one_list_of_edges app y.is.table x.dictated.edges y.dictated.edges (subst (λ (t : Table). AreEdges app t x.dictated.edges) tables x.is.edges) y.is.edges in
+    let edges = one_list_of_edges app y.is.table x.dictated.edges y.dictated.edges (subst (λ (t : PlainTable). AreEdges app t x.dictated.edges) tables x.is.edges) y.is.edges in
     let values : x.dictated.values ≡ y.dictated.values = x.is.values ∙ ap value_count tables ∙ sym y.is.values in
     x.told ∙ (λ i. sites i ++ edges_text app (edges i) ++ counts_line app (values i) (length (edges i))) ∙ sym y.told
 
 one_counted : (app : App) (n m : AnalysisCounts) → AreLeastCounts app n → AreLeastCounts app m → n ≡ m
 one_counted app n m x y =
     let tables = one_table app x.table y.table x.least y.least in
-    let forms = same_forms app (sets_of y.table) x.image y.image x.is y.is (subst (λ (t : Table). HasDictatedForms (sets_of t) x.image) tables x.forms) y.forms in
+    let forms = same_forms app (sets_of y.table) x.image y.image x.is y.is (subst (λ (t : PlainTable). HasDictatedForms (sets_of t) x.image) tables x.forms) y.forms in
     let apps : x.image.app ≡ y.image.app = x.is ∙ sym y.is in
     let counts = same_counts x.image.sites y.image.sites forms in
     x.counted ∙ (λ i. record { points = points (apps i); height = height (apps i); values = value_count (tables i); forms = counts i }) ∙ sym y.counted

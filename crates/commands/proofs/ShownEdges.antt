@@ -6,7 +6,7 @@ use Rattle.osek_standard.specs.declared.{app.App.{App}}
 use Rattle.osek_standard.specs.Points.{IsPoint}
 use Rattle.abstract_state.specs.{Forms.{Edge}, Tables.{sets_of}}
 use Rattle.abstract_state.proofs.FormLaws.{edge_begins, edge_ends}
-use Rattle.global_cfg.specs.declared.graph.FlowEdge.{FlowEdge}
+use Rattle.abstract_state.specs.declared.edge.FlowEdge.{FlowEdge}
 use Rattle.commands.specs.Showing.{IsDictated}
 use Rattle.commands.specs.declared.showing.Dictated.{Dictated}
 

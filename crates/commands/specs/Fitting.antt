@@ -5,12 +5,12 @@ use Rattle.osek_standard.specs.declared.app.App.{App}
 use Rattle.image_model.specs.declared.image.{Image.{Image}, Version.TheVariants.{Two}}
 use Rattle.image_model.specs.Laws.{IsKernelsRun}
 use Rattle.image_codec.specs.Spelling.{spelling}
-use Rattle.abstract_state.specs.declared.table.Table.{Table}
+use Rattle.abstract_state.specs.declared.table.PlainTable.{PlainTable}
 use Rattle.abstract_state.specs.{Forms.{HasDictatedForms, HasDictatedStatuses}, Tables.{Sets, Least, sets_of}, Written.{IsWritten}}
 use Rattle.command_runs.specs.Replaying.{SpellImage}
 
 -- the least table of an application, as the analysis writes it
-pub record IsLeastTable (app : App) (table : Table) : Type 0 where
+pub record IsLeastTable (app : App) (table : PlainTable) : Type 0 where
   pub written : IsWritten app table
   pub least : Least app (sets_of table)
 

@@ -4,7 +4,7 @@ use Rattle.osek_values.specs.declared.numbers.ModeNo.{ModeNo}
 use Rattle.osek_standard.specs.declared.app.App.{App}
 use Rattle.osek_standard.specs.TraceText.{kernel_trace}
 use Rattle.image_model.specs.declared.image.Image.{Image}
-use Rattle.abstract_state.specs.declared.table.Table.{Table}
+use Rattle.abstract_state.specs.declared.table.PlainTable.{PlainTable}
 use Rattle.abstract_state.specs.{Forms.{HasDictatedForms}, Tables.{sets_of, value_count}}
 use Rattle.trace_text.specs.EventText.{read_text}
 use Rattle.osek_io.specs.Files.{Files}
@@ -23,7 +23,7 @@ use Rattle.command_runs.specs.declared.stop.Stop.TheVariants as stop
 
 -- what the least table of an application counts, and the forms that it dictates
 pub record AreLeastCounts (app : App) (counts : AnalysisCounts) : Type 0 where
-  pub table : Table
+  pub table : PlainTable
   pub image : Image
   pub least : IsLeastTable app table
   pub is : image.app ≡ app

@@ -3,12 +3,12 @@ use Rattle.std.specs.Prelude.{◌≡◌, ℕ, List, Some}
 use Rattle.osek_standard.specs.declared.app.App.{App}
 use Rattle.oil_system.specs.declared.system.System.{System}
 use Rattle.front_end.specs.Texts.{DeclaresSystem, GivesApp}
-use Rattle.abstract_state.specs.declared.table.Table.{Table}
+use Rattle.abstract_state.specs.declared.table.PlainTable.{PlainTable}
 use Rattle.commands.specs.{Fitting.{IsLeastTable}, GeneratedFiles.{generated_files}, Generating.{OfOwn, TellsRun}, Showing.{TellsLeast}}
 
 -- The least table of an application is written in one way, with one number of values.
 abbrev pub OneTableIsWritten : Type 0
-OneTableIsWritten = (app : App) (table other : Table) → IsLeastTable app table → IsLeastTable app other → table ≡ other
+OneTableIsWritten = (app : App) (table other : PlainTable) → IsLeastTable app table → IsLeastTable app other → table ≡ other
 
 -- the text tells what the least table of the application of the two texts dictates
 pub record IsShownOf (oil code text : List ℕ) : Type 0 where

@@ -1,10 +1,11 @@
 -- The answers of `show`, each with its cause and what it leaves.
 use Rattle.std.specs.Prelude.{◌≡◌, ◌↔◌, ℕ, List, Contains, Result, Err}
 use Rattle.osek_standard.specs.declared.{app.App.{App}, point.Point.{Point}}
-use Rattle.abstract_state.specs.declared.table.Table.{Table}
+use Rattle.abstract_state.specs.declared.table.PlainTable.{PlainTable}
 use Rattle.abstract_state.specs.{Forms.{HasDictatedForms, Edge}, Tables.{sets_of, value_count}}
-use Rattle.global_cfg.specs.declared.graph.FlowEdge.{FlowEdge}
-use Rattle.global_cfg.specs.Edges.{flow_edge, AreAscending}
+use Rattle.abstract_state.specs.declared.edge.FlowEdge.{FlowEdge}
+use Rattle.abstract_state.specs.Edges.{flow_edge}
+use Rattle.global_cfg.specs.Edges.{AreAscending}
 use Rattle.flow_text.specs.Texts.{show_text}
 use Rattle.commands.specs.Compiling.{OfApp, CompileStops}
 use Rattle.commands.specs.Fitting.{IsLeastTable}
@@ -14,14 +15,14 @@ use Rattle.command_runs.specs.declared.stop.Stop.{Stop}
 use Rattle.commands.specs.declared.showing.Dictated.{Dictated}
 
 -- these are the edges of the global control-flow graph, in order, none twice
-pub record AreEdges (app : App) (table : Table) (edges : List FlowEdge) : Type 0 where
+pub record AreEdges (app : App) (table : PlainTable) (edges : List FlowEdge) : Type 0 where
   pub exact : (p q : Point) → Contains edges (flow_edge p q) ↔ Edge app (sets_of table) p q
   pub ascending : AreAscending edges
 
 -- What the least table of an application dictates: the form of each call site, and the edges of the global control-flow
 -- graph; with the number of its values.
 pub record IsDictated (app : App) (x : Dictated) : Type 0 where
-  pub table : Table
+  pub table : PlainTable
   pub least : IsLeastTable app table
   pub is : x.image.app ≡ app
   pub forms : HasDictatedForms (sets_of table) x.image

@@ -17,12 +17,12 @@ use crate::kept_text::KeptText;
 use command_runs::{Stop, line_room, run};
 use flow_text::{AnalysisCounts, TextSize, analysis_counts, write_gen_line};
 use image_model::Image;
-use numbered_flow::values;
 use osek_io::{MemShelf, PutError, Shelf, Sink, put_all};
 use osek_standard::App;
 use osek_values::Memory;
 use osek_values::limits::LINE_MAX;
 use osek_vectors::{GenerateError, Generated, generate};
+use state_flow::values;
 use std::alloc::Global;
 
 const OIL: &str = "oil";

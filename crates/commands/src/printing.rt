@@ -1,15 +1,15 @@
 //! Texts that are printed line by line: the sites of an image, the edges of a graph. Lines are held back in a buffer.
 ghost use Rattle.std.specs.Prelude.{◌≡◌, ◌≤◌, ◌<◌, All, length, take, OnOk, OnErr};
 ghost use Rattle.osek_standard.specs.Points.{IsPoint};
-ghost use Rattle.global_cfg.specs.declared.graph.FlowEdge.{FlowEdge as AnEdge};
+ghost use Rattle.abstract_state.specs.declared.edge.FlowEdge.{FlowEdge as AnEdge};
 ghost use Rattle.flow_text.specs.{FlowLines.{edge_line, counts_line, info_line}, Texts.{site_text, sites_text, edges_text}};
 ghost use Rattle.image_model.specs.ImageStep.{site_at as site_of};
 ghost use Rattle.osek_io.specs.Sunk.{sunk};
 ghost use Rattle.command_runs.specs.Playing.{given, Puts, PutsPrefix};
 
+use abstract_state::FlowEdge;
 use command_runs::prefix;
 use flow_text::{write_counts_line, write_edge_line, write_info_line, write_site_line};
-use global_cfg::FlowEdge;
 use image_model::{Image, Version, site_at};
 use osek_io::{PutBuffer, PutError, Sink};
 use osek_standard::App;

@@ -2,7 +2,7 @@
 ghost use Rattle.std.specs.Prelude.{◌≡◌, ◌≤◌, All, length, IfOk, OnOk, OnErr};
 ghost use Rattle.osek_standard.specs.Points.{IsPoint};
 ghost use Rattle.osek_standard.specs.Versions.{FitsVersion1};
-ghost use Rattle.global_cfg.specs.declared.graph.FlowEdge.{FlowEdge as AnEdge};
+ghost use Rattle.abstract_state.specs.declared.edge.FlowEdge.{FlowEdge as AnEdge};
 ghost use Rattle.osek_io.specs.Reads.{OnlyReads};
 ghost use Rattle.flow_text.specs.Texts.{show_text};
 ghost use Rattle.commands.specs.Fitting.{IsLeastTable};
@@ -15,15 +15,16 @@ ghost use Rattle.commands.specs.Showing.{IsDictated, ShowAnswers};
 use crate::compiling::compile;
 use crate::fitting::{fitted, least_table};
 use crate::printing::{print_counts, print_edges, print_sites};
+use abstract_state::FlowEdge;
 use command_runs::{Stop, line_room};
-use global_cfg::{FlowEdge, edges};
+use global_cfg::edges;
 use image_model::{Image, Version};
-use numbered_flow::values;
-use numbered_table::Table;
+use numbered_sets::Table;
 use osek_io::{PutBuffer, PutError, Shelf, Sink};
 use osek_standard::App;
 use osek_values::limits::LINE_MAX;
 use osek_values::{Memory, Seq};
+use state_flow::values;
 use std::alloc::Global;
 
 /// What the least table of an application dictates.

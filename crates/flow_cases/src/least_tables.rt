@@ -2,9 +2,9 @@
 ghost use Rattle.std.specs.Prelude.{◌≡◌, ◌<◌};
 
 use front_end::{TextError, read_app, read_system};
-use numbered_flow::{solve, values};
 use osek_standard::App;
 use osek_values::{Memory, Steps};
+use state_flow::{solve, values};
 use std::alloc::Global;
 use std::marker::Brand;
 use std::sync::ledger::{Blank, Ledger};

@@ -3,6 +3,8 @@
 #![tactic(auto)]
 
 #[cfg(test)]
+mod joins;
+#[cfg(test)]
 mod least_tables;
 #[cfg(test)]
 mod point_tables;

@@ -1,13 +1,12 @@
 //! Least tables of worked applications, point by point: what each component can be there.
 ghost use Rattle.std.specs.Prelude.{◌≡◌, ◌<◌};
 
-use abstract_state::{Entry, LiveVal, PartValue, Point, Val, ValueSet};
+use abstract_state::{LiveVal, PartValue, PlainEntry, Point, Val, ValueSet};
 use front_end::{TextError, read_app, read_system};
-use numbered_flow::solve;
-use numbered_sets::plain;
-use numbered_table::Table;
+use numbered_sets::{Table, plain};
 use osek_standard::App;
 use osek_values::{Memory, Steps};
+use state_flow::solve;
 use std::alloc::Global;
 use std::marker::Brand;
 use std::sync::ledger::{Blank, Ledger};
@@ -63,7 +62,12 @@ fn push_point(alloc: Global, point: Point, text: &mut String) -> Result<(), Memo
 }
 
 // a line for each row: the point, and the values of each component
-fn push_row(alloc: Global, point: Point, entry: &Entry, text: &mut String) -> Result<(), Memory> {
+fn push_row(
+    alloc: Global,
+    point: Point,
+    entry: &PlainEntry,
+    text: &mut String,
+) -> Result<(), Memory> {
     push_point(alloc, point, text)?;
     for set in entry.sets.as_slice() {
         push_set(alloc, set, text)?;

@@ -4,16 +4,15 @@ ghost use Rattle.osek_standard.specs.Points.{IsPoint};
 ghost use Rattle.osek_standard.specs.Versions.{FitsVersion1};
 ghost use Rattle.image_model.specs.Sites.{IsForm};
 
-use abstract_state::Point;
+use abstract_state::{FlowEdge, Point};
 use call_tailor::tailor;
 use flow_text::{write_counts_line, write_edge_line, write_info_line, write_site_line};
 use front_end::{TextError, read_app, read_system};
-use global_cfg::FlowEdge;
 use image_model::{Form, Image, Known, Site, Version, general, is_within, site_at};
-use numbered_flow::solve;
 use osek_standard::App;
 use osek_values::limits::LINE_MAX;
 use osek_values::{BlockNo, Memory, Status, Steps, TaskNo};
+use state_flow::solve;
 use std::alloc::Global;
 use std::marker::Brand;
 use std::sync::ledger::{Blank, Ledger};

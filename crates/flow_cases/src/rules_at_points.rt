@@ -4,12 +4,11 @@ ghost use Rattle.osek_standard.specs.Well.{Well};
 ghost use Rattle.abstract_state.specs.Domains.{domains as domains_of_entry};
 ghost use Rattle.state_flow.specs.Rows.{IsProperRow};
 
-use abstract_state::{Domain, Entry, TableRow};
+use abstract_state::{Domain, PlainEntry, TableRow};
 use flow_model::{Decision, Rule};
+use flow_rules::{apply, rules};
 use front_end::{TextError, read_app, read_system};
 use generic_kernel::{Ready, start, step};
-use numbered_exits::rules;
-use numbered_rules::apply;
 use numbered_sets::{Pool, numbered};
 use osek_standard::{App, State};
 use osek_values::{Event, Memory, ModeNo, Steps, TaskNo};
@@ -90,7 +89,7 @@ fn outcomes(alloc: Global, app: &App, row: &TableRow) -> Result<Summary, Memory>
     Ok(outcomes)
 }
 
-fn domains(alloc: Global, entry: &Entry) -> Result<Vec<Domain>, Memory>
+fn domains(alloc: Global, entry: &PlainEntry) -> Result<Vec<Domain>, Memory>
     ensures { IfOk result (λ all. all.items ≡ domains_of_entry entry.now) }
 {
     let mut all = Vec::new(alloc);

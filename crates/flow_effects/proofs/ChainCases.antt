@@ -28,14 +28,13 @@ use Rattle.flow_model.specs.declared.runner.Runner.TheVariants as runner
 use Rattle.flow_model.specs.Changes.{activating}
 use Rattle.flow_model.specs.Tests.{passes, PassesAll, value_after}
 use Rattle.flow_model.specs.Runners.{Stands, OwnsBlock, runner_point}
-use Rattle.flow_model.specs.Effects.{HasEffect}
+use Rattle.flow_model.specs.Effects.{HasEffect, AreCasesOf}
 use Rattle.flow_model.specs.Cases.{goes_on}
 use Rattle.flow_model.proofs.Activations.{activated_parts, activating_sets}
 use Rattle.flow_model.proofs.ChangeLaws.{each_passes, passes_each, sets_first}
 use Rattle.flow_model.proofs.Standing.{next_owned, task_calls, routine_calls}
 use Rattle.flow_model.proofs.Moves.{moved_suspended, went_on}
 use Rattle.flow_model.proofs.Calls.{asked_none, call_goes_on, call_has}
-use Rattle.flow_model.specs.Effects.{AreCasesOf}
 use Rattle.flow_effects.specs.Conditions.{of_task}
 use Rattle.flow_effects.specs.TaskEnds.{suspends, refused_holding, chains, holding_nothing, chain_to_itself, chain_to_another, chain_cases}
 use Rattle.flow_effects.proofs.Listed.{IsEffect, IsTaken, are_cases, more_listed, one_listed}

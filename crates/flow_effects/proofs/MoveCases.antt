@@ -26,7 +26,7 @@ use Rattle.osek_standard.proofs.BoolLaws.{either_way}
 use Rattle.osek_standard.proofs.Members.{Among, contained_among, among_contained}
 use Rattle.abstract_state.specs.declared.value.{Component.{Component}, PartValue.{PartValue}, PartValue.TheVariants.{OfTask}, Val.TheVariants.{Live}}
 use Rattle.abstract_state.specs.declared.value.Component.TheVariants as component
-use Rattle.abstract_state.specs.declared.table.Entry.{Entry}
+use Rattle.abstract_state.specs.declared.table.PlainEntry.{PlainEntry}
 use Rattle.abstract_state.specs.Components.{component_at, abstract_of, part_of, live_val}
 use Rattle.abstract_state.proofs.Concretes.{some_quiet_at}
 use Rattle.flow_model.specs.declared.case.EffectCase.{EffectCase}
@@ -235,7 +235,7 @@ module _ (app : App) (r : Runner) (b : BlockNo) (owns : OwnsBlock app r b) where
         (work_effect s choice h ∙ ap (λ (t : Bool). noted app (if t then unnoted (moved s (place_at (here s).block ((here s).offset + 1))) ask.No else unnoted (moved_to s next) ask.No)) past_it)
 
     -- a state whose offset is chosen shows the case
-    shown_at : (x : EffectCase) (value : ℕ → PartValue) (o : ℕ) → o < count → (entry : Entry) → AreIn app entry value → AreAllAllowed app (runner_point r b) entry → ((s : State) → Stands app s r b → (here s).offset ≡ o → HasEffect app x s true) → ShowsEffect app (runner_point r b) x value
+    shown_at : (x : EffectCase) (value : ℕ → PartValue) (o : ℕ) → o < count → (entry : PlainEntry) → AreIn app entry value → AreAllAllowed app (runner_point r b) entry → ((s : State) → Stands app s r b → (here s).offset ≡ o → HasEffect app x s true) → ShowsEffect app (runner_point r b) x value
     shown_at x value o lt entry within all shows =
         let q = some_quiet_at app (runner_point r b) value (owned_point app r b owns) (values_allowed app (runner_point r b) entry value all within) b o (stands_point r) (offset_at o lt) in
         record {
@@ -249,13 +249,13 @@ module _ (app : App) (r : Runner) (b : BlockNo) (owns : OwnsBlock app r b) where
     some_work : 0 < count
     some_work = subst (NamesEntries (tables app)) is (operands_of app r b owns)
 
-    shows_last : (value : ℕ → PartValue) → (entry : Entry) → AreIn app entry value → AreAllAllowed app (runner_point r b) entry → ShowsEffect app (runner_point r b) (passes_by r next) value
+    shows_last : (value : ℕ → PartValue) → (entry : PlainEntry) → AreIn app entry value → AreAllAllowed app (runner_point r b) entry → ShowsEffect app (runner_point r b) (passes_by r next) value
     shows_last value entry within all =
         let some = some_work in
         let last : count - 1 < count = omega (arith, some) in
         shown_at (passes_by r next) value (count - 1) last entry within all (λ s h e. does_last s true h (omega (arith, e)))
 
-    shows_one : 1 < count → (value : ℕ → PartValue) → (entry : Entry) → AreIn app entry value → AreAllAllowed app (runner_point r b) entry → ShowsEffect app (runner_point r b) (stays r b) value
+    shows_one : 1 < count → (value : ℕ → PartValue) → (entry : PlainEntry) → AreIn app entry value → AreAllAllowed app (runner_point r b) entry → ShowsEffect app (runner_point r b) (stays r b) value
     shows_one more value entry within all =
         let first : 0 < count = omega (arith, more) in
         shown_at (stays r b) value 0 first entry within all (λ s h e. does_one s true h (omega (arith, e, more)))

@@ -37,7 +37,7 @@ use Rattle.flow_model.specs.declared.runner.Runner.{Runner}
 use Rattle.flow_model.specs.declared.runner.Runner.TheVariants as runner
 use Rattle.flow_model.specs.Tests.{passes, PassesAll}
 use Rattle.flow_model.specs.Runners.{Stands, OwnsBlock, runner_point}
-use Rattle.flow_model.specs.Effects.{HasEffect}
+use Rattle.flow_model.specs.Effects.{HasEffect, AreCasesOf}
 use Rattle.flow_model.specs.Cases.{goes_on}
 use Rattle.flow_model.proofs.BitRange.{no_such_bit}
 use Rattle.flow_model.proofs.BitsOf.{bits_among, among_bits, bit_within, own_bit, no_bit}
@@ -46,7 +46,6 @@ use Rattle.flow_model.proofs.Standing.{next_owned, point_there, task_calls, rout
 use Rattle.flow_model.proofs.Instructions.{effect_there}
 use Rattle.flow_model.proofs.Moves.{activity_parts, moved_parts, went_on}
 use Rattle.flow_model.proofs.Calls.{has_effect}
-use Rattle.flow_model.specs.Effects.{AreCasesOf}
 use Rattle.flow_effects.specs.Conditions.{of_task}
 use Rattle.flow_effects.specs.Moves.{refuses}
 use Rattle.flow_effects.specs.TaskEnds.{refused_holding}

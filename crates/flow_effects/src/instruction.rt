@@ -3,7 +3,7 @@ ghost use Rattle.std.specs.Prelude.{◌≡◌, false, IfOk};
 ghost use Rattle.osek_standard.specs.declared.block.Kind.TheVariants as kind;
 ghost use Rattle.osek_standard.specs.Apps.{the_block};
 ghost use Rattle.osek_standard.specs.Points.{IsPoint};
-ghost use Rattle.abstract_state.specs.declared.table.Entry.{Entry};
+ghost use Rattle.abstract_state.specs.declared.table.PlainEntry.{PlainEntry};
 ghost use Rattle.abstract_state.specs.Domains.{domains, domains_of};
 ghost use Rattle.flow_model.specs.Effects.{AreAllAllowed, CoverEffects, AreExactEffects, HaveKnownStays, AreCasesOf};
 ghost use Rattle.flow_model.specs.Runners.{runner_point, OwnsBlock};
@@ -179,8 +179,8 @@ fn block_cases(
 /// them. Where nobody executes there is no case.
 pub fn effect_cases(alloc: Global, app: &App, point: Point) -> Result<Seq<EffectCase>, Memory>
     requires point { IsPoint app.now point }
-    ensures covering { IfOk result (λ cases. (entry : Entry) → domains entry ≡ domains_of app.now → CoverEffects app.now point entry cases) }
-    ensures exact { IfOk result (λ cases. (entry : Entry) → domains entry ≡ domains_of app.now → AreAllAllowed app.now point entry → AreExactEffects app.now point entry cases) }
+    ensures covering { IfOk result (λ cases. (entry : PlainEntry) → domains entry ≡ domains_of app.now → CoverEffects app.now point entry cases) }
+    ensures exact { IfOk result (λ cases. (entry : PlainEntry) → domains entry ≡ domains_of app.now → AreAllAllowed app.now point entry → AreExactEffects app.now point entry cases) }
     ensures stays { IfOk result (HaveKnownStays app.now) }
 {
     match point {

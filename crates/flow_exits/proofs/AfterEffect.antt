@@ -4,7 +4,7 @@ use Rattle.std.specs.Prelude.{Contains}
 use Rattle.std.proofs.lemmas.Bool.{cases_lt}
 use Rattle.osek_standard.specs.declared.app.App.{App}
 use Rattle.abstract_state.specs.declared.value.PartValue.{PartValue}
-use Rattle.abstract_state.specs.declared.table.Entry.{Entry}
+use Rattle.abstract_state.specs.declared.table.PlainEntry.{PlainEntry}
 use Rattle.abstract_state.specs.Components.{component_count}
 use Rattle.abstract_state.specs.Tables.{set_at, is_member}
 use Rattle.flow_model.specs.declared.case.EffectCase.{EffectCase}
@@ -15,13 +15,13 @@ use Rattle.flow_exits.specs.declared.exit.Exit.{Exit}
 use Rattle.flow_exits.specs.Leaving.{IsOfEffects, HasExitsFor, IsDecided, AddsDecided, effect_rule}
 
 -- a value of the entry that the effect takes, and of which it makes this one
-record Before (app : App) (effect : EffectCase) (entry : Entry) (value : ℕ → PartValue) (c : ℕ) : Type 0 where
+record Before (app : App) (effect : EffectCase) (entry : PlainEntry) (value : ℕ → PartValue) (c : ℕ) : Type 0 where
   was : PartValue
   there : c < component_count app → IsTrue (is_member (set_at entry c) was)
   passes : c < component_count app → PassesAt effect.conditions c was
   becomes : c < component_count app → value_after effect.changes c was ≡ value c
 
-module _ (app : App) (effect : EffectCase) (entry after : Entry) (size : length entry.sets ≡ component_count app) (made : Applies (effect_rule effect) entry after) where
+module _ (app : App) (effect : EffectCase) (entry after : PlainEntry) (size : length entry.sets ≡ component_count app) (made : Applies (effect_rule effect) entry after) where
   in_sets : (c : ℕ) → c < component_count app → c < length entry.sets
   in_sets c lt = subst (λ (n : ℕ). c < n) (sym size) lt
 
@@ -42,7 +42,7 @@ module _ (app : App) (effect : EffectCase) (entry after : Entry) (size : length 
   all_after value within passes c lt = made.to c (value c) (in_sets c lt) (within c lt) (passes c lt)
 
 -- what is decided with values after an effect is an exit of the effect
-pub decided_comes : (app : App) (effects : List EffectCase) (effect : EffectCase) (entry after : Entry) (x : Exit) → Contains effects effect → length entry.sets ≡ component_count app →
+pub decided_comes : (app : App) (effects : List EffectCase) (effect : EffectCase) (entry after : PlainEntry) (x : Exit) → Contains effects effect → length entry.sets ≡ component_count app →
     Applies (effect_rule effect) entry after → IsDecided app effect.leaving after x → IsOfEffects app effects entry x
 decided_comes app effects effect entry after x listed size made h = record {
   decision = h.decision;
@@ -64,13 +64,13 @@ decided_comes app effects effect entry after x listed size made h = record {
 }
 
 -- and all that may be decided with them has an exit
-pub decisions_covered : (app : App) (effect : EffectCase) (entry after : Entry) (before now : List Exit) → length entry.sets ≡ component_count app →
+pub decisions_covered : (app : App) (effect : EffectCase) (entry after : PlainEntry) (before now : List Exit) → length entry.sets ≡ component_count app →
     Applies (effect_rule effect) entry after → AddsDecided app effect.leaving after before now → HasExitsFor app effect entry now
 decisions_covered app effect entry after before now size made h value d within passes decides =
     h.whole (values_after effect.changes value) d (all_after app effect entry after size made value within passes) decides
 
 -- where the effect takes no values nothing is decided
-pub nothing_taken : (app : App) (effect : EffectCase) (entry : Entry) (exits : List Exit) → HasNone (effect_rule effect) entry → length entry.sets ≡ component_count app → HasExitsFor app effect entry exits
+pub nothing_taken : (app : App) (effect : EffectCase) (entry : PlainEntry) (exits : List Exit) → HasNone (effect_rule effect) entry → length entry.sets ≡ component_count app → HasExitsFor app effect entry exits
 nothing_taken app effect entry exits none size value d within passes decides =
     let known : none.component < component_count app = subst (λ (n : ℕ). none.component < n) size none.known in
     absurd (none.none (value none.component) (within none.component known) (passes none.component known))

@@ -18,7 +18,7 @@ use Rattle.osek_standard.specs.Effects.{effect}
 use Rattle.osek_standard.specs.Outcomes.{Mark, Silent, Arrived, Did, shows, IsInstruction}
 use Rattle.osek_standard.specs.Well.{Well, IsActive}
 use Rattle.abstract_state.specs.declared.value.PartValue.{PartValue}
-use Rattle.abstract_state.specs.declared.table.Entry.{Entry}
+use Rattle.abstract_state.specs.declared.table.PlainEntry.{PlainEntry}
 use Rattle.abstract_state.specs.Components.{abstract_of}
 use Rattle.abstract_state.specs.Concrete.{HasParts}
 use Rattle.abstract_state.specs.Tables.{set_at, is_member}
@@ -32,9 +32,9 @@ use Rattle.flow_model.specs.Runners.{IsNobodys}
 use Rattle.flow_model.specs.Tests.{value_after, values_after}
 use Rattle.flow_model.proofs.Instructions.{instruction_by, shown_so}
 use Rattle.flow_model.proofs.Standing.{active_there, active_within}
-use Rattle.flow_dispatch.specs.Deciding.{HasValues}
-use Rattle.flow_rules.specs.Arrivals.{arrival_rule, MayBegin, AreArrivals}
-use Rattle.flow_rules.proofs.Arriving.{all_arrivals, none_alone, task_alone, arrival_covered, arrival_shown}
+use Rattle.flow_exits.specs.Deciding.{HasValues}
+use Rattle.flow_exits.specs.Arrivals.{arrival_rule, MayBegin, AreArrivals}
+use Rattle.flow_exits.proofs.Arriving.{all_arrivals, none_alone, task_alone, arrival_covered, arrival_shown}
 use Rattle.flow_exits.specs.declared.exit.Exit.{Exit}
 use Rattle.flow_exits.specs.Exits.{exit_mark, IsBySome, CoverSteps, CoverInstructions, IsFilled, IsExact, AreExact}
 use Rattle.flow_exits.specs.Leaving.{HasDecided, IsOfEffects, arrival_exit, AreExits}
@@ -73,7 +73,7 @@ module _ (app : App) where
   ]
   has_arrivals (point.Routine b over) is = none_begin (point.Routine b over) (λ o may. may)
 
-module _ (app : App) (p : Point) (entry : Entry) (exits : List Exit) (is : IsPoint app p) (h : AreExits app p entry exits) where
+module _ (app : App) (p : Point) (entry : PlainEntry) (exits : List Exit) (is : IsPoint app p) (h : AreExits app p entry exits) where
   -- a state in which a routine begins steps by the routine's exit
   arrival_taken : (s : State) (choice : Bool) → IsAt app p entry s → shows app s (Run choice) ≡ Arrived → IsBySome app exits s (Run choice)
   arrival_taken s choice at e =

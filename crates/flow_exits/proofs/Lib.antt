@@ -1,3 +1,8 @@
+pub mod Staying
+pub mod KernelDecides
+pub mod PriorityTests
+pub mod ClaimLaws
+pub mod Arriving
 pub mod Steps
 pub mod Covering
 pub mod AfterEffect

@@ -18,9 +18,9 @@ use Rattle.flow_model.specs.Effects.{stay_point, IsKnownStay, HasEffect}
 use Rattle.flow_model.specs.Rules.{mark_by}
 use Rattle.flow_model.specs.Scheduling.{Decides, end_point, outcome_of_decision}
 use Rattle.flow_model.specs.Tests.{values_after}
-use Rattle.flow_dispatch.specs.Deciding.{HasValues}
-use Rattle.flow_dispatch.proofs.KernelDecides.{decided_so, some_decided, ends_there}
-use Rattle.flow_rules.proofs.Assembling.{same_stay, settled_part}
+use Rattle.flow_exits.specs.Deciding.{HasValues}
+use Rattle.flow_exits.proofs.KernelDecides.{decided_so, some_decided, ends_there}
+use Rattle.flow_exits.proofs.Staying.{same_stay, settled_part}
 
 -- The step ends where the decision says, with these values.
 pub record Ends (app : App) (x : EffectCase) (d : Decision) (value : ℕ → PartValue) (s : State) (e : Event) : Type 0 where

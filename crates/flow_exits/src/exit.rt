@@ -1,6 +1,6 @@
 //! Where a step from a point may end.
 
-use abstract_state::{Entry, Point};
+use abstract_state::{PlainEntry, Point};
 use flow_model::Decision;
 use osek_values::Status;
 
@@ -11,5 +11,5 @@ pub struct Exit {
     pub target: Point,
     pub decision: Option<Decision>,
     pub status: Option<Status>,
-    pub entry: Entry,
+    pub entry: PlainEntry,
 }

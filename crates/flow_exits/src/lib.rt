@@ -1,7 +1,13 @@
-//! Where a step from a point may end, with the values that the components have then.
+//! What a step from a point may end in, by values: what the scheduler decides after an effect, and which routines may begin.
 #![tactic(auto)]
 
+mod beginning;
+mod claim;
 mod exit;
 pub mod laws;
+mod priority;
 
+pub use beginning::arrivals;
+pub use claim::{Claim, is_running};
 pub use exit::Exit;
+pub use priority::{Candidate, as_candidate};

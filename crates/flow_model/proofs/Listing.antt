@@ -6,7 +6,7 @@ use Rattle.osek_standard.specs.declared.app.App.{App}
 use Rattle.osek_standard.specs.declared.state.State.{State}
 use Rattle.osek_standard.specs.declared.point.Point.{Point}
 use Rattle.abstract_state.specs.declared.value.PartValue.{PartValue}
-use Rattle.abstract_state.specs.declared.table.Entry.{Entry}
+use Rattle.abstract_state.specs.declared.table.PlainEntry.{PlainEntry}
 use Rattle.abstract_state.specs.Components.{abstract_of}
 use Rattle.abstract_state.specs.Concrete.{AreAllowed, HasParts}
 use Rattle.abstract_state.proofs.Concretes.{some_quiet}
@@ -19,7 +19,7 @@ use Rattle.flow_model.specs.Effects.{AreIn, AreAllAllowed, HasEffect, HasSomeEff
 use Rattle.flow_model.proofs.Standing.{owned_point, stands_here}
 
 -- chosen values of an entry are allowed
-pub values_allowed : (app : App) (p : Point) (entry : Entry) (value : ℕ → PartValue) → AreAllAllowed app p entry → AreIn app entry value → AreAllowed app p value
+pub values_allowed : (app : App) (p : Point) (entry : PlainEntry) (value : ℕ → PartValue) → AreAllAllowed app p entry → AreIn app entry value → AreAllowed app p value
 values_allowed app p entry value all within c lt = all c (value c) lt (within c lt)
 
 module _ (app : App) (p : Point) (value : ℕ → PartValue) (s : State) (has : HasParts app p value s) where
@@ -36,17 +36,17 @@ module _ (app : App) (r : Runner) (b : BlockNo) (owns : OwnsBlock app r b) (case
   abbrev pub AreEnough : Type 0
   AreEnough = (s : State) → Stands app s r b → (x : EffectCase) × Contains cases x × PassesAll app x.conditions (abstract_of app s)
 
-  pub covers_by : ((s : State) (choice : Bool) → Stands app s r b → HasSomeEffect app cases s choice) → (entry : Entry) → CoverEffects app (runner_point r b) entry cases
+  pub covers_by : ((s : State) (choice : Bool) → Stands app s r b → HasSomeEffect app cases s choice) → (entry : PlainEntry) → CoverEffects app (runner_point r b) entry cases
   covers_by some entry s choice at active = some s choice (stands_here app s r b owns at.well at.point)
 
-  pub covers : AreEffects → AreEnough → (entry : Entry) → CoverEffects app (runner_point r b) entry cases
+  pub covers : AreEffects → AreEnough → (entry : PlainEntry) → CoverEffects app (runner_point r b) entry cases
   covers each some = covers_by (λ s choice h. let x = some s h in record { case = x.0; listed = x.1; effect = each x.0 s choice x.1 h x.2 })
 
   -- an effect of the case by some choice, in each state that passes its conditions
   abbrev pub IsEffectBy : EffectCase → Bool → Type 0
   IsEffectBy x choice = (s : State) → Stands app s r b → PassesAll app x.conditions (abstract_of app s) → HasEffect app x s choice
 
-  pub exact_by : ((x : EffectCase) → Contains cases x → (choice : Bool) × IsEffectBy x choice) → (entry : Entry) → AreAllAllowed app (runner_point r b) entry → AreExactEffects app (runner_point r b) entry cases
+  pub exact_by : ((x : EffectCase) → Contains cases x → (choice : Bool) × IsEffectBy x choice) → (entry : PlainEntry) → AreAllAllowed app (runner_point r b) entry → AreExactEffects app (runner_point r b) entry cases
   exact_by each entry all x value listed within passing =
       let q = some_quiet app (runner_point r b) value (owned_point app r b owns) (values_allowed app (runner_point r b) entry value all within) in
       let has : HasParts app (runner_point r b) value q.0 = q.1.has in
@@ -59,5 +59,5 @@ module _ (app : App) (r : Runner) (b : BlockNo) (owns : OwnsBlock app r b) (case
         effect = shown.1 q.0 (stands_here app q.0 r b owns has.well has.point) (made_passes app (runner_point r b) value q.0 has x.conditions passing);
       }
 
-  pub exact : AreEffects → (entry : Entry) → AreAllAllowed app (runner_point r b) entry → AreExactEffects app (runner_point r b) entry cases
+  pub exact : AreEffects → (entry : PlainEntry) → AreAllAllowed app (runner_point r b) entry → AreExactEffects app (runner_point r b) entry cases
   exact each = exact_by (λ x listed. (true, λ s h passing. each x s true listed h passing))

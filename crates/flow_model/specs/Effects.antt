@@ -11,7 +11,7 @@ use Rattle.osek_standard.specs.Effects.{Effect, effect}
 use Rattle.osek_standard.specs.Arrivals.{arrival}
 use Rattle.osek_standard.specs.Well.{Well, IsActive}
 use Rattle.abstract_state.specs.declared.value.PartValue.{PartValue}
-use Rattle.abstract_state.specs.declared.table.Entry.{Entry}
+use Rattle.abstract_state.specs.declared.table.PlainEntry.{PlainEntry}
 use Rattle.abstract_state.specs.Components.{component_count, abstract_of, IsAllowed}
 use Rattle.abstract_state.specs.Concrete.{HasParts, val_of}
 use Rattle.abstract_state.specs.Tables.{set_at, is_member}
@@ -22,15 +22,15 @@ use Rattle.flow_model.specs.Values.{block_of}
 use Rattle.flow_model.specs.Tests.{PassesAll, value_after}
 
 -- a value for each component, out of its set
-abbrev pub AreIn : App → Entry → (ℕ → PartValue) → Type 0
+abbrev pub AreIn : App → PlainEntry → (ℕ → PartValue) → Type 0
 AreIn app entry value = (c : ℕ) → c < component_count app → IsTrue (is_member (set_at entry c) (value c))
 
 -- the values of an entry are ones that well-formed states have at the point
-abbrev pub AreAllAllowed : App → Point → Entry → Type 0
+abbrev pub AreAllAllowed : App → Point → PlainEntry → Type 0
 AreAllAllowed app p entry = (c : ℕ) (v : PartValue) → c < component_count app → IsTrue (is_member (set_at entry c) v) → IsAllowed app p c v
 
 -- a state of the entry, at the point
-pub record IsAt (app : App) (p : Point) (entry : Entry) (s : State) : Type 0 where
+pub record IsAt (app : App) (p : Point) (entry : PlainEntry) (s : State) : Type 0 where
   pub well : Well app s
   pub point : point_of s ≡ p
   pub within : AreIn app entry (abstract_of app s)
@@ -70,7 +70,7 @@ pub record HasSomeEffect (app : App) (cases : List EffectCase) (s : State) (choi
   pub effect : HasEffect app case s choice
 
 -- Each instruction of a state of the entry is some case's.
-abbrev pub CoverEffects : App → Point → Entry → List EffectCase → Type 0
+abbrev pub CoverEffects : App → Point → PlainEntry → List EffectCase → Type 0
 CoverEffects app p entry cases = (s : State) (choice : Bool) → IsAt app p entry s → IsActive s.processor → HasSomeEffect app cases s choice
 
 -- a well-formed state at the point, with these values of its components, whose instruction is the case's, and where no
@@ -83,12 +83,12 @@ pub record ShowsEffect (app : App) (p : Point) (x : EffectCase) (value : ℕ →
   pub effect : HasEffect app x from choice
 
 -- Each choice of values of the entry that passes a case's conditions is a state's, whose instruction is the case's.
-abbrev pub AreExactEffects : App → Point → Entry → List EffectCase → Type 0
+abbrev pub AreExactEffects : App → Point → PlainEntry → List EffectCase → Type 0
 AreExactEffects app p entry cases =
     (x : EffectCase) (value : ℕ → PartValue) → Contains cases x → AreIn app entry value → PassesAll app x.conditions value → ShowsEffect app p x value
 
 -- These are the cases of the instructions at the point, whatever the entry there.
 pub record AreCasesOf (app : App) (p : Point) (cases : List EffectCase) : Type 0 where
-  pub covering : (entry : Entry) → CoverEffects app p entry cases
-  pub exact : (entry : Entry) → AreAllAllowed app p entry → AreExactEffects app p entry cases
+  pub covering : (entry : PlainEntry) → CoverEffects app p entry cases
+  pub exact : (entry : PlainEntry) → AreAllAllowed app p entry → AreExactEffects app p entry cases
   pub stays : HaveKnownStays app cases

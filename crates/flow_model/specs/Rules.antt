@@ -13,7 +13,7 @@ use Rattle.osek_standard.specs.Kernel.{step}
 use Rattle.osek_standard.specs.Outcomes.{Mark, Silent, Arrived, Did, shows}
 use Rattle.osek_standard.specs.Well.{IsActive}
 use Rattle.abstract_state.specs.declared.value.PartValue.{PartValue}
-use Rattle.abstract_state.specs.declared.table.Entry.{Entry}
+use Rattle.abstract_state.specs.declared.table.PlainEntry.{PlainEntry}
 use Rattle.abstract_state.specs.Components.{component_count, abstract_of}
 use Rattle.abstract_state.specs.Concrete.{HasParts}
 use Rattle.abstract_state.specs.Tables.{set_at, is_member, AreAscending}
@@ -47,7 +47,7 @@ pub record IsMatched (app : App) (rules : List Rule) (s : State) (e : Event) : T
   pub matches : Matches app rule s e
 
 -- Each step from a state of the entry that shows something is some rule's.
-abbrev pub Covering : App → Point → Entry → List Rule → Type 0
+abbrev pub Covering : App → Point → PlainEntry → List Rule → Type 0
 Covering app p entry rules = (s : State) (e : Event) → IsAt app p entry s → (shows app s e ≡ Silent → ⊥) → IsMatched app rules s e
 
 -- the instruction at the processor is the rule's, whether or not a routine begins in its place: the state passes the rule's
@@ -65,7 +65,7 @@ pub record IsForeseen (app : App) (rules : List Rule) (s : State) (choice : Bool
   pub foreseen : IsForeseenBy app rule s choice
 
 -- Each instruction of a state of the entry is some rule's.
-abbrev pub Foresees : App → Point → Entry → List Rule → Type 0
+abbrev pub Foresees : App → Point → PlainEntry → List Rule → Type 0
 Foresees app p entry rules = (s : State) (choice : Bool) → IsAt app p entry s → IsActive s.processor → IsForeseen app rules s choice
 
 -- a well-formed state at the point, with these values of its components, whose step is the rule's: all else is chosen
@@ -76,22 +76,22 @@ pub record Shown (app : App) (p : Point) (rule : Rule) (value : ℕ → PartValu
   pub matches : Matches app rule from event
 
 -- Each choice of values of the entry that passes a rule's conditions is a state's, whose step is the rule's.
-abbrev pub Exact : App → Point → Entry → List Rule → Type 0
+abbrev pub Exact : App → Point → PlainEntry → List Rule → Type 0
 Exact app p entry rules = (rule : Rule) (value : ℕ → PartValue) → Contains rules rule → AreIn app entry value → PassesAll app rule.conditions value → Shown app p rule value
 
 -- a value of the entry that the rule takes
-pub record Taken (rule : Rule) (entry : Entry) (c : ℕ) : Type 0 where
+pub record Taken (rule : Rule) (entry : PlainEntry) (c : ℕ) : Type 0 where
   pub was : PartValue
   pub there : IsTrue (is_member (set_at entry c) was)
   pub passes : PassesAt rule.conditions c was
 
 -- and that it makes this value
-pub record Comes (rule : Rule) (entry : Entry) (c : ℕ) (v : PartValue) : Type 0 where
+pub record Comes (rule : Rule) (entry : PlainEntry) (c : ℕ) (v : PartValue) : Type 0 where
   pub taken : Taken rule entry c
   pub becomes : value_after rule.changes c taken.was ≡ v
 
 -- Each set holds exactly what the rule makes of the old set's values that pass, of which there is one.
-pub record Applies (rule : Rule) (entry new : Entry) : Type 0 where
+pub record Applies (rule : Rule) (entry new : PlainEntry) : Type 0 where
   pub domains : domains new ≡ domains entry
   pub ascending : AreAscending new
   pub from : (c : ℕ) (v : PartValue) → c < length entry.sets → IsTrue (is_member (set_at new c) v) → Comes rule entry c v
@@ -99,13 +99,13 @@ pub record Applies (rule : Rule) (entry new : Entry) : Type 0 where
   pub filled : (c : ℕ) → c < length entry.sets → Taken rule entry c
 
 -- some set has no value that passes
-pub record HasNone (rule : Rule) (entry : Entry) : Type 0 where
+pub record HasNone (rule : Rule) (entry : PlainEntry) : Type 0 where
   pub component : ℕ
   pub known : component < length entry.sets
   pub none : (v : PartValue) → IsTrue (is_member (set_at entry component) v) → PassesAt rule.conditions component v → ⊥
 
 -- a state of the entry whose step, which is the rule's, makes component c this value
-pub record IsMadeBy (app : App) (p : Point) (entry : Entry) (rule : Rule) (c : ℕ) (v : PartValue) : Type 0 where
+pub record IsMadeBy (app : App) (p : Point) (entry : PlainEntry) (rule : Rule) (c : ℕ) (v : PartValue) : Type 0 where
   pub from : State
   pub event : Event
   pub at : IsAt app p entry from

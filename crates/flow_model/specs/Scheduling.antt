@@ -5,7 +5,7 @@ use Rattle.osek_standard.specs.declared.point.Point.{Point}
 use Rattle.osek_standard.specs.declared.point.Point.TheVariants as point
 use Rattle.osek_standard.specs.Dispatch.{Outcome, Keep, To}
 use Rattle.abstract_state.specs.declared.value.PartValue.{PartValue}
-use Rattle.abstract_state.specs.declared.table.Entry.{Entry}
+use Rattle.abstract_state.specs.declared.table.PlainEntry.{PlainEntry}
 use Rattle.abstract_state.specs.Concrete.{AreAllowed, val_of}
 use Rattle.flow_model.specs.declared.case.{Asked.{Asked}, Decision.{Decision}, EffectCase.{EffectCase}, OutcomeCase.{OutcomeCase}}
 use Rattle.flow_model.specs.declared.case.Asked.TheVariants as asked
@@ -74,7 +74,7 @@ module _ (app : App) (value : ℕ → PartValue) where
   end_point p (decision.To (Some w)) = point.Task (block_of (val_of (value w.0)))
 
 -- a value for each component, out of its set, with which it can be at the point
-pub record AreValuesOf (app : App) (p : Point) (entry : Entry) (value : ℕ → PartValue) : Type 0 where
+pub record AreValuesOf (app : App) (p : Point) (entry : PlainEntry) (value : ℕ → PartValue) : Type 0 where
   pub within : AreIn app entry value
   pub allowed : AreAllowed app p value
 
@@ -91,11 +91,11 @@ pub record HasSomeOutcome (app : App) (effect : EffectCase) (cases : List Outcom
   pub outcome : HasOutcome app effect case value
 
 -- What the scheduler does, with values of the entry that the effect takes, is some case's.
-abbrev pub CoverOutcomes : App → Point → Entry → EffectCase → List OutcomeCase → Type 0
+abbrev pub CoverOutcomes : App → Point → PlainEntry → EffectCase → List OutcomeCase → Type 0
 CoverOutcomes app p entry effect cases =
     (value : ℕ → PartValue) (d : Decision) → AreValuesOf app p entry value → PassesAll app effect.conditions value → Decides app (values_after effect.changes value) effect.leaving.asked d → HasSomeOutcome app effect cases d value
 
 -- With values of the entry that the effect and a case take the scheduler does what the case says.
-abbrev pub AreExactOutcomes : App → Point → Entry → EffectCase → List OutcomeCase → Type 0
+abbrev pub AreExactOutcomes : App → Point → PlainEntry → EffectCase → List OutcomeCase → Type 0
 AreExactOutcomes app p entry effect cases =
     (x : OutcomeCase) (value : ℕ → PartValue) → Contains cases x → AreValuesOf app p entry value → PassesAll app effect.conditions value → PassesAll app x.conditions value → HasOutcome app effect x value

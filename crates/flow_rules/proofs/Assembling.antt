@@ -6,34 +6,30 @@ use Rattle.osek_values.specs.declared.status.Status.{Status}
 use Rattle.osek_standard.specs.declared.app.App.{App}
 use Rattle.osek_standard.specs.declared.state.{State.{State}}
 use Rattle.osek_standard.specs.declared.point.Point.{Point}
-use Rattle.osek_standard.specs.declared.point.Point.TheVariants as point
 use Rattle.osek_standard.specs.Points.{point_of}
-use Rattle.osek_standard.specs.Dispatch.{Outcome, Keep, To, Stepped, instruction, outcome, outcome_of, settled}
+use Rattle.osek_standard.specs.Dispatch.{Outcome, Stepped, instruction, outcome, outcome_of, settled}
 use Rattle.osek_standard.specs.Effects.{Effect, effect}
 use Rattle.osek_standard.specs.Kernel.{step}
 use Rattle.osek_standard.specs.Outcomes.{Did, shows, IsInstruction}
 use Rattle.osek_standard.specs.Well.{Well, IsActive}
 use Rattle.osek_standard.proofs.Members.{among_left, among_right, among_cases, among_contained, contained_among}
 use Rattle.osek_standard.proofs.EffectKeeps.{effect_keeps}
-use Rattle.abstract_state.specs.declared.value.{Component.{Component}, PartValue.{PartValue}}
-use Rattle.abstract_state.specs.declared.value.Component.TheVariants as component
-use Rattle.abstract_state.specs.declared.table.Entry.{Entry}
-use Rattle.abstract_state.specs.Components.{component_count, component_at, part_of, abstract_of, IsAllowed}
-use Rattle.abstract_state.specs.Concrete.{AreAllowed, val_of}
-use Rattle.flow_model.specs.declared.test.Condition.{Condition}
-use Rattle.flow_model.specs.declared.case.{Stay.{Stay}, EffectCase.{EffectCase}, OutcomeCase.{OutcomeCase}}
-use Rattle.flow_model.specs.declared.case.Stay.TheVariants as stay
-use Rattle.flow_model.specs.declared.rule.Rule.{Rule}
-use Rattle.flow_model.specs.Tests.{PassesAt, PassesAll, values_after}
-use Rattle.flow_model.specs.Values.{block_of}
-use Rattle.flow_model.specs.Effects.{AreIn, AreAllAllowed, IsAt, stay_point, IsKnownStay, HaveKnownStays, HasEffect, CoverEffects, AreExactEffects}
-use Rattle.flow_model.specs.Scheduling.{AreValuesOf, HasOutcome, end_point, outcome_of_decision}
-use Rattle.flow_model.specs.Rules.{Matches, IsMatched, IsForeseen, Shown}
+use Rattle.abstract_state.specs.declared.value.PartValue.{PartValue}
+use Rattle.abstract_state.specs.declared.table.PlainEntry.{PlainEntry}
+use Rattle.abstract_state.specs.Components.{component_count, component_at, abstract_of, IsAllowed}
+use Rattle.abstract_state.specs.Concrete.{AreAllowed}
 use Rattle.abstract_state.specs.Tables.{set_at, is_member}
 use Rattle.abstract_state.proofs.AllowedLaws.{well_part}
-use Rattle.abstract_state.proofs.ComponentLaws.{task_counted}
+use Rattle.flow_model.specs.declared.test.Condition.{Condition}
+use Rattle.flow_model.specs.declared.case.{EffectCase.{EffectCase}, OutcomeCase.{OutcomeCase}}
+use Rattle.flow_model.specs.declared.rule.Rule.{Rule}
+use Rattle.flow_model.specs.Tests.{PassesAt, PassesAll, values_after}
+use Rattle.flow_model.specs.Effects.{AreIn, AreAllAllowed, IsAt, IsKnownStay, HaveKnownStays, HasEffect, CoverEffects, AreExactEffects}
+use Rattle.flow_model.specs.Scheduling.{AreValuesOf, HasOutcome, end_point, outcome_of_decision}
+use Rattle.flow_model.specs.Rules.{Matches, IsMatched, IsForeseen, Shown}
 use Rattle.flow_model.proofs.Instructions.{instruction_by, shown_so}
-use Rattle.flow_dispatch.proofs.KernelDecides.{decided_so, some_decided, ends_there}
+use Rattle.flow_exits.proofs.KernelDecides.{decided_so, some_decided, ends_there}
+use Rattle.flow_exits.proofs.Staying.{same_stay, settled_part}
 use Rattle.flow_rules.specs.Assembly.{rule_of, IsRuleOfSome, AreAllAdded}
 
 -- conditions of two lists
@@ -49,21 +45,9 @@ passes_left app xs ys value h c lt x m e = h c lt x (among_contained (xs ++ ys) 
 pub passes_right : (app : App) (xs ys : List Condition) (value : ℕ → PartValue) → PassesAll app (xs ++ ys) value → PassesAll app ys value
 passes_right app xs ys value h c lt x m e = h c lt x (among_contained (xs ++ ys) x (among_right x xs ys (contained_among ys x m))) e
 
--- where the processor stays goes by the components' values alone
-pub same_stay : (app : App) (x : Stay) (value other : ℕ → PartValue) → IsKnownStay app x → ((c : ℕ) → c < component_count app → value c ≡ other c) → stay_point x value ≡ stay_point x other
-same_stay app (stay.At p) value other known same = refl
-same_stay app (stay.AtBlockOf t) value other known same = ap (λ (v : PartValue). point.Task (block_of (val_of v))) (same t.0 (task_counted app t.0 known))
-
--- who has the processor is no component
-pub settled_part : (app : App) (s : State) (o : Outcome) (k : Component) → part_of (settled app s o) k ≡ part_of s k
-settled_part app s Keep k = refl
-settled_part app s (To x) (component.Task t) = refl
-settled_part app s (To x) (component.Event t j) = refl
-settled_part app s (To x) (component.Alarm a) = refl
-
 -- ---- one step
 
-module _ (app : App) (entry : Entry) (effect_case : EffectCase) (x : OutcomeCase) (s : State) (e : Event) (choice : Bool) where
+module _ (app : App) (entry : PlainEntry) (effect_case : EffectCase) (x : OutcomeCase) (s : State) (e : Event) (choice : Bool) where
   -- the step is the instruction, with its effect and its outcome
   pub steps_as_rule : IsKnownStay app effect_case.leaving.stay → Well app s → HasEffect app effect_case s choice → HasOutcome app effect_case x (abstract_of app s) →
       step app s e ≡ instruction app s choice → shows app s e ≡ Did (outcome app s choice) (effect app s choice).notes.status → Matches app (rule_of effect_case x) s e
@@ -90,7 +74,7 @@ allowed_there app p s w at c lt = subst (λ (q : Point). IsAllowed app q c (abst
 
 -- ---- all rules of a point
 
-module _ (app : App) (p : Point) (entry : Entry) (effects : List EffectCase) (before after : List Rule) (added : AreAllAdded app p entry effects before after) where
+module _ (app : App) (p : Point) (entry : PlainEntry) (effects : List EffectCase) (before after : List Rule) (added : AreAllAdded app p entry effects before after) where
   -- an instruction of a state of the entry is a rule's
   pub instruction_covered : HaveKnownStays app effects → CoverEffects app p entry effects → (s : State) (e : Event) (o : Outcome) (x : Option Status) → IsAt app p entry s → IsInstruction app s e o x → shows app s e ≡ Did o x → IsMatched app after s e
   instruction_covered stays covering s e o x at i shown =

@@ -8,7 +8,7 @@ use Rattle.osek_standard.specs.declared.state.State.{State}
 use Rattle.osek_standard.specs.declared.point.Point.{Point}
 use Rattle.osek_standard.specs.Kernel.{step}
 use Rattle.abstract_state.specs.declared.value.{PartValue.{PartValue}, PartValue.TheVariants.{OfAlarm}}
-use Rattle.abstract_state.specs.declared.table.Entry.{Entry}
+use Rattle.abstract_state.specs.declared.table.PlainEntry.{PlainEntry}
 use Rattle.abstract_state.specs.Components.{component_count, abstract_of}
 use Rattle.abstract_state.specs.Tables.{Sets, In, Inductive, set_at, is_member}
 use Rattle.flow_model.specs.declared.rule.Rule.{Rule}
@@ -18,7 +18,7 @@ use Rattle.flow_model.specs.Rules.{Matches, Exact, Shown, Applies, IsMadeBy}
 use Rattle.flow_rules.specs.Passing.{AreTaken}
 
 -- a rule that takes a value of each set
-module _ (app : App) (p : Point) (entry : Entry) (rule : Rule) (size : length entry.sets ≡ component_count app) (taken : AreTaken rule entry) where
+module _ (app : App) (p : Point) (entry : PlainEntry) (rule : Rule) (size : length entry.sets ≡ component_count app) (taken : AreTaken rule entry) where
   -- a value of a set that passes
   record Pick (k : ℕ) : Type 0 where
     pick : PartValue
@@ -43,7 +43,7 @@ module _ (app : App) (p : Point) (entry : Entry) (rule : Rule) (size : length en
       within = λ k lt. subst (λ (w : PartValue). IsTrue (is_member (set_at entry k) w)) (sym ((picked_shown picks).has.parts k lt)) ((picks k).there lt);
     }
 
-module _ (app : App) (p : Point) (entry new : Entry) (rule : Rule) (size : length entry.sets ≡ component_count app) (made : Applies rule entry new) where
+module _ (app : App) (p : Point) (entry new : PlainEntry) (rule : Rule) (size : length entry.sets ≡ component_count app) (made : Applies rule entry new) where
   in_sets : (k : ℕ) → k < component_count app → k < length entry.sets
   in_sets k lt = subst (λ (n : ℕ). k < n) (sym size) lt
 

@@ -45,7 +45,7 @@ each_passes (x ∷ xs) c v h y m e =
     by_place x xs c v y first e (each_passes xs c v later) m.0 m.1 m.2
 
 -- a value at the end of a list
-any_end : (test : PartValue → Bool) (xs : List PartValue) (v : PartValue) → list_any test (xs ++ v ∷ []) ≡ (list_any test xs || test v)
+pub any_end : (test : PartValue → Bool) (xs : List PartValue) (v : PartValue) → list_any test (xs ++ v ∷ []) ≡ (list_any test xs || test v)
 any_end test [] v = elim (cases_Bool (test v)) [ inl e ↦ (rw e refl) | inr e ↦ (rw e refl) ]
 any_end test (x ∷ xs) v = elim (cases_Bool (test x)) [ inl e ↦ (rw e refl) | inr e ↦ (rw e (any_end test xs v)) ]
 

@@ -14,7 +14,7 @@ use Rattle.osek_standard.specs.Outcomes.{Mark, Silent, Arrived, Did, shows}
 use Rattle.osek_standard.specs.Well.{IsActive}
 use Rattle.osek_standard.proofs.Members.{among_left, among_right, among_cases, among_contained, contained_among, among_map, map_among}
 use Rattle.abstract_state.specs.declared.value.PartValue.{PartValue}
-use Rattle.abstract_state.specs.declared.table.Entry.{Entry}
+use Rattle.abstract_state.specs.declared.table.PlainEntry.{PlainEntry}
 use Rattle.abstract_state.specs.Concrete.{AreAllowed}
 use Rattle.abstract_state.proofs.MarkLaws.{shown_instruction, shown_arrival}
 use Rattle.flow_model.specs.declared.case.{EffectCase.{EffectCase}, OutcomeCase.{OutcomeCase}}
@@ -24,14 +24,14 @@ use Rattle.flow_model.specs.Runners.{Executes, IsNobodys}
 use Rattle.flow_model.specs.Effects.{AreIn, AreAllAllowed, IsAt}
 use Rattle.flow_model.specs.Scheduling.{CoverOutcomes, AreExactOutcomes}
 use Rattle.flow_model.specs.Rules.{IsMatched, Foresees, Covering, Exact}
-use Rattle.flow_rules.specs.Arrivals.{AreArrivals}
+use Rattle.flow_exits.specs.Arrivals.{AreArrivals}
+use Rattle.flow_exits.proofs.Arriving.{arrival_covered, arrival_shown}
 use Rattle.flow_rules.specs.Assembly.{rule_of, HasRulesFor, AreAdded, AreAllAdded}
-use Rattle.flow_rules.specs.Instructions.{AddsInstructions}
-use Rattle.flow_rules.proofs.Arriving.{arrival_covered, arrival_shown}
+use Rattle.flow_rules.specs.Instructions.{AddsInstructionRules}
 use Rattle.flow_rules.proofs.Assembling.{instruction_covered, instruction_foreseen, instruction_shown}
 
 -- the rules of one effect, one for each outcome, at the end of others
-pub outcomes_added : (app : App) (p : Point) (entry : Entry) (effect : EffectCase) (outcomes : List OutcomeCase) (before after : List Rule) → after ≡ before ++ map (rule_of effect) outcomes →
+pub outcomes_added : (app : App) (p : Point) (entry : PlainEntry) (effect : EffectCase) (outcomes : List OutcomeCase) (before after : List Rule) → after ≡ before ++ map (rule_of effect) outcomes →
     CoverOutcomes app p entry effect outcomes → AreExactOutcomes app p entry effect outcomes → AreAdded app p entry effect before after
 outcomes_added app p entry effect outcomes before after is covering exact = record {
   kept = λ r m. subst (λ (xs : List Rule). Contains xs r) (sym is) (among_contained whole r (among_left r before (map (rule_of effect) outcomes) (contained_among before r m)));
@@ -52,11 +52,11 @@ outcomes_added app p entry effect outcomes before after is covering exact = reco
     whole : List Rule
     whole = before ++ map (rule_of effect) outcomes
 
-pub none_added : (app : App) (p : Point) (entry : Entry) (rules : List Rule) → AreAllAdded app p entry [] rules rules
+pub none_added : (app : App) (p : Point) (entry : PlainEntry) (rules : List Rule) → AreAllAdded app p entry [] rules rules
 none_added app p entry rules = record { kept = λ r m. m; each = λ r m. inl m; some = λ effect m. absurd (omega (arith, m.1)) }
 
 -- the rules of one effect more
-pub more_added : (app : App) (p : Point) (entry : Entry) (effects : List EffectCase) (effect : EffectCase) (before mid after : List Rule) → AreAllAdded app p entry effects before mid → AreAdded app p entry effect mid after → AreAllAdded app p entry (effects ++ effect ∷ []) before after
+pub more_added : (app : App) (p : Point) (entry : PlainEntry) (effects : List EffectCase) (effect : EffectCase) (before mid after : List Rule) → AreAllAdded app p entry effects before mid → AreAdded app p entry effect mid after → AreAllAdded app p entry (effects ++ effect ∷ []) before after
 more_added app p entry effects effect before mid after h more = record {
   kept = λ r m. more.kept r (h.kept r m);
   each = λ r m. elim (more.each r m) [
@@ -80,7 +80,7 @@ more_added app p entry effects effect before mid after h more = record {
         let r = has value d values passes decides in
         record { outcome = r.outcome; listed = more.kept (rule_of x r.outcome) r.listed; decision = r.decision; is = r.is }
 
-pub added_on : (app : App) (p : Point) (entry : Entry) (effects : List EffectCase) (i : ℕ) (effect : EffectCase) (before mid after : List Rule) → i < length effects → get_or effects i effect ≡ effect →
+pub added_on : (app : App) (p : Point) (entry : PlainEntry) (effects : List EffectCase) (i : ℕ) (effect : EffectCase) (before mid after : List Rule) → i < length effects → get_or effects i effect ≡ effect →
     AreAllAdded app p entry (take i effects) before mid → AreAdded app p entry effect mid after → AreAllAdded app p entry (take (i + 1) effects) before after
 added_on app p entry effects i effect before mid after lt is h more =
     let last : take (i + 1) effects ≡ take i effects ++ effect ∷ [] = take_more effects i effect lt ∙ ap (λ (x : EffectCase). take i effects ++ x ∷ []) is in
@@ -99,7 +99,7 @@ executes_there app point.Idle r h = absurd h
 executes_there app (point.Task b) r h = tt
 executes_there app (point.Routine b over) r h = tt
 
-passive_by : (s : State) (x : Processor) (p : Point) → point_at (place_by s x).block x ≡ p → IsNobodys p → IsActive x → ⊥
+pub passive_by : (s : State) (x : Processor) (p : Point) → point_at (place_by s x).block x ≡ p → IsNobodys p → IsActive x → ⊥
 passive_by s processor.Halted p e h a = a
 passive_by s processor.Idle p e h a = a
 passive_by s (processor.Running t) p e h a = subst IsNobodys (sym e) h
@@ -111,7 +111,7 @@ active_by s processor.Idle p e h = subst IsExecuting (sym e) h
 active_by s (processor.Running t) p e h = tt
 active_by s (processor.Interrupted k over) p e h = tt
 
-module _ (app : App) (p : Point) (entry : Entry) (arrivals : List Rule) (a : AreArrivals app p arrivals) where
+module _ (app : App) (p : Point) (entry : PlainEntry) (arrivals : List Rule) (a : AreArrivals app p arrivals) where
   allowed_values : AreAllAllowed app p entry → (value : ℕ → PartValue) → AreIn app entry value → AreAllowed app p value
   allowed_values allowed value within c lt = allowed c (value c) lt (within c lt)
 
@@ -136,7 +136,7 @@ module _ (app : App) (p : Point) (entry : Entry) (arrivals : List Rule) (a : Are
 
   -- ---- and instructions
 
-  module _ (rules : List Rule) (i : AddsInstructions app p entry arrivals rules) where
+  module _ (rules : List Rule) (i : AddsInstructionRules app p entry arrivals rules) where
     by_mark : (s : State) (choice : Bool) → IsAt app p entry s → (shows app s (Run choice) ≡ Silent → ⊥) → (m : Mark) → shows app s (Run choice) ≡ m → IsMatched app rules s (Run choice)
     by_mark s choice at loud Silent e = absurd (loud e)
     by_mark s choice at loud Arrived e =

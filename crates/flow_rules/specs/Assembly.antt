@@ -3,7 +3,7 @@ use Rattle.std.specs.Prelude.{◌≡◌, ◌⊎◌, ℕ, List, ◌++◌, Some, C
 use Rattle.osek_standard.specs.declared.app.App.{App}
 use Rattle.osek_standard.specs.declared.point.Point.{Point}
 use Rattle.abstract_state.specs.declared.value.PartValue.{PartValue}
-use Rattle.abstract_state.specs.declared.table.Entry.{Entry}
+use Rattle.abstract_state.specs.declared.table.PlainEntry.{PlainEntry}
 use Rattle.flow_model.specs.declared.case.{Decision.{Decision}, EffectCase.{EffectCase}, OutcomeCase.{OutcomeCase}}
 use Rattle.flow_model.specs.declared.{rule.Rule.{Rule}, test.Condition.{Condition}}
 use Rattle.flow_model.specs.Tests.{PassesAll, values_after}
@@ -18,7 +18,7 @@ abbrev pub rule_of : EffectCase → OutcomeCase → Rule
 rule_of effect outcome = rule_by effect outcome.conditions outcome.decision outcome.target
 
 -- the rule is that of an effect and an outcome which is right wherever both pass
-pub record IsRuleOf (app : App) (p : Point) (entry : Entry) (effect : EffectCase) (rule : Rule) : Type 0 where
+pub record IsRuleOf (app : App) (p : Point) (entry : PlainEntry) (effect : EffectCase) (rule : Rule) : Type 0 where
   pub outcome : OutcomeCase
   pub is : rule ≡ rule_of effect outcome
   pub exact : (value : ℕ → PartValue) → AreValuesOf app p entry value → PassesAll app effect.conditions value → PassesAll app outcome.conditions value → HasOutcome app effect outcome value
@@ -31,24 +31,24 @@ pub record HasRuleFor (app : App) (effect : EffectCase) (rules : List Rule) (d :
   pub is : HasOutcome app effect outcome value
 
 -- what the scheduler decides after the effect has a rule
-abbrev pub HasRulesFor : App → Point → Entry → EffectCase → List Rule → Type 0
+abbrev pub HasRulesFor : App → Point → PlainEntry → EffectCase → List Rule → Type 0
 HasRulesFor app p entry effect rules =
     (value : ℕ → PartValue) (d : Decision) → AreValuesOf app p entry value → PassesAll app effect.conditions value → Decides app (values_after effect.changes value) effect.leaving.asked d → HasRuleFor app effect rules d value
 
 -- the rules of an effect come to these
-pub record AreAdded (app : App) (p : Point) (entry : Entry) (effect : EffectCase) (before after : List Rule) : Type 0 where
+pub record AreAdded (app : App) (p : Point) (entry : PlainEntry) (effect : EffectCase) (before after : List Rule) : Type 0 where
   pub kept : (rule : Rule) → Contains before rule → Contains after rule
   pub each : (rule : Rule) → Contains after rule → Contains before rule ⊎ IsRuleOf app p entry effect rule
   pub some : HasRulesFor app p entry effect after
 
 -- the rule is that of one of these effects
-pub record IsRuleOfSome (app : App) (p : Point) (entry : Entry) (effects : List EffectCase) (rule : Rule) : Type 0 where
+pub record IsRuleOfSome (app : App) (p : Point) (entry : PlainEntry) (effects : List EffectCase) (rule : Rule) : Type 0 where
   pub effect : EffectCase
   pub listed : Contains effects effect
   pub is : IsRuleOf app p entry effect rule
 
 -- the rules of all these effects came to those that there were
-pub record AreAllAdded (app : App) (p : Point) (entry : Entry) (effects : List EffectCase) (before after : List Rule) : Type 0 where
+pub record AreAllAdded (app : App) (p : Point) (entry : PlainEntry) (effects : List EffectCase) (before after : List Rule) : Type 0 where
   pub kept : (rule : Rule) → Contains before rule → Contains after rule
   pub each : (rule : Rule) → Contains after rule → Contains before rule ⊎ IsRuleOfSome app p entry effects rule
   pub some : (effect : EffectCase) → Contains effects effect → HasRulesFor app p entry effect after

@@ -1,4 +1,13 @@
-pub mod Arrivals
+pub mod Levels
 pub mod Assembly
 pub mod Instructions
 pub mod Passing
+pub mod Applying
+pub mod Changing
+pub mod Sifting
+pub mod Groups
+pub mod Narrowing
+pub mod Deciding
+pub mod Leaving
+pub mod Allowed
+pub mod Ruling

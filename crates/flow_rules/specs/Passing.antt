@@ -3,7 +3,7 @@ use Rattle.std.specs.Prelude.{◌≡◌, ◌<◌, ℕ, List, length, IsTrue}
 use Rattle.std.specs.List.{list_any}
 use Rattle.osek_standard.specs.declared.app.App.{App}
 use Rattle.abstract_state.specs.declared.value.{PartValue.{PartValue}, Domain.{Domain}}
-use Rattle.abstract_state.specs.declared.table.{ValueSet.{ValueSet}, Entry.{Entry}}
+use Rattle.abstract_state.specs.declared.table.{ValueSet.{ValueSet}, PlainEntry.{PlainEntry}}
 use Rattle.abstract_state.specs.ValueOrder.{same_part, IsAscending}
 use Rattle.abstract_state.specs.Components.{component_at, component_count}
 use Rattle.abstract_state.specs.Domains.{IsWithin, domain_of}
@@ -28,10 +28,10 @@ pub record ArePassed (rule : Rule) (c : ℕ) (d : Domain) (old : List PartValue)
   pub to : (v : PartValue) → IsTrue (list_any (same_part v) old) → PassesAt rule.conditions c v → IsTrue (is_member new (value_after rule.changes c v))
 
 -- each set has a value that the rule takes
-abbrev pub AreTaken : Rule → Entry → Type 0
+abbrev pub AreTaken : Rule → PlainEntry → Type 0
 AreTaken rule entry = (c : ℕ) → c < length entry.sets → Taken rule entry c
 
 -- What the rule makes of the entry's values that pass lies in their components' domains.
-abbrev pub StaysInDomains : App → Entry → Rule → Type 0
+abbrev pub StaysInDomains : App → PlainEntry → Rule → Type 0
 StaysInDomains app entry rule =
     (value : ℕ → PartValue) → AreIn app entry value → PassesAll app rule.conditions value → (c : ℕ) → c < component_count app → IsWithin (domain_of app (component_at app c)) (value_after rule.changes c (value c))

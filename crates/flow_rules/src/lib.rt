@@ -1,8 +1,26 @@
-//! Rules: every step from the states of an entry, as cases, and which routines may begin.
+//! The exits of a point, by number, and its rules: the numbers of the values that the components have where a step ends.
 #![tactic(auto)]
 
-mod beginning;
+mod allowing;
+mod applying;
+mod arriving;
+mod assembly;
+mod barring;
+mod claiming;
+mod deciding;
+mod exits;
+mod group;
+mod keeping;
+mod levels;
+mod narrowing;
 mod ruling;
+mod sifting;
+mod task_levels;
+mod updating;
+mod winning;
 
-pub use beginning::arrivals;
-pub use ruling::{add_rules, copied_effect};
+pub use applying::apply;
+pub use exits::exit_groups;
+pub use group::{Ends, ExitGroup, NumberEnd};
+pub use levels::Levels;
+pub use ruling::rules;

@@ -1,74 +1,226 @@
-//! Rules out of the cases of an effect and of what the scheduler does after it.
-ghost use Rattle.std.specs.Prelude.{◌≡◌, ◌++◌, map, IfOk, OnOk};
-ghost use Rattle.flow_rules.specs.Assembly.{rule_of as rule_of_cases};
+//! The rules of a point, out of its exits.
+ghost use Rattle.std.specs.Prelude.{◌≡◌, ◌≤◌, ◌++◌, length, IfOk, OnOk};
+ghost use Rattle.std.specs.List.{flat_map};
+ghost use Rattle.osek_standard.specs.Points.{IsPoint};
+ghost use Rattle.abstract_state.specs.Domains.{domains, domains_of};
+ghost use Rattle.flow_model.specs.Effects.{AreAllAllowed, IsKnownStay};
+ghost use Rattle.flow_model.specs.Rules.{Covering, Exact, Foresees};
+ghost use Rattle.numbered_sets.specs.NumberedEntries.{number_domains};
+ghost use Rattle.numbered_sets.specs.Pools.{IsLonger};
+ghost use Rattle.numbered_sets.specs.Views.{plain_entry, AreNumbersOf};
+ghost use Rattle.flow_exits.specs.Leaving.{effect_rule};
+ghost use Rattle.flow_rules.specs.Instructions.{AddsInstructionRules as AddsInstructionRules};
+ghost use Rattle.flow_rules.specs.Applying.{KeepsDomains};
+ghost use Rattle.flow_rules.specs.Levels.{AreLevels};
+ghost use Rattle.flow_rules.specs.Groups.{exit_at as exit_of_group, exits_of, all_exits, IsKnownGroup, AreKnownGroups};
+ghost use Rattle.flow_rules.specs.Ruling.{outcomes_by, AddsRulesOf};
 
-use flow_model::{Change, Condition, EffectCase, OutcomeCase, Rule};
+use crate::allowing::allowed_part;
+use crate::assembly::{add_rules, copied_effect};
+use crate::barring::barred;
+use crate::exits::push_effect;
+use crate::group::{Ends, ExitGroup};
+use crate::levels::Levels;
+use abstract_state::{PlainEntry, Point};
+use flow_effects::effect_cases;
+use flow_exits::{Exit, arrivals};
+use flow_model::{Change, EffectCase, OutcomeCase, Rule, Runner};
+use numbered_sets::{NumberedEntry, Pool, numbered, plain};
+use osek_standard::App;
 use osek_values::{Memory, Seq};
 use std::alloc::Global;
 
-/// Adds the rules of an effect, one for each case of what the scheduler does after it.
-pub fn add_rules(
+/// The rules of a point, over the values that its entry has: one for each routine that may begin there, and one for each
+/// exit of an effect of the instruction.
+pub fn rules(
     alloc: Global,
-    effect: &EffectCase,
-    outcomes: &[OutcomeCase],
+    app: &App,
+    point: Point,
+    pool: &Pool,
+    entry: &NumberedEntry,
+) -> Result<Seq<Rule>, Memory>
+    requires point { IsPoint app.now point }
+    requires numbers { AreNumbersOf pool.now entry.now }
+    requires domains { number_domains entry.now ≡ domains_of app.now }
+    ensures covering { IfOk result (Covering app.now point (plain_entry pool.now entry.now)) }
+    ensures instructions { IfOk result (Foresees app.now point (plain_entry pool.now entry.now)) }
+    ensures exact { IfOk result (λ rules. AreAllAllowed app.now point (plain_entry pool.now entry.now) → Exact app.now point (plain_entry pool.now entry.now) rules) }
+{
+    let mut rules = arrivals(alloc, app, point)?;
+    match Runner::executing(app, point) {
+        None => Ok(rules),
+        Some(_) => {
+            add_instructions(alloc, app, point, pool, entry, &mut rules)?;
+            Ok(rules)
+        }
+    }
+}
+
+// adds the rules of the instruction of a task's or a routine's point
+fn add_instructions(
+    alloc: Global,
+    app: &App,
+    point: Point,
+    pool: &Pool,
+    entry: &NumberedEntry,
     rules: &mut Seq<Rule>,
 ) -> Result<(), Memory>
-    ensures { OnOk result (rules.new ≡ rules.old ++ map (rule_of_cases effect.now) outcomes.now) }
+    requires point { IsPoint app.now point }
+    requires numbers { AreNumbersOf pool.now entry.now }
+    requires domains { number_domains entry.now ≡ domains_of app.now }
+    ensures { OnOk result (AddsInstructionRules app.now point (plain_entry pool.now entry.now) rules.old rules.new) }
 {
-    for outcome in outcomes {
-        rules.push(rule_of(alloc, effect, outcome)?)?;
+    pool.are_values();
+    let plain = plain(alloc, pool, entry)?;
+    // of other values an effect might make some that no state has
+    let from = allowed_part(alloc, app, point, &plain)?;
+    let mut grown = pool.copy(alloc)?;
+    let numbers = numbered(alloc, &mut grown, &from)?;
+    let mut levels = Levels::new(alloc, app, &grown)?;
+    let effects = effect_cases(alloc, app, point)?;
+    for effect in effects.as_slice() {
+        add_effect(
+            alloc,
+            app,
+            effect,
+            &from,
+            &numbers,
+            &mut grown,
+            &mut levels,
+            rules,
+        )?;
     }
     Ok(())
 }
 
-fn rule_of(alloc: Global, effect: &EffectCase, outcome: &OutcomeCase) -> Result<Rule, Memory>
-    ensures { IfOk result (λ rule. rule ≡ rule_of_cases effect.now outcome.now) }
+// adds the rules of an effect, one for each exit
+fn add_effect(
+    alloc: Global,
+    app: &App,
+    effect: &EffectCase,
+    from: &PlainEntry,
+    entry: &NumberedEntry,
+    pool: &mut Pool,
+    levels: &mut Levels,
+    rules: &mut Seq<Rule>,
+) -> Result<(), Memory>
+    requires plain { plain_entry pool.old entry.now ≡ from.now }
+    requires numbers { AreNumbersOf pool.old entry.now }
+    requires domains { number_domains entry.now ≡ domains_of app.now }
+    requires stays { IsKnownStay app.now effect.now.leaving.stay }
+    requires kept { KeepsDomains (effect_rule effect.now) (plain_entry pool.old entry.now) }
+    requires levels { AreLevels app.now pool.old levels.old }
+    ensures pool { IsLonger pool.old pool.new }
+    ensures levels { OnOk result (AreLevels app.now pool.new levels.new) }
+    ensures added { OnOk result (AddsRulesOf app.now from.now effect.now rules.old rules.new) }
 {
-    let mut conditions = copied_conditions(alloc, effect.conditions.as_slice())?;
-    add_conditions(&mut conditions, outcome.conditions.as_slice())?;
-    Ok(Rule {
+    let mut groups = Vec::new(alloc);
+    let copy = copied_effect(alloc, effect)?;
+    push_effect(alloc, app, copy, entry, pool, levels, &mut groups)?;
+    let exits = exits(alloc, pool, groups.as_slice())?;
+    let outcomes = outcomes(
+        alloc,
+        app,
+        effect.changes.as_slice(),
+        from,
+        exits.as_slice(),
+    )?;
+    add_rules(alloc, effect, outcomes.as_slice(), rules)
+}
+
+// what the scheduler does, one case for each exit, by the values before the changes
+fn outcomes(
+    alloc: Global,
+    app: &App,
+    changes: &[Change],
+    from: &PlainEntry,
+    exits: &[Exit],
+) -> Result<Seq<OutcomeCase>, Memory>
+    requires { domains from.now ≡ domains_of app.now }
+    ensures { IfOk result (λ cases. cases ≡ flat_map (outcomes_by app.now changes.now from.now) exits.now) }
+{
+    let mut cases = Seq::new(alloc);
+    for exit in exits {
+        push_outcome(alloc, app, changes, from, exit, &mut cases)?;
+    }
+    Ok(cases)
+}
+
+fn push_outcome(
+    alloc: Global,
+    app: &App,
+    changes: &[Change],
+    from: &PlainEntry,
+    exit: &Exit,
+    cases: &mut Seq<OutcomeCase>,
+) -> Result<(), Memory>
+    requires { domains from.now ≡ domains_of app.now }
+    ensures { OnOk result (cases.new ≡ cases.old ++ outcomes_by app.now changes.now from.now exit.now) }
+{
+    let Some(decision) = exit.decision else {
+        return Ok(());
+    };
+    let conditions = barred(alloc, app, changes, from, &exit.entry)?;
+    cases.push(OutcomeCase {
         conditions,
-        changes: copied_changes(alloc, effect.changes.as_slice())?,
-        target: outcome.target,
-        decision: Some(outcome.decision),
-        status: effect.leaving.status,
-    })
+        decision,
+        target: exit.target,
+    })?;
+    Ok(())
 }
 
-/// Another case of an effect that is the same.
-pub fn copied_effect(alloc: Global, effect: &EffectCase) -> Result<EffectCase, Memory>
-    ensures { IfOk result (λ copy. copy ≡ effect.now) }
+// the exits that groups stand for
+fn exits(alloc: Global, pool: &Pool, groups: &[ExitGroup]) -> Result<Seq<Exit>, Memory>
+    requires { AreKnownGroups pool.now groups.now }
+    ensures { IfOk result (λ exits. exits ≡ all_exits pool.now groups.now) }
 {
-    Ok(EffectCase {
-        conditions: copied_conditions(alloc, effect.conditions.as_slice())?,
-        changes: copied_changes(alloc, effect.changes.as_slice())?,
-        leaving: effect.leaving,
-    })
-}
-
-fn copied_conditions(alloc: Global, from: &[Condition]) -> Result<Seq<Condition>, Memory>
-    ensures { IfOk result (λ copy. copy ≡ from.now) }
-{
-    let mut copy = Seq::new(alloc);
-    add_conditions(&mut copy, from)?;
-    Ok(copy)
-}
-
-fn copied_changes(alloc: Global, from: &[Change]) -> Result<Seq<Change>, Memory>
-    ensures { IfOk result (λ copy. copy ≡ from.now) }
-{
-    let mut copy = Seq::new(alloc);
-    for change in from {
-        copy.push(change.copy())?;
+    let mut exits = Seq::new(alloc);
+    for group in groups {
+        push_exits(alloc, pool, group, &mut exits)?;
     }
-    Ok(copy)
+    Ok(exits)
 }
 
-fn add_conditions(to: &mut Seq<Condition>, from: &[Condition]) -> Result<(), Memory>
-    ensures { OnOk result (to.new ≡ to.old ++ from.now) }
+fn push_exits(
+    alloc: Global,
+    pool: &Pool,
+    group: &ExitGroup,
+    exits: &mut Seq<Exit>,
+) -> Result<(), Memory>
+    requires { IsKnownGroup pool.now group.now }
+    ensures { OnOk result (exits.new ≡ exits.old ++ exits_of pool.now group.now) }
 {
-    for condition in from {
-        to.push(condition.copy())?;
+    match &group.ends {
+        Ends::At(points) => {
+            for point in points.as_slice() {
+                exits.push(exit_at(alloc, pool, group, &group.entry, *point)?)?;
+            }
+        }
+        Ends::With { component, ends } => {
+            for end in ends.as_slice() {
+                let mut held = group.entry.copy(alloc)?;
+                held.hold_only(*component, end.number)?;
+                exits.push(exit_at(alloc, pool, group, &held, end.target)?)?;
+            }
+        }
     }
     Ok(())
+}
+
+fn exit_at(
+    alloc: Global,
+    pool: &Pool,
+    group: &ExitGroup,
+    entry: &NumberedEntry,
+    target: Point,
+) -> Result<Exit, Memory>
+    requires { length entry.now.sets ≤ length pool.now }
+    ensures { IfOk result (λ exit. exit ≡ exit_of_group pool.now group.now entry.now target) }
+{
+    Ok(Exit {
+        target,
+        decision: group.decision,
+        status: group.status,
+        entry: plain(alloc, pool, entry)?,
+    })
 }

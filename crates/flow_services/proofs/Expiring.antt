@@ -21,7 +21,7 @@ use Rattle.osek_standard.specs.Arrivals.{arrival}
 use Rattle.osek_standard.proofs.Members.{Among, map_among, among_map, among_left, among_right, among_cases, contained_among, among_contained}
 use Rattle.abstract_state.specs.declared.value.{PartValue.{PartValue}, PartValue.TheVariants.{OfAlarm}}
 use Rattle.abstract_state.specs.declared.value.Component.TheVariants as component
-use Rattle.abstract_state.specs.declared.table.Entry.{Entry}
+use Rattle.abstract_state.specs.declared.table.PlainEntry.{PlainEntry}
 use Rattle.abstract_state.specs.Choices.{IsQuietWith}
 use Rattle.abstract_state.specs.Components.{component_count, component_number, abstract_of, is_armed}
 use Rattle.abstract_state.specs.Concrete.{HasParts, AreAllowed}
@@ -193,7 +193,7 @@ module _ (app : App) (r : Runner) (b : BlockNo) (owns : OwnsBlock app r b) (a : 
   abbrev cases : List EffectCase
   cases = expiries app r (the_block app b.0).next a
 
-  module _ (entry : Entry) (all : AreAllAllowed app (runner_point r b) entry) (value : ℕ → PartValue) (within : AreIn app entry value) where
+  module _ (entry : PlainEntry) (all : AreAllAllowed app (runner_point r b) entry) (value : ℕ → PartValue) (within : AreIn app entry value) where
     abbrev next_block : BlockNo
     next_block = (the_block app b.0).next
 

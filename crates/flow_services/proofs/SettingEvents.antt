@@ -15,7 +15,6 @@ use Rattle.osek_standard.specs.Apps.{the_task, the_block, is_extended}
 use Rattle.osek_standard.specs.TaskStates.{is_suspended, is_live_activity}
 use Rattle.osek_standard.specs.States.{task_state}
 use Rattle.osek_standard.specs.Services.{set_event, refused, accepted, waits_in, waits_for, woken, with_events, events_set, released_from}
-use Rattle.osek_values.specs.Bits.{has_bit}
 use Rattle.osek_standard.specs.Well.{Well, IsOwn, IsWaitingAt, IsActivityOf}
 use Rattle.osek_standard.proofs.Members.{Among, among_map, map_among, among_passing, passing_among}
 use Rattle.abstract_state.specs.declared.value.{Val.TheVariants.{Live, Waiting}, PartValue.TheVariants.{OfTask}}

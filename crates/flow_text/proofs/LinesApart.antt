@@ -8,8 +8,8 @@ use Rattle.osek_standard.specs.Apps.{the_block}
 use Rattle.osek_standard.specs.Points.{IsPoint}
 use Rattle.image_model.specs.declared.site.{Form.{Form}, Site.{Site}}
 use Rattle.image_model.specs.Sites.{IsForm}
-use Rattle.global_cfg.specs.Edges.{flow_edge}
-use Rattle.global_cfg.specs.declared.graph.FlowEdge.{FlowEdge}
+use Rattle.abstract_state.specs.Edges.{flow_edge}
+use Rattle.abstract_state.specs.declared.edge.FlowEdge.{FlowEdge}
 use Rattle.trace_text.specs.PointTexts.{block_text, point_text}
 use Rattle.trace_text.proofs.Parting.{parted}
 use Rattle.trace_text.proofs.PointsApart.{block_lacks, block_once, few, point_lacks, point_once}

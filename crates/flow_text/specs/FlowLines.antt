@@ -9,7 +9,7 @@ use Rattle.image_model.specs.declared.{site.{Form.{Form}, Known.{Known}, Site.{S
 use Rattle.image_model.specs.declared.image.Version.TheVariants as version
 use Rattle.image_model.specs.declared.site.Form.TheVariants as form
 use Rattle.image_model.specs.declared.site.Known.TheVariants as known
-use Rattle.global_cfg.specs.declared.graph.FlowEdge.{FlowEdge}
+use Rattle.abstract_state.specs.declared.edge.FlowEdge.{FlowEdge}
 use Rattle.trace_text.specs.PointTexts.{block_text, point_text, task_or_dash}
 use Rattle.flow_text.specs.declared.form_counts.SiteCounts.{SiteCounts}
 use Rattle.flow_text.specs.FormCounts.{site_counts}

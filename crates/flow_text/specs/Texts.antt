@@ -5,7 +5,7 @@ use Rattle.std.specs.declared.option.Option.{Option}
 use Rattle.osek_standard.specs.declared.app.App.{App}
 use Rattle.image_model.specs.declared.{site.Site.{Site}, image.{Image.{Image}, Version.{Version}}}
 use Rattle.image_model.specs.declared.image.Version.TheVariants as version
-use Rattle.global_cfg.specs.declared.graph.FlowEdge.{FlowEdge}
+use Rattle.abstract_state.specs.declared.edge.FlowEdge.{FlowEdge}
 use Rattle.flow_text.specs.FlowLines.{told_line, edge_line, counts_line, info_line}
 
 -- the line of a block that is a site of an image of this version, and nothing for each other

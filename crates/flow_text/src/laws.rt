@@ -4,7 +4,7 @@ ghost use Rattle.osek_standard.specs.declared.app.App.{App};
 ghost use Rattle.osek_standard.specs.Points.{IsPoint};
 ghost use Rattle.image_model.specs.declared.site.{Form.{Form}, Site.{Site}};
 ghost use Rattle.image_model.specs.Sites.{IsForm};
-ghost use Rattle.global_cfg.specs.declared.graph.FlowEdge.{FlowEdge};
+ghost use Rattle.abstract_state.specs.declared.edge.FlowEdge.{FlowEdge};
 ghost use Rattle.flow_text.specs.FlowLines.{form_text, edge_line, site_line, known_line};
 
 /// The text of a form of an application is that of no other of its forms.

@@ -6,7 +6,7 @@ ghost use Rattle.flow_text.specs.FlowLines.{site_words, told_line, edge_line, co
 
 use crate::form_counts::{SiteCounts, site_counts};
 use crate::names::{MAX_FORM, put_form, put_known};
-use global_cfg::FlowEdge;
+use abstract_state::FlowEdge;
 use image_model::{Form, Image, Site, Version};
 use osek_standard::App;
 use osek_values::BlockNo;

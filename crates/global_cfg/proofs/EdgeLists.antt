@@ -7,12 +7,13 @@ use Rattle.osek_standard.specs.declared.app.App.{App}
 use Rattle.osek_standard.specs.declared.point.Point.{Point}
 use Rattle.osek_standard.specs.Points.{point_number}
 use Rattle.osek_standard.proofs.Members.{among_contained, among_map, contained_among, map_among}
-use Rattle.abstract_state.specs.declared.table.{TableRow.{TableRow}, Table.{Table}}
+use Rattle.abstract_state.specs.declared.table.{TableRow.{TableRow}, PlainTable.{PlainTable}}
 use Rattle.abstract_state.specs.Forms.{Edge}
 use Rattle.abstract_state.specs.Tables.{sets_of}
 use Rattle.abstract_state.specs.Written.{IsWritten}
-use Rattle.global_cfg.specs.declared.graph.FlowEdge.{FlowEdge}
-use Rattle.global_cfg.specs.Edges.{flow_edge, IsBefore, AreAscending}
+use Rattle.abstract_state.specs.declared.edge.FlowEdge.{FlowEdge}
+use Rattle.abstract_state.specs.Edges.{flow_edge}
+use Rattle.global_cfg.specs.Edges.{IsBefore, AreAscending}
 use Rattle.global_cfg.specs.PointOrder.{AreInOrder}
 use Rattle.global_cfg.specs.Targets.{LeadsTo, AreTargets}
 use Rattle.global_cfg.proofs.Pairs.{pairs_append}
@@ -74,7 +75,7 @@ module _ (app : App) where
       }
 
   -- the edges of all rows are those of the table
-  pub of_all_rows : (table : Table) (edges : List FlowEdge) → IsWritten app table → AreOfRows app table.rows edges → (p q : Point) → Contains edges (flow_edge p q) ↔ Edge app (sets_of table) p q
+  pub of_all_rows : (table : PlainTable) (edges : List FlowEdge) → IsWritten app table → AreOfRows app table.rows edges → (p q : Point) → Contains edges (flow_edge p q) ↔ Edge app (sets_of table) p q
   of_all_rows table edges written done p q = (
     λ h. (let o = done.each (flow_edge p q) h in subst (λ (r : Point). Edge app (sets_of table) r q) (sym o.begins) (edge_shown app table written o.row o.listed q o.leads)),
     λ x.

@@ -10,7 +10,7 @@ use Rattle.osek_standard.specs.Points.{IsPoint}
 use Rattle.osek_standard.specs.Kernel.{step}
 use Rattle.osek_standard.proofs.PointLaws.{one_number}
 use Rattle.abstract_state.specs.declared.value.{PartValue.{PartValue}, PartValue.TheVariants.{OfAlarm}}
-use Rattle.abstract_state.specs.declared.table.Entry.{Entry}
+use Rattle.abstract_state.specs.declared.table.PlainEntry.{PlainEntry}
 use Rattle.abstract_state.specs.Components.{component_count}
 use Rattle.abstract_state.specs.Forms.{IsAnew}
 use Rattle.abstract_state.specs.Tables.{set_at, is_member}
@@ -22,13 +22,13 @@ use Rattle.global_cfg.specs.Targets.{IsEndOf, AreEndsPut, LeadsTo, AreTargets}
 use Rattle.global_cfg.proofs.LeadingOn.{next_well, target_point, moves_on, leads_where_it_moves, stays_silent}
 
 -- a value of each set
-some_value : (app : App) (entry : Entry) → IsFilled app entry → (c : ℕ) → (v : PartValue) × (c < component_count app → IsTrue (is_member (set_at entry c) v))
+some_value : (app : App) (entry : PlainEntry) → IsFilled app entry → (c : ℕ) → (v : PartValue) × (c < component_count app → IsTrue (is_member (set_at entry c) v))
 some_value app entry filled c = elim (cases_lt c (component_count app)) [
   | inl below ↦ (let some = filled c below in (some.value, λ lt. some.member))
   | inr above ↦ (OfAlarm false, λ lt. absurd (omega (arith, lt, above)))
 ]
 
-module _ (app : App) (p : Point) (entry : Entry) where
+module _ (app : App) (p : Point) (entry : PlainEntry) where
   -- an edge leads to a point of the application
   leads_to_point : (q : Point) → LeadsTo app p entry q → IsPoint app q
   leads_to_point q x = subst (IsPoint app) x.ends (well_point app (step app x.from x.event).state (next_well app p entry x.from x.event x.at))

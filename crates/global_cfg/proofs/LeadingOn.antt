@@ -20,7 +20,7 @@ use Rattle.osek_standard.specs.Well.{Well}
 use Rattle.osek_standard.proofs.OwnerLaws.{own_once}
 use Rattle.osek_standard.proofs.PointLaws.{one_number}
 use Rattle.osek_standard.proofs.StepKeeps.{step_keeps}
-use Rattle.abstract_state.specs.declared.table.Entry.{Entry}
+use Rattle.abstract_state.specs.declared.table.PlainEntry.{PlainEntry}
 use Rattle.abstract_state.specs.Forms.{IsAnew}
 use Rattle.abstract_state.proofs.AlikeLaws.{alike_point}
 use Rattle.abstract_state.proofs.AllowedLaws.{well_point}
@@ -46,7 +46,7 @@ shows_dispatch (Some decision.Keep) x y t e = absurd (cc)
 shows_dispatch (Some (decision.To None)) x y t e = absurd (cc)
 shows_dispatch (Some (decision.To (Some u))) x y t e = refl
 
-module _ (app : App) (p : Point) (entry : Entry) (s : State) (e : Event) (at : IsAt app p entry s) where
+module _ (app : App) (p : Point) (entry : PlainEntry) (s : State) (e : Event) (at : IsAt app p entry s) where
   abbrev next : State
   next = (step app s e).state
 

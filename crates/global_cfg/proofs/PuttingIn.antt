@@ -11,9 +11,9 @@ use Rattle.osek_standard.specs.Points.{point_number}
 use Rattle.flow_model.specs.declared.case.Decision.{Decision}
 use Rattle.flow_exits.specs.declared.exit.Exit.{Exit}
 use Rattle.numbered_sets.specs.Pools.{Values}
-use Rattle.numbered_exits.specs.declared.group.{NumberEnd.{NumberEnd}, ExitGroup.{ExitGroup}}
-use Rattle.numbered_exits.specs.declared.group.Ends.TheVariants as ends
-use Rattle.numbered_exits.specs.Groups.{holding, exit_at, exits_by, exits_of, all_exits}
+use Rattle.flow_rules.specs.declared.group.{NumberEnd.{NumberEnd}, ExitGroup.{ExitGroup}}
+use Rattle.flow_rules.specs.declared.group.Ends.TheVariants as ends
+use Rattle.flow_rules.specs.Groups.{holding, exit_at, exits_by, exits_of, all_exits}
 use Rattle.global_cfg.specs.PointOrder.{AreInOrder, HasNumber, IsPut}
 use Rattle.global_cfg.specs.Targets.{leads, end_target, IsEndOf, AreAllPut, AreEndsPut, IsTargetAfter, ArePutAfter}
 

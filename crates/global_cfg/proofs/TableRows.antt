@@ -6,17 +6,17 @@ use Rattle.osek_standard.specs.declared.app.App.{App}
 use Rattle.osek_standard.specs.declared.state.State.{State}
 use Rattle.osek_standard.specs.declared.point.Point.{Point}
 use Rattle.osek_standard.specs.Points.{point_of}
-use Rattle.abstract_state.specs.declared.table.{TableRow.{TableRow}, Table.{Table}}
+use Rattle.abstract_state.specs.declared.table.{TableRow.{TableRow}, PlainTable.{PlainTable}}
 use Rattle.abstract_state.specs.Components.{abstract_of}
 use Rattle.abstract_state.specs.Forms.{Edge}
 use Rattle.abstract_state.specs.Tables.{In, sets_of, HasRow}
 use Rattle.abstract_state.specs.Written.{IsWritten}
 use Rattle.abstract_state.proofs.EqualityLaws.{written_entry}
 use Rattle.flow_model.specs.Effects.{IsAt}
-use Rattle.numbered_table.proofs.WrittenRows.{row_number, rows_ascend, row_entered, row_value, only_there}
+use Rattle.numbered_sets.proofs.WrittenRows.{row_number, rows_ascend, row_entered, row_value, only_there}
 use Rattle.global_cfg.specs.Targets.{LeadsTo}
 
-module _ (app : App) (table : Table) (written : IsWritten app table) where
+module _ (app : App) (table : PlainTable) (written : IsWritten app table) where
   -- in a loop over them, those before a row have lower points
   pub earlier_row : (i : ℕ) (row : TableRow) → i < length table.rows → row ≡ get_or table.rows i row → (x : TableRow) → Contains (take i table.rows) x → row_number x < row_number row
   earlier_row i row lt is x h =

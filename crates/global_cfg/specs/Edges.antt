@@ -3,10 +3,7 @@ use Rattle.std.specs.Prelude.{◌≡◌, ◌⊎◌, ◌<◌, List}
 use Rattle.std.specs.List.{AllPairs}
 use Rattle.osek_standard.specs.declared.point.Point.{Point}
 use Rattle.osek_standard.specs.Points.{point_number}
-use Rattle.global_cfg.specs.declared.graph.FlowEdge.{FlowEdge}
-
-abbrev pub flow_edge : Point → Point → FlowEdge
-flow_edge p q = record { from = p; to = q }
+use Rattle.abstract_state.specs.declared.edge.FlowEdge.{FlowEdge}
 
 -- it begins at an earlier point, or at the same one and ends at an earlier one
 abbrev pub IsBefore : FlowEdge → FlowEdge → Type 0

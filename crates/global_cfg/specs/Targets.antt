@@ -7,13 +7,13 @@ use Rattle.osek_standard.specs.declared.state.State.{State}
 use Rattle.osek_standard.specs.declared.point.Point.{Point}
 use Rattle.osek_standard.specs.Points.{point_of, point_number}
 use Rattle.osek_standard.specs.Kernel.{step}
-use Rattle.abstract_state.specs.declared.table.Entry.{Entry}
+use Rattle.abstract_state.specs.declared.table.PlainEntry.{PlainEntry}
 use Rattle.abstract_state.specs.Forms.{IsAnew}
 use Rattle.flow_model.specs.declared.case.Decision.{Decision}
 use Rattle.flow_model.specs.declared.case.Decision.TheVariants as decision
 use Rattle.flow_model.specs.Effects.{IsAt}
 use Rattle.flow_exits.specs.declared.exit.Exit.{Exit}
-use Rattle.numbered_exits.specs.declared.group.NumberEnd.{NumberEnd}
+use Rattle.flow_rules.specs.declared.group.NumberEnd.{NumberEnd}
 use Rattle.global_cfg.specs.PointOrder.{AreInOrder, HasNumber}
 
 -- the scheduler gives the processor to a task
@@ -57,7 +57,7 @@ abbrev pub end_target : NumberEnd → Point
 end_target x = x.target
 
 -- some state of the entry at p steps to a state at q, and q is another point or the task of p is dispatched anew
-pub record LeadsTo (app : App) (p : Point) (entry : Entry) (q : Point) : Type 0 where
+pub record LeadsTo (app : App) (p : Point) (entry : PlainEntry) (q : Point) : Type 0 where
   pub from : State
   pub event : Event
   pub at : IsAt app p entry from
@@ -65,7 +65,7 @@ pub record LeadsTo (app : App) (p : Point) (entry : Entry) (q : Point) : Type 0 
   pub moves : (p ≢ q) ⊎ IsAnew app from event
 
 -- These are the points to which edges lead, in their order.
-pub record AreTargets (app : App) (p : Point) (entry : Entry) (targets : List Point) : Type 0 where
+pub record AreTargets (app : App) (p : Point) (entry : PlainEntry) (targets : List Point) : Type 0 where
   pub order : AreInOrder targets
   pub each : (q : Point) → Contains targets q → LeadsTo app p entry q
   pub all : (q : Point) → LeadsTo app p entry q → Contains targets q

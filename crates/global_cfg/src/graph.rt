@@ -4,22 +4,16 @@ ghost use Rattle.osek_standard.specs.declared.point.Point.{Point};
 ghost use Rattle.abstract_state.specs.Forms.{Edge};
 ghost use Rattle.abstract_state.specs.Tables.{sets_of};
 ghost use Rattle.abstract_state.specs.Written.{IsWritten};
-ghost use Rattle.global_cfg.specs.Edges.{flow_edge, AreAscending};
+ghost use Rattle.abstract_state.specs.Edges.{flow_edge};
+ghost use Rattle.global_cfg.specs.Edges.{AreAscending};
 
 use crate::targets::targets;
-use abstract_state::Point;
-use numbered_levels::Levels;
-use numbered_table::Table;
+use abstract_state::{FlowEdge, Point};
+use flow_rules::Levels;
+use numbered_sets::Table;
 use osek_standard::App;
 use osek_values::{Memory, Seq};
 use std::alloc::Global;
-
-/// An edge: control flow leads from a point to another, or to the same one where its task is dispatched anew.
-#[derive(Clone, Copy, PartialEq, Eq, Debug)]
-pub struct FlowEdge {
-    pub from: Point,
-    pub to: Point,
-}
 
 /// The edges that a table of the application dictates, by where they begin and then by where they end.
 pub fn edges(alloc: Global, app: &App, table: &Table) -> Result<Seq<FlowEdge>, Memory>

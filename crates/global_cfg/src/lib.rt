@@ -4,4 +4,4 @@
 mod graph;
 mod targets;
 
-pub use graph::{FlowEdge, edges};
+pub use graph::edges;

@@ -18,10 +18,9 @@ use Rattle.osek_standard.specs.Apps.{is_site_in}
 use Rattle.image_codec.specs.Spelling.{one, two, four, eight, kind_number, lock_number, operand_bytes, way_bytes, site_bytes, flag_number, block_bytes}
 use Rattle.image_codec.specs.Reading.{AreBytes, Read, ◌>>=◌, number_at, tested_at, flag_at}
 use Rattle.image_codec.specs.BlockReading.{blank_kinds, is_way, kind_at, task_no_at, resource_no_at, alarm_no_at, events_at, lock_at, due_at, operands_at, way_at, ways_at, site_at, block_at}
-use Rattle.image_codec.proofs.Spells.{ok_is, done_with, Takes, Spells, nothing_more, and_then, said, wide16, wide32, number_law, Tested, tested_law, tested_number_law}
+use Rattle.image_codec.proofs.Spells.{ok_is, done_with, Takes, Spells, nothing_more, and_then, said, wide16, wide32, number_law, Tested, tested_law, tested_number_law, joined6}
 use Rattle.image_codec.proofs.FieldLaws.{flag_law}
 use Rattle.image_codec.proofs.KindLaws.{GoodBlank, kind_law, other_of, GoodOperands, GoodFilled, operands_take, task_no_law, resource_no_law, alarm_no_law, events_law, due_law, lock_law, ticks_law, set_event_law, made_of}
-use Rattle.image_codec.proofs.Spells.{joined6}
 use Rattle.image_codec.proofs.SiteLaws.{GoodSite, site_law}
 
 -- the kind of a number, with blank operands but for where choice 0 leads

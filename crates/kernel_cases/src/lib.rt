@@ -13,8 +13,6 @@ mod files_of_the_system;
 #[cfg(test)]
 mod image_bytes;
 #[cfg(test)]
-mod joins;
-#[cfg(test)]
 mod kernel_runs;
 #[cfg(test)]
 mod lists;

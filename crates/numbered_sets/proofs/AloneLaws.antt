@@ -7,6 +7,7 @@ use Rattle.std.proofs.Math.ListN.{get_or-map}
 use Rattle.std.proofs.lemmas.List.{get_or_default, length-map}
 use Rattle.std.proofs.lemmas.List.Folds.{list_any_at}
 use Rattle.std.proofs.lemmas.List.Quantifiers.{position-Some}
+use Rattle.bit_words.proofs.BitCounts.{has_either, has_one}
 use Rattle.osek_values.specs.Bits.{has_bit}
 use Rattle.abstract_state.specs.declared.value.{Domain.{Domain}, PartValue.{PartValue}}
 use Rattle.abstract_state.specs.ValueOrder.{same_part}
@@ -16,7 +17,6 @@ use Rattle.numbered_sets.specs.SeenLaws.{same_seen}
 use Rattle.numbered_sets.specs.Filters.{seen_values, IsNumberAlone}
 use Rattle.numbered_sets.specs.Numbers.{numbers, with_number}
 use Rattle.numbered_sets.specs.Pools.{IsNumberOf}
-use Rattle.numbered_sets.proofs.BitCounts.{has_either, has_one}
 use Rattle.numbered_sets.proofs.PlainLaws.{has_value, value_with_number}
 use Rattle.numbered_sets.proofs.PoolLaws.{any_seen}
 use Rattle.numbered_sets.proofs.ViewLaws.{false_unless}

@@ -9,13 +9,15 @@ use Rattle.std.proofs.lemmas.List.{length-set, set-get_or, with_items_is}
 use Rattle.std.proofs.lemmas.List.Sums.{sum_by-cons}
 use Rattle.std.proofs.lemmas.List.Elements.{All-head, All-tail, All-from_get_or}
 use Rattle.std.proofs.lemmas.Nat.{or_lt, ones_le_self}
+use Rattle.bit_words.specs.Words.{bits_of_words, AreWords}
+use Rattle.bit_words.specs.Further.{further_at, further_bits, further_count}
+use Rattle.bit_words.proofs.WordLaws.{small_at}
+use Rattle.bit_words.proofs.FirstWords.{word_first, same_further, ones_first, ones_of_two, either_two, none_first, bits_of_none}
 use Rattle.abstract_state.specs.declared.value.Domain.{Domain}
 use Rattle.abstract_state.specs.declared.value.Domain.TheVariants as domain
-use Rattle.numbered_sets.specs.Numbers.{Numbers, numbers, bits_of_words, joined_numbers, number_count, AreWords}
+use Rattle.numbered_sets.specs.Numbers.{Numbers, numbers, joined_numbers, number_count}
 use Rattle.numbered_sets.specs.SetLists.{set_of, all_numbers, AreJoined}
-use Rattle.numbered_sets.specs.FlatSets.{further_at, further_bits, further_count, words_at, flat_sets}
-use Rattle.numbered_sets.proofs.WordLaws.{small_at}
-use Rattle.numbered_sets.proofs.FirstWords.{word_first, same_further, ones_first, ones_of_two, either_two, none_first, bits_of_none}
+use Rattle.numbered_sets.specs.FlatSets.{words_at, flat_sets}
 use Rattle.numbered_sets.proofs.NumberLattice.{same_sets}
 
 pub flat_length : (ds : List Domain) (low high : List ℕ) (more : List (Vec ℕ)) → length (flat_sets ds low high more) ≡ length ds

@@ -9,6 +9,8 @@ use Rattle.std.proofs.lemmas.List.{length-map, get_or_default, same_lists}
 use Rattle.std.proofs.lemmas.List.Elements.{All-head, All-tail, All-get_or, All-from_get_or}
 use Rattle.std.proofs.lemmas.Nat.{or_lt}
 use Rattle.std.proofs.lemmas.List.Sums.{sum_by-cons}
+use Rattle.bit_words.proofs.Counting.{passing_grows, passing_shows, passing_most}
+use Rattle.bit_words.proofs.BitCounts.{ones_below, no_bit_past, same_bits, has_either, has_one}
 use Rattle.osek_values.specs.declared.memory.Memory.{Memory}
 use Rattle.osek_values.specs.Bits.{has_bit, passing_below}
 use Rattle.abstract_state.specs.declared.value.Domain.{Domain}
@@ -17,8 +19,6 @@ use Rattle.abstract_state.proofs.HeightLaws.{sum_map}
 use Rattle.numbered_sets.specs.declared.numbered_entry.NumberedEntry.{NumberedEntry}
 use Rattle.numbered_sets.specs.Numbers.{Numbers, has_number, with_number, joined_numbers, number_count, AreSound}
 use Rattle.numbered_sets.specs.NumberedEntries.{no_set, numbers_at, number_domains, entry_numbers, room, numbers_height, AreSoundNumbers, IsBelowNumbers, IsNumberJoin, IsPartOfNumberJoin}
-use Rattle.numbered_sets.proofs.Counting.{passing_grows, passing_shows, passing_most}
-use Rattle.numbered_sets.proofs.BitCounts.{ones_below, no_bit_past, same_bits, has_either, has_one}
 
 pub same_truth : (a b : Bool) → (a ≡ true → b ≡ true) → (b ≡ true → a ≡ true) → a ≡ b
 same_truth true b f g = sym (f refl)

@@ -5,10 +5,11 @@ use Rattle.std.proofs.Math.ListN.{get_or-map, get_or-eq_default}
 use Rattle.std.proofs.lemmas.Bool.{cases_eq, cases_lt, or_cases, eqb-true}
 use Rattle.std.proofs.lemmas.List.{length-append, length-map, take_all}
 use Rattle.std.proofs.lemmas.List.Folds.{list_any_more}
+use Rattle.bit_words.proofs.BitCounts.{has_either, has_one}
 use Rattle.osek_values.specs.Bits.{has_bit}
 use Rattle.abstract_state.specs.declared.value.{Domain.{Domain}, PartValue.{PartValue}}
 use Rattle.abstract_state.specs.declared.value.Domain.TheVariants as domain
-use Rattle.abstract_state.specs.declared.table.{ValueSet.{ValueSet}, Entry.{Entry}}
+use Rattle.abstract_state.specs.declared.table.{ValueSet.{ValueSet}, PlainEntry.{PlainEntry}}
 use Rattle.abstract_state.specs.ValueOrder.{same_part}
 use Rattle.abstract_state.specs.Domains.{domains, IsSound}
 use Rattle.abstract_state.specs.Tables.{empty_set, set_at, is_member}
@@ -19,7 +20,6 @@ use Rattle.numbered_sets.specs.Numbers.{Numbers, numbers, has_number, with_numbe
 use Rattle.numbered_sets.specs.NumberedEntries.{no_set}
 use Rattle.numbered_sets.specs.Pools.{Values, no_values, value_seen, seen_at, values_at, domain_at, pool_domains, IsNumberOf, IsExtended, IsLonger}
 use Rattle.numbered_sets.specs.Views.{values_with, in_order, plain_set, plain_entry, AreNumbersOf, IsNumberedSet}
-use Rattle.numbered_sets.proofs.BitCounts.{has_either, has_one}
 use Rattle.numbered_sets.proofs.PlainLaws.{ascending_in_order, has_value, member_of_plain, values_with_none, values_longer, value_of_either, plain_set_at, length_plain}
 use Rattle.numbered_sets.proofs.ViewLaws.{false_unless, extended_by_none, longer_with, only_value}
 use Rattle.numbered_sets.proofs.KnownNumbers.{no_bit_of_none}
@@ -119,7 +119,7 @@ numbered_on pool after c s x longer h =
     }
 
 -- the sets of an entry, of which those up to one are numbered
-pub record AreNumberedUpTo (before : List Values) (entry : Entry) (k : ℕ) (pool : List Values) (sets : List Numbers) : Type 0 where
+pub record AreNumberedUpTo (before : List Values) (entry : PlainEntry) (k : ℕ) (pool : List Values) (sets : List Numbers) : Type 0 where
   pub longer : IsLonger before pool
   pub domains : map (λ (x : Numbers). x.domain) sets ≡ map (λ (s : ValueSet). s.domain) entry.sets
   pub each : (c : ℕ) → c < k → IsNumberedSet pool c (set_at entry c) (get_or sets c no_set)
@@ -128,14 +128,14 @@ domains_of_none : (ds : List Domain) → map (λ (x : Numbers). x.domain) (map (
 domains_of_none [] = refl
 domains_of_none (d ∷ ds) = ap (λ (es : List Domain). d ∷ es) (domains_of_none ds)
 
-pub none_numbered_yet : (pool : List Values) (entry : Entry) (sets : List Numbers) → sets ≡ map (λ (d : Domain). numbers d 0) (domains entry) → AreNumberedUpTo pool entry 0 pool sets
+pub none_numbered_yet : (pool : List Values) (entry : PlainEntry) (sets : List Numbers) → sets ≡ map (λ (d : Domain). numbers d 0) (domains entry) → AreNumberedUpTo pool entry 0 pool sets
 none_numbered_yet pool entry sets is = record {
   longer = longer_itself pool;
   domains = ap (map (λ (x : Numbers). x.domain)) is ∙ domains_of_none (domains entry);
   each = λ c lt. absurd (omega (arith, lt));
 }
 
-module _ (sets : List Numbers) (entry : Entry) (alike : map (λ (x : Numbers). x.domain) sets ≡ map (λ (s : ValueSet). s.domain) entry.sets) where
+module _ (sets : List Numbers) (entry : PlainEntry) (alike : map (λ (x : Numbers). x.domain) sets ≡ map (λ (s : ValueSet). s.domain) entry.sets) where
   pub as_many_sets : length sets ≡ length entry.sets
   as_many_sets = sym (length-map sets (λ (x : Numbers). x.domain)) ∙ ap length alike ∙ length-map entry.sets (λ (s : ValueSet). s.domain)
 
@@ -145,7 +145,7 @@ module _ (sets : List Numbers) (entry : Entry) (alike : map (λ (x : Numbers). x
       ∙ get_or-map (λ (s : ValueSet). s.domain) entry.sets c empty_set
 
 -- a set in its place
-pub numbered_next : (before : List Values) (entry : Entry) (k : ℕ) (pool after : List Values) (sets : List Numbers) (s : ValueSet) (x : Numbers) → k < length sets → AreNumberedUpTo before entry k pool sets → IsLonger pool after → set_at entry k ≡ s → IsNumberedSet after k s x
+pub numbered_next : (before : List Values) (entry : PlainEntry) (k : ℕ) (pool after : List Values) (sets : List Numbers) (s : ValueSet) (x : Numbers) → k < length sets → AreNumberedUpTo before entry k pool sets → IsLonger pool after → set_at entry k ≡ s → IsNumberedSet after k s x
     → AreNumberedUpTo before entry (k + 1) after (set sets k x)
 numbered_next before entry k pool after sets s x known h longer at is = record {
   longer = longer_onward before pool after h.longer longer;
@@ -160,7 +160,7 @@ numbered_next before entry k pool after sets s x known h longer at is = record {
   ];
 }
 
-module _ (before : List Values) (entry : Entry) (pool : List Values) (numbered : NumberedEntry) (k : ℕ) (whole : k ≡ length entry.sets) (alike : domains entry ≡ pool_domains before) (h : AreNumberedUpTo before entry k pool numbered.sets) where
+module _ (before : List Values) (entry : PlainEntry) (pool : List Values) (numbered : NumberedEntry) (k : ℕ) (whole : k ≡ length entry.sets) (alike : domains entry ≡ pool_domains before) (h : AreNumberedUpTo before entry k pool numbered.sets) where
   pub numbered_known : AreNumbersOf pool numbered
   numbered_known = record {
     domains = h.domains ∙ alike ∙ sym h.longer.domains;

@@ -9,7 +9,7 @@ use Rattle.std.specs.Ordering.{match_ordering, ordering_reverse, is_eq}
 use Rattle.std.specs.declared.cmp.{Ordering.{Ordering}, Ordering.TheVariants.{Less, Equal, Greater}}
 use Rattle.std.proofs.Math.ListN.{get_or-eq_default}
 use Rattle.std.proofs.Math.Seq.{get_or-append_seam}
-use Rattle.std.proofs.lemmas.Bool.{cases_lt}
+use Rattle.std.proofs.lemmas.Bool.{cases_lt, cases_eq}
 use Rattle.std.proofs.lemmas.List.{length-append, take_all, get_or_append_left, get_or_default}
 use Rattle.std.proofs.lemmas.List.Elements.{All-cons, All-weaker, All-from_recursion, recursion_from_All}
 use Rattle.std.proofs.lemmas.List.Folds.{list_any-append}
@@ -27,6 +27,8 @@ use Rattle.numbered_sets.specs.Numbers.{Numbers, has_number}
 use Rattle.numbered_sets.specs.NumberedEntries.{no_set, numbers_at}
 use Rattle.numbered_sets.specs.Pools.{Values, values_at}
 use Rattle.numbered_sets.specs.Views.{values_with, in_order, plain_set, plain_sets, plain_entry}
+use Rattle.abstract_state.specs.declared.value.PartValue.{PartValue}
+use Rattle.abstract_state.specs.declared.table.ValueSet.{ValueSet}
 
 abbrev Before : PartValue → PartValue → Type 0
 Before v w = part_order v w ≡ Less
@@ -266,3 +268,13 @@ all_plain pool entry k sets whole h =
           get_or-eq_default sets empty_set (omega (arith, h.size, le))
           ∙ sym (get_or-eq_default (plain_entry pool entry).sets empty_set (omega (arith, whole, le, length_plain pool 0 entry.sets)))
     ])
+
+pub plain_skip_to : (vs : List PartValue) (x : Numbers) (k : ℕ) (set : ValueSet) (m : ℕ) → k ≤ m → m ≤ length vs → IsPlainUpTo vs x k set → ((i : ℕ) → k ≤ i → i < m → has_number x i ≡ false) → IsPlainUpTo vs x m set
+plain_skip_to vs x k set zero le whole h none = (let same : k ≡ 0 = omega (arith, le) in subst (λ (j : ℕ). IsPlainUpTo vs x j set) same h)
+plain_skip_to vs x k set (suc m) le whole h none = elim (cases_eq k (suc m)) [
+  | inl same ↦ subst (λ (j : ℕ). IsPlainUpTo vs x j set) same h
+  | inr differ ↦
+      (let rest = plain_skip_to vs x k set m (omega (arith, le, differ)) (omega (arith, whole)) h (λ i above below. none i above (omega (arith, below))) in
+      let more : m + 1 ≡ suc m = omega arith in
+      subst (λ (j : ℕ). IsPlainUpTo vs x j set) more (plain_skip vs x m set (omega (arith, whole)) rest (none m (omega (arith, le, differ)) (omega arith))))
+]

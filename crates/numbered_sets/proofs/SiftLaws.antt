@@ -5,6 +5,9 @@ use Rattle.std.proofs.Math.Nat.{pow-suc}
 use Rattle.std.proofs.lemmas.Bool.{cases_eq, and_parts, eq-eqb, ne_eqb}
 use Rattle.std.proofs.lemmas.List.{length-append, get_or_append_left, get_or_default}
 use Rattle.std.proofs.lemmas.Nat.Bits.{bit_at_lowest, bit_at-suc}
+use Rattle.bit_words.proofs.BitCounts.{has_either, has_one}
+use Rattle.bit_words.proofs.KeptWords.{has_both}
+use Rattle.bit_words.proofs.OtherWords.{has_alone}
 use Rattle.osek_values.specs.Bits.{has_bit}
 use Rattle.abstract_state.specs.declared.value.{PartValue.{PartValue}, PartValue.TheVariants.{OfAlarm}}
 use Rattle.abstract_state.specs.ValueOrder.{same_part}
@@ -18,9 +21,6 @@ use Rattle.numbered_sets.specs.Numbers.{Numbers, has_number, with_number, kept_n
 use Rattle.numbered_sets.specs.NumberedEntries.{no_set}
 use Rattle.numbered_sets.specs.Pools.{IsExtended, with_value}
 use Rattle.numbered_sets.specs.Views.{values_with, plain_set}
-use Rattle.numbered_sets.proofs.BitCounts.{has_either, has_one}
-use Rattle.numbered_sets.proofs.KeptWords.{has_both}
-use Rattle.numbered_sets.proofs.OtherWords.{has_alone}
 use Rattle.numbered_sets.proofs.PlainLaws.{has_value, member_of_plain, any_first, value_with_number}
 use Rattle.numbered_sets.proofs.ViewLaws.{extended_with, below_power}
 

@@ -13,6 +13,8 @@ use Rattle.std.proofs.lemmas.List.Elements.{All-cons, All-head, All-tail, All-ge
 use Rattle.std.proofs.lemmas.List.Sums.{sum_by-cons}
 use Rattle.std.proofs.lemmas.Map.Keys.{IsDistinct-head, IsDistinct-tail, IsDistinct-cons}
 use Rattle.std.proofs.lemmas.Map.Views.{All-insert_key}
+use Rattle.bit_words.proofs.Counting.{flag, passing_past}
+use Rattle.bit_words.proofs.BitCounts.{ones_below}
 use Rattle.osek_values.specs.Bits.{passing_below}
 use Rattle.abstract_state.specs.declared.value.{Domain.{Domain}, PartValue.{PartValue}}
 use Rattle.abstract_state.specs.declared.value.Domain.TheVariants as domain
@@ -26,8 +28,6 @@ use Rattle.numbered_sets.specs.Numbers.{Numbers, has_number, number_count}
 use Rattle.numbered_sets.specs.NumberedEntries.{no_set, numbers_at, entry_numbers, room, numbers_height}
 use Rattle.numbered_sets.specs.Pools.{Values, no_values, with_value, value_seen, seen_at, values_at, domain_at, pool_domains, AreValues, IsExtended, IsLonger}
 use Rattle.numbered_sets.specs.Views.{values_with, in_order, plain_set, plain_sets, plain_entry, AreNumbersOf}
-use Rattle.numbered_sets.proofs.Counting.{flag, passing_past}
-use Rattle.numbered_sets.proofs.BitCounts.{ones_below}
 use Rattle.numbered_sets.proofs.PoolLaws.{none_numbered}
 use Rattle.numbered_sets.proofs.PlainLaws.{ordered, placed, ascending_in_order, any_in_order, has_value, values_longer, values_with_none, plain_set_at, length_plain}
 

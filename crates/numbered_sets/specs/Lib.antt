@@ -6,3 +6,5 @@ pub mod Pools
 pub mod SeenLaws
 pub mod SetLists
 pub mod Views
+pub mod PlainTables
+pub mod Counts

@@ -1,5 +1,5 @@
 -- Sets of numbers, each the number whose bits they are.
-use Rattle.std.specs.Prelude.{ℕ, ◌+◌, ◌*◌, ◌<◌, ◌^◌, ◌==◌, Bool, not, List, [], ◌∷◌, bit_and, bit_or, bit_xor, count_ones, All}
+use Rattle.std.specs.Prelude.{ℕ, ◌<◌, ◌^◌, ◌==◌, Bool, not, bit_and, bit_or, bit_xor, count_ones}
 use Rattle.osek_values.specs.Bits.{has_bit}
 use Rattle.abstract_state.specs.declared.value.Domain.{Domain}
 use Rattle.abstract_state.specs.Domains.{domain_size}
@@ -8,15 +8,6 @@ use Rattle.abstract_state.specs.Domains.{domain_size}
 pub record Numbers : Type 0 where
   pub domain : Domain
   pub bits : ℕ
-
--- each word is one of 64 bits
-abbrev pub AreWords : List ℕ → Type 0
-AreWords = All (λ w. w < 2 ^ 64)
-
--- their bits, those of the first word lowest
-unfoldable pub bits_of_words : List ℕ → ℕ
-bits_of_words [] = 0
-bits_of_words (w ∷ ws) = w + 2 ^ 64 * bits_of_words ws
 
 abbrev pub numbers : Domain → ℕ → Numbers
 numbers d m = record { domain = d; bits = m }

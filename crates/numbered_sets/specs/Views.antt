@@ -2,7 +2,7 @@
 use Rattle.std.specs.Prelude.{◌≡◌, ℕ, suc, ◌<◌, Bool, List, [], ◌∷◌, ◌++◌, length, if◌then◌else◌, IsTrue}
 use Rattle.std.specs.BTreeSet.{insert_key}
 use Rattle.abstract_state.specs.declared.value.PartValue.{PartValue}
-use Rattle.abstract_state.specs.declared.table.{ValueSet.{ValueSet}, Entry.{Entry}}
+use Rattle.abstract_state.specs.declared.table.{ValueSet.{ValueSet}, PlainEntry.{PlainEntry}}
 use Rattle.abstract_state.specs.ValueOrder.{part_order}
 use Rattle.numbered_sets.specs.declared.numbered_entry.NumberedEntry.{NumberedEntry}
 use Rattle.numbered_sets.specs.Numbers.{Numbers, has_number}
@@ -29,7 +29,7 @@ plain_sets pool c [] = []
 plain_sets pool c (x ∷ xs) = plain_set (values_at pool c) x ∷ plain_sets pool (suc c) xs
 
 -- What a numbered entry means: for each component the set of the values that have its numbers.
-abbrev pub plain_entry : List Values → NumberedEntry → Entry
+abbrev pub plain_entry : List Values → NumberedEntry → PlainEntry
 plain_entry pool entry = record { sets = plain_sets pool 0 entry.sets }
 
 -- The entry's numbers are those of values of the pool.

@@ -3,8 +3,8 @@ ghost use Rattle.std.specs.Prelude.{◌≡◌, ◌<◌, length, slice_index_or};
 ghost use Rattle.abstract_state.specs.declared.value.Domain.{Domain};
 
 use crate::numbered_set::NumberedSet;
-use crate::{further, split_words, words};
 use abstract_state::Domain;
+use bit_words::{further, split_words, words};
 use osek_values::{Memory, Seq};
 use std::alloc::Global;
 use std::marker::Model;

@@ -1,6 +1,6 @@
 //! Laws over the definitions, each on a function that does nothing.
 ghost use Rattle.std.specs.Prelude.{◌≡◌, ◌≢◌, ◌||◌, ◌<◌, ◌^◌, ℕ, List, length, map, slice_set, All};
-ghost use Rattle.abstract_state.specs.declared.table.Entry.{Entry};
+ghost use Rattle.abstract_state.specs.declared.table.PlainEntry.{PlainEntry};
 ghost use Rattle.abstract_state.specs.declared.value.PartValue.{PartValue};
 ghost use Rattle.abstract_state.specs.ValueOrder.{same_part};
 ghost use Rattle.abstract_state.specs.Domains.{domains, entry_height, IsSoundEntry, IsBelow};

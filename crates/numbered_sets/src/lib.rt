@@ -1,10 +1,10 @@
 //! Sets of values by number: each value that a component was seen with has a number, and a set is the bits of its values'
-//! numbers. What such sets mean is the ordered form of `abstract_state`.
+//! numbers. Tables, whose values stand once, in a pool. What such sets and tables mean are the ordered forms of `abstract_state`.
 #![tactic(auto)]
 
+mod counts;
 mod filter;
 mod flat_sets;
-mod further;
 pub mod laws;
 mod numbered_entry;
 mod numbered_form;
@@ -12,8 +12,7 @@ mod numbered_set;
 mod plain_form;
 mod pool;
 mod seen;
-mod split_words;
-mod words;
+mod table;
 
 pub use flat_sets::NumberedSets;
 pub use numbered_entry::NumberedEntry;
@@ -21,3 +20,4 @@ pub use numbered_form::numbered;
 pub use numbered_set::NumberedSet;
 pub use plain_form::plain;
 pub use pool::Pool;
+pub use table::{NumberedRow, NumberedRows, Table};

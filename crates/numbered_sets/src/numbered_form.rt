@@ -7,13 +7,13 @@ ghost use Rattle.numbered_sets.specs.Views.{plain_entry, AreNumbersOf, IsNumbere
 use crate::numbered_entry::NumberedEntry;
 use crate::numbered_set::NumberedSet;
 use crate::pool::Pool;
-use abstract_state::{Domain, Entry, ValueSet};
+use abstract_state::{Domain, PlainEntry, ValueSet};
 use osek_values::Memory;
 use std::alloc::Global;
 
 /// The entry of the numbers that an entry's values have in the pool, to which those that it lacks are added. Where memory
 /// is wanted the pool may have more of them.
-pub fn numbered(alloc: Global, pool: &mut Pool, entry: &Entry) -> Result<NumberedEntry, Memory>
+pub fn numbered(alloc: Global, pool: &mut Pool, entry: &PlainEntry) -> Result<NumberedEntry, Memory>
     requires domains { domains entry.now ≡ pool_domains pool.old }
     requires sound { All IsSound entry.now.sets }
     ensures pool { IsLonger pool.old pool.new }
@@ -30,7 +30,7 @@ pub fn numbered(alloc: Global, pool: &mut Pool, entry: &Entry) -> Result<Numbere
 }
 
 // what the values of each component are values of
-fn domains_of(alloc: Global, entry: &Entry) -> Result<Vec<Domain>, Memory>
+fn domains_of(alloc: Global, entry: &PlainEntry) -> Result<Vec<Domain>, Memory>
     ensures { IfOk result (λ all. all.items ≡ domains entry.now) }
 {
     let mut all = Vec::new(alloc);

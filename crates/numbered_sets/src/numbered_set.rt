@@ -1,8 +1,8 @@
 //! Sets of numbers, which stand for values of a domain.
 ghost use Rattle.std.specs.Prelude.{◌≡◌};
 
-use crate::{split_words, words};
 use abstract_state::Domain;
+use bit_words::{split_words, words};
 use osek_values::Memory;
 use std::alloc::Global;
 use std::marker::Model;
@@ -19,7 +19,8 @@ pub struct NumberedSet {
 
 impl Model for NumberedSet {
     ghost use Rattle.std.specs.Prelude.{◌∷◌};
-    ghost use Rattle.numbered_sets.specs.Numbers.{Numbers, bits_of_words};
+    ghost use Rattle.bit_words.specs.Words.{bits_of_words};
+    ghost use Rattle.numbered_sets.specs.Numbers.{Numbers};
 
     ghost Value = { Numbers };
 
@@ -29,7 +30,8 @@ impl Model for NumberedSet {
 impl NumberedSet {
     ghost use Rattle.std.specs.Prelude.{ℕ, false, IsTrue, ◌≡◌, ◌∷◌, ◌<◌, ◌≤◌, ◌+◌, ◌^◌, ◌==◌, not, bit_and, IfOk, OnOk, OnErr};
     ghost use Rattle.std.specs.Bool.{OnTrue};
-    ghost use Rattle.numbered_sets.specs.Numbers.{bits_of_words, numbers, has_number, with_number, joined_numbers, kept_numbers, other_numbers, number_count, meets};
+    ghost use Rattle.bit_words.specs.Words.{bits_of_words};
+    ghost use Rattle.numbered_sets.specs.Numbers.{numbers, has_number, with_number, joined_numbers, kept_numbers, other_numbers, number_count, meets};
 
     /// The set without a number. It takes no memory yet.
     pub fn new(alloc: Global, domain: Domain) -> NumberedSet

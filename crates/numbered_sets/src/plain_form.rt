@@ -6,12 +6,12 @@ ghost use Rattle.numbered_sets.specs.Views.{plain_set as plain_set_of, plain_ent
 use crate::numbered_entry::NumberedEntry;
 use crate::numbered_set::NumberedSet;
 use crate::pool::Pool;
-use abstract_state::{Entry, ValueSet};
+use abstract_state::{PlainEntry, ValueSet};
 use osek_values::{Memory, Seq};
 use std::alloc::Global;
 
 /// The entry of the values that have an entry's numbers in the pool.
-pub fn plain(alloc: Global, pool: &Pool, entry: &NumberedEntry) -> Result<Entry, Memory>
+pub fn plain(alloc: Global, pool: &Pool, entry: &NumberedEntry) -> Result<PlainEntry, Memory>
     requires { length entry.now.sets ≤ length pool.now }
     ensures { IfOk result (λ plain. plain ≡ plain_entry pool.now entry.now) }
 {
@@ -21,7 +21,7 @@ pub fn plain(alloc: Global, pool: &Pool, entry: &NumberedEntry) -> Result<Entry,
         let set = plain_set(alloc, pool, component, &numbers)?;
         sets.push(set)?;
     }
-    Ok(Entry { sets })
+    Ok(PlainEntry { sets })
 }
 
 /// The set of a component's values that have these numbers.

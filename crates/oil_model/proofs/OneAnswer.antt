@@ -6,10 +6,9 @@ use Rattle.oil_tree.specs.declared.tree.Tree.{Tree}
 use Rattle.osek_values.specs.declared.refused.LineFault.{LineFault}
 use Rattle.osek_values.specs.declared.refusal.{OilRule.{OilRule}, OilRule.TheVariants.{O1}}
 use Rattle.oil_model.specs.Answers.{IsAnswer}
-use Rattle.oil_model.specs.Faults.{IsLeastOrNone}
+use Rattle.oil_model.specs.Faults.{IsLeastOrNone, order}
 use Rattle.oil_model.specs.Systems.{system_of}
 use Rattle.osek_values.proofs.LeastFaults.{same_fault, no_fault, least_or_none}
-use Rattle.oil_model.specs.Faults.{order}
 use Rattle.oil_model.proofs.Least.{rules, lines_in, all}
 
 pub one : (t : Tree) (a b : Result System (LineFault OilRule)) → IsAnswer a t → IsAnswer b t → a ≡ b

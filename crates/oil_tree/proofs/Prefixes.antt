@@ -6,8 +6,7 @@ use Rattle.oil_tree.specs.declared.words.{Word.{Word as Keyword}, Word.TheVarian
 use Rattle.oil_tree.specs.declared.tree.{Value.{Value}, Value.TheVariants.{Word, Quoted, Numeric}, Sign.{Sign}, Object.{Object}, Tree.{Tree}}
 use Rattle.oil_tree.specs.declared.tree.Sign.TheVariants as sign
 use Rattle.oil_tree.specs.Attrs.{Attrs, no_attrs, attr_then}
-use Rattle.oil_lexer.specs.Tokens.{is_open}
-use Rattle.oil_lexer.specs.Tokens.{name, number, text, mark, is_close}
+use Rattle.oil_lexer.specs.Tokens.{is_open, name, number, text, mark, is_close}
 use Rattle.oil_tree.specs.Words.{word_of}
 use Rattle.oil_tree.specs.Grammar.{IsValue, is_name, is_text, is_number, is_plus, is_minus, IsEnd, plain, described, IsAttrs, no_more, one_more, IsBody, bare, nested, IsObjects, no_objects, one_object, IsBalanced, closed, braces, other, IsCpu, cpu, IsUnversioned, no_impl, impl, IsFile, no_version, version, IsSentence}
 use Rattle.oil_tree.specs.Expect.{Phrase, a_file, an_unversioned, a_cpu, some_objects, some_attrs, some_balanced, a_body, an_end, a_value, a_name, a_text, a_number, an_equals, an_open, a_semicolon, Stack, step, step_all, onto, run, cpu_word, unversioned_word, file_word, scan}

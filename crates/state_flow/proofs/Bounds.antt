@@ -17,7 +17,7 @@ use Rattle.osek_standard.specs.Counts.{points, height}
 use Rattle.osek_standard.specs.Points.{point_number, points_in_order, IsPoint}
 use Rattle.osek_standard.proofs.Members.{among_map, map_among, contained_among, among_contained}
 use Rattle.osek_standard.proofs.PointLaws.{are_points, points_counted}
-use Rattle.abstract_state.specs.declared.table.{Entry.{Entry}, TableRow.{TableRow}, Table.{Table}}
+use Rattle.abstract_state.specs.declared.table.{PlainEntry.{PlainEntry}, TableRow.{TableRow}, PlainTable.{PlainTable}}
 use Rattle.abstract_state.specs.Domains.{HasMasks}
 use Rattle.abstract_state.specs.Tables.{entry_values, value_count}
 use Rattle.abstract_state.specs.Written.{IsWritten}
@@ -37,7 +37,7 @@ same_laws = eq_by_cmp_equiv nat_cmp_total
 abbrev number_of : TableRow → ℕ
 number_of row = point_number row.point
 
-module _ (app : App) (table : Table) (written : IsWritten app table) where
+module _ (app : App) (table : PlainTable) (written : IsWritten app table) where
   -- the number of a row is that of a point
   among_points : (n : ℕ) → IsTrue (list_any (eq_by_cmp nat_cmp n) (map number_of table.rows)) → IsTrue (list_any (eq_by_cmp nat_cmp n) (map point_number (points_in_order app)))
   among_points n h =
@@ -66,19 +66,19 @@ module _ (app : App) (table : Table) (written : IsWritten app table) where
       omega (arith, sum, mul-le-mul {n₁ = length table.rows} {m₁ = height app} {n₂ = points app} {m₂ = height app} rows_few (omega arith))
 
 -- so it is with the table of cells
-pub values_same : (cells : List (Cell Entry)) → value_count (table_of cells) ≡ values_in cells
+pub values_same : (cells : List (Cell PlainEntry)) → value_count (table_of cells) ≡ values_in cells
 values_same cells = sum_map (λ (row : TableRow). entry_values row.entry) row_of cells
 
 -- while a cell waits, fewer evaluations were made than points and their values
-pub room : (app : App) → HasMasks app → (cells : List (Cell Entry)) (n place : ℕ) → Progress app cells n → IsWaitingAt cells place → n < points app + points app * height app
+pub room : (app : App) → HasMasks app → (cells : List (Cell PlainEntry)) (n place : ℕ) → Progress app cells n → IsWaitingAt cells place → n < points app + points app * height app
 room app masks cells n place progress at =
     let whole = written app cells progress.cells_proper in
     omega (arith, room_left app cells n place progress at, rows_few app (table_of cells) whole, values_few app (table_of cells) whole masks, values_same cells, length-map cells row_of)
 
 -- at the end each row was evaluated, and no more often than rows and values came in
-pub rows_evaluated : (app : App) (cells : List (Cell Entry)) (n : ℕ) → Progress app cells n → NoneWaitsFrom cells 0 → length (map row_of cells) ≤ n
+pub rows_evaluated : (app : App) (cells : List (Cell PlainEntry)) (n : ℕ) → Progress app cells n → NoneWaitsFrom cells 0 → length (map row_of cells) ≤ n
 rows_evaluated app cells n progress none = omega (arith, (counted_at_end app cells n progress none).1, length-map cells row_of)
 
-pub evaluations_few : (app : App) (cells : List (Cell Entry)) (n : ℕ) → Progress app cells n → NoneWaitsFrom cells 0 → n ≤ points app + value_count (table_of cells)
+pub evaluations_few : (app : App) (cells : List (Cell PlainEntry)) (n : ℕ) → Progress app cells n → NoneWaitsFrom cells 0 → n ≤ points app + value_count (table_of cells)
 evaluations_few app cells n progress none =
     omega (arith, (counted_at_end app cells n progress none).0, rows_few app (table_of cells) (written app cells progress.cells_proper), values_same cells, length-map cells row_of)

@@ -14,16 +14,17 @@ use Rattle.osek_standard.specs.Kernel.{start, step}
 use Rattle.osek_standard.specs.Outcomes.{Mark, Silent, Arrived, Did, shows}
 use Rattle.osek_standard.specs.Well.{Well}
 use Rattle.osek_standard.proofs.StepKeeps.{start_is_well, step_keeps}
-use Rattle.abstract_state.specs.declared.table.{Entry.{Entry}, TableRow.{TableRow}}
+use Rattle.abstract_state.specs.declared.table.{PlainEntry.{PlainEntry}, TableRow.{TableRow}}
 use Rattle.abstract_state.specs.Components.{abstract_of}
 use Rattle.abstract_state.specs.Tables.{Sets, In, Inductive, IsContained, Least, entry_values, sets_of}
 use Rattle.abstract_state.proofs.ContainmentLaws.{in_larger}
 use Rattle.abstract_state.proofs.AlikeLaws.{in_alike}
 use Rattle.abstract_state.proofs.MarkLaws.{shown_silent}
 use Rattle.flow_model.specs.Effects.{IsAt}
+use Rattle.numbered_sets.specs.PlainTables.{row_at}
 use Rattle.state_flow.specs.declared.cells.Cell.{Cell}
 use Rattle.state_flow.specs.Cells.{AreInOrder, IsWaitingAt, NoneWaitsFrom, cell_number, waits, waiting_count}
-use Rattle.state_flow.specs.Rows.{row_at, row_of, sets_in, IsProperRow, IsRowIn}
+use Rattle.state_flow.specs.Rows.{row_of, sets_in, IsProperRow, IsRowIn}
 use Rattle.state_flow.specs.Starts.{IsStartRow}
 use Rattle.state_flow.specs.Reaching.{IsLed, Leads}
 use Rattle.state_flow.specs.Progress.{AreProperCells, IsClosed, values_in, AreJoined, Progress, AreStarted}
@@ -46,7 +47,7 @@ module _ (app : App) where
         within = λ c lt. subst (λ (q : Point). IsTrue (table.has q c (abstract_of app s c))) (sym l.point) (row.has c (abstract_of app s c) (l.within c lt));
       }
 
-  module _ (cells : List (Cell Entry)) (cell : Cell Entry) (order : AreInOrder cells) (among : Contains cells cell) where
+  module _ (cells : List (Cell PlainEntry)) (cell : Cell PlainEntry) (order : AreInOrder cells) (among : Contains cells cell) where
     -- a state of the table at a cell's point is one of its entry
     at_cell : (s : State) → In app (sets_in cells) s → point_of s ≡ cell.point → IsAt app cell.point cell.entry s
     at_cell s h at = record {
@@ -68,7 +69,7 @@ module _ (app : App) where
     }
 
     -- a cell that was closed and stays as it is, is closed
-    pub closed_still : (before : List (Cell Entry)) → Contains before cell → IsContained (sets_in before) (sets_in cells) → IsClosed app (sets_in before) cell.point → IsClosed app (sets_in cells) cell.point
+    pub closed_still : (before : List (Cell PlainEntry)) → Contains before cell → IsContained (sets_in before) (sets_in cells) → IsClosed app (sets_in before) cell.point → IsClosed app (sets_in cells) cell.point
     closed_still before there grows closed = record {
       each = λ s e h at.
           let inside = at_cell s h at in
@@ -81,10 +82,10 @@ module _ (app : App) where
     }
 
 -- the cell at a place, which doesn't wait any more
-abbrev pub evaluated : Cell Entry → Cell Entry
+abbrev pub evaluated : Cell PlainEntry → Cell PlainEntry
 evaluated cell = record cell { waiting = false }
 
-module _ (cells : List (Cell Entry)) (place : ℕ) (cell : Cell Entry) (known : place < length cells) (is : get_or cells place cell ≡ cell) where
+module _ (cells : List (Cell PlainEntry)) (place : ℕ) (cell : Cell PlainEntry) (known : place < length cells) (is : get_or cells place cell ≡ cell) where
   -- it stands for the same row
   pub same_rows : map row_of (set cells place (evaluated cell)) ≡ map row_of cells
   same_rows =
@@ -99,22 +100,22 @@ module _ (cells : List (Cell Entry)) (place : ℕ) (cell : Cell Entry) (known : 
   evaluated_proper app proper_cells = record {
     order = order_set cells place (evaluated cell) proper_cells.order known (ap cell_number (get_or_default cells place (evaluated cell) cell known ∙ is));
     each = λ x h. elim (set_cases cells place (evaluated cell) x h) [
-      | inl e ↦ subst (λ (y : Cell Entry). IsProperRow app (row_of y)) (sym e) (proper_cells.each cell (place, known, is))
+      | inl e ↦ subst (λ (y : Cell PlainEntry). IsProperRow app (row_of y)) (sym e) (proper_cells.each cell (place, known, is))
       | inr stays ↦ proper_cells.each x stays
     ];
   }
 
-  module _ (app : App) (rows : List TableRow) (after : List (Cell Entry)) (waiting : cell.waiting ≡ true) (leads : Leads app cell.point cell.entry rows) (joined : AreJoined app (set cells place (evaluated cell)) rows after) where
+  module _ (app : App) (rows : List TableRow) (after : List (Cell PlainEntry)) (waiting : cell.waiting ≡ true) (leads : Leads app cell.point cell.entry rows) (joined : AreJoined app (set cells place (evaluated cell)) rows after) where
     among : Contains cells cell
     among = (place, known, is)
 
     grown : IsContained (sets_in cells) (sets_in after)
     grown = subst (λ (t : Sets). IsContained t (sets_in after)) same_sets joined.grows
 
-    closed_after : (n : ℕ) → Progress app cells n → (x : Cell Entry) → Contains after x → x.waiting ≡ false → IsClosed app (sets_in after) x.point
+    closed_after : (n : ℕ) → Progress app cells n → (x : Cell PlainEntry) → Contains after x → x.waiting ≡ false → IsClosed app (sets_in after) x.point
     closed_after n progress x h none = elim (set_cases cells place (evaluated cell) x (joined.kept x h none)) [
       | inl e ↦
-          (let leads_here : Leads app x.point x.entry rows = subst (λ (y : Cell Entry). Leads app y.point y.entry rows) (sym e) leads in
+          (let leads_here : Leads app x.point x.entry rows = subst (λ (y : Cell PlainEntry). Leads app y.point y.entry rows) (sym e) leads in
           closed_by app after x joined.cells_proper.order h rows leads_here joined.joins)
       | inr stays ↦ closed_still app after x joined.cells_proper.order h cells stays grown (progress.closed x stays none)
     ]
@@ -133,9 +134,9 @@ module _ (cells : List (Cell Entry)) (place : ℕ) (cell : Cell Entry) (known : 
     pub progress_made : (n : ℕ) → Progress app cells n → Progress app after (n + 1)
     progress_made n progress =
         let fewer = sum_by-set waits cells place (evaluated cell) cell known in
-        let same = sum_by-set (λ (x : Cell Entry). entry_values x.entry) cells place (evaluated cell) cell known in
+        let same = sum_by-set (λ (x : Cell PlainEntry). entry_values x.entry) cells place (evaluated cell) cell known in
         let one : waits (get_or cells place cell) ≡ 1 = ap waits is ∙ (rw waiting refl) in
-        let value : entry_values (get_or cells place cell).entry ≡ entry_values cell.entry = ap (λ (x : Cell Entry). entry_values x.entry) is in
+        let value : entry_values (get_or cells place cell).entry ≡ entry_values cell.entry = ap (λ (x : Cell PlainEntry). entry_values x.entry) is in
         let long = length-set cells place (evaluated cell) in
         record {
           cells_proper = joined.cells_proper;
@@ -147,7 +148,7 @@ module _ (cells : List (Cell Entry)) (place : ℕ) (cell : Cell Entry) (known : 
         }
 
 module _ (app : App) where
-  pub started_more : (k : ℕ) (mode : ModeNo) (cells after : List (Cell Entry)) (row : TableRow) → mode.0 ≡ k → mode.0 < length app.modes → AreStarted app k cells → IsStartRow app mode row → AreJoined app cells (row ∷ []) after → AreStarted app (k + 1) after
+  pub started_more : (k : ℕ) (mode : ModeNo) (cells after : List (Cell PlainEntry)) (row : TableRow) → mode.0 ≡ k → mode.0 < length app.modes → AreStarted app k cells → IsStartRow app mode row → AreJoined app cells (row ∷ []) after → AreStarted app (k + 1) after
   started_more k mode cells after row is known so_far first joined =
       let here : IsRowIn (sets_in after) row = joined.joins row (0, omega arith, refl) in
       let there : In app (sets_in after) (start app mode).state = record {
@@ -174,7 +175,7 @@ module _ (app : App) where
       only_place : (r : TableRow) (h : Contains (row ∷ []) r) → 0 ≡ h.0
       only_place r h = omega (arith, h.1)
 
-  pub started_all : (k : ℕ) (cells : List (Cell Entry)) → length app.modes ≤ k → AreStarted app k cells → Progress app cells 0
+  pub started_all : (k : ℕ) (cells : List (Cell PlainEntry)) → length app.modes ≤ k → AreStarted app k cells → Progress app cells 0
   started_all k cells le so_far = record {
     cells_proper = so_far.cells_proper;
     start = λ mode lt. so_far.start mode (omega (arith, lt, le));
@@ -184,7 +185,7 @@ module _ (app : App) where
     fewest = omega (arith, so_far.fewest);
   }
 
-none_waiting : (cells : List (Cell Entry)) → NoneWaitsFrom cells 0 → waiting_count cells ≡ 0
+none_waiting : (cells : List (Cell PlainEntry)) → NoneWaitsFrom cells 0 → waiting_count cells ≡ 0
 none_waiting [] none = refl
 none_waiting (cell ∷ cells) none =
     let first : waits cell ≡ 0 = rw (none 0 cell (omega arith) (omega arith)) refl in
@@ -192,25 +193,25 @@ none_waiting (cell ∷ cells) none =
     sum_by-cons waits cell cells ∙ omega (arith, first, rest)
 
 -- nothing waits: each step stays in the table
-pub least_at_end : (app : App) (cells : List (Cell Entry)) (n : ℕ) → Progress app cells n → NoneWaitsFrom cells 0 → Least app (sets_in cells)
+pub least_at_end : (app : App) (cells : List (Cell PlainEntry)) (n : ℕ) → Progress app cells n → NoneWaitsFrom cells 0 → Least app (sets_in cells)
 least_at_end app cells n progress none = record {
   inductive = record {
     start = progress.start;
     step = λ s e h.
         let x = entry_cell cells (point_of s) h.entry in
-        let idle : x.cell.waiting ≡ false = ap (λ (y : Cell Entry). y.waiting) (sym x.among.2) ∙ none x.among.0 x.cell (omega arith) x.among.1 in
+        let idle : x.cell.waiting ≡ false = ap (λ (y : Cell PlainEntry). y.waiting) (sym x.among.2) ∙ none x.among.0 x.cell (omega arith) x.among.1 in
         (progress.closed x.cell x.among idle).each s e h (sym x.at);
   };
   least = progress.least;
 }
 
-pub counted_at_end : (app : App) (cells : List (Cell Entry)) (n : ℕ) → Progress app cells n → NoneWaitsFrom cells 0 → (n ≤ length cells + values_in cells) × (length cells ≤ n)
+pub counted_at_end : (app : App) (cells : List (Cell PlainEntry)) (n : ℕ) → Progress app cells n → NoneWaitsFrom cells 0 → (n ≤ length cells + values_in cells) × (length cells ≤ n)
 counted_at_end app cells n progress none = (omega (arith, progress.most, none_waiting cells none), omega (arith, progress.fewest, none_waiting cells none))
 
 -- while a cell waits, fewer evaluations were made than cells and values there are
-pub room_left : (app : App) (cells : List (Cell Entry)) (n place : ℕ) → Progress app cells n → IsWaitingAt cells place → n < length cells + values_in cells
+pub room_left : (app : App) (cells : List (Cell PlainEntry)) (n place : ℕ) → Progress app cells n → IsWaitingAt cells place → n < length cells + values_in cells
 room_left app cells n place progress at =
-    let d : Cell Entry = record { point = point.Halted; entry = record { sets = [] }; waiting = false } in
+    let d : Cell PlainEntry = record { point = point.Halted; entry = record { sets = [] }; waiting = false } in
     let some = get_or-le-sum_by waits cells place d at.known in
     let one : waits (get_or cells place d) ≡ 1 = rw (at.waits d) refl in
     omega (arith, progress.most, some, one)

@@ -3,7 +3,7 @@ use Rattle.std.proofs.Common.{◌≡◌, ◌⊎◌, ℕ, zero, suc, Bool, true, 
 use Rattle.std.proofs.lemmas.Bool.{or_cases, or_left, or_right}
 use Rattle.std.proofs.lemmas.List.Folds.{list_any-append}
 use Rattle.abstract_state.specs.declared.value.PartValue.{PartValue}
-use Rattle.abstract_state.specs.declared.table.{ValueSet.{ValueSet}, Entry.{Entry}}
+use Rattle.abstract_state.specs.declared.table.{ValueSet.{ValueSet}, PlainEntry.{PlainEntry}}
 use Rattle.abstract_state.specs.ValueOrder.{same_part}
 use Rattle.abstract_state.specs.Tables.{empty_set, set_at, is_member}
 use Rattle.abstract_state.specs.Domains.{IsBelow}
@@ -28,9 +28,9 @@ has_both (x ∷ xs) (y ∷ ys) zero v = list_any-append (same_part v) x.members 
 has_both (x ∷ xs) (y ∷ ys) (suc c) v = has_both xs ys c v
 
 -- what is below every entry above two has the values of these alone
-pub of_two : (a b x : Entry) → ((z : Entry) → IsBelow a z → IsBelow b z → IsBelow x z) → (c : ℕ) (v : PartValue) → IsTrue (is_member (set_at x c) v) → IsTrue (is_member (set_at a c) v) ⊎ IsTrue (is_member (set_at b c) v)
+pub of_two : (a b x : PlainEntry) → ((z : PlainEntry) → IsBelow a z → IsBelow b z → IsBelow x z) → (c : ℕ) (v : PartValue) → IsTrue (is_member (set_at x c) v) → IsTrue (is_member (set_at a c) v) ⊎ IsTrue (is_member (set_at b c) v)
 of_two a b x least c v h =
-    let z : Entry = record { sets = sets_of_both a.sets b.sets } in
+    let z : PlainEntry = record { sets = sets_of_both a.sets b.sets } in
     let left : IsBelow a z = record { each = λ k w m. has_both a.sets b.sets k w ∙ or_left (is_member (set_at a k) w) (is_member (set_at b k) w) m } in
     let right : IsBelow b z = record { each = λ k w m. has_both a.sets b.sets k w ∙ or_right (is_member (set_at a k) w) (is_member (set_at b k) w) m } in
     or_cases (is_member (set_at a c) v) (is_member (set_at b c) v) (sym (has_both a.sets b.sets c v) ∙ (least z left right).each c v h)

@@ -12,15 +12,16 @@ use Rattle.osek_standard.specs.Outcomes.{Silent, shows}
 use Rattle.osek_standard.proofs.Members.{among_contained, among_map, contained_among, map_among}
 use Rattle.osek_standard.proofs.StepKeeps.{step_keeps}
 use Rattle.abstract_state.specs.declared.value.{PartValue.{PartValue}, PartValue.TheVariants.{OfAlarm}}
-use Rattle.abstract_state.specs.declared.table.{Entry.{Entry}, TableRow.{TableRow}}
+use Rattle.abstract_state.specs.declared.table.{PlainEntry.{PlainEntry}, TableRow.{TableRow}}
 use Rattle.abstract_state.specs.Components.{component_count, abstract_of, IsAllowed}
 use Rattle.abstract_state.specs.Domains.{domains, domains_of, HasMasks}
 use Rattle.abstract_state.specs.Tables.{Sets, In, Inductive, set_at, is_member, AreAscending}
 use Rattle.abstract_state.proofs.AllowedLaws.{well_point, well_part}
 use Rattle.flow_model.specs.Effects.{AreAllAllowed, IsAt}
+use Rattle.numbered_sets.specs.PlainTables.{row_at}
 use Rattle.flow_exits.specs.declared.exit.Exit.{Exit}
 use Rattle.flow_exits.specs.Exits.{CoverSteps, IsStepTo, IsExact, AreExact}
-use Rattle.state_flow.specs.Rows.{row_at, IsFilled, IsProperRow, IsRowIn}
+use Rattle.state_flow.specs.Rows.{IsFilled, IsProperRow, IsRowIn}
 use Rattle.state_flow.specs.Reaching.{IsLed, IsReached, Leads}
 use Rattle.state_flow.proofs.RowLaws.{set_known}
 use Rattle.state_flow.proofs.ReachedRows.{proper_row}
@@ -34,14 +35,14 @@ abbrev pub IsOrdered : App → Exit → Type 0
 IsOrdered app x = (domains x.entry ≡ domains_of app) × AreAscending x.entry
 
 -- a step by the exit from a state of the entry, after which component c has this value
-record IsReachedBy (app : App) (p : Point) (entry : Entry) (x : Exit) (c : ℕ) (v : PartValue) : Type 0 where
+record IsReachedBy (app : App) (p : Point) (entry : PlainEntry) (x : Exit) (c : ℕ) (v : PartValue) : Type 0 where
   from : State
   event : Event
   at : IsAt app p entry from
   target : point_of (step app from event).state ≡ x.target
   value : abstract_of app (step app from event).state c ≡ v
 
-module _ (app : App) (p : Point) (entry : Entry) (x : Exit) (exact : IsExact app p entry x) where
+module _ (app : App) (p : Point) (entry : PlainEntry) (x : Exit) (exact : IsExact app p entry x) where
   -- a value of each set
   record Pick (k : ℕ) : Type 0 where
     pick : PartValue
@@ -122,7 +123,7 @@ module _ (app : App) (p : Point) (entry : Entry) (x : Exit) (exact : IsExact app
       };
     }
 
-module _ (app : App) (masks : HasMasks app) (p : Point) (entry : Entry) (exits : List Exit) (exact : AreExact app p entry exits) (ordered : (x : Exit) → Contains exits x → IsOrdered app x) where
+module _ (app : App) (masks : HasMasks app) (p : Point) (entry : PlainEntry) (exits : List Exit) (exact : AreExact app p entry exits) (ordered : (x : Exit) → Contains exits x → IsOrdered app x) where
   -- the row of an exit is a proper table's
   pub exit_row_proper : (x : Exit) → Contains exits x → IsProperRow app (exit_row x)
   exit_row_proper x listed = proper_exit app p entry x (exact x listed) masks (ordered x listed)
@@ -145,6 +146,6 @@ module _ (app : App) (masks : HasMasks app) (p : Point) (entry : Entry) (exits :
       }
 
 -- The rows of a point's exits are what its steps lead to.
-pub exits_lead : (app : App) → HasMasks app → (p : Point) (entry : Entry) → IsProperRow app (row_at p entry) → (exits : List Exit) → CoverSteps app p entry exits → AreExact app p entry exits
+pub exits_lead : (app : App) → HasMasks app → (p : Point) (entry : PlainEntry) → IsProperRow app (row_at p entry) → (exits : List Exit) → CoverSteps app p entry exits → AreExact app p entry exits
     → ((x : Exit) → Contains exits x → (domains x.entry ≡ domains_of app) × AreAscending x.entry) → Leads app p entry (map (λ (x : Exit). row_at x.target x.entry) exits)
 exits_lead app masks p entry proper exits covers exact ordered = record { covers = step_led app masks p entry exits exact ordered covers; each = each_reached app masks p entry exits exact ordered }

@@ -4,7 +4,14 @@ pub mod RowLaws
 pub mod ReachedRows
 pub mod ExitRows
 pub mod StartEntry
-pub mod Joining
+pub mod JoinedRows
 pub mod Closing
 pub mod Bounds
 pub mod Sizes
+pub mod Raising
+pub mod JoiningCells
+pub mod NumberedCells
+pub mod CellRows
+pub mod HeldNumbers
+pub mod ExitJoins
+pub mod EvaluatedExits

@@ -15,7 +15,7 @@ use Rattle.osek_standard.specs.Kernel.{step}
 use Rattle.osek_standard.proofs.StepKeeps.{step_keeps}
 use Rattle.abstract_state.specs.declared.value.{Domain.{Domain}}
 use Rattle.abstract_state.specs.declared.value.Component.TheVariants as component
-use Rattle.abstract_state.specs.declared.table.{ValueSet.{ValueSet}, Entry.{Entry}, TableRow.{TableRow}}
+use Rattle.abstract_state.specs.declared.table.{ValueSet.{ValueSet}, PlainEntry.{PlainEntry}, TableRow.{TableRow}}
 use Rattle.abstract_state.specs.Components.{components, component_at, component_count, abstract_of, IsAllowed}
 use Rattle.abstract_state.specs.ValueOrder.{IsAscending}
 use Rattle.abstract_state.specs.Domains.{IsWithin, domain_of, domains, domains_of, HasMasks, IsSound, IsSoundEntry}
@@ -28,21 +28,22 @@ use Rattle.flow_model.specs.declared.rule.Rule.{Rule}
 use Rattle.flow_model.specs.Tests.{value_after}
 use Rattle.flow_model.specs.Effects.{AreAllAllowed, IsAt}
 use Rattle.flow_model.specs.Rules.{Matches, Covering, Exact, Applies, HasNone}
-use Rattle.state_flow.specs.Rows.{row_at, IsFilled, IsProperRow}
+use Rattle.numbered_sets.specs.PlainTables.{row_at}
+use Rattle.flow_rules.proofs.Leading.{steps_in, value_shown, value_contained}
+use Rattle.state_flow.specs.Rows.{IsFilled, IsProperRow}
 use Rattle.state_flow.specs.Reaching.{IsLed, IsReached, Leads}
 use Rattle.state_flow.proofs.RowLaws.{as_many_sets, set_known}
-use Rattle.flow_rules.proofs.Leading.{steps_in, value_shown, value_contained}
 
 module _ (app : App) (masks : HasMasks app) where
   -- the domain of a set of the entry
-  domain_at : (entry : Entry) (c : ℕ) → domains entry ≡ domains_of app → c < component_count app → (set_at entry c).domain ≡ domain_of app (component_at app c)
+  domain_at : (entry : PlainEntry) (c : ℕ) → domains entry ≡ domains_of app → c < component_count app → (set_at entry c).domain ≡ domain_of app (component_at app c)
   domain_at entry c e lt =
       sym (get_or-map (λ (s : ValueSet). s.domain) entry.sets c empty_set)
       ∙ ap (λ (ds : List Domain). get_or ds c empty_set.domain) e
       ∙ get_or-map (domain_of app) (components app) c (component.Alarm (alarm_no 0))
 
   -- an ascending entry of allowed values is sound
-  pub sound_entry : (p : Point) (entry : Entry) → domains entry ≡ domains_of app → AreAscending entry → AreAllAllowed app p entry → IsSoundEntry entry
+  pub sound_entry : (p : Point) (entry : PlainEntry) → domains entry ≡ domains_of app → AreAscending entry → AreAllAllowed app p entry → IsSoundEntry entry
   sound_entry p entry same up allowed = record {
     sets = λ c d lt.
         let known : c < component_count app = omega (arith, lt, as_many_sets app entry same) in
@@ -57,7 +58,7 @@ module _ (app : App) (masks : HasMasks app) where
   }
 
   -- an entry that allowed values fill is a proper row's
-  pub proper_row : (p : Point) (entry : Entry) → IsPoint app p → domains entry ≡ domains_of app → AreAscending entry → AreAllAllowed app p entry → IsFilled app entry → IsProperRow app (row_at p entry)
+  pub proper_row : (p : Point) (entry : PlainEntry) → IsPoint app p → domains entry ≡ domains_of app → AreAscending entry → AreAllAllowed app p entry → IsFilled app entry → IsProperRow app (row_at p entry)
   proper_row p entry at same up allowed filled = record {
     row = record { point = at; sound = sound_entry p entry same up allowed; domains = same };
     allowed = allowed;

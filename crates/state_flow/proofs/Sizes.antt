@@ -7,7 +7,7 @@ use Rattle.osek_standard.specs.declared.app.App.{App}
 use Rattle.osek_standard.specs.declared.objects.{Task.{Task}, Isr.{Isr}, Counter.{Counter}}
 use Rattle.osek_standard.specs.Counts.{stacks, event_height, points, height, task_blocks, routine_blocks}
 use Rattle.osek_standard.proofs.CountLaws.{few_stacks, heights_together}
-use Rattle.abstract_state.specs.declared.table.Table.{Table}
+use Rattle.abstract_state.specs.declared.table.PlainTable.{PlainTable}
 use Rattle.abstract_state.specs.Domains.{HasMasks}
 use Rattle.abstract_state.specs.Tables.{value_count}
 use Rattle.abstract_state.specs.Written.{IsWritten}
@@ -48,7 +48,7 @@ module _ (app : App) where
       omega (arith, heights_together (length app.resources) app.tasks, tasks, events, app.valid.few_tasks, app.valid.few_alarms)
 
   -- a count of 64 bits holds the number of values of a written table
-  pub values_fit : HasMasks app → (table : Table) → IsWritten app table → value_count table < 2 ^ 64
+  pub values_fit : HasMasks app → (table : PlainTable) → IsWritten app table → value_count table < 2 ^ 64
   values_fit masks table written =
       let product = mul-le-mul {n₁ = points app} {m₁ = height app} {n₂ = 304130} {m₂ = 1851837488} points_few (height_few masks) in
       omega (arith, values_few app table written masks, product)

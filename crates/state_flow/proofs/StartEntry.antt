@@ -23,7 +23,8 @@ use Rattle.abstract_state.proofs.OrderLaws.{part_itself, part_right, ascending_o
 use Rattle.abstract_state.proofs.AllowedLaws.{well_point, well_part}
 use Rattle.abstract_state.proofs.ComponentLaws.{component_known}
 use Rattle.flow_model.specs.Effects.{AreIn}
-use Rattle.state_flow.specs.Rows.{row_at, IsProperRow, IsRowIn}
+use Rattle.numbered_sets.specs.PlainTables.{row_at}
+use Rattle.state_flow.specs.Rows.{IsProperRow, IsRowIn}
 use Rattle.state_flow.specs.Starts.{HasPart, single, entry_of, IsStartRow}
 use Rattle.state_flow.proofs.RowLaws.{set_known}
 use Rattle.state_flow.proofs.ReachedRows.{proper_row}

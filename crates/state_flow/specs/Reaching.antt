@@ -7,11 +7,12 @@ use Rattle.osek_standard.specs.declared.point.Point.{Point}
 use Rattle.osek_standard.specs.Points.{point_of}
 use Rattle.osek_standard.specs.Kernel.{step}
 use Rattle.osek_standard.specs.Outcomes.{Silent, shows}
-use Rattle.abstract_state.specs.declared.table.{Entry.{Entry}, TableRow.{TableRow}}
+use Rattle.abstract_state.specs.declared.table.{PlainEntry.{PlainEntry}, TableRow.{TableRow}}
 use Rattle.abstract_state.specs.Components.{abstract_of}
 use Rattle.abstract_state.specs.Tables.{Sets, Inductive}
 use Rattle.flow_model.specs.Effects.{AreIn, IsAt}
-use Rattle.state_flow.specs.Rows.{row_at, IsProperRow, IsRowIn}
+use Rattle.numbered_sets.specs.PlainTables.{row_at}
+use Rattle.state_flow.specs.Rows.{IsProperRow, IsRowIn}
 
 -- the state is one of some row
 pub record IsLed (app : App) (rows : List TableRow) (s : State) : Type 0 where
@@ -21,12 +22,12 @@ pub record IsLed (app : App) (rows : List TableRow) (s : State) : Type 0 where
   pub within : AreIn app row.entry (abstract_of app s)
 
 -- Each inductive table that has the entry at the point has the row.
-pub record IsReached (app : App) (p : Point) (entry : Entry) (row : TableRow) : Type 0 where
+pub record IsReached (app : App) (p : Point) (entry : PlainEntry) (row : TableRow) : Type 0 where
   pub proper : IsProperRow app row
   pub least : (other : Sets) → Inductive app other → IsRowIn other (row_at p entry) → IsRowIn other row
 
 -- Each step of a state of the entry that shows something leads to a state of the rows, and the rows have no more than
 -- that.
-pub record Leads (app : App) (p : Point) (entry : Entry) (rows : List TableRow) : Type 0 where
+pub record Leads (app : App) (p : Point) (entry : PlainEntry) (rows : List TableRow) : Type 0 where
   pub covers : (s : State) (e : Event) → IsAt app p entry s → (shows app s e ≡ Silent → ⊥) → IsLed app rows (step app s e).state
   pub each : (row : TableRow) → Contains rows row → IsReached app p entry row

@@ -3,28 +3,26 @@ use Rattle.std.specs.Prelude.{ℕ, ◌<◌, List, map, IsTrue, Contains}
 use Rattle.osek_standard.specs.declared.app.App.{App}
 use Rattle.osek_standard.specs.declared.point.Point.{Point}
 use Rattle.abstract_state.specs.declared.value.PartValue.{PartValue}
-use Rattle.abstract_state.specs.declared.table.{Entry.{Entry}, TableRow.{TableRow}, Table.{Table}}
+use Rattle.abstract_state.specs.declared.table.{PlainEntry.{PlainEntry}, TableRow.{TableRow}, PlainTable.{PlainTable}}
 use Rattle.abstract_state.specs.Components.{component_count}
 use Rattle.abstract_state.specs.Tables.{Sets, set_at, is_member, sets_of}
 use Rattle.abstract_state.specs.Written.{IsRow}
 use Rattle.flow_model.specs.Effects.{AreAllAllowed}
+use Rattle.numbered_sets.specs.PlainTables.{row_at}
 use Rattle.state_flow.specs.declared.cells.Cell.{Cell}
 
-abbrev pub row_at : Point → Entry → TableRow
-row_at p entry = record { point = p; entry = entry }
-
-abbrev pub row_of : Cell Entry → TableRow
+abbrev pub row_of : Cell PlainEntry → TableRow
 row_of cell = row_at cell.point cell.entry
 
 -- the table that cells stand for, and what it says
-abbrev pub table_of : List (Cell Entry) → Table
+abbrev pub table_of : List (Cell PlainEntry) → PlainTable
 table_of cells = record { rows = map row_of cells }
 
-abbrev pub sets_in : List (Cell Entry) → Sets
+abbrev pub sets_in : List (Cell PlainEntry) → Sets
 sets_in cells = sets_of (table_of cells)
 
 -- each component has a value
-abbrev pub IsFilled : App → Entry → Type 0
+abbrev pub IsFilled : App → PlainEntry → Type 0
 IsFilled app entry = (c : ℕ) → c < component_count app → (v : PartValue) × IsTrue (is_member (set_at entry c) v)
 
 -- A row of a proper table: its values are allowed at its point, and no set is empty.

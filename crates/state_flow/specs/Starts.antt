@@ -7,7 +7,7 @@ use Rattle.osek_standard.specs.Kernel.{start}
 use Rattle.osek_standard.specs.Points.{point_of}
 use Rattle.abstract_state.specs.declared.value.{Component.{Component}, Domain.{Domain}, PartValue.{PartValue}}
 use Rattle.abstract_state.specs.declared.value.Component.TheVariants as component
-use Rattle.abstract_state.specs.declared.table.{ValueSet.{ValueSet}, Entry.{Entry}, TableRow.{TableRow}}
+use Rattle.abstract_state.specs.declared.table.{ValueSet.{ValueSet}, PlainEntry.{PlainEntry}, TableRow.{TableRow}}
 use Rattle.abstract_state.specs.Components.{components, part_of, abstract_of}
 use Rattle.abstract_state.specs.Domains.{domain_of}
 use Rattle.abstract_state.specs.Tables.{Sets, Inductive}
@@ -24,7 +24,7 @@ abbrev pub single : Domain → PartValue → ValueSet
 single d v = record { domain = d; members = v ∷ [] }
 
 -- The entry that has a state alone.
-abbrev pub entry_of : App → State → Entry
+abbrev pub entry_of : App → State → PlainEntry
 entry_of app s = record { sets = map (λ k. single (domain_of app k) (part_of s k)) (components app) }
 
 -- The row of the start in a mode: the start is in each table that has the row, and each inductive table has it.

@@ -3,7 +3,7 @@ ghost use Rattle.std.specs.Prelude.{◌≡◌, ◌≤◌, IfOk, IfErr, OnOk, IfS
 ghost use Rattle.state_flow.specs.Cells.{AreInOrder, IsPlaceOf, IsGapFor, IsBehind, NoneWaitsFrom, IsFirstWaiting, IsNextWaiting, MayJoin, IsJoined};
 ghost use Rattle.osek_standard.specs.Points.{point_number};
 
-use entry_lattice::Lattice;
+use crate::lattice::Lattice;
 use osek_standard::Point;
 use osek_values::Memory;
 use std::alloc::Global;

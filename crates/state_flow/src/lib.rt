@@ -1,10 +1,19 @@
-//! The points that are reached on the way to the least table, and the rows of its starts.
+//! The least table of an application: lattices, the points that are reached, and the rounds until no entry grows.
 #![tactic(auto)]
 
 mod cells;
+mod counts;
+mod entry;
+mod evaluation;
+mod joining;
+mod lattice;
+mod least_table;
+mod numbered;
+mod numbered_cells;
 mod starts;
 mod state_row;
 
-pub use cells::{Cell, join, next_waiting, place_behind};
-pub use starts::start_row;
+pub use counts::values;
+pub use lattice::Lattice;
+pub use least_table::solve;
 pub use state_row::row_of;

@@ -4,11 +4,12 @@ ghost use Rattle.osek_standard.specs.Points.{point_of as point_of_state};
 ghost use Rattle.osek_standard.specs.Well.{Well};
 ghost use Rattle.abstract_state.specs.Components.{IsComponent, value_in as value_of_activity, is_armed as is_armed_state, part_of};
 ghost use Rattle.abstract_state.specs.Domains.{domain_of as domain_of_component};
-ghost use Rattle.state_flow.specs.Rows.{row_at, IsProperRow};
+ghost use Rattle.numbered_sets.specs.PlainTables.{row_at};
+ghost use Rattle.state_flow.specs.Rows.{IsProperRow};
 ghost use Rattle.state_flow.specs.Starts.{HasPart, single as single_set, entry_of as entry_of_state};
 
 use abstract_state::{
-    Component, Domain, Entry, LiveVal, PartValue, TableRow, Val, ValueSet, components,
+    Component, Domain, LiveVal, PartValue, PlainEntry, TableRow, Val, ValueSet, components,
     masks_are_few,
 };
 use generic_kernel::point_of;
@@ -30,7 +31,7 @@ pub fn row_of(alloc: Global, app: &App, state: &State) -> Result<TableRow, Memor
 }
 
 /// The entry that has one state alone.
-fn entry_of(alloc: Global, app: &App, state: &State) -> Result<Entry, Memory>
+fn entry_of(alloc: Global, app: &App, state: &State) -> Result<PlainEntry, Memory>
     requires { Well app.now state.now }
     ensures { IfOk result (λ entry. entry ≡ entry_of_state app.now state.now) }
 {
@@ -40,7 +41,7 @@ fn entry_of(alloc: Global, app: &App, state: &State) -> Result<Entry, Memory>
         let domain = domain_of(app, *component);
         sets.push(single(alloc, domain, part(state, *component))?)?;
     }
-    Ok(Entry {
+    Ok(PlainEntry {
         sets: Seq::of(sets),
     })
 }
@@ -79,9 +80,7 @@ fn part(state: &State, component: Component) -> PartValue
 {
     match component {
         Component::Task(task) => PartValue::OfTask(value_in(&state.task(task).activity)),
-        Component::Event { task, bit } => {
-            PartValue::OfEvent(state.task(task).events.has(bit.0))
-        }
+        Component::Event { task, bit } => { PartValue::OfEvent(state.task(task).events.has(bit.0)) }
         Component::Alarm(alarm) => PartValue::OfAlarm(is_armed(state.alarm(alarm))),
     }
 }

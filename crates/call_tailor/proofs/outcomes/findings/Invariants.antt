@@ -1,6 +1,6 @@
 use Rattle.std.proofs.Common.{take}
 use Rattle.numbered_sets.specs.Pools.{IsLonger}
-use Rattle.numbered_levels.specs.Levels.{AreLevels}
+use Rattle.flow_rules.specs.Levels.{AreLevels}
 use Rattle.call_tailor.specs.Outcomes.{AreFound}
 use Rattle.call_tailor.proofs.outcomes.findings.Given as goal
 

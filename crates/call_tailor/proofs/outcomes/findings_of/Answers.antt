@@ -1,11 +1,11 @@
 use Rattle.std.proofs.Common.{◌∙◌, List, subst, take}
 use Rattle.std.proofs.lemmas.List.{take_all}
 use Rattle.flow_exits.specs.declared.exit.Exit.{Exit}
-use Rattle.numbered_exits.specs.declared.group.ExitGroup.{ExitGroup}
-use Rattle.numbered_exits.specs.Groups.{all_exits}
-use Rattle.numbered_exits.proofs.LeavingPoints.{filled_numbers}
-use Rattle.numbered_table.specs.PlainTables.{plain_row}
-use Rattle.numbered_table.proofs.WrittenRows.{number_domains_of}
+use Rattle.flow_rules.specs.declared.group.ExitGroup.{ExitGroup}
+use Rattle.flow_rules.specs.Groups.{all_exits}
+use Rattle.flow_rules.proofs.LeavingPoints.{filled_numbers}
+use Rattle.numbered_sets.specs.PlainTables.{plain_row}
+use Rattle.numbered_sets.proofs.WrittenRows.{number_domains_of}
 use Rattle.call_tailor.specs.Outcomes.{AreOfExits}
 use Rattle.call_tailor.proofs.ExitOutcomes.{findings_of_none, groups_more, of_all_exits}
 use Rattle.call_tailor.proofs.outcomes.findings_of.Goals as goal

@@ -1,6 +1,6 @@
 use Rattle.std.proofs.Common.{List, take}
 use Rattle.numbered_sets.specs.Pools.{Values}
-use Rattle.numbered_exits.specs.Groups.{all_exits}
+use Rattle.flow_rules.specs.Groups.{all_exits}
 use Rattle.call_tailor.specs.Outcomes.{AreOfExits}
 use Rattle.call_tailor.proofs.outcomes.findings_of.Given as goal
 

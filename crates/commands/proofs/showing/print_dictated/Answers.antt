@@ -1,6 +1,6 @@
 -- a prefix of the sites' lines, of the edges' behind them, or of the last line
 use Rattle.std.proofs.Common.{◌++◌, List, length, subst}
-use Rattle.global_cfg.specs.declared.graph.FlowEdge.{FlowEdge}
+use Rattle.abstract_state.specs.declared.edge.FlowEdge.{FlowEdge}
 use Rattle.image_model.specs.declared.image.Version.TheVariants as version
 use Rattle.flow_text.specs.{FlowLines.{counts_line}, Texts.{sites_text, edges_text, show_text}}
 use Rattle.osek_io.specs.Sunk.{sunk}

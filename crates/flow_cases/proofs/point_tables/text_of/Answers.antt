@@ -4,7 +4,7 @@ use Rattle.std.proofs.lemmas.List.{length-map}
 use Rattle.abstract_state.specs.declared.value.Domain.{Domain}
 use Rattle.numbered_sets.specs.Numbers.{Numbers}
 use Rattle.numbered_sets.specs.Pools.{Values}
-use Rattle.numbered_table.specs.declared.table.NumberedRow.{NumberedRow}
+use Rattle.numbered_sets.specs.declared.table.NumberedRow.{NumberedRow}
 use Rattle.flow_cases.proofs.point_tables.text_of.Goals as goal
 
 -- a row has a set for each component of the pool

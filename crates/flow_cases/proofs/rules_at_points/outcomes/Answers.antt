@@ -1,7 +1,7 @@
 use Rattle.std.proofs.Common.{◌≡◌, List, [], ◌∷◌, map, refl, sym, ap, subst, ◌∙◌}
 use Rattle.std.specs.Prelude.{Contains}
 use Rattle.abstract_state.specs.declared.value.Domain.{Domain}
-use Rattle.abstract_state.specs.declared.table.Entry.{Entry}
+use Rattle.abstract_state.specs.declared.table.PlainEntry.{PlainEntry}
 use Rattle.abstract_state.specs.Domains.{domains}
 use Rattle.flow_model.specs.declared.rule.Rule.{Rule}
 use Rattle.flow_model.specs.Effects.{AreAllAllowed}
@@ -9,8 +9,8 @@ use Rattle.numbered_sets.specs.Pools.{no_values, pool_domains}
 use Rattle.numbered_sets.specs.Views.{plain_entry}
 use Rattle.numbered_sets.proofs.ViewLaws.{same_view, still_known, same_domains}
 use Rattle.numbered_sets.proofs.NumberingLaws.{longer_onward}
-use Rattle.numbered_rules.specs.Applying.{KeepsDomains}
-use Rattle.numbered_rules.proofs.KeptDomains.{exact_keep}
+use Rattle.flow_rules.specs.Applying.{KeepsDomains}
+use Rattle.flow_rules.proofs.KeptDomains.{exact_keep}
 use Rattle.flow_cases.proofs.rules_at_points.outcomes.Goals as goal
 
 domains_kept : (ds : List Domain) → pool_domains (map no_values ds) ≡ ds
@@ -36,7 +36,7 @@ apply-requires-clause-domains c =
     let entry = c.in_ok-entry.entry in
     let rule = c.rule-item.result in
     let plain = c.in_ok-entry.ensures.plain in
-    let exact = c.in_ok-found.ensures.exact (subst (λ (e : Entry). AreAllAllowed app point e) (sym plain) c.requires.allowed) in
+    let exact = c.in_ok-found.ensures.exact (subst (λ (e : PlainEntry). AreAllAllowed app point e) (sym plain) c.requires.allowed) in
     let among : Contains c.as_slice-rule-items.result.now rule = (c.loop-rule.rule-index, c.loop-rule-test.true, sym c.rule-item.is) in
     let listed = subst (λ (rules : List Rule). Contains rules rule) c.as_slice-rule-items.ensures among in
     let kept = exact_keep app point (plain_entry pool entry) c.in_ok-found.found rule (ap domains plain ∙ c.requires.row.domains) listed exact in

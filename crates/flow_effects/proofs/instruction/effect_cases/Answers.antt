@@ -6,7 +6,7 @@ use Rattle.std.proofs.lemmas.Result.{IfOk-weaker}
 use Rattle.osek_values.specs.declared.memory.Memory.{Memory}
 use Rattle.osek_standard.specs.declared.app.App.{App}
 use Rattle.osek_standard.specs.declared.point.Point.{Point}
-use Rattle.abstract_state.specs.declared.table.Entry.{Entry}
+use Rattle.abstract_state.specs.declared.table.PlainEntry.{PlainEntry}
 use Rattle.abstract_state.specs.Domains.{domains, domains_of}
 use Rattle.flow_model.specs.declared.case.EffectCase.{EffectCase}
 use Rattle.flow_model.specs.Effects.{AreAllAllowed, CoverEffects, AreExactEffects, HaveKnownStays, AreCasesOf}
@@ -16,10 +16,10 @@ module _ (app : App) (p q : Point) (result : Result (List EffectCase) Memory) (i
   there : IfOk result (AreCasesOf app p)
   there = subst (λ (x : Point). IfOk result (AreCasesOf app x)) (sym is) cases
 
-  covering : IfOk result (λ (xs : List EffectCase). (entry : Entry) → domains entry ≡ domains_of app → CoverEffects app p entry xs)
+  covering : IfOk result (λ (xs : List EffectCase). (entry : PlainEntry) → domains entry ≡ domains_of app → CoverEffects app p entry xs)
   covering = IfOk-weaker result (AreCasesOf app p) _ (λ xs h entry same. h.covering entry) there
 
-  exact : IfOk result (λ (xs : List EffectCase). (entry : Entry) → domains entry ≡ domains_of app → AreAllAllowed app p entry → AreExactEffects app p entry xs)
+  exact : IfOk result (λ (xs : List EffectCase). (entry : PlainEntry) → domains entry ≡ domains_of app → AreAllAllowed app p entry → AreExactEffects app p entry xs)
   exact = IfOk-weaker result (AreCasesOf app p) _ (λ xs h entry same. h.exact entry) there
 
   stays : IfOk result (HaveKnownStays app)

@@ -1,5 +1,5 @@
 use Rattle.std.proofs.Common.{◌≡◌, ◌++◌, map, take}
-use Rattle.global_cfg.specs.Edges.{flow_edge}
+use Rattle.abstract_state.specs.Edges.{flow_edge}
 use Rattle.global_cfg.proofs.graph.add_edges.Given as goal
 
 abbrev pub invariant-loop-to : goal.invariant-loop-to

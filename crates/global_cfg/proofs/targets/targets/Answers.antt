@@ -1,11 +1,11 @@
 use Rattle.std.proofs.Common.{rules, [], ◌∙◌, List, subst, take}
 use Rattle.std.proofs.lemmas.List.{take_all}
 use Rattle.flow_exits.specs.declared.exit.Exit.{Exit}
-use Rattle.numbered_exits.specs.declared.group.ExitGroup.{ExitGroup}
-use Rattle.numbered_exits.specs.Groups.{exits_of, all_exits}
-use Rattle.numbered_exits.proofs.LeavingPoints.{filled_numbers}
-use Rattle.numbered_table.specs.PlainTables.{plain_row}
-use Rattle.numbered_table.proofs.WrittenRows.{number_domains_of}
+use Rattle.flow_rules.specs.declared.group.ExitGroup.{ExitGroup}
+use Rattle.flow_rules.specs.Groups.{exits_of, all_exits}
+use Rattle.flow_rules.proofs.LeavingPoints.{filled_numbers}
+use Rattle.numbered_sets.specs.PlainTables.{plain_row}
+use Rattle.numbered_sets.proofs.WrittenRows.{number_domains_of}
 use Rattle.global_cfg.specs.Targets.{AreEndsPut}
 use Rattle.global_cfg.proofs.PointPlaces.{order_none}
 use Rattle.global_cfg.proofs.PuttingIn.{no_exits, exits_then, more_groups}

@@ -1,5 +1,5 @@
 use Rattle.std.proofs.Common.{◌+◌, List, sym, subst, ap, arith}
-use Rattle.abstract_state.specs.declared.table.{ValueSet.{ValueSet}, Entry.{Entry}}
+use Rattle.abstract_state.specs.declared.table.{ValueSet.{ValueSet}, PlainEntry.{PlainEntry}}
 use Rattle.numbered_sets.proofs.PlainLaws.{AreFirstPlain, plain_next, all_plain}
 use Rattle.numbered_sets.proofs.plain_form.plain.Goals as goal
 
@@ -14,5 +14,5 @@ returns c =
     let sets = all_plain c.args.pool.now c.args.entry.now c.loop-component.component c.loop-component.sets (omega (arith, c.loop-component-test.false, c.loop-component.auto.component-end, c.len-component-end.ensures)) c.loop-component.invariant in
     ap (λ (xs : List ValueSet). of xs) sets
   where
-    of : List ValueSet → Entry
+    of : List ValueSet → PlainEntry
     of xs = record { sets = xs }

@@ -1,8 +1,7 @@
 use Rattle.std.proofs.Common.{◌<◌, ◌+◌, length, sym, ap, ◌∙◌, arith}
 use Rattle.abstract_state.specs.Tables.{empty_of}
 use Rattle.numbered_sets.specs.Pools.{values_at}
-use Rattle.numbered_sets.proofs.PlainLaws.{plain_begun, plain_put, plain_whole}
-use Rattle.numbered_sets.proofs.NextNumbers.{plain_skip_to}
+use Rattle.numbered_sets.proofs.PlainLaws.{plain_begun, plain_put, plain_whole, plain_skip_to}
 use Rattle.numbered_sets.proofs.plain_form.plain_set.Goals as goal
 
 pub loop-number-init : goal.loop-number-init

@@ -1,7 +1,6 @@
 use Rattle.std.proofs.Common.{ℕ, ◌+◌, List, [], ◌∷◌, ◌++◌, map, drop, true, ◌∙◌, sym, ap, nat_cmp}
-use Rattle.std.specs.Prelude.{Option, cond, not, if◌then◌else◌}
+use Rattle.std.specs.Prelude.{Option, cond, not, if◌then◌else◌, codes, ◌==◌}
 use Rattle.std.specs.List.{list_any}
-use Rattle.std.specs.Prelude.{codes, ◌==◌}
 use Rattle.oil_tree.specs.declared.tree.Object.{Object}
 use Rattle.std.specs.BTreeSet as tree
 use Rattle.oil_model.specs.Objects.{is_kind, objects_of, priority, line_at}

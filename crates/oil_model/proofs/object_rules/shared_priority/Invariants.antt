@@ -1,6 +1,5 @@
-use Rattle.std.proofs.Common.{◌≡◌, ℕ, List, drop}
+use Rattle.std.proofs.Common.{◌≡◌, ℕ, List, drop, nat_cmp}
 use Rattle.std.specs.Prelude.{codes, map}
-use Rattle.std.proofs.Common.{nat_cmp}
 use Rattle.std.specs.List.{list_any}
 use Rattle.oil_tree.specs.declared.tree.Object.{Object}
 use Rattle.std.specs.BTreeSet as tree

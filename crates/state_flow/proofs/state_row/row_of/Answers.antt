@@ -1,5 +1,6 @@
 use Rattle.std.proofs.Common.{sym, ap₂, subst}
-use Rattle.state_flow.specs.Rows.{row_at, IsProperRow}
+use Rattle.numbered_sets.specs.PlainTables.{row_at}
+use Rattle.state_flow.specs.Rows.{IsProperRow}
 use Rattle.state_flow.proofs.StartEntry.{row_proper}
 use Rattle.state_flow.proofs.state_row.row_of.Goals as goal
 

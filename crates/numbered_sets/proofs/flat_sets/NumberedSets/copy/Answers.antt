@@ -1,6 +1,6 @@
 use Rattle.std.proofs.Common.{ℕ, List, length, ap, ap₂, ◌∙◌, arith}
+use Rattle.bit_words.specs.Words.{bits_of_words}
 use Rattle.abstract_state.specs.declared.value.Domain.{Domain}
-use Rattle.numbered_sets.specs.Numbers.{bits_of_words}
 use Rattle.numbered_sets.specs.FlatSets.{flat_sets}
 use Rattle.numbered_sets.proofs.FlatLaws.{flat_same_further}
 use Rattle.numbered_sets.proofs.flat_sets.NumberedSets.copy.Goals as goal

@@ -1,7 +1,7 @@
 use Rattle.std.proofs.Common.{◌≡◌, ◌≢◌, ◌<◌, ℕ, length, get_or, inl, inr, refl, sym, ap, subst, ◌∙◌, arith}
 use Rattle.std.proofs.lemmas.Bool.{eq-eqb, cases_lt, eqb-true, OnTrue_at}
+use Rattle.bit_words.specs.Further.{further_at}
 use Rattle.numbered_sets.specs.SetLists.{set_of}
-use Rattle.numbered_sets.specs.FlatSets.{further_at}
 use Rattle.numbered_sets.proofs.FlatLaws.{as_many, read_is, some_words}
 use Rattle.numbered_sets.proofs.flat_sets.NumberedSets.is_filled.Goals as goal
 

@@ -2,9 +2,10 @@ use Rattle.std.proofs.Common.{rules, ◌≡◌, ◌<◌, ◌+◌, ◌^◌, ℕ, 
 use Rattle.std.specs.Prelude.{bit_or, count_ones}
 use Rattle.std.specs.Vec.{with_items}
 use Rattle.std.proofs.lemmas.List.{with_items_is}
-use Rattle.numbered_sets.specs.Numbers.{AreWords, bits_of_words}
+use Rattle.bit_words.specs.Words.{AreWords, bits_of_words}
+use Rattle.bit_words.specs.Further.{further_bits}
 use Rattle.numbered_sets.specs.SetLists.{all_numbers}
-use Rattle.numbered_sets.specs.FlatSets.{further_bits, flat_sets}
+use Rattle.numbered_sets.specs.FlatSets.{flat_sets}
 use Rattle.numbered_sets.proofs.FlatLaws.{flat_count, flat_same_further, as_many, flat_joined, AreWordsJoined, words_joined, further_as_many}
 use Rattle.numbered_sets.proofs.flat_sets.NumberedSets.join_into.Goals as goal
 

@@ -2,10 +2,10 @@ use Rattle.std.proofs.Common.{◌≡◌, ◌∷◌, ◌^◌, ℕ, get_or, set, r
 use Rattle.std.specs.Prelude.{bit_or}
 use Rattle.std.specs.Vec.{with_items}
 use Rattle.std.proofs.lemmas.List.{set-get_or}
-use Rattle.numbered_sets.specs.Numbers.{bits_of_words}
+use Rattle.bit_words.specs.Words.{bits_of_words}
+use Rattle.bit_words.specs.Further.{further_at}
+use Rattle.bit_words.proofs.FirstWords.{put_first}
 use Rattle.numbered_sets.specs.SetLists.{set_of}
-use Rattle.numbered_sets.specs.FlatSets.{further_at}
-use Rattle.numbered_sets.proofs.FirstWords.{put_first}
 use Rattle.numbered_sets.proofs.FlatLaws.{read_is, flat_put, written, still_long}
 use Rattle.numbered_sets.proofs.flat_sets.NumberedSets.put_low.Goals as goal
 

@@ -1,6 +1,7 @@
 use Rattle.std.proofs.Common.{◌∷◌, List, ℕ, ap, ◌∙◌}
+use Rattle.bit_words.specs.Words.{bits_of_words}
 use Rattle.osek_values.specs.Bits.{has_bit}
-use Rattle.numbered_sets.specs.Numbers.{Numbers, bits_of_words, has_number}
+use Rattle.numbered_sets.specs.Numbers.{Numbers, has_number}
 use Rattle.numbered_sets.proofs.numbered_set.NumberedSet.has.Goals as goal
 
 pub returns : goal.returns

@@ -1,6 +1,7 @@
 use Rattle.std.proofs.Common.{◌∷◌, List, ℕ, ap, ◌∙◌}
 use Rattle.std.specs.Prelude.{◌==◌}
-use Rattle.numbered_sets.specs.Numbers.{Numbers, bits_of_words}
+use Rattle.bit_words.specs.Words.{bits_of_words}
+use Rattle.numbered_sets.specs.Numbers.{Numbers}
 use Rattle.numbered_sets.proofs.numbered_set.NumberedSet.is_empty.Goals as goal
 
 pub returns : goal.returns

@@ -1,7 +1,8 @@
 use Rattle.std.proofs.Common.{◌∷◌, List, ℕ, ap, ◌∙◌, arith}
 use Rattle.std.specs.Prelude.{◌==◌, not, bit_and}
-use Rattle.numbered_sets.specs.Numbers.{Numbers, bits_of_words}
-use Rattle.numbered_sets.proofs.OtherWords.{met_in_first, met_in_second, met_further}
+use Rattle.bit_words.specs.Words.{bits_of_words}
+use Rattle.bit_words.proofs.OtherWords.{met_in_first, met_in_second, met_further}
+use Rattle.numbered_sets.specs.Numbers.{Numbers}
 use Rattle.numbered_sets.proofs.numbered_set.NumberedSet.meets_words.Goals as goal
 
 pub returns-then-low-self-ne0 : goal.returns-then-low-self-ne0

@@ -1,6 +1,7 @@
 use Rattle.std.proofs.Common.{◌∷◌, ap, ◌∙◌, refl}
-use Rattle.numbered_sets.specs.Numbers.{bits_of_words, numbers}
-use Rattle.numbered_sets.proofs.FirstWords.{none_first, bits_of_none}
+use Rattle.bit_words.specs.Words.{bits_of_words}
+use Rattle.bit_words.proofs.FirstWords.{none_first, bits_of_none}
+use Rattle.numbered_sets.specs.Numbers.{numbers}
 use Rattle.numbered_sets.proofs.numbered_set.NumberedSet.new.Goals as goal
 
 pub returns : goal.returns

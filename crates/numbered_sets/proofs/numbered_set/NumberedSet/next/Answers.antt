@@ -1,6 +1,7 @@
 use Rattle.std.proofs.Common.{◌≡◌, ◌∷◌, false, List, ℕ, IsTrue, ap, subst, ◌∙◌}
+use Rattle.bit_words.specs.Words.{bits_of_words}
 use Rattle.osek_values.specs.Bits.{has_bit}
-use Rattle.numbered_sets.specs.Numbers.{Numbers, bits_of_words}
+use Rattle.numbered_sets.specs.Numbers.{Numbers}
 use Rattle.numbered_sets.proofs.numbered_set.NumberedSet.next.Goals as goal
 
 pub returns-clause-has : goal.returns-clause-has

@@ -2,8 +2,9 @@ use Rattle.std.proofs.Common.{rules, ◌≡◌, ◌-◌, ◌^◌, ◌∷◌, len
 use Rattle.std.specs.Prelude.{bit_or}
 use Rattle.std.specs.Vec.{with_items}
 use Rattle.std.proofs.lemmas.List.{with_items_is}
-use Rattle.numbered_sets.specs.Numbers.{Numbers, numbers, bits_of_words, with_number}
-use Rattle.numbered_sets.proofs.FirstWords.{put_first, put_high, put_further, same_further}
+use Rattle.bit_words.specs.Words.{bits_of_words}
+use Rattle.bit_words.proofs.FirstWords.{put_first, put_high, put_further, same_further}
+use Rattle.numbered_sets.specs.Numbers.{Numbers, numbers, with_number}
 use Rattle.numbered_sets.proofs.numbered_set.NumberedSet.put.Goals as goal
 
 pub returns-then-number-lt64-clause-set : goal.returns-then-number-lt64-clause-set

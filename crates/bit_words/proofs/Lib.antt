@@ -1,0 +1,9 @@
+pub mod Counting
+pub mod BitCounts
+pub mod WordLaws
+pub mod KeptWords
+pub mod OtherWords
+pub mod FirstWords
+pub mod FurtherLaws
+pub mod NextNumbers
+pub mod SkippedWords

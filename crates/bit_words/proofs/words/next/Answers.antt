@@ -1,0 +1,37 @@
+use Rattle.std.proofs.Common.{◌*◌, ap, ◌∙◌, inl, inr, arith}
+use Rattle.std.proofs.lemmas.Bool.{cases_lt}
+use Rattle.bit_words.specs.Words.{bits_of_words}
+use Rattle.bit_words.proofs.SkippedWords.{bit_of_word, none_skipped, none_past}
+use Rattle.bit_words.proofs.words.next.Goals as goal
+use Rattle.osek_values.specs.Bits.{has_bit}
+
+pub loop-place-init : goal.loop-place-init
+loop-place-init c = (omega arith, λ k above below. absurd (omega (arith, above, below)))
+
+pub loop-place-preserved : goal.loop-place-preserved
+loop-place-preserved c = (
+  omega (arith, c.loop-place.invariant.0),
+  λ k above below.
+      none_skipped c.args.words.now c.are_words.ensures c.args.from c.loop-place.place c.begin_in.result 64 (omega arith) c.loop-place.invariant.1 c.begin_in.ensures.all
+      (λ r le lt. c.next_bit-bit.ensures.none r le (omega (arith, lt, c.next_bit-bit.ensures.few, c.if-bit-lt64.false))) k above (omega (arith, below)),
+)
+
+pub returns-then-bit-lt64-clause-up : goal.returns-then-bit-lt64-clause-up
+returns-then-bit-lt64-clause-up c =
+    c.at_most.ensures.either c.args.from (omega (arith, c.begin_in.ensures.up c.loop-place.invariant.0, c.next_bit-bit.ensures.up)) c.requires
+
+pub returns-then-bit-lt64-clause-has : goal.returns-then-bit-lt64-clause-has
+returns-then-bit-lt64-clause-has c = λ lt.
+    ap (has_bit (bits_of_words c.args.words.now)) (c.at_most.ensures.is lt)
+    ∙ bit_of_word c.args.words.now c.are_words.ensures c.loop-place.place c.next_bit-bit.result c.if-bit-lt64.true ∙ c.next_bit-bit.ensures.has c.if-bit-lt64.true
+
+pub returns-then-bit-lt64-clause-none : goal.returns-then-bit-lt64-clause-none
+returns-then-bit-lt64-clause-none c = λ k above below.
+    none_skipped c.args.words.now c.are_words.ensures c.args.from c.loop-place.place c.begin_in.result c.next_bit-bit.result c.next_bit-bit.ensures.few c.loop-place.invariant.1 c.begin_in.ensures.all
+    c.next_bit-bit.ensures.none k above (omega (arith, below, c.at_most.ensures.number))
+
+pub returns-clause-none : goal.returns-clause-none
+returns-clause-none c = λ k above below. elim (cases_lt k (64 * c.loop-place.place)) [
+  | inl lt ↦ c.loop-place.invariant.1 k above lt
+  | inr le ↦ none_past c.args.words.now c.are_words.ensures k (omega (arith, le, c.loop-place-test.false))
+]

@@ -1,0 +1,7 @@
+//! Words of 64 bits as sets of numbers: the bits of a list of words, of words of which two stand apart, and of words for
+//! each of several components.
+#![tactic(auto)]
+
+pub mod further;
+pub mod split_words;
+pub mod words;

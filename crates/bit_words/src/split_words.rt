@@ -1,0 +1,72 @@
+//! The words of a set, of which the first two stand apart.
+ghost use Rattle.std.specs.Prelude.{ℕ, List, false, IsTrue, ◌≡◌, ◌∷◌, ◌<◌, ◌≤◌, ◌==◌};
+ghost use Rattle.bit_words.specs.Words.{bits_of_words};
+ghost use Rattle.osek_values.specs.Bits.{has_bit as has_bit_of};
+
+use crate::words;
+
+/// Whether a number's bit is set.
+pub fn has(low: u64, high: u64, more: &[u64], number: usize) -> bool
+    ensures { result ≡ has_bit_of (bits_of_words (low ∷ high ∷ more.now)) number }
+{
+    if number < 64 {
+        return words::has_bit(low, number);
+    }
+    if number < 128 {
+        return words::has_bit(high, number - 64);
+    }
+    words::has(more, number - 128)
+}
+
+/// The first number from one on whose bit is set, if it is below a bound; else the bound.
+pub fn next(low: u64, high: u64, more: &[u64], from: usize, below: usize) -> usize
+    requires { from ≤ below }
+    ensures up { from ≤ result }
+    ensures few { result ≤ below }
+    ensures has { result < below → IsTrue (has_bit_of (bits_of_words (low ∷ high ∷ more.now)) result) }
+    ensures none { (k : ℕ) → from ≤ k → k < result → has_bit_of (bits_of_words (low ∷ high ∷ more.now)) k ≡ false }
+{
+    let number = next_of_two(low, high, from);
+    if number >= below {
+        return below;
+    }
+    if number < 128 {
+        return number;
+    }
+    let further = words::next(more, number - 128, below - 128);
+    128 + further
+}
+
+// the first number of the first two words from one on; where there is none a number that is in neither
+fn next_of_two(low: u64, high: u64, from: usize) -> usize
+    ensures up { from ≤ result }
+    ensures has { result < 128 → (ws : List ℕ) → IsTrue (has_bit_of (bits_of_words (low ∷ high ∷ ws)) result) }
+    ensures none { (k : ℕ) → from ≤ k → k < result → (ws : List ℕ) → has_bit_of (bits_of_words (low ∷ high ∷ ws)) k ≡ false }
+{
+    if from >= 128 {
+        return from;
+    }
+    if from >= 64 {
+        let next = words::next_bit(high, from - 64);
+        return 64 + next;
+    }
+    let number = words::next_bit(low, from);
+    if number < 64 {
+        return number;
+    }
+    let next = words::next_bit(high, 0);
+    64 + next
+}
+
+/// Whether no bit is set.
+pub fn are_clear(low: u64, high: u64, more: &[u64]) -> bool
+    ensures { result ≡ (bits_of_words (low ∷ high ∷ more.now) == 0) }
+{
+    if low != 0 {
+        return false;
+    }
+    if high != 0 {
+        return false;
+    }
+    words::are_clear(more)
+}

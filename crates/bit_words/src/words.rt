@@ -1,0 +1,310 @@
+//! Words of 64 bits, with a bit for each number.
+ghost use Rattle.std.specs.Prelude.{ℕ, false, IsTrue, ◌≡◌, ◌<◌, ◌≤◌, ◌+◌, ◌*◌, ◌/◌, ◌^◌, ◌==◌, not, bit_and, bit_or, bit_xor, count_ones, length, replicate, slice_index_or, slice_set, IfOk, OnOk, OnErr};
+ghost use Rattle.std.specs.Bool.{OnTrue};
+ghost use Rattle.bit_words.specs.Words.{AreWords, bits_of_words};
+ghost use Rattle.osek_values.specs.Bits.{has_bit as has_bit_of};
+
+use osek_values::Memory;
+use std::alloc::Global;
+
+/// Whether a bit of a word is set.
+pub fn has_bit(bits: u64, bit: usize) -> bool
+    requires { bit < 64 }
+    ensures { result ≡ has_bit_of bits bit }
+{
+    (bits >> bit) % 2 == 1
+}
+
+/// Each has 64 bits, as its type says.
+pub fn are_words(words: &[u64])
+    ensures { AreWords words.now }
+{}
+
+/// Each of two has 64 bits, as its type says.
+pub fn are_two_words(low: u64, high: u64)
+    ensures low { low < 2 ^ 64 }
+    ensures high { high < 2 ^ 64 }
+{}
+
+/// Whether a number's bit is set.
+pub fn has(words: &[u64], number: usize) -> bool
+    ensures { result ≡ has_bit_of (bits_of_words words.now) number }
+{
+    let place = number / 64;
+    place < words.len() && has_bit(words[place], number % 64)
+}
+
+/// Makes room for so many words. No bit changes.
+pub fn widen(words: &mut Vec<u64>, count: usize) -> Result<(), Memory>
+    ensures room { OnOk result (count ≤ length words.new.items) }
+    ensures same { bits_of_words words.new.items ≡ bits_of_words words.old.items }
+{
+    for _length in words.len()..count {
+        words.push(0)?;
+    }
+    Ok(())
+}
+
+/// Sets a number's bit.
+pub fn put(words: &mut [u64], number: usize)
+    requires { number / 64 < length words.old }
+    ensures { bits_of_words words.new ≡ bit_or (bits_of_words words.old) (2 ^ number) }
+{
+    are_words(words);
+    let place = number / 64;
+    words[place] = words[place] | 1 << (number % 64);
+}
+
+/// The first bit of a word from one on that is set; 64 where none is.
+pub fn next_bit(word: u64, from: usize) -> usize
+    requires { from < 64 }
+    ensures up { from ≤ result }
+    ensures few { result ≤ 64 }
+    ensures has { result < 64 → IsTrue (has_bit_of word result) }
+    ensures none { (k : ℕ) → from ≤ k → k < result → has_bit_of word k ≡ false }
+{
+    let rest = word >> from;
+    if rest == 0 {
+        return 64;
+    }
+    from + rest.trailing_zeros() as usize
+}
+
+/// The first number from one on whose bit is set, if it is below a bound; else the bound.
+pub fn next(words: &[u64], from: usize, below: usize) -> usize
+    requires { from ≤ below }
+    ensures up { from ≤ result }
+    ensures few { result ≤ below }
+    ensures has { result < below → IsTrue (has_bit_of (bits_of_words words.now) result) }
+    ensures none { (k : ℕ) → from ≤ k → k < result → has_bit_of (bits_of_words words.now) k ≡ false }
+{
+    are_words(words);
+    for place in from / 64..words.len() {
+        if place > below / 64 {
+            return below;
+        }
+        let bit = next_bit(words[place], begin_in(place, from));
+        if bit < 64 {
+            return at_most(64 * place + bit, below);
+        }
+    }
+    below
+}
+
+// where the numbers from one on begin in the word at a place
+fn begin_in(place: usize, from: usize) -> usize
+    ensures bit { result < 64 }
+    ensures up { from / 64 ≤ place → from ≤ 64 * place + result }
+    ensures all { (k : ℕ) → from ≤ k → 64 * place ≤ k → 64 * place + result ≤ k }
+{
+    if place > from / 64 {
+        return 0;
+    }
+    from % 64
+}
+
+fn at_most(number: usize, bound: usize) -> usize
+    ensures number { result ≤ number }
+    ensures bound { result ≤ bound }
+    ensures is { result < bound → result ≡ number }
+    ensures either { (k : ℕ) → k ≤ number → k ≤ bound → k ≤ result }
+{
+    if number < bound {
+        return number;
+    }
+    bound
+}
+
+/// A word with a bit more.
+pub fn with_bit(word: u64, bit: usize) -> u64
+    requires { bit < 64 }
+    ensures { result ≡ bit_or word (2 ^ bit) }
+{
+    word | 1 << bit
+}
+
+/// How many bits the other word has that this one lacks.
+pub fn new_bits(word: u64, other: u64) -> u64
+    ensures count { count_ones (bit_or word other) ≡ count_ones word + result }
+    ensures few { result ≤ count_ones other }
+{
+    let both = word | other;
+    if both == word {
+        return 0;
+    }
+    (both.count_ones() - word.count_ones()) as u64
+}
+
+/// Sets the bits of other words too, and tells how many were not set.
+pub fn join(words: &mut [u64], other: &[u64]) -> u64
+    requires room { length other.now ≤ length words.old }
+    requires few { count_ones (bits_of_words other.now) < 2 ^ 64 }
+    ensures words { (i : ℕ) → slice_index_or words.new i 0 ≡ bit_or (slice_index_or words.old i 0) (slice_index_or other.now i 0) }
+    ensures bits { bits_of_words words.new ≡ bit_or (bits_of_words words.old) (bits_of_words other.now) }
+    ensures count { count_ones (bits_of_words words.new) ≡ count_ones (bits_of_words words.old) + result }
+    ensures few { result ≤ count_ones (bits_of_words other.now) }
+{
+    are_words(words);
+    are_words(other);
+    if have_all(words, other) {
+        return 0;
+    }
+    join_each(words, other)
+}
+
+// Whether each bit of other words is set. Most joins bring nothing new, and this has no branch for each word.
+fn have_all(words: &[u64], other: &[u64]) -> bool
+    requires { length other.now ≤ length words.now }
+    ensures { OnTrue result ((i : ℕ) → i < length other.now → slice_index_or words.now i 0 ≡ bit_or (slice_index_or words.now i 0) (slice_index_or other.now i 0)) }
+{
+    let mut all = true;
+    for place in 0..other.len() {
+        if words[place] | other[place] != words[place] {
+            all = false;
+        }
+    }
+    all
+}
+
+// the same, a word after the other
+fn join_each(words: &mut [u64], other: &[u64]) -> u64
+    requires room { length other.now ≤ length words.old }
+    requires few { count_ones (bits_of_words other.now) < 2 ^ 64 }
+    ensures words { (i : ℕ) → slice_index_or words.new i 0 ≡ bit_or (slice_index_or words.old i 0) (slice_index_or other.now i 0) }
+    ensures bits { bits_of_words words.new ≡ bit_or (bits_of_words words.old) (bits_of_words other.now) }
+    ensures count { count_ones (bits_of_words words.new) ≡ count_ones (bits_of_words words.old) + result }
+    ensures few { result ≤ count_ones (bits_of_words other.now) }
+{
+    are_words(words);
+    are_words(other);
+    let mut added = 0;
+    for place in 0..other.len() {
+        let word = words[place];
+        added += new_bits(word, other[place]);
+        words[place] = word | other[place];
+    }
+    added
+}
+
+/// The same words again.
+pub fn copied(alloc: Global, words: &[u64]) -> Result<Vec<u64>, Memory>
+    ensures { IfOk result (λ copy. copy.items ≡ words.now) }
+{
+    if words.is_empty() {
+        return Ok(Vec::new(alloc));
+    }
+    Ok(Vec::from_slice(alloc, words)?)
+}
+
+/// So many words without a bit.
+pub fn clear_words(alloc: Global, count: usize) -> Result<Vec<u64>, Memory>
+    ensures { IfOk result (λ words. words.items ≡ replicate count 0) }
+{
+    Ok(Vec::from_elem(alloc, 0, count)?)
+}
+
+/// Makes the bits those of other words. Where memory is wanted they stay what they were.
+pub fn assign(words: &mut Vec<u64>, other: &[u64]) -> Result<(), Memory>
+    ensures bits { OnOk result (bits_of_words words.new.items ≡ bits_of_words other.now) }
+    ensures err { OnErr result (bits_of_words words.new.items ≡ bits_of_words words.old.items) }
+{
+    widen(words, other.len())?;
+    put_all(words.as_mut_slice(), other);
+    Ok(())
+}
+
+/// Makes the bits those of other words, of which there are no more.
+pub fn put_all(words: &mut [u64], other: &[u64])
+    requires { length other.now ≤ length words.old }
+    ensures { bits_of_words words.new ≡ bits_of_words other.now }
+{
+    for place in 0..words.len() {
+        words[place] = word_at(other, place);
+    }
+}
+
+/// The word at a place; past the end it is 0.
+pub fn word_at(words: &[u64], place: usize) -> u64
+    ensures word { result ≡ slice_index_or words.now place 0 }
+    ensures fits { result < 2 ^ 64 }
+{
+    if place < words.len() { words[place] } else { 0 }
+}
+
+/// Puts a word in the place of another, if there is one.
+pub fn replace(words: &mut [u64], place: usize, word: u64)
+    ensures { words.new ≡ slice_set words.old place word }
+{
+    if place < words.len() {
+        words[place] = word;
+    }
+}
+
+/// Whether each word has a bit, or the one at its place among others.
+pub fn have_bits(words: &[u64], other: &[u64]) -> bool
+    requires { length other.now ≡ length words.now }
+    ensures { OnTrue result ((i : ℕ) → i < length words.now → 0 < slice_index_or words.now i 0 + slice_index_or other.now i 0) }
+{
+    let mut all = true;
+    for place in 0..words.len() {
+        if words[place] | other[place] == 0 {
+            all = false;
+        }
+    }
+    all
+}
+
+/// Clears the bits that other words lack.
+pub fn keep(words: &mut [u64], other: &[u64])
+    ensures { bits_of_words words.new ≡ bit_and (bits_of_words words.old) (bits_of_words other.now) }
+{
+    are_words(words);
+    are_words(other);
+    for place in 0..words.len() {
+        words[place] = words[place] & word_at(other, place);
+    }
+}
+
+/// Clears the bits that other words have.
+pub fn leave_out(words: &mut [u64], other: &[u64])
+    ensures { bits_of_words words.new ≡ bit_xor (bits_of_words words.old) (bit_and (bits_of_words words.old) (bits_of_words other.now)) }
+{
+    are_words(words);
+    are_words(other);
+    for place in 0..words.len() {
+        words[place] = without(words[place], word_at(other, place));
+    }
+}
+
+/// The bits of a word that another lacks.
+pub fn without(word: u64, other: u64) -> u64
+    ensures { result ≡ bit_xor word (bit_and word other) }
+{
+    word ^ (word & other)
+}
+
+/// Whether some bit is set in both.
+pub fn meet(words: &[u64], other: &[u64]) -> bool
+    ensures { result ≡ not (bit_and (bits_of_words words.now) (bits_of_words other.now) == 0) }
+{
+    are_words(words);
+    are_words(other);
+    for place in 0..words.len() {
+        if words[place] & word_at(other, place) != 0 {
+            return true;
+        }
+    }
+    false
+}
+
+/// Whether no bit is set.
+pub fn are_clear(words: &[u64]) -> bool
+    ensures { result ≡ (bits_of_words words.now == 0) }
+{
+    for word in words {
+        if *word != 0 {
+            return false;
+        }
+    }
+    true
+}

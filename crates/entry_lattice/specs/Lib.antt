@@ -1,2 +1,0 @@
-pub mod EntryOrder
-pub mod NumberOrder

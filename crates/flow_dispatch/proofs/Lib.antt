@@ -1,3 +1,0 @@
-pub mod KernelDecides
-pub mod PriorityTests
-pub mod ClaimLaws

@@ -1,5 +1,0 @@
-pub mod Candidates
-pub mod Claims
-pub mod Deciding
-pub mod Needs
-pub mod Outcomes

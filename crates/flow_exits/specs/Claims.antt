@@ -1,0 +1,40 @@
+-- Who is to have the processor, and what the other tasks may be then.
+use Rattle.std.specs.Prelude.{◌≡◌, ℕ, ◌+◌, ◌<◌, Bool, true, false, nat_lt, ◌==◌, List, length, if◌then◌else◌, IsTrue, Some, None}
+use Rattle.std.specs.declared.option.Option.{Option}
+use Rattle.osek_values.specs.declared.numbers.{TaskNo.{TaskNo}}
+use Rattle.osek_standard.specs.declared.app.App.{App}
+use Rattle.osek_standard.specs.States.{is_that_task}
+use Rattle.abstract_state.specs.declared.value.{Val.{Val}, Val.TheVariants.{Suspended, Live, Waiting}, PartValue.{PartValue}}
+use Rattle.abstract_state.specs.Components.{IsVal}
+use Rattle.abstract_state.specs.Concrete.{val_of}
+use Rattle.flow_model.specs.declared.{change.Change.{Change}, test.Condition.{Condition}}
+use Rattle.flow_model.specs.Values.{value_priority}
+use Rattle.flow_model.specs.Scheduling.{may_tie}
+use Rattle.flow_model.specs.Tests.{PassesAll, values_after}
+use Rattle.flow_exits.specs.declared.claim.Claim.{Claim}
+use Rattle.flow_exits.specs.declared.claim.Claim.TheVariants as claim
+
+-- the limit of a task beside the best one: the running task is lower, and one with the same priority has to go after it
+abbrev pub limit_beside : TaskNo → ℕ → Option TaskNo → ℕ → ℕ
+limit_beside best p over u = if is_that_task over u then p else if may_tie best.0 u then p + 1 else p
+
+-- What a task's current priority has to be below if it is Live.
+abbrev pub limit_of : Claim → ℕ → Option ℕ
+limit_of claim.Nobody u = Some 0
+limit_of (claim.Keeps running p) u = if u == running.0 then None else Some (p + 1)
+limit_of (claim.Gets best p over) u = if u == best.0 then None else Some (limit_beside best p over u)
+
+module _ (app : App) where
+  -- a task that is Live is below the limit
+  abbrev pub is_below : ℕ → ℕ → Val → Bool
+  is_below u limit Suspended = true
+  is_below u limit (Live x) = nat_lt (value_priority app u (Live x)) limit
+  is_below u limit (Waiting b) = true
+
+  abbrev pub is_under : ℕ → Option ℕ → Val → Bool
+  is_under u None v = true
+  is_under u (Some limit) v = is_below u limit v
+
+  -- with these values the tasks below n are under their limits
+  abbrev pub AreUnder : Claim → ℕ → (ℕ → PartValue) → Type 0
+  AreUnder claim n value = (u : ℕ) → u < n → IsTrue (is_under u (limit_of claim u) (val_of (value u)))

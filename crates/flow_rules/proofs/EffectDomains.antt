@@ -1,0 +1,35 @@
+-- What an exact effect makes of the values of an entry lies in their domains.
+use Rattle.std.proofs.Common.{◌≡◌, List, ap, subst, ◌∙◌}
+use Rattle.std.specs.Prelude.{Contains}
+use Rattle.osek_standard.specs.declared.app.App.{App}
+use Rattle.osek_standard.specs.declared.state.State.{State}
+use Rattle.osek_standard.specs.declared.point.Point.{Point}
+use Rattle.osek_standard.specs.Points.{point_of}
+use Rattle.osek_standard.specs.Effects.{effect}
+use Rattle.osek_standard.specs.Well.{Well}
+use Rattle.osek_standard.proofs.EffectKeeps.{effect_keeps}
+use Rattle.abstract_state.specs.declared.{table.PlainEntry.{PlainEntry}}
+use Rattle.abstract_state.specs.Components.{component_at, abstract_of}
+use Rattle.abstract_state.specs.Domains.{IsWithin, domain_of, domains, domains_of}
+use Rattle.abstract_state.proofs.AllowedLaws.{well_part}
+use Rattle.abstract_state.proofs.DomainValues.{allowed_within}
+use Rattle.flow_model.specs.declared.case.EffectCase.{EffectCase}
+use Rattle.flow_model.specs.Tests.{value_after}
+use Rattle.flow_model.specs.Effects.{AreExactEffects}
+use Rattle.flow_exits.specs.Leaving.{effect_rule}
+use Rattle.flow_rules.specs.Passing.{StaysInDomains}
+use Rattle.flow_rules.specs.Applying.{KeepsDomains}
+use Rattle.flow_rules.proofs.KeptDomains.{shared_keep}
+
+-- the effect of a well-formed state leaves well-formed parts
+effect_stays : (app : App) (p : Point) (entry : PlainEntry) (effects : List EffectCase) (x : EffectCase) → Contains effects x → AreExactEffects app p entry effects → StaysInDomains app entry (effect_rule x)
+effect_stays app p entry effects x listed exact value within passes c lt =
+    let shown = exact x value listed within passes in
+    let s = shown.from in
+    let then : State = (effect app s shown.choice).state in
+    let well : Well app then = effect_keeps app s shown.has.well shown.choice in
+    let made : abstract_of app then c ≡ value_after x.changes c (value c) = shown.effect.parts c lt ∙ ap (value_after x.changes c) (shown.has.parts c lt) in
+    subst (IsWithin (domain_of app (component_at app c))) made (allowed_within app (point_of then) c (abstract_of app then c) lt (well_part app then well c lt))
+
+pub effect_keeps_domains : (app : App) (p : Point) (entry : PlainEntry) (effects : List EffectCase) (x : EffectCase) → domains entry ≡ domains_of app → Contains effects x → AreExactEffects app p entry effects → KeepsDomains (effect_rule x) entry
+effect_keeps_domains app p entry effects x alike listed exact = shared_keep app entry (effect_rule x) alike (effect_stays app p entry effects x listed exact)

@@ -1,0 +1,192 @@
+-- The exits of one group: each choice of its values has one, and stands where that ends.
+use Rattle.std.proofs.Common.{◌≡◌, ℕ, ◌<◌, ◌≤◌, false, List, [], ◌∷◌, ◌++◌, length, map, get_or, refl, sym, ap, subst, ◌∙◌, inl, inr, arith, Some, None}
+use Rattle.std.specs.Prelude.{⊤, Contains}
+use Rattle.std.proofs.lemmas.List.{get_or_default}
+use Rattle.osek_standard.specs.declared.app.App.{App}
+use Rattle.osek_standard.specs.declared.point.Point.{Point}
+use Rattle.osek_standard.specs.declared.point.Point.TheVariants as point
+use Rattle.osek_standard.proofs.Members.{among_map, map_among, among_contained, contained_among}
+use Rattle.abstract_state.specs.declared.value.{PartValue.{PartValue}, PartValue.TheVariants.{OfAlarm}}
+use Rattle.abstract_state.specs.Components.{component_count}
+use Rattle.abstract_state.specs.Concrete.{val_of}
+use Rattle.abstract_state.proofs.ComponentLaws.{task_counted}
+use Rattle.flow_model.specs.declared.case.Decision.{Decision}
+use Rattle.flow_model.specs.declared.case.Decision.TheVariants as decision
+use Rattle.flow_model.specs.Values.{block_of}
+use Rattle.flow_model.specs.Effects.{AreIn, stay_point, IsKnownStay}
+use Rattle.flow_model.specs.Scheduling.{end_point}
+use Rattle.flow_model.specs.declared.case.Stay.{Stay}
+use Rattle.flow_model.specs.declared.case.Stay.TheVariants as stay
+use Rattle.flow_model.specs.declared.case.Leaving.{Leaving}
+use Rattle.numbered_sets.specs.declared.numbered_entry.NumberedEntry.{NumberedEntry}
+use Rattle.numbered_sets.specs.NumberedEntries.{AreFilled}
+use Rattle.numbered_sets.specs.Pools.{Values, values_at, IsNumberOf}
+use Rattle.numbered_sets.specs.Views.{plain_entry, AreNumbersOf}
+use Rattle.flow_exits.specs.declared.exit.Exit.{Exit}
+use Rattle.flow_exits.specs.Exits.{IsFilled}
+use Rattle.flow_exits.specs.Leaving.{HasDecided}
+use Rattle.flow_rules.specs.declared.group.{NumberEnd.{NumberEnd}, Ends.{Ends}, ExitGroup.{ExitGroup}}
+use Rattle.flow_rules.specs.declared.group.Ends.TheVariants as ends
+use Rattle.flow_rules.specs.Groups.{holding, exit_at, exits_by, all_exits, AreKnownEnds}
+use Rattle.flow_rules.specs.Deciding.{AreBlockEnds, AreBlocks, AreEndsBy, AddsOne, AddsFor, IsGroupFor}
+use Rattle.flow_rules.proofs.GroupLaws.{old_exit, new_exit, exit_cases, known_with}
+use Rattle.flow_rules.proofs.NumberLaws.{member_number, filled_plain}
+use Rattle.flow_rules.proofs.HeldLaws.{held_is, held_within, held_in, held_filled}
+
+-- an entry with numbers of the pool, of which each component has one
+pub record IsSound (app : App) (pool : List Values) (entry : NumberedEntry) : Type 0 where
+  pub size : component_count app ≤ length entry.sets
+  pub numbers : AreNumbersOf pool entry
+  pub filled : AreFilled entry
+
+-- where a task's value stands
+abbrev block_point : ℕ → (ℕ → PartValue) → Point
+block_point c value = point.Task (block_of (val_of (value c)))
+
+module _ (app : App) (pool : List Values) (g : ExitGroup) (where_to : (ℕ → PartValue) → Point) where
+  -- an exit with values of the group, which stands where each choice of them does
+  record IsExitTo (x : Exit) : Type 0 where
+    decision : x.decision ≡ g.decision
+    status : x.status ≡ g.status
+    filled : IsFilled app x.entry
+    within : (value : ℕ → PartValue) → AreIn app x.entry value → AreIn app (plain_entry pool g.entry) value
+    target : (value : ℕ → PartValue) → AreIn app x.entry value → x.target ≡ where_to value
+
+  record HasExitTo (xs : Ends) (value : ℕ → PartValue) : Type 0 where
+    exit : Exit
+    listed : Contains (exits_by pool g xs) exit
+    decision : exit.decision ≡ g.decision
+    status : exit.status ≡ g.status
+    within : AreIn app exit.entry value
+    target : exit.target ≡ where_to value
+
+  -- the exits at these ends are such ones, and each choice of values has one
+  record AreExitsTo (xs : Ends) : Type 0 where
+    known : AreKnownEnds pool g.entry xs
+    each : (x : Exit) → Contains (exits_by pool g xs) x → IsExitTo x
+    whole : (value : ℕ → PartValue) → AreIn app (plain_entry pool g.entry) value → HasExitTo xs value
+
+  module _ (sound : IsSound app pool g.entry) where
+    one_point : (p : Point) → ((value : ℕ → PartValue) → p ≡ where_to value) → AreExitsTo (ends.At (p ∷ []))
+    one_point p stands = record {
+      known = tt;
+      each = λ x m. elim (contained_among (exit_at pool g g.entry p ∷ []) x m) [
+        | inl same ↦ subst IsExitTo (sym same) (record { decision = refl; status = refl; filled = filled_plain app pool g.entry sound.numbers sound.filled sound.size; within = λ value h. h; target = λ value h. stands value })
+        | inr none ↦ absurd none
+      ];
+      whole = λ value h. record { exit = exit_at pool g g.entry p; listed = (0, omega arith, refl); decision = refl; status = refl; within = h; target = stands value };
+    }
+
+    module _ (c : ℕ) (counted : c < component_count app) (xs : List NumberEnd) (b : AreBlockEnds pool g.entry c xs) (stands : (value : ℕ → PartValue) → block_point c value ≡ where_to value) where
+      there : c < length g.entry.sets
+      there = omega (arith, counted, sound.size)
+
+      abbrev exit_of : NumberEnd → Exit
+      exit_of e = exit_at pool g (holding g.entry c e.number) e.target
+
+      exit_of_end : (e : NumberEnd) → Contains xs e → IsExitTo (exit_of e)
+      exit_of_end e m =
+          let v = get_or (values_at pool c) e.number (OfAlarm false) in
+          let has = (b.each e (OfAlarm false) m).0 in
+          let at = (b.each e (OfAlarm false) m).1 in
+          let lt = sound.numbers.known c e.number has in
+          let is : IsNumberOf (values_at pool c) v e.number = record { known = lt; is = λ d. get_or_default (values_at pool c) e.number d (OfAlarm false) lt } in
+          record {
+            decision = refl;
+            status = refl;
+            filled = held_filled app pool g.entry c e.number v there has is (filled_plain app pool g.entry sound.numbers sound.filled sound.size);
+            within = held_within app pool g.entry c e.number v there has is;
+            target = λ value h. at ∙ ap (λ (w : PartValue). point.Task (block_of (val_of w))) (sym (held_is app pool g.entry c e.number v there has is counted value h)) ∙ stands value;
+          }
+
+      exit_for : (value : ℕ → PartValue) → AreIn app (plain_entry pool g.entry) value → HasExitTo (ends.With c xs) value
+      exit_for value h =
+          let x = member_number pool g.entry c (value c) (h c counted) in
+          let found = b.whole x.number x.has_it in
+          let e = found.0 in
+          let m = found.1 in
+          let is : IsNumberOf (values_at pool c) (value c) e.number = subst (IsNumberOf (values_at pool c) (value c)) (sym found.2) x.is in
+          let has = (b.each e (value c) m).0 in
+          record {
+            exit = exit_of e;
+            listed = among_contained (map exit_of xs) (exit_of e) (among_map exit_of e xs (contained_among xs e m));
+            decision = refl;
+            status = refl;
+            within = held_in app pool g.entry c e.number (value c) there has is value h refl;
+            target = (b.each e (value c) m).1 ∙ ap (λ (w : PartValue). point.Task (block_of (val_of w))) (is.is (value c)) ∙ stands value;
+          }
+
+      with_blocks : AreExitsTo (ends.With c xs)
+      with_blocks = record {
+        known = (there, λ e m. sound.numbers.known c e.number (b.each e (OfAlarm false) m).0);
+        each = λ x m.
+            (let back = map_among exit_of x xs (contained_among (map exit_of xs) x m) in
+            subst IsExitTo (sym back.2) (exit_of_end back.0 (among_contained xs back.0 back.1)));
+        whole = exit_for;
+      }
+
+    at_blocks_of : (c : ℕ) → c < component_count app → (xs : Ends) → AreBlocks pool g.entry c xs → ((value : ℕ → PartValue) → block_point c value ≡ where_to value) → AreExitsTo xs
+    at_blocks_of c lt (ends.At ps) h stands = absurd h
+    at_blocks_of c lt (ends.With k xs) h stands = subst (λ (i : ℕ). AreExitsTo (ends.With i xs)) (sym h.0) (with_blocks c lt xs h.1 stands)
+
+-- a task that gets the processor is one of the application's
+abbrev pub IsKnownDecision : App → Decision → Type 0
+IsKnownDecision app decision.Keep = ⊤
+IsKnownDecision app (decision.To None) = ⊤
+IsKnownDecision app (decision.To (Some w)) = w.0 < length app.tasks
+
+abbrev end_by : App → Stay → Decision → (ℕ → PartValue) → Point
+end_by app where_to d value = end_point app value (stay_point where_to value) d
+
+ends_by : (app : App) (pool : List Values) (g : ExitGroup) → IsSound app pool g.entry → (where_to : Stay) (d : Decision) (xs : Ends) → IsKnownStay app where_to → IsKnownDecision app d → AreEndsBy pool g.entry where_to d xs
+    → AreExitsTo app pool g (end_by app where_to d) xs
+ends_by app pool g sound (stay.At p) decision.Keep xs known _ h = subst (AreExitsTo app pool g (end_by app (stay.At p) decision.Keep)) (sym h) (one_point app pool g (end_by app (stay.At p) decision.Keep) sound p (λ value. refl))
+ends_by app pool g sound (stay.AtBlockOf t) decision.Keep xs known _ h = at_blocks_of app pool g (end_by app (stay.AtBlockOf t) decision.Keep) sound t.0 (task_counted app t.0 known) xs h (λ value. refl)
+ends_by app pool g sound where_to (decision.To None) xs known _ h = subst (AreExitsTo app pool g (end_by app where_to (decision.To None))) (sym h) (one_point app pool g (end_by app where_to (decision.To None)) sound point.Idle (λ value. refl))
+ends_by app pool g sound where_to (decision.To (Some w)) xs _ known h = at_blocks_of app pool g (end_by app where_to (decision.To (Some w))) sound w.0 (task_counted app w.0 known) xs h (λ value. refl)
+
+-- ---- one group more
+
+module _ (app : App) (pool : List Values) (leaving : Leaving) (after : NumberedEntry) (P : (ℕ → PartValue) → Decision → Type 0) (d : Decision) (before : List ExitGroup) (stays : IsKnownStay app leaving.stay) (goes : IsKnownDecision app d) where
+  added : (g : ExitGroup) → g.decision ≡ Some d → g.status ≡ leaving.status → AreEndsBy pool g.entry leaving.stay d g.ends → IsSound app pool g.entry → IsGroupFor app pool leaving after P d g.entry → AddsFor app pool leaving after P before (before ++ g ∷ [])
+  added g decision status by sound group =
+      let all = ends_by app pool g sound leaving.stay d g.ends stays goes by in
+      record {
+        known = λ old. known_with pool before g old (record { numbers = sound.numbers; ends = all.known });
+        kept = old_exit pool before g;
+        each = λ x m. elim (exit_cases pool before g x m) [
+          | inl old ↦ inl old
+          | inr new ↦
+              (let e = all.each x new in
+              inr (record {
+                decision = d;
+                decides = e.decision ∙ decision;
+                status = e.status ∙ status;
+                filled = e.filled;
+                within = λ value h. group.within value (e.within value h);
+                each = λ value h. group.each value (e.within value h);
+                target = e.target;
+              }))
+        ];
+        whole = λ value e within decides p.
+            (let its = group.whole value e within decides p in
+            let x = all.whole value its.1 in
+            subst (λ (f : Decision). HasDecided app leaving (all_exits pool (before ++ g ∷ [])) f value) (sym its.0)
+            (record {
+              exit = x.exit;
+              listed = new_exit pool before g x.exit x.listed;
+              decision = x.decision ∙ decision;
+              status = x.status ∙ status;
+              within = x.within;
+              target = x.target;
+            }));
+      }
+
+  pub adds_group : (entry : NumberedEntry) (now : List ExitGroup) → IsSound app pool entry → IsGroupFor app pool leaving after P d entry → AddsOne pool leaving d entry before now → AddsFor app pool leaving after P before now
+  adds_group entry now sound group one =
+      let g = one.group in
+      subst (AddsFor app pool leaving after P before) (sym one.added)
+      (added g one.decision one.status
+      (subst (λ (x : NumberedEntry). AreEndsBy pool x leaving.stay d g.ends) (sym one.numbers) one.ends)
+      (subst (IsSound app pool) (sym one.numbers) sound)
+      (subst (IsGroupFor app pool leaving after P d) (sym one.numbers) group))

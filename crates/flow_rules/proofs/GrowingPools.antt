@@ -1,0 +1,89 @@
+-- Groups of exits mean the same in a pool that grew.
+use Rattle.std.proofs.Common.{◌≡◌, ℕ, ◌<◌, List, [], ◌∷◌, ◌++◌, length, map, refl, ap, ap₂, inl, inr, arith, ◌≢◌, ◌^◌, Bool, true, ◌||◌, sym, ◌∙◌, IsTrue, get_or-set_same, get_or-set_other}
+use Rattle.std.proofs.lemmas.List.{length-append, length-set}
+use Rattle.std.specs.Prelude.{◌==◌}
+use Rattle.std.proofs.lemmas.Bool.{cases_eq, eqb-true}
+use Rattle.osek_values.specs.Bits.{has_bit}
+use Rattle.bit_words.proofs.BitCounts.{has_either, has_one}
+use Rattle.osek_standard.specs.declared.point.Point.{Point}
+use Rattle.osek_standard.proofs.Members.{Among, among_contained}
+use Rattle.abstract_state.specs.declared.table.PlainEntry.{PlainEntry}
+use Rattle.numbered_sets.specs.declared.numbered_entry.NumberedEntry.{NumberedEntry}
+use Rattle.numbered_sets.specs.Pools.{Values, values_at, IsLonger}
+use Rattle.numbered_sets.specs.Views.{plain_entry, AreNumbersOf}
+use Rattle.numbered_sets.proofs.ViewLaws.{same_view, still_known}
+use Rattle.numbered_sets.specs.Numbers.{Numbers, numbers, has_number, with_number}
+use Rattle.numbered_sets.specs.NumberedEntries.{no_set, numbers_at}
+use Rattle.flow_exits.specs.declared.exit.Exit.{Exit}
+use Rattle.flow_rules.specs.declared.group.{NumberEnd.{NumberEnd}, Ends.{Ends}, ExitGroup.{ExitGroup}}
+use Rattle.flow_rules.specs.declared.group.Ends.TheVariants as ends
+use Rattle.flow_rules.specs.Groups.{holding, exits_by, exits_of, all_exits, AreKnownEnds, IsKnownGroup, AreKnownGroups}
+use Rattle.flow_rules.proofs.NumbersPassing.{domains_alike, none_passes_bit}
+
+-- one number alone is still that of a value
+module _ (pool : List Values) (entry : NumberedEntry) (c n : ℕ) (lt : c < length entry.sets) (known : AreNumbersOf pool entry) (below : n < length (values_at pool c)) where
+  abbrev one : Numbers
+  one = with_number (numbers (numbers_at entry c).domain 0) n
+
+  at : numbers_at (holding entry c n) c ≡ one
+  at = get_or-set_same entry.sets c one no_set lt
+
+  beside : (k : ℕ) → k ≢ c → numbers_at (holding entry c n) k ≡ numbers_at entry k
+  beside k differ = get_or-set_other entry.sets c k one no_set differ
+
+  only : (k : ℕ) → has_number one k ≡ (k == n)
+  only k = has_either 0 (2 ^ n) k ∙ ap (λ (b : Bool). b || has_bit (2 ^ n) k) (none_passes_bit k) ∙ has_one n k
+
+  same_domain : (k : ℕ) → (numbers_at (holding entry c n) k).domain ≡ (numbers_at entry k).domain
+  same_domain k = elim (cases_eq k c) [
+    | inl same ↦ ap (λ (i : ℕ). (numbers_at (holding entry c n) i).domain) same ∙ ap (λ (x : Numbers). x.domain) at ∙ ap (λ (i : ℕ). (numbers_at entry i).domain) (sym same)
+    | inr differ ↦ ap (λ (x : Numbers). x.domain) (beside k differ)
+  ]
+
+  still_below : (k m : ℕ) → IsTrue (has_number (numbers_at (holding entry c n) k) m) → m < length (values_at pool k)
+  still_below k m has = elim (cases_eq k c) [
+    | inl same ↦
+        (let here : has_number one m ≡ true = ap (λ (x : Numbers). has_number x m) (sym at) ∙ ap (λ (i : ℕ). has_number (numbers_at (holding entry c n) i) m) (sym same) ∙ has in
+        let number : m ≡ n = eqb-true m n (sym (only m) ∙ here) in
+        let long : length (values_at pool k) ≡ length (values_at pool c) = ap (λ (i : ℕ). length (values_at pool i)) same in
+        omega (arith, number, below, long))
+    | inr differ ↦ known.known k m (ap (λ (x : Numbers). has_number x m) (sym (beside k differ)) ∙ has)
+  ]
+
+  pub held_known : AreNumbersOf pool (holding entry c n)
+  held_known = record { domains = domains_alike (holding entry c n).sets entry.sets (length-set entry.sets c one) same_domain ∙ known.domains; known = still_below }
+
+map_same : {X : Type 0} (f g : X → Exit) (xs : List X) → ((x : X) → Among x xs → f x ≡ g x) → map f xs ≡ map g xs
+map_same f g [] h = refl
+map_same f g (x ∷ xs) h = ap₂ (λ (y : Exit) (ys : List Exit). y ∷ ys) (h x (inl refl)) (map_same f g xs (λ y m. h y (inr m)))
+
+-- an exit with other values
+abbrev exit_by : ExitGroup → Point → PlainEntry → Exit
+exit_by g p e = record { target = p; decision = g.decision; status = g.status; entry = e }
+
+module _ (pool after : List Values) (longer : IsLonger pool after) where
+  ends_same : (g : ExitGroup) (e : Ends) → AreNumbersOf pool g.entry → AreKnownEnds pool g.entry e → exits_by after g e ≡ exits_by pool g e
+  ends_same g (ends.At points) known h = ap (λ (x : PlainEntry). map (λ (p : Point). exit_by g p x) points) (same_view pool after g.entry longer known)
+  ends_same g (ends.With c xs) known h =
+      map_same (λ (x : NumberEnd). exit_by g x.target (plain_entry after (holding g.entry c x.number))) (λ (x : NumberEnd). exit_by g x.target (plain_entry pool (holding g.entry c x.number))) xs
+      (λ x m. ap (exit_by g x.target) (same_view pool after (holding g.entry c x.number) longer (held_known pool g.entry c x.number h.0 known (h.1 x (among_contained xs x m)))))
+
+  group_same : (g : ExitGroup) → IsKnownGroup pool g → exits_of after g ≡ exits_of pool g
+  group_same g h = ends_same g g.ends h.numbers h.ends
+
+  same_by : (groups : List ExitGroup) → ((g : ExitGroup) → Among g groups → IsKnownGroup pool g) → all_exits after groups ≡ all_exits pool groups
+  same_by [] h = refl
+  same_by (g ∷ gs) h = ap₂ (λ (xs ys : List Exit). xs ++ ys) (group_same g (h g (inl refl))) (same_by gs (λ k m. h k (inr m)))
+
+  pub exits_same : (groups : List ExitGroup) → AreKnownGroups pool groups → all_exits after groups ≡ all_exits pool groups
+  exits_same groups h = same_by groups (λ g m. h g (among_contained groups g m))
+
+  known_ends : (entry : NumberedEntry) (e : Ends) → AreKnownEnds pool entry e → AreKnownEnds after entry e
+  known_ends entry (ends.At points) h = tt
+  known_ends entry (ends.With c xs) h = (h.0, λ x m. known_longer c x.number (h.1 x m))
+    where
+      known_longer : (c n : ℕ) → n < length (values_at pool c) → n < length (values_at after c)
+      known_longer c n lt = (let more = longer.values c in omega (arith, lt, ap length more.is, length-append (values_at pool c) more.more))
+
+  pub groups_known : (groups : List ExitGroup) → AreKnownGroups pool groups → AreKnownGroups after groups
+  groups_known groups h g m = (let k = h g m in record { numbers = still_known pool after g.entry longer k.numbers; ends = known_ends g.entry g.ends k.ends })

@@ -1,0 +1,91 @@
+-- Rules out of the exits of effects: they cover what the scheduler decides, and each is exact.
+use Rattle.std.proofs.Common.{◌≡◌, ℕ, ◌<◌, Bool, List, [], ◌∷◌, ◌++◌, map, flat_map, refl, sym, ap, subst, ◌∙◌, inl, inr, Some, None, IsTrue}
+use Rattle.std.specs.Prelude.{Contains}
+use Rattle.std.specs.declared.option.Option.{Option}
+use Rattle.osek_standard.specs.declared.app.App.{App}
+use Rattle.osek_standard.specs.declared.point.Point.{Point}
+use Rattle.osek_standard.proofs.Members.{Among, among_flat_map, flat_map_among, contained_among, among_contained}
+use Rattle.abstract_state.specs.declared.value.PartValue.{PartValue}
+use Rattle.abstract_state.specs.declared.table.PlainEntry.{PlainEntry}
+use Rattle.abstract_state.specs.Concrete.{AreAllowed}
+use Rattle.flow_model.specs.declared.case.{Asked.{Asked}, Decision.{Decision}, EffectCase.{EffectCase}, OutcomeCase.{OutcomeCase}}
+use Rattle.flow_model.specs.declared.rule.Rule.{Rule}
+use Rattle.flow_model.specs.Effects.{AreIn, stay_point}
+use Rattle.flow_model.specs.Scheduling.{Decides, end_point, HasOutcome, CoverOutcomes, AreExactOutcomes}
+use Rattle.flow_model.specs.Tests.{PassesAll, values_after}
+use Rattle.numbered_sets.specs.Pools.{Values}
+use Rattle.flow_exits.specs.declared.exit.Exit.{Exit}
+use Rattle.flow_rules.specs.Assembly.{rule_of, AreAdded}
+use Rattle.flow_rules.proofs.PointRules.{outcomes_added}
+use Rattle.flow_rules.specs.declared.group.ExitGroup.{ExitGroup}
+use Rattle.flow_rules.specs.Groups.{all_exits}
+use Rattle.flow_rules.specs.Leaving.{AddsEffects}
+use Rattle.flow_rules.specs.Ruling.{outcome_by, outcome_if, outcomes_by, AddsRulesOf}
+use Rattle.flow_rules.proofs.BarredValues.{kept_pass, passing_kept}
+
+-- the second entry has the values of the first that states have at the point
+module _ (app : App) (p : Point) (entry from : PlainEntry) (there : (value : ℕ → PartValue) → AreIn app entry value → AreAllowed app p value → AreIn app from value) where
+  module _ (effect : EffectCase) (before after : List Rule) (h : AddsRulesOf app from effect before after) where
+    abbrev cases : List OutcomeCase
+    cases = flat_map (outcomes_by app effect.changes from) h.exits
+
+    abbrev case : Exit → Decision → OutcomeCase
+    case x d = outcome_by app effect.changes from x d
+
+    cover : CoverOutcomes app p entry effect cases
+    cover value d values passes decides =
+        let x = h.whole value d (there value values.within values.allowed) passes decides in
+        let here : Among (case x.exit d) (outcomes_by app effect.changes from x.exit) =
+        subst (λ (o : Option Decision). Among (case x.exit d) (outcome_if app effect.changes from x.exit o)) (sym x.decision) (inl refl) in
+        record {
+          case = case x.exit d;
+          listed = among_contained cases (case x.exit d) (among_flat_map (outcomes_by app effect.changes from) x.exit (case x.exit d) h.exits (contained_among h.exits x.exit x.listed) here);
+          decision = refl;
+          outcome = record { passes = kept_pass app effect.changes from x.exit.entry value x.within; decides = decides; target = x.target };
+        }
+
+    exact_for : (x : Exit) → Contains h.exits x → (y : OutcomeCase) (value : ℕ → PartValue) → AreIn app from value → PassesAll app y.conditions value →
+        (o : Option Decision) → x.decision ≡ o → Among y (outcome_if app effect.changes from x o) → HasOutcome app effect y value
+    exact_for x listed y value within passes None e m = absurd m
+    exact_for x listed y value within passes (Some d) e m =
+        let is : y ≡ case x d = elim m [
+          | inl same ↦ same
+          | inr none ↦ absurd none
+        ] in
+        let after_it : ℕ → PartValue = values_after effect.changes value in
+        let passing : PassesAll app (case x d).conditions value = subst (λ (z : OutcomeCase). PassesAll app z.conditions value) is passes in
+        let o = h.each x listed in
+        let k = o.comes after_it (passing_kept app effect.changes from x.entry value within passing) in
+        let same : k.effect ≡ effect = elim (contained_among (effect ∷ []) k.effect k.listed) [
+          | inl it ↦ it
+          | inr none ↦ absurd none
+        ] in
+        let found : Some o.decision ≡ Some d = sym o.decides ∙ e in
+        let decided : o.decision ≡ d = cc in
+        let its : HasOutcome app effect (case x d) value = record {
+          passes = passing;
+          decides = subst (λ (z : EffectCase). Decides app after_it z.leaving.asked d) same (subst (Decides app after_it k.effect.leaving.asked) decided k.decides);
+          target = k.target ∙ ap (λ (z : EffectCase). end_point app after_it (stay_point z.leaving.stay after_it) o.decision) same ∙ ap (end_point app after_it (stay_point effect.leaving.stay after_it)) decided;
+        } in
+        subst (λ (z : OutcomeCase). HasOutcome app effect z value) (sym is) its
+
+    exact : AreExactOutcomes app p entry effect cases
+    exact y value listed values first second =
+        let k = flat_map_among (outcomes_by app effect.changes from) y h.exits (contained_among cases y listed) in
+        exact_for k.0 (among_contained h.exits k.0 k.1) y value (there value values.within values.allowed) second k.0.decision refl k.2
+
+    pub rules_added : AreAdded app p entry effect before after
+    rules_added = outcomes_added app p entry effect cases before after h.added cover exact
+
+-- the exits of the groups of an effect
+pub exits_ruled : (app : App) (from : PlainEntry) (effect : EffectCase) (pool after : List Values) (groups : List ExitGroup) (exits : List Exit) (before rules : List Rule) → AddsEffects app from (effect ∷ []) pool [] after groups → exits ≡ all_exits after groups →
+    rules ≡ before ++ map (rule_of effect) (flat_map (outcomes_by app effect.changes from) exits) → AddsRulesOf app from effect before rules
+exits_ruled app from effect pool after groups exits before rules h is added = record {
+  exits = all_exits after groups;
+  each = λ x m. elim (h.each x m) [
+    | inl none ↦ absurd (contained_among [] x none)
+    | inr of_it ↦ of_it
+  ];
+  whole = h.some effect (among_contained (effect ∷ []) effect (inl refl));
+  added = added ∙ ap (λ (xs : List Exit). before ++ map (rule_of effect) (flat_map (outcomes_by app effect.changes from) xs)) is;
+}

@@ -1,0 +1,159 @@
+-- What the scheduler decides with all values after an effect.
+use Rattle.std.proofs.Common.{◌≡◌, ◌⊎◌, ℕ, ◌<◌, ◌≤◌, Bool, ◌&&◌, List, length, refl, sym, ap, ap₂, subst, ◌∙◌, inl, inr, arith, IsTrue, Some, None}
+use Rattle.std.specs.Prelude.{slice_index_or}
+use Rattle.std.proofs.lemmas.Bool.{cases_eq, and_parts}
+use Rattle.osek_values.specs.declared.numbers.TaskNo.{TaskNo}
+use Rattle.osek_standard.specs.declared.app.App.{App}
+use Rattle.abstract_state.specs.declared.{value.PartValue.{PartValue}, table.ValueSet.{ValueSet}}
+use Rattle.abstract_state.specs.Concrete.{val_of}
+use Rattle.abstract_state.specs.Tables.{set_at, is_member}
+use Rattle.abstract_state.proofs.ComponentLaws.{task_counted}
+use Rattle.flow_model.specs.declared.case.{Asked.{Asked}, Decision.{Decision}}
+use Rattle.flow_model.specs.declared.case.Asked.TheVariants as asked
+use Rattle.flow_model.specs.declared.case.Decision.TheVariants as decision
+use Rattle.flow_model.specs.Values.{is_live_value}
+use Rattle.flow_model.specs.Effects.{AreIn}
+use Rattle.flow_model.specs.Scheduling.{IsLiveTask, Decides}
+use Rattle.flow_model.specs.declared.case.Leaving.{Leaving}
+use Rattle.numbered_sets.specs.declared.numbered_entry.NumberedEntry.{NumberedEntry}
+use Rattle.numbered_sets.specs.Numbers.{Numbers}
+use Rattle.numbered_sets.specs.NumberedEntries.{numbers_at, AreFilled, HasEmptySet}
+use Rattle.numbered_sets.specs.Pools.{Values, values_at}
+use Rattle.numbered_sets.specs.Views.{plain_entry, AreNumbersOf}
+use Rattle.flow_exits.specs.Outcomes.{IsVacant, idle_decision}
+use Rattle.flow_rules.specs.declared.{task_levels.TaskLevels.{TaskLevels}, levels.Levels.{Levels}}
+use Rattle.flow_rules.specs.Levels.{AreTaskLevels, AreAllLevels, AreAllJudged, IsNarrowed}
+use Rattle.flow_rules.proofs.LevelLaws.{narrowed_elsewhere, narrowed_known, narrowed_members, narrowed_beside, narrowed_size}
+use Rattle.flow_rules.specs.declared.group.ExitGroup.{ExitGroup}
+use Rattle.flow_rules.specs.Deciding.{DecidesSo, AddsFor, IsAny, IsIt, IsWinnerBelow, IsAlive, IsOver, IsGroupFor}
+use Rattle.flow_rules.proofs.NumberLaws.{member_number, number_fills}
+use Rattle.flow_rules.proofs.OwnLevels.{own_levels, all_judged}
+use Rattle.flow_rules.proofs.AddingLaws.{nothing_more, then_more, of_part}
+
+-- ---- the values with which a task is Live
+
+abbrev live_part : PartValue → Bool
+live_part v = is_live_value (val_of v)
+
+module _ (app : App) (pool : List Values) (after live : NumberedEntry) (t : ℕ) (known : t < length app.tasks) (h : IsNarrowed (λ v. is_live_value (val_of v)) pool t after live) where
+  live_member : (v : PartValue) → IsTrue (is_member (set_at (plain_entry pool live) t) v) → IsTrue (is_member (set_at (plain_entry pool after) t) v) × IsTrue (live_part v)
+  live_member v m = and_parts (is_member (set_at (plain_entry pool after) t) v) (live_part v) (sym (narrowed_members live_part pool t after live h v) ∙ m)
+
+  pub within_live : (value : ℕ → PartValue) → AreIn app (plain_entry pool live) value → AreIn app (plain_entry pool after) value
+  within_live value within k lt = elim (cases_eq k t) [
+    | inl same ↦ subst (λ (i : ℕ). IsTrue (is_member (set_at (plain_entry pool after) i) (value i))) (sym same)
+        (live_member (value t) (subst (λ (i : ℕ). IsTrue (is_member (set_at (plain_entry pool live) i) (value i))) same (within k lt))).0
+    | inr differ ↦ ap (λ (s : ValueSet). is_member s (value k)) (sym (narrowed_beside live_part pool t after live h k differ)) ∙ within k lt
+  ]
+
+  pub in_live : (value : ℕ → PartValue) → AreIn app (plain_entry pool after) value → IsTrue (live_part (value t)) → AreIn app (plain_entry pool live) value
+  in_live value within lives k lt = elim (cases_eq k t) [
+    | inl same ↦ subst (λ (i : ℕ). IsTrue (is_member (set_at (plain_entry pool live) i) (value i))) (sym same)
+        (narrowed_members live_part pool t after live h (value t) ∙ ap₂ (λ (a b : Bool). a && b) (within t (task_counted app t known)) lives)
+    | inr differ ↦ ap (λ (s : ValueSet). is_member s (value k)) (narrowed_beside live_part pool t after live h k differ) ∙ within k lt
+  ]
+
+  pub all_alive : IsAlive app pool live t
+  all_alive = record { known = known; live = λ value within. (live_member (value t) (within t (task_counted app t known))).1 }
+
+  pub known_live : AreNumbersOf pool after → AreNumbersOf pool live
+  known_live = narrowed_known live_part pool t after live h
+
+  pub as_many_live : length live.sets ≡ length after.sets
+  as_many_live = narrowed_size live_part pool t after live h
+
+  -- where a set is empty it is the task's, which is never Live
+  never_live : AreFilled after → HasEmptySet live → (value : ℕ → PartValue) → AreIn app (plain_entry pool after) value → IsTrue (live_part (value t)) → ⊥
+  never_live filled empty value within lives = elim (cases_eq empty.component t) [
+    | inl same ↦
+        (let x = member_number pool live t (value t) (in_live value within lives t (task_counted app t known)) in
+        let some = number_fills (numbers_at live t) x.number x.has_it in
+        let none : (numbers_at live t).bits ≡ 0 = subst (λ (i : ℕ). (numbers_at live i).bits ≡ 0) same empty.none in
+        absurd (omega (arith, some, none)))
+    | inr differ ↦
+        (let some = filled.each empty.component (let there = empty.known in omega (arith, there, as_many_live)) in
+        let bits : (numbers_at live empty.component).bits ≡ (numbers_at after empty.component).bits = ap (λ (x : Numbers). x.bits) (narrowed_elsewhere live_part pool t after live h empty.component differ) in
+        let none = empty.none in
+        absurd (omega (arith, some, none, bits)))
+  ]
+
+-- what the levels leave of a copy
+pub narrowed_live : (app : App) (pool : List Values) (levels : Levels) (t : ℕ) (known : t < length app.tasks) (all : AreAllLevels app pool levels) (own : TaskLevels) → ((none : TaskLevels) → slice_index_or levels.tasks t none ≡ own)
+    → (after copied live : NumberedEntry) → copied ≡ after → AreNumbersOf pool after
+    → ((b : App) (values : List Values) → AreTaskLevels b t (values_at values t) own → AreAllJudged own (numbers_at copied t) → IsNarrowed (λ v. is_live_value (val_of v)) values t copied live)
+    → IsNarrowed (λ v. is_live_value (val_of v)) pool t after live
+narrowed_live app pool levels t known all own is after copied live same numbers narrows =
+    let judged = subst (λ (e : NumberedEntry). AreAllJudged own (numbers_at e t)) (sym same) (all_judged app pool levels t known all own is after numbers) in
+    subst (λ (e : NumberedEntry). IsNarrowed (λ v. is_live_value (val_of v)) pool t e live) same (narrows app pool (own_levels app pool levels t known all own is) judged)
+
+-- ---- the cases of a decision
+
+-- the running task is Live
+runs : (app : App) (value : ℕ → PartValue) (t : TaskNo) (d : Decision) → Decides app value (asked.Maybe t) d → IsLiveTask app value t.0
+runs app value t decision.Keep h = h.running
+runs app value t (decision.To None) h = absurd h
+runs app value t (decision.To (Some w)) h = h.running
+
+running_cases : (app : App) (value : ℕ → PartValue) (t : TaskNo) (d : Decision) → Decides app value (asked.Maybe t) d → IsIt decision.Keep value d ⊎ IsWinnerBelow (length app.tasks) value d
+running_cases app value t decision.Keep h = inl refl
+running_cases app value t (decision.To None) h = absurd h
+running_cases app value t (decision.To (Some w)) h = inr (record { task = w; known = h.best.is.known; decision = refl })
+
+vacant_cases : (app : App) (value : ℕ → PartValue) (a : Asked) (d : Decision) → IsVacant a → Decides app value a d → IsIt (idle_decision a) value d ⊎ IsWinnerBelow (length app.tasks) value d
+vacant_cases app value asked.No d vacant h = absurd vacant
+vacant_cases app value (asked.Maybe t) d vacant h = absurd vacant
+vacant_cases app value asked.Left decision.Keep vacant h = absurd h
+vacant_cases app value asked.Left (decision.To None) vacant h = inl refl
+vacant_cases app value asked.Left (decision.To (Some w)) vacant h = inr (record { task = w; known = h.is.known; decision = refl })
+vacant_cases app value asked.Free decision.Keep vacant h = inl refl
+vacant_cases app value asked.Free (decision.To None) vacant h = absurd h
+vacant_cases app value asked.Free (decision.To (Some w)) vacant h = inr (record { task = w; known = h.is.known; decision = refl })
+
+pub vacant_by : (a : Asked) → (a ≡ asked.Left) ⊎ (a ≡ asked.Free) → IsVacant a
+vacant_by a (inl e) = subst IsVacant (sym e) tt
+vacant_by a (inr e) = subst IsVacant (sym e) tt
+
+pub over_vacant : (a : Asked) → IsVacant a → IsOver a None
+over_vacant asked.No vacant = absurd vacant
+over_vacant (asked.Maybe t) vacant = absurd vacant
+over_vacant asked.Left vacant = refl
+over_vacant asked.Free vacant = refl
+
+pub over_it : (a : Asked) (t : TaskNo) → a ≡ asked.Maybe t → IsOver a (Some t)
+over_it a t e = subst (λ (x : Asked). IsOver x (Some t)) (sym e) refl
+
+-- ---- all values after the effect
+
+module _ (app : App) (pool : List Values) (leaving : Leaving) (after : NumberedEntry) where
+  -- nothing is asked
+  pub unasked_group : leaving.asked ≡ asked.No → IsGroupFor app pool leaving after IsAny decision.Keep after
+  unasked_group same = record {
+    within = λ value h. h;
+    each = λ value h. subst (λ (a : Asked). Decides app value a decision.Keep) (sym same) tt;
+    whole = λ value d h decides p. (keeps value d (subst (λ (a : Asked). Decides app value a d) same decides), h);
+  }
+    where
+      keeps : (value : ℕ → PartValue) (d : Decision) → Decides app value asked.No d → d ≡ decision.Keep
+      keeps value decision.Keep h = refl
+      keeps value (decision.To x) h = absurd h
+
+  module _ (t : TaskNo) (running : leaving.asked ≡ asked.Maybe t) where
+    runs_so : (value : ℕ → PartValue) (d : Decision) → DecidesSo app leaving value d → Decides app value (asked.Maybe t) d
+    runs_so value d = subst (λ (a : Asked). Decides app value a d) running
+
+    pub unknown_task : length app.tasks ≤ t.0 → (gs : List ExitGroup) → AddsFor app pool leaving after IsAny gs gs
+    unknown_task past gs = nothing_more app pool leaving after IsAny gs (λ value d h decides p. (let lt = (runs app value t d (runs_so value d decides)).known in omega (arith, lt, past)))
+
+    module _ (live : NumberedEntry) (known : t.0 < length app.tasks) (h : IsNarrowed (λ v. is_live_value (val_of v)) pool t.0 after live) where
+      pub never_runs : AreFilled after → HasEmptySet live → (gs : List ExitGroup) → AddsFor app pool leaving after IsAny gs gs
+      never_runs filled empty gs = nothing_more app pool leaving after IsAny gs (λ value d within decides p.
+          never_live app pool after live t.0 known h filled empty value within (runs app value t d (runs_so value d decides)).live)
+
+      pub running_adds : (a b c : List ExitGroup) → AddsFor app pool leaving live (IsIt decision.Keep) a b → AddsFor app pool leaving live (IsWinnerBelow (length app.tasks)) b c → AddsFor app pool leaving after IsAny a c
+      running_adds a b c x y =
+          of_part app pool leaving after live IsAny IsAny (within_live app pool after live t.0 known h)
+          (λ value d within decides p. (in_live app pool after live t.0 known h value within (runs app value t d (runs_so value d decides)).live, tt)) a c
+          (then_more app pool leaving live (IsIt decision.Keep) (IsWinnerBelow (length app.tasks)) IsAny (λ value d within decides p. running_cases app value t d (runs_so value d decides)) a b c x y)
+
+  pub vacant_adds : IsVacant leaving.asked → (a b c : List ExitGroup) → AddsFor app pool leaving after (IsIt (idle_decision leaving.asked)) a b → AddsFor app pool leaving after (IsWinnerBelow (length app.tasks)) b c → AddsFor app pool leaving after IsAny a c
+  vacant_adds vacant = then_more app pool leaving after (IsIt (idle_decision leaving.asked)) (IsWinnerBelow (length app.tasks)) IsAny (λ value d within decides p. vacant_cases app value leaving.asked d vacant decides)

@@ -1,0 +1,11 @@
+use Rattle.std.proofs.Common.{◌-◌, ◌≤◌, ◌<◌, IsTrue}
+use Rattle.numbered_sets.specs.Numbers.{has_number}
+use Rattle.numbered_sets.specs.NumberedEntries.{numbers_at}
+use Rattle.flow_rules.proofs.BlockLaws.{AreBlocksBelow}
+use Rattle.flow_rules.proofs.deciding.at_blocks.Given as goal
+
+abbrev pub decreases-loop-number : goal.decreases-loop-number
+decreases-loop-number l = l.count - l.number
+
+abbrev pub invariant-loop-number : goal.invariant-loop-number
+invariant-loop-number l = AreBlocksBelow l.pool l.entry l.component l.number l.ends × (l.number ≤ l.count) × (l.number < l.count → IsTrue (has_number (numbers_at l.entry l.component) l.number))

@@ -1,0 +1,13 @@
+use Rattle.std.proofs.Common.{◌+◌, sym, subst, arith}
+use Rattle.flow_rules.proofs.LevelLaws.{AreLevelsUpTo, levels_next, all_levels}
+use Rattle.flow_rules.proofs.levels.Levels.new.Goals as goal
+
+pub loop-task-preserved : goal.loop-task-preserved
+loop-task-preserved c =
+    subst (AreLevelsUpTo c.args.app.now c.args.pool.now (c.loop-task.task + 1)) (sym c.in_ok-push.ensures.ok)
+    (levels_next c.args.app.now c.args.pool.now c.loop-task.task c.loop-task.tasks c.new.result c.loop-task.invariant (c.new.ensures.levels c.args.app.now))
+
+pub returns : goal.returns
+returns c =
+    all_levels c.args.app.now c.args.pool.now (record { tasks = c.loop-task.tasks }) c.loop-task.task c.loop-task.invariant
+    (omega (arith, c.loop-task-test.false, c.loop-task.auto.task-end, c.len-task-end.ensures))

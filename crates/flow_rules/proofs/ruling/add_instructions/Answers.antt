@@ -1,0 +1,133 @@
+use Rattle.std.proofs.Common.{◌≡◌, ◌∙◌, ℕ, List, All, get_or, take, sym, ap, subst, arith, refl}
+use Rattle.std.specs.Prelude.{Contains}
+use Rattle.std.proofs.lemmas.List.{take_all}
+use Rattle.abstract_state.specs.declared.value.PartValue.{PartValue}
+use Rattle.abstract_state.specs.declared.table.PlainEntry.{PlainEntry}
+use Rattle.abstract_state.specs.Concrete.{AreAllowed}
+use Rattle.abstract_state.specs.Domains.{IsSound, domains, domains_of}
+use Rattle.flow_model.specs.declared.case.EffectCase.{EffectCase}
+use Rattle.flow_model.specs.Effects.{AreAllAllowed}
+use Rattle.numbered_sets.specs.NumberedEntries.{number_domains}
+use Rattle.numbered_sets.specs.Pools.{Values, pool_domains, IsLonger}
+use Rattle.numbered_sets.specs.Views.{plain_entry, AreNumbersOf}
+use Rattle.numbered_sets.proofs.ViewLaws.{same_view, still_known, same_domains}
+use Rattle.numbered_sets.proofs.NumberingLaws.{longer_itself, longer_onward}
+use Rattle.flow_exits.specs.Leaving.{effect_rule}
+use Rattle.flow_rules.specs.Assembly.{AreAllAdded}
+use Rattle.flow_rules.proofs.PointRules.{none_added, added_on}
+use Rattle.flow_rules.specs.Applying.{KeepsDomains}
+use Rattle.flow_rules.specs.Allowed.{IsAllowedPart}
+use Rattle.flow_rules.proofs.EffectDomains.{effect_keeps_domains}
+use Rattle.flow_rules.proofs.LeavingPoints.{numbers_counted, pool_counted, pool_has_tasks}
+use Rattle.flow_rules.proofs.RuledExits.{rules_added}
+use Rattle.flow_rules.proofs.RuledPoints.{all_allowed, allowed_there, from_domains, from_sound}
+use Rattle.flow_rules.proofs.ruling.add_instructions.Goals as goal
+
+pub plain-requires : goal.plain-requires
+plain-requires c =
+    let sets = numbers_counted c.args.app.now c.args.entry.now c.requires.domains in
+    let pool = pool_counted c.args.app.now c.args.pool.now c.args.entry.now c.requires.domains c.requires.numbers.domains in
+    omega (arith, sets, pool)
+
+pub numbered-requires-clause-domains : goal.numbered-requires-clause-domains
+numbered-requires-clause-domains c =
+    let app = c.args.app.now in
+    let p = c.args.point in
+    let pool = c.args.pool.now in
+    let entry = c.args.entry.now in
+    let from = c.in_ok-from.from in
+    let part : IsAllowedPart app p (plain_entry pool entry) from = subst (λ (e : PlainEntry). IsAllowedPart app p e from) c.in_ok-plain.ensures c.in_ok-from.ensures in
+    from_domains app p pool entry from c.requires.domains c.are_values.ensures c.requires.numbers part ∙ ap pool_domains (sym c.in_ok-grown.ensures)
+
+pub numbered-requires-clause-sound : goal.numbered-requires-clause-sound
+numbered-requires-clause-sound c =
+    let app = c.args.app.now in
+    let p = c.args.point in
+    let pool = c.args.pool.now in
+    let entry = c.args.entry.now in
+    let from = c.in_ok-from.from in
+    let part : IsAllowedPart app p (plain_entry pool entry) from = subst (λ (e : PlainEntry). IsAllowedPart app p e from) c.in_ok-plain.ensures c.in_ok-from.ensures in
+    from_sound app p pool entry from c.requires.domains c.are_values.ensures c.requires.numbers part
+
+pub new-requires : goal.new-requires
+new-requires c =
+    let alike : number_domains c.in_ok-numbers.numbers ≡ domains_of c.args.app.now =
+    c.in_ok-numbers.ensures.numbers.domains ∙ c.in_ok-numbers.ensures.pool.domains ∙ ap pool_domains c.in_ok-grown.ensures ∙ sym c.requires.numbers.domains ∙ c.requires.domains in
+    pool_has_tasks c.args.app.now c.numbered.new.pool c.in_ok-numbers.numbers alike c.in_ok-numbers.ensures.numbers.domains
+
+pub add_effect-requires-clause-plain : goal.add_effect-requires-clause-plain
+add_effect-requires-clause-plain c =
+    same_view c.numbered.new.pool c.loop-effect.grown c.in_ok-numbers.numbers c.loop-effect.invariant.longer c.in_ok-numbers.ensures.numbers ∙ c.in_ok-numbers.ensures.plain
+
+pub add_effect-requires-clause-numbers : goal.add_effect-requires-clause-numbers
+add_effect-requires-clause-numbers c = still_known c.numbered.new.pool c.loop-effect.grown c.in_ok-numbers.numbers c.loop-effect.invariant.longer c.in_ok-numbers.ensures.numbers
+
+pub add_effect-requires-clause-domains : goal.add_effect-requires-clause-domains
+add_effect-requires-clause-domains c =
+    c.in_ok-numbers.ensures.numbers.domains ∙ c.in_ok-numbers.ensures.pool.domains ∙ ap pool_domains c.in_ok-grown.ensures ∙ sym c.requires.numbers.domains ∙ c.requires.domains
+
+pub add_effect-requires-clause-levels : goal.add_effect-requires-clause-levels
+add_effect-requires-clause-levels c = c.loop-effect.invariant.levels
+
+pub add_effect-requires-clause-kept : goal.add_effect-requires-clause-kept
+add_effect-requires-clause-kept c =
+    let app = c.args.app.now in
+    let p = c.args.point in
+    let pool = c.args.pool.now in
+    let entry = c.args.entry.now in
+    let from = c.in_ok-from.from in
+    let numbers = c.in_ok-numbers.numbers in
+    let grown = c.numbered.new.pool in
+    let x = c.effect-item.result in
+    let part : IsAllowedPart app p (plain_entry pool entry) from = subst (λ (e : PlainEntry). IsAllowedPart app p e from) c.in_ok-plain.ensures c.in_ok-from.ensures in
+    let allowed : AreAllAllowed app p (plain_entry grown numbers) = subst (AreAllAllowed app p) (sym c.in_ok-numbers.ensures.plain) (all_allowed app p pool entry from c.requires.domains c.are_values.ensures c.requires.numbers part) in
+    let alike : number_domains numbers ≡ domains_of app =
+    c.in_ok-numbers.ensures.numbers.domains ∙ c.in_ok-numbers.ensures.pool.domains ∙ ap pool_domains c.in_ok-grown.ensures ∙ sym c.requires.numbers.domains ∙ c.requires.domains in
+    let among : Contains c.as_slice-effect-items.result.now x = (c.loop-effect.effect-index, c.loop-effect-test.true, sym c.effect-item.is) in
+    let listed : Contains c.in_ok-effects.effects x = subst (λ (xs : List EffectCase). Contains xs x) c.as_slice-effect-items.ensures among in
+    subst (KeepsDomains (effect_rule x)) (sym (same_view grown c.loop-effect.grown numbers c.loop-effect.invariant.longer c.in_ok-numbers.ensures.numbers))
+    (effect_keeps_domains app p (plain_entry grown numbers) c.in_ok-effects.effects x (same_domains grown 0 numbers.sets ∙ alike) listed (c.in_ok-effects.ensures.exact (plain_entry grown numbers) (same_domains grown 0 numbers.sets ∙ alike) allowed))
+
+pub loop-effect-init : goal.loop-effect-init
+loop-effect-init c = record {
+  added = none_added c.args.app.now c.args.point (plain_entry c.args.pool.now c.args.entry.now) c.args.rules.now;
+  longer = longer_itself c.numbered.new.pool;
+  levels = c.in_ok-levels.ensures;
+}
+
+pub loop-effect-preserved : goal.loop-effect-preserved
+loop-effect-preserved c =
+    let app = c.args.app.now in
+    let p = c.args.point in
+    let pool = c.args.pool.now in
+    let entry = c.args.entry.now in
+    let from = c.in_ok-from.from in
+    let x = c.effect-item.result in
+    let part : IsAllowedPart app p (plain_entry pool entry) from = subst (λ (e : PlainEntry). IsAllowedPart app p e from) c.in_ok-plain.ensures c.in_ok-from.ensures in
+    record {
+      added = added_on app p (plain_entry pool entry) c.as_slice-effect-items.result.now c.loop-effect.effect-index x c.args.rules.now c.loop-effect.rules c.add_effect.new.rules
+          c.loop-effect-test.true (sym c.effect-item.is) c.loop-effect.invariant.added
+          (rules_added app p (plain_entry pool entry) from (allowed_there app p pool entry from c.requires.domains c.are_values.ensures c.requires.numbers part) x c.loop-effect.rules c.add_effect.new.rules c.in_ok-add_effect.ensures.added);
+      longer = longer_onward c.numbered.new.pool c.loop-effect.grown c.add_effect.new.pool c.loop-effect.invariant.longer c.in_ok-add_effect.ensures.pool;
+      levels = c.in_ok-add_effect.ensures.levels;
+    }
+
+pub add_effect-requires-clause-stays : goal.add_effect-requires-clause-stays
+add_effect-requires-clause-stays c =
+    let x = c.effect-item.result in
+    c.in_ok-effects.ensures.stays x (subst (λ (xs : List EffectCase). Contains xs x) c.as_slice-effect-items.ensures (c.loop-effect.effect-index, c.loop-effect-test.true, sym c.effect-item.is))
+
+pub returns : goal.returns
+returns c =
+    let app = c.args.app.now in
+    let plain = plain_entry c.args.pool.now c.args.entry.now in
+    let items = c.as_slice-effect-items.result.now in
+    let alike : domains plain ≡ domains_of app = same_domains c.args.pool.now 0 c.args.entry.now.sets ∙ c.requires.domains in
+    let whole = take_all c.loop-effect.effect-index items c.loop-effect-test.false ∙ c.as_slice-effect-items.ensures in
+    record {
+      effects = c.in_ok-effects.effects;
+      stays = c.in_ok-effects.ensures.stays;
+      covering = c.in_ok-effects.ensures.covering plain alike;
+      exact = c.in_ok-effects.ensures.exact plain alike;
+      added = subst (λ (xs : List EffectCase). AreAllAdded app c.args.point plain xs c.args.rules.now c.loop-effect.rules) whole c.loop-effect.invariant.added;
+    }

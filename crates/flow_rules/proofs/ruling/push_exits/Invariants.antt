@@ -1,0 +1,10 @@
+use Rattle.std.proofs.Common.{◌≡◌, ◌++◌, map, take}
+use Rattle.flow_rules.specs.declared.group.NumberEnd.{NumberEnd}
+use Rattle.flow_rules.specs.Groups.{exit_at, holding}
+use Rattle.flow_rules.proofs.ruling.push_exits.Given as goal
+
+abbrev pub invariant-loop-point : goal.invariant-loop-point
+invariant-loop-point l = l.exits ≡ l.initial.exits ++ map (exit_at l.pool l.group l.group.entry) (take l.point-index l.point-items)
+
+abbrev pub invariant-loop-end : goal.invariant-loop-end
+invariant-loop-end l = l.exits ≡ l.initial.exits ++ map (λ (x : NumberEnd). exit_at l.pool l.group (holding l.group.entry l.component x.number) x.target) (take l.end-index l.end-items)

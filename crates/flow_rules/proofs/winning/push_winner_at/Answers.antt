@@ -1,0 +1,77 @@
+use Rattle.std.proofs.Common.{true, false, subst, arith, Some, IfNone}
+use Rattle.std.specs.declared.option.Option.{Option}
+use Rattle.flow_model.specs.declared.case.Decision.TheVariants as decision
+use Rattle.numbered_sets.specs.declared.numbered_entry.NumberedEntry.{NumberedEntry}
+use Rattle.flow_exits.specs.declared.claim.Claim.TheVariants as claim
+use Rattle.flow_rules.specs.Narrowing.{NeverUnder}
+use Rattle.flow_rules.specs.Deciding.{IsAtLevel}
+use Rattle.flow_rules.proofs.LeftLaws.{tasks_counted}
+use Rattle.flow_rules.proofs.ExitLaws.{adds_group}
+use Rattle.flow_rules.proofs.ClaimedGroups.{met_at, left_there, cut, gets_free, winner_group, no_winner_met, no_winner_under}
+use Rattle.flow_rules.proofs.winning.push_winner_at.Goals as goal
+
+pub meets-requires : goal.meets-requires
+meets-requires c = (let counted = tasks_counted c.args.app.now in let size = c.requires.size in let known = c.requires.known in let at = c.index-component.ensures in omega (arith, counted, size, known, at))
+
+pub left_by-requires-clause-size : goal.left_by-requires-clause-size
+left_by-requires-clause-size c = (let counted = tasks_counted c.args.app.now in let size = c.requires.size in omega (arith, counted, size))
+
+pub keep-requires : goal.keep-requires
+keep-requires c =
+    left_there c.args.app.now c.args.pool.now (claim.Gets c.args.task c.args.level.now.priority c.args.over) c.args.task.0 c.args.entry.now c.requires.known c.requires.size c.in_ok-left.field-0 c.in-Some.left c.in-Some.is c.in_ok-left.ensures.left
+    c.index-component.result c.index-component.ensures
+
+pub returns-then-not-meets : goal.returns-then-not-meets
+returns-then-not-meets c =
+    let none = met_at c.args.entry.now c.args.level.now.numbers c.args.task.0 c.index-component.result false c.meets.result c.index-component.ensures c.meets.ensures c.if-not-meets.true in
+    no_winner_met c.args.app.now c.args.pool.now c.args.levels.now c.requires.levels c.args.leaving c.args.over c.requires.over c.args.task c.requires.known c.requires.other c.args.level.now c.requires.level c.args.entry.now none c.args.groups.now.items
+
+pub returns-in_default : goal.returns-in_default
+returns-in_default c =
+    let never = subst (λ (o : Option NumberedEntry). IfNone o (NeverUnder c.args.app.now (claim.Gets c.args.task c.args.level.now.priority c.args.over) c.args.pool.now c.args.entry.now)) c.in_default.is c.in_ok-left.ensures.none in
+    no_winner_under c.args.app.now c.args.pool.now c.args.levels.now c.requires.levels c.args.leaving c.args.over c.requires.over c.args.task c.requires.known c.requires.other c.args.level.now c.requires.level c.args.entry.now never c.args.groups.now.items
+
+pub push_getting-requires-clause-known : goal.push_getting-requires-clause-known
+push_getting-requires-clause-known c =
+    let app = c.args.app.now in
+    let pool = c.args.pool.now in
+    let entry = c.args.entry.now in
+    let t = c.args.task in
+    let level = c.args.level.now in
+    let its = claim.Gets t level.priority c.args.over in
+    let met = met_at entry level.numbers t.0 c.index-component.result true c.meets.result c.index-component.ensures c.meets.ensures c.if-not-meets.false in
+    let left = cut app pool its t.0 level entry c.requires.known c.requires.size c.requires.numbers (gets_free t level.priority c.args.over) met c.in_ok-left.field-0 c.in-Some.left c.in-Some.is c.in_ok-left.ensures.left c.in_ok-left.ensures.filled
+    c.index-component.result c.keep.new.self c.index-component.ensures c.keep.ensures in
+    let counted = tasks_counted app in
+    let known = c.requires.known in
+    let size = left.sound.size in
+    omega (arith, counted, known, size)
+
+pub push_getting-requires-clause-numbers : goal.push_getting-requires-clause-numbers
+push_getting-requires-clause-numbers c =
+    let app = c.args.app.now in
+    let pool = c.args.pool.now in
+    let entry = c.args.entry.now in
+    let t = c.args.task in
+    let level = c.args.level.now in
+    let its = claim.Gets t level.priority c.args.over in
+    let met = met_at entry level.numbers t.0 c.index-component.result true c.meets.result c.index-component.ensures c.meets.ensures c.if-not-meets.false in
+    let left = cut app pool its t.0 level entry c.requires.known c.requires.size c.requires.numbers (gets_free t level.priority c.args.over) met c.in_ok-left.field-0 c.in-Some.left c.in-Some.is c.in_ok-left.ensures.left c.in_ok-left.ensures.filled
+    c.index-component.result c.keep.new.self c.index-component.ensures c.keep.ensures in
+    left.sound.numbers
+
+pub returns : goal.returns
+returns c =
+    let app = c.args.app.now in
+    let pool = c.args.pool.now in
+    let entry = c.args.entry.now in
+    let t = c.args.task in
+    let level = c.args.level.now in
+    let its = claim.Gets t level.priority c.args.over in
+    let met = met_at entry level.numbers t.0 c.index-component.result true c.meets.result c.index-component.ensures c.meets.ensures c.if-not-meets.false in
+    let left = cut app pool its t.0 level entry c.requires.known c.requires.size c.requires.numbers (gets_free t level.priority c.args.over) met c.in_ok-left.field-0 c.in-Some.left c.in-Some.is c.in_ok-left.ensures.left c.in_ok-left.ensures.filled
+    c.index-component.result c.keep.new.self c.index-component.ensures c.keep.ensures in
+    let d = decision.To (Some t) in
+    adds_group app pool c.args.leaving entry (IsAtLevel pool entry t.0 level d) d c.args.groups.now.items c.requires.stay c.requires.known c.keep.new.self c.push_getting.new.groups.items left.sound
+    (winner_group app pool c.args.levels.now c.requires.levels c.args.leaving c.args.over c.requires.over t c.requires.known c.requires.other level c.requires.level entry c.keep.new.self c.requires.alive left.claimed)
+    c.in_ok-push_getting.ensures

@@ -1,0 +1,61 @@
+-- The values of an entry that well-formed states have at a point.
+use Rattle.std.specs.Prelude.{◌≡◌, ℕ, ◌+◌, ◌<◌, ◌==◌, ◌&&◌, ◌||◌, not, Bool, true, false, nat_lt, nat_le, length, Some, None}
+use Rattle.osek_values.specs.declared.numbers.BlockNo.{BlockNo}
+use Rattle.osek_standard.specs.declared.app.App.{App}
+use Rattle.osek_standard.specs.declared.block.Kind.{Kind}
+use Rattle.osek_standard.specs.declared.block.Kind.TheVariants as kind
+use Rattle.osek_standard.specs.declared.call.Call.TheVariants.{Mask}
+use Rattle.osek_standard.specs.declared.call.MaskService.TheVariants.{WaitEvent}
+use Rattle.osek_standard.specs.declared.point.Point.{Point}
+use Rattle.osek_standard.specs.declared.point.Point.TheVariants as point
+use Rattle.osek_standard.specs.Apps.{the_task, the_block, is_extended}
+use Rattle.abstract_state.specs.declared.value.{Val.{Val}, Val.TheVariants.{Suspended, Live, Waiting}, PartValue.{PartValue}, PartValue.TheVariants.{OfTask, OfEvent, OfAlarm}}
+use Rattle.abstract_state.specs.declared.table.{ValueSet.{ValueSet}, PlainEntry.{PlainEntry}}
+use Rattle.abstract_state.specs.ValueOrder.{IsAscending}
+use Rattle.abstract_state.specs.Tables.{set_at, is_member}
+use Rattle.flow_model.specs.Values.{is_live_value}
+
+abbrev pub is_wait : Kind → Bool
+is_wait (kind.Call (Mask WaitEvent m)) = true
+is_wait _ = false
+
+abbrev pub stands_at : BlockNo → Val → Bool
+stands_at b Suspended = false
+stands_at b (Live x) = x.block.0 == b.0
+stands_at b (Waiting c) = false
+
+module _ (app : App) where
+  -- a task waits at a WaitEvent block, and is extended
+  abbrev pub may_wait : ℕ → Val → Bool
+  may_wait t Suspended = true
+  may_wait t (Live x) = true
+  may_wait t (Waiting b) = is_extended app t && is_wait (the_block app b.0).kind
+
+  -- the block is the task's own
+  abbrev pub owns : ℕ → ℕ → Bool
+  owns t b = nat_le (the_task app t).first.0 b && nat_lt b ((the_task app t).first.0 + (the_task app t).count)
+
+  -- a task that runs stands at the point, and an interrupted one is Live
+  abbrev pub fits : Point → ℕ → Val → Bool
+  fits point.Halted t v = true
+  fits point.Idle t v = true
+  fits (point.Task b) t v = not (owns t b.0) || stands_at b v
+  fits (point.Routine b None) t v = true
+  fits (point.Routine b (Some u)) t v = not (u.0 == t) || is_live_value v
+
+  -- Component c may have this value of its domain at the point.
+  abbrev pub may_be : Point → ℕ → PartValue → Bool
+  may_be p c (OfTask v) = nat_lt c (length app.tasks) && (may_wait c v && fits p c v)
+  may_be p c (OfEvent b) = true
+  may_be p c (OfAlarm b) = true
+
+-- the values of a set that pass
+pub record IsPartOf (passes : PartValue → Bool) (set part : ValueSet) : Type 0 where
+  pub domain : part.domain ≡ set.domain
+  pub ascending : IsAscending part.members
+  pub members : (v : PartValue) → is_member part v ≡ (is_member set v && passes v)
+
+-- The values of the entry that its components may have at the point.
+pub record IsAllowedPart (app : App) (p : Point) (entry part : PlainEntry) : Type 0 where
+  pub size : length part.sets ≡ length entry.sets
+  pub each : (c : ℕ) → c < length entry.sets → IsPartOf (may_be app p c) (set_at entry c) (set_at part c)

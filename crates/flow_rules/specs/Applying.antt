@@ -1,0 +1,34 @@
+-- What a rule makes of the values of numbered sets.
+use Rattle.std.specs.Prelude.{◌≡◌, ℕ, ◌<◌, List, length, IsTrue}
+use Rattle.abstract_state.specs.declared.value.{Domain.{Domain}, PartValue.{PartValue}}
+use Rattle.abstract_state.specs.declared.table.{ValueSet.{ValueSet}, PlainEntry.{PlainEntry}}
+use Rattle.abstract_state.specs.Domains.{IsWithin}
+use Rattle.abstract_state.specs.Tables.{set_at, is_member}
+use Rattle.flow_model.specs.declared.rule.Rule.{Rule}
+use Rattle.flow_model.specs.Tests.{PassesAt, value_after}
+use Rattle.flow_model.specs.Rules.{Taken}
+use Rattle.numbered_sets.specs.Numbers.{Numbers, has_number}
+use Rattle.numbered_sets.specs.Pools.{Values, values_at, IsLonger}
+use Rattle.numbered_sets.specs.Views.{plain_set}
+use Rattle.flow_rules.specs.Passing.{ArePassed, AreTaken}
+
+-- What the rule makes of the set's values that pass lies in their domain.
+pub record KeepsDomain (rule : Rule) (c : ℕ) (set : ValueSet) : Type 0 where
+  pub each : (v : PartValue) → IsTrue (is_member set v) → PassesAt rule.conditions c v → IsWithin set.domain (value_after rule.changes c v)
+
+-- So it is for each set, where each has a value that passes.
+pub record KeepsDomains (rule : Rule) (entry : PlainEntry) : Type 0 where
+  pub sets : AreTaken rule entry → (c : ℕ) → c < length entry.sets → KeepsDomain rule c (set_at entry c)
+
+-- numbers of what the rule makes of the values of a list that pass, in a pool that grew
+pub record IsPassedSoFar (rule : Rule) (before : List Values) (c : ℕ) (d : Domain) (old : List PartValue) (pool : List Values) (x : Numbers) : Type 0 where
+  pub longer : IsLonger before pool
+  pub domain : x.domain ≡ d
+  pub known : (n : ℕ) → IsTrue (has_number x n) → n < length (values_at pool c)
+  pub passed : ArePassed rule c d old (plain_set (values_at pool c) x)
+
+-- the numbers of what the rule makes of the values of numbers that pass
+pub record IsPassedSet (rule : Rule) (before : List Values) (c : ℕ) (old : Numbers) (pool : List Values) (new : Numbers) : Type 0 where
+  pub domain : new.domain ≡ old.domain
+  pub known : (n : ℕ) → IsTrue (has_number new n) → n < length (values_at pool c)
+  pub passed : ArePassed rule c old.domain (plain_set (values_at before c) old).members (plain_set (values_at pool c) new)

@@ -1,0 +1,44 @@
+-- The exits that groups of numbers stand for.
+use Rattle.std.specs.Prelude.{⊤, ℕ, ◌<◌, List, length, map, slice_set, Contains}
+use Rattle.std.specs.List.{flat_map}
+use Rattle.osek_standard.specs.declared.point.Point.{Point}
+use Rattle.numbered_sets.specs.declared.numbered_entry.NumberedEntry.{NumberedEntry}
+use Rattle.numbered_sets.specs.Numbers.{numbers, with_number}
+use Rattle.numbered_sets.specs.NumberedEntries.{numbers_at}
+use Rattle.numbered_sets.specs.Pools.{Values, values_at}
+use Rattle.numbered_sets.specs.Views.{plain_entry, AreNumbersOf}
+use Rattle.flow_exits.specs.declared.exit.Exit.{Exit}
+use Rattle.flow_rules.specs.declared.group.{NumberEnd.{NumberEnd}, Ends.{Ends}, ExitGroup.{ExitGroup}}
+use Rattle.flow_rules.specs.declared.group.Ends.TheVariants as ends
+
+-- the entry with one number alone of component c
+abbrev pub holding : NumberedEntry → ℕ → ℕ → NumberedEntry
+holding entry c n = record { sets = slice_set entry.sets c (with_number (numbers (numbers_at entry c).domain 0) n) }
+
+-- an exit of the group, at a point, with these numbers
+abbrev pub exit_at : List Values → ExitGroup → NumberedEntry → Point → Exit
+exit_at pool g entry p = record { target = p; decision = g.decision; status = g.status; entry = plain_entry pool entry }
+
+abbrev pub exits_by : List Values → ExitGroup → Ends → List Exit
+exits_by pool g (ends.At points) = map (exit_at pool g g.entry) points
+exits_by pool g (ends.With c xs) = map (λ (x : NumberEnd). exit_at pool g (holding g.entry c x.number) x.target) xs
+
+-- The exits of a group, and those of groups in a row.
+abbrev pub exits_of : List Values → ExitGroup → List Exit
+exits_of pool g = exits_by pool g g.ends
+
+abbrev pub all_exits : List Values → List ExitGroup → List Exit
+all_exits pool groups = flat_map (exits_of pool) groups
+
+-- each end's number is that of a value
+abbrev pub AreKnownEnds : List Values → NumberedEntry → Ends → Type 0
+AreKnownEnds pool entry (ends.At points) = ⊤
+AreKnownEnds pool entry (ends.With c xs) = (c < length entry.sets) × ((x : NumberEnd) → Contains xs x → x.number < length (values_at pool c))
+
+-- The numbers of a group are those of values of the pool.
+pub record IsKnownGroup (pool : List Values) (g : ExitGroup) : Type 0 where
+  pub numbers : AreNumbersOf pool g.entry
+  pub ends : AreKnownEnds pool g.entry g.ends
+
+abbrev pub AreKnownGroups : List Values → List ExitGroup → Type 0
+AreKnownGroups pool groups = (g : ExitGroup) → Contains groups g → IsKnownGroup pool g

@@ -1,0 +1,44 @@
+-- Rules out of the exits of an effect.
+use Rattle.std.specs.Prelude.{◌≡◌, ℕ, List, [], ◌∷◌, ◌++◌, map, if◌then◌else◌, Some, None, Contains}
+use Rattle.std.specs.List.{flat_map}
+use Rattle.std.specs.declared.option.Option.{Option}
+use Rattle.osek_standard.specs.declared.app.App.{App}
+use Rattle.abstract_state.specs.declared.value.{Component.{Component}, ComponentNo.{ComponentNo}, PartValue.{PartValue}}
+use Rattle.abstract_state.specs.declared.table.{ValueSet.{ValueSet}, PlainEntry.{PlainEntry}}
+use Rattle.abstract_state.specs.Components.{components, component_number, component_no}
+use Rattle.abstract_state.specs.Tables.{set_at, is_member}
+use Rattle.flow_model.specs.declared.{case.{Decision.{Decision}, EffectCase.{EffectCase}, OutcomeCase.{OutcomeCase}}, change.Change.{Change}, rule.Rule.{Rule}, test.Condition.{Condition}}
+use Rattle.flow_model.specs.declared.test.Test.TheVariants as test
+use Rattle.flow_model.specs.Tests.{value_after}
+use Rattle.flow_exits.specs.declared.exit.Exit.{Exit}
+use Rattle.flow_exits.specs.Leaving.{IsOfEffects, HasExitsFor}
+use Rattle.flow_rules.specs.Assembly.{rule_of}
+
+-- a value is barred of which the changes make none that is kept
+abbrev pub bars : List Change → ValueSet → ComponentNo → PartValue → List Condition
+bars changes kept k v = if is_member kept (value_after changes k.0 v) then [] else record { component = k; test = test.IsNot v } ∷ []
+
+abbrev pub bars_at : List Change → PlainEntry → PlainEntry → ComponentNo → List Condition
+bars_at changes from kept k = flat_map (bars changes (set_at kept k.0) k) (set_at from k.0).members
+
+-- Of the first entry those values are left of which the changes make values of the second.
+abbrev pub barred : App → List Change → PlainEntry → PlainEntry → List Condition
+barred app changes from kept = flat_map (λ (k : Component). bars_at changes from kept (component_no (component_number app k))) (components app)
+
+-- What the scheduler does where the step is by the exit, by the values of the entry before the changes.
+abbrev pub outcome_by : App → List Change → PlainEntry → Exit → Decision → OutcomeCase
+outcome_by app changes from x d = record { conditions = barred app changes from x.entry; decision = d; target = x.target }
+
+abbrev pub outcome_if : App → List Change → PlainEntry → Exit → Option Decision → List OutcomeCase
+outcome_if app changes from x None = []
+outcome_if app changes from x (Some d) = outcome_by app changes from x d ∷ []
+
+abbrev pub outcomes_by : App → List Change → PlainEntry → Exit → List OutcomeCase
+outcomes_by app changes from x = outcome_if app changes from x x.decision
+
+-- The rules of an effect come to others, one for each of its exits from the values of an entry.
+pub record AddsRulesOf (app : App) (from : PlainEntry) (effect : EffectCase) (before after : List Rule) : Type 0 where
+  pub exits : List Exit
+  pub each : (x : Exit) → Contains exits x → IsOfEffects app (effect ∷ []) from x
+  pub whole : HasExitsFor app effect from exits
+  pub added : after ≡ before ++ map (rule_of effect) (flat_map (outcomes_by app effect.changes from) exits)

@@ -1,0 +1,130 @@
+//! The values of an entry that well-formed states have at a point.
+ghost use Rattle.std.specs.Prelude.{◌≡◌, ◌<◌, length, IfOk};
+ghost use Rattle.osek_standard.specs.Apps.{the_block};
+ghost use Rattle.flow_model.specs.Values.{is_live_value};
+ghost use Rattle.flow_rules.specs.Allowed.{is_wait as is_wait_kind, may_wait as may_wait_so, owns as owns_block, stands_at as stands_at_block, fits as fits_at, may_be as may_be_at, IsPartOf, IsAllowedPart};
+
+use abstract_state::{PartValue, PlainEntry, Point, Val, ValueSet};
+use osek_standard::{App, Call, Kind, MaskService};
+use osek_values::{BlockNo, Memory, Seq};
+use std::alloc::Global;
+
+/// The entry with those values alone that well-formed states have at the point.
+pub fn allowed_part(
+    alloc: Global,
+    app: &App,
+    point: Point,
+    entry: &PlainEntry,
+) -> Result<PlainEntry, Memory>
+    ensures { IfOk result (IsAllowedPart app.now point entry.now) }
+{
+    let mut sets = Seq::new(alloc);
+    for component in 0..entry.sets.len() {
+        let set = allowed_set(alloc, app, point, component, entry.sets.at(component))?;
+        sets.push(set)?;
+    }
+    Ok(PlainEntry { sets })
+}
+
+fn allowed_set(
+    alloc: Global,
+    app: &App,
+    point: Point,
+    component: usize,
+    set: &ValueSet,
+) -> Result<ValueSet, Memory>
+    ensures { IfOk result (IsPartOf (may_be_at app.now point component) set.now) }
+{
+    let mut part = ValueSet::new(alloc, set.domain);
+    for value in set.members.as_slice() {
+        if may_be(app, point, component, value) {
+            part.insert(value.copy())?;
+        }
+    }
+    Ok(part)
+}
+
+fn may_be(app: &App, point: Point, component: usize, value: &PartValue) -> bool
+    ensures { result ≡ may_be_at app.now point component value.now }
+{
+    match value {
+        PartValue::OfTask(val) => {
+            component < app.tasks.len()
+                && may_wait(app, component, val)
+                && fits(app, point, component, val)
+        }
+        PartValue::OfEvent(_) | PartValue::OfAlarm(_) => true,
+    }
+}
+
+// a task waits at a WaitEvent block, and is extended
+fn may_wait(app: &App, task: usize, val: &Val) -> bool
+    requires { task < length app.now.tasks }
+    ensures { result ≡ may_wait_so app.now task val.now }
+{
+    match val {
+        Val::Suspended | Val::Live(_) => true,
+        Val::Waiting(block) => app.tasks.at(task).own.0 != 0 && is_wait_at(app, *block),
+    }
+}
+
+fn is_wait_at(app: &App, block: BlockNo) -> bool
+    ensures { result ≡ is_wait_kind (the_block app.now block.0).kind }
+{
+    block.index() < app.blocks.len() && is_wait(app.block(block).kind)
+}
+
+fn is_wait(kind: Kind) -> bool
+    ensures { result ≡ is_wait_kind kind }
+{
+    match kind {
+        Kind::Call(Call::Mask(MaskService::WaitEvent, _)) => true,
+        _ => false,
+    }
+}
+
+// a task that runs stands at the point, and an interrupted one is Live
+fn fits(app: &App, point: Point, task: usize, val: &Val) -> bool
+    requires { task < length app.now.tasks }
+    ensures { result ≡ fits_at app.now point task val.now }
+{
+    match point {
+        Point::Halted | Point::Idle => true,
+        Point::Task(block) => !owns(app, task, block) || stands_at(block, val),
+        Point::Routine {
+            block: _,
+            over: None,
+        } => true,
+        Point::Routine {
+            block: _,
+            over: Some(over),
+        } => over.index() != task || is_live(val),
+    }
+}
+
+fn owns(app: &App, task: usize, block: BlockNo) -> bool
+    requires { task < length app.now.tasks }
+    ensures { result ≡ owns_block app.now task block.0 }
+{
+    let first = app.tasks.at(task).first.0 as u32;
+    let count = app.tasks.at(task).count as u32;
+    first <= block.0 as u32 && (block.0 as u32) < first + count
+}
+
+fn stands_at(block: BlockNo, val: &Val) -> bool
+    ensures { result ≡ stands_at_block block val.now }
+{
+    match val {
+        Val::Live(live) => live.block.0 == block.0,
+        Val::Suspended | Val::Waiting(_) => false,
+    }
+}
+
+fn is_live(val: &Val) -> bool
+    ensures { result ≡ is_live_value val.now }
+{
+    match val {
+        Val::Live(_) => true,
+        Val::Suspended | Val::Waiting(_) => false,
+    }
+}

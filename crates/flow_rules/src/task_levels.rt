@@ -1,0 +1,131 @@
+//! The values of one task by what the scheduler reads of them.
+ghost use Rattle.std.specs.Prelude.{◌≡◌};
+
+use abstract_state::{Domain, PartValue};
+use flow_exits::as_candidate;
+use numbered_sets::{NumberedSet, Pool};
+use osek_standard::App;
+use osek_values::{Memory, Seq, TaskNo};
+use std::alloc::Global;
+
+/// The numbers of the values with which a task is Live at one current priority.
+#[derive(Drop)]
+pub struct Level {
+    pub priority: u32,
+    pub numbers: NumberedSet,
+}
+
+/// The numbers of a task's values: those with which it isn't Live, and those of each current priority.
+#[derive(Drop)]
+pub struct TaskLevels {
+    /// How many values were judged.
+    pub judged: usize,
+    pub dead: NumberedSet,
+    pub levels: Seq<Level>,
+}
+
+impl TaskLevels {
+    ghost use Rattle.std.specs.Prelude.{ℕ, List, ◌≡◌, ◌<◌, ◌≤◌, ◌+◌, ◌^◌, length, slice_index_or, IfOk, OnOk};
+    ghost use Rattle.osek_standard.specs.declared.app.App.{App};
+    ghost use Rattle.abstract_state.specs.declared.value.PartValue.{PartValue};
+    ghost use Rattle.numbered_sets.specs.Pools.{values_at, IsNumberOf};
+    ghost use Rattle.flow_rules.specs.declared.task_levels.Level.{Level};
+    ghost use Rattle.flow_rules.specs.Levels.{IsLiveAt, AreTaskLevels, with_next};
+
+    /// No value was judged yet.
+    pub fn new(alloc: Global, domain: Domain) -> TaskLevels
+        ensures judged { result.judged ≡ 0 }
+        ensures levels { (app : App) (u : ℕ) (vs : List PartValue) → AreTaskLevels app u vs result }
+    {
+        TaskLevels {
+            judged: 0,
+            dead: NumberedSet::new(alloc, domain),
+            levels: Seq::new(alloc),
+        }
+    }
+
+    /// Judges the values that came in since the last time.
+    pub fn renew(
+        &mut self,
+        alloc: Global,
+        app: &App,
+        task: TaskNo,
+        pool: &Pool,
+    ) -> Result<(), Memory>
+        requires known { task.0 < length app.now.tasks }
+        requires pool { task.0 < length pool.now }
+        requires levels { AreTaskLevels app.now task.0 (values_at pool.now task.0) self.old }
+        ensures levels { OnOk result (AreTaskLevels app.now task.0 (values_at pool.now task.0) self.new) }
+        ensures all { OnOk result (self.new.judged ≡ length (values_at pool.now task.0)) }
+    {
+        let component = task.index();
+        for number in self.judged..pool.len(component) {
+            self.judge(alloc, app, task, pool.value(component, number))?;
+        }
+        Ok(())
+    }
+
+    // judges the next value
+    fn judge(
+        &mut self,
+        alloc: Global,
+        app: &App,
+        task: TaskNo,
+        value: &PartValue,
+    ) -> Result<(), Memory>
+        requires known { task.0 < length app.now.tasks }
+        requires room { self.old.judged + 1 < 2 ^ 64 }
+        ensures levels { OnOk result ((vs : List PartValue) → AreTaskLevels app.now task.0 vs self.old → IsNumberOf vs value.now self.old.judged → AreTaskLevels app.now task.0 vs self.new) }
+        ensures judged { OnOk result (self.new.judged ≡ self.old.judged + 1) }
+    {
+        let number = self.judged;
+        match as_candidate(app, task, value) {
+            None => {
+                self.dead.insert(number)?;
+            }
+            Some(own) => self.put(alloc, own.priority, number)?,
+        }
+        self.judged = number + 1;
+        Ok(())
+    }
+
+    // puts the next number in the level of a priority
+    fn put(&mut self, alloc: Global, priority: u32, number: usize) -> Result<(), Memory>
+        requires { number ≡ self.old.judged }
+        ensures levels { OnOk result ((app : App) (u : ℕ) (vs : List PartValue) (v : PartValue) → AreTaskLevels app u vs self.old → IsNumberOf vs v number → IsLiveAt app u priority v → AreTaskLevels app u vs (with_next self.new)) }
+        ensures judged { OnOk result (self.new.judged ≡ self.old.judged) }
+    {
+        let place = self.place_for(alloc, priority)?;
+        let level = self.levels.at_mut(place);
+        level.numbers.insert(number)?;
+        Ok(())
+    }
+
+    // the place of the level of a priority, which comes in last where there is none
+    fn place_for(&mut self, alloc: Global, priority: u32) -> Result<usize, Memory>
+        ensures known { IfOk result (λ place. place < length self.new.levels) }
+        ensures at { IfOk result (λ place. (d : Level) → (slice_index_or self.new.levels place d).priority ≡ priority) }
+        ensures levels { OnOk result ((app : App) (u : ℕ) (vs : List PartValue) → AreTaskLevels app u vs self.old → AreTaskLevels app u vs self.new) }
+        ensures judged { OnOk result (self.new.judged ≡ self.old.judged) }
+    {
+        let place = self.place_of(priority);
+        if place == self.levels.len() {
+            let numbers = NumberedSet::new(alloc, self.dead.domain());
+            self.levels.push(Level { priority, numbers })?;
+        }
+        Ok(place)
+    }
+
+    // the place of the level of a priority; past the last one where there is none
+    fn place_of(&self, priority: u32) -> usize
+        ensures few { result ≤ length self.now.levels }
+        ensures at { (d : Level) → result < length self.now.levels → (slice_index_or self.now.levels result d).priority ≡ priority }
+    {
+        for place in 0..self.levels.len() {
+            if self.levels.at(place).priority == priority {
+                return place;
+            }
+        }
+        self.levels.len()
+    }
+}

@@ -1,5 +1,0 @@
-use Rattle.abstract_state.specs.ValueOrder.{IsAscending}
-use Rattle.kernel_cases.proofs.joins.set_of.Given as goal
-
-abbrev pub invariant-loop-block : goal.invariant-loop-block
-invariant-loop-block l = IsAscending l.set.members

@@ -1,5 +1,0 @@
-use Rattle.abstract_state.specs.ValueOrder.{IsAscending}
-use Rattle.kernel_cases.proofs.joins.set_with.Given as goal
-
-abbrev pub invariant-loop-value : goal.invariant-loop-value
-invariant-loop-value l = IsAscending l.set.members

@@ -1,6 +1,0 @@
-use Rattle.numbered_exits.specs.Allowed.{may_be}
-use Rattle.numbered_exits.proofs.AllowedSets.{IsPartUpTo}
-use Rattle.numbered_exits.proofs.allowing.allowed_set.Given as goal
-
-abbrev pub invariant-loop-value : goal.invariant-loop-value
-invariant-loop-value l = IsPartUpTo (may_be l.app l.point l.component) l.set l.value-index l.part

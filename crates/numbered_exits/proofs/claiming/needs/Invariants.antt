@@ -1,5 +1,0 @@
-use Rattle.numbered_exits.specs.Narrowing.{AreNeeds}
-use Rattle.numbered_exits.proofs.claiming.needs.Given as goal
-
-abbrev pub invariant-loop-task : goal.invariant-loop-task
-invariant-loop-task l = AreNeeds l.app l.pool l.entry l.task l.needs

@@ -1,5 +1,0 @@
-use Rattle.numbered_exits.proofs.WholeLaws.{vacant_by}
-use Rattle.numbered_exits.proofs.deciding.push_decided.Goals as goal
-
-pub push_vacant-requires-clause-vacant : goal.push_vacant-requires-clause-vacant
-push_vacant-requires-clause-vacant c = vacant_by c.args.leaving.asked c.in-Left.is

@@ -1,5 +1,0 @@
-use Rattle.std.proofs.Common.{sym}
-use Rattle.numbered_exits.proofs.ruling.exits.Goals as goal
-
-pub push_exits-requires : goal.push_exits-requires
-push_exits-requires c = c.requires c.group-item.result (c.loop-group.group-index, c.loop-group-test.true, sym c.group-item.is)

@@ -1,6 +1,0 @@
-pub mod Groups
-pub mod Narrowing
-pub mod Deciding
-pub mod Leaving
-pub mod Allowed
-pub mod Ruling

@@ -1,6 +1,0 @@
-use Rattle.std.proofs.Common.{take}
-use Rattle.numbered_flow.specs.ExitRows.{rows_at, AreRowsJoined}
-use Rattle.numbered_flow.proofs.joining.join_at.Given as goal
-
-abbrev pub invariant-loop-point : goal.invariant-loop-point
-invariant-loop-point l = AreRowsJoined l.app l.pool l.initial.cells.items (rows_at l.pool l.entry (take l.point-index l.points)) l.cells.items

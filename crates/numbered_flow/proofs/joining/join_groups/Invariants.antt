@@ -1,6 +1,0 @@
-use Rattle.std.proofs.Common.{take}
-use Rattle.numbered_flow.specs.ExitRows.{all_rows, AreRowsJoined}
-use Rattle.numbered_flow.proofs.joining.join_groups.Given as goal
-
-abbrev pub invariant-loop-group : goal.invariant-loop-group
-invariant-loop-group l = AreRowsJoined l.app l.pool l.initial.cells.items (all_rows l.pool (take l.group-index l.groups)) l.cells.items

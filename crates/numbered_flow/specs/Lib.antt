@@ -1,3 +1,0 @@
-pub mod PlainCells
-pub mod Numbering
-pub mod ExitRows

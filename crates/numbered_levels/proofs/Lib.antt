@@ -1,3 +1,0 @@
-pub mod JudgedValues
-pub mod NarrowingLaws
-pub mod LevelLaws

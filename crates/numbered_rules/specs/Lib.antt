@@ -1,4 +1,0 @@
-pub mod Applying
-pub mod Changing
-pub mod Sifting
-pub mod Replacing

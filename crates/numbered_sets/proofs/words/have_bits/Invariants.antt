@@ -1,6 +1,0 @@
-use Rattle.std.proofs.Common.{ℕ, ◌+◌, ◌<◌, get_or}
-use Rattle.std.specs.Bool.{OnTrue}
-use Rattle.numbered_sets.proofs.words.have_bits.Given as goal
-
-abbrev pub invariant-loop-place : goal.invariant-loop-place
-invariant-loop-place l = OnTrue l.all ((i : ℕ) → i < l.place → 0 < get_or l.words i 0 + get_or l.other i 0)

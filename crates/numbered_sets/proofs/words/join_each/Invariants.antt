@@ -1,5 +1,0 @@
-use Rattle.numbered_sets.proofs.WordLaws.{AreJoinedUpTo}
-use Rattle.numbered_sets.proofs.words.join_each.Given as goal
-
-abbrev pub invariant-loop-place : goal.invariant-loop-place
-invariant-loop-place l = AreJoinedUpTo l.initial.words l.other l.place l.words l.added

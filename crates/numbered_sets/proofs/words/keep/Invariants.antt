@@ -1,5 +1,0 @@
-use Rattle.numbered_sets.proofs.KeptWords.{AreKeptUpTo}
-use Rattle.numbered_sets.proofs.words.keep.Given as goal
-
-abbrev pub invariant-loop-place : goal.invariant-loop-place
-invariant-loop-place l = AreKeptUpTo l.initial.words l.other l.place l.words

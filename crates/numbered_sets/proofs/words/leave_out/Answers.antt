@@ -1,8 +1,0 @@
-use Rattle.std.proofs.Common.{arith}
-use Rattle.numbered_sets.proofs.OtherWords.{bits_left_out}
-use Rattle.numbered_sets.proofs.words.leave_out.Goals as goal
-
-pub returns : goal.returns
-returns c =
-    bits_left_out c.args.words.now c.args.other.now c.loop-place.words c.loop-place.place
-    (omega (arith, c.loop-place-test.false, c.loop-place.invariant.as_long)) c.loop-place.invariant c.are_words.ensures c.are_words-2.ensures

@@ -1,4 +1,0 @@
-pub mod GrownPools
-pub mod CountedNumbers
-pub mod RowsByNumber
-pub mod WrittenRows

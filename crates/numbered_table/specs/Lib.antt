@@ -1,2 +1,0 @@
-pub mod PlainTables
-pub mod Counts

@@ -1,0 +1,41 @@
+-- The rows of exits, by number, and their joins to cells.
+use Rattle.std.specs.Prelude.{ℕ, List, map, Contains}
+use Rattle.std.specs.List.{flat_map}
+use Rattle.osek_standard.specs.declared.app.App.{App}
+use Rattle.osek_standard.specs.declared.point.Point.{Point}
+use Rattle.abstract_state.specs.declared.table.TableRow.{TableRow}
+use Rattle.numbered_sets.specs.declared.numbered_entry.NumberedEntry.{NumberedEntry}
+use Rattle.numbered_sets.specs.Pools.{Values}
+use Rattle.numbered_sets.specs.Views.{plain_entry}
+use Rattle.numbered_sets.specs.PlainTables.{row_at}
+use Rattle.flow_rules.specs.declared.group.{NumberEnd.{NumberEnd}, Ends.{Ends}, ExitGroup.{ExitGroup}}
+use Rattle.flow_rules.specs.declared.group.Ends.TheVariants as ends
+use Rattle.flow_rules.specs.Groups.{holding}
+use Rattle.state_flow.specs.declared.cells.Cell.{Cell}
+use Rattle.state_flow.specs.Rows.{IsProperRow}
+use Rattle.state_flow.specs.Progress.{AreJoined}
+use Rattle.state_flow.specs.PlainCells.{plain_cells, AreCellsOf}
+
+-- the rows of an entry at points
+abbrev pub rows_at : List Values → NumberedEntry → List Point → List TableRow
+rows_at pool entry points = map (λ (p : Point). row_at p (plain_entry pool entry)) points
+
+-- those with one number alone of component c, each at its point
+abbrev pub rows_with : List Values → NumberedEntry → ℕ → List NumberEnd → List TableRow
+rows_with pool entry c xs = map (λ (x : NumberEnd). row_at x.target (plain_entry pool (holding entry c x.number))) xs
+
+abbrev pub rows_by : List Values → NumberedEntry → Ends → List TableRow
+rows_by pool entry (ends.At points) = rows_at pool entry points
+rows_by pool entry (ends.With c xs) = rows_with pool entry c xs
+
+-- the rows of all exits of groups
+abbrev pub all_rows : List Values → List ExitGroup → List TableRow
+all_rows pool groups = flat_map (λ (g : ExitGroup). rows_by pool g.entry g.ends) groups
+
+abbrev pub AreProperRows : App → List TableRow → Type 0
+AreProperRows app rows = (row : TableRow) → Contains rows row → IsProperRow app row
+
+-- The rows were joined to the cells.
+pub record AreRowsJoined (app : App) (pool : List Values) (cells : List (Cell NumberedEntry)) (rows : List TableRow) (now : List (Cell NumberedEntry)) : Type 0 where
+  pub known : AreCellsOf pool now
+  pub joined : AreJoined app (plain_cells pool cells) rows (plain_cells pool now)

@@ -1,0 +1,22 @@
+-- The cells of plain entries that cells of numbered ones stand for.
+use Rattle.std.specs.Prelude.{List, map, Contains}
+use Rattle.abstract_state.specs.declared.table.PlainEntry.{PlainEntry}
+use Rattle.numbered_sets.specs.declared.numbered_entry.NumberedEntry.{NumberedEntry}
+use Rattle.numbered_sets.specs.Pools.{Values}
+use Rattle.numbered_sets.specs.Views.{plain_entry, AreNumbersOf}
+use Rattle.numbered_sets.specs.declared.table.NumberedRow.{NumberedRow}
+use Rattle.state_flow.specs.declared.cells.Cell.{Cell}
+
+abbrev pub plain_cell : List Values → Cell NumberedEntry → Cell PlainEntry
+plain_cell pool cell = record { point = cell.point; entry = plain_entry pool cell.entry; waiting = cell.waiting }
+
+abbrev pub plain_cells : List Values → List (Cell NumberedEntry) → List (Cell PlainEntry)
+plain_cells pool cells = map (plain_cell pool) cells
+
+-- the row of a cell
+abbrev pub numbered_row : Cell NumberedEntry → NumberedRow
+numbered_row cell = record { point = cell.point; entry = cell.entry }
+
+-- the numbers of each cell are those of values of the pool
+pub record AreCellsOf (pool : List Values) (cells : List (Cell NumberedEntry)) : Type 0 where
+  pub each : (cell : Cell NumberedEntry) → Contains cells cell → AreNumbersOf pool cell.entry

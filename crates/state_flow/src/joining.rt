@@ -1,0 +1,103 @@
+//! The exits of a point, joined to cells.
+ghost use Rattle.std.specs.Prelude.{◌<◌, length, Contains, OnOk};
+ghost use Rattle.numbered_sets.specs.Pools.{values_at};
+ghost use Rattle.numbered_sets.specs.Views.{AreNumbersOf};
+ghost use Rattle.flow_rules.specs.declared.group.NumberEnd.{NumberEnd};
+ghost use Rattle.flow_rules.specs.Groups.{IsKnownGroup, AreKnownGroups};
+ghost use Rattle.state_flow.specs.Numbering.{AreNumberedCells};
+ghost use Rattle.state_flow.specs.ExitRows.{rows_at, rows_with, rows_by, all_rows, AreProperRows, AreRowsJoined};
+
+use crate::cells::Cell;
+use crate::numbered_cells::put_in;
+use abstract_state::Point;
+use flow_rules::{Ends, ExitGroup, NumberEnd};
+use numbered_sets::{NumberedEntry, Pool};
+use osek_standard::App;
+use osek_values::Memory;
+use std::alloc::Global;
+
+/// Joins each exit of groups to the cell of its point.
+pub fn join_groups(
+    alloc: Global,
+    app: &App,
+    groups: &[ExitGroup],
+    pool: &Pool,
+    cells: &mut Vec<Cell<NumberedEntry>>,
+) -> Result<(), Memory>
+    requires known { AreKnownGroups pool.now groups.now }
+    requires proper { AreProperRows app.now (all_rows pool.now groups.now) }
+    requires cells { AreNumberedCells app.now pool.now cells.old.items }
+    ensures { OnOk result (AreRowsJoined app.now pool.now cells.old.items (all_rows pool.now groups.now) cells.new.items) }
+{
+    for group in groups {
+        join_group(alloc, app, group, pool, cells)?;
+    }
+    Ok(())
+}
+
+// joins each exit of a group to the cell of its point.
+fn join_group(
+    alloc: Global,
+    app: &App,
+    group: &ExitGroup,
+    pool: &Pool,
+    cells: &mut Vec<Cell<NumberedEntry>>,
+) -> Result<(), Memory>
+    requires known { IsKnownGroup pool.now group.now }
+    requires proper { AreProperRows app.now (rows_by pool.now group.now.entry group.now.ends) }
+    requires cells { AreNumberedCells app.now pool.now cells.old.items }
+    ensures { OnOk result (AreRowsJoined app.now pool.now cells.old.items (rows_by pool.now group.now.entry group.now.ends) cells.new.items) }
+{
+    match &group.ends {
+        Ends::At(points) => join_at(alloc, app, points.as_slice(), &group.entry, pool, cells),
+        Ends::With { component, ends } => {
+            let entry = group.entry.copy(alloc)?;
+            join_with(alloc, app, *component, ends.as_slice(), entry, pool, cells)
+        }
+    }
+}
+
+// at each of these points, with all numbers
+fn join_at(
+    alloc: Global,
+    app: &App,
+    points: &[Point],
+    entry: &NumberedEntry,
+    pool: &Pool,
+    cells: &mut Vec<Cell<NumberedEntry>>,
+) -> Result<(), Memory>
+    requires known { AreNumbersOf pool.now entry.now }
+    requires proper { AreProperRows app.now (rows_at pool.now entry.now points.now) }
+    requires cells { AreNumberedCells app.now pool.now cells.old.items }
+    ensures { OnOk result (AreRowsJoined app.now pool.now cells.old.items (rows_at pool.now entry.now points.now) cells.new.items) }
+{
+    for point in points {
+        put_in(alloc, app, pool, cells, *point, entry)?;
+    }
+    Ok(())
+}
+
+// with each of these numbers of a component alone, at its point
+fn join_with(
+    alloc: Global,
+    app: &App,
+    component: usize,
+    ends: &[NumberEnd],
+    entry: NumberedEntry,
+    pool: &Pool,
+    cells: &mut Vec<Cell<NumberedEntry>>,
+) -> Result<(), Memory>
+    requires component { component < length entry.sets }
+    requires known { AreNumbersOf pool.now entry }
+    requires ends { (x : NumberEnd) → Contains ends.now x → x.number < length (values_at pool.now component) }
+    requires proper { AreProperRows app.now (rows_with pool.now entry component ends.now) }
+    requires cells { AreNumberedCells app.now pool.now cells.old.items }
+    ensures { OnOk result (AreRowsJoined app.now pool.now cells.old.items (rows_with pool.now entry component ends.now) cells.new.items) }
+{
+    let mut held = entry;
+    for end in ends {
+        held.hold_only(component, end.number)?;
+        put_in(alloc, app, pool, cells, end.target, &held)?;
+    }
+    Ok(())
+}

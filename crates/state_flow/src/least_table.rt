@@ -1,0 +1,118 @@
+//! The least table, by numbered entries: each point that is reached is evaluated until no entry grows.
+ghost use Rattle.std.specs.Prelude.{◌≡◌, ◌+◌, ◌*◌, ◌≤◌, ℕ, length, map, IfOk, OnOk};
+ghost use Rattle.osek_standard.specs.Counts.{points, height};
+ghost use Rattle.abstract_state.specs.Domains.{HasMasks, domains as domains_of_entry, domains_of};
+ghost use Rattle.abstract_state.specs.Tables.{Least, sets_of, value_count};
+ghost use Rattle.abstract_state.specs.Written.{IsWritten};
+ghost use Rattle.numbered_sets.specs.Pools.{no_values, pool_domains, IsLonger};
+ghost use Rattle.flow_rules.specs.Levels.{AreLevels};
+ghost use Rattle.state_flow.specs.Cells.{IsWaitingAt};
+ghost use Rattle.state_flow.specs.Progress.{Progress};
+ghost use Rattle.state_flow.specs.PlainCells.{plain_cells, AreCellsOf};
+ghost use Rattle.state_flow.specs.Numbering.{AreNumberedCells, HasProgress};
+
+use crate::cells::{Cell, next_waiting, place_behind};
+use crate::evaluation::evaluate;
+use crate::numbered_cells::{put_in, rows};
+use crate::starts::start_row;
+use abstract_state::{Domain, PlainEntry, masks_are_few};
+use flow_rules::Levels;
+use numbered_sets::{NumberedEntry, Pool, Table, numbered};
+use osek_standard::App;
+use osek_values::{Memory, ModeNo, Steps};
+use std::alloc::Global;
+use std::sync::ledger::Ledger;
+
+/// The least table: the starts are in it, each step from a state in it leads to one in it, and every such table contains
+/// it. A step is counted for each evaluation of a point.
+pub fn solve<L: Ledger>(alloc: Global, app: &App, steps: &mut Steps<L>) -> Result<Table, Memory>
+    ensures written { IfOk result (IsWritten app.now) }
+    ensures least { IfOk result (λ table. Least app.now (sets_of table)) }
+    ensures values { IfOk result (λ table. value_count table ≤ points app.now * height app.now) }
+    // each row was evaluated at least once, and again at most as often as values came in
+    ensures each_once { IfOk result (λ table. steps.old + length table.rows ≤ steps.new) }
+    ensures few { IfOk result (λ table. steps.new ≤ steps.old + points app.now + value_count table) }
+    ensures rise { steps.old ≤ steps.new }
+{
+    masks_are_few(app);
+    let mut pool = pool_of(alloc, app)?;
+    let mut cells = started(alloc, app, &mut pool)?;
+    let mut levels = Levels::new(alloc, app, &pool)?;
+    let mut from = 0;
+    // sweeps upward over the points: what a point leads to stands mostly above it
+    while let Some(place) = next_waiting(cells.as_slice(), from) {
+        steps.tick();
+        let point = cells[place].point;
+        turn(alloc, app, &mut pool, &mut levels, &mut cells, place)?;
+        from = place_behind(cells.as_slice(), point);
+    }
+    let rows = rows(alloc, cells)?;
+    Ok(Table::of(pool, rows))
+}
+
+/// A pool without values, for the application's components.
+fn pool_of(alloc: Global, app: &App) -> Result<Pool, Memory>
+    ensures { IfOk result (λ pool. pool ≡ map no_values (domains_of app.now)) }
+{
+    let domains = component_domains(alloc, app)?;
+    let pool = Pool::new(alloc, domains.as_slice())?;
+    Ok(pool)
+}
+
+/// What the values of each of the application's components are values of.
+fn component_domains(alloc: Global, app: &App) -> Result<Vec<Domain>, Memory>
+    ensures { IfOk result (λ all. all.items ≡ domains_of app.now) }
+{
+    let row = start_row(alloc, app, ModeNo(0))?;
+    let domains = domains(alloc, &row.entry)?;
+    Ok(domains)
+}
+
+fn domains(alloc: Global, entry: &PlainEntry) -> Result<Vec<Domain>, Memory>
+    ensures { IfOk result (λ all. all.items ≡ domains_of_entry entry.now) }
+{
+    let mut all = Vec::new(alloc);
+    for set in entry.sets.as_slice() {
+        all.push(set.domain)?;
+    }
+    Ok(all)
+}
+
+/// The points of the starts, which wait.
+fn started(alloc: Global, app: &App, pool: &mut Pool) -> Result<Vec<Cell<NumberedEntry>>, Memory>
+    requires { pool_domains pool.old ≡ domains_of app.now }
+    ensures pool { OnOk result (IsLonger pool.old pool.new) }
+    ensures progress { IfOk result (λ cells. HasProgress app.now pool.new cells.items 0) }
+{
+    let mut cells = Vec::new(alloc);
+    for mode in 0..app.modes.len() {
+        let row = start_row(alloc, app, ModeNo(mode as u8))?;
+        let entry = numbered(alloc, pool, &row.entry)?;
+        put_in(alloc, app, pool, &mut cells, row.point, &entry)?;
+    }
+    Ok(cells)
+}
+
+/// Evaluates a point that waits, and joins in what it leads to.
+fn turn(
+    alloc: Global,
+    app: &App,
+    pool: &mut Pool,
+    levels: &mut Levels,
+    cells: &mut Vec<Cell<NumberedEntry>>,
+    place: usize,
+) -> Result<(), Memory>
+    requires masks { HasMasks app.now }
+    requires levels { AreLevels app.now pool.old levels.old }
+    requires cells { AreNumberedCells app.now pool.old cells.old.items }
+    requires waits { IsWaitingAt cells.old.items place }
+    ensures levels { OnOk result (AreLevels app.now pool.new levels.new) }
+    ensures progress { OnOk result ((n : ℕ) → HasProgress app.now pool.old cells.old.items n → HasProgress app.now pool.new cells.new.items (n + 1)) }
+{
+    let cell = &mut cells[place];
+    let point = cell.point;
+    let entry = cell.entry.copy(alloc)?;
+    cell.waiting = false;
+    evaluate(alloc, app, point, &entry, pool, levels, cells)?;
+    Ok(())
+}

@@ -1,0 +1,48 @@
+//! Cells of numbered entries.
+ghost use Rattle.std.specs.Prelude.{◌≡◌, [], ◌∷◌, map, IfOk, OnOk};
+ghost use Rattle.numbered_sets.specs.Views.{plain_entry, AreNumbersOf};
+ghost use Rattle.numbered_sets.specs.PlainTables.{row_at};
+ghost use Rattle.state_flow.specs.Rows.{IsProperRow};
+ghost use Rattle.state_flow.specs.Progress.{AreJoined};
+ghost use Rattle.state_flow.specs.PlainCells.{plain_cells, numbered_row, AreCellsOf};
+ghost use Rattle.state_flow.specs.Numbering.{AreNumberedCells};
+
+use crate::cells::{Cell, join};
+use abstract_state::Point;
+use numbered_sets::{NumberedEntry, NumberedRow, Pool};
+use osek_standard::App;
+use osek_values::{Memory, Seq};
+use std::alloc::Global;
+
+/// Joins an entry to the cell of its point.
+pub fn put_in(
+    alloc: Global,
+    app: &App,
+    pool: &Pool,
+    cells: &mut Vec<Cell<NumberedEntry>>,
+    point: Point,
+    entry: &NumberedEntry,
+) -> Result<(), Memory>
+    requires cells { AreNumberedCells app.now pool.now cells.old.items }
+    requires known { AreNumbersOf pool.now entry.now }
+    requires proper { IsProperRow app.now (row_at point (plain_entry pool.now entry.now)) }
+    ensures cells { OnOk result (AreCellsOf pool.now cells.new.items) }
+    ensures joined { OnOk result (AreJoined app.now (plain_cells pool.now cells.old.items) (row_at point (plain_entry pool.now entry.now) ∷ []) (plain_cells pool.now cells.new.items)) }
+{
+    pool.are_values();
+    join(alloc, cells, point, entry)
+}
+
+/// The rows of cells.
+pub fn rows(alloc: Global, cells: Vec<Cell<NumberedEntry>>) -> Result<Seq<NumberedRow>, Memory>
+    ensures { IfOk result (λ rows. rows ≡ map numbered_row cells.items) }
+{
+    let mut rows = Seq::new(alloc);
+    for cell in cells {
+        rows.push(NumberedRow {
+            point: cell.point,
+            entry: cell.entry,
+        })?;
+    }
+    Ok(rows)
+}
