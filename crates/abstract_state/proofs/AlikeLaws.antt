@@ -1,23 +1,15 @@
 -- What a table keeps of a state decides whether the state is in it.
 use Rattle.std.proofs.Common.{◌≡◌, ℕ, ◌<◌, refl, sym, ap, subst, ◌∙◌, IsTrue}
-use Rattle.osek_values.specs.Numbers.{block_no}
-use Rattle.osek_values.specs.declared.numbers.BlockNo.{BlockNo}
-use Rattle.osek_values.specs.declared.mask.Mask.{Mask}
-use Rattle.osek_values.specs.Bits.{has_bit}
-use Rattle.osek_standard.specs.declared.app.App.{App}
-use Rattle.osek_standard.specs.declared.state.{State.{State}, Processor.{Processor}}
+use Rattle.osek_values.specs.{Numbers.{block_no}, declared.{numbers.BlockNo.{BlockNo}, mask.Mask.{Mask}}, Bits.{has_bit}}
+use Rattle.osek_standard.specs.declared.{app.App.{App}, state.{State.{State}, Processor.{Processor}}}
 use Rattle.osek_standard.specs.declared.state.Processor.TheVariants as processor
 use Rattle.osek_standard.specs.declared.task_state.Activity.{Activity}
 use Rattle.osek_standard.specs.declared.task_state.Activity.TheVariants as activity
-use Rattle.osek_standard.specs.States.{task_state, place_in, place_by}
-use Rattle.osek_standard.specs.Well.{Well}
-use Rattle.osek_standard.specs.declared.point.Point.{Point}
-use Rattle.abstract_state.specs.declared.value.{Val.{Val}, Val.TheVariants.{Suspended, Live, Waiting}, Component.{Component}, PartValue.TheVariants.{OfTask, OfEvent, OfAlarm}}
+use Rattle.osek_standard.specs.{States.{task_state, place_in, place_by}, Well.{Well}, declared.point.Point.{Point}}
+use Rattle.abstract_state.specs.declared.value.{Val.{Val, TheVariants.{Suspended, Live, Waiting}}, Component.{Component}, PartValue.TheVariants.{OfTask, OfEvent, OfAlarm}}
 use Rattle.abstract_state.specs.declared.value.Component.TheVariants as component
 use Rattle.osek_standard.specs.Points.{point_at, point_of}
-use Rattle.abstract_state.specs.Components.{component_at, component_count, value_in, part_of, abstract_of}
-use Rattle.abstract_state.specs.Alike.{IsAlike}
-use Rattle.abstract_state.specs.Tables.{Sets, In}
+use Rattle.abstract_state.specs.{Components.{component_at, component_count, value_in, part_of, abstract_of}, Alike.{IsAlike}, Tables.{Sets, In}}
 
 pub in_by_components : (app : App) (table : Sets) (s u : State) → Well app u → point_of s ≡ point_of u → ((c : ℕ) → c < component_count app → abstract_of app s c ≡ abstract_of app u c) → In app table s → In app table u
 in_by_components app table s u w p parts h = record {

@@ -1,9 +1,7 @@
 -- A number with the bits that a test passes.
 use Rattle.std.proofs.Common.{◌≡◌, ℕ, zero, suc, ◌+◌, ◌*◌, ◌/◌, ◌%◌, ◌<◌, ◌≤◌, Bool, true, false, refl, sym, ap, subst, ◌∙◌, inl, inr, arith, min}
-use Rattle.std.specs.Prelude.{if◌then◌else◌, ◌==◌, bit_and}
-use Rattle.std.specs.Int.{bit_at}
-use Rattle.std.proofs.lemmas.Bool.{cases_lt, eqb-true}
-use Rattle.std.proofs.lemmas.Nat.Bits.{bit_at_lowest, bit_at-suc, bit_at-zero, bit_at_and, same_from_bits}
+use Rattle.std.specs.{Prelude.{if◌then◌else◌, ◌==◌, bit_and}, Int.{bit_at}}
+use Rattle.std.proofs.lemmas.{Bool.{cases_lt, eqb-true}, Nat.Bits.{bit_at_lowest, bit_at-suc, bit_at-zero, bit_at_and, same_from_bits}}
 use Rattle.osek_values.specs.Bits.{has_bit}
 use Rattle.abstract_state.specs.Concrete.{bits_number}
 

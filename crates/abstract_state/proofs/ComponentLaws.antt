@@ -1,14 +1,10 @@
 -- The components of an application: each is one of it, and stands at its number.
 use Rattle.std.proofs.Common.{◌≡◌, ℕ, zero, suc, ◌+◌, ◌-◌, ◌<◌, ◌≤◌, Bool, true, cond, List, [], ◌∷◌, ◌++◌, length, map, filter, get_or, flat_map, refl, sym, subst, ◌∙◌, inl, inr, arith, add-one}
-use Rattle.std.specs.Prelude.{if◌then◌else◌}
-use Rattle.std.specs.List.{range_with_len}
-use Rattle.std.proofs.lemmas.Bool.{cases_Bool, cases_lt}
-use Rattle.std.proofs.lemmas.List.{get_or_append_left, get_or-append_right, length-append}
+use Rattle.std.specs.{Prelude.{if◌then◌else◌}, List.{range_with_len}}
+use Rattle.std.proofs.lemmas.{Bool.{cases_Bool, cases_lt}, List.{get_or_append_left, get_or-append_right, length-append}}
 use Rattle.std.proofs.lemmas.List.FromFn.{length-map-range_with_len, get_or-map-range_with_len}
-use Rattle.osek_values.specs.Numbers.{task_no, event_no, alarm_no}
-use Rattle.osek_values.specs.Bits.{has_bit, passing_below}
-use Rattle.osek_standard.specs.declared.app.App.{App}
-use Rattle.osek_standard.specs.Apps.{the_task}
+use Rattle.osek_values.specs.{Numbers.{task_no, event_no, alarm_no}, Bits.{has_bit, passing_below}}
+use Rattle.osek_standard.specs.{declared.app.App.{App}, Apps.{the_task}}
 use Rattle.abstract_state.specs.declared.value.Component.{Component}
 use Rattle.abstract_state.specs.declared.value.Component.TheVariants as component
 use Rattle.abstract_state.specs.Components.{events_of, components, component_count, component_at, IsComponent, event_start, component_number}

@@ -1,35 +1,24 @@
 -- Values that the components can have at a point, one each, make a well-formed state there.
 use Rattle.std.proofs.Common.{◌≡◌, ℕ, ◌<◌, ◌≤◌, Bool, true, false, ◌&&◌, length, map, replicate, get_or, refl, sym, ap, subst, ◌∙◌, inl, inr, arith, Some, None, IfSome}
-use Rattle.std.specs.Prelude.{if◌then◌else◌}
-use Rattle.std.specs.List.{range_with_len}
-use Rattle.std.specs.declared.option.Option.{Option}
-use Rattle.std.proofs.lemmas.Bool.{cases_lt, and_parts, eq-eqb, ne_eqb}
-use Rattle.std.proofs.lemmas.List.{get_or_past, get_or-replicate, length-replicate}
+use Rattle.std.specs.{Prelude.{if◌then◌else◌}, List.{range_with_len}, declared.option.Option.{Option}}
+use Rattle.std.proofs.lemmas.{Bool.{cases_lt, and_parts, eq-eqb, ne_eqb}, List.{get_or_past, get_or-replicate, length-replicate}}
 use Rattle.std.proofs.lemmas.List.FromFn.{length-map-range_with_len, get_or-map-range_with_len}
-use Rattle.osek_values.specs.Numbers.{task_no, source_no, mode_no, event_no, alarm_no}
-use Rattle.osek_values.specs.declared.numbers.{TaskNo.{TaskNo}, BlockNo.{BlockNo}, SourceNo.{SourceNo}}
-use Rattle.osek_values.specs.Bits.{has_bit}
-use Rattle.osek_standard.specs.declared.app.App.{App}
-use Rattle.osek_standard.specs.declared.task_state.TaskState.{TaskState}
-use Rattle.osek_standard.specs.declared.state.{Source.{Source}, AlarmState.{AlarmState}}
+use Rattle.osek_values.specs.{Numbers.{task_no, source_no, mode_no, event_no, alarm_no}, declared.numbers.{TaskNo.{TaskNo}, BlockNo.{BlockNo}, SourceNo.{SourceNo}}, Bits.{has_bit}}
+use Rattle.osek_standard.specs.declared.{app.App.{App}, task_state.TaskState.{TaskState}, state.{Source.{Source}, AlarmState.{AlarmState}}}
 use Rattle.osek_standard.specs.declared.state.Source.TheVariants as source
 use Rattle.osek_standard.specs.declared.state.AlarmState.TheVariants as alarm
-use Rattle.osek_standard.specs.Apps.{the_task, the_counter, the_block, source_count}
-use Rattle.osek_standard.specs.TaskStates.{suspended, is_live, is_live_activity}
-use Rattle.osek_standard.specs.States.{task_state, source_state, alarm_state, place_in, place_of_source}
-use Rattle.osek_standard.specs.Effects.{place_at}
+use Rattle.osek_standard.specs.{Apps.{the_task, the_counter, the_block, source_count}, TaskStates.{suspended, is_live, is_live_activity}}
+use Rattle.osek_standard.specs.{States.{task_state, source_state, alarm_state, place_in, place_of_source}, Effects.{place_at}}
 use Rattle.osek_standard.specs.Well.{HasProcessor, IsActivityOf, IsAlarmState, IsArmed, IsOffsetAt, IsProcessor, IsRunningAt, IsTaskState}
-use Rattle.osek_standard.proofs.WellLaws.{own_block, routine_block}
-use Rattle.osek_standard.proofs.Keeps.{offset_0}
+use Rattle.osek_standard.proofs.{WellLaws.{own_block, routine_block}, Keeps.{offset_0}}
 use Rattle.osek_standard.specs.declared.point.Point.{Point}
 use Rattle.osek_standard.specs.declared.point.Point.TheVariants as point
-use Rattle.abstract_state.specs.declared.value.{Val.{Val}, LiveVal.{LiveVal}, Val.TheVariants.{Suspended, Live, Waiting}, Component.{Component}, PartValue.{PartValue}, PartValue.TheVariants.{OfTask, OfEvent, OfAlarm}}
+use Rattle.abstract_state.specs.declared.value.{Val.{Val, TheVariants.{Suspended, Live, Waiting}}, LiveVal.{LiveVal}, Component.{Component}, PartValue.{PartValue, TheVariants.{OfTask, OfEvent, OfAlarm}}}
 use Rattle.abstract_state.specs.declared.value.Component.TheVariants as component
 use Rattle.osek_standard.specs.Points.{point_of, IsPoint}
 use Rattle.abstract_state.specs.Components.{component_at, component_count, component_number, value_in, is_armed, abstract_of, part_of, IsComponent, IsVal, IsLiveAt, IsLiveSomewhere, FitsPoint, IsPart}
 use Rattle.abstract_state.specs.Concrete.{Free, val_of, flag_of, activity_of, alarm_of, event_chosen, task_chosen, alarm_chosen, source_by, processor_by, state_of, StandsThere, IsFree, AreAllowed, HasParts}
-use Rattle.abstract_state.proofs.ComponentLaws.{component_known, component_numbered, task_counted, task_at_its_number}
-use Rattle.abstract_state.proofs.BitLaws.{has_bit_of_number, number_within}
+use Rattle.abstract_state.proofs.{ComponentLaws.{component_known, component_numbered, task_counted, task_at_its_number}, BitLaws.{has_bit_of_number, number_within}}
 
 -- values, and what is made of them
 value_of_activity : (v : Val) (o : ℕ) → value_in (activity_of v o) ≡ v

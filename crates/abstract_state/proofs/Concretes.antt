@@ -1,34 +1,22 @@
 -- Other choices of what a table doesn't keep are allowed too, and the states that they give.
-use Rattle.std.proofs.Common.{◌≡◌, ◌≢◌, ℕ, ◌<◌, ◌≤◌, Bool, true, false, List, length, replicate, get_or, refl, sym, ap, subst, ◌∙◌, inl, inr, arith, Some, None, get_or-set_same, get_or-set_other}
+use Rattle.std.proofs.Common.{◌≡◌, ◌≢◌, ℕ, ◌<◌, ◌≤◌, Bool, true, false, List, length, replicate, get_or, refl, sym, ap, subst, ◌∙◌, inl, inr, arith, None, get_or-set_same, get_or-set_other}
 use Rattle.std.specs.Prelude.{◌==◌, ◌&&◌, nat_le, slice_set, if◌then◌else◌}
-use Rattle.std.proofs.lemmas.Bool.{cases_lt, cases_eq, eq-eqb, ne_eqb, and_from, or_right}
-use Rattle.std.proofs.lemmas.Bool.Decides.{nat_tests}
-use Rattle.std.proofs.lemmas.List.{get_or_past, get_or-replicate, length-replicate}
+use Rattle.std.proofs.lemmas.{Bool.{cases_lt, cases_eq, eq-eqb, ne_eqb, and_from, or_right, Decides.{nat_tests}}, List.{get_or_past, get_or-replicate, length-replicate}}
 use Rattle.std.proofs.Math.ListN.{length-set}
-use Rattle.osek_values.specs.Numbers.{task_no, source_no, alarm_no}
-use Rattle.osek_values.specs.declared.numbers.{TaskNo.{TaskNo}, BlockNo.{BlockNo}}
+use Rattle.osek_values.specs.{Numbers.{alarm_no}, declared.numbers.{TaskNo.{TaskNo}, BlockNo.{BlockNo}}}
 use Rattle.std.specs.declared.option.Option.{Option}
-use Rattle.osek_standard.specs.declared.app.App.{App}
-use Rattle.osek_standard.specs.declared.objects.Counter.{Counter}
-use Rattle.osek_standard.specs.Validity.{is_cycle_of}
-use Rattle.osek_standard.specs.declared.state.{State.{State}, AlarmState.{AlarmState}, Source.{Source}}
+use Rattle.osek_standard.specs.{declared.{app.App.{App}, objects.Counter.{Counter}, state.{State.{State}, Source.{Source}}}, Validity.{is_cycle_of}}
 use Rattle.osek_standard.specs.declared.state.AlarmState.TheVariants as alarm
 use Rattle.osek_standard.specs.declared.state.Source.TheVariants as source
-use Rattle.osek_standard.specs.declared.task_state.{TaskState.{TaskState}, Activity.{Activity}, Place.{Place}}
-use Rattle.osek_standard.specs.declared.point.Point.{Point}
+use Rattle.osek_standard.specs.declared.{task_state.TaskState.{TaskState}, point.Point.{Point}}
 use Rattle.osek_standard.specs.declared.point.Point.TheVariants as point
-use Rattle.osek_standard.specs.Apps.{the_task, the_block, the_alarm, the_counter, source_count, max_of, is_cycle, no_alarm, no_counter}
-use Rattle.osek_standard.specs.States.{task_state, source_state, alarm_state, counter_value, is_latched, here, place_in, place_of_source}
-use Rattle.osek_standard.specs.Effects.{place_at}
-use Rattle.osek_standard.specs.Arrivals.{arrival, takes_none, IsArrival}
-use Rattle.osek_standard.specs.Points.{StandsAt, IsPoint}
-use Rattle.osek_standard.specs.Well.{IsOwn, IsOffsetAt, IsArmed}
+use Rattle.osek_standard.specs.{Apps.{the_block, the_alarm, the_counter, source_count, max_of, no_alarm, no_counter}, States.{alarm_state, here, place_in, place_of_source}}
+use Rattle.osek_standard.specs.{Effects.{place_at}, Arrivals.{arrival}, Points.{StandsAt, IsPoint}, Well.{IsOffsetAt, IsArmed}}
 use Rattle.osek_standard.proofs.ArrivalLaws.{is_arrival, none_latched as nothing_arrives}
-use Rattle.osek_standard.proofs.OwnerLaws.{own_once}
-use Rattle.abstract_state.specs.declared.value.{LiveVal.{LiveVal}, Val.{Val}, Val.TheVariants.{Suspended, Live, Waiting}, PartValue.{PartValue}, PartValue.TheVariants.{OfTask, OfAlarm}}
+use Rattle.abstract_state.specs.declared.value.{LiveVal.{LiveVal}, Val.{Val, TheVariants.{Suspended, Live, Waiting}}, PartValue.{PartValue, TheVariants.{OfTask}}}
 use Rattle.abstract_state.specs.declared.value.Component.TheVariants as component
 use Rattle.abstract_state.specs.Components.{component_number, IsLiveAt}
-use Rattle.abstract_state.specs.Concrete.{Free, val_of, flag_of, activity_of, alarm_of, source_by, IsFree, StandsThere, AreAllowed, HasParts, state_of}
+use Rattle.abstract_state.specs.Concrete.{Free, val_of, flag_of, activity_of, alarm_of, IsFree, StandsThere, AreAllowed, HasParts, state_of}
 use Rattle.abstract_state.specs.Choices.{with_latches, with_offset, with_routine_offset, with_arming, with_counter, IsQuiet, IsQuietAt, IsQuietWith, IsLatchedAlone}
 use Rattle.abstract_state.proofs.ConcreteLaws.{state_has_parts, choice_allowed, task_is, alarm_is, source_is, val_right}
 

@@ -1,13 +1,8 @@
 -- Containment, the meet of two tables, and the least table.
-use Rattle.std.proofs.Common.{◌≡◌, ◌↔◌, Bool, true, false, refl, IsTrue}
-use Rattle.std.proofs.lemmas.Bool.{and_from, and_parts}
+use Rattle.std.proofs.{Common.{◌≡◌, ◌↔◌, Bool, true, false, refl, IsTrue}, lemmas.Bool.{and_from, and_parts}}
 use mathlib.Core.Path.{fun_ext}
-use Rattle.osek_standard.specs.declared.app.App.{App}
-use Rattle.osek_standard.specs.declared.state.State.{State}
-use Rattle.osek_standard.specs.Kernel.{start, step}
-use Rattle.osek_standard.specs.Points.{point_of}
-use Rattle.abstract_state.specs.Components.{abstract_of}
-use Rattle.abstract_state.specs.Tables.{Sets, In, Inductive, IsContained, Least, meet, full}
+use Rattle.osek_standard.specs.{declared.{app.App.{App}, state.State.{State}}, Kernel.{start, step}, Points.{point_of}}
+use Rattle.abstract_state.specs.{Components.{abstract_of}, Tables.{Sets, In, Inductive, IsContained, Least, meet, full}}
 use Rattle.osek_standard.specs.Well.{Well}
 use Rattle.osek_standard.proofs.StepKeeps.{start_is_well, step_keeps}
 

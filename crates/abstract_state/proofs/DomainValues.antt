@@ -1,23 +1,16 @@
 -- The values of a domain, listed.
 use Rattle.std.proofs.Common.{◌≡◌, ℕ, ◌+◌, ◌*◌, ◌<◌, true, false, List, [], ◌∷◌, ◌++◌, length, map, flat_map, refl, sym, ap, subst, ◌∙◌, inl, inr, arith}
 use Rattle.std.specs.List.{range_with_len}
-use Rattle.std.proofs.lemmas.List.{length-append, length-map}
-use Rattle.std.proofs.lemmas.List.FromFn.{length-map-range_with_len}
-use Rattle.osek_values.specs.Numbers.{block_no}
-use Rattle.osek_values.specs.declared.numbers.{BlockNo.{BlockNo}, ResNo.{ResNo}}
-use Rattle.osek_standard.specs.declared.app.App.{App}
-use Rattle.osek_standard.specs.declared.point.Point.{Point}
-use Rattle.osek_standard.specs.Counts.{stacks}
-use Rattle.osek_standard.specs.Validity.{IsAmong}
+use Rattle.std.proofs.lemmas.List.{length-append, length-map, FromFn.{length-map-range_with_len}}
+use Rattle.osek_values.specs.{Numbers.{block_no}, declared.numbers.{BlockNo.{BlockNo}, ResNo.{ResNo}}}
+use Rattle.osek_standard.specs.{declared.{app.App.{App}, point.Point.{Point}}, Counts.{stacks}, Validity.{IsAmong}}
 use Rattle.osek_standard.proofs.Members.{Among, among_left, among_right, among_cases, among_map, map_among, among_flat_map, flat_map_among, length_flat_map, among_range, range_among, contained_among, among_contained}
-use Rattle.abstract_state.specs.declared.value.{Val.{Val}, Val.TheVariants.{Suspended, Live, Waiting}, Component.{Component}, Domain.{Domain}, PartValue.{PartValue}, PartValue.TheVariants.{OfTask, OfEvent, OfAlarm}}
+use Rattle.abstract_state.specs.declared.value.{Val.{Val, TheVariants.{Suspended, Live, Waiting}}, Component.{Component}, Domain.{Domain}, PartValue.{PartValue, TheVariants.{OfTask, OfEvent, OfAlarm}}}
 use Rattle.abstract_state.specs.declared.value.Component.TheVariants as component
 use Rattle.abstract_state.specs.declared.value.Domain.TheVariants as domain
-use Rattle.abstract_state.specs.Components.{live_val, component_at, component_count, IsVal, IsPart, IsAllowed}
-use Rattle.abstract_state.specs.ValueOrder.{same_part}
+use Rattle.abstract_state.specs.{Components.{live_val, component_at, component_count, IsVal, IsPart, IsAllowed}, ValueOrder.{same_part}}
 use Rattle.abstract_state.specs.Domains.{IsValWithin, IsWithin, IsCounted, domain_of, domain_size}
-use Rattle.abstract_state.proofs.OrderLaws.{part_right}
-use Rattle.abstract_state.proofs.AlikeLaws.{block_in}
+use Rattle.abstract_state.proofs.{OrderLaws.{part_right}, AlikeLaws.{block_in}}
 use Rattle.abstract_state.proofs.Stacks.{Apart, apart_append, apart_map, apart_flat_map, apart_range, distinct_apart, stacks_out_of, apart_stacks_out_of, length_stacks_out_of, stack_out_of, out_of_stack}
 
 module _ (app : App) (p : Point) where

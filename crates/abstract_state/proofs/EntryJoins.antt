@@ -1,15 +1,10 @@
 -- An entry that takes the sets of another, one after the other.
 use Rattle.std.proofs.Common.{◌≡◌, ◌≢◌, ℕ, zero, suc, ◌+◌, ◌<◌, ◌≤◌, List, [], ◌∷◌, length, get_or, refl, sym, ap, subst, ◌∙◌, inl, inr, arith, get_or-set_same, get_or-set_other}
 use Rattle.std.specs.List.{All}
-use Rattle.std.proofs.lemmas.Bool.{cases_eq, cases_lt}
-use Rattle.std.proofs.Math.ListN.{get_or-eq_default}
-use Rattle.std.proofs.lemmas.List.{length-set, get_or_default, same_lists}
-use Rattle.std.proofs.lemmas.List.Elements.{All-head, All-tail}
-use Rattle.abstract_state.specs.declared.table.{ValueSet.{ValueSet}, PlainEntry.{PlainEntry}}
-use Rattle.abstract_state.specs.ValueOrder.{IsAscending}
+use Rattle.std.proofs.{lemmas.{Bool.{cases_eq, cases_lt}, List.{length-set, get_or_default, same_lists, Elements.{All-head, All-tail}}}, Math.ListN.{get_or-eq_default}}
+use Rattle.abstract_state.specs.{declared.table.{ValueSet.{ValueSet}, PlainEntry.{PlainEntry}}, ValueOrder.{IsAscending}}
 use Rattle.abstract_state.specs.Tables.{empty_set, set_at, AreAscending, IsJoin, IsPartOfJoin, IsSetBySet, IsWrite}
-use Rattle.abstract_state.proofs.OrderLaws.{ascending_none}
-use Rattle.abstract_state.proofs.JoinLaws.{join_begun, join_whole, join_stopped, join_part, join_one}
+use Rattle.abstract_state.proofs.{OrderLaws.{ascending_none}, JoinLaws.{join_begun, join_whole, join_stopped, join_part, join_one}}
 
 -- how many values a set has
 abbrev pub size : ValueSet → ℕ

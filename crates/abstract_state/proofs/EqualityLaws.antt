@@ -1,16 +1,11 @@
 -- The test for points is right, and a written table says what stands in its rows.
 use Rattle.std.proofs.Common.{◌≡◌, ◌↔◌, ℕ, Bool, true, ◌&&◌, refl, sym, ap, ap₂, ◌∙◌, IsTrue, Some, None}
-use Rattle.std.specs.Prelude.{◌==◌}
-use Rattle.std.specs.declared.option.Option.{Option}
-use Rattle.std.proofs.lemmas.Bool.{eqb-true, eq-eqb, and_parts, and_from}
-use Rattle.std.proofs.lemmas.List.Folds.{Any-from_list_any, list_any_at}
-use Rattle.std.proofs.lemmas.Map.Views.{Contains-from_any, list_any-from_Contains}
-use Rattle.osek_values.specs.Numbers.{task_no, block_no}
-use Rattle.osek_values.specs.declared.numbers.{TaskNo.{TaskNo}, BlockNo.{BlockNo}}
+use Rattle.std.specs.{Prelude.{◌==◌}, declared.option.Option.{Option}}
+use Rattle.std.proofs.lemmas.{Bool.{eqb-true, eq-eqb, and_parts, and_from}, List.Folds.{Any-from_list_any, list_any_at}, Map.Views.{Contains-from_any, list_any-from_Contains}}
+use Rattle.osek_values.specs.{Numbers.{task_no, block_no}, declared.numbers.{TaskNo.{TaskNo}, BlockNo.{BlockNo}}}
 use Rattle.osek_standard.specs.declared.point.Point.{Point}
 use Rattle.osek_standard.specs.declared.point.Point.TheVariants as point
-use Rattle.abstract_state.specs.declared.value.PartValue.{PartValue}
-use Rattle.abstract_state.specs.declared.table.{TableRow.{TableRow}, PlainTable.{PlainTable}}
+use Rattle.abstract_state.specs.declared.{value.PartValue.{PartValue}, table.{TableRow.{TableRow}, PlainTable.{PlainTable}}}
 use Rattle.abstract_state.specs.Tables.{same_over, same_point, set_at, is_member, is_row_of, sets_of, HasRow, HasValue}
 use Rattle.abstract_state.proofs.OrderLaws.{part_right, part_laws}
 

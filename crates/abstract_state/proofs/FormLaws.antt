@@ -1,18 +1,13 @@
 -- The form that a table dictates is one, and none is missing; where an edge begins and ends.
-use Rattle.std.proofs.Common.{◌≡◌, ◌≢◌, ◌⊎◌, ℕ, refl, sym, ap, subst, ◌∙◌, inl, inr, IsTrue, Option, Some, None}
-use Rattle.std.proofs.lemmas.Bool.{cases_eq}
-use Rattle.osek_values.specs.Numbers.{task_no}
-use Rattle.osek_values.specs.declared.numbers.TaskNo.{TaskNo}
-use Rattle.osek_values.specs.declared.status.Status.{Status}
+use Rattle.std.proofs.{Common.{◌≡◌, ◌≢◌, ◌⊎◌, ℕ, refl, sym, ap, subst, ◌∙◌, inl, inr, IsTrue, Option, Some, None}, lemmas.Bool.{cases_eq}}
+use Rattle.osek_values.specs.{Numbers.{task_no}, declared.{numbers.TaskNo.{TaskNo}, status.Status.{Status}}}
 use Rattle.osek_values.specs.declared.status.Status.TheVariants as status
-use Rattle.osek_standard.specs.declared.app.App.{App}
-use Rattle.osek_standard.specs.Dispatch.{Outcome, Keep, To}
+use Rattle.osek_standard.specs.{declared.app.App.{App}, Dispatch.{Outcome, Keep, To}}
 use Rattle.image_model.specs.declared.site.{Form.{Form}, Known.{Known}}
 use Rattle.image_model.specs.declared.site.Form.TheVariants as form
 use Rattle.image_model.specs.declared.site.Known.TheVariants as known
 use Rattle.osek_standard.specs.declared.point.Point.{Point}
-use Rattle.abstract_state.specs.Tables.{Sets, Inductive}
-use Rattle.abstract_state.specs.Forms.{Occurs, OccursAlone, OccurTwo, FormOf, Edge, Noted, NotedAlone, NotedTwo, KnownOf}
+use Rattle.abstract_state.specs.{Tables.{Sets, Inductive}, Forms.{Occurs, OccursAlone, OccurTwo, FormOf, Edge, Noted, NotedAlone, NotedTwo, KnownOf}}
 
 module _ (app : App) (table : Sets) (b : ℕ) where
   not_two : (o : Outcome) → OccursAlone app table b o → OccurTwo app table b → ⊥

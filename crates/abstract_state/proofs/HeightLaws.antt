@@ -2,21 +2,14 @@
 use Rattle.std.proofs.Common.{◌≡◌, ℕ, suc, ◌+◌, ◌*◌, ◌^◌, ◌<◌, ◌≤◌, List, [], ◌∷◌, ◌++◌, length, map, flat_map, get_or, refl, sym, ap, ap₂, ◌∙◌, arith, All}
 use Rattle.std.proofs.Math.Nat.{mul-le-mul}
 use Rattle.std.specs.List.{range_with_len, sum_by}
-use Rattle.std.proofs.lemmas.List.FromFn.{length-range_with_len}
-use Rattle.std.proofs.lemmas.List.Sums.{sum_by-cons, sum_by-append, sum_by-le}
-use Rattle.std.proofs.lemmas.Nat.{ones-le}
+use Rattle.std.proofs.lemmas.{List.{FromFn.{length-range_with_len}, Sums.{sum_by-cons, sum_by-append, sum_by-le}}, Nat.{ones-le}}
 use Rattle.osek_values.proofs.BitCounts.{bits_counted}
-use Rattle.osek_values.specs.Numbers.{task_no, event_no, alarm_no}
-use Rattle.osek_values.specs.Bits.{has_bit}
-use Rattle.osek_standard.specs.declared.app.App.{App}
-use Rattle.osek_standard.specs.declared.objects.Task.{Task}
-use Rattle.osek_standard.specs.Apps.{the_task, no_task}
-use Rattle.osek_standard.specs.Counts.{stacks, task_height, event_height, height}
+use Rattle.osek_values.specs.{Numbers.{task_no, event_no, alarm_no}, Bits.{has_bit}}
+use Rattle.osek_standard.specs.{declared.{app.App.{App}, objects.Task.{Task}}, Apps.{the_task, no_task}, Counts.{stacks, task_height, event_height, height}}
 use Rattle.osek_standard.proofs.CountLaws.{few_stacks}
 use Rattle.abstract_state.specs.declared.value.Component.{Component}
 use Rattle.abstract_state.specs.declared.value.Component.TheVariants as component
-use Rattle.abstract_state.specs.declared.table.{ValueSet.{ValueSet}, PlainEntry.{PlainEntry}}
-use Rattle.abstract_state.specs.Components.{own_bits, events_of, components}
+use Rattle.abstract_state.specs.{declared.table.{ValueSet.{ValueSet}, PlainEntry.{PlainEntry}}, Components.{own_bits, events_of, components}}
 use Rattle.abstract_state.specs.Domains.{domain_size, domain_of, domains_of, domains, entry_height, HasMasks}
 
 module _ {X Y : Type 0} (g : Y → ℕ) where

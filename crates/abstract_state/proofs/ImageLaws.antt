@@ -1,32 +1,21 @@
 -- An image whose sites have the forms that a table dictates, and know no more of their statuses, runs as the kernel.
 use Rattle.std.proofs.Common.{◌≡◌, ◌⊎◌, ℕ, ◌<◌, Bool, true, false, List, length, get_or, Option, Some, None, refl, sym, ap, subst, inl, inr, ◌∙◌}
 use Rattle.std.specs.Prelude.{option_map, if◌then◌else◌, nat_lt, All}
-use Rattle.std.proofs.lemmas.Bool.{cases_lt, eq-eqb}
-use Rattle.std.proofs.lemmas.List.{get_or_past}
-use Rattle.osek_values.specs.declared.status.Status.{Status}
-use Rattle.osek_values.specs.declared.status.Ask.{Ask}
+use Rattle.std.proofs.lemmas.{Bool.{cases_lt, eq-eqb}, List.{get_or_past}}
+use Rattle.osek_values.specs.declared.status.{Status.{Status}, Ask.{Ask}}
 use Rattle.osek_values.specs.declared.status.Ask.TheVariants as ask
-use Rattle.osek_values.specs.declared.event.Event.{Event}
-use Rattle.osek_values.specs.declared.numbers.{ModeNo.{ModeNo}, TaskNo.{TaskNo}}
-use Rattle.osek_standard.specs.declared.app.App.{App}
-use Rattle.osek_standard.specs.declared.state.{State.{State}, Caller.{Caller}, Caller.TheVariants.{Nobody, Task, Routine}}
-use Rattle.osek_standard.specs.TaskStates.{is_live}
-use Rattle.osek_standard.specs.States.{here, task_state, caller}
-use Rattle.osek_standard.specs.Priority.{best, current_priority}
-use Rattle.osek_standard.specs.Effects.{effect}
-use Rattle.osek_standard.specs.Dispatch.{Outcome, Keep, To, outcome, outcome_by, if_any, if_above, preempted_by, concluded, instruction}
-use Rattle.osek_standard.specs.Kernel.{step}
-use Rattle.osek_standard.specs.Well.{IsActive}
+use Rattle.osek_values.specs.declared.{event.Event.{Event}, numbers.{ModeNo.{ModeNo}, TaskNo.{TaskNo}}}
+use Rattle.osek_standard.specs.{declared.{app.App.{App}, state.{State.{State}, Caller.{Caller, TheVariants.{Nobody, Task, Routine}}}}, TaskStates.{is_live}}
+use Rattle.osek_standard.specs.{States.{here, task_state, caller}, Priority.{best, current_priority}, Effects.{effect}}
+use Rattle.osek_standard.specs.{Dispatch.{Outcome, Keep, To, outcome, outcome_by, if_any, if_above, preempted_by, concluded, instruction}, Kernel.{step}, Well.{IsActive}}
 use Rattle.osek_standard.proofs.PriorityLaws.{best_is_live}
 use Rattle.image_model.specs.declared.site.{Form.{Form}, Known.{Known}, Site.{Site}}
 use Rattle.image_model.specs.declared.site.Form.TheVariants as form
 use Rattle.image_model.specs.declared.site.Known.TheVariants as known
 use Rattle.image_model.specs.declared.image.{Image.{Image}, Version.{Version}}
 use Rattle.image_model.specs.declared.image.Version.TheVariants as version
-use Rattle.image_model.specs.Statuses.{status_number, allows_status}
-use Rattle.image_model.specs.Versions.{IsUnknown, SaysNothing, FitsAlone}
-use Rattle.image_model.specs.ImageStep.{stays, kept_by, formed_at, formed_by, site_at, instructed, image_step}
-use Rattle.image_model.specs.Laws.{IsKernelsRun}
+use Rattle.image_model.specs.{Statuses.{status_number, allows_status}, Versions.{IsUnknown, SaysNothing, FitsAlone}}
+use Rattle.image_model.specs.{ImageStep.{stays, kept_by, formed_at, formed_by, site_at, instructed, image_step}, Laws.{IsKernelsRun}}
 use Rattle.image_model.proofs.KernelRuns.{runs_as_kernel as runs_inside, same_step as step_inside}
 use Rattle.abstract_state.specs.Tables.{Sets, In, Inductive}
 use Rattle.abstract_state.specs.Forms.{Occurs, FormOf, Noted, KnownOf, FormFits, KnownFits, Fits, HasDictatedForms, HasDictatedStatuses, KnowsAtMost}

@@ -1,17 +1,10 @@
 -- Joins of sets: what a value that is put in does, and what they are to both sets.
 use Rattle.std.proofs.Common.{◌≡◌, ℕ, zero, suc, ◌+◌, ◌-◌, ◌<◌, ◌≤◌, Bool, true, false, ◌||◌, List, [], ◌∷◌, ◌++◌, length, get_or, set, take, drop, refl, sym, ap, ap₂, subst, ◌∙◌, inl, inr, arith, IsTrue}
-use Rattle.std.specs.declared.cmp.Ordering.TheVariants.{Less}
-use Rattle.std.specs.List.{All, list_any, AllByRecursion, IsDistinct, insert}
-use Rattle.std.proofs.Math.Bool.{or_comm, or_assoc}
-use Rattle.std.proofs.lemmas.Bool.{or_cases, or_left, or_right, or_parts, cases_Bool}
-use Rattle.std.proofs.lemmas.List.{take-append-drop, take_all, get_or_default}
-use Rattle.std.proofs.lemmas.List.Folds.{list_any_at, list_any_more, list_any-append}
-use Rattle.std.proofs.lemmas.List.Edits.{length-insert}
-use Rattle.std.proofs.lemmas.Map.Keys.{Less-from_sorted, IsDistinct-cons, IsDistinct-from_sorted}
-use Rattle.std.proofs.lemmas.Map.Made.{length-le_from_is_member}
-use Rattle.abstract_state.specs.declared.value.{PartValue.{PartValue}}
-use Rattle.abstract_state.specs.declared.table.ValueSet.{ValueSet}
-use Rattle.abstract_state.specs.ValueOrder.{part_order, same_part, IsAscending, ArePassed, IsPlace, IsGap}
+use Rattle.std.specs.{declared.cmp.Ordering.TheVariants.{Less}, List.{All, list_any, AllByRecursion, IsDistinct, insert}}
+use Rattle.std.proofs.{Math.Bool.{or_comm, or_assoc}, lemmas.{Bool.{or_cases, or_left, or_right, or_parts, cases_Bool}, List.{take-append-drop, take_all, get_or_default}}}
+use Rattle.std.proofs.lemmas.List.{Folds.{list_any_at, list_any_more, list_any-append}, Edits.{length-insert}}
+use Rattle.std.proofs.lemmas.Map.{Keys.{Less-from_sorted, IsDistinct-cons, IsDistinct-from_sorted}, Made.{length-le_from_is_member}}
+use Rattle.abstract_state.specs.{declared.{value.PartValue.{PartValue}, table.ValueSet.{ValueSet}}, ValueOrder.{part_order, same_part, IsAscending, ArePassed, IsPlace, IsGap}}
 use Rattle.abstract_state.specs.Tables.{is_member, IsSubset, IsJoin, IsPartOfJoin}
 use Rattle.abstract_state.proofs.OrderLaws.{part_right, part_laws, any_with, ascending_with, same_list, passed_on, none_passed}
 

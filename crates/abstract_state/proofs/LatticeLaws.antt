@@ -1,20 +1,12 @@
 -- The lattice of entries: what a join leaves is sound and lies where it should, and the number of values grows with the order.
 use Rattle.std.proofs.Common.{◌≡◌, ℕ, zero, suc, ◌+◌, ◌≤◌, List, [], ◌∷◌, length, get_or, map, refl, sym, ap, ap₂, ◌∙◌, arith, sum_by, Result, Ok, Err}
-use Rattle.std.specs.Prelude.{IfOk, OnOk, OnErr}
-use Rattle.std.specs.List.{All}
-use Rattle.std.proofs.Math.ListN.{get_or-map}
-use Rattle.std.proofs.lemmas.List.{length-map}
-use Rattle.std.proofs.lemmas.List.Elements.{All-head, All-tail, All-weaker, All-get_or, All-from_get_or}
-use Rattle.std.proofs.lemmas.List.Sums.{sum_by-cons}
+use Rattle.std.specs.{Prelude.{IfOk, OnOk, OnErr}, List.{All}}
+use Rattle.std.proofs.{Math.ListN.{get_or-map}, lemmas.List.{length-map, Elements.{All-head, All-tail, All-weaker, All-get_or, All-from_get_or}, Sums.{sum_by-cons}}}
 use Rattle.osek_values.specs.declared.memory.Memory.{Memory}
-use Rattle.abstract_state.specs.declared.value.Domain.{Domain}
-use Rattle.abstract_state.specs.declared.table.{ValueSet.{ValueSet}, PlainEntry.{PlainEntry}}
-use Rattle.abstract_state.specs.ValueOrder.{IsAscending}
+use Rattle.abstract_state.specs.{declared.{value.Domain.{Domain}, table.{ValueSet.{ValueSet}, PlainEntry.{PlainEntry}}}, ValueOrder.{IsAscending}}
 use Rattle.abstract_state.specs.Domains.{domain_size, IsCounted, IsSound, IsSoundEntry, IsBelow, domains, entry_height}
 use Rattle.abstract_state.specs.Tables.{empty_set, set_at, entry_values, AreAscending, IsJoin, IsPartOfJoin, IsSetBySet, IsSubset}
-use Rattle.abstract_state.proofs.JoinLaws.{no_longer, no_other, join_part, join_right, part_least, equal_sets}
-use Rattle.abstract_state.proofs.EntryJoins.{size, ascending_at, same_sets}
-use Rattle.abstract_state.proofs.HeightLaws.{sum_map}
+use Rattle.abstract_state.proofs.{JoinLaws.{no_longer, no_other, join_part, join_right, part_least, equal_sets}, EntryJoins.{size, ascending_at, same_sets}, HeightLaws.{sum_map}}
 use Rattle.abstract_state.proofs.SoundSets.{most_members, sound_part}
 
 pub below_itself : (x : PlainEntry) → IsBelow x x

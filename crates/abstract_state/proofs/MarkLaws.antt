@@ -1,16 +1,10 @@
 -- A step does what it shows.
 use Rattle.std.proofs.Common.{◌≡◌, Bool, refl, Some, None}
 use Rattle.std.specs.declared.option.Option.{Option}
-use Rattle.osek_values.specs.declared.event.{Event.{Event}, Event.TheVariants.{Run, Irq, Tick}}
-use Rattle.osek_values.specs.declared.numbers.SourceNo.{SourceNo}
-use Rattle.osek_values.specs.declared.status.Status.{Status}
-use Rattle.osek_standard.specs.declared.app.App.{App}
-use Rattle.osek_standard.specs.declared.state.{State.{State}, Processor.{Processor}}
+use Rattle.osek_values.specs.declared.{event.Event.{Event, TheVariants.{Run, Irq, Tick}}, numbers.SourceNo.{SourceNo}, status.Status.{Status}}
+use Rattle.osek_standard.specs.declared.{app.App.{App}, state.{State.{State}, Processor.{Processor}}}
 use Rattle.osek_standard.specs.declared.state.Processor.TheVariants as processor
-use Rattle.osek_standard.specs.Effects.{effect}
-use Rattle.osek_standard.specs.Dispatch.{Outcome, outcome, instruction, silent, Stepped}
-use Rattle.osek_standard.specs.Arrivals.{arrival, entered}
-use Rattle.osek_standard.specs.Kernel.{step, run_by, entered_or}
+use Rattle.osek_standard.specs.{Effects.{effect}, Dispatch.{Outcome, outcome, instruction, silent, Stepped}, Arrivals.{arrival, entered}, Kernel.{step, run_by, entered_or}}
 use Rattle.osek_standard.specs.Well.{IsActive}
 use Rattle.abstract_state.specs.Alike.{IsAlike}
 use Rattle.osek_standard.specs.Outcomes.{Mark, Silent, Arrived, Did, did, arrived_or, shown_by, shows, IsInstruction, IsArrivalStep}

@@ -1,13 +1,10 @@
 -- Each component stands at its number.
-use Rattle.std.proofs.Common.{◌≡◌, ℕ, zero, suc, ◌+◌, ◌<◌, List, [], ◌∷◌, ◌++◌, length, map, flat_map, get_or, length-append, refl, sym, ap, ◌∙◌, arith, add-one}
-use Rattle.std.specs.Prelude.{◌^◌, count_ones}
-use Rattle.std.specs.List.{range_with_len}
+use Rattle.std.proofs.Common.{◌≡◌, ℕ, zero, suc, ◌+◌, ◌<◌, List, [], ◌∷◌, ◌++◌, length, map, flat_map, length-append, refl, sym, ap, ◌∙◌, arith, add-one}
+use Rattle.std.specs.{Prelude.{◌^◌, count_ones}, List.{range_with_len}}
 use Rattle.std.proofs.lemmas.List.{get_or_default, length-map}
-use Rattle.osek_values.specs.Numbers.{task_no, event_no, alarm_no}
-use Rattle.osek_values.specs.Bits.{has_bit}
+use Rattle.osek_values.specs.{Numbers.{task_no, event_no, alarm_no}, Bits.{has_bit}}
 use Rattle.osek_values.proofs.BitCounts.{bits_counted}
-use Rattle.osek_standard.specs.declared.app.App.{App}
-use Rattle.osek_standard.specs.Apps.{the_task}
+use Rattle.osek_standard.specs.{declared.app.App.{App}, Apps.{the_task}}
 use Rattle.osek_standard.proofs.Members.{Among, among_contained, among_left, among_right, among_map, among_flat_map, among_range, among_passing}
 use Rattle.abstract_state.specs.declared.value.Component.{Component}
 use Rattle.abstract_state.specs.declared.value.Component.TheVariants as component
@@ -56,10 +53,6 @@ module _ (app : App) where
 
   pub number_known : (k : Component) → IsComponent app k → component_number app k < component_count app
   number_known k h = let x = stands k h in let same = number_is k x in let known = x.known in omega (arith, known, same)
-
-  -- where a component's number is another's, both are the same
-  pub same_component : (k l : Component) → IsComponent app k → IsComponent app l → component_number app k ≡ component_number app l → k ≡ l
-  same_component k l h g e = sym (component_here k h) ∙ ap (component_at app) e ∙ component_here l g
 
   -- as many components before a task's events as the tasks below it have events
   flat_length : (a n : ℕ) → length (flat_map (events_of app) (range_with_len a n)) + event_start app a ≡ event_start app (a + n)

@@ -1,21 +1,14 @@
 -- The order of values is total and ties no two, so an ascending list has its members at their places alone.
 use Rattle.std.proofs.Common.{◌≡◌, ℕ, zero, suc, ◌+◌, ◌-◌, ◌<◌, Bool, true, false, ◌||◌, List, [], ◌∷◌, length, get_or, take, drop, map, refl, sym, subst, ap, ap₂, ◌∙◌, arith}
-use Rattle.std.specs.Cmp.{IsTotalOrder, IsEquivalence}
-use Rattle.std.specs.Cmp.Lexicographic.{slice_cmp}
-use Rattle.std.specs.List.{list_any, All, insert}
-use Rattle.std.specs.List.Sorted.{IsStrictlySortedBy}
-use Rattle.std.specs.Ordering.{is_eq, nat_cmp, ordering_reverse, ordering_then}
-use Rattle.std.specs.declared.cmp.{Ordering.{Ordering}, Ordering.TheVariants.{Less, Equal, Greater}}
+use Rattle.std.specs.{Cmp.{IsTotalOrder, IsEquivalence, Lexicographic.{slice_cmp}}, List.{list_any, All, insert, Sorted.{IsStrictlySortedBy}}}
+use Rattle.std.specs.{Ordering.{is_eq, nat_cmp, ordering_reverse, ordering_then}, declared.cmp.Ordering.{Ordering, TheVariants.{Less, Equal, Greater}}}
 use Rattle.std.proofs.lemmas.Cmp.{on_total, nat_list_cmp_total, eq_by_cmp_equiv}
 use Rattle.std.proofs.lemmas.List.Elements.{All-nil, All-cons, All-head, All-tail, All-append, All-weaker, All-take, All-drop, All-more, All-get_or, All-from_recursion, recursion_from_All}
-use Rattle.std.proofs.lemmas.List.{take_all}
-use Rattle.std.proofs.lemmas.List.Sorted.{IsPermutation-insert, list_any-IsPermutation}
-use Rattle.std.proofs.lemmas.Map.Keys.{sorted_head, sorted_tail}
+use Rattle.std.proofs.lemmas.{List.{take_all, Sorted.{IsPermutation-insert, list_any-IsPermutation}}, Map.Keys.{sorted_head, sorted_tail}}
 use Rattle.std.proofs.lemmas.Map.Lookups.{exact_bytes, btree_set_from_contains}
 use Rattle.std.specs.BTreeSet.{BTreeSet}
-use Rattle.osek_values.specs.Numbers.{block_no, res_no}
-use Rattle.osek_values.specs.declared.numbers.{ResNo.{ResNo}}
-use Rattle.abstract_state.specs.declared.value.{Val.{Val}, Val.TheVariants.{Suspended, Live, Waiting}, PartValue.{PartValue}, PartValue.TheVariants.{OfTask, OfEvent, OfAlarm}}
+use Rattle.osek_values.specs.{Numbers.{block_no, res_no}, declared.numbers.ResNo.{ResNo}}
+use Rattle.abstract_state.specs.declared.value.{Val.{Val, TheVariants.{Suspended, Live, Waiting}}, PartValue.{PartValue, TheVariants.{OfTask, OfEvent, OfAlarm}}}
 use Rattle.abstract_state.specs.ValueOrder.{val_fields, flag_field, part_fields, part_order, same_part, IsAscending, ArePassed, IsPlace, IsGap}
 
 pub order_total : IsTotalOrder part_order

@@ -1,10 +1,7 @@
 -- Lists over the numbers below another, one number longer.
 use Rattle.std.proofs.Common.{◌≡◌, ℕ, zero, suc, ◌+◌, Bool, true, false, cond, List, [], ◌∷◌, ◌++◌, ◌≤◌, length, map, take, filter, flat_map, refl, sym, ap, ◌∙◌, arith, append_assoc}
 use Rattle.std.specs.List.{range_with_len}
-use Rattle.std.proofs.lemmas.List.{append-nil, map-append, take_all}
-use Rattle.std.proofs.lemmas.List.Elements.{filter-append}
-use Rattle.std.proofs.lemmas.List.FromFn.{map-range_with_len_more}
-use Rattle.std.proofs.lemmas.Grind.{flat_map-append}
+use Rattle.std.proofs.lemmas.{List.{append-nil, map-append, take_all, Elements.{filter-append}, FromFn.{map-range_with_len_more}}, Grind.{flat_map-append}}
 
 range_from : (a n : ℕ) → range_with_len a (suc n) ≡ range_with_len a n ++ (a + n) ∷ []
 range_from a zero = ap (λ (k : ℕ). k ∷ []) (omega arith)

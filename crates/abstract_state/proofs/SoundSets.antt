@@ -1,15 +1,10 @@
 -- Sound sets: how many members they have, and that their joins are sound.
 use Rattle.std.proofs.Common.{◌≡◌, ◌≤◌, true, length, sym, subst, ◌∙◌, inl, inr, arith}
 use Rattle.std.specs.List.{All}
-use Rattle.std.proofs.lemmas.Bool.{or_cases}
-use Rattle.std.proofs.lemmas.List.Elements.{All-contains}
-use Rattle.std.proofs.lemmas.Map.Views.{Contains-from_any, list_any-from_Contains, All-from_any}
-use Rattle.abstract_state.specs.declared.value.{Domain.{Domain}, PartValue.{PartValue}}
-use Rattle.abstract_state.specs.declared.table.ValueSet.{ValueSet}
-use Rattle.abstract_state.specs.Domains.{IsWithin, domain_size, IsCounted, IsSound}
+use Rattle.std.proofs.lemmas.{Bool.{or_cases}, List.Elements.{All-contains}, Map.Views.{Contains-from_any, list_any-from_Contains, All-from_any}}
+use Rattle.abstract_state.specs.{declared.{value.{Domain.{Domain}, PartValue.{PartValue}}, table.ValueSet.{ValueSet}}, Domains.{IsWithin, domain_size, IsCounted, IsSound}}
 use Rattle.abstract_state.specs.Tables.{is_member, IsPartOfJoin}
-use Rattle.abstract_state.proofs.OrderLaws.{part_right, part_laws}
-use Rattle.abstract_state.proofs.JoinLaws.{AreAmong, no_longer}
+use Rattle.abstract_state.proofs.{OrderLaws.{part_right, part_laws}, JoinLaws.{AreAmong, no_longer}}
 
 -- a set has no more members than its domain has values
 pub most_members : (set : ValueSet) → IsCounted set.domain → IsSound set → length set.members ≤ domain_size set.domain

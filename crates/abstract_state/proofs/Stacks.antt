@@ -1,15 +1,9 @@
 -- Lists without repeats, and all stacks of distinct resources.
 use Rattle.std.proofs.Common.{◌≡◌, ℕ, zero, suc, ◌+◌, ◌*◌, ◌<◌, Bool, true, false, List, [], ◌∷◌, ◌++◌, length, map, flat_map, refl, sym, ap, subst, ◌∙◌, inl, inr, arith}
-use Rattle.std.specs.Prelude.{if◌then◌else◌}
-use Rattle.std.specs.List.{range_with_len, IsDistinct}
-use Rattle.std.proofs.lemmas.Bool.{cases_Bool, eqb-true, eq-eqb}
-use Rattle.std.proofs.lemmas.List.{length-map}
-use Rattle.std.proofs.lemmas.List.Elements.{recursion_from_All, All-from_recursion}
-use Rattle.std.proofs.lemmas.List.FromFn.{length-map-range_with_len}
-use Rattle.osek_values.specs.Numbers.{res_no}
-use Rattle.osek_values.specs.declared.numbers.ResNo.{ResNo}
-use Rattle.osek_standard.specs.Counts.{stacks}
-use Rattle.osek_standard.specs.Well.{same_resource, IsStackOutOf}
+use Rattle.std.specs.{Prelude.{if◌then◌else◌}, List.{range_with_len, IsDistinct}}
+use Rattle.std.proofs.lemmas.{Bool.{cases_Bool, eqb-true, eq-eqb}, List.{length-map, Elements.{recursion_from_All, All-from_recursion}, FromFn.{length-map-range_with_len}}}
+use Rattle.osek_values.specs.{Numbers.{res_no}, declared.numbers.ResNo.{ResNo}}
+use Rattle.osek_standard.specs.{Counts.{stacks}, Well.{same_resource, IsStackOutOf}}
 use Rattle.osek_standard.proofs.Members.{Among, among_cases, among_each, among_flat_map, among_map, among_range, each_among, flat_map_among, length_flat_map, map_among, range_among}
 
 -- no element stands twice

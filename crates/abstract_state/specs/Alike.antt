@@ -1,7 +1,6 @@
 -- States that differ at most in what a table doesn't keep.
 use Rattle.std.specs.Prelude.{◌≡◌, ℕ}
-use Rattle.osek_standard.specs.declared.state.State.{State}
-use Rattle.osek_standard.specs.States.{task_state, alarm_state, source_state, place_of_source}
+use Rattle.osek_standard.specs.{declared.state.State.{State}, States.{task_state, alarm_state, source_state, place_of_source}}
 use Rattle.abstract_state.specs.Components.{value_in, is_armed}
 
 -- the same but for mode, counter values, latches, offsets, due times and cycles

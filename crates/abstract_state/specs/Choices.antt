@@ -1,19 +1,12 @@
 -- Other choices of what a table doesn't keep, and the states that they give.
 use Rattle.std.specs.Prelude.{◌≡◌, ℕ, Bool, true, false, ◌==◌, List, slice_set, if◌then◌else◌, Some, None}
-use Rattle.osek_values.specs.Numbers.{alarm_no, source_no}
-use Rattle.osek_values.specs.declared.numbers.BlockNo.{BlockNo}
-use Rattle.osek_standard.specs.declared.app.App.{App}
-use Rattle.osek_standard.specs.declared.state.State.{State}
+use Rattle.osek_values.specs.{Numbers.{alarm_no, source_no}, declared.numbers.BlockNo.{BlockNo}}
+use Rattle.osek_standard.specs.declared.{app.App.{App}, state.State.{State}}
 use Rattle.osek_standard.specs.declared.state.AlarmState.TheVariants as alarm
-use Rattle.osek_standard.specs.Apps.{the_alarm}
-use Rattle.osek_standard.specs.States.{alarm_state, counter_value, here}
-use Rattle.osek_standard.specs.Effects.{place_at}
-use Rattle.osek_standard.specs.Arrivals.{arrival, takes_none}
-use Rattle.osek_standard.specs.declared.point.Point.{Point}
-use Rattle.abstract_state.specs.declared.value.{PartValue.{PartValue}, PartValue.TheVariants.{OfAlarm}}
+use Rattle.osek_standard.specs.{Apps.{the_alarm}, States.{alarm_state, counter_value, here}, Effects.{place_at}, Arrivals.{arrival, takes_none}, declared.point.Point.{Point}}
+use Rattle.abstract_state.specs.declared.value.PartValue.{PartValue, TheVariants.{OfAlarm}}
 use Rattle.abstract_state.specs.declared.value.Component.TheVariants as component
-use Rattle.abstract_state.specs.Components.{component_number}
-use Rattle.abstract_state.specs.Concrete.{Free, HasParts}
+use Rattle.abstract_state.specs.{Components.{component_number}, Concrete.{Free, HasParts}}
 
 abbrev pub with_latches : Free → List Bool → Free
 with_latches free latched = record free { latched = latched }

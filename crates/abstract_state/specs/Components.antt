@@ -1,20 +1,14 @@
 -- The parts of a state that a table keeps, under one index, and what each can be.
 use Rattle.std.specs.Prelude.{◌≡◌, ⊤, ℕ, zero, suc, ◌+◌, ◌<◌, Bool, true, false, List, ◌++◌, length, map, filter, flat_map, slice_index_or, IsTrue, Some, None}
 use Rattle.std.specs.List.{range_with_len}
-use Rattle.osek_values.specs.Bits.{has_bit, passing_below}
-use Rattle.osek_values.specs.Numbers.{task_no, event_no, alarm_no}
-use Rattle.osek_values.specs.declared.numbers.{BlockNo.{BlockNo}, ResNo.{ResNo}}
-use Rattle.osek_standard.specs.declared.app.App.{App}
-use Rattle.osek_standard.specs.declared.task_state.Activity.{Activity}
+use Rattle.osek_values.specs.{Bits.{has_bit, passing_below}, Numbers.{task_no, event_no, alarm_no}, declared.numbers.{BlockNo.{BlockNo}, ResNo.{ResNo}}}
+use Rattle.osek_standard.specs.declared.{app.App.{App}, task_state.Activity.{Activity}}
 use Rattle.osek_standard.specs.declared.task_state.Activity.TheVariants as activity
 use Rattle.osek_standard.specs.declared.state.{State.{State}, AlarmState.{AlarmState}}
 use Rattle.osek_standard.specs.declared.state.AlarmState.TheVariants as alarm
-use Rattle.osek_standard.specs.Apps.{the_task}
-use Rattle.osek_standard.specs.States.{task_state, alarm_state}
-use Rattle.osek_standard.specs.Well.{IsOwn, IsStack, IsWaitingAt}
-use Rattle.osek_standard.specs.declared.point.Point.{Point}
+use Rattle.osek_standard.specs.{Apps.{the_task}, States.{task_state, alarm_state}, Well.{IsOwn, IsStack, IsWaitingAt}, declared.point.Point.{Point}}
 use Rattle.osek_standard.specs.declared.point.Point.TheVariants as point
-use Rattle.abstract_state.specs.declared.value.{Val.{Val}, LiveVal.{LiveVal}, Val.TheVariants.{Suspended, Live, Waiting}, Component.{Component}, ComponentNo.{ComponentNo}, PartValue.{PartValue}, PartValue.TheVariants.{OfTask, OfEvent, OfAlarm}}
+use Rattle.abstract_state.specs.declared.value.{Val.{Val, TheVariants.{Suspended, Live, Waiting}}, LiveVal.{LiveVal}, Component.{Component}, ComponentNo.{ComponentNo}, PartValue.{PartValue, TheVariants.{OfTask, OfEvent, OfAlarm}}}
 use Rattle.abstract_state.specs.declared.value.Component.TheVariants as component
 
 module _ (app : App) where

@@ -1,23 +1,18 @@
 -- States by their parts: one value for each component, and a choice of all that a table doesn't keep.
 use Rattle.std.specs.Prelude.{◌≡◌, ⊤, ℕ, zero, suc, ◌+◌, ◌*◌, ◌<◌, ◌≤◌, Bool, true, false, ◌&&◌, ◌==◌, List, length, map, if◌then◌else◌, slice_index_or, IfSome}
-use Rattle.std.specs.List.{range_with_len}
-use Rattle.std.specs.declared.option.Option.{Option}
-use Rattle.osek_values.specs.Numbers.{task_no, event_no, alarm_no, mask}
-use Rattle.osek_values.specs.declared.numbers.{TaskNo.{TaskNo}, BlockNo.{BlockNo}, ModeNo.{ModeNo}, SourceNo.{SourceNo}}
+use Rattle.std.specs.{List.{range_with_len}, declared.option.Option.{Option}}
+use Rattle.osek_values.specs.{Numbers.{task_no, event_no, alarm_no, mask}, declared.numbers.{TaskNo.{TaskNo}, BlockNo.{BlockNo}, ModeNo.{ModeNo}, SourceNo.{SourceNo}}}
 use Rattle.osek_values.specs.Bits.{has_bit}
-use Rattle.osek_standard.specs.declared.app.App.{App}
-use Rattle.osek_standard.specs.declared.task_state.{TaskState.{TaskState}, Activity.{Activity}}
+use Rattle.osek_standard.specs.declared.{app.App.{App}, task_state.{TaskState.{TaskState}, Activity.{Activity}}}
 use Rattle.osek_standard.specs.declared.task_state.Activity.TheVariants as activity
 use Rattle.osek_standard.specs.declared.state.{State.{State}, AlarmState.{AlarmState}, Source.{Source}, Processor.{Processor}}
 use Rattle.osek_standard.specs.declared.state.AlarmState.TheVariants as alarm
 use Rattle.osek_standard.specs.declared.state.Source.TheVariants as source
 use Rattle.osek_standard.specs.declared.state.Processor.TheVariants as processor
-use Rattle.osek_standard.specs.Apps.{the_task, the_counter, the_block, source_count}
-use Rattle.osek_standard.specs.Effects.{place_at}
-use Rattle.osek_standard.specs.Well.{Well, IsOwn, IsOfRoutine, IsOffsetAt, IsArmed}
+use Rattle.osek_standard.specs.{Apps.{the_task, the_counter, the_block, source_count}, Effects.{place_at}, Well.{Well, IsOwn, IsOfRoutine, IsOffsetAt, IsArmed}}
 use Rattle.osek_standard.specs.declared.point.Point.{Point}
 use Rattle.osek_standard.specs.declared.point.Point.TheVariants as point
-use Rattle.abstract_state.specs.declared.value.{Val.{Val}, LiveVal.{LiveVal}, Val.TheVariants.{Suspended, Live, Waiting}, PartValue.{PartValue}, PartValue.TheVariants.{OfTask, OfEvent, OfAlarm}}
+use Rattle.abstract_state.specs.declared.value.{Val.{Val, TheVariants.{Suspended, Live, Waiting}}, LiveVal.{LiveVal}, PartValue.{PartValue, TheVariants.{OfTask, OfEvent, OfAlarm}}}
 use Rattle.abstract_state.specs.declared.value.Component.TheVariants as component
 use Rattle.osek_standard.specs.Points.{point_of}
 use Rattle.abstract_state.specs.Components.{component_count, component_number, abstract_of, IsAllowed}

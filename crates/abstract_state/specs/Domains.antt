@@ -1,18 +1,10 @@
 -- What the values of a set are values of, and how many these are: what bounds the growth of an entry.
-use Rattle.std.specs.Prelude.{◌≡◌, ◌↔◌, ⊤, ℕ, ◌+◌, ◌*◌, ◌<◌, ◌^◌, List, length, map, All, sum_by, Contains}
-use Rattle.std.specs.List.{IsDistinct}
-use Rattle.osek_standard.specs.declared.app.App.{App}
-use Rattle.osek_standard.specs.declared.objects.Task.{Task}
-use Rattle.osek_standard.specs.Apps.{the_task}
-use Rattle.osek_standard.specs.Counts.{stacks}
-use Rattle.osek_standard.specs.Validity.{IsAmong}
-use Rattle.osek_standard.specs.Well.{IsStackOutOf}
-use Rattle.abstract_state.specs.declared.value.{Val.{Val}, Val.TheVariants.{Suspended, Live, Waiting}, Component.{Component}, Domain.{Domain}, PartValue.{PartValue}, PartValue.TheVariants.{OfTask, OfEvent, OfAlarm}}
+use Rattle.std.specs.{Prelude.{◌≡◌, ◌↔◌, ⊤, ℕ, ◌+◌, ◌*◌, ◌<◌, ◌^◌, List, length, map, All, sum_by, Contains}, List.{IsDistinct}}
+use Rattle.osek_standard.specs.{declared.{app.App.{App}, objects.Task.{Task}}, Apps.{the_task}, Counts.{stacks}, Validity.{IsAmong}, Well.{IsStackOutOf}}
+use Rattle.abstract_state.specs.declared.value.{Val.{Val, TheVariants.{Suspended, Live, Waiting}}, Component.{Component}, Domain.{Domain}, PartValue.{PartValue, TheVariants.{OfTask, OfEvent, OfAlarm}}}
 use Rattle.abstract_state.specs.declared.value.Component.TheVariants as component
 use Rattle.abstract_state.specs.declared.value.Domain.TheVariants as domain
-use Rattle.abstract_state.specs.declared.table.{ValueSet.{ValueSet}, PlainEntry.{PlainEntry}}
-use Rattle.abstract_state.specs.Components.{components}
-use Rattle.abstract_state.specs.ValueOrder.{same_part, IsAscending}
+use Rattle.abstract_state.specs.{declared.table.{ValueSet.{ValueSet}, PlainEntry.{PlainEntry}}, Components.{components}, ValueOrder.{same_part, IsAscending}}
 use Rattle.abstract_state.specs.Tables.{set_at, IsSubset}
 
 -- what a task with these blocks can be: suspended, Live at one of them with a stack of resources, or waiting at one

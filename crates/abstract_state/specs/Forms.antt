@@ -1,25 +1,14 @@
 -- The forms, the known statuses and the edges that a table dictates.
-use Rattle.std.specs.Prelude.{◌≡◌, ◌≢◌, ◌⊎◌, ℕ, Bool, Some}
-use Rattle.std.specs.declared.option.Option.{Option}
-use Rattle.osek_values.specs.declared.event.Event.{Event}
-use Rattle.osek_values.specs.declared.numbers.TaskNo.{TaskNo}
-use Rattle.osek_values.specs.declared.status.Status.{Status}
-use Rattle.osek_standard.specs.declared.app.App.{App}
-use Rattle.osek_standard.specs.declared.state.State.{State}
+use Rattle.std.specs.{Prelude.{◌≡◌, ◌≢◌, ◌⊎◌, ℕ, Bool, Some}, declared.option.Option.{Option}}
+use Rattle.osek_values.specs.declared.{event.Event.{Event}, numbers.TaskNo.{TaskNo}, status.Status.{Status}}
+use Rattle.osek_standard.specs.declared.{app.App.{App}, state.State.{State}}
 use Rattle.osek_standard.specs.declared.state.Processor.TheVariants as processor
-use Rattle.osek_standard.specs.States.{here}
-use Rattle.osek_standard.specs.Effects.{effect}
-use Rattle.osek_standard.specs.Dispatch.{Outcome, Keep, To, outcome}
-use Rattle.osek_standard.specs.Kernel.{step}
-use Rattle.osek_standard.specs.Well.{IsActive}
+use Rattle.osek_standard.specs.{States.{here}, Effects.{effect}, Dispatch.{Outcome, Keep, To, outcome}, Kernel.{step}, Well.{IsActive}}
 use Rattle.image_model.specs.declared.site.{Form.{Form}, Known.{Known}}
 use Rattle.image_model.specs.declared.site.Form.TheVariants as form
 use Rattle.image_model.specs.declared.site.Known.TheVariants as known
-use Rattle.image_model.specs.declared.image.Image.{Image}
-use Rattle.image_model.specs.ImageStep.{form_at, known_at}
-use Rattle.osek_standard.specs.declared.point.Point.{Point}
-use Rattle.osek_standard.specs.Points.{point_of}
-use Rattle.osek_standard.specs.Outcomes.{Did, shows}
+use Rattle.image_model.specs.{declared.image.Image.{Image}, ImageStep.{form_at, known_at}}
+use Rattle.osek_standard.specs.{declared.point.Point.{Point}, Points.{point_of}, Outcomes.{Did, shows}}
 use Rattle.abstract_state.specs.Tables.{Sets, In}
 
 -- some state in the table stands at block b, and its instruction has this outcome

@@ -1,21 +1,14 @@
 -- Tables of possible states, judged by single steps of single states.
-use Rattle.std.specs.Prelude.{◌≡◌, ℕ, ◌<◌, Bool, true, false, ◌&&◌, ◌||◌, ◌==◌, [], length, slice_index_or, slice_set, sum_by, IsTrue, Some, None, Contains, All}
-use Rattle.std.specs.List.{list_any}
+use Rattle.std.specs.{Prelude.{◌≡◌, ℕ, ◌<◌, Bool, true, false, ◌&&◌, ◌||◌, ◌==◌, [], length, slice_index_or, slice_set, sum_by, IsTrue, Some, None, Contains, All}, List.{list_any}}
 use Rattle.std.specs.declared.option.Option.{Option}
-use Rattle.osek_values.specs.declared.event.Event.{Event}
-use Rattle.osek_values.specs.declared.numbers.{TaskNo.{TaskNo}, ModeNo.{ModeNo}}
-use Rattle.osek_standard.specs.declared.app.App.{App}
-use Rattle.osek_standard.specs.declared.state.State.{State}
-use Rattle.osek_standard.specs.Kernel.{start, step}
-use Rattle.osek_standard.specs.Well.{Well}
-use Rattle.osek_standard.specs.declared.point.Point.{Point}
+use Rattle.osek_values.specs.declared.{event.Event.{Event}, numbers.{TaskNo.{TaskNo}, ModeNo.{ModeNo}}}
+use Rattle.osek_standard.specs.{declared.{app.App.{App}, state.State.{State}, point.Point.{Point}}, Kernel.{start, step}, Well.{Well}}
 use Rattle.osek_standard.specs.declared.point.Point.TheVariants as point
 use Rattle.abstract_state.specs.declared.value.{Domain.{Domain}, PartValue.{PartValue}}
 use Rattle.abstract_state.specs.declared.value.Domain.TheVariants as domain
 use Rattle.abstract_state.specs.declared.table.{ValueSet.{ValueSet}, PlainEntry.{PlainEntry}, TableRow.{TableRow}, PlainTable.{PlainTable}}
 use Rattle.osek_standard.specs.Points.{point_of, IsPoint}
-use Rattle.abstract_state.specs.ValueOrder.{same_part, IsAscending}
-use Rattle.abstract_state.specs.Components.{component_count, abstract_of, IsAllowed}
+use Rattle.abstract_state.specs.{ValueOrder.{same_part, IsAscending}, Components.{component_count, abstract_of, IsAllowed}}
 
 -- What a table says, however it is written down: which points have an entry, and which values are in the entry's set
 -- for component c.

@@ -1,11 +1,8 @@
 -- The order of values: that of the fields by which a value is written down.
-use Rattle.std.specs.Prelude.{◌≡◌, ℕ, ◌<◌, ◌≤◌, Bool, true, false, List, [], ◌∷◌, length, map, take, slice_index_or, All}
-use Rattle.std.specs.Cmp.Lexicographic.{slice_cmp}
-use Rattle.std.specs.List.Sorted.{IsStrictlySortedBy}
-use Rattle.std.specs.Ordering.{nat_cmp, eq_by_cmp}
-use Rattle.std.specs.declared.cmp.{Ordering.{Ordering}, Ordering.TheVariants.{Less}}
+use Rattle.std.specs.{Prelude.{◌≡◌, ℕ, ◌<◌, ◌≤◌, Bool, true, false, List, [], ◌∷◌, length, map, take, slice_index_or, All}, Cmp.Lexicographic.{slice_cmp}}
+use Rattle.std.specs.{List.Sorted.{IsStrictlySortedBy}, Ordering.{nat_cmp, eq_by_cmp}, declared.cmp.Ordering.{Ordering, TheVariants.{Less}}}
 use Rattle.osek_values.specs.declared.numbers.ResNo.{ResNo}
-use Rattle.abstract_state.specs.declared.value.{LiveVal.{LiveVal}, Val.{Val}, Val.TheVariants.{Suspended, Live, Waiting}, PartValue.{PartValue}, PartValue.TheVariants.{OfTask, OfEvent, OfAlarm}}
+use Rattle.abstract_state.specs.declared.value.{LiveVal.{LiveVal}, Val.{Val, TheVariants.{Suspended, Live, Waiting}}, PartValue.{PartValue, TheVariants.{OfTask, OfEvent, OfAlarm}}}
 
 -- the block, how many resources are held, and these, the first taken first
 abbrev pub live_fields : LiveVal → List ℕ

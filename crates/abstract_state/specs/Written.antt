@@ -1,12 +1,7 @@
 -- Tables as the analysis writes them.
-use Rattle.std.specs.Prelude.{◌≡◌, map, All}
-use Rattle.std.specs.List.Sorted.{IsStrictlySortedBy}
-use Rattle.std.specs.Ordering.{nat_cmp}
-use Rattle.osek_standard.specs.declared.app.App.{App}
-use Rattle.osek_standard.specs.Points.{point_number, IsPoint}
-use Rattle.abstract_state.specs.declared.table.{TableRow.{TableRow}, PlainTable.{PlainTable}}
-use Rattle.abstract_state.specs.Tables.{IsProper, sets_of}
-use Rattle.abstract_state.specs.Domains.{domains, domains_of, IsSoundEntry}
+use Rattle.std.specs.{Prelude.{◌≡◌, map, All}, List.Sorted.{IsStrictlySortedBy}, Ordering.{nat_cmp}}
+use Rattle.osek_standard.specs.{declared.app.App.{App}, Points.{point_number, IsPoint}}
+use Rattle.abstract_state.specs.{declared.table.{TableRow.{TableRow}, PlainTable.{PlainTable}}, Tables.{IsProper, sets_of}, Domains.{domains, domains_of, IsSoundEntry}}
 
 -- A row stands at a point of the application, with a sound entry over its domains.
 pub record IsRow (app : App) (row : TableRow) : Type 0 where

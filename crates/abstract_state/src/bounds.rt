@@ -1,11 +1,7 @@
 //! How many values the sets of an entry can have, each law on a function that does nothing.
 ghost use Rattle.std.specs.Prelude.{◌≡◌, ◌<◌, ◌^◌, ℕ};
-ghost use Rattle.osek_standard.specs.declared.app.App.{App};
-ghost use Rattle.osek_standard.specs.Counts.{height};
-ghost use Rattle.osek_standard.specs.declared.point.Point.{Point};
-ghost use Rattle.abstract_state.specs.declared.value.Domain.{Domain};
-ghost use Rattle.abstract_state.specs.declared.table.PlainEntry.{PlainEntry};
-ghost use Rattle.abstract_state.specs.declared.value.PartValue.{PartValue};
+ghost use Rattle.osek_standard.specs.{declared.{app.App.{App}, point.Point.{Point}}, Counts.{height}};
+ghost use Rattle.abstract_state.specs.declared.{value.{Domain.{Domain}, PartValue.{PartValue}}, table.PlainEntry.{PlainEntry}};
 ghost use Rattle.abstract_state.specs.Components.{component_at, component_count, IsAllowed};
 ghost use Rattle.abstract_state.specs.Domains.{IsWithin, IsCounted, domain_of, domains, domains_of, entry_height, HasMasks};
 

@@ -1,29 +1,15 @@
 //! Laws over the definitions, each on a function that does nothing.
-ghost use Rattle.std.specs.Prelude.{◌≡◌, ◌↔◌, ℕ, ◌<◌, ◌≤◌, Bool, List, length, IsTrue, Some};
-ghost use Rattle.std.specs.Cmp.{IsTotalOrder};
-ghost use Rattle.std.specs.List.{IsDistinct};
-ghost use Rattle.std.specs.declared.cmp.Ordering.TheVariants.{Equal};
-ghost use Rattle.osek_values.specs.declared.event.Event.{Event};
-ghost use Rattle.osek_values.specs.declared.numbers.{TaskNo.{TaskNo}, BlockNo.{BlockNo}, ModeNo.{ModeNo}};
-ghost use Rattle.osek_values.specs.declared.status.Status.{Status};
+ghost use Rattle.std.specs.{Prelude.{◌≡◌, ◌↔◌, ℕ, ◌<◌, ◌≤◌, Bool, List, length, IsTrue, Some}, Cmp.{IsTotalOrder}, List.{IsDistinct}, declared.cmp.Ordering.TheVariants.{Equal}};
+ghost use Rattle.osek_values.specs.declared.{event.Event.{Event}, numbers.{TaskNo.{TaskNo}, BlockNo.{BlockNo}, ModeNo.{ModeNo}}, status.Status.{Status}};
 ghost use Rattle.std.specs.declared.option.Option.{Option};
-ghost use Rattle.osek_standard.specs.declared.app.App.{App};
-ghost use Rattle.osek_standard.specs.declared.state.State.{State};
-ghost use Rattle.osek_standard.specs.Dispatch.{Outcome};
-ghost use Rattle.osek_standard.specs.Kernel.{step};
-ghost use Rattle.osek_standard.specs.Apps.{the_block, the_counter, source_count, max_of};
+ghost use Rattle.osek_standard.specs.{declared.{app.App.{App}, state.State.{State}}, Dispatch.{Outcome}, Kernel.{step}, Apps.{the_block, the_counter, source_count, max_of}};
 ghost use Rattle.osek_standard.specs.Well.{Well, IsOffsetAt, IsArmed};
-ghost use Rattle.image_model.specs.declared.site.{Form.{Form}, Known.{Known}};
-ghost use Rattle.image_model.specs.declared.image.Image.{Image};
+ghost use Rattle.image_model.specs.declared.{site.{Form.{Form}, Known.{Known}}, image.Image.{Image}};
 ghost use Rattle.image_model.specs.declared.image.Version.TheVariants as version;
-ghost use Rattle.image_model.specs.ImageStep.{image_step};
-ghost use Rattle.image_model.specs.Laws.{IsKernelsRun};
+ghost use Rattle.image_model.specs.{ImageStep.{image_step}, Laws.{IsKernelsRun}};
 ghost use Rattle.osek_standard.specs.declared.point.Point.{Point};
-ghost use Rattle.abstract_state.specs.declared.table.ValueSet.{ValueSet};
-ghost use Rattle.abstract_state.specs.declared.table.PlainEntry.{PlainEntry};
-ghost use Rattle.abstract_state.specs.declared.table.PlainTable.{PlainTable};
-ghost use Rattle.abstract_state.specs.declared.value.Component.{Component};
-ghost use Rattle.abstract_state.specs.declared.value.{LiveVal.{LiveVal}, Val.TheVariants.{Live}, PartValue.{PartValue}, PartValue.TheVariants.{OfTask}};
+ghost use Rattle.abstract_state.specs.declared.{table.{ValueSet.{ValueSet}, PlainEntry.{PlainEntry}, PlainTable.{PlainTable}}, value.Component.{Component}};
+ghost use Rattle.abstract_state.specs.declared.value.{LiveVal.{LiveVal}, Val.TheVariants.{Live}, PartValue.{PartValue, TheVariants.{OfTask}}};
 ghost use Rattle.osek_standard.specs.declared.point.Point.TheVariants as point;
 ghost use Rattle.osek_standard.specs.Points.{point_of, IsPoint, StandsAt};
 ghost use Rattle.abstract_state.specs.Components.{component_at, component_count, component_number, abstract_of, IsAllowed, IsComponent};
@@ -31,8 +17,7 @@ ghost use Rattle.abstract_state.specs.Concrete.{Free, IsFree, AreAllowed, HasPar
 ghost use Rattle.abstract_state.specs.Choices.{with_latches, with_offset, with_routine_offset, with_arming, with_counter, IsQuiet, IsQuietAt, IsQuietWith, IsLatchedAlone};
 ghost use Rattle.abstract_state.specs.Alike.{IsAlike};
 ghost use Rattle.abstract_state.specs.Tables.{Sets, In, Inductive, IsContained, Least, meet, full, IsSubset, IsJoin, IsPartOfJoin, IsSetBySet, set_at, sets_of, HasRow, HasValue};
-ghost use Rattle.abstract_state.specs.ValueOrder.{same_part, part_order, IsAscending};
-ghost use Rattle.abstract_state.specs.Domains.{domains, IsSound, IsSoundEntry, IsBelow};
+ghost use Rattle.abstract_state.specs.{ValueOrder.{same_part, part_order, IsAscending}, Domains.{domains, IsSound, IsSoundEntry, IsBelow}};
 ghost use Rattle.osek_standard.specs.Outcomes.{Silent, Arrived, Did, shows, IsInstruction, IsArrivalStep};
 ghost use Rattle.abstract_state.specs.Forms.{FormOf, KnownOf, HasDictatedForms, HasDictatedStatuses, KnowsAtMost, Edge, Fits};
 

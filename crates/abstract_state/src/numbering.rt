@@ -1,8 +1,6 @@
 //! The components of an application, and their numbers.
-ghost use Rattle.std.specs.Prelude.{◌≡◌, ◌+◌, ◌<◌, ◌≤◌, ◌^◌, ◌++◌, count_ones, length, map, flat_map, IfOk, OnOk};
-ghost use Rattle.std.specs.List.{range_with_len};
-ghost use Rattle.osek_values.specs.Numbers.{task_no, event_no, alarm_no};
-ghost use Rattle.osek_values.specs.Bits.{has_bit, passing_below};
+ghost use Rattle.std.specs.{Prelude.{◌≡◌, ◌+◌, ◌<◌, ◌≤◌, ◌^◌, ◌++◌, count_ones, length, map, flat_map, IfOk, OnOk}, List.{range_with_len}};
+ghost use Rattle.osek_values.specs.{Numbers.{task_no, event_no, alarm_no}, Bits.{has_bit, passing_below}};
 ghost use Rattle.osek_standard.specs.Apps.{the_task};
 ghost use Rattle.abstract_state.specs.declared.value.Component.TheVariants as component;
 ghost use Rattle.abstract_state.specs.Components.{own_bits, events_of, event_start as event_start_of, components as components_of, component_number as component_number_of, IsComponent};

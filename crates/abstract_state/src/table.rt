@@ -34,10 +34,8 @@ pub struct PlainTable {
 }
 
 impl ValueSet {
-    ghost use Rattle.std.specs.Prelude.{◌≡◌, ◌+◌, ◌||◌, ℕ, ◌≤◌, not, length, IfOk, IfErr, OnOk, OnErr, if◌then◌else◌};
-    ghost use Rattle.std.specs.List.{insert};
-    ghost use Rattle.abstract_state.specs.ValueOrder.{same_part, IsAscending, ArePassed, IsPlace, IsGap};
-    ghost use Rattle.abstract_state.specs.Tables.{empty_of, is_member, IsJoin, IsPartOfJoin};
+    ghost use Rattle.std.specs.{Prelude.{◌≡◌, ◌+◌, ◌||◌, ℕ, ◌≤◌, not, length, IfOk, IfErr, OnOk, OnErr, if◌then◌else◌}, List.{insert}};
+    ghost use Rattle.abstract_state.specs.{ValueOrder.{same_part, IsAscending, ArePassed, IsPlace, IsGap}, Tables.{empty_of, is_member, IsJoin, IsPartOfJoin}};
 
     /// The set without a value. It takes no memory yet.
     pub fn new(alloc: Global, domain: Domain) -> ValueSet
@@ -157,8 +155,7 @@ impl ValueSet {
 
 impl PlainEntry {
     ghost use Rattle.std.specs.Prelude.{◌≡◌, ◌<◌, ◌≤◌, ◌+◌, ◌^◌, length, IfOk, OnOk, OnErr};
-    ghost use Rattle.abstract_state.specs.ValueOrder.{IsAscending};
-    ghost use Rattle.abstract_state.specs.Tables.{set_at, entry_values, AreAscending, IsJoin, IsPartOfJoin, IsSetBySet, IsWrite};
+    ghost use Rattle.abstract_state.specs.{ValueOrder.{IsAscending}, Tables.{set_at, entry_values, AreAscending, IsJoin, IsPartOfJoin, IsSetBySet, IsWrite}};
 
     /// Joins the values of another set into one of the sets.
     fn join_set(&mut self, place: usize, other: &ValueSet) -> Result<u64, Memory>

@@ -70,9 +70,7 @@ pub enum PartValue {
 }
 
 impl LiveVal {
-    ghost use Rattle.std.specs.Prelude.{◌≡◌};
-    ghost use Rattle.std.specs.Cmp.Lexicographic.{slice_cmp};
-    ghost use Rattle.std.specs.Ordering.{nat_cmp};
+    ghost use Rattle.std.specs.{Prelude.{◌≡◌}, Cmp.Lexicographic.{slice_cmp}, Ordering.{nat_cmp}};
     ghost use Rattle.abstract_state.specs.ValueOrder.{live_fields};
 
     /// By block, then by the number of resources, then by these.
@@ -87,9 +85,7 @@ impl LiveVal {
 }
 
 impl Val {
-    ghost use Rattle.std.specs.Prelude.{◌≡◌};
-    ghost use Rattle.std.specs.Cmp.Lexicographic.{slice_cmp};
-    ghost use Rattle.std.specs.Ordering.{nat_cmp};
+    ghost use Rattle.std.specs.{Prelude.{◌≡◌}, Cmp.Lexicographic.{slice_cmp}, Ordering.{nat_cmp}};
     ghost use Rattle.abstract_state.specs.ValueOrder.{val_fields};
 
     /// Another that is the same. It takes no memory.

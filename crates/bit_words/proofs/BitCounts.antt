@@ -1,9 +1,7 @@
 -- Numbers as sets of bits: their bits tell them apart, and how many there are.
 use Rattle.std.proofs.Common.{◌≡◌, ℕ, zero, suc, ◌+◌, ◌^◌, ◌<◌, ◌≤◌, false, ◌||◌, refl, sym, ap, ◌∙◌, inl, inr, arith, max}
-use Rattle.std.specs.Prelude.{◌==◌, bit_or, count_ones}
-use Rattle.std.specs.Int.{bit_at}
-use Rattle.std.proofs.lemmas.Bool.{cases_eq, eq-eqb, ne_eqb}
-use Rattle.std.proofs.lemmas.Nat.Bits.{bit_at_or, bit_at-lt, bit_at_above, bit_at-pow_same, bit_at-pow_other, same_from_bits}
+use Rattle.std.specs.{Prelude.{◌==◌, bit_or, count_ones}, Int.{bit_at}}
+use Rattle.std.proofs.lemmas.{Bool.{cases_eq, eq-eqb, ne_eqb}, Nat.Bits.{bit_at_or, bit_at-lt, bit_at_above, bit_at-pow_same, bit_at-pow_other, same_from_bits}}
 use Rattle.bit_words.proofs.Counting.{passing_up}
 use Rattle.osek_values.specs.Bits.{has_bit, passing_below}
 use Rattle.osek_values.proofs.BitCounts.{bits_counted}

@@ -1,7 +1,6 @@
 -- How many numbers below a bound pass a test.
 use Rattle.std.proofs.Common.{◌≡◌, ℕ, zero, suc, ◌+◌, ◌<◌, ◌≤◌, Bool, true, false, ◌||◌, List, ◌∷◌, length, cond, refl, sym, ap, subst, ◌∙◌, inl, inr, arith, filter}
-use Rattle.std.specs.Prelude.{◌==◌, if◌then◌else◌}
-use Rattle.std.specs.List.{range_with_len}
+use Rattle.std.specs.{Prelude.{◌==◌, if◌then◌else◌}, List.{range_with_len}}
 use Rattle.std.proofs.lemmas.Bool.{cases_eq, eq-eqb, ne_eqb}
 use Rattle.osek_values.specs.Bits.{passing_below}
 

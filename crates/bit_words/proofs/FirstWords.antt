@@ -1,13 +1,10 @@
 -- A word before others: what becomes of the number whose bits they are.
 use Rattle.std.proofs.Common.{◌≡◌, ◌≢◌, ℕ, suc, ◌+◌, ◌-◌, ◌*◌, ◌^◌, ◌<◌, ◌≤◌, List, [], ◌∷◌, length, get_or, refl, sym, ap, ap₂, ◌∙◌, inl, inr, arith}
 use Rattle.std.proofs.Math.ListN.{get_or-eq_default}
-use Rattle.std.specs.Prelude.{◌==◌, bit_and, bit_or, count_ones}
-use Rattle.std.specs.Int.Bits.{or_zero_r}
-use Rattle.std.proofs.lemmas.Bool.{cases_eq, eq-eqb, ne_eqb}
-use Rattle.std.proofs.lemmas.Nat.{or_block, and_block, ones_cat, pow_below, pow-add}
+use Rattle.std.specs.{Prelude.{◌==◌, bit_and, bit_or, count_ones}, Int.Bits.{or_zero_r}}
+use Rattle.std.proofs.lemmas.{Bool.{cases_eq, eq-eqb, ne_eqb}, Nat.{or_block, and_block, ones_cat, pow_below, pow-add}}
 use Rattle.bit_words.specs.Words.{bits_of_words}
-use Rattle.bit_words.proofs.WordLaws.{low_bit, high_bit}
-use Rattle.bit_words.proofs.KeptWords.{no_bits}
+use Rattle.bit_words.proofs.{WordLaws.{low_bit, high_bit}, KeptWords.{no_bits}}
 use Rattle.osek_values.specs.Bits.{has_bit}
 
 pub word_first : (w : ℕ) (ws : List ℕ) → bits_of_words (w ∷ ws) ≡ bits_of_words ws * 2 ^ 64 + w

@@ -1,13 +1,9 @@
 -- Further words of components: what a write at one of them does, and loops over all of them.
 use Rattle.std.proofs.Common.{◌≡◌, ◌≢◌, ℕ, zero, suc, ◌+◌, ◌<◌, ◌≤◌, List, [], ◌∷◌, length, get_or, set, refl, sym, ap, ap₂, subst, ◌∙◌, inl, inr, arith}
-use Rattle.std.specs.Prelude.{bit_or, count_ones}
-use Rattle.std.specs.Global.{Vec}
-use Rattle.std.proofs.lemmas.Bool.{cases_eq, cases_lt}
-use Rattle.std.proofs.lemmas.List.{length-set}
-use Rattle.std.proofs.lemmas.List.Sums.{sum_by-set}
+use Rattle.std.specs.{Prelude.{bit_or, count_ones}, Global.{Vec}}
+use Rattle.std.proofs.lemmas.{Bool.{cases_eq, cases_lt}, List.{length-set, Sums.{sum_by-set}}}
 use Rattle.std.specs.Int.Bits.{or_zero_r}
-use Rattle.bit_words.specs.Words.{bits_of_words}
-use Rattle.bit_words.specs.Further.{further_at, further_bits, further_count, IsChangedAt}
+use Rattle.bit_words.specs.{Words.{bits_of_words}, Further.{further_at, further_bits, further_count, IsChangedAt}}
 use Rattle.bit_words.proofs.FirstWords.{bits_of_none}
 
 pub further_is : (more : List (Vec ℕ)) (c : ℕ) (v : Vec ℕ) → c < length more → get_or more c v ≡ v → further_at more c ≡ v.items

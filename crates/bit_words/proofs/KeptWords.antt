@@ -1,14 +1,9 @@
 -- Words of bits: those that other words have too, and words without a bit.
 use Rattle.std.proofs.Common.{◌≡◌, ◌≢◌, ℕ, zero, suc, ◌/◌, ◌%◌, ◌^◌, ◌<◌, ◌≤◌, Bool, ◌&&◌, List, [], ◌∷◌, length, get_or, refl, sym, ap, ap₂, ◌∙◌, inl, inr, arith, min}
-use Rattle.std.specs.Prelude.{◌==◌, bit_and}
-use Rattle.std.specs.Int.{bit_at}
-use Rattle.std.proofs.lemmas.Bool.{cases_lt}
-use Rattle.std.proofs.lemmas.List.Elements.{All-from_get_or}
-use Rattle.std.proofs.lemmas.Nat.{and_le_l}
-use Rattle.std.proofs.lemmas.Nat.Bits.{bit_at_and, bit_at-lt}
+use Rattle.std.specs.{Prelude.{◌==◌, bit_and}, Int.{bit_at}}
+use Rattle.std.proofs.lemmas.{Bool.{cases_lt}, List.Elements.{All-from_get_or}, Nat.{and_le_l, Bits.{bit_at_and, bit_at-lt}}}
 use Rattle.bit_words.specs.Words.{AreWords, bits_of_words}
-use Rattle.bit_words.proofs.BitCounts.{same_bits}
-use Rattle.bit_words.proofs.WordLaws.{word_has, number_at, number_past, small_at, has_of_words}
+use Rattle.bit_words.proofs.{BitCounts.{same_bits}, WordLaws.{word_has, number_at, number_past, small_at, has_of_words}}
 use Rattle.osek_values.specs.Bits.{has_bit}
 
 -- a bit of both words

@@ -1,13 +1,9 @@
 -- The first number of a set from one on.
 use Rattle.std.proofs.Common.{◌≡◌, ℕ, ◌+◌, ◌-◌, ◌/◌, ◌%◌, ◌^◌, ◌<◌, ◌≤◌, true, false, List, ◌∷◌, sym, ap, ◌∙◌, inl, inr, arith, w64}
-use Rattle.std.specs.Prelude.{◌==◌}
-use Rattle.std.specs.Int.{bit_at, trailing_zeros}
-use Rattle.std.proofs.lemmas.Bool.{cases_lt}
-use Rattle.std.proofs.lemmas.Nat.{shr-shr, shr_le}
-use Rattle.std.proofs.lemmas.Nat.Bits.{bit_at-zero, bit_at-trailing_zeros}
+use Rattle.std.specs.{Prelude.{◌==◌}, Int.{bit_at, trailing_zeros}}
+use Rattle.std.proofs.lemmas.{Bool.{cases_lt}, Nat.{shr-shr, shr_le, Bits.{bit_at-zero, bit_at-trailing_zeros}}}
 use Rattle.bit_words.specs.Words.{bits_of_words}
-use Rattle.bit_words.proofs.BitCounts.{no_bit_past}
-use Rattle.bit_words.proofs.FirstWords.{has_low, has_high}
+use Rattle.bit_words.proofs.{BitCounts.{no_bit_past}, FirstWords.{has_low, has_high}}
 use Rattle.osek_values.specs.Bits.{has_bit}
 
 bit_up : (word from i : ℕ) → has_bit (word / 2 ^ from) i ≡ has_bit word (from + i)

@@ -1,17 +1,11 @@
 -- Words of bits: those that other words lack, and whether some bit is in both.
 use Rattle.std.proofs.Common.{◌≡◌, ◌≢◌, ℕ, zero, suc, ◌+◌, ◌*◌, ◌/◌, ◌%◌, ◌^◌, ◌<◌, ◌≤◌, Bool, ◌&&◌, true, false, not, List, [], ◌∷◌, length, get_or, refl, sym, ap, ap₂, ◌∙◌, inl, inr, arith, min}
 use Rattle.std.proofs.Math.ListN.{get_or-eq_default}
-use Rattle.std.specs.Prelude.{◌==◌, bit_and, bit_xor}
-use Rattle.std.specs.Int.{bit_at}
-use Rattle.std.specs.Int.Bits.{and_zero_r}
-use Rattle.std.proofs.lemmas.Bool.{cases_eq, cases_lt, eq-eqb, ne_eqb}
-use Rattle.std.proofs.lemmas.List.Elements.{All-head, All-tail, All-from_get_or}
-use Rattle.std.proofs.lemmas.Nat.{and_comm, and_le_l, and_block, xor_block, xor_lt}
-use Rattle.std.proofs.lemmas.Nat.Bits.{bit_at_and, bit_at_xor, bit_at-lt}
+use Rattle.std.specs.{Prelude.{◌==◌, bit_and, bit_xor}, Int.{bit_at, Bits.{and_zero_r}}}
+use Rattle.std.proofs.lemmas.{Bool.{cases_eq, cases_lt, eq-eqb, ne_eqb}, List.Elements.{All-head, All-tail, All-from_get_or}}
+use Rattle.std.proofs.lemmas.Nat.{and_comm, and_le_l, and_block, xor_block, xor_lt, Bits.{bit_at_and, bit_at_xor, bit_at-lt}}
 use Rattle.bit_words.specs.Words.{AreWords, bits_of_words}
-use Rattle.bit_words.proofs.BitCounts.{same_bits}
-use Rattle.bit_words.proofs.WordLaws.{word_has, number_at, number_past, small_at, has_of_words}
-use Rattle.bit_words.proofs.FirstWords.{word_first}
+use Rattle.bit_words.proofs.{BitCounts.{same_bits}, WordLaws.{word_has, number_at, number_past, small_at, has_of_words}, FirstWords.{word_first}}
 use Rattle.osek_values.specs.Bits.{has_bit}
 
 -- a bit of the first word alone

@@ -1,6 +1,5 @@
 -- Words that are passed over on the way to the next bit.
-use Rattle.std.proofs.Common.{◌≡◌, ℕ, ◌+◌, ◌-◌, ◌*◌, ◌/◌, ◌%◌, ◌<◌, ◌≤◌, false, List, length, get_or, ap, ap₂, ◌∙◌, inl, inr, arith}
-use Rattle.std.proofs.lemmas.Bool.{cases_lt}
+use Rattle.std.proofs.{Common.{◌≡◌, ℕ, ◌+◌, ◌-◌, ◌*◌, ◌/◌, ◌%◌, ◌<◌, ◌≤◌, false, List, length, get_or, ap, ap₂, ◌∙◌, inl, inr, arith}, lemmas.Bool.{cases_lt}}
 use Rattle.bit_words.specs.Words.{AreWords, bits_of_words}
 use Rattle.bit_words.proofs.WordLaws.{number_at, number_past, has_of_words}
 use Rattle.osek_values.specs.Bits.{has_bit}

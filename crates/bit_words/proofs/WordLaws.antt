@@ -1,15 +1,8 @@
 -- Words of bits: what a bit that is set, words that are added and words that are joined do to the numbers.
 use Rattle.std.proofs.Common.{◌≡◌, ◌≢◌, ℕ, zero, suc, ◌+◌, ◌-◌, ◌*◌, ◌/◌, ◌%◌, ◌^◌, ◌<◌, ◌≤◌, Bool, true, false, ◌||◌, List, [], ◌∷◌, ◌++◌, length, get_or, set, refl, sym, ap, ap₂, subst, ◌∙◌, inl, inr, arith, replicate, w64, lit<, get_or-set_same, get_or-set_other}
-use Rattle.std.specs.Prelude.{◌==◌, bit_or, count_ones}
-use Rattle.std.specs.Int.{bit_at}
-use Rattle.std.specs.Int.Bits.{or_zero_r}
-use Rattle.std.proofs.lemmas.Bool.{cases_eq, cases_lt}
-use Rattle.std.proofs.Math.ListN.{get_or-eq_default}
-use Rattle.std.proofs.lemmas.List.{length-set}
-use Rattle.std.proofs.lemmas.List.Elements.{All-head, All-tail, All-set, All-from_get_or}
-use Rattle.std.proofs.Math.Nat.{mul_assoc, mul_comm, pow-suc}
-use Rattle.std.proofs.lemmas.Nat.{or_lt, pow-add}
-use Rattle.std.proofs.lemmas.Nat.Bits.{bit_at-zero, bit_at_lowest, bit_at-suc, bit_at_set_same, bit_at_set_other}
+use Rattle.std.specs.{Prelude.{◌==◌, bit_or, count_ones}, Int.{bit_at, Bits.{or_zero_r}}}
+use Rattle.std.proofs.{lemmas.{Bool.{cases_eq, cases_lt}, List.{length-set, Elements.{All-head, All-tail, All-set, All-from_get_or}}}, Math.ListN.{get_or-eq_default}}
+use Rattle.std.proofs.{Math.Nat.{mul_assoc, mul_comm, pow-suc}, lemmas.Nat.{or_lt, pow-add, Bits.{bit_at-zero, bit_at_lowest, bit_at-suc, bit_at_set_same, bit_at_set_other}}}
 use Rattle.bit_words.specs.Words.{AreWords, bits_of_words}
 use Rattle.bit_words.proofs.BitCounts.{has_either, has_one, same_bits, ones_below}
 use Rattle.bit_words.proofs.Counting.{passing_same, passing_grows, passing_or, passing_up, passing_apart, passing_higher, with_other, with_that}

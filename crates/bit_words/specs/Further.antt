@@ -1,6 +1,5 @@
 -- Words for each of several components.
-use Rattle.std.specs.Prelude.{◌≡◌, ◌≢◌, ℕ, ◌≤◌, List, [], length, map, slice_index_or, sum_by, count_ones}
-use Rattle.std.specs.Global.{Vec}
+use Rattle.std.specs.{Prelude.{◌≡◌, ◌≢◌, ℕ, ◌≤◌, List, [], length, map, slice_index_or, sum_by, count_ones}, Global.{Vec}}
 use Rattle.bit_words.specs.Words.{bits_of_words}
 
 -- the words of a component past its first two, of which the last components have none

@@ -1,7 +1,6 @@
 //! Further words: those of a component past its first two. Components past the end of the list have none.
 ghost use Rattle.std.specs.Prelude.{ℕ, ◌≡◌, ◌≢◌, ◌<◌, ◌≤◌, ◌+◌, ◌^◌, bit_and, bit_or, bit_xor, count_ones, length, IfOk, OnOk, OnErr};
-ghost use Rattle.bit_words.specs.Words.{bits_of_words};
-ghost use Rattle.bit_words.specs.Further.{further_at, further_bits, further_count, IsChangedAt, HaveRoom};
+ghost use Rattle.bit_words.specs.{Words.{bits_of_words}, Further.{further_at, further_bits, further_count, IsChangedAt, HaveRoom}};
 
 use crate::words;
 use osek_values::{Memory, Seq};

@@ -1,9 +1,7 @@
 -- The events of a mask, or-ed from the first on.
 use Rattle.std.proofs.Common.{◌≡◌, ℕ, ◌+◌, ◌<◌, ◌≤◌, max, List, ◌∷◌, length, get_or, drop, add-one, drop-cons, length-drop, sym, ap, ◌∙◌, arith}
-use Rattle.std.specs.Prelude.{bit_or}
-use Rattle.std.specs.Int.{bit_at}
-use Rattle.std.proofs.lemmas.List.{nil_from_length}
-use Rattle.std.proofs.lemmas.Nat.Bits.{bit_at_or, same_from_bits}
+use Rattle.std.specs.{Prelude.{bit_or}, Int.{bit_at}}
+use Rattle.std.proofs.lemmas.{List.{nil_from_length}, Nat.Bits.{bit_at_or, same_from_bits}}
 use lib.Bits.{or_zero_r}
 use Rattle.oil_system.specs.declared.system.System.{System}
 use Rattle.task_code.specs.declared.call.Reference.{Reference}

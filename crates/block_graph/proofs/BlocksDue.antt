@@ -1,8 +1,6 @@
 -- The alarms of a counter, in order.
-use Rattle.std.proofs.Common.{◌≡◌, ℕ, ◌+◌, ◌<◌, ◌≤◌, Bool, true, false, eqb, List, [], ◌∷◌, length, map, get_or, drop, add-one, drop-cons, length-drop, sym, ap, ◌∙◌, arith}
-use Rattle.std.specs.Prelude.{if◌then◌else◌}
-use Rattle.std.specs.List.{filter, enumerate_from}
-use Rattle.std.proofs.lemmas.List.{nil_from_length}
+use Rattle.std.proofs.Common.{◌≡◌, ℕ, ◌+◌, ◌<◌, ◌≤◌, Bool, true, false, eqb, List, [], ◌∷◌, length, map, get_or, drop, add-one, drop-cons, sym, ap, ◌∙◌}
+use Rattle.std.specs.{Prelude.{if◌then◌else◌}, List.{filter, enumerate_from}}
 use Rattle.oil_system.specs.declared.objects.Alarm.{Alarm}
 
 -- the alarms of counter c among those from number n on
@@ -21,6 +19,3 @@ module _ (alarms : List Alarm) (n c : ℕ) (x : Alarm) (lt : n < length alarms) 
 
   pub due_later : eqb x.counter.0 c ≡ false → due_from n (drop n alarms) c ≡ due_from (n + 1) (drop (n + 1) alarms) c
   due_later e = ap (λ (xs : List Alarm). due_from n xs c) front ∙ ap (λ (is : Bool). kept is n x (drop (n + 1) alarms) c) e
-
-pub none_due : (alarms : List Alarm) (n c : ℕ) → length alarms ≤ n → due_from n (drop n alarms) c ≡ []
-none_due alarms n c le = ap (λ (xs : List Alarm). due_from n xs c) (nil_from_length (drop n alarms) (omega (arith, length-drop n alarms)))

@@ -5,13 +5,9 @@ use Rattle.osek_values.specs.Numbers.{block_no}
 use Rattle.osek_standard.specs.declared.block.Block.{Block}
 use Rattle.osek_standard.specs.declared.block.Kind.TheVariants as kind
 use Rattle.oil_system.specs.declared.system.System.{System}
-use Rattle.task_code.specs.declared.tree.{Condition.TheVariants.{Choice, Always}, Statement.{Statement}, Statement.TheVariants.{Work, If, While, Call}}
-use Rattle.task_code.specs.Fit.{HasCounts}
-use Rattle.task_code.specs.Statements.{Statements, nodes}
-use Rattle.task_code.specs.StatementLists.{statement_before, list_of}
-use Rattle.block_graph.specs.declared.locks.Opener.{Opener}
-use Rattle.block_graph.specs.Locks.{open_behind}
-use Rattle.block_graph.specs.Blocks.{block, entry, blocks_of}
+use Rattle.task_code.specs.{declared.tree.{Condition.TheVariants.{Choice, Always}, Statement.{Statement, TheVariants.{Work, If, While, Call}}}, Fit.{HasCounts}}
+use Rattle.task_code.specs.{Statements.{Statements, nodes}, StatementLists.{statement_before, list_of}}
+use Rattle.block_graph.specs.{declared.locks.Opener.{Opener}, Locks.{open_behind}, Blocks.{block, entry, blocks_of}}
 use Rattle.block_graph.specs.StatementBlocks.{statement_nodes, locks_behind, statement_blocks}
 
 pub nodes_before : (st : Statement) (next : Statements) → nodes (statement_before st next) ≡ statement_nodes st + nodes next

@@ -1,7 +1,6 @@
 -- The tick routines, one counter after another.
 use Rattle.std.proofs.Common.{◌≡◌, ℕ, ◌+◌, ◌<◌, List, ◌∷◌, ◌++◌, length, get_or, drop, add-one, drop-cons, append_assoc, sym, ap, ◌∙◌}
-use Rattle.osek_standard.specs.declared.block.Block.{Block}
-use Rattle.osek_standard.specs.Validity.{due_of}
+use Rattle.osek_standard.specs.{declared.block.Block.{Block}, Validity.{due_of}}
 use Rattle.oil_system.specs.declared.system.{CounterObject.{CounterObject}, System.{System}}
 use Rattle.oil_model.specs.Linkable.{no_counter_object}
 use Rattle.block_graph.specs.Blocks.{routine, routine_size, routines}

@@ -1,25 +1,17 @@
 -- No block has two owners.
 use Rattle.std.proofs.Common.{◌≡◌, ℕ, ◌+◌, ◌≤◌, List, [], ◌∷◌, ◌++◌, map, true, false, sym, ◌∙◌, subst, arith, inl, inr}
-use Rattle.std.specs.Prelude.{◌||◌, nat_lt}
-use Rattle.std.specs.List.{AllByRecursion, IsDistinct, list_any}
-use Rattle.std.specs.Str.{bytes_eq}
-use Rattle.std.proofs.lemmas.Bool.{and_left, and_parts, and_right, cases_Bool, cond-false, cond-true, le-ltb, both_ways}
-use Rattle.std.proofs.lemmas.List.{map-id}
-use Rattle.std.proofs.lemmas.List.Sums.{sum_by-cons}
+use Rattle.std.specs.{Prelude.{◌||◌, nat_lt}, List.{AllByRecursion, IsDistinct, list_any}, Str.{bytes_eq}}
+use Rattle.std.proofs.lemmas.{Bool.{and_left, and_parts, and_right, cases_Bool, cond-false, cond-true, le-ltb, both_ways}, List.{map-id, Sums.{sum_by-cons}}}
 use Rattle.std.proofs.lemmas.Slice.Eq.{bytes_eq-Decides}
-use Rattle.osek_standard.specs.declared.objects.{Counter.{Counter}, Isr.{Isr}, Task.{Task}}
-use Rattle.osek_standard.specs.Validity.{due_of, meet, owners}
+use Rattle.osek_standard.specs.{declared.objects.{Counter.{Counter}, Isr.{Isr}, Task.{Task}}, Validity.{due_of, meet, owners}}
 use Rattle.oil_system.specs.declared.system.{CounterObject.{CounterObject}, TaskObject.{TaskObject}, System.{System}}
 use Rattle.oil_model.specs.Linkable.{IsLinkable}
 use Rattle.oil_model.proofs.Clean.{all_weaker}
 use Rattle.task_code.specs.declared.tree.{Body.{Body}, BodyKind.{BodyKind}, Code.{Code}}
 use Rattle.task_code.specs.declared.tree.BodyKind.TheVariants as body_kind
-use Rattle.block_graph.specs.Apps.{counters_from, counters_of, extent, isr_with, isrs_of, task_with, tasks_of}
-use Rattle.block_graph.specs.Blocks.{routine_size, size, source_size}
-use Rattle.block_graph.specs.Faults.{HasNoFault}
+use Rattle.block_graph.specs.{Apps.{counters_from, counters_of, extent, isr_with, isrs_of, task_with, tasks_of}, Blocks.{routine_size, size, source_size}, Faults.{HasNoFault}}
 use Rattle.block_graph.specs.Rules.{is_code_of, is_kind}
-use Rattle.block_graph.proofs.ExtentsLists.{distinct_append, distinct_cons, distinct_values, each_append, each_map, mapped_twice, none_distinct}
-use Rattle.block_graph.proofs.ExtentsPlaces.{code_kind}
+use Rattle.block_graph.proofs.{ExtentsLists.{distinct_append, distinct_cons, distinct_values, each_append, each_map, mapped_twice, none_distinct}, ExtentsPlaces.{code_kind}}
 use Rattle.block_graph.proofs.ExtentsRules.{isrs_have_code, tasks_have_code}
 
 -- ---- blocks that end before others begin

@@ -1,10 +1,7 @@
 -- Lists: each element of a joined list, elements that differ in pairs, and tests of elements.
 use Rattle.std.proofs.Common.{◌≡◌, ℕ, zero, suc, ◌<◌, List, [], ◌∷◌, ◌++◌, length, map, Bool, true, false, refl, ap, arith, append_assoc, inl, inr}
-use Rattle.std.specs.Prelude.{Option, Some, None, is_some, slice_index_or, All}
-use Rattle.std.specs.List.{AllByRecursion, IsDistinct, list_any, position}
-use Rattle.std.proofs.lemmas.Bool.{or_cases, or_left, or_right, or_parts}
-use Rattle.std.proofs.lemmas.List.Folds.{list_any_at}
-use Rattle.std.proofs.lemmas.List.Quantifiers.{position-Some}
+use Rattle.std.specs.{Prelude.{Option, Some, None, is_some, slice_index_or, All}, List.{AllByRecursion, IsDistinct, list_any, position}}
+use Rattle.std.proofs.lemmas.{Bool.{or_cases, or_left, or_right, or_parts}, List.{Folds.{list_any_at}, Quantifiers.{position-Some}}}
 
 -- ---- each element
 

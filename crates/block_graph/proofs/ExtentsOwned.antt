@@ -1,24 +1,15 @@
 -- Each block has an owner.
 use Rattle.std.proofs.Common.{◌≡◌, ℕ, ◌+◌, ◌<◌, ◌≤◌, List, [], ◌∷◌, ◌++◌, length, map, true, refl, ap, ◌∙◌, subst, arith, inl, inr}
-use Rattle.std.specs.Prelude.{nat_le, nat_lt}
-use Rattle.std.specs.List.{AllByRecursion, list_any}
-use Rattle.std.specs.Str.{bytes_eq}
-use Rattle.std.proofs.lemmas.Bool.{and_from, cases_lt, le-leb, lt-ltb, or_left, or_right}
-use Rattle.std.proofs.lemmas.List.{length-append}
-use Rattle.std.proofs.lemmas.List.Sums.{sum_by-cons}
-use Rattle.std.proofs.lemmas.Slice.Eq.{bytes_eq-Decides}
+use Rattle.std.specs.{Prelude.{nat_le, nat_lt}, List.{AllByRecursion, list_any}, Str.{bytes_eq}}
+use Rattle.std.proofs.lemmas.{Bool.{and_from, cases_lt, le-leb, lt-ltb, or_left, or_right}, List.{length-append, Sums.{sum_by-cons}}, Slice.Eq.{bytes_eq-Decides}}
 use Rattle.osek_standard.specs.Validity.{due_of, is_within, owners}
 use Rattle.oil_system.specs.declared.system.{CounterObject.{CounterObject}, TaskObject.{TaskObject}, System.{System}}
 use Rattle.task_code.specs.declared.tree.{Body.{Body}, BodyKind.{BodyKind}, Code.{Code}}
 use Rattle.task_code.specs.declared.tree.BodyKind.TheVariants as body_kind
-use Rattle.block_graph.specs.Apps.{counters_from, counters_of, extent, isrs_of, tasks_of}
-use Rattle.block_graph.specs.Blocks.{app_blocks, routine, routine_size, routines, size, source_blocks, source_size}
-use Rattle.block_graph.specs.Faults.{HasNoFault}
-use Rattle.block_graph.specs.Rules.{has_owner, is_code_of, is_kind}
-use Rattle.block_graph.proofs.OwnersLaws.{routine_length, source_length}
-use Rattle.block_graph.proofs.ExtentsLists.{any_append_left, any_append_right, any_from_position, any_map, any_weaker, behind_front}
-use Rattle.block_graph.proofs.ExtentsPlaces.{extent_behind}
-use Rattle.block_graph.proofs.ExtentsApart.{counter_blocks, of_counters, of_isr, of_task, owners_are}
+use Rattle.block_graph.specs.{Apps.{counters_from, counters_of, extent, isrs_of, tasks_of}, Blocks.{app_blocks, routine, routine_size, routines, size, source_blocks, source_size}}
+use Rattle.block_graph.specs.{Faults.{HasNoFault}, Rules.{has_owner, is_code_of, is_kind}}
+use Rattle.block_graph.proofs.{OwnersLaws.{routine_length, source_length}, ExtentsLists.{any_append_left, any_append_right, any_from_position, any_map, any_weaker, behind_front}}
+use Rattle.block_graph.proofs.{ExtentsPlaces.{extent_behind}, ExtentsApart.{counter_blocks, of_counters, of_isr, of_task, owners_are}}
 use Rattle.block_graph.proofs.ExtentsRules.{bodies_have_owners, first_of_owner}
 
 within : (b first count : ℕ) → first ≤ b → b < first + count → is_within b (first, count) ≡ true

@@ -1,13 +1,8 @@
 -- Where the blocks of bodies and of tick routines stand among those of the application, and what they keep there.
 use Rattle.std.proofs.Common.{◌≡◌, ℕ, zero, suc, ◌+◌, ◌<◌, List, [], ◌∷◌, ◌++◌, length, append_assoc, true, false, refl, sym, ap, ◌∙◌, subst, arith, inl, inr}
-use Rattle.std.specs.Prelude.{◌||◌, slice_index_or, All}
-use Rattle.std.specs.List.{AllByRecursion, list_any}
-use Rattle.std.proofs.lemmas.Bool.{and_parts, cases_Bool, cond-false, cond-true, or_parts}
-use Rattle.std.proofs.lemmas.List.{length-append}
-use Rattle.std.proofs.lemmas.List.Sums.{sum_by-cons}
-use Rattle.osek_standard.specs.declared.block.Block.{Block}
-use Rattle.osek_standard.specs.declared.objects.{Counter.{Counter}, Isr.{Isr}, Task.{Task}}
-use Rattle.osek_standard.specs.Validity.{IsIsrCode, IsOwner, IsTaskCode, IsTickCode, due_of}
+use Rattle.std.specs.{Prelude.{◌||◌, slice_index_or, All}, List.{AllByRecursion, list_any}}
+use Rattle.std.proofs.lemmas.{Bool.{and_parts, cases_Bool, cond-false, cond-true, or_parts}, List.{length-append, Sums.{sum_by-cons}}}
+use Rattle.osek_standard.specs.{declared.{block.Block.{Block}, objects.{Counter.{Counter}, Isr.{Isr}, Task.{Task}}}, Validity.{IsIsrCode, IsOwner, IsTaskCode, IsTickCode, due_of}}
 use Rattle.oil_system.specs.declared.system.{CounterObject.{CounterObject}, TaskObject.{TaskObject}, System.{System}}
 use Rattle.oil_model.specs.Linkable.{IsLinkable}
 use Rattle.oil_model.proofs.Clean.{all_weaker}
@@ -15,8 +10,7 @@ use Rattle.task_code.specs.declared.tree.{Body.{Body}, BodyKind.{BodyKind}, Code
 use Rattle.task_code.specs.declared.tree.BodyKind.TheVariants as body_kind
 use Rattle.task_code.specs.Fit.{AreFit, IsFit}
 use Rattle.block_graph.specs.Apps.{counters_from, counters_of, extent, isr_with, isrs_of, tables_over, task_with, tasks_of}
-use Rattle.block_graph.specs.Blocks.{app_blocks, body_blocks, routine, routine_size, routines, size, source_blocks, source_size}
-use Rattle.block_graph.specs.Faults.{HasNoFault}
+use Rattle.block_graph.specs.{Blocks.{app_blocks, body_blocks, routine, routine_size, routines, size, source_blocks, source_size}, Faults.{HasNoFault}}
 use Rattle.block_graph.specs.Rules.{from_calls, is_code_of, is_kind, isr_resources_by, undeclared_in}
 use Rattle.block_graph.proofs.OwnersLaws.{body_is_isr_code, body_is_owner, body_is_task_code, due_inside, routine_is_owner, routine_is_tick_code, routine_length, source_length}
 use Rattle.block_graph.proofs.ExtentsLists.{all_at, behind_front, each_map, each_of}

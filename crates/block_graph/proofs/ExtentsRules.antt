@@ -1,18 +1,14 @@
 -- What holds of the bodies where no rule is violated.
 use Rattle.std.proofs.Common.{◌≡◌, ℕ, ◌≤◌, List, [], ◌∷◌, ◌++◌, length, drop, length-drop, Bool, true, false, refl, sym, ap, subst, arith}
-use Rattle.std.specs.Prelude.{◌||◌, filter, if◌then◌else◌}
-use Rattle.std.specs.List.{AllByRecursion, list_any}
-use Rattle.std.proofs.lemmas.Bool.{or_parts, not-false}
-use Rattle.std.proofs.lemmas.List.{length-append}
-use Rattle.std.proofs.lemmas.List.Sums.{sum_by-cons}
+use Rattle.std.specs.{Prelude.{◌||◌, filter, if◌then◌else◌}, List.{AllByRecursion, list_any}}
+use Rattle.std.proofs.lemmas.{Bool.{or_parts, not-false}, List.{length-append, Sums.{sum_by-cons}}}
 use Rattle.osek_values.specs.declared.refusal.CodeRule.TheVariants.{C1, C2, C3, C4, C6, C8}
 use Rattle.oil_system.specs.declared.system.{TaskObject.{TaskObject}, System.{System}}
 use Rattle.oil_model.specs.Rules.{repeated}
 use Rattle.oil_model.proofs.Clean.{no_line, left_empty, right_empty, map_empty, mark_empty, none_pass, each_empty, all_weaker}
-use Rattle.task_code.specs.declared.tree.{BodyKind.{BodyKind}, BodyKind.TheVariants.{Task, Isr}, Body.{Body}, Code.{Code}}
+use Rattle.task_code.specs.declared.tree.{BodyKind.{BodyKind, TheVariants.{Task, Isr}}, Body.{Body}, Code.{Code}}
 use Rattle.task_code.specs.Statements.{Statements, closed, work_then, if_then, if_else_then, while_then, call_then, closing_line, nodes}
-use Rattle.block_graph.specs.Blocks.{size, source_size}
-use Rattle.block_graph.specs.Faults.{HasNoFault}
+use Rattle.block_graph.specs.{Blocks.{size, source_size}, Faults.{HasNoFault}}
 use Rattle.block_graph.specs.Rules.{beyond_limit, block_lines, first_only, from_calls, has_owner, has_same_owner, is_code_of, is_stray, isr_resources, isr_resources_by, lacks_code, line_of_body, missing_code, of_resource, repeated_code, statement_lines, stray_code, undeclared_in, undeclared_names}
 use Rattle.block_graph.proofs.ExtentsLists.{append_none, append_push, none_of}
 

@@ -1,27 +1,19 @@
 -- What the tables of the application keep of those of the system, and how many blocks there are.
 use Rattle.std.proofs.Common.{◌≡◌, ℕ, zero, suc, ◌+◌, ◌*◌, ◌<◌, ◌≤◌, ◌^◌, List, [], ◌∷◌, length, map, Bool, true, false, cond, eqb, leb, refl, sym, ap, ◌∙◌, subst, arith}
-use Rattle.std.specs.Prelude.{◌||◌, ◌&&◌, ◌==◌, nat_eq, nat_le, slice_index_or, All, count_by}
-use Rattle.std.specs.List.{IsDistinct, enumerate_from, filter}
-use Rattle.std.proofs.lemmas.Bool.Decides.{nat_tests}
-use Rattle.std.proofs.lemmas.List.{length-append, length-map, map-id}
-use Rattle.std.proofs.lemmas.List.Sums.{count_by-le-length, sum_by-cons}
+use Rattle.std.specs.{Prelude.{◌||◌, ◌&&◌, ◌==◌, nat_eq, nat_le, slice_index_or, All, count_by}, List.{IsDistinct, enumerate_from, filter}}
+use Rattle.std.proofs.lemmas.{Bool.Decides.{nat_tests}, List.{length-append, length-map, map-id, Sums.{count_by-le-length, sum_by-cons}}}
 use Rattle.oil_system.specs.declared.objects.{Action.{Action}, Alarm.{Alarm}}
 use Rattle.osek_values.specs.Names.{AreNames}
 use Rattle.oil_system.specs.declared.objects.Action.TheVariants as action
 use Rattle.oil_system.specs.declared.system.{CounterObject.{CounterObject}, TaskObject.{TaskObject}, System.{System}}
-use Rattle.osek_standard.specs.declared.objects.{Counter.{Counter}, Isr.{Isr}, Task.{Task}}
-use Rattle.osek_standard.specs.declared.block.Block.{Block}
-use Rattle.osek_standard.specs.Validity.{IsAction, IsAlarmOf, due_of, is_cycle_of, no_counter}
-use Rattle.osek_standard.specs.Versions.{FitsVersion1}
+use Rattle.osek_standard.specs.declared.{objects.{Counter.{Counter}, Isr.{Isr}, Task.{Task}}, block.Block.{Block}}
+use Rattle.osek_standard.specs.{Validity.{IsAction, IsAlarmOf, due_of, is_cycle_of, no_counter}, Versions.{FitsVersion1}}
 use Rattle.oil_model.specs.Linkable.{IsActionAmong, IsAlarmAmong, IsLinkable, is_cycle_of_object, no_counter_object}
 use Rattle.task_code.specs.declared.tree.{Body.{Body}, Code.{Code}}
 use Rattle.task_code.specs.declared.tree.BodyKind.TheVariants as body_kind
 use Rattle.block_graph.specs.Apps.{counters_from, counters_of, extent, isr_with, isrs_of, tables_over, task_with, tasks_of}
-use Rattle.block_graph.specs.Blocks.{app_blocks, routine, routine_size, routines, source_blocks, source_size}
-use Rattle.block_graph.specs.Faults.{HasNoFault}
-use Rattle.block_graph.proofs.OwnersCalls.{task_count}
-use Rattle.block_graph.proofs.OwnersLaws.{routine_length, source_length}
-use Rattle.block_graph.proofs.ExtentsLists.{all_at, each_map, each_of, mapped_twice}
+use Rattle.block_graph.specs.{Blocks.{app_blocks, routine, routine_size, routines, source_blocks, source_size}, Faults.{HasNoFault}}
+use Rattle.block_graph.proofs.{OwnersCalls.{task_count}, OwnersLaws.{routine_length, source_length}, ExtentsLists.{all_at, each_map, each_of, mapped_twice}}
 use Rattle.block_graph.proofs.ExtentsRules.{few_source_blocks}
 
 -- ---- counters

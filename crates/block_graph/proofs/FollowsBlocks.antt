@@ -6,12 +6,9 @@ use Rattle.osek_standard.specs.declared.block.Kind.TheVariants as kind
 use Rattle.osek_standard.specs.Validity.{no_block}
 use Rattle.osek_values.specs.Numbers.{block_no}
 use Rattle.oil_system.specs.declared.system.System.{System}
-use Rattle.task_code.specs.declared.call.Call.{Call}
-use Rattle.task_code.specs.declared.tree.{Body.{Body}, Condition.{Condition}, Condition.TheVariants.{Choice, Always}}
+use Rattle.task_code.specs.declared.{call.Call.{Call}, tree.{Body.{Body}, Condition.{Condition, TheVariants.{Choice, Always}}}}
 use Rattle.task_code.specs.Statements.{Statements, while_then, closing_line, nodes}
-use Rattle.block_graph.specs.declared.locks.Opener.{Opener}
-use Rattle.block_graph.specs.Locks.{open_behind, open_behind_call}
-use Rattle.block_graph.specs.Blocks.{block, blocks_of, body_blocks, end_kind, entry, is_locked, kind_of}
+use Rattle.block_graph.specs.{declared.locks.Opener.{Opener}, Locks.{open_behind, open_behind_call}, Blocks.{block, blocks_of, body_blocks, end_kind, entry, is_locked, kind_of}}
 use Rattle.block_graph.specs.Follows.{Rest, behind_work, behind_if, behind_if_else, behind_while, behind_call, Branch, only, first, other, Way, start, past, into_branch, into_loop, Place, Enters, a_statement, no_more, Ends, of_body, of_branch, of_loop, of_rest, GoesTo, a_work, a_call, a_branch, no_else, a_loop, one_more, enough, passed, passed_into, before, number, statement_line, leads}
 use Rattle.block_graph.proofs.OwnersStatements.{blocks_length}
 

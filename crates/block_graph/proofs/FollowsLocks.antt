@@ -2,15 +2,11 @@
 use Rattle.std.proofs.Common.{◌≡◌, ℕ, Bool, true, false, if◌then◌else◌, List, [], ◌∷◌, Option, Some, None, Result, Ok, Err, refl, sym, subst, ap, ◌∙◌}
 use Rattle.std.specs.Prelude.{unwrap_or}
 use Rattle.oil_system.specs.declared.system.System.{System}
-use Rattle.task_code.specs.declared.call.{Call.{Call}, Call.TheVariants.{LockCall}}
-use Rattle.task_code.specs.declared.tree.Body.{Body}
-use Rattle.task_code.specs.Statements.{Statements, call_then, closing_line}
-use Rattle.block_graph.specs.declared.locks.{Opener.{Opener}, Role.{Role}, Role.TheVariants.{Opens, Closes}}
-use Rattle.block_graph.specs.Blocks.{is_locked}
+use Rattle.task_code.specs.{declared.{call.Call.{Call, TheVariants.{LockCall}}, tree.Body.{Body}}, Statements.{Statements, call_then, closing_line}}
+use Rattle.block_graph.specs.{declared.locks.{Opener.{Opener}, Role.{Role, TheVariants.{Opens, Closes}}}, Blocks.{is_locked}}
 use Rattle.block_graph.specs.Locks.{are_same, behind_call as behind_the_call, behind_role, both_close, closes, goes_on, may_open, is_last, open_behind, open_behind_by, role_of, unlocked_call, unpaired, unpaired_by, walked}
 use Rattle.block_graph.specs.Follows.{Rest, behind_work, behind_if, behind_if_else, behind_while, behind_call, Branch, only, first, other, Way, start, past, into_branch, into_loop, Place, statement, brace, Enters, a_statement, no_more, Ends, of_body, of_branch, of_loop, of_rest, GoesTo, a_work, a_call, a_branch, no_else, a_loop, one_more, enough, after_role, after_first, Comes, from_start, from_statement, block_at, LocksFollow}
-use Rattle.block_graph.proofs.FollowsBlocks.{brace_at, locked_at, locks_at, locks_past}
-use Rattle.block_graph.proofs.Openers.{equal}
+use Rattle.block_graph.proofs.{FollowsBlocks.{brace_at, locked_at, locks_at, locks_past}, Openers.{equal}}
 
 -- ---- a walk that doesn't fail
 

@@ -1,11 +1,10 @@
 -- The rules on task code are judged in their order. `work` outside its range was judged before.
 use Rattle.std.proofs.Common.{◌≡◌, ℕ, ◌⊎◌, inl, inr, List, [], ◌∷◌, refl, arith}
-use Rattle.osek_values.specs.declared.refusal.{CodeRule.{CodeRule}, CodeRule.TheVariants.{C1, C2, C3, C4, C6, C7, C8, C9}}
+use Rattle.osek_values.specs.declared.refusal.CodeRule.{CodeRule, TheVariants.{C1, C2, C3, C4, C6, C7, C8, C9}}
 use Rattle.osek_values.proofs.LeastFaults.{AreAll, IsJudged}
 use Rattle.oil_system.specs.declared.system.System.{System}
 use Rattle.task_code.specs.declared.tree.Code.{Code}
-use Rattle.block_graph.specs.Rules.{lines}
-use Rattle.block_graph.specs.Faults.{order}
+use Rattle.block_graph.specs.{Rules.{lines}, Faults.{order}}
 
 abbrev pub rules : List CodeRule
 rules = C1 ∷ C2 ∷ C3 ∷ C4 ∷ C6 ∷ C7 ∷ C8 ∷ []

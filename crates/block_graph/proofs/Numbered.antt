@@ -1,13 +1,8 @@
 -- The number of a name among distinct names.
 use Rattle.std.proofs.Common.{◌≡◌, ℕ, ◌+◌, ◌<◌, Bool, false, cond, List, [], ◌∷◌, ◌++◌, length, get_or, map, take, drop, refl, sym, ap, ◌∙◌, subst}
-use Rattle.std.specs.Prelude.{Some, None, not, ◌||◌, if◌then◌else◌, nat_lt, position}
-use Rattle.std.specs.Borrow.{Bor}
-use Rattle.std.specs.Cmp.{IsEquivalence}
-use Rattle.std.specs.List.{AllByRecursion, IsDistinct, list_any, position_or_len}
-use Rattle.std.specs.Str.{bytes_eq}
-use Rattle.std.proofs.lemmas.List.{drop_more, length-map, map-append, take-append-drop, take_more}
-use Rattle.std.proofs.lemmas.Cmp.{nat_list_eq_equiv}
-use Rattle.std.proofs.lemmas.Map.Keys.{IsDistinct-head, IsDistinct-tail}
+use Rattle.std.specs.{Prelude.{Some, None, not, ◌||◌, if◌then◌else◌, nat_lt, position}, Borrow.{Bor}, Cmp.{IsEquivalence}}
+use Rattle.std.specs.{List.{AllByRecursion, IsDistinct, list_any, position_or_len}, Str.{bytes_eq}}
+use Rattle.std.proofs.lemmas.{List.{drop_more, length-map, map-append, take-append-drop, take_more}, Cmp.{nat_list_eq_equiv}, Map.Keys.{IsDistinct-head, IsDistinct-tail}}
 use Rattle.block_graph.specs.Names.{plain}
 
 -- ---- by a number of what has the name

@@ -1,23 +1,15 @@
 -- A system and its code have one answer and no other.
 use Rattle.std.proofs.Common.{◌≡◌, sym, ap, ◌∙◌, subst}
 use Rattle.std.specs.Prelude.{IfOk, Result, Ok, Err}
-use Rattle.osek_standard.specs.declared.app.App.{App}
-use Rattle.osek_standard.specs.Apps.{tables}
-use Rattle.osek_standard.specs.Tables.{Tables, tabled}
-use Rattle.osek_standard.specs.Validity.{IsValid, IsValid-prop}
-use Rattle.osek_standard.specs.Versions.{FitsVersion1}
+use Rattle.osek_standard.specs.{declared.app.App.{App}, Apps.{tables}, Tables.{Tables, tabled}, Validity.{IsValid, IsValid-prop}, Versions.{FitsVersion1}}
 use Rattle.oil_system.specs.declared.system.System.{System}
 use Rattle.oil_model.specs.Linkable.{IsLinkable}
 use Rattle.task_code.specs.declared.tree.Code.{Code}
-use Rattle.osek_values.specs.declared.refused.{LineFault.{LineFault}, Refused.{Refused}}
-use Rattle.osek_values.specs.declared.refusal.{CodeRule.{CodeRule}, CodeRule.TheVariants.{C1}}
-use Rattle.osek_values.specs.Answers.{IsRight}
-use Rattle.block_graph.specs.Answers.{IsAnswer}
-use Rattle.block_graph.specs.Apps.{HasApp}
+use Rattle.osek_values.specs.{declared.{refused.{LineFault.{LineFault}, Refused.{Refused}}, refusal.CodeRule.{CodeRule, TheVariants.{C1}}}, Answers.{IsRight}}
+use Rattle.block_graph.specs.{Answers.{IsAnswer}, Apps.{HasApp}}
 use Rattle.osek_values.proofs.LeastFaults.{same_fault, no_fault}
 use Rattle.block_graph.specs.Faults.{order}
-use Rattle.block_graph.proofs.LeastFaults.{rules, lines_in, all}
-use Rattle.block_graph.proofs.Valid.{fits_version_1}
+use Rattle.block_graph.proofs.{LeastFaults.{rules, lines_in, all}, Valid.{fits_version_1}}
 
 abbrev app_with : (t : Tables) → IsValid t → App
 app_with t v = record {

@@ -1,24 +1,17 @@
 -- What the block of a call names is declared.
 use Rattle.std.proofs.Common.{◌≡◌, ℕ, ◌<◌, ◌≤◌, Bool, true, false, cond, ltb, List, [], ◌∷◌, ◌++◌, length, refl, sym, subst, arith, IsTrue}
-use Rattle.std.specs.Prelude.{All, Some, None, unwrap_or}
-use Rattle.std.specs.List.{position, position_or_len, flat_map}
-use Rattle.std.proofs.lemmas.Bool.{ltb-true}
-use Rattle.std.proofs.lemmas.List.{length-map}
-use Rattle.std.proofs.lemmas.Nat.{le_or_l}
-use Rattle.osek_standard.specs.declared.block.Block.{Block}
-use Rattle.osek_standard.specs.Tables.{Tables}
-use Rattle.osek_standard.specs.Validity.{IsOtherWay, NamesEntries, isr_may, is_own_next, task_may}
+use Rattle.std.specs.{Prelude.{All, Some, None, unwrap_or}, List.{position, position_or_len, flat_map}}
+use Rattle.std.proofs.lemmas.{Bool.{ltb-true}, List.{length-map}, Nat.{le_or_l}}
+use Rattle.osek_standard.specs.{declared.block.Block.{Block}, Tables.{Tables}, Validity.{IsOtherWay, NamesEntries, isr_may, is_own_next, task_may}}
 use Rattle.oil_system.specs.declared.system.{EventObject.{EventObject}, TaskObject.{TaskObject}, System.{System}}
 use Rattle.task_code.specs.declared.call.{Reference.{Reference}, Call.{Call}}
 use Rattle.task_code.specs.declared.call.Call.TheVariants as call
 use Rattle.task_code.specs.declared.tree.Body.{Body}
 use Rattle.task_code.specs.declared.tree.BodyKind.TheVariants as body_kind
 use Rattle.task_code.specs.Fit.{NamesEvents}
-use Rattle.block_graph.specs.Apps.{extent, tables_over, task_with, tasks_of}
-use Rattle.block_graph.specs.Blocks.{event_bits, kind_of, mask_bits}
+use Rattle.block_graph.specs.{Apps.{extent, tables_over, task_with, tasks_of}, Blocks.{event_bits, kind_of, mask_bits}}
 use Rattle.block_graph.specs.Blocks as graph
-use Rattle.block_graph.specs.Names.{alarm_of, event_of, resource_of, task_of}
-use Rattle.block_graph.specs.Rules.{no_alarm, no_event, no_resource, no_task, of_resource, undeclared, undeclared_in}
+use Rattle.block_graph.specs.{Names.{alarm_of, event_of, resource_of, task_of}, Rules.{no_alarm, no_event, no_resource, no_task, of_resource, undeclared, undeclared_in}}
 
 pub both_empty : (a b : List ℕ) → a ++ b ≡ [] → (a ≡ []) × (b ≡ [])
 both_empty [] b e = (refl, e)

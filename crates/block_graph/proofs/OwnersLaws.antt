@@ -1,19 +1,14 @@
 -- What the blocks of one owner keep of what an application asks.
 use Rattle.std.proofs.Common.{◌≡◌, ℕ, ◌+◌, ◌<◌, ◌≤◌, Bool, false, eqb, List, [], ◌∷◌, ◌++◌, length, get_or, refl, sym, subst, arith, IsTrue, length-append}
 use Rattle.std.specs.Prelude.{All}
-use Rattle.std.proofs.lemmas.Bool.{eq-eqb, ne_eqb}
-use Rattle.std.proofs.lemmas.List.Sums.{sum_by-cons}
-use Rattle.oil_system.specs.declared.objects.Alarm.{Alarm}
-use Rattle.oil_system.specs.declared.system.System.{System}
-use Rattle.osek_standard.specs.declared.block.Block.{Block}
-use Rattle.osek_standard.specs.Validity.{IsIsrCode, IsOwner, IsTaskCode, IsTickCode, due_of, isr_may, no_block, task_may}
+use Rattle.std.proofs.lemmas.{Bool.{eq-eqb, ne_eqb}, List.Sums.{sum_by-cons}}
+use Rattle.oil_system.specs.declared.{objects.Alarm.{Alarm}, system.System.{System}}
+use Rattle.osek_standard.specs.{declared.block.Block.{Block}, Validity.{IsIsrCode, IsOwner, IsTaskCode, IsTickCode, due_of, isr_may, no_block, task_may}}
 use Rattle.oil_model.specs.Linkable.{IsLinkable}
 use Rattle.task_code.specs.declared.tree.{Body.{Body}, BodyKind.{BodyKind}}
 use Rattle.task_code.specs.declared.tree.BodyKind.TheVariants as body_kind
-use Rattle.task_code.specs.Fit.{IsFit}
-use Rattle.task_code.specs.Statements.{closing_line, nodes}
-use Rattle.block_graph.specs.Apps.{tables_over}
-use Rattle.block_graph.specs.Blocks.{block, blocks_of, body_blocks, end_kind, routine, routine_size, size, source_blocks, source_size}
+use Rattle.task_code.specs.{Fit.{IsFit}, Statements.{closing_line, nodes}}
+use Rattle.block_graph.specs.{Apps.{tables_over}, Blocks.{block, blocks_of, body_blocks, end_kind, routine, routine_size, size, source_blocks, source_size}}
 use Rattle.block_graph.specs.Rules.{from_calls, of_resource, undeclared_in}
 use Rattle.block_graph.proofs.OwnersEach.{AllFrom, all_from_append, all_from_at, all_from_weaker}
 use Rattle.block_graph.proofs.OwnersStatements.{Good, InIsr, InTask, IsGood, Lie, blocks_are_good, blocks_in_isr, blocks_in_task, blocks_length}

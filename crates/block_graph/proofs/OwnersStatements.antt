@@ -1,20 +1,14 @@
 -- What the blocks of statements keep.
 use Rattle.std.proofs.Common.{◌≡◌, ℕ, ◌+◌, ◌<◌, ◌≤◌, false, List, [], ◌++◌, length, refl, arith, IsTrue, length-append}
 use Rattle.std.specs.Prelude.{All}
-use Rattle.osek_standard.specs.declared.block.Block.{Block}
-use Rattle.osek_standard.specs.Validity.{IsAmong, IsBlock, isr_may, is_own_next, task_may}
+use Rattle.osek_standard.specs.{declared.block.Block.{Block}, Validity.{IsAmong, IsBlock, isr_may, is_own_next, task_may}}
 use Rattle.oil_system.specs.declared.system.{EventObject.{EventObject}, System.{System}}
-use Rattle.task_code.specs.declared.tree.{Body.{Body}, Condition.TheVariants.{Choice, Always}}
-use Rattle.task_code.specs.Fit.{HasCounts, HasMasks}
+use Rattle.task_code.specs.{declared.tree.{Body.{Body}, Condition.TheVariants.{Choice, Always}}, Fit.{HasCounts, HasMasks}}
 use Rattle.task_code.proofs.FitLaws.{count_range}
 use Rattle.task_code.specs.Statements.{Statements, closed, work_then, if_then, if_else_then, while_then, call_then, nodes}
-use Rattle.block_graph.specs.declared.locks.Opener.{Opener}
-use Rattle.block_graph.specs.Apps.{tables_over}
-use Rattle.block_graph.specs.Blocks.{blocks_of, entry}
-use Rattle.block_graph.specs.Locks.{open_behind, open_behind_call}
+use Rattle.block_graph.specs.{declared.locks.Opener.{Opener}, Apps.{tables_over}, Blocks.{blocks_of, entry}, Locks.{open_behind, open_behind_call}}
 use Rattle.block_graph.specs.Rules.{from_calls, of_resource, undeclared_in}
-use Rattle.block_graph.proofs.OwnersCalls.{both_empty, call_names_entries, call_in_task, call_in_isr, call_goes_on, call_has_one_way}
-use Rattle.block_graph.proofs.OwnersEach.{AllFrom, all_from_append}
+use Rattle.block_graph.proofs.{OwnersCalls.{both_empty, call_names_entries, call_in_task, call_in_isr, call_goes_on, call_has_one_way}, OwnersEach.{AllFrom, all_from_append}}
 
 -- each statement is a block
 pub blocks_length : (s : System) (xs : Statements) (n after : ℕ) (locks : List Opener) → length (blocks_of s xs n after locks) ≡ nodes xs

@@ -1,20 +1,13 @@
 -- What the blocks of a tick routine keep.
 use Rattle.std.proofs.Common.{◌≡◌, ℕ, ◌+◌, ◌-◌, ◌<◌, ◌≤◌, eqb, List, [], ◌∷◌, ◌++◌, length, get_or, refl, sym, ap, ◌∙◌, arith, IsTrue}
-use Rattle.std.specs.Prelude.{All}
-use Rattle.std.specs.List.{enumerate_from, filter}
-use Rattle.std.proofs.Math.Seq.{get_or-append_seam}
-use Rattle.std.proofs.lemmas.Bool.{and_from, eq-eqb, lt-ltb}
-use Rattle.std.proofs.lemmas.List.{append_assoc, append-nil, length_push}
-use Rattle.std.proofs.lemmas.List.Elements.{All-filter, All-head, All-map, All-tail}
-use Rattle.std.proofs.lemmas.List.FromFn.{get_or-enumerate_from, length-enumerate_from}
-use Rattle.oil_system.specs.declared.objects.Alarm.{Alarm}
-use Rattle.oil_system.specs.declared.system.System.{System}
-use Rattle.osek_standard.specs.declared.block.Block.{Block}
-use Rattle.osek_standard.specs.Validity.{due_of, tick_may}
+use Rattle.std.specs.{Prelude.{All}, List.{enumerate_from, filter}}
+use Rattle.std.proofs.{Math.Seq.{get_or-append_seam}, lemmas.{Bool.{and_from, eq-eqb, lt-ltb}, List.{append_assoc, append-nil, length_push}}}
+use Rattle.std.proofs.lemmas.List.{Elements.{All-filter, All-head, All-map, All-tail}, FromFn.{get_or-enumerate_from, length-enumerate_from}}
+use Rattle.oil_system.specs.declared.{objects.Alarm.{Alarm}, system.System.{System}}
+use Rattle.osek_standard.specs.{declared.block.Block.{Block}, Validity.{due_of, tick_may}}
 use Rattle.task_code.specs.declared.tree.Body.{Body}
 use Rattle.block_graph.specs.Blocks.{expiries, routine}
-use Rattle.block_graph.proofs.OwnersEach.{AllFrom}
-use Rattle.block_graph.proofs.OwnersStatements.{Good}
+use Rattle.block_graph.proofs.{OwnersEach.{AllFrom}, OwnersStatements.{Good}}
 
 pub expiries_length : (due : List ℕ) (n : ℕ) → length (expiries due n) ≡ length due + 1
 expiries_length [] n = refl

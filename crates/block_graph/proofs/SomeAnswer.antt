@@ -1,24 +1,14 @@
 -- A linkable system and fit code have an answer.
 use Rattle.std.proofs.Common.{◌≡◌, refl, sym, subst, List}
 use Rattle.std.specs.Prelude.{Option, Some, None, Result, Ok, Err}
-use Rattle.osek_standard.specs.declared.app.App.{App}
-use Rattle.osek_standard.specs.declared.block.Block.{Block}
-use Rattle.osek_standard.specs.declared.objects.{Counter.{Counter}, Isr.{Isr}, Task.{Task}}
-use Rattle.osek_standard.specs.Tables.{tabled}
-use Rattle.osek_standard.specs.Validity.{IsValid}
+use Rattle.osek_standard.specs.{declared.{app.App.{App}, block.Block.{Block}, objects.{Counter.{Counter}, Isr.{Isr}, Task.{Task}}}, Tables.{tabled}, Validity.{IsValid}}
 use Rattle.oil_system.specs.declared.system.System.{System}
 use Rattle.oil_model.specs.Linkable.{IsLinkable}
-use Rattle.task_code.specs.declared.tree.Code.{Code}
-use Rattle.task_code.specs.Fit.{AreFit}
-use Rattle.osek_values.specs.declared.refused.LineFault.{LineFault}
-use Rattle.osek_values.specs.declared.refusal.{CodeRule.{CodeRule}, CodeRule.TheVariants.{C1}}
-use Rattle.block_graph.specs.Answers.{IsAnswer}
-use Rattle.block_graph.specs.Apps.{tables_over, tasks_of, isrs_of, counters_of}
-use Rattle.block_graph.specs.Blocks.{app_blocks}
-use Rattle.block_graph.specs.Faults.{order, HasNoFault, IsLeastOrNone}
+use Rattle.task_code.specs.{declared.tree.Code.{Code}, Fit.{AreFit}}
+use Rattle.osek_values.specs.declared.{refused.LineFault.{LineFault}, refusal.CodeRule.{CodeRule, TheVariants.{C1}}}
+use Rattle.block_graph.specs.{Answers.{IsAnswer}, Apps.{tables_over, tasks_of, isrs_of, counters_of}, Blocks.{app_blocks}, Faults.{order, HasNoFault, IsLeastOrNone}}
 use Rattle.osek_values.proofs.LeastFaults.{least_or_none}
-use Rattle.block_graph.proofs.LeastFaults.{rules, lines_in, all}
-use Rattle.block_graph.proofs.Valid.{valid}
+use Rattle.block_graph.proofs.{LeastFaults.{rules, lines_in, all}, Valid.{valid}}
 
 -- tables that are the system's own are valid
 pub valid_with : (s : System) (code : Code) → IsLinkable s → AreFit code → HasNoFault s code

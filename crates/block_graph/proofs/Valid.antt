@@ -1,16 +1,11 @@
 -- The application of a linkable system and its code without a fault is valid.
 use Rattle.std.proofs.Common.{arith}
-use Rattle.osek_standard.specs.Validity.{IsValid, no_counter}
-use Rattle.osek_standard.specs.Versions.{FitsVersion1}
+use Rattle.osek_standard.specs.{Validity.{IsValid, no_counter}, Versions.{FitsVersion1}}
 use Rattle.oil_system.specs.declared.system.System.{System}
 use Rattle.oil_model.specs.Linkable.{IsLinkable}
-use Rattle.task_code.specs.declared.tree.Code.{Code}
-use Rattle.task_code.specs.Fit.{AreFit}
-use Rattle.block_graph.specs.Apps.{tables_over, tasks_of}
-use Rattle.block_graph.specs.Blocks.{app_blocks, source_size}
-use Rattle.block_graph.specs.Faults.{HasNoFault}
-use Rattle.block_graph.proofs.ExtentsApart.{apart as owners_apart}
-use Rattle.block_graph.proofs.ExtentsOwned.{owned as each_owned}
+use Rattle.task_code.specs.{declared.tree.Code.{Code}, Fit.{AreFit}}
+use Rattle.block_graph.specs.{Apps.{tables_over, tasks_of}, Blocks.{app_blocks, source_size}, Faults.{HasNoFault}}
+use Rattle.block_graph.proofs.{ExtentsApart.{apart as owners_apart}, ExtentsOwned.{owned as each_owned}}
 use Rattle.block_graph.proofs.ExtentsPlaces as places
 use Rattle.block_graph.proofs.OwnersCalls.{task_count}
 use Rattle.block_graph.proofs.ExtentsTables as tables

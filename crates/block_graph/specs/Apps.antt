@@ -1,17 +1,11 @@
 -- The application of a system and its task code.
 use Rattle.std.specs.Prelude.{◌≡◌, ℕ, ◌+◌, if◌then◌else◌, List, [], ◌∷◌, map}
 use Rattle.osek_values.specs.Numbers.{block_no}
-use Rattle.osek_standard.specs.declared.app.App.{App}
-use Rattle.osek_standard.specs.declared.objects.{Counter.{Counter}, Isr.{Isr}, Task.{Task}}
-use Rattle.osek_standard.specs.declared.block.Block.{Block}
-use Rattle.osek_standard.specs.Tables.{Tables, tabled}
-use Rattle.osek_standard.specs.Validity.{due_of}
+use Rattle.osek_standard.specs.{declared.{app.App.{App}, objects.{Counter.{Counter}, Isr.{Isr}, Task.{Task}}, block.Block.{Block}}, Tables.{Tables, tabled}, Validity.{due_of}}
 use Rattle.oil_system.specs.declared.system.{CounterObject.{CounterObject}, TaskObject.{TaskObject}, System.{System}}
 use Rattle.task_code.specs.declared.tree.{BodyKind.{BodyKind}, Body.{Body}, Code.{Code}}
 use Rattle.task_code.specs.declared.tree.BodyKind.TheVariants as body_kind
-use Rattle.block_graph.specs.Blocks.{size, source_size, routine_size, app_blocks}
-use Rattle.block_graph.specs.Rules.{is_code_of}
-use Rattle.block_graph.specs.Faults.{HasNoFault}
+use Rattle.block_graph.specs.{Blocks.{size, source_size, routine_size, app_blocks}, Rules.{is_code_of}, Faults.{HasNoFault}}
 
 -- the blocks of the code of a task or an ISR among bodies that begin at block n: the first, and how many
 abbrev pub extent : BodyKind → List ℕ → List Body → ℕ → ℕ × ℕ

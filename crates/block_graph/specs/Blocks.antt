@@ -1,10 +1,7 @@
 -- The blocks of task code (this project's profile): each statement and each body's closing brace is one, numbered from 0
 -- in the order of the text; behind them stand the tick routines.
-use Rattle.std.specs.Prelude.{ℕ, ◌+◌, Bool, true, false, List, [], ◌∷◌, ◌++◌, length, slice_index_or, bit_or, unwrap_or}
-use Rattle.std.specs.List.{sum_by}
-use Rattle.osek_values.specs.Numbers.{task_no, res_no, alarm_no, block_no, mask}
-use Rattle.osek_values.specs.declared.numbers.{TaskNo.{TaskNo}, ResNo.{ResNo}, AlarmNo.{AlarmNo}}
-use Rattle.osek_values.specs.declared.mask.Mask.{Mask}
+use Rattle.std.specs.{Prelude.{ℕ, ◌+◌, Bool, true, false, List, [], ◌∷◌, ◌++◌, length, slice_index_or, bit_or, unwrap_or}, List.{sum_by}}
+use Rattle.osek_values.specs.{Numbers.{task_no, res_no, alarm_no, block_no, mask}, declared.{numbers.{TaskNo.{TaskNo}, ResNo.{ResNo}, AlarmNo.{AlarmNo}}, mask.Mask.{Mask}}}
 use Rattle.osek_standard.specs.declared.block.{Block.{Block}, Kind.{Kind}}
 use Rattle.osek_standard.specs.declared.block.Kind.TheVariants as kind
 use Rattle.osek_standard.specs.declared.call.Call.{Call as Service}
@@ -19,11 +16,9 @@ use Rattle.osek_standard.specs.Validity.{due_of}
 use Rattle.oil_system.specs.declared.system.{CounterObject.{CounterObject}, EventObject.{EventObject}, System.{System}}
 use Rattle.task_code.specs.declared.call.{Reference.{Reference}, Call.{Call}}
 use Rattle.task_code.specs.declared.call.Call.TheVariants as call
-use Rattle.task_code.specs.declared.tree.{BodyKind.{BodyKind}, BodyKind.TheVariants.{Task, Isr}, Body.{Body}, Condition.TheVariants.{Choice, Always}}
+use Rattle.task_code.specs.declared.tree.{BodyKind.{BodyKind, TheVariants.{Task, Isr}}, Body.{Body}, Condition.TheVariants.{Choice, Always}}
 use Rattle.task_code.specs.Statements.{Statements, closed, work_then, if_then, if_else_then, while_then, call_then, closing_line, nodes}
-use Rattle.block_graph.specs.Names.{task_of, alarm_of, resource_of, event_of}
-use Rattle.block_graph.specs.declared.locks.Opener.{Opener}
-use Rattle.block_graph.specs.Locks.{open_behind, open_behind_call}
+use Rattle.block_graph.specs.{Names.{task_of, alarm_of, resource_of, event_of}, declared.locks.Opener.{Opener}, Locks.{open_behind, open_behind_call}}
 
 -- an event that isn't declared has no bits
 abbrev pub no_event : EventObject

@@ -2,8 +2,7 @@
 use Rattle.std.specs.Prelude.{ℕ, List}
 use Rattle.oil_system.specs.declared.system.System.{System}
 use Rattle.task_code.specs.declared.call.Call.{Call}
-use Rattle.block_graph.specs.declared.calls.{CallRule.{CallRule}, CallRule.TheVariants.{Declared, Resourceless}}
-use Rattle.block_graph.specs.Rules.{undeclared_in, of_resource}
+use Rattle.block_graph.specs.{declared.calls.CallRule.{CallRule, TheVariants.{Declared, Resourceless}}, Rules.{undeclared_in, of_resource}}
 
 -- the lines on which a call violates the rule
 abbrev pub lines_of : CallRule → System → ℕ → Call → List ℕ

@@ -1,6 +1,6 @@
 -- The faults of a system and its task code, and the least of them.
 use Rattle.std.specs.Prelude.{ℕ, Option}
-use Rattle.osek_values.specs.declared.refusal.{CodeRule.{CodeRule}, CodeRule.TheVariants.{C1, C2, C3, C4, C6, C7, C8, C9}}
+use Rattle.osek_values.specs.declared.refusal.CodeRule.{CodeRule, TheVariants.{C1, C2, C3, C4, C6, C7, C8, C9}}
 use Rattle.oil_system.specs.declared.system.System.{System}
 use Rattle.osek_values.specs.LeastFaults as faults
 use Rattle.task_code.specs.declared.tree.Code.{Code}

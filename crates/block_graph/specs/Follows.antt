@@ -4,11 +4,9 @@ use Rattle.osek_standard.specs.declared.block.{Block.{Block}, Kind.{Kind}}
 use Rattle.osek_standard.specs.declared.block.Kind.TheVariants as kind
 use Rattle.osek_standard.specs.Validity.{no_block}
 use Rattle.oil_system.specs.declared.system.System.{System}
-use Rattle.task_code.specs.declared.call.{Call.{Call}, Call.TheVariants.{LockCall}}
-use Rattle.task_code.specs.declared.tree.{Body.{Body}, BodyKind.TheVariants.{Task}, Condition.{Condition}, Condition.TheVariants.{Choice, Always}}
+use Rattle.task_code.specs.declared.{call.Call.{Call, TheVariants.{LockCall}}, tree.{Body.{Body}, BodyKind.TheVariants.{Task}, Condition.{Condition, TheVariants.{Choice, Always}}}}
 use Rattle.task_code.specs.Statements.{Statements, closed, work_then, if_then, if_else_then, while_then, call_then, nodes}
-use Rattle.block_graph.specs.declared.locks.{Opener.{Opener}, Role.{Role}, Role.TheVariants.{Opens, Closes}}
-use Rattle.block_graph.specs.Locks.{behind_call as behind_the_call, role_of}
+use Rattle.block_graph.specs.{declared.locks.{Opener.{Opener}, Role.{Role, TheVariants.{Opens, Closes}}}, Locks.{behind_call as behind_the_call, role_of}}
 use Rattle.block_graph.specs.Blocks.{body_blocks, is_locked}
 
 -- ---- places

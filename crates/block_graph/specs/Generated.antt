@@ -2,9 +2,7 @@
 use Rattle.std.specs.Prelude.{◌≡◌, List}
 use Rattle.oil_system.specs.declared.system.System.{System}
 use Rattle.task_code.specs.declared.tree.Body.{Body}
-use Rattle.block_graph.specs.declared.linker.Generated.{Generated}
-use Rattle.block_graph.specs.Apps.{tasks_of, isrs_of, counters_of}
-use Rattle.block_graph.specs.Blocks.{app_blocks}
+use Rattle.block_graph.specs.{declared.linker.Generated.{Generated}, Apps.{tasks_of, isrs_of, counters_of}, Blocks.{app_blocks}}
 
 pub record IsGenerated (s : System) (bodies : List Body) (g : Generated) : Type 0 where
   pub tasks : g.tasks ≡ tasks_of s bodies

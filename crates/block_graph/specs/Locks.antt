@@ -2,12 +2,10 @@
 -- a body is walked in the order of its text with the locks that are open, the first opened first.
 use Rattle.std.specs.Prelude.{ℕ, ◌-◌, nat_lt, ◌&&◌, Bool, true, false, not, if◌then◌else◌, List, [], ◌∷◌, ◌++◌, length, take, Option, Some, None, Result, Ok, Err, slice_get, unwrap_or}
 use Rattle.std.specs.List.{list_any}
-use Rattle.osek_values.specs.declared.limits.TheConstants.{MAX_LOCKS}
-use Rattle.osek_values.specs.declared.lock.Lock.{Lock}
+use Rattle.osek_values.specs.declared.{limits.TheConstants.{MAX_LOCKS}, lock.Lock.{Lock}}
 use Rattle.osek_values.specs.declared.lock.Lock.TheVariants as lock
-use Rattle.task_code.specs.declared.call.{Call.{Call}, Call.TheVariants.{LockCall}}
-use Rattle.task_code.specs.declared.tree.Body.{Body}
-use Rattle.block_graph.specs.declared.locks.{Opener.{Opener}, Opener.TheVariants.{SuspendAll, SuspendOs, DisableAll}, Role.{Role}, Role.TheVariants.{Opens, Closes}}
+use Rattle.task_code.specs.declared.{call.Call.{Call, TheVariants.{LockCall}}, tree.Body.{Body}}
+use Rattle.block_graph.specs.declared.locks.{Opener.{Opener, TheVariants.{SuspendAll, SuspendOs, DisableAll}}, Role.{Role, TheVariants.{Opens, Closes}}}
 use Rattle.task_code.specs.Statements.{Statements, closed, work_then, if_then, if_else_then, while_then, call_then, closing_line}
 
 abbrev pub is_opener : Opener → Opener → Bool

@@ -1,10 +1,6 @@
 -- What the names in task code stand for: an object of the needed kind, by its number.
-use Rattle.std.specs.Prelude.{◌≡◌, ℕ, List, Option, map}
-use Rattle.std.specs.Borrow.{Bor}
-use Rattle.std.specs.List.{position}
-use Rattle.std.specs.Str.{bytes_eq}
-use Rattle.oil_system.specs.declared.objects.{Alarm.{Alarm}, Resource.{Resource}}
-use Rattle.oil_system.specs.declared.system.{TaskObject.{TaskObject}, EventObject.{EventObject}, System.{System}}
+use Rattle.std.specs.{Prelude.{◌≡◌, ℕ, List, Option, map}, Borrow.{Bor}, List.{position}, Str.{bytes_eq}}
+use Rattle.oil_system.specs.declared.{objects.{Alarm.{Alarm}, Resource.{Resource}}, system.{TaskObject.{TaskObject}, EventObject.{EventObject}, System.{System}}}
 
 module _ (s : System) where
   abbrev pub task_of : List ℕ → Option ℕ

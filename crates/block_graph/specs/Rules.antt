@@ -1,17 +1,14 @@
 -- The rules on a system and its task code (this project's profile): on which lines each is violated.
 use Rattle.std.specs.Prelude.{ℕ, Bool, true, false, not, ◌||◌, ◌&&◌, if◌then◌else◌, is_some, List, [], ◌∷◌, ◌++◌, Option, Some, None, filter, map, drop}
-use Rattle.std.specs.List.{list_any, flat_map}
-use Rattle.std.specs.Str.{bytes_eq}
-use Rattle.osek_values.specs.declared.limits.TheConstants.{MAX_SOURCE_BLOCKS}
-use Rattle.osek_values.specs.declared.refusal.{CodeRule.{CodeRule}, CodeRule.TheVariants.{C1, C2, C3, C4, C6, C7, C8, C9}}
+use Rattle.std.specs.{List.{list_any, flat_map}, Str.{bytes_eq}}
+use Rattle.osek_values.specs.declared.{limits.TheConstants.{MAX_SOURCE_BLOCKS}, refusal.CodeRule.{CodeRule, TheVariants.{C1, C2, C3, C4, C6, C7, C8, C9}}}
 use Rattle.oil_system.specs.declared.system.{TaskObject.{TaskObject}, System.{System}}
 use Rattle.oil_model.specs.Rules.{repeated}
 use Rattle.task_code.specs.declared.call.{Reference.{Reference}, Call.{Call}}
 use Rattle.task_code.specs.declared.call.Call.TheVariants as call
-use Rattle.task_code.specs.declared.tree.{BodyKind.{BodyKind}, BodyKind.TheVariants.{Task, Isr}, Body.{Body}, Code.{Code}}
+use Rattle.task_code.specs.declared.tree.{BodyKind.{BodyKind, TheVariants.{Task, Isr}}, Body.{Body}, Code.{Code}}
 use Rattle.task_code.specs.Statements.{Statements, closed, work_then, if_then, if_else_then, while_then, call_then, closing_line}
-use Rattle.block_graph.specs.Names.{task_of, isr_of, alarm_of, resource_of, event_of}
-use Rattle.block_graph.specs.Locks.{unpaired}
+use Rattle.block_graph.specs.{Names.{task_of, isr_of, alarm_of, resource_of, event_of}, Locks.{unpaired}}
 
 abbrev pub is_kind : BodyKind → BodyKind → Bool
 is_kind Task Task = true

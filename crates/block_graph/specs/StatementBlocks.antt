@@ -4,11 +4,8 @@ use Rattle.osek_values.specs.Numbers.{block_no}
 use Rattle.osek_standard.specs.declared.block.{Block.{Block}, Kind.{Kind}}
 use Rattle.osek_standard.specs.declared.block.Kind.TheVariants as kind
 use Rattle.oil_system.specs.declared.system.System.{System}
-use Rattle.task_code.specs.declared.tree.{Condition.{Condition}, Condition.TheVariants.{Choice, Always}, Statement.{Statement}, Statement.TheVariants.{Work, If, While, Call}}
-use Rattle.task_code.specs.Statements.{nodes}
-use Rattle.block_graph.specs.declared.locks.Opener.{Opener}
-use Rattle.block_graph.specs.Locks.{open_behind, open_behind_call}
-use Rattle.block_graph.specs.Blocks.{block, entry, kind_of, blocks_of}
+use Rattle.task_code.specs.{declared.tree.{Condition.{Condition, TheVariants.{Choice, Always}}, Statement.{Statement, TheVariants.{Work, If, While, Call}}}, Statements.{nodes}}
+use Rattle.block_graph.specs.{declared.locks.Opener.{Opener}, Locks.{open_behind, open_behind_call}, Blocks.{block, entry, kind_of, blocks_of}}
 
 -- how many statements there are in a statement, at all depths and itself among them
 abbrev pub statement_nodes : Statement → ℕ

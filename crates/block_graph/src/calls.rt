@@ -1,9 +1,7 @@
 //! The rules on calls: that the names in them are declared, and that no ISR takes or gives back a resource.
-ghost use Rattle.std.specs.Prelude.{◌≡◌, ℕ};
-ghost use Rattle.std.specs.List.{flat_map};
+ghost use Rattle.std.specs.{Prelude.{◌≡◌, ℕ}, List.{flat_map}};
 ghost use Rattle.oil_model.specs.Lines.{sooner, least};
-ghost use Rattle.task_code.specs.Statements.{Statements};
-ghost use Rattle.task_code.specs.StatementLists.{statement_before};
+ghost use Rattle.task_code.specs.{Statements.{Statements}, StatementLists.{statement_before}};
 ghost use Rattle.block_graph.specs.Rules as rules_of;
 ghost use Rattle.block_graph.specs.CallRules.{lines_of};
 

@@ -1,8 +1,7 @@
 //! What the blocks of a body keep of its control flow.
 ghost use Rattle.std.specs.Prelude.{◌≡◌, ℕ, ◌+◌, ◌<◌, Bool, []};
 ghost use Rattle.oil_system.specs.declared.system.System.{System};
-ghost use Rattle.task_code.specs.declared.tree.Body.{Body};
-ghost use Rattle.task_code.specs.Statements.{Statements, closing_line, nodes};
+ghost use Rattle.task_code.specs.{declared.tree.Body.{Body}, Statements.{Statements, closing_line, nodes}};
 ghost use Rattle.block_graph.specs.Blocks.{body_blocks, end_kind};
 ghost use Rattle.block_graph.specs.Follows.{Rest, Way, Place, statement, brace, GoesTo, number, statement_line, block_at, leads, LocksFollow, exits_of, worked, worked_exits};
 ghost use Rattle.block_graph.specs.Locks.{unpaired};

@@ -3,9 +3,7 @@ ghost use Rattle.std.specs.Prelude.{◌≡◌, ℕ, ◌≤◌, ◌+◌, ◌++◌
 ghost use Rattle.osek_values.specs.Numbers.{block_no as the_block_no};
 ghost use Rattle.osek_standard.specs.declared.block.Kind.TheVariants as kind;
 ghost use Rattle.oil_model.specs.Linkable.{IsLinkable};
-ghost use Rattle.task_code.specs.Fit.{HasCounts, IsFit};
-ghost use Rattle.task_code.specs.Statements.{nodes as nodes_of, closed};
-ghost use Rattle.task_code.specs.StatementLists.{statement_before, list_of};
+ghost use Rattle.task_code.specs.{Fit.{HasCounts, IsFit}, Statements.{nodes as nodes_of, closed}, StatementLists.{statement_before, list_of}};
 ghost use Rattle.block_graph.specs.Blocks.{block as the_block, entry as the_entry, end_kind as the_end_kind, size as the_size, blocks_of, body_blocks, source_size as the_source_size, source_blocks};
 ghost use Rattle.block_graph.specs.StatementBlocks.{statement_nodes as the_statement_nodes, locks_behind as the_locks_behind, loop_kind as the_loop_kind, statement_blocks};
 

@@ -1,8 +1,7 @@
 //! The least pair of a rule that is violated and a line.
 ghost use Rattle.std.specs.Prelude.{◌≡◌};
 ghost use Rattle.oil_model.specs.Lines.{least};
-ghost use Rattle.block_graph.specs.Rules.{lines};
-ghost use Rattle.block_graph.specs.Faults.{IsLeastOrNone};
+ghost use Rattle.block_graph.specs.{Rules.{lines}, Faults.{IsLeastOrNone}};
 
 use crate::calls::{isr_resource, undeclared_name};
 use crate::fault::LinkFault;

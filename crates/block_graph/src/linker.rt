@@ -1,18 +1,11 @@
 //! The application of a system and its code, or their least fault.
 ghost use Rattle.std.specs.Prelude.{◌≡◌, ◌≤◌, All, IfOk, Result, Ok, Err};
-ghost use Rattle.osek_standard.specs.declared.app.App.{App};
-ghost use Rattle.osek_standard.specs.Versions.{FitsVersion1};
+ghost use Rattle.osek_standard.specs.{declared.app.App.{App}, Versions.{FitsVersion1}};
 ghost use Rattle.oil_system.specs.declared.system.System.{System};
 ghost use Rattle.oil_model.specs.Linkable.{IsLinkable};
-ghost use Rattle.task_code.specs.declared.tree.Code.{Code};
-ghost use Rattle.task_code.specs.Fit.{IsFit, AreFit};
-ghost use Rattle.osek_values.specs.declared.refused.LineFault.{LineFault};
-ghost use Rattle.osek_values.specs.declared.refusal.CodeRule.{CodeRule};
-ghost use Rattle.osek_values.specs.Answers.{IsRight, Answers};
-ghost use Rattle.block_graph.specs.Answers.{IsAnswer};
-ghost use Rattle.block_graph.specs.Apps.{HasApp};
-ghost use Rattle.block_graph.specs.Generated.{IsGenerated};
-ghost use Rattle.block_graph.specs.Blocks.{source_size as the_source_size, app_blocks as the_app_blocks};
+ghost use Rattle.task_code.specs.{declared.tree.Code.{Code}, Fit.{IsFit, AreFit}};
+ghost use Rattle.osek_values.specs.{declared.{refused.LineFault.{LineFault}, refusal.CodeRule.{CodeRule}}, Answers.{IsRight, Answers}};
+ghost use Rattle.block_graph.specs.{Answers.{IsAnswer}, Apps.{HasApp}, Generated.{IsGenerated}, Blocks.{source_size as the_source_size, app_blocks as the_app_blocks}};
 ghost use Rattle.block_graph.specs.Faults.{HasNoFault, IsLeastOrNone};
 
 use crate::fault::{LinkError, LinkFault};

@@ -1,6 +1,5 @@
 //! The interrupt locks that are open at a place of a body.
-ghost use Rattle.std.specs.Prelude.{◌≡◌};
-ghost use Rattle.std.specs.List.{list_any};
+ghost use Rattle.std.specs.{Prelude.{◌≡◌}, List.{list_any}};
 ghost use Rattle.block_graph.specs.declared.locks.Opener.TheVariants.{DisableAll};
 ghost use Rattle.block_graph.specs.Locks.{role_of as the_role_of, is_opener as is_the_opener, are_same as are_the_same, is_doubled as is_it_doubled};
 

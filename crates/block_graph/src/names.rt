@@ -1,7 +1,5 @@
 //! What the names in task code stand for, by number.
-ghost use Rattle.std.specs.Prelude.{◌≡◌, List, ℕ, map, position, IfOk};
-ghost use Rattle.std.specs.List.{IsDistinct};
-ghost use Rattle.std.specs.Str.{bytes_eq};
+ghost use Rattle.std.specs.{Prelude.{◌≡◌, List, ℕ, map, position, IfOk}, List.{IsDistinct}, Str.{bytes_eq}};
 ghost use Rattle.oil_model.specs.Linkable.{IsLinkable};
 ghost use Rattle.block_graph.specs.Names.{plain, task_of as the_task_of, isr_of as the_isr_of, alarm_of as the_alarm_of, resource_of as the_resource_of, event_of as the_event_of};
 

@@ -1,6 +1,5 @@
 //! The rules on whose code there is: that each task and ISR has some, and none has it twice.
-ghost use Rattle.std.specs.Prelude.{◌≡◌, ◌∷◌, [], if◌then◌else◌};
-ghost use Rattle.std.specs.List.{list_any};
+ghost use Rattle.std.specs.{Prelude.{◌≡◌, ◌∷◌, [], if◌then◌else◌}, List.{list_any}};
 ghost use Rattle.oil_system.specs.declared.system.TaskObject.{TaskObject};
 ghost use Rattle.oil_model.specs.Lines.{sooner, least};
 ghost use Rattle.task_code.specs.declared.tree.BodyKind.TheVariants.{Task as of_task, Isr as of_isr};

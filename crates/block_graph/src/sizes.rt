@@ -2,8 +2,7 @@
 ghost use Rattle.std.specs.Prelude.{◌≡◌, ℕ, List, [], ◌∷◌, ◌++◌, drop, MatchResult};
 ghost use Rattle.osek_values.specs.declared.limits.TheConstants.{MAX_SOURCE_BLOCKS};
 ghost use Rattle.oil_model.specs.Lines.{least};
-ghost use Rattle.task_code.specs.Statements.{Statements, closing_line};
-ghost use Rattle.task_code.specs.StatementLists.{statement_before};
+ghost use Rattle.task_code.specs.{Statements.{Statements, closing_line}, StatementLists.{statement_before}};
 ghost use Rattle.block_graph.specs.Rules.{first_only, statement_lines, block_lines};
 ghost use Rattle.block_graph.specs.Rules as rules_of;
 

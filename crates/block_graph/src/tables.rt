@@ -2,8 +2,7 @@
 ghost use Rattle.std.specs.Prelude.{◌≡◌, ◌≤◌, IfOk};
 ghost use Rattle.oil_model.specs.Linkable.{IsLinkable};
 ghost use Rattle.task_code.specs.declared.tree.BodyKind.TheVariants as body_kind;
-ghost use Rattle.block_graph.specs.Apps.{extent as the_extent, task_with, isr_with, counter_with, tasks_of, isrs_of, counters_from};
-ghost use Rattle.block_graph.specs.Blocks.{source_size};
+ghost use Rattle.block_graph.specs.{Apps.{extent as the_extent, task_with, isr_with, counter_with, tasks_of, isrs_of, counters_from}, Blocks.{source_size}};
 
 use crate::layout::{block_no, size};
 use crate::owners::is_code_of;

@@ -1,7 +1,6 @@
 //! The walk through statements with the interrupt locks that are open.
 ghost use Rattle.std.specs.Prelude.{◌≡◌, Result, Ok, Err, MatchResult};
-ghost use Rattle.task_code.specs.Statements.{Statements};
-ghost use Rattle.task_code.specs.StatementLists.{statement_before};
+ghost use Rattle.task_code.specs.{Statements.{Statements}, StatementLists.{statement_before}};
 ghost use Rattle.block_graph.specs.Locks.{closes, walked, open_behind as open_behind_the};
 
 use crate::locks::Locks;

@@ -1,45 +1,26 @@
 -- The sites by what is found over all rows of a written table have the forms and the known statuses that it dictates.
 use Rattle.std.proofs.Common.{◌≡◌, ℕ, ◌<◌, Bool, List, length, map, get_or, IsTrue, Some, None, refl, sym, ap, subst, ◌∙◌, inl, inr, arith}
-use Rattle.std.specs.Prelude.{Contains, option_map}
-use Rattle.std.specs.List.Sorted.{IsStrictlySortedBy}
-use Rattle.std.specs.Ordering.{nat_cmp}
-use Rattle.std.specs.declared.option.Option.{Option}
-use Rattle.std.proofs.lemmas.Bool.{cases_lt, cases_order}
-use Rattle.std.proofs.lemmas.List.{length-map, get_or-map, get_or_past, get_or_default}
-use Rattle.std.proofs.lemmas.Map.Keys.{below_from_sorted}
+use Rattle.std.specs.{Prelude.{Contains, option_map}, List.Sorted.{IsStrictlySortedBy}, Ordering.{nat_cmp}, declared.option.Option.{Option}}
+use Rattle.std.proofs.lemmas.{Bool.{cases_lt, cases_order}, List.{length-map, get_or-map, get_or_past, get_or_default}, Map.Keys.{below_from_sorted}}
 use Rattle.std.proofs.lemmas.Map.Views.{Contains-from_any, list_any-from_Contains}
-use Rattle.osek_values.specs.Numbers.{block_no}
-use Rattle.osek_values.specs.declared.status.Status.{Status}
-use Rattle.osek_values.specs.declared.numbers.{BlockNo.{BlockNo}, TaskNo.{TaskNo}}
-use Rattle.osek_standard.specs.declared.app.App.{App}
-use Rattle.osek_standard.specs.declared.state.{State.{State}, Processor.{Processor}}
+use Rattle.osek_values.specs.{Numbers.{block_no}, declared.{status.Status.{Status}, numbers.{BlockNo.{BlockNo}, TaskNo.{TaskNo}}}}
+use Rattle.osek_standard.specs.declared.{app.App.{App}, state.{State.{State}, Processor.{Processor}}}
 use Rattle.osek_standard.specs.declared.state.Processor.TheVariants as processor
-use Rattle.osek_standard.specs.declared.point.Point.{Point}
-use Rattle.osek_standard.specs.Apps.{is_site}
-use Rattle.osek_standard.specs.States.{here}
-use Rattle.osek_standard.specs.Effects.{effect}
-use Rattle.osek_standard.specs.Dispatch.{Outcome, To, outcome, settled, instruction}
-use Rattle.osek_standard.specs.Points.{StandsAt, point_at, point_of, point_number}
-use Rattle.osek_standard.specs.Well.{Well, IsActive}
+use Rattle.osek_standard.specs.{declared.point.Point.{Point}, Apps.{is_site}, States.{here}, Effects.{effect}, Dispatch.{Outcome, To, outcome, settled, instruction}}
+use Rattle.osek_standard.specs.{Points.{StandsAt, point_at, point_of, point_number}, Well.{Well, IsActive}}
 use Rattle.osek_standard.proofs.StepKeeps.{instruction_keeps}
 use Rattle.image_model.specs.declared.site.{Form.{Form}, Known.{Known}, Site.{Site}}
 use Rattle.image_model.specs.declared.site.Known.TheVariants as known
 use Rattle.image_model.specs.Sites.{IsForm, IsSiteAt, AreSites}
-use Rattle.abstract_state.specs.declared.table.{TableRow.{TableRow}, PlainTable.{PlainTable}}
-use Rattle.abstract_state.specs.Components.{abstract_of}
-use Rattle.abstract_state.specs.Tables.{Sets, In, set_at, is_member, sets_of}
-use Rattle.abstract_state.specs.Written.{IsWritten}
-use Rattle.abstract_state.specs.Forms.{Occurs, FormOf, Noted, KnownOf}
-use Rattle.abstract_state.proofs.OrderLaws.{part_right, part_laws}
-use Rattle.abstract_state.proofs.EqualityLaws.{written_entry, written_value}
+use Rattle.abstract_state.specs.{declared.table.{TableRow.{TableRow}, PlainTable.{PlainTable}}, Components.{abstract_of}, Tables.{Sets, In, set_at, is_member, sets_of}}
+use Rattle.abstract_state.specs.{Written.{IsWritten}, Forms.{Occurs, FormOf, Noted, KnownOf}}
+use Rattle.abstract_state.proofs.{OrderLaws.{part_right, part_laws}, EqualityLaws.{written_entry, written_value}}
 use Rattle.flow_model.specs.declared.case.Decision.TheVariants as decision
 use Rattle.flow_model.specs.Scheduling.{outcome_of_decision}
 use Rattle.call_tailor.specs.declared.found.{Found.{Found}, Findings.{Findings}}
 use Rattle.call_tailor.specs.declared.found.Found.TheVariants as found
-use Rattle.call_tailor.specs.Found.{IsSeen, outcome_seen, status_seen, AreFindings, form_of, known_of, site_of}
-use Rattle.call_tailor.specs.Outcomes.{status_noted, ArisesAt, IsFoundAt, AreFound}
-use Rattle.call_tailor.proofs.Joining.{same_status, same_seen}
-use Rattle.call_tailor.proofs.RowOutcomes.{stands_once}
+use Rattle.call_tailor.specs.{Found.{IsSeen, outcome_seen, status_seen, AreFindings, form_of, known_of, site_of}, Outcomes.{status_noted, ArisesAt, IsFoundAt, AreFound}}
+use Rattle.call_tailor.proofs.{Joining.{same_status, same_seen}, RowOutcomes.{stands_once}}
 
 abbrev row_number : TableRow → ℕ
 row_number row = point_number row.point

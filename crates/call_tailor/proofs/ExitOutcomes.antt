@@ -1,34 +1,20 @@
 -- What is read of the instructions of the states of a row is told by the exits of its point.
 use Rattle.std.proofs.Common.{◌≡◌, ◌⊎◌, ℕ, ◌+◌, ◌<◌, Bool, false, List, [], ◌∷◌, ◌++◌, length, get_or, map, take, IsTrue, Some, None, refl, sym, ap, subst, ◌∙◌, inl, inr, arith}
-use Rattle.std.specs.declared.option.Option.{Option}
-use Rattle.std.specs.Prelude.{Contains}
-use Rattle.std.proofs.lemmas.Bool.{cases_lt}
-use Rattle.std.proofs.lemmas.Grind.{flat_map-append}
-use Rattle.std.proofs.lemmas.List.{append-nil, take_more}
-use Rattle.std.proofs.lemmas.List.Elements.{Contains-append_left, Contains-append_right, Contains-append_cases}
+use Rattle.std.specs.{declared.option.Option.{Option}, Prelude.{Contains}}
+use Rattle.std.proofs.lemmas.{Bool.{cases_lt}, Grind.{flat_map-append}, List.{append-nil, take_more, Elements.{Contains-append_left, Contains-append_right, Contains-append_cases}}}
 use Rattle.osek_values.specs.declared.status.Status.{Status}
-use Rattle.osek_standard.specs.declared.app.App.{App}
-use Rattle.osek_standard.specs.declared.state.State.{State}
-use Rattle.osek_standard.specs.Effects.{effect}
-use Rattle.osek_standard.specs.Dispatch.{outcome}
-use Rattle.osek_standard.specs.Outcomes.{Did, shows}
+use Rattle.osek_standard.specs.{declared.{app.App.{App}, state.State.{State}}, Effects.{effect}, Dispatch.{outcome}, Outcomes.{Did, shows}}
 use Rattle.osek_standard.proofs.Members.{among_contained, contained_among, map_among}
-use Rattle.abstract_state.specs.declared.value.{PartValue.{PartValue}, PartValue.TheVariants.{OfAlarm}}
-use Rattle.abstract_state.specs.declared.table.{PlainEntry.{PlainEntry}, TableRow.{TableRow}}
-use Rattle.abstract_state.specs.Components.{component_count}
+use Rattle.abstract_state.specs.{declared.{value.PartValue.{PartValue, TheVariants.{OfAlarm}}, table.{PlainEntry.{PlainEntry}, TableRow.{TableRow}}}, Components.{component_count}}
 use Rattle.abstract_state.specs.Tables.{set_at, is_member}
 use Rattle.abstract_state.proofs.MarkLaws.{shown_instruction}
-use Rattle.flow_model.specs.declared.case.Decision.{Decision}
-use Rattle.flow_model.specs.Rules.{mark_by}
-use Rattle.flow_model.specs.Scheduling.{outcome_of_decision}
-use Rattle.flow_exits.specs.declared.exit.Exit.{Exit}
-use Rattle.flow_exits.specs.Exits.{CoverInstructions, IsStepTo, IsFilled, IsExact, AreExact}
+use Rattle.flow_model.specs.{declared.case.Decision.{Decision}, Rules.{mark_by}, Scheduling.{outcome_of_decision}}
+use Rattle.flow_exits.specs.{declared.exit.Exit.{Exit}, Exits.{CoverInstructions, IsStepTo, IsFilled, IsExact, AreExact}}
 use Rattle.numbered_sets.specs.Pools.{Values}
 use Rattle.flow_rules.specs.declared.group.{NumberEnd.{NumberEnd}, Ends.{Ends}, ExitGroup.{ExitGroup}}
 use Rattle.flow_rules.specs.declared.group.Ends.TheVariants as ends
 use Rattle.flow_rules.specs.Groups.{holding, exit_at, exits_by, exits_of, all_exits}
-use Rattle.call_tailor.specs.declared.found.Findings.{Findings}
-use Rattle.call_tailor.specs.Found.{Seen, Nothing, Alone, IsSeen, AreJoined, outcome_seen, status_seen, AreJoinedFindings, IsTold}
+use Rattle.call_tailor.specs.{declared.found.Findings.{Findings}, Found.{Seen, Nothing, Alone, IsSeen, AreJoined, outcome_seen, status_seen, AreJoinedFindings, IsTold}}
 use Rattle.call_tailor.specs.Outcomes.{end_count, status_noted, Arises, IsOfExit, IsOfExits, AreOfRow, AreOfExits}
 use Rattle.call_tailor.proofs.Joining.{same_decision, same_status, status_once, joined_nothing, same_seen, joined_seen, seen_already}
 

@@ -1,21 +1,12 @@
 -- What is found at each block, row by row.
 use Rattle.std.proofs.Common.{◌≡◌, ◌⊎◌, ℕ, ◌+◌, ◌<◌, Bool, true, false, List, [], ◌∷◌, ◌++◌, length, map, get_or, set, take, Some, None, refl, sym, ap, subst, ◌∙◌, inl, inr, arith}
-use Rattle.std.specs.Prelude.{if◌then◌else◌}
-use Rattle.std.specs.List.{range_with_len}
-use Rattle.std.specs.declared.option.Option.{Option}
-use Rattle.std.proofs.lemmas.Bool.{cases_eq}
-use Rattle.std.proofs.lemmas.List.{take_more, length-set, get_or-set_same, get_or-set_other}
-use Rattle.std.proofs.lemmas.List.Elements.{Contains-push, Contains-push_cases, Contains-append_left}
+use Rattle.std.specs.{Prelude.{if◌then◌else◌}, List.{range_with_len}, declared.option.Option.{Option}}
+use Rattle.std.proofs.lemmas.{Bool.{cases_eq}, List.{take_more, length-set, get_or-set_same, get_or-set_other, Elements.{Contains-push, Contains-push_cases, Contains-append_left}}}
 use Rattle.std.proofs.lemmas.List.FromFn.{get_or-map-range_with_len, length-map-range_with_len}
-use Rattle.osek_values.specs.Numbers.{block_no}
-use Rattle.osek_values.specs.declared.numbers.BlockNo.{BlockNo}
-use Rattle.osek_standard.specs.declared.app.App.{App}
-use Rattle.osek_standard.specs.declared.point.Point.{Point}
+use Rattle.osek_values.specs.{Numbers.{block_no}, declared.numbers.BlockNo.{BlockNo}}
+use Rattle.osek_standard.specs.declared.{app.App.{App}, point.Point.{Point}}
 use Rattle.osek_standard.specs.declared.point.Point.TheVariants as point
-use Rattle.osek_standard.specs.Apps.{is_site}
-use Rattle.osek_standard.specs.declared.state.State.{State}
-use Rattle.osek_standard.specs.Dispatch.{outcome}
-use Rattle.osek_standard.specs.Points.{StandsAt, IsPoint}
+use Rattle.osek_standard.specs.{Apps.{is_site}, declared.state.State.{State}, Dispatch.{outcome}, Points.{StandsAt, IsPoint}}
 use Rattle.osek_standard.proofs.WellLaws.{own_known, routine_known}
 use Rattle.abstract_state.specs.declared.table.TableRow.{TableRow}
 use Rattle.flow_model.specs.Scheduling.{outcome_of_decision}

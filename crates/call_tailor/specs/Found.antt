@@ -1,6 +1,5 @@
 -- What is found of the instructions at a block: of their outcomes and of the statuses that they note.
-use Rattle.std.specs.Prelude.{◌≡◌, ◌≢◌, ◌⊎◌, Some, None}
-use Rattle.std.specs.declared.option.Option.{Option}
+use Rattle.std.specs.{Prelude.{◌≡◌, ◌≢◌, ◌⊎◌, Some, None}, declared.option.Option.{Option}}
 use Rattle.osek_values.specs.declared.status.Status.{Status}
 use Rattle.osek_standard.specs.Dispatch.{Outcome}
 use Rattle.image_model.specs.declared.site.{Form.{Form}, Known.{Known}, Site.{Site}}

@@ -1,23 +1,13 @@
 -- The outcomes and the statuses of the instructions at a block, by the rows of a table.
-use Rattle.std.specs.Prelude.{◌≡◌, ℕ, ◌<◌, Bool, not, List, length, slice_index_or, IsTrue, Some, None, Contains, if◌then◌else◌}
-use Rattle.std.specs.declared.option.Option.{Option}
-use Rattle.osek_values.specs.Numbers.{block_no}
-use Rattle.osek_values.specs.declared.status.Status.{Status}
-use Rattle.osek_standard.specs.declared.app.App.{App}
-use Rattle.osek_standard.specs.declared.state.State.{State}
-use Rattle.osek_standard.specs.Apps.{is_site}
-use Rattle.osek_standard.specs.Effects.{effect}
-use Rattle.osek_standard.specs.Dispatch.{outcome}
-use Rattle.osek_standard.specs.Points.{StandsAt}
-use Rattle.osek_standard.specs.Well.{IsActive}
+use Rattle.std.specs.{Prelude.{◌≡◌, ℕ, ◌<◌, Bool, not, List, length, slice_index_or, IsTrue, Some, None, Contains, if◌then◌else◌}, declared.option.Option.{Option}}
+use Rattle.osek_values.specs.{Numbers.{block_no}, declared.status.Status.{Status}}
+use Rattle.osek_standard.specs.{declared.{app.App.{App}, state.State.{State}}, Apps.{is_site}, Effects.{effect}, Dispatch.{outcome}, Points.{StandsAt}, Well.{IsActive}}
 use Rattle.abstract_state.specs.declared.table.TableRow.{TableRow}
-use Rattle.flow_model.specs.declared.case.Decision.{Decision}
-use Rattle.flow_model.specs.Effects.{IsAt}
-use Rattle.flow_model.specs.Scheduling.{outcome_of_decision}
+use Rattle.flow_model.specs.{declared.case.Decision.{Decision}, Effects.{IsAt}, Scheduling.{outcome_of_decision}}
 use Rattle.flow_exits.specs.declared.exit.Exit.{Exit}
 use Rattle.flow_rules.specs.declared.group.Ends.{Ends}
 use Rattle.flow_rules.specs.declared.group.Ends.TheVariants as ends
-use Rattle.call_tailor.specs.declared.found.{Findings.{Findings}}
+use Rattle.call_tailor.specs.declared.found.Findings.{Findings}
 use Rattle.call_tailor.specs.declared.found.Found.TheVariants as found
 use Rattle.call_tailor.specs.Found.{AreFindings}
 

@@ -1,6 +1,5 @@
 //! What is found of the instructions at a block, and the site that it gives.
-ghost use Rattle.std.specs.Prelude.{◌≡◌};
-ghost use Rattle.std.specs.Bool.{OnTrue};
+ghost use Rattle.std.specs.{Prelude.{◌≡◌}, Bool.{OnTrue}};
 ghost use Rattle.call_tailor.specs.Found.{Alone, AreJoined, outcome_seen, status_seen, AreJoinedFindings, IsTold, form_of, known_of};
 
 use flow_model::Decision;
@@ -25,8 +24,7 @@ pub struct Findings {
 }
 
 impl Found {
-    ghost use Rattle.std.specs.Prelude.{◌≡◌};
-    ghost use Rattle.std.specs.Bool.{OnTrue};
+    ghost use Rattle.std.specs.{Prelude.{◌≡◌}, Bool.{OnTrue}};
     ghost use Rattle.call_tailor.specs.Found.{Alone, AreJoined, outcome_seen, form_of};
 
     // whether one more instruction with this outcome tells nothing new
@@ -71,8 +69,7 @@ impl Found {
 }
 
 impl Findings {
-    ghost use Rattle.std.specs.Prelude.{◌≡◌};
-    ghost use Rattle.std.specs.Bool.{OnTrue};
+    ghost use Rattle.std.specs.{Prelude.{◌≡◌}, Bool.{OnTrue}};
     ghost use Rattle.call_tailor.specs.Found.{Nothing, Alone, outcome_seen, status_seen, AreJoinedFindings, IsTold, known_of};
 
     /// Before the first instruction.

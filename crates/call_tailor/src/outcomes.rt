@@ -1,18 +1,12 @@
 //! The outcomes and the statuses at the sites, over the rows of a table.
-ghost use Rattle.std.specs.Prelude.{◌≡◌, ◌++◌, ◌∷◌, [], ◌<◌, List, length, IfOk, OnOk, IfSome, IfNone};
-ghost use Rattle.std.specs.Bool.{OnTrue, OnFalse};
-ghost use Rattle.osek_standard.specs.Apps.{is_site};
-ghost use Rattle.osek_standard.specs.Points.{StandsAt};
+ghost use Rattle.std.specs.{Prelude.{◌≡◌, ◌++◌, ◌∷◌, [], ◌<◌, List, length, IfOk, OnOk, IfSome, IfNone}, Bool.{OnTrue, OnFalse}};
+ghost use Rattle.osek_standard.specs.{Apps.{is_site}, Points.{StandsAt}};
 ghost use Rattle.osek_values.specs.declared.numbers.BlockNo.{BlockNo};
-ghost use Rattle.abstract_state.specs.declared.table.TableRow.{TableRow};
-ghost use Rattle.abstract_state.specs.Written.{IsRow, IsWritten};
+ghost use Rattle.abstract_state.specs.{declared.table.TableRow.{TableRow}, Written.{IsRow, IsWritten}};
 ghost use Rattle.flow_model.specs.Effects.{AreAllAllowed};
-ghost use Rattle.flow_exits.specs.declared.exit.Exit.{Exit};
-ghost use Rattle.flow_exits.specs.Exits.{IsFilled};
-ghost use Rattle.numbered_sets.specs.Pools.{Values, IsLonger};
-ghost use Rattle.numbered_sets.specs.Views.{plain_entry, AreNumbersOf};
-ghost use Rattle.flow_rules.specs.Levels.{AreLevels};
-ghost use Rattle.flow_rules.specs.Groups.{exits_of};
+ghost use Rattle.flow_exits.specs.{declared.exit.Exit.{Exit}, Exits.{IsFilled}};
+ghost use Rattle.numbered_sets.specs.{Pools.{Values, IsLonger}, Views.{plain_entry, AreNumbersOf}};
+ghost use Rattle.flow_rules.specs.{Levels.{AreLevels}, Groups.{exits_of}};
 ghost use Rattle.numbered_sets.specs.PlainTables.{plain_row};
 ghost use Rattle.call_tailor.specs.Outcomes.{end_count, AreOfRow, AreOfExits, AreFound, first_found};
 

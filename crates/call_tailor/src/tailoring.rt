@@ -4,9 +4,7 @@ ghost use Rattle.osek_values.specs.declared.{event.Event.{Event}, numbers.ModeNo
 ghost use Rattle.osek_standard.specs.Versions.{FitsVersion1};
 ghost use Rattle.image_model.specs.declared.image.Version.TheVariants as version;
 ghost use Rattle.image_model.specs.Laws.{IsKernelsRun};
-ghost use Rattle.abstract_state.specs.Tables.{Inductive, sets_of};
-ghost use Rattle.abstract_state.specs.Written.{IsWritten};
-ghost use Rattle.abstract_state.specs.Forms.{HasDictatedForms, HasDictatedStatuses};
+ghost use Rattle.abstract_state.specs.{Tables.{Inductive, sets_of}, Written.{IsWritten}, Forms.{HasDictatedForms, HasDictatedStatuses}};
 ghost use Rattle.call_tailor.specs.Found.{site_of as site_by};
 
 use crate::found::Findings;

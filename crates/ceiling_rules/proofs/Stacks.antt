@@ -1,11 +1,8 @@
 -- A Live task with another stack.
 use Rattle.std.proofs.Common.{◌≡◌, ℕ, List, ap}
 use Rattle.osek_values.specs.declared.numbers.ResNo.{ResNo}
-use Rattle.osek_standard.specs.declared.state.State.{State}
-use Rattle.osek_standard.specs.declared.task_state.{Activity.TheVariants.{Live}, Standing.{Standing}, TaskState.{TaskState}}
-use Rattle.osek_standard.specs.States.{task_state, with_task}
-use Rattle.osek_standard.specs.TaskStates.{held}
-use Rattle.osek_standard.specs.Services.{with_held}
+use Rattle.osek_standard.specs.declared.{state.State.{State}, task_state.{Activity.TheVariants.{Live}, Standing.{Standing}, TaskState.{TaskState}}}
+use Rattle.osek_standard.specs.{States.{task_state, with_task}, TaskStates.{held}, Services.{with_held}}
 
 pub with_stack_of : (s : State) (t : ℕ) (x : TaskState) (at : Standing) (h : List ResNo) (f : List ResNo → List ResNo) → task_state s t ≡ x → x.activity ≡ Live at → h ≡ f at.held
     → with_task s t (record { activity = Live (record { at = at.at; held = h }); events = x.events }) ≡ with_held s t (f (held (task_state s t)))

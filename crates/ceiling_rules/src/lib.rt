@@ -3,8 +3,7 @@
 #![tactic(auto)]
 
 ghost use Rattle.std.specs.Prelude.{◌≡◌, ◌*◌, ◌<◌, length, Some, None, IsTrue};
-ghost use Rattle.osek_standard.specs.TaskStates.{is_live, held};
-ghost use Rattle.osek_standard.specs.States.{task_state, is_taken as is_taken_by};
+ghost use Rattle.osek_standard.specs.{TaskStates.{is_live, held}, States.{task_state, is_taken as is_taken_by}};
 ghost use Rattle.osek_standard.specs.Priority.{base_priority as base_priority_of, ceiling as ceiling_of, current_priority as current_priority_of};
 ghost use Rattle.osek_standard.specs.Services.{answer, maybe_if, is_on_top as is_on_top_of, get_resource as get_resource_row, release_resource as release_resource_row};
 ghost use Rattle.osek_standard.specs.Well.{Well};

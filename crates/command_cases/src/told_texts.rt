@@ -1,8 +1,7 @@
 //! What is told on err, and how much of it where a write there fails: with each refusal, status 6 and a prefix of its text.
 ghost use Rattle.std.specs.Prelude.{◌≡◌, Option, Err, codes};
 ghost use Rattle.command_runs.specs.declared.stop.Stop.TheVariants as stop;
-ghost use Rattle.commands.specs.Statuses.{status_of, text_due};
-ghost use Rattle.commands.specs.Words.{Command};
+ghost use Rattle.commands.specs.{Statuses.{status_of, text_due}, Words.{Command}};
 
 use crate::failing_calls::words_of;
 use crate::stored::{CODE, EVENTS, IMAGE, OIL, UPGRADED_IMAGE};

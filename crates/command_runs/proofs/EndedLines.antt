@@ -1,17 +1,11 @@
 -- A line that comes out of a feed which isn't finished: it has ended, or is too long.
 use Rattle.std.proofs.Common.{◌≡◌, ◌⊎◌, ℕ, suc, ◌+◌, ◌<◌, Bool, true, false, cond, ◌&&◌, ltb, List, [], ◌∷◌, ◌++◌, length, take, drop, get_or, Option, Some, None, refl, sym, ◌∙◌, ap, subst, inl, inr, append_assoc, arith, take-suc, eqb-true}
-use Rattle.std.specs.List.{position}
-use Rattle.std.specs.Str.Lines.{strip_carriage_return}
-use Rattle.std.proofs.lemmas.Bool.{ltb-true}
-use Rattle.std.proofs.lemmas.List.{append-nil, drop_all, get_or-take, length-take, length-take-le, take-append-drop, take_all, take-take}
+use Rattle.std.specs.{List.{position}, Str.Lines.{strip_carriage_return}}
+use Rattle.std.proofs.lemmas.{Bool.{ltb-true}, List.{append-nil, drop_all, get_or-take, length-take, length-take-le, take-append-drop, take_all, take-take}}
 use Rattle.std.proofs.lemmas.List.Quantifiers.{position-Some}
-use Rattle.trace_text.specs.declared.feed.FeedStep.TheVariants.{Line}
-use Rattle.trace_text.specs.EventText.{text_lines}
+use Rattle.trace_text.specs.{declared.feed.FeedStep.TheVariants.{Line}, EventText.{text_lines}}
 use Rattle.trace_text.specs.Feeds.{FeedState, Peeled, peeled, peeled_at, answer_by, next_answer, left_by, after_next}
-use Rattle.trace_text.proofs.EventLaws.{position_is}
-use Rattle.trace_text.proofs.FeedLaws.{no_line_ahead}
-use Rattle.trace_text.proofs.FirstLines.{short_line}
-use Rattle.trace_text.proofs.LineLaws.{is_lf}
+use Rattle.trace_text.proofs.{EventLaws.{position_is}, FeedLaws.{no_line_ahead}, FirstLines.{short_line}, LineLaws.{is_lf}}
 use Rattle.command_runs.specs.Playing.{HaveEnded, HasNoEnd}
 
 -- what has ended is the same with ended lines before it

@@ -1,18 +1,12 @@
 -- One event, from the machine's turn to what is printed.
 use Rattle.std.proofs.Common.{◌≡◌, ℕ, Bool, false, refl, sym, ◌∙◌, ap, subst, inl, inr, Some, None, Ok, Err}
-use Rattle.std.specs.Prelude.{if◌then◌else◌}
-use Rattle.std.specs.declared.option.Option.{Option}
-use Rattle.std.specs.declared.result.Result.{Result}
-use Rattle.osek_values.specs.declared.event.Event.{Event}
-use Rattle.osek_values.specs.declared.notes.Notes.{Notes}
-use Rattle.osek_standard.specs.declared.state.State.{State}
-use Rattle.osek_standard.specs.Dispatch.{Stepped, stepped}
-use Rattle.image_model.specs.declared.image.Image.{Image}
-use Rattle.image_model.specs.ImageStep.{image_step}
+use Rattle.std.specs.{Prelude.{if◌then◌else◌}, declared.{option.Option.{Option}, result.Result.{Result}}}
+use Rattle.osek_values.specs.declared.{event.Event.{Event}, notes.Notes.{Notes}}
+use Rattle.osek_standard.specs.{declared.state.State.{State}, Dispatch.{Stepped, stepped}}
+use Rattle.image_model.specs.{declared.image.Image.{Image}, ImageStep.{image_step}}
 use Rattle.image_run.specs.Machines.{AtWork, Turn, turned, turned_by, turn}
 use Rattle.image_model.specs.ImageTrace.{trap_line}
-use Rattle.command_runs.specs.Playing.{Given, Puts, PutsPrefix, line_of, AnswersEvent}
-use Rattle.command_runs.specs.declared.stop.Stop.{Stop}
+use Rattle.command_runs.specs.{Playing.{Given, Puts, PutsPrefix, line_of, AnswersEvent}, declared.stop.Stop.{Stop}}
 use Rattle.command_runs.specs.declared.stop.Stop.TheVariants as stop
 
 -- a turn of a machine that didn't trap is a step of its image

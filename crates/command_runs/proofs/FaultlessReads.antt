@@ -1,8 +1,6 @@
 -- What is told of a shelf that was read without a fault is what was told before.
 use Rattle.std.proofs.Common.{◌≡◌, ℕ, ◌≤◌, ◌∙◌, subst}
-use Rattle.osek_io.specs.Counts.{Same}
-use Rattle.osek_io.specs.Reads.{OnlyReads}
-use Rattle.osek_io.specs.declared.shelf.Shelf.{Ghosts as ShelfGhosts}
+use Rattle.osek_io.specs.{Counts.{Same}, Reads.{OnlyReads}, declared.shelf.Shelf.{Ghosts as ShelfGhosts}}
 use Rattle.command_runs.specs.Outside.{Told, told}
 
 module _ {F : Type 0} (g : ShelfGhosts F) (old mid : F) (only : OnlyReads g old mid) (same : Same (g.read_faults old) (g.read_faults mid)) where

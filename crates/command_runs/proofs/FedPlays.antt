@@ -1,28 +1,18 @@
 -- A play of the lines that come out of a feed is the play of the text's lines.
 use Rattle.std.proofs.Common.{◌≡◌, ◌⊎◌, ℕ, ◌+◌, ◌<◌, ◌≤◌, Bool, true, false, cond, ltb, List, [], ◌∷◌, ◌++◌, length, take, drop, Option, Some, None, Ok, Err, refl, sym, ◌∙◌, ap, subst, inl, inr, append_assoc, arith}
-use Rattle.std.specs.List.{enumerate_from}
-use Rattle.std.specs.declared.result.Result.{Result}
-use Rattle.std.proofs.lemmas.Bool.{ltb-true}
-use Rattle.std.proofs.lemmas.List.{append-nil, drop_all, length-append, length-take-le, take-append-drop}
-use Rattle.std.proofs.Math.Seq.{take-add}
-use Rattle.osek_values.specs.declared.limits.TheConstants.{MAX_EVENT_TEXT}
-use Rattle.osek_values.specs.declared.event.Event.{Event}
+use Rattle.std.specs.{List.{enumerate_from}, declared.result.Result.{Result}}
+use Rattle.std.proofs.{lemmas.{Bool.{ltb-true}, List.{append-nil, drop_all, length-append, length-take-le, take-append-drop}}, Math.Seq.{take-add}}
+use Rattle.osek_values.specs.declared.{limits.TheConstants.{MAX_EVENT_TEXT}, event.Event.{Event}}
 use Rattle.osek_standard.specs.declared.state.State.{State}
 use Rattle.image_model.specs.declared.image.Image.{Image}
-use Rattle.trace_text.specs.declared.fault.EventFault.{EventFault}
-use Rattle.trace_text.specs.declared.feed.FeedStep.TheVariants.{Line}
-use Rattle.trace_text.specs.EventText.{text_lines, numbered_lines}
-use Rattle.trace_text.specs.EventWords.{read_line}
+use Rattle.trace_text.specs.{declared.{fault.EventFault.{EventFault}, feed.FeedStep.TheVariants.{Line}}, EventText.{text_lines, numbered_lines}, EventWords.{read_line}}
 use Rattle.trace_text.specs.Feeds.{FeedState, next_answer, after_next, lines_to_long}
 use Rattle.trace_text.proofs.FeedLaws.{line_is_first, too_long}
-use Rattle.osek_io.specs.Counts.{Rose}
-use Rattle.osek_io.specs.Files.{Files, Holds}
+use Rattle.osek_io.specs.{Counts.{Rose}, Files.{Files, Holds}}
 use Rattle.command_runs.specs.Inputs.{OfFile, ReadsOn}
 use Rattle.command_runs.specs.Playing.{Given, Puts, Played, played, printing, plays, plays_fed, played_line, MayFollow, PlaysOn, GoesOn, HasNoEnd, TakesLines, StopsBehind, HeldAnswers, HeldReadAnswers}
 use Rattle.command_runs.specs.declared.stop.Stop.{Stop}
-use Rattle.command_runs.proofs.EndedLines.{EndsLine, ended_behind, line_ends_or_is_long}
-use Rattle.command_runs.proofs.GivenTexts.{puts_nothing, puts_both}
-use Rattle.command_runs.proofs.InputFiles.{of_map}
+use Rattle.command_runs.proofs.{EndedLines.{EndsLine, ended_behind, line_ends_or_is_long}, GivenTexts.{puts_nothing, puts_both}, InputFiles.{of_map}}
 use Rattle.command_runs.proofs.Plays.{came_to_end, printed_first, printing-printing}
 
 -- nothing is played behind a line that is too long
@@ -130,17 +120,6 @@ pub record HasCome (files : Option Files) (name : List ℕ) (first now : Given) 
   pub prints : Puts first now text
   pub goes_on : (rest : List ℕ) → MayFollow f rest → plays i (numbered_lines (came ++ rest)) 1 start ≡ printing text (plays_fed i f rest k n s)
   pub takes : f.finished ≡ false → TakesLines came f.ahead i 1 1 start k n s text
-
-pub nothing_came : (files : Option Files) (name : List ℕ) (first : Given) (i : Image) (start : State) (f : FeedState) → f.ahead ≡ [] → HasCome files name first first i start 0 f 1 1 start
-nothing_came files name first i start f none = record {
-  came = [];
-  size = refl;
-  held = λ bytes holds. refl;
-  text = [];
-  prints = puts_nothing first;
-  goes_on = λ rest may. ap (λ (xs : List ℕ). plays i (enumerate_from 1 (text_lines (xs ++ rest))) 1 start) (sym none);
-  takes = λ _. subst (λ (xs : List ℕ). TakesLines [] xs i 1 1 start 1 1 start []) (sym none) (takes_nothing [] i 1 1 start);
-}
 
 -- more bytes came, or none
 pub more_came : (files : Option Files) (name : List ℕ) (first now : Given) (i : Image) (start : State) (taken c : ℕ) (f g : FeedState) (k n : ℕ) (s : State) → f.finished ≡ false → ReadsOn files name taken f.ahead g.ahead c →

@@ -1,12 +1,7 @@
 -- Texts that are put one behind the other: what of them was written, and what is held back.
-use Rattle.std.proofs.Common.{◌≡◌, ℕ, List, [], ◌++◌, Option, Some, None, refl, sym, ◌∙◌, ap, subst, append_assoc}
-use Rattle.std.proofs.lemmas.List.{append-nil}
-use Rattle.osek_io.specs.Counts.{Rose}
-use Rattle.osek_io.specs.Pieces.{grown}
-use Rattle.osek_io.specs.Stored.{WritesProperPrefix}
-use Rattle.osek_io.specs.Sunk.{Sunk, Writes}
-use Rattle.command_runs.specs.Playing.{Given, given, Puts, PutsPrefix}
-use Rattle.command_runs.specs.Telling.{Breaks, WritesPrefix}
+use Rattle.std.proofs.{Common.{◌≡◌, ℕ, List, [], ◌++◌, Option, Some, None, refl, sym, ◌∙◌, ap, subst, append_assoc}, lemmas.List.{append-nil}}
+use Rattle.osek_io.specs.{Counts.{Rose}, Pieces.{grown}, Stored.{WritesProperPrefix}, Sunk.{Sunk, Writes}}
+use Rattle.command_runs.specs.{Playing.{Given, given, Puts, PutsPrefix}, Telling.{Breaks, WritesPrefix}}
 use Rattle.command_runs.proofs.Prefixes.{grown-grown, prefix_of_proper, prefix_of_first, prefix_behind}
 
 pub grown-nil : (old : Option (List ℕ)) → old ≡ grown old []
@@ -54,9 +49,6 @@ puts_past p q mid text (n, m) (o, w) none = (
     w ∙ ap (λ (x : Option (List ℕ)). grown x text) m ∙ grown-grown p.out.written p.held text,
   ),
 )
-
-pub prefix_past : (p q : Given) (mid : Sunk) (text : List ℕ) → Writes p.out mid p.held → Breaks mid q.out text → q.held ≡ [] → PutsPrefix p q text
-prefix_past p q mid text (n, m) (rose, prefix) none = ((subst (λ (k : ℕ). Rose k q.out.faults) n rose, prefix_behind p.out.written mid.written q.out.written p.held text m prefix), none)
 
 -- a text was put where nothing was held back, and then what was held back of it was written
 pub puts_flushed : (first : Sunk) (mid : Given) (last : Sunk) (text : List ℕ) → Puts (given first []) mid text → Writes mid.out last mid.held → Writes first last text

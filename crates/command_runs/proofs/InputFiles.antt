@@ -1,8 +1,6 @@
 -- What is true of an input's bytes.
-use Rattle.std.proofs.Common.{◌≡◌, ℕ, suc, ◌<◌, List, [], length, replicate, refl, sym, subst, arith, Some, None}
-use Rattle.std.proofs.lemmas.List.{length-replicate}
-use Rattle.std.specs.FinMap.{get}
-use Rattle.std.specs.declared.option.Option.{Option}
+use Rattle.std.proofs.{Common.{◌≡◌, ℕ, suc, ◌<◌, List, [], length, replicate, refl, sym, subst, arith, Some, None}, lemmas.List.{length-replicate}}
+use Rattle.std.specs.{FinMap.{get}, declared.option.Option.{Option}}
 use Rattle.osek_io.specs.Files.{Files, Holds, IsMissing}
 use Rattle.command_runs.specs.Inputs.{OfFile}
 

@@ -1,17 +1,11 @@
 -- A play at its end: what is held back is printed.
 use Rattle.std.proofs.Common.{◌≡◌, ℕ, List, [], length, refl, sym, ◌∙◌, ap, subst, inl, inr, arith, Option, Err}
 use Rattle.std.specs.declared.result.Result.{Result}
-use Rattle.osek_io.specs.Counts.{Rose}
-use Rattle.osek_io.specs.Files.{Files}
-use Rattle.osek_io.specs.Pieces.{grown}
-use Rattle.osek_io.specs.Stored.{WritesProperPrefix}
-use Rattle.osek_io.specs.Sunk.{Sunk, Writes}
-use Rattle.command_runs.specs.Playing.{Given, given, Puts, Played, StopsBehind, HeldAnswers, PlayAnswers, HeldReadAnswers, ReadAnswers}
-use Rattle.command_runs.specs.Telling.{Breaks}
+use Rattle.osek_io.specs.{Counts.{Rose}, Files.{Files}, Pieces.{grown}, Stored.{WritesProperPrefix}, Sunk.{Sunk, Writes}}
+use Rattle.command_runs.specs.{Playing.{Given, given, Puts, Played, StopsBehind, HeldAnswers, PlayAnswers, HeldReadAnswers, ReadAnswers}, Telling.{Breaks}}
 use Rattle.command_runs.specs.declared.stop.Stop.{Stop}
 use Rattle.command_runs.specs.declared.stop.Stop.TheVariants as stop
-use Rattle.command_runs.proofs.GivenTexts.{grown-nil, puts_flushed, flush_breaks}
-use Rattle.command_runs.proofs.InputFiles.{of_map}
+use Rattle.command_runs.proofs.{GivenTexts.{grown-nil, puts_flushed, flush_breaks}, InputFiles.{of_map}}
 
 -- nothing is no prefix of which more was to come
 no_proper_prefix : (old new : Option (List ℕ)) (held : List ℕ) → held ≡ [] → WritesProperPrefix old new held → ⊥

@@ -1,24 +1,13 @@
 -- What is played for a whole event text is the trace of the image under its events.
 use Rattle.std.proofs.Common.{◌≡◌, ℕ, ◌+◌, ◌≤◌, List, [], ◌∷◌, ◌++◌, length, false, refl, sym, ◌∙◌, ap, append_assoc, Some, None, Ok, Err, arith, nat_lt}
 use Rattle.std.proofs.lemmas.Bool.Decides.{nat_tests}
-use Rattle.std.specs.declared.option.Option.{Option}
-use Rattle.std.specs.declared.result.Result.{Result}
-use Rattle.osek_values.specs.declared.limits.TheConstants.{MAX_EVENT_TEXT}
-use Rattle.osek_values.specs.declared.event.Event.{Event}
-use Rattle.osek_values.specs.declared.numbers.ModeNo.{ModeNo}
-use Rattle.osek_standard.specs.declared.app.App.{App}
-use Rattle.osek_standard.specs.declared.state.State.{State}
-use Rattle.osek_standard.specs.Dispatch.{Stepped}
-use Rattle.osek_standard.specs.Kernel.{start}
-use Rattle.osek_standard.specs.TraceText.{lines_from, line_text}
-use Rattle.image_model.specs.declared.image.Image.{Image}
-use Rattle.image_model.specs.ImageStep.{image_step}
-use Rattle.image_model.specs.ImageTrace.{Run, image_steps, image_run, image_trace, has_trap, after, trap_text, trap_line}
-use Rattle.trace_text.specs.EventWords.{read_line}
-use Rattle.trace_text.specs.EventText.{Reading, read_lines, read_text, with_line, numbered_lines}
+use Rattle.std.specs.declared.{option.Option.{Option}, result.Result.{Result}}
+use Rattle.osek_values.specs.declared.{limits.TheConstants.{MAX_EVENT_TEXT}, event.Event.{Event}, numbers.ModeNo.{ModeNo}}
+use Rattle.osek_standard.specs.{declared.{app.App.{App}, state.State.{State}}, Dispatch.{Stepped}, Kernel.{start}, TraceText.{lines_from, line_text}}
+use Rattle.image_model.specs.{declared.image.Image.{Image}, ImageStep.{image_step}, ImageTrace.{Run, image_steps, image_run, image_trace, has_trap, after, trap_text, trap_line}}
+use Rattle.trace_text.specs.{EventWords.{read_line}, EventText.{Reading, read_lines, read_text, with_line, numbered_lines}}
 use Rattle.trace_text.specs.declared.fault.{EventFault.{EventFault}, FaultyLine.{FaultyLine}}
-use Rattle.command_runs.specs.Running.{end_of}
-use Rattle.command_runs.specs.Playing.{Played, played, printing, plays, played_line, played_after, line_of, whole_play}
+use Rattle.command_runs.specs.{Running.{end_of}, Playing.{Played, played, printing, plays, played_line, played_after, line_of, whole_play}}
 use Rattle.command_runs.specs.declared.stop.Stop.TheVariants as stop
 
 -- the lines of a run from line n on, and of its trap

@@ -1,23 +1,18 @@
 -- The lines of an event text, played one after the other.
 use Rattle.std.proofs.Common.{◌≡◌, ℕ, ◌+◌, List, [], ◌∷◌, ◌++◌, sym, ◌∙◌, ap, subst, inl, inr, append_assoc, Some, None, Ok, Err}
-use Rattle.std.specs.declared.option.Option.{Option}
-use Rattle.std.specs.declared.result.Result.{Result}
+use Rattle.std.specs.declared.{option.Option.{Option}, result.Result.{Result}}
 use Rattle.osek_values.specs.declared.event.Event.{Event}
-use Rattle.osek_standard.specs.declared.state.State.{State}
-use Rattle.osek_standard.specs.Dispatch.{Stepped, stepped}
-use Rattle.image_model.specs.declared.image.Image.{Image}
-use Rattle.image_model.specs.ImageStep.{image_step}
+use Rattle.osek_standard.specs.{declared.state.State.{State}, Dispatch.{Stepped, stepped}}
+use Rattle.image_model.specs.{declared.image.Image.{Image}, ImageStep.{image_step}}
 use Rattle.trace_text.specs.declared.fault.EventFault.{EventFault}
 use Rattle.osek_io.specs.Counts.{Rose}
 use Rattle.command_runs.specs.Playing.{Played, played, printing, plays, played_line, played_after, line_of, Given, Puts, PutsPrefix, AnswersEvent, GoesOn, HeldAnswers}
 use Rattle.command_runs.specs.declared.stop.Stop.{Stop}
 use Rattle.command_runs.specs.declared.stop.Stop.TheVariants as stop
 use Rattle.osek_values.specs.declared.notes.Notes.{Notes}
-use Rattle.osek_standard.specs.declared.app.App.{App}
-use Rattle.osek_standard.specs.TraceText.{line_text}
+use Rattle.osek_standard.specs.{declared.app.App.{App}, TraceText.{line_text}}
 use Rattle.osek_io.specs.Stored.{WritesProperPrefix}
-use Rattle.command_runs.proofs.Prefixes.{prefix_of_proper}
-use Rattle.command_runs.proofs.GivenTexts.{puts_nothing, puts_both, puts_prefix_of_first, puts_prefix_behind}
+use Rattle.command_runs.proofs.{Prefixes.{prefix_of_proper}, GivenTexts.{puts_nothing, puts_both, puts_prefix_of_first, puts_prefix_behind}}
 
 pub printing-printing : (a b : List ℕ) (p : Played) → printing a (printing b p) ≡ printing (a ++ b) p
 printing-printing a b p = ap (λ (l : List ℕ). played l p.end) (sym (append_assoc a b p.text))
@@ -74,10 +69,6 @@ came_to_end first now next play i lines n s r (inr h) c =
 -- what is put is the line
 line_is : (app seen : App) (n : ℕ) (s t : State) (notes : Notes) (text : List ℕ) → text ≡ line_text seen n (stepped t notes) ++ 10 ∷ [] → seen ≡ app → t ≡ s → text ≡ line_text app n (stepped s notes) ++ 10 ∷ []
 line_is app seen n s t notes text e a b = e ∙ ap (λ (x : App). line_text x n (stepped t notes) ++ 10 ∷ []) a ∙ ap (λ (x : State). line_text app n (stepped x notes) ++ 10 ∷ []) b
-
-pub line_put : (old new : Given) (app seen : App) (n : ℕ) (s t : State) (notes : Notes) (text : List ℕ) →
-    text ≡ line_text seen n (stepped t notes) ++ 10 ∷ [] → seen ≡ app → t ≡ s → Puts old new text → Puts old new (line_text app n (stepped s notes) ++ 10 ∷ [])
-line_put old new app seen n s t notes text e a b p = subst (Puts old new) (line_is app seen n s t notes text e a b) p
 
 pub line_prefix : (old new : Given) (app seen : App) (n : ℕ) (s t : State) (notes : Notes) (text : List ℕ) →
     text ≡ line_text seen n (stepped t notes) ++ 10 ∷ [] → seen ≡ app → t ≡ s → Rose old.out.faults new.out.faults → WritesProperPrefix old.out.written new.out.written (old.held ++ text) → new.held ≡ [] → PutsPrefix old new (line_text app n (stepped s notes) ++ 10 ∷ [])

@@ -1,8 +1,7 @@
 -- Prefixes of texts that are written piece by piece.
 use Rattle.std.proofs.Common.{◌≡◌, ℕ, List, ◌++◌, take, drop, refl, sym, ◌∙◌, ap, append_assoc, Some, None}
 use Rattle.std.specs.declared.option.Option.{Option}
-use Rattle.osek_io.specs.Pieces.{grown}
-use Rattle.osek_io.specs.Stored.{WritesProperPrefix}
+use Rattle.osek_io.specs.{Pieces.{grown}, Stored.{WritesProperPrefix}}
 use Rattle.command_runs.specs.Telling.{WritesPrefix}
 use Rattle.std.proofs.lemmas.List.{take-append-drop}
 

@@ -1,7 +1,5 @@
 -- Facts about one variant of a result.
-use Rattle.std.specs.Prelude.{OnErr, Ok, Err}
-use Rattle.std.specs.Result.{IsErrOf}
-use Rattle.std.specs.declared.result.Result.{Result}
+use Rattle.std.specs.{Prelude.{OnErr, Ok, Err}, Result.{IsErrOf}, declared.result.Result.{Result}}
 
 -- what holds anyway holds of an error
 pub on_err : {T E : Type 0} (r : Result T E) (P : Type 0) → P → OnErr r P

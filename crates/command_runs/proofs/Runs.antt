@@ -1,24 +1,14 @@
 -- From what was loaded and played to the answers of a run.
-use Rattle.std.proofs.Common.{◌≡◌, ℕ, ◌≤◌, List, ◌++◌, length, sym, ◌∙◌, ap, subst, inl, inr, Some, arith}
-use Rattle.std.proofs.lemmas.List.{length-append}
+use Rattle.std.proofs.{Common.{◌≡◌, ℕ, ◌≤◌, List, ◌++◌, length, sym, ◌∙◌, ap, subst, inl, inr, Some, arith}, lemmas.List.{length-append}}
 use Rattle.std.specs.declared.result.Result.{Result}
-use Rattle.osek_values.specs.declared.limits.TheConstants.{MAX_EVENT_TEXT}
-use Rattle.osek_values.specs.declared.notes.Notes.{Notes}
-use Rattle.osek_values.specs.declared.numbers.ModeNo.{ModeNo}
-use Rattle.osek_standard.specs.declared.state.State.{State}
-use Rattle.osek_standard.specs.Dispatch.{Stepped, stepped}
-use Rattle.osek_standard.specs.Kernel.{start}
-use Rattle.image_model.specs.declared.image.Image.{Image}
-use Rattle.image_model.specs.ImageTrace.{image_trace, has_trap}
+use Rattle.osek_values.specs.declared.{limits.TheConstants.{MAX_EVENT_TEXT}, notes.Notes.{Notes}, numbers.ModeNo.{ModeNo}}
+use Rattle.osek_standard.specs.{declared.state.State.{State}, Dispatch.{Stepped, stepped}, Kernel.{start}}
+use Rattle.image_model.specs.{declared.image.Image.{Image}, ImageTrace.{image_trace, has_trap}}
 use Rattle.trace_text.specs.EventText.{numbered_lines}
 use Rattle.osek_io.specs.Sunk.{Writes}
-use Rattle.command_runs.specs.Inputs.{no_memory}
-use Rattle.command_runs.specs.Outside.{Outside}
-use Rattle.command_runs.specs.Playing.{Played, printing, plays as plays_lines, line_of, PlayAnswers, StopsBehind, whole_play, PlaysWhole}
-use Rattle.command_runs.specs.Running.{mode_named, whole_run, RunAnswers, stops, plays, unread_on}
-use Rattle.command_runs.specs.declared.stop.Stop.{Stop}
-use Rattle.command_runs.proofs.InputFiles.{of_map}
-use Rattle.command_runs.proofs.PlayedTrace.{whole_is}
+use Rattle.command_runs.specs.{Inputs.{no_memory}, Outside.{Outside}, Playing.{Played, printing, plays as plays_lines, line_of, PlayAnswers, StopsBehind, whole_play, PlaysWhole}}
+use Rattle.command_runs.specs.{Running.{mode_named, whole_run, RunAnswers, stops, plays, unread_on}, declared.stop.Stop.{Stop}}
+use Rattle.command_runs.proofs.{InputFiles.{of_map}, PlayedTrace.{whole_is}}
 
 -- what stops behind lines that were played stops so of another spelling of the play
 pub stops_as : (reads reads_after : ℕ → ℕ) (Prints : List ℕ → Type 0) (p q : List ℕ → Played) → ((text : List ℕ) → length text ≤ MAX_EVENT_TEXT → p text ≡ q text) →

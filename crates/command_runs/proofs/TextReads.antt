@@ -1,8 +1,6 @@
 -- What the reads of a text that is there come to.
-use Rattle.std.proofs.Common.{◌≡◌, ℕ, ◌+◌, ◌≤◌, ◌⊎◌, Bool, true, eqb, List, length, Option, Some, None, sym, ◌∙◌, subst, inl, inr, arith}
-use Rattle.std.proofs.lemmas.Bool.{eqb-true, cases_lt}
-use Rattle.osek_io.specs.Counts.{Rose}
-use Rattle.osek_io.specs.Files.{Files, Holds, IsMissing}
+use Rattle.std.proofs.{Common.{◌≡◌, ℕ, ◌+◌, ◌≤◌, ◌⊎◌, Bool, true, eqb, List, length, Option, Some, None, sym, ◌∙◌, subst, inl, inr, arith}, lemmas.Bool.{eqb-true, cases_lt}}
+use Rattle.osek_io.specs.{Counts.{Rose}, Files.{Files, Holds, IsMissing}}
 use Rattle.command_runs.specs.Inputs.{OfFile, ReadsOn}
 
 not_missing : (files : Option Files) (name : List ℕ) (P : List ℕ → Type 0) → OfFile files name P → IsMissing files name → ⊥

@@ -1,11 +1,8 @@
 -- Why an input stops a command, from why it isn't loaded.
 use Rattle.std.proofs.Common.{◌≡◌, ◌<◌, ◌⊎◌, ℕ, List, length, refl, sym, subst, Vec, Global, Err}
 use Rattle.std.specs.Result.{IsErrOf}
-use Rattle.osek_io.specs.declared.loading.{LoadError.{LoadError}, LoadError.TheVariants.{Read, TooLong, Memory}}
-use Rattle.osek_io.specs.Counts.{RoseSomewhere}
-use Rattle.osek_io.specs.Files.{Holds, IsMissing}
-use Rattle.command_runs.specs.Outside.{Told}
-use Rattle.command_runs.specs.declared.stop.{Input.{Input}, Stop.{Stop}}
+use Rattle.osek_io.specs.{declared.loading.LoadError.{LoadError, TheVariants.{Read, TooLong, Memory}}, Counts.{RoseSomewhere}, Files.{Holds, IsMissing}}
+use Rattle.command_runs.specs.{Outside.{Told}, declared.stop.{Input.{Input}, Stop.{Stop}}}
 use Rattle.command_runs.specs.Inputs.{limit_of, over_limit, unloaded, InputStops, unread, faulty, no_memory, NotLoaded}
 use Rattle.command_runs.proofs.InputFiles.{of_longer, of_map}
 

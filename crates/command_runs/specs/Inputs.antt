@@ -1,18 +1,13 @@
 -- The inputs of a command: what is true of one of which a shelf may tell nothing, and why one stops the command.
-use Rattle.std.specs.Prelude.{◌≡◌, ◌<◌, ◌≤◌, ◌+◌, ◌⊎◌, ⊤, ℕ, List, ◌++◌, length, take, drop, Option, Some, None}
-use Rattle.std.specs.FinMap.{get}
-use Rattle.osek_values.specs.declared.limits.TheConstants.{MAX_FILE, MAX_EVENT_TEXT}
-use Rattle.osek_values.specs.declared.refusal.LexRule.TheVariants.{L6}
+use Rattle.std.specs.{Prelude.{◌≡◌, ◌<◌, ◌≤◌, ◌+◌, ◌⊎◌, ⊤, ℕ, List, ◌++◌, length, take, drop, Option, Some, None}, FinMap.{get}}
+use Rattle.osek_values.specs.declared.{limits.TheConstants.{MAX_FILE, MAX_EVENT_TEXT}, refusal.LexRule.TheVariants.{L6}}
 use Rattle.osek_values.specs.declared.refusal.Rule.TheVariants as rule
 use Rattle.osek_values.specs.declared.refusal.TextFile.TheVariants as file
 use Rattle.image_codec.specs.declared.fault.ImageRule.TheVariants.{I7}
 use Rattle.trace_text.specs.declared.fault.EventFault.TheVariants.{E4}
-use Rattle.osek_io.specs.Counts.{RoseSomewhere}
-use Rattle.osek_io.specs.Files.{Files, Holds, IsMissing}
-use Rattle.osek_io.specs.declared.loading.LoadError.{LoadError}
+use Rattle.osek_io.specs.{Counts.{RoseSomewhere}, Files.{Files, Holds, IsMissing}, declared.loading.LoadError.{LoadError}}
 use Rattle.osek_io.specs.declared.loading.LoadError.TheVariants as load_error
-use Rattle.command_runs.specs.Outside.{Told}
-use Rattle.command_runs.specs.declared.stop.{Input.{Input}, Stop.{Stop}}
+use Rattle.command_runs.specs.{Outside.{Told}, declared.stop.{Input.{Input}, Stop.{Stop}}}
 use Rattle.command_runs.specs.declared.stop.Input.TheVariants as input
 use Rattle.command_runs.specs.declared.stop.Stop.TheVariants as stop
 

@@ -1,10 +1,6 @@
 -- What a call sees of the outside, before it and after it.
 use Rattle.std.specs.Prelude.{◌≡◌, ℕ, Option}
-use Rattle.osek_io.specs.Counts.{ReadFaults}
-use Rattle.osek_io.specs.Files.{Files}
-use Rattle.osek_io.specs.Sunk.{Sunk, sunk}
-use Rattle.osek_io.specs.declared.shelf.Shelf.{Ghosts as ShelfGhosts}
-use Rattle.osek_io.specs.declared.sink.Sink.{Ghosts as SinkGhosts}
+use Rattle.osek_io.specs.{Counts.{ReadFaults}, Files.{Files}, Sunk.{Sunk, sunk}, declared.{shelf.Shelf.{Ghosts as ShelfGhosts}, sink.Sink.{Ghosts as SinkGhosts}}}
 
 -- what a shelf tells: its files, and the counts of failed reads and of failed writes
 pub record Told : Type 0 where

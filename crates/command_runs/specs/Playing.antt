@@ -1,26 +1,11 @@
 -- What a machine prints for the lines of an event text that are ahead, and how it ends.
-use Rattle.std.specs.Prelude.{◌≡◌, ◌⊎◌, ℕ, ◌+◌, ◌≤◌, ◌==◌, true, false, List, [], ◌∷◌, ◌++◌, length, Option, Some, None, Result, Ok, Err}
-use Rattle.std.specs.List.{enumerate_from, position}
-use Rattle.osek_values.specs.declared.limits.TheConstants.{MAX_EVENT_TEXT}
-use Rattle.osek_values.specs.declared.event.Event.{Event}
-use Rattle.osek_values.specs.declared.numbers.ModeNo.{ModeNo}
-use Rattle.osek_standard.specs.declared.state.State.{State}
-use Rattle.osek_standard.specs.Dispatch.{Stepped}
-use Rattle.osek_standard.specs.Kernel.{start}
-use Rattle.osek_standard.specs.TraceText.{line_text}
-use Rattle.image_model.specs.declared.image.Image.{Image}
-use Rattle.image_model.specs.ImageStep.{image_step}
-use Rattle.image_model.specs.ImageTrace.{trap_line}
-use Rattle.trace_text.specs.EventText.{text_lines, numbered_lines}
-use Rattle.trace_text.specs.Feeds.{FeedState}
-use Rattle.trace_text.specs.EventWords.{read_line}
-use Rattle.trace_text.specs.declared.fault.EventFault.{EventFault}
-use Rattle.osek_io.specs.Counts.{Rose}
-use Rattle.osek_io.specs.Files.{Files}
-use Rattle.osek_io.specs.HeldBytes.{PassesOn}
-use Rattle.osek_io.specs.Sunk.{Sunk, Writes}
-use Rattle.command_runs.specs.Inputs.{OfFile}
-use Rattle.command_runs.specs.Telling.{Breaks}
+use Rattle.std.specs.{Prelude.{◌≡◌, ◌⊎◌, ℕ, ◌+◌, ◌≤◌, ◌==◌, true, false, List, [], ◌∷◌, ◌++◌, length, Option, Some, None, Result, Ok, Err}, List.{enumerate_from, position}}
+use Rattle.osek_values.specs.declared.{limits.TheConstants.{MAX_EVENT_TEXT}, event.Event.{Event}, numbers.ModeNo.{ModeNo}}
+use Rattle.osek_standard.specs.{declared.state.State.{State}, Dispatch.{Stepped}, Kernel.{start}, TraceText.{line_text}}
+use Rattle.image_model.specs.{declared.image.Image.{Image}, ImageStep.{image_step}, ImageTrace.{trap_line}}
+use Rattle.trace_text.specs.{EventText.{text_lines, numbered_lines}, Feeds.{FeedState}, EventWords.{read_line}, declared.fault.EventFault.{EventFault}}
+use Rattle.osek_io.specs.{Counts.{Rose}, Files.{Files}, HeldBytes.{PassesOn}, Sunk.{Sunk, Writes}}
+use Rattle.command_runs.specs.{Inputs.{OfFile}, Telling.{Breaks}}
 use Rattle.command_runs.specs.declared.stop.Input.TheVariants as input
 use Rattle.command_runs.specs.declared.stop.Stop.{Stop}
 use Rattle.command_runs.specs.declared.stop.Stop.TheVariants as stop

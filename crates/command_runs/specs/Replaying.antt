@@ -2,15 +2,10 @@
 use Rattle.std.specs.Prelude.{◌≡◌, ◌⊎◌, ℕ, ◌<◌, ◌≤◌, List, length, Option, Result, Err}
 use Rattle.osek_values.specs.declared.limits.TheConstants.{MAX_FILE}
 use Rattle.image_model.specs.declared.image.Image.{Image}
-use Rattle.image_codec.specs.declared.fault.{ImageFault.{ImageFault}, ImageRule.TheVariants.{I7}}
-use Rattle.image_codec.specs.Spelling.{spelling}
-use Rattle.image_codec.specs.Fits.{FitsFormat}
-use Rattle.image_codec.specs.ImageReading.{read_image}
+use Rattle.image_codec.specs.{declared.fault.{ImageFault.{ImageFault}, ImageRule.TheVariants.{I7}}, Spelling.{spelling}, Fits.{FitsFormat}, ImageReading.{read_image}}
 use Rattle.image_model.specs.ImageTrace.{image_trace, has_trap}
 use Rattle.osek_io.specs.Files.{Files}
-use Rattle.command_runs.specs.Inputs.{OfFile, InputStops}
-use Rattle.command_runs.specs.Outside.{Told, Outside}
-use Rattle.command_runs.specs.Running.{RunAnswers}
+use Rattle.command_runs.specs.{Inputs.{OfFile, InputStops}, Outside.{Told, Outside}, Running.{RunAnswers}}
 use Rattle.command_runs.specs.declared.stop.Input.TheVariants as input
 use Rattle.command_runs.specs.declared.stop.Stop.{Stop}
 use Rattle.command_runs.specs.declared.stop.Stop.TheVariants as stop

@@ -1,19 +1,11 @@
 -- The answers of a run of an application in a mode under an event text, each with its cause and what it leaves. The
 -- traces, by mode and events, are those of an image or of the kernel, as are the runs that trap.
-use Rattle.std.specs.Prelude.{◌≡◌, ℕ, ◌≤◌, Bool, true, false, List, length, Option, Some, None, Result, Ok, Err, option_map}
-use Rattle.std.specs.List.{position}
-use Rattle.std.specs.Str.{bytes_eq}
-use Rattle.osek_values.specs.declared.event.Event.{Event}
-use Rattle.osek_values.specs.declared.numbers.ModeNo.{ModeNo}
-use Rattle.osek_values.specs.Numbers.{mode_no}
-use Rattle.osek_values.specs.declared.limits.TheConstants.{MAX_EVENT_TEXT}
+use Rattle.std.specs.{Prelude.{◌≡◌, ℕ, ◌≤◌, Bool, true, false, List, length, Option, Some, None, Result, Ok, Err, option_map}, List.{position}, Str.{bytes_eq}}
+use Rattle.osek_values.specs.{declared.{event.Event.{Event}, numbers.ModeNo.{ModeNo}, limits.TheConstants.{MAX_EVENT_TEXT}}, Numbers.{mode_no}}
 use Rattle.osek_standard.specs.declared.app.App.{App}
 use Rattle.osek_io.specs.Sunk.{Writes}
-use Rattle.trace_text.specs.EventText.{read_text}
-use Rattle.trace_text.specs.declared.fault.FaultyLine.{FaultyLine}
-use Rattle.command_runs.specs.Inputs.{OfFile, NotLoaded}
-use Rattle.command_runs.specs.Outside.{Told, Outside}
-use Rattle.command_runs.specs.Playing.{Played, played, PlayAnswers, StopsBehind}
+use Rattle.trace_text.specs.{EventText.{read_text}, declared.fault.FaultyLine.{FaultyLine}}
+use Rattle.command_runs.specs.{Inputs.{OfFile, NotLoaded}, Outside.{Told, Outside}, Playing.{Played, played, PlayAnswers, StopsBehind}}
 use Rattle.command_runs.specs.declared.stop.Input.TheVariants as input
 use Rattle.command_runs.specs.declared.stop.Stop.{Stop}
 use Rattle.command_runs.specs.declared.stop.Stop.TheVariants as stop

@@ -1,9 +1,6 @@
 -- What is told on a sink: all of a text, or where a write failed a prefix of it.
-use Rattle.std.specs.Prelude.{◌≡◌, ℕ, List, ◌++◌, Option, codes}
-use Rattle.std.specs.Fmt.{decimal}
-use Rattle.osek_io.specs.Counts.{Rose}
-use Rattle.osek_io.specs.Pieces.{grown}
-use Rattle.osek_io.specs.Sunk.{Sunk}
+use Rattle.std.specs.{Prelude.{◌≡◌, ℕ, List, ◌++◌, Option, codes}, Fmt.{decimal}}
+use Rattle.osek_io.specs.{Counts.{Rose}, Pieces.{grown}, Sunk.{Sunk}}
 
 -- a prefix of the text was written
 abbrev pub WritesPrefix : Option (List ℕ) → Option (List ℕ) → List ℕ → Type 0

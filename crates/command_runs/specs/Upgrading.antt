@@ -1,12 +1,9 @@
 -- The answers of `upgrade`, each with its cause and what it leaves.
 use Rattle.std.specs.Prelude.{◌≡◌, ℕ, List, Result, Ok, Err}
-use Rattle.image_model.specs.declared.image.{Image.{Image}, Version.TheVariants.{Two}}
-use Rattle.image_model.specs.Upgrades.{IsUpgraded}
+use Rattle.image_model.specs.{declared.image.{Image.{Image}, Version.TheVariants.{Two}}, Upgrades.{IsUpgraded}}
 use Rattle.image_codec.specs.Spelling.{spelling}
 use Rattle.osek_io.specs.{Counts.{Rose}, Files.{with_file}, Stored.{StoresProperPrefix}}
-use Rattle.command_runs.specs.Outside.{Outside, SameFiles}
-use Rattle.command_runs.specs.Replaying.{OfImage, ImageStops}
-use Rattle.command_runs.specs.declared.stop.Stop.{Stop}
+use Rattle.command_runs.specs.{Outside.{Outside, SameFiles}, Replaying.{OfImage, ImageStops}, declared.stop.Stop.{Stop}}
 use Rattle.command_runs.specs.declared.stop.Stop.TheVariants as stop
 
 -- the bytes of what becomes of an image that is upgraded

@@ -1,11 +1,8 @@
 //! The inputs of the commands: each is loaded within its limit, or read piece by piece as an event text is, or stops the
 //! command.
 ghost use Rattle.std.specs.Prelude.{◌≡◌, ◌≤◌, ◌==◌, ◌⊎◌, false, length, IfOk, IfErr, OnOk, OnErr, Err};
-ghost use Rattle.osek_io.specs.Counts.{Rose, Same};
-ghost use Rattle.osek_io.specs.Files.{IsMissing};
-ghost use Rattle.osek_io.specs.Reads.{OnlyReads};
-ghost use Rattle.command_runs.specs.Outside.{told};
-ghost use Rattle.command_runs.specs.Inputs.{OfFile, ReadsOn, NotLoaded, limit_of as the_limit, over_limit as the_stop_over_limit, unloaded as unloaded_stop};
+ghost use Rattle.osek_io.specs.{Counts.{Rose, Same}, Files.{IsMissing}, Reads.{OnlyReads}};
+ghost use Rattle.command_runs.specs.{Outside.{told}, Inputs.{OfFile, ReadsOn, NotLoaded, limit_of as the_limit, over_limit as the_stop_over_limit, unloaded as unloaded_stop}};
 
 use crate::stop::{Input, Stop};
 use image_codec::{ImageFault, ImageRule};

@@ -1,20 +1,11 @@
 //! An image at work: each line of an event text as it is read, and the line of the trace that comes of it.
 ghost use Rattle.std.specs.Prelude.{◌≡◌, ◌≤◌, ◌+◌, ◌++◌, ◌∷◌, [], ℕ, List, length, true, false, OnOk, OnErr, IfOk, IfErr, Err};
-ghost use Rattle.osek_standard.specs.Apps.{IsDeclared};
-ghost use Rattle.osek_standard.specs.Dispatch.{stepped};
-ghost use Rattle.osek_standard.specs.TraceText.{line_text};
-ghost use Rattle.osek_io.specs.Counts.{Rose};
-ghost use Rattle.osek_io.specs.Reads.{OnlyReads};
-ghost use Rattle.osek_io.specs.Stored.{WritesProperPrefix};
-ghost use Rattle.osek_io.specs.Sunk.{sunk, Writes};
-ghost use Rattle.image_model.specs.ImageStep.{image_step};
-ghost use Rattle.image_model.specs.ImageTrace.{trap_line};
+ghost use Rattle.osek_standard.specs.{Apps.{IsDeclared}, Dispatch.{stepped}, TraceText.{line_text}};
+ghost use Rattle.osek_io.specs.{Counts.{Rose}, Reads.{OnlyReads}, Stored.{WritesProperPrefix}, Sunk.{sunk, Writes}};
+ghost use Rattle.image_model.specs.{ImageStep.{image_step}, ImageTrace.{trap_line}};
 ghost use Rattle.command_runs.specs.Inputs.{OfFile};
 ghost use Rattle.command_runs.specs.Playing.{plays, plays_fed, played_line, given, Puts, PutsPrefix, MayFollow, HasNoEnd, PlaysOn, HeldAnswers, HeldReadAnswers, AnswersEvent, AnswersLine};
-ghost use Rattle.trace_text.specs.EventWords.{read_line};
-ghost use Rattle.trace_text.specs.EventText.{numbered_lines};
-ghost use Rattle.trace_text.specs.Feeds.{no_bytes};
-ghost use Rattle.trace_text.specs.LineParts.{ArePartsOf};
+ghost use Rattle.trace_text.specs.{EventWords.{read_line}, EventText.{numbered_lines}, Feeds.{no_bytes}, LineParts.{ArePartsOf}};
 ghost use Rattle.command_runs.specs.declared.stop.Stop.TheVariants.{Unprinted};
 
 use crate::inputs::read_on;

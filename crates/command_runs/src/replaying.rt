@@ -1,10 +1,7 @@
 //! The command `replay`: the trace of an image under an event text.
 ghost use Rattle.std.specs.Prelude.{IfOk, IfErr, OnOk};
-ghost use Rattle.osek_io.specs.Counts.{Same};
-ghost use Rattle.osek_io.specs.Reads.{OnlyReads};
-ghost use Rattle.command_runs.specs.Inputs.{OfFile};
-ghost use Rattle.command_runs.specs.Outside.{outside, told};
-ghost use Rattle.command_runs.specs.Replaying.{SpellImage, ImageStops, ReplayAnswers};
+ghost use Rattle.osek_io.specs.{Counts.{Same}, Reads.{OnlyReads}};
+ghost use Rattle.command_runs.specs.{Inputs.{OfFile}, Outside.{outside, told}, Replaying.{SpellImage, ImageStops, ReplayAnswers}};
 
 use crate::inputs::load_input;
 use crate::running::run;

@@ -1,17 +1,10 @@
 //! An image that runs in a mode under an event text, and its trace that is printed.
-ghost use Rattle.std.specs.Prelude.{◌≡◌, ◌≤◌, ◌<◌, [], length, take, false, IfOk, IfSome};
-ghost use Rattle.std.specs.List.{position};
-ghost use Rattle.std.specs.Str.{bytes_eq};
-ghost use Rattle.osek_io.specs.Reads.{OnlyReads};
-ghost use Rattle.osek_io.specs.Sunk.{sunk};
-ghost use Rattle.trace_text.specs.EventText.{numbered_lines};
-ghost use Rattle.trace_text.specs.Feeds.{no_bytes};
-ghost use Rattle.trace_text.specs.LineParts.{ArePartsOf};
+ghost use Rattle.std.specs.{Prelude.{◌≡◌, ◌≤◌, ◌<◌, [], length, take, false, IfOk, IfSome}, List.{position}, Str.{bytes_eq}};
+ghost use Rattle.osek_io.specs.{Reads.{OnlyReads}, Sunk.{sunk}};
+ghost use Rattle.trace_text.specs.{EventText.{numbered_lines}, Feeds.{no_bytes}, LineParts.{ArePartsOf}};
 ghost use Rattle.osek_standard.specs.Dispatch.{stepped};
 ghost use Rattle.image_model.specs.ImageTrace.{image_trace, has_trap};
-ghost use Rattle.command_runs.specs.Outside.{outside};
-ghost use Rattle.command_runs.specs.Inputs.{OfFile};
-ghost use Rattle.command_runs.specs.Playing.{given, HeldReadAnswers, ReadAnswers, PlaysWhole, plays, printing, line_of};
+ghost use Rattle.command_runs.specs.{Outside.{outside}, Inputs.{OfFile}, Playing.{given, HeldReadAnswers, ReadAnswers, PlaysWhole, plays, printing, line_of}};
 ghost use Rattle.command_runs.specs.Running.{mode_named as mode_of_name, RunAnswers};
 
 use crate::inputs::judge_length;

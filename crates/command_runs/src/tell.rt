@@ -1,8 +1,6 @@
 //! What is told on err: the text that goes with an answer.
-ghost use Rattle.std.specs.Prelude.{◌≡◌, ◌≤◌, ◌++◌, OnOk, OnErr, codes};
-ghost use Rattle.std.specs.Fmt.{decimal};
-ghost use Rattle.osek_io.specs.Counts.{Rose};
-ghost use Rattle.osek_io.specs.Pieces.{grown};
+ghost use Rattle.std.specs.{Prelude.{◌≡◌, ◌≤◌, ◌++◌, OnOk, OnErr, codes}, Fmt.{decimal}};
+ghost use Rattle.osek_io.specs.{Counts.{Rose}, Pieces.{grown}};
 ghost use Rattle.command_runs.specs.Telling.{WritesPrefix, fault_text};
 
 use itoa::Buffer;

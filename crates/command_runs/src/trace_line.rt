@@ -1,10 +1,8 @@
 //! A line of the trace that is to be put.
 ghost use Rattle.std.specs.Prelude.{◌≡◌, ◌++◌, ◌∷◌, []};
-ghost use Rattle.osek_standard.specs.Dispatch.{stepped};
-ghost use Rattle.osek_standard.specs.TraceText.{line_text};
+ghost use Rattle.osek_standard.specs.{Dispatch.{stepped}, TraceText.{line_text}};
 ghost use Rattle.osek_values.specs.declared.limits.TheConstants.{LINE_MAX as the_line_max};
-ghost use Rattle.trace_text.specs.Labels.{label_texts};
-ghost use Rattle.trace_text.specs.LineParts.{tasks_text};
+ghost use Rattle.trace_text.specs.{Labels.{label_texts}, LineParts.{tasks_text}};
 
 use image_run::Machine;
 use osek_io::Piece;

@@ -3,8 +3,7 @@ ghost use Rattle.std.specs.Prelude.{◌≡◌, ◌⊎◌, IfOk, IfErr};
 ghost use Rattle.image_model.specs.declared.image.Version.TheVariants as a_version;
 ghost use Rattle.image_codec.specs.Spelling.{spelling};
 ghost use Rattle.osek_io.specs.Sunk.{Sunk};
-ghost use Rattle.command_runs.specs.Outside.{beside, told};
-ghost use Rattle.command_runs.specs.Upgrading.{SpellsUpgraded, UpgradeAnswers};
+ghost use Rattle.command_runs.specs.{Outside.{beside, told}, Upgrading.{SpellsUpgraded, UpgradeAnswers}};
 ghost use Rattle.command_runs.specs.declared.stop.Stop.TheVariants as a_stop;
 
 use crate::replaying::load_image;

@@ -1,11 +1,7 @@
 -- Words of digits, and what is read of them.
 use Rattle.std.proofs.Common.{◌≡◌, ℕ, ◌^◌, Bool, true, false, ◌&&◌, List, [], ◌∷◌, length, nat_lt, refl, sym, ap, Some, None, Err}
 use Rattle.std.proofs.lemmas.Str.Parse.{numerals_by_value, tells_all_ascii_digits, parse_digits}
-use Rattle.std.specs.Prelude.{if◌then◌else◌}
-use Rattle.std.specs.Char.{is_ascii_digit}
-use Rattle.std.specs.List.{list_all}
-use Rattle.std.specs.Str.{all_ascii_digits}
-use Rattle.std.specs.Str.Parse.{ParsesUnsigned, digits_value}
+use Rattle.std.specs.{Prelude.{if◌then◌else◌}, Char.{is_ascii_digit}, List.{list_all}, Str.{all_ascii_digits, Parse.{ParsesUnsigned, digits_value}}}
 use borrow.Author.Tests.{ltb-true}
 use Rattle.command_words.specs.Numerals.{number_of}
 

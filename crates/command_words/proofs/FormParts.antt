@@ -1,6 +1,5 @@
 -- The form of words by their parts: the verb, and the words behind it.
-use Rattle.std.proofs.Common.{◌≡◌, ℕ, ◌-◌, ◌<◌, ◌≤◌, false, ◌&&◌, List, [], ◌∷◌, length, map, take, drop, get_or, refl, ap, arith, take_all}
-use Rattle.std.proofs.lemmas.List.{length-map}
+use Rattle.std.proofs.{Common.{◌≡◌, ℕ, ◌-◌, ◌<◌, ◌≤◌, false, ◌&&◌, List, [], ◌∷◌, length, map, take, drop, get_or, refl, ap, arith, take_all}, lemmas.List.{length-map}}
 use Rattle.std.specs.List.{list_all}
 use Rattle.command_words.specs.Forms.{is_plain, is_verb, is_form}
 use Rattle.command_words.proofs.Plain.{all_of_map}

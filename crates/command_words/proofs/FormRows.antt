@@ -1,19 +1,10 @@
 -- What clap finds of words that are of a form.
-use Rattle.std.proofs.Common.{◌≡◌, Bool, true, ◌==◌, List, [], ◌∷◌, Some, length, map, drop, refl, ap, subst}
-use Rattle.std.proofs.lemmas.Slice.Eq.{bytes_eq-Decides}
-use Rattle.std.specs.List.{list_all}
-use Rattle.std.specs.Prelude.{find}
-use Rattle.std.specs.Str.{bytes_eq}
-use Rattle.std.specs.declared.option.Option.{Option}
+use Rattle.std.proofs.{Common.{◌≡◌, Bool, true, ◌==◌, List, [], ◌∷◌, Some, length, map, drop, refl, ap, subst}, lemmas.Slice.Eq.{bytes_eq-Decides}}
+use Rattle.std.specs.{List.{list_all}, Prelude.{find}, Str.{bytes_eq}, declared.option.Option.{Option}}
 use borrow.Author.Tests.{eqb-true}
-use Rattle.clap.specs.Walk.{Row, Text, answers_to, rows_after}
-use Rattle.clap.specs.Simple.{built, entered, subcommand_of}
-use Rattle.command_words.specs.Command.{the_app, built_rule, words_row}
-use Rattle.command_words.specs.Forms.{Verb, verbs, is_plain, is_verb, is_form, takes}
-use Rattle.command_words.proofs.Plain.{ArePlain, plain_words, both}
-use Rattle.command_words.proofs.TopWalk.{names, verb_rows}
-use Rattle.command_words.proofs.VerbLists.{any_of_each, each_equal}
-use Rattle.command_words.proofs.VerbWalks.{takes_some, rows}
+use Rattle.clap.specs.{Walk.{Row, Text, answers_to, rows_after}, Simple.{built, entered, subcommand_of}}
+use Rattle.command_words.specs.{Command.{the_app, built_rule, words_row}, Forms.{Verb, verbs, is_plain, is_verb, is_form, takes}}
+use Rattle.command_words.proofs.{Plain.{ArePlain, plain_words, both}, TopWalk.{names, verb_rows}, VerbLists.{any_of_each, each_equal}, VerbWalks.{takes_some, rows}}
 
 -- clap finds the words of a verb
 abbrev pub Finds : Text → Text → List Text → Type 0

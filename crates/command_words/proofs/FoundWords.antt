@@ -1,11 +1,8 @@
 -- What the matches of a verb hold.
 use Rattle.std.proofs.Common.{◌≡◌, List, [], ◌∷◌, Some, codes, map, option_map, ◌∙◌, ap}
-use Rattle.std.specs.Borrow.{Bor}
-use Rattle.std.specs.declared.option.Option.{Option}
+use Rattle.std.specs.{Borrow.{Bor}, declared.option.Option.{Option}}
 use Rattle.clap.proofs.WalkLemmas.{raw_values-rows}
-use Rattle.clap.specs.Matches.{matched_of, raw_values}
-use Rattle.clap.specs.Walk.{Text, Row, rows_of, all_of}
-use Rattle.clap.specs.declared.parser.matches.Found.{Found}
+use Rattle.clap.specs.{Matches.{matched_of, raw_values}, Walk.{Text, Row, rows_of, all_of}, declared.parser.matches.Found.{Found}}
 use Rattle.command_words.specs.Command.{words_row}
 
 pub words_are : (f : Found) (rows : Option (Text × List Row)) (vs : List (Bor Text)) (name : Text) (words : List Text) → Some (rows_of f) ≡ option_map (λ p. p.1) rows →

@@ -1,10 +1,7 @@
 -- Plain words are no flags.
 use Rattle.std.proofs.Common.{◌≡◌, Bool, true, false, ◌&&◌, List, [], ◌∷◌, None, map, refl, ap}
-use Rattle.std.specs.Prelude.{not, ◌==◌}
-use Rattle.std.specs.List.{list_all}
-use Rattle.std.specs.Str.{bytes_eq}
-use Rattle.clap.specs.Lexer.{long_of, short_of}
-use Rattle.clap.specs.Words.{Text}
+use Rattle.std.specs.{Prelude.{not, ◌==◌}, List.{list_all}, Str.{bytes_eq}}
+use Rattle.clap.specs.{Lexer.{long_of, short_of}, Words.{Text}}
 use Rattle.command_words.specs.Forms.{is_plain}
 
 pub all_of_map : {X Y : Type 0} (p : Y → Bool) (f : X → Y) (xs : List X) → list_all p (map f xs) ≡ list_all (λ x. p (f x)) xs

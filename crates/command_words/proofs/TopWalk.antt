@@ -1,9 +1,7 @@
 -- The walk stops at a verb, and hands on the words behind it.
-use Rattle.std.proofs.Common.{◌≡◌, ℕ, false, List, [], ◌∷◌, ◌++◌, Some, sym, ◌∙◌, ap, append_assoc, refl}
-use Rattle.std.proofs.lemmas.List.{append-nil}
+use Rattle.std.proofs.{Common.{◌≡◌, ℕ, false, List, [], ◌∷◌, ◌++◌, Some, sym, ◌∙◌, ap, append_assoc, refl}, lemmas.List.{append-nil}}
 use Rattle.std.specs.Prelude.{fold, find}
-use Rattle.clap.specs.Walk.{Text, Row, Walk, Names, idle, nothing_held, walk_from, walked, walk, answers_to, rows_after}
-use Rattle.clap.specs.Simple.{built, names_of, subcommand_of, entered}
+use Rattle.clap.specs.{Walk.{Text, Row, Walk, Names, idle, nothing_held, walk_from, walked, walk, answers_to, rows_after}, Simple.{built, names_of, subcommand_of, entered}}
 use Rattle.command_words.specs.Command.{the_app, built_rule, words_row}
 
 abbrev pub names : Names

@@ -5,8 +5,7 @@ use Rattle.std.specs.Prelude.{fold}
 use borrow.Author.Tests.{eqb-true}
 use Rattle.clap.specs.Walk.{Rule, Text, Walk, idle, positional, nothing_held, walk_from, walked, takes_several, rows_after}
 use Rattle.command_words.specs.Command.{built_rule, words_row}
-use Rattle.command_words.proofs.Plain.{IsPlainWord, ArePlain}
-use Rattle.command_words.proofs.VerbLists.{or_else}
+use Rattle.command_words.proofs.{Plain.{IsPlainWord, ArePlain}, VerbLists.{or_else}}
 
 module _ (k : ℕ) (several : takes_several (built_rule k) ≡ true) where
   abbrev pub rules : List Rule

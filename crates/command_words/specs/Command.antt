@@ -1,10 +1,8 @@
 -- The command that clap is given: each verb is a subcommand with one argument, which takes all the words behind it.
 use Rattle.std.specs.Prelude.{ℕ, true, fold, List, Some, None, codes}
-use Rattle.clap.specs.Walk.{reading_by}
-use Rattle.clap.specs.declared.builder.action.ArgAction.TheVariants.{Set}
+use Rattle.clap.specs.{Walk.{reading_by}, declared.builder.action.ArgAction.TheVariants.{Set}}
 use Rattle.clap.specs.declared.builder.value_parser.ValueParser.TheVariants as parser
-use Rattle.clap.specs.declared.parser.matches.ValueSource.TheVariants.{CommandLine}
-use Rattle.clap.specs.Words.{App, Row, Rule, Shape, Text, new_app, new_rule, with_rule, with_subcommand}
+use Rattle.clap.specs.{declared.parser.matches.ValueSource.TheVariants.{CommandLine}, Words.{App, Row, Rule, Shape, Text, new_app, new_rule, with_rule, with_subcommand}}
 use Rattle.command_words.specs.Forms.{Verb, verbs}
 
 -- one argument of k values

@@ -1,7 +1,5 @@
 -- The words of a command line by their number: a verb, and so many words behind it (this project's profile).
-use Rattle.std.specs.Prelude.{ℕ, ◌==◌, ◌&&◌, Bool, false, not, List, [], ◌∷◌, length, codes}
-use Rattle.std.specs.List.{list_all, list_any}
-use Rattle.std.specs.Str.{bytes_eq}
+use Rattle.std.specs.{Prelude.{ℕ, ◌==◌, ◌&&◌, Bool, false, not, List, [], ◌∷◌, length, codes}, List.{list_all, list_any}, Str.{bytes_eq}}
 use Rattle.command_words.specs.declared.forms.Form.{Form}
 
 -- a verb, and how many words it takes

@@ -1,7 +1,5 @@
 -- Numbers among the words: decimal digits, with any number of leading zeros (this project's profile).
-use Rattle.std.specs.Prelude.{ℕ, ◌^◌, ◌&&◌, nat_lt, nat_le, List, length, Option, Some, None, if◌then◌else◌}
-use Rattle.std.specs.Str.{all_ascii_digits}
-use Rattle.std.specs.Str.Parse.{digits_value}
+use Rattle.std.specs.{Prelude.{ℕ, ◌^◌, ◌&&◌, nat_lt, nat_le, List, length, Option, Some, None, if◌then◌else◌}, Str.{all_ascii_digits, Parse.{digits_value}}}
 use Rattle.osek_values.specs.declared.limits.TheConstants.{MAX_TASKS}
 
 -- the value of digits, up to 2^64-1

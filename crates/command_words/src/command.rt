@@ -1,9 +1,6 @@
 //! The command, as clap has it.
-ghost use Rattle.std.specs.Prelude.{◌≡◌, ◌∷◌, [], IfOk, IsTrue, List, Some, map, fold, drop, false};
-ghost use Rattle.std.specs.String.{string_bytes};
-ghost use Rattle.std.specs.Borrow.{Bor};
-ghost use Rattle.clap.specs.Words.{Text, app_of, subcommand_rows_of};
-ghost use Rattle.clap.specs.declared.builder.command.Command.TheViews.{out-Command as fields_of};
+ghost use Rattle.std.specs.{Prelude.{◌≡◌, ◌∷◌, [], IfOk, IsTrue, List, Some, map, fold, drop, false}, String.{string_bytes}, Borrow.{Bor}};
+ghost use Rattle.clap.specs.{Words.{Text, app_of, subcommand_rows_of}, declared.builder.command.Command.TheViews.{out-Command as fields_of}};
 ghost use Rattle.command_words.specs.{Command.{verb_app, with_verb, bare_app, the_app, words_row}, Forms.{is_form, verb_of}};
 
 use crate::forms::{Form, forms};

@@ -1,7 +1,5 @@
 //! Which words are of a form.
-ghost use Rattle.std.specs.Prelude.{◌≡◌, map, length};
-ghost use Rattle.std.specs.List.{list_all, list_any};
-ghost use Rattle.std.specs.String.{string_bytes};
+ghost use Rattle.std.specs.{Prelude.{◌≡◌, map, length}, List.{list_all, list_any}, String.{string_bytes}};
 ghost use Rattle.command_words.specs.Forms.{is_plain as is_plain_word, is_verb as is_a_verb, is_form, takes as the_verb_takes, verb_of, verbs};
 
 /// A stated form: a verb, and what each word behind it names.

@@ -1,8 +1,5 @@
 //! Numbers among the words.
-ghost use Rattle.std.specs.Prelude.{◌≡◌, option_map};
-ghost use Rattle.std.specs.Char.{is_ascii_digit};
-ghost use Rattle.std.specs.List.{list_all};
-ghost use Rattle.std.specs.Str.{all_ascii_digits};
+ghost use Rattle.std.specs.{Prelude.{◌≡◌, option_map}, Char.{is_ascii_digit}, List.{list_all}, Str.{all_ascii_digits}};
 ghost use Rattle.command_words.specs.Numerals.{number_of as the_number, seed_of as the_seed, tasks_of as the_tasks};
 
 use osek_values::limits::MAX_TASKS;

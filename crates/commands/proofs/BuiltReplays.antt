@@ -5,8 +5,7 @@ use Rattle.osek_values.specs.declared.event.Event.{Event}
 use Rattle.osek_standard.specs.declared.app.App.{App}
 use Rattle.image_codec.specs.Spelling.{spelling}
 use Rattle.image_model.specs.ImageTrace.{has_trap}
-use Rattle.trace_text.specs.EventText.{read_text}
-use Rattle.trace_text.specs.declared.fault.FaultyLine.{FaultyLine}
+use Rattle.trace_text.specs.{EventText.{read_text}, declared.fault.FaultyLine.{FaultyLine}}
 use Rattle.commands.specs.Due.{RunDue, ends, is_read}
 use Rattle.command_runs.specs.Running.{end_of}
 use Rattle.commands.specs.Laws.{WhatIsBuiltReplays}

@@ -1,10 +1,7 @@
 -- The command that the words are, with its answer.
 use Rattle.std.proofs.Common.{◌≡◌, ℕ, List, subst}
-use Rattle.std.specs.declared.option.Option.{Option}
-use Rattle.std.specs.declared.result.Result.{Result}
-use Rattle.commands.specs.Answering.{Does}
-use Rattle.commands.specs.Statuses.{status_of, text_due}
-use Rattle.commands.specs.Words.{Command}
+use Rattle.std.specs.declared.{option.Option.{Option}, result.Result.{Result}}
+use Rattle.commands.specs.{Answering.{Does}, Statuses.{status_of, text_due}, Words.{Command}}
 use Rattle.command_runs.specs.declared.stop.Stop.{Stop}
 
 pub does_of : (command given : Option Command) → given ≡ command → (answers : Option Command → Result (Unit {0}) Stop → Type 0) (tells : List ℕ → ℕ → Type 0) (r : Result (Unit {0}) Stop) →

@@ -1,21 +1,13 @@
 -- Where no read or write fails, the answer is the one that is due, or memory ran out.
 use Rattle.std.proofs.Common.{◌≡◌, ℕ, ◌<◌, List, [], ◌++◌, Bool, true, false, length, refl, sym, ◌∙◌, ap, subst, inl, inr, ⊎_elim, Some, None, Ok, Err, arith, nat_lt}
 use Rattle.std.proofs.lemmas.Bool.Decides.{nat_tests}
-use Rattle.std.specs.Prelude.{◌⊎◌}
-use Rattle.std.specs.FinMap.{get}
-use Rattle.std.specs.declared.option.Option.{Option}
-use Rattle.std.specs.declared.result.Result.{Result}
-use Rattle.osek_values.specs.declared.event.Event.{Event}
-use Rattle.osek_values.specs.declared.limits.TheConstants.{MAX_EVENT_TEXT}
-use Rattle.osek_values.specs.declared.numbers.ModeNo.{ModeNo}
-use Rattle.osek_standard.specs.declared.app.App.{App}
-use Rattle.osek_standard.specs.TraceText.{kernel_trace}
+use Rattle.std.specs.{Prelude.{◌⊎◌}, FinMap.{get}, declared.{option.Option.{Option}, result.Result.{Result}}}
+use Rattle.osek_values.specs.declared.{event.Event.{Event}, limits.TheConstants.{MAX_EVENT_TEXT}, numbers.ModeNo.{ModeNo}}
+use Rattle.osek_standard.specs.{declared.app.App.{App}, TraceText.{kernel_trace}}
 use Rattle.oil_system.specs.declared.system.System.{System}
 use Rattle.front_end.specs.Texts.{DeclaresSystem}
-use Rattle.image_model.specs.declared.image.{Image.{Image}}
-use Rattle.image_model.specs.ImageTrace.{image_trace, has_trap, image_run}
-use Rattle.trace_text.specs.EventText.{Reading, fault_at, read_text}
-use Rattle.trace_text.specs.declared.fault.EventFault.TheVariants.{E4}
+use Rattle.image_model.specs.{declared.image.Image.{Image}, ImageTrace.{image_trace, has_trap, image_run}}
+use Rattle.trace_text.specs.{EventText.{Reading, fault_at, read_text}, declared.fault.EventFault.TheVariants.{E4}}
 use Rattle.osek_io.specs.{Counts.{ReadFaults}, Files.{Files}, Sunk.{Sunk}}
 use Rattle.commands.specs.Answering.{CommandAnswers}
 use Rattle.commands.specs.Building as building

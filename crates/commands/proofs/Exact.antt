@@ -1,17 +1,12 @@
 -- The status is that of the answer which is due, unless memory ran out.
 use Rattle.std.proofs.Common.{◌≡◌, ℕ, ◌∙◌, ap, subst, inl, inr, ⊎_elim, Some}
-use Rattle.std.specs.Prelude.{◌⊎◌}
-use Rattle.std.specs.declared.option.Option.{Option}
-use Rattle.std.specs.declared.result.Result.{Result}
+use Rattle.std.specs.{Prelude.{◌⊎◌}, declared.{option.Option.{Option}, result.Result.{Result}}}
 use Rattle.osek_io.specs.{Counts.{ReadFaults, Rose}, Files.{Files}, Sunk.{Sunk}}
-use Rattle.commands.specs.Answering.{CommandAnswers, Does, Tells}
-use Rattle.commands.specs.Due.{IsCalm, IsDue}
+use Rattle.commands.specs.{Answering.{CommandAnswers, Does, Tells}, Due.{IsCalm, IsDue}}
 use Rattle.command_runs.specs.Outside.{Outside, beside}
-use Rattle.commands.specs.Statuses.{status_of}
-use Rattle.commands.specs.Words.{Command}
+use Rattle.commands.specs.{Statuses.{status_of}, Words.{Command}}
 use Rattle.command_runs.specs.declared.stop.Stop.{Stop}
-use Rattle.commands.proofs.Dues.{command_due}
-use Rattle.commands.proofs.OneDue.{one_due}
+use Rattle.commands.proofs.{Dues.{command_due}, OneDue.{one_due}}
 
 module _ (files : Files) (tells : Option Files) (told_files : tells ≡ Some files) (after : Outside) (reads : ReadFaults) (writes : ℕ) (out err err_after : Sunk) (command : Option Command) (status : ℕ) where
   abbrev from : Option Files → Outside

@@ -2,8 +2,7 @@
 use Rattle.std.proofs.Common.{◌≡◌, ℕ, List, sym, subst, inl, inr, Some, Err, refl}
 use Rattle.std.specs.declared.result.Result.{Result}
 use Rattle.osek_standard.specs.declared.app.App.{App}
-use Rattle.flow_text.specs.declared.gen_line.AnalysisCounts.{AnalysisCounts}
-use Rattle.flow_text.specs.GeneratedLine.{text_size, gen_line}
+use Rattle.flow_text.specs.{declared.gen_line.AnalysisCounts.{AnalysisCounts}, GeneratedLine.{text_size, gen_line}}
 use Rattle.osek_io.specs.Files.{Files}
 use Rattle.commands.specs.GeneratedFiles.{oil_name, code_name, events_name, generated_files}
 use Rattle.commands.specs.Generating.{AreLeastCounts, IsDefaultTrace, TellsRun, OfOwn, GenAnswers, no_memory, stops, tells}

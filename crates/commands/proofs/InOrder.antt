@@ -1,7 +1,6 @@
 -- A list that is in order is one by its elements.
 use Rattle.std.proofs.Common.{◌≡◌, zero, suc, List, [], ◌∷◌, refl, sym, subst, ap₂, ◌∙◌, ◌⊎◌, inl, inr, arith}
-use Rattle.std.specs.Prelude.{Contains}
-use Rattle.std.specs.List.{AllPairs}
+use Rattle.std.specs.{Prelude.{Contains}, List.{AllPairs}}
 
 module _ {X : Type 0} (Before : X → X → Type 0) (not_both : (x y : X) → Before x y → Before y x → ⊥) where
   first_before : (x y : X) (xs : List X) → AllPairs Before (x ∷ xs) → Contains xs y → Before x y

@@ -1,16 +1,11 @@
 -- The run of the general image of an application is the kernel's.
 use Rattle.std.proofs.Common.{◌≡◌, ℕ, List, Bool, subst}
 use Rattle.std.specs.declared.result.Result.{Result}
-use Rattle.osek_values.specs.declared.event.Event.{Event}
-use Rattle.osek_values.specs.declared.numbers.ModeNo.{ModeNo}
-use Rattle.osek_standard.specs.declared.app.App.{App}
-use Rattle.osek_standard.specs.TraceText.{kernel_trace}
-use Rattle.image_model.specs.declared.image.Image.{Image}
-use Rattle.image_model.specs.ImageTrace.{AreGeneral, image_trace, has_trap}
+use Rattle.osek_values.specs.declared.{event.Event.{Event}, numbers.ModeNo.{ModeNo}}
+use Rattle.osek_standard.specs.{declared.app.App.{App}, TraceText.{kernel_trace}}
+use Rattle.image_model.specs.{declared.image.Image.{Image}, ImageTrace.{AreGeneral, image_trace, has_trap}}
 use Rattle.image_model.proofs.GeneralRuns.{general_runs}
-use Rattle.command_runs.specs.Outside.{Outside}
-use Rattle.command_runs.specs.Running.{RunAnswers}
-use Rattle.command_runs.specs.declared.stop.Stop.{Stop}
+use Rattle.command_runs.specs.{Outside.{Outside}, Running.{RunAnswers}, declared.stop.Stop.{Stop}}
 use Rattle.commands.specs.Tracing.{never}
 
 pub kernel_runs : (before after : Outside) (mode events : List ℕ) (app : App) (i : Image) → i.app ≡ app → AreGeneral i.sites → (r : Result (Unit {0}) Stop) →

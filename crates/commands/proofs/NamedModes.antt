@@ -1,10 +1,7 @@
 -- A mode that a name finds is one of the application's.
 use Rattle.std.proofs.Common.{◌≡◌, ◌<◌, ℕ, List, length, ap, option_map, Some, None}
-use Rattle.std.specs.List.{position}
-use Rattle.std.specs.Str.{bytes_eq}
-use Rattle.std.specs.declared.option.Option.{Option}
-use Rattle.osek_values.specs.Numbers.{mode_no}
-use Rattle.osek_values.specs.declared.numbers.ModeNo.{ModeNo}
+use Rattle.std.specs.{List.{position}, Str.{bytes_eq}, declared.option.Option.{Option}}
+use Rattle.osek_values.specs.{Numbers.{mode_no}, declared.numbers.ModeNo.{ModeNo}}
 use Rattle.osek_standard.specs.declared.app.App.{App}
 use Rattle.osek_io.proofs.FirstOf.{position_at}
 use Rattle.command_runs.specs.Running.{mode_named}

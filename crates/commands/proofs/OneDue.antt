@@ -1,30 +1,21 @@
 -- One answer is due at most.
 use Rattle.std.proofs.Common.{◌≡◌, ℕ, ◌≤◌, List, [], ◌++◌, Bool, length, refl, sym, ◌∙◌, ap, subst, inl, inr, Some, None, Ok, Err, arith}
-use Rattle.std.specs.declared.option.Option.{Option}
-use Rattle.std.specs.declared.result.Result.{Result}
-use Rattle.osek_values.specs.declared.event.Event.{Event}
-use Rattle.osek_values.specs.declared.limits.TheConstants.{MAX_FILE}
-use Rattle.osek_values.specs.declared.numbers.ModeNo.{ModeNo}
-use Rattle.osek_values.specs.declared.refusal.Refusal.{Refusal}
+use Rattle.std.specs.declared.{option.Option.{Option}, result.Result.{Result}}
+use Rattle.osek_values.specs.declared.{event.Event.{Event}, limits.TheConstants.{MAX_FILE}, numbers.ModeNo.{ModeNo}, refusal.Refusal.{Refusal}}
 use Rattle.osek_standard.specs.declared.app.App.{App}
 use Rattle.oil_system.specs.declared.system.System.{System}
-use Rattle.front_end.specs.Texts.{DeclaresSystem, GivesApp}
-use Rattle.front_end.specs.Answers.{IsOilRefusal, IsCodeRefusal}
+use Rattle.front_end.specs.{Texts.{DeclaresSystem, GivesApp}, Answers.{IsOilRefusal, IsCodeRefusal}}
 use Rattle.front_end.proofs.OneAnswer.{one_oil, one_code}
 use Rattle.image_model.specs.declared.image.Image.{Image}
-use Rattle.image_codec.specs.declared.fault.ImageFault.{ImageFault}
-use Rattle.image_codec.specs.Spelling.{spelling}
-use Rattle.image_codec.specs.ImageReading.{read_image, parts_of}
+use Rattle.image_codec.specs.{declared.fault.ImageFault.{ImageFault}, Spelling.{spelling}, ImageReading.{read_image, parts_of}}
 use Rattle.image_model.specs.ImageTrace.{has_trap}
-use Rattle.image_codec.proofs.DecodeLaws.{its_reading}
-use Rattle.image_codec.proofs.GoodOfValid.{one_spelling_holds, read_again}
+use Rattle.image_codec.proofs.{DecodeLaws.{its_reading}, GoodOfValid.{one_spelling_holds, read_again}}
 use Rattle.trace_text.specs.EventText.{read_text}
 use Rattle.osek_io.specs.Files.{Files}
 use Rattle.command_runs.specs.Running.{end_of}
 use Rattle.commands.specs.Due.{RunDue, no_mode, no_events, ends, ImageDue, no_image, bad_image, is_read, ImageRuns, IsTold, Upgrades, TextsDue, no_oil, bad_oil, no_code, bad_code, goes_on, IsBuilt, IsDue}
 use Rattle.command_runs.specs.Replaying.{SpellImage, IsImageFault}
-use Rattle.commands.specs.Tracing.{never}
-use Rattle.commands.specs.GeneratedFiles.{oil_name, code_name, events_name, default_mode, generated_files}
+use Rattle.commands.specs.{Tracing.{never}, GeneratedFiles.{oil_name, code_name, events_name, default_mode, generated_files}}
 use Rattle.commands.specs.Words.{Command, Build, Replay, Trace, Show, Info, Gen, Upgrade}
 use Rattle.command_runs.specs.declared.stop.Stop.{Stop}
 use Rattle.command_runs.specs.declared.stop.Stop.TheVariants as stop

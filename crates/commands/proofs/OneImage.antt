@@ -2,19 +2,16 @@
 use Rattle.std.proofs.Common.{◌≡◌, ℕ, ◌<◌, length, get_or, refl, sym, ◌∙◌, ap, subst, Option, Some, None}
 use Rattle.std.specs.Prelude.{Bool, true, false, option_map, Ok}
 use Rattle.std.proofs.lemmas.List.{ext_get_or}
-use Rattle.osek_standard.specs.declared.app.App.{App}
-use Rattle.osek_standard.specs.Apps.{is_site}
+use Rattle.osek_standard.specs.{declared.app.App.{App}, Apps.{is_site}}
 use Rattle.oil_system.specs.declared.system.System.{System}
 use Rattle.front_end.specs.Texts.{GivesApp}
 use Rattle.front_end.proofs.OneAnswer.{one_oil, one_code}
-use Rattle.image_model.specs.declared.{image.Image.{Image}, site.{Form.{Form}, Known.{Known}, Site.{Site}}}
-use Rattle.image_model.specs.Sites.{IsSiteAt}
+use Rattle.image_model.specs.{declared.{image.Image.{Image}, site.{Form.{Form}, Known.{Known}, Site.{Site}}}, Sites.{IsSiteAt}}
 use Rattle.image_codec.specs.Spelling.{spelling}
 use Rattle.image_codec.proofs.DecodeLaws.{image_ext}
 use Rattle.abstract_state.specs.{Forms.{FormOf, KnownOf, HasDictatedForms, HasDictatedStatuses}, Tables.{Sets}}
 use Rattle.abstract_state.proofs.{ContainmentLaws.{one_least}, FormLaws.{one_form, one_known}}
-use Rattle.commands.specs.Fitting.{IsFitted}
-use Rattle.commands.specs.Laws.{OneImageIsBuilt}
+use Rattle.commands.specs.{Fitting.{IsFitted}, Laws.{OneImageIsBuilt}}
 
 abbrev form_of_site : Option Site → Option Form
 form_of_site x = option_map (λ (s : Site). s.form) x

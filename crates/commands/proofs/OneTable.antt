@@ -2,8 +2,7 @@
 use Rattle.std.proofs.Common.{◌≡◌, ◌<◌, sym, subst, ◌∙◌, IsTrue, arith}
 use Rattle.std.specs.Prelude.{Contains}
 use Rattle.osek_standard.specs.declared.app.App.{App}
-use Rattle.abstract_state.specs.declared.table.{TableRow.{TableRow}, PlainTable.{PlainTable}}
-use Rattle.abstract_state.specs.{Domains.{IsBelow}, Tables.{Sets, sets_of, HasRow}, Written.{IsWritten}}
+use Rattle.abstract_state.specs.{declared.table.{TableRow.{TableRow}, PlainTable.{PlainTable}}, Domains.{IsBelow}, Tables.{Sets, sets_of, HasRow}, Written.{IsWritten}}
 use Rattle.abstract_state.proofs.{ContainmentLaws.{one_least}, EqualityLaws.{written_entry}, LatticeLaws.{equal_entries}}
 use Rattle.numbered_sets.proofs.WrittenRows.{row_number, rows_ascend, row_there, row_entered, row_value, only_there}
 use Rattle.commands.specs.OneText.{OneTableIsWritten}

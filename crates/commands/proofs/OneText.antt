@@ -1,22 +1,16 @@
 -- One text tells what the least table of an application dictates, and one line tells of a generated run.
 use Rattle.std.proofs.Common.{◌≡◌, ℕ, List, ◌++◌, length, sym, ap, subst, ◌∙◌, Some, inl, inr, arith}
 use Rattle.std.specs.Prelude.{Ok}
-use Rattle.osek_standard.specs.declared.app.App.{App}
-use Rattle.osek_standard.specs.{Counts.{points, height}, TraceText.{kernel_trace}}
+use Rattle.osek_standard.specs.{declared.app.App.{App}, Counts.{points, height}, TraceText.{kernel_trace}}
 use Rattle.oil_system.specs.declared.system.System.{System}
 use Rattle.front_end.specs.Texts.{DeclaresSystem, GivesApp}
 use Rattle.front_end.proofs.OneAnswer.{one_oil, one_code}
-use Rattle.abstract_state.specs.declared.table.PlainTable.{PlainTable}
-use Rattle.abstract_state.specs.{Forms.{HasDictatedForms}, Tables.{sets_of, value_count}}
-use Rattle.abstract_state.specs.declared.edge.FlowEdge.{FlowEdge}
+use Rattle.abstract_state.specs.{declared.{table.PlainTable.{PlainTable}, edge.FlowEdge.{FlowEdge}}, Forms.{HasDictatedForms}, Tables.{sets_of, value_count}}
 use Rattle.global_cfg.specs.Edges.{IsBefore}
 use Rattle.trace_text.specs.EventText.{read_text}
-use Rattle.flow_text.specs.declared.gen_line.AnalysisCounts.{AnalysisCounts}
-use Rattle.flow_text.specs.{FlowLines.{counts_line}, GeneratedLine.{gen_line, text_size}, Texts.{edges_text}}
+use Rattle.flow_text.specs.{declared.gen_line.AnalysisCounts.{AnalysisCounts}, FlowLines.{counts_line}, GeneratedLine.{gen_line, text_size}, Texts.{edges_text}}
 use Rattle.commands.specs.{Generating.{AreLeastCounts, TellsRun}, OneText.{OneTextIsShown, OneLineIsGenerated}, Showing.{AreEdges, TellsLeast}}
-use Rattle.commands.proofs.InOrder.{one_in_order}
-use Rattle.commands.proofs.OneTable.{one_table}
-use Rattle.commands.proofs.SameForms.{same_texts, same_counts, same_forms}
+use Rattle.commands.proofs.{InOrder.{one_in_order}, OneTable.{one_table}, SameForms.{same_texts, same_counts, same_forms}}
 
 never_both : (x y : FlowEdge) → IsBefore x y → IsBefore y x → ⊥
 never_both x y (inl h) (inl k) = omega (arith, h, k)

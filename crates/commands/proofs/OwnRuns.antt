@@ -1,29 +1,16 @@
 -- A run of a system in memory: its trace, or the stop that its own texts are due.
 use Rattle.std.proofs.Common.{◌≡◌, ℕ, ◌≤◌, List, [], Bool, true, false, length, refl, sym, ◌∙◌, ap, subst, inl, inr, Some, None, Ok, Err}
-use Rattle.std.specs.Prelude.{◌⊎◌, ⊤}
-use Rattle.std.specs.FinMap.{get}
-use Rattle.std.specs.declared.option.Option.{Option}
-use Rattle.std.specs.declared.result.Result.{Result}
-use Rattle.osek_values.specs.declared.event.Event.{Event}
-use Rattle.osek_values.specs.declared.limits.TheConstants.{MAX_EVENT_TEXT}
-use Rattle.osek_values.specs.declared.numbers.ModeNo.{ModeNo}
-use Rattle.osek_standard.specs.declared.app.App.{App}
-use Rattle.osek_standard.specs.TraceText.{kernel_trace}
+use Rattle.std.specs.{Prelude.{◌⊎◌, ⊤}, FinMap.{get}, declared.{option.Option.{Option}, result.Result.{Result}}}
+use Rattle.osek_values.specs.declared.{event.Event.{Event}, limits.TheConstants.{MAX_EVENT_TEXT}, numbers.ModeNo.{ModeNo}}
+use Rattle.osek_standard.specs.{declared.app.App.{App}, TraceText.{kernel_trace}}
 use Rattle.oil_system.specs.declared.system.System.{System}
 use Rattle.front_end.specs.Texts.{DeclaresSystem}
-use Rattle.image_model.specs.declared.image.Image.{Image}
-use Rattle.image_model.specs.ImageTrace.{image_trace, has_trap, image_run}
-use Rattle.trace_text.specs.EventText.{read_text}
-use Rattle.trace_text.specs.declared.fault.FaultyLine.{FaultyLine}
+use Rattle.image_model.specs.{declared.image.Image.{Image}, ImageTrace.{image_trace, has_trap, image_run}}
+use Rattle.trace_text.specs.{EventText.{read_text}, declared.fault.FaultyLine.{FaultyLine}}
 use Rattle.osek_io.specs.{Counts.{ReadFaults}, Files.{Files}, Pieces.{grown}}
-use Rattle.commands.specs.Compiling.{SystemStops, CodeStops, CompileStops, OfApp}
-use Rattle.commands.specs.Due.{RunDue, no_mode, no_events, ends, bad_oil, bad_code, goes_on, OwnDue}
-use Rattle.commands.specs.Fitting.{IsKernelImage}
-use Rattle.commands.specs.GeneratedFiles.{oil_name, code_name, events_name, default_mode, own_stop}
-use Rattle.commands.specs.Generating.{IsDefaultTrace}
-use Rattle.command_runs.specs.Inputs.{OfFile, unread, faulty, no_memory}
-use Rattle.command_runs.specs.Outside.{Told, Outside}
-use Rattle.command_runs.specs.Playing.{PlayAnswers}
+use Rattle.commands.specs.{Compiling.{SystemStops, CodeStops, CompileStops, OfApp}, Due.{RunDue, no_mode, no_events, ends, bad_oil, bad_code, goes_on, OwnDue}}
+use Rattle.commands.specs.{Fitting.{IsKernelImage}, GeneratedFiles.{oil_name, code_name, events_name, default_mode, own_stop}, Generating.{IsDefaultTrace}}
+use Rattle.command_runs.specs.{Inputs.{OfFile, unread, faulty, no_memory}, Outside.{Told, Outside}, Playing.{PlayAnswers}}
 use Rattle.command_runs.specs.Running as running
 use Rattle.command_runs.specs.Running.{mode_named, end_of, RunAnswers}
 use Rattle.commands.specs.Tracing.{never}

@@ -1,8 +1,7 @@
 -- Texts that are put line by line.
 use Rattle.std.proofs.Common.{◌≡◌, ℕ, suc, ◌<◌, List, [], ◌∷◌, ◌++◌, length, get_or, take, drop, take-suc, sym, ◌∙◌, ap, subst, rules}
 use Rattle.std.specs.List.{flat_map}
-use Rattle.std.proofs.lemmas.List.{take-append-drop}
-use Rattle.std.proofs.lemmas.Grind.{flat_map-append}
+use Rattle.std.proofs.lemmas.{List.{take-append-drop}, Grind.{flat_map-append}}
 use Rattle.command_runs.specs.Playing.{Given, Puts, PutsPrefix}
 use Rattle.command_runs.proofs.GivenTexts.{puts_both, puts_prefix_of_first, puts_prefix_behind}
 

@@ -1,19 +1,14 @@
 -- Sites of the same forms are shown and counted alike.
 use Rattle.std.proofs.Common.{◌≡◌, ℕ, ◌+◌, ◌<◌, Bool, true, false, cond, List, [], ◌∷◌, ◌++◌, length, get_or, map, refl, sym, ap, ap₂, subst, ◌∙◌, sum_by, Option, Some, None, arith}
-use Rattle.std.specs.Prelude.{option_map, is_some}
-use Rattle.std.specs.List.{flat_map, enumerate_from}
-use Rattle.std.proofs.Math.ListN.{get_or-map}
-use Rattle.std.proofs.lemmas.List.{ext_get_or, length-map}
-use Rattle.std.proofs.lemmas.List.Sums.{sum_by-cons}
-use Rattle.osek_standard.specs.declared.app.App.{App}
-use Rattle.osek_standard.specs.Apps.{is_site}
+use Rattle.std.specs.{Prelude.{option_map, is_some}, List.{flat_map, enumerate_from}}
+use Rattle.std.proofs.{Math.ListN.{get_or-map}, lemmas.List.{ext_get_or, length-map, Sums.{sum_by-cons}}}
+use Rattle.osek_standard.specs.{declared.app.App.{App}, Apps.{is_site}}
 use Rattle.image_model.specs.declared.{image.Image.{Image}, site.{Form.{Form}, Site.{Site}}}
 use Rattle.image_model.specs.declared.image.Version.TheVariants as version
 use Rattle.image_model.specs.Sites.{IsSiteAt}
 use Rattle.abstract_state.specs.{Forms.{FormOf, HasDictatedForms}, Tables.{Sets}}
 use Rattle.abstract_state.proofs.FormLaws.{one_form}
-use Rattle.flow_text.specs.{FormCounts.{is_never, is_stay, is_direct, is_general, is_site_with, site_counts}, Texts.{site_text, sites_text}}
-use Rattle.flow_text.specs.FlowLines.{site_line}
+use Rattle.flow_text.specs.{FormCounts.{is_never, is_stay, is_direct, is_general, is_site_with, site_counts}, Texts.{site_text, sites_text}, FlowLines.{site_line}}
 
 abbrev form_of : Option Site → Option Form
 form_of x = option_map (λ (s : Site). s.form) x

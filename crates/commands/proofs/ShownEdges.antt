@@ -2,13 +2,11 @@
 use Rattle.std.proofs.Common.{ℕ, ◌<◌, length, get_or, sym, subst}
 use Rattle.std.specs.Prelude.{All}
 use Rattle.std.proofs.lemmas.List.Elements.{Contains-get_or}
-use Rattle.osek_standard.specs.declared.{app.App.{App}}
-use Rattle.osek_standard.specs.Points.{IsPoint}
+use Rattle.osek_standard.specs.{declared.app.App.{App}, Points.{IsPoint}}
 use Rattle.abstract_state.specs.{Forms.{Edge}, Tables.{sets_of}}
 use Rattle.abstract_state.proofs.FormLaws.{edge_begins, edge_ends}
 use Rattle.abstract_state.specs.declared.edge.FlowEdge.{FlowEdge}
-use Rattle.commands.specs.Showing.{IsDictated}
-use Rattle.commands.specs.declared.showing.Dictated.{Dictated}
+use Rattle.commands.specs.{Showing.{IsDictated}, declared.showing.Dictated.{Dictated}}
 
 module _ (app : App) (x : Dictated) (h : IsDictated app x) where
   edge_at : (k : ℕ) (d : FlowEdge) → k < length x.edges → Edge app (sets_of h.table) (get_or x.edges k d).from (get_or x.edges k d).to

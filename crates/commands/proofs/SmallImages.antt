@@ -1,26 +1,16 @@
 -- Each image's bytes fit into a file that is read: its tables are few, its names short, and its blocks are of a few
 -- bytes each.
 use Rattle.std.proofs.Common.{◌≡◌, ℕ, ◌*◌, ◌≤◌, true, List, [], ◌∷◌, length, map, get_or, Option, Some, None, refl, sym, subst, arith}
-use Rattle.std.specs.Prelude.{All, IsTrue, nat_le}
-use Rattle.std.specs.List.{flat_map, zip}
-use Rattle.std.proofs.lemmas.Bool.{leb-true, and_parts}
-use Rattle.std.proofs.lemmas.List.{length-append}
-use Rattle.std.proofs.lemmas.List.Concat.{length-flat_map}
-use Rattle.std.proofs.lemmas.List.Elements.{All-nil, All-cons, All-head, All-tail}
-use Rattle.std.proofs.lemmas.List.Sums.{sum_by-le}
-use Rattle.osek_values.specs.Names.{is_word, is_name}
-use Rattle.osek_values.specs.declared.limits.TheConstants.{MAX_BLOCKS, MAX_FILE, MAX_NAME, MAX_TASKS}
-use Rattle.osek_values.specs.declared.numbers.BlockNo.{BlockNo}
+use Rattle.std.specs.{Prelude.{All, IsTrue, nat_le}, List.{flat_map, zip}}
+use Rattle.std.proofs.lemmas.{Bool.{leb-true, and_parts}, List.{length-append, Concat.{length-flat_map}, Elements.{All-nil, All-cons, All-head, All-tail}, Sums.{sum_by-le}}}
+use Rattle.osek_values.specs.{Names.{is_word, is_name}, declared.{limits.TheConstants.{MAX_BLOCKS, MAX_FILE, MAX_NAME, MAX_TASKS}, numbers.BlockNo.{BlockNo}}}
 use Rattle.oil_system.specs.declared.objects.{Alarm.{Alarm}, Resource.{Resource}, Action.{Action}}
 use Rattle.oil_system.specs.declared.objects.Action.TheVariants as action
-use Rattle.osek_standard.specs.declared.objects.{Task.{Task}, Isr.{Isr}, Counter.{Counter}}
-use Rattle.osek_standard.specs.declared.block.{Block.{Block}, Kind.{Kind}}
+use Rattle.osek_standard.specs.declared.{objects.{Task.{Task}, Isr.{Isr}, Counter.{Counter}}, block.{Block.{Block}, Kind.{Kind}}}
 use Rattle.osek_standard.specs.declared.block.Kind.TheVariants as kind
-use Rattle.osek_standard.specs.Apps.{tables}
-use Rattle.osek_standard.specs.Validity.{IsValid}
+use Rattle.osek_standard.specs.{Apps.{tables}, Validity.{IsValid}}
 use Rattle.image_model.specs.CallNames as call
-use Rattle.image_model.specs.declared.site.Site.{Site}
-use Rattle.image_model.specs.declared.image.{Image.{Image}, Version.{Version}}
+use Rattle.image_model.specs.declared.{site.Site.{Site}, image.{Image.{Image}, Version.{Version}}}
 use Rattle.image_model.specs.declared.image.Version.TheVariants as version
 use Rattle.image_codec.specs.Spelling.{name_bytes, task_bytes, isr_bytes, counter_bytes, action_bytes, alarm_bytes, resource_bytes, operand_bytes, way_bytes, site_bytes, block_bytes, spelling}
 

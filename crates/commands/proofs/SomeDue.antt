@@ -1,32 +1,21 @@
 -- Over files of bytes some answer is due.
-use Rattle.std.proofs.Common.{◌≡◌, ℕ, ◌≤◌, ◌⊎◌, inl, inr, ⊎_elim, List, Bool, length, refl, Some, None, Ok, Err}
-use Rattle.std.proofs.str.Laws.{order}
-use Rattle.std.specs.FinMap.{get}
-use Rattle.std.specs.declared.option.Option.{Option}
-use Rattle.std.specs.declared.result.Result.{Result}
-use Rattle.osek_values.specs.declared.event.Event.{Event}
-use Rattle.osek_values.specs.declared.limits.TheConstants.{MAX_FILE}
-use Rattle.osek_values.specs.declared.numbers.ModeNo.{ModeNo}
-use Rattle.osek_values.specs.declared.refusal.Refusal.{Refusal}
+use Rattle.std.proofs.{Common.{◌≡◌, ℕ, ◌≤◌, ◌⊎◌, inl, inr, ⊎_elim, List, Bool, length, refl, Some, None, Ok, Err}, str.Laws.{order}}
+use Rattle.std.specs.{FinMap.{get}, declared.{option.Option.{Option}, result.Result.{Result}}}
+use Rattle.osek_values.specs.declared.{event.Event.{Event}, limits.TheConstants.{MAX_FILE}, numbers.ModeNo.{ModeNo}, refusal.Refusal.{Refusal}}
 use Rattle.osek_standard.specs.declared.app.App.{App}
 use Rattle.oil_system.specs.declared.system.System.{System}
-use Rattle.front_end.specs.Answers.{IsOilAnswer, IsCodeAnswer}
-use Rattle.front_end.specs.Texts.{DeclaresSystem}
+use Rattle.front_end.specs.{Answers.{IsOilAnswer, IsCodeAnswer}, Texts.{DeclaresSystem}}
 use Rattle.front_end.proofs.SomeAnswer.{some_oil, declared_is_linkable, some_code}
 use Rattle.image_model.specs.declared.image.Image.{Image}
-use Rattle.image_codec.specs.declared.fault.ImageFault.{ImageFault}
-use Rattle.image_codec.specs.Fits.{FitsFormat}
-use Rattle.image_codec.specs.ImageReading.{read_image}
+use Rattle.image_codec.specs.{declared.fault.ImageFault.{ImageFault}, Fits.{FitsFormat}, ImageReading.{read_image}}
 use Rattle.image_model.specs.ImageTrace.{has_trap}
 use Rattle.image_codec.specs.Spelling.{spelling}
 use Rattle.image_codec.proofs.SomeImage.{spell_or_fail}
 use Rattle.osek_io.specs.Files.{Files}
 use Rattle.commands.specs.Due.{RunDue, no_mode, no_events, ends, ImageDue, no_image, bad_image, is_read, ImageRuns, IsTold, Upgrades, upgrade_end, TextsDue, no_oil, bad_oil, no_code, bad_code, goes_on, IsBuilt, IsDue}
-use Rattle.commands.specs.GeneratedFiles.{oil_name, code_name, events_name, default_mode, generated_files}
-use Rattle.commands.specs.Laws.{HoldBytes}
+use Rattle.commands.specs.{GeneratedFiles.{oil_name, code_name, events_name, default_mode, generated_files}, Laws.{HoldBytes}}
 use Rattle.command_runs.specs.Running.{mode_named}
-use Rattle.commands.specs.Tracing.{never}
-use Rattle.commands.specs.Words.{Command, Build, Replay, Trace, Show, Info, Gen, Upgrade}
+use Rattle.commands.specs.{Tracing.{never}, Words.{Command, Build, Replay, Trace, Show, Info, Gen, Upgrade}}
 use Rattle.command_runs.specs.declared.stop.Stop.{Stop}
 
 module _ (files : Files) where

@@ -1,23 +1,15 @@
 -- An image that is upgraded is replayed as it was before.
 use Rattle.std.proofs.Common.{◌≡◌, ℕ, List, Bool, refl, sym, subst}
 use Rattle.std.specs.declared.result.Result.{Result}
-use Rattle.osek_values.specs.declared.event.Event.{Event}
-use Rattle.osek_values.specs.declared.numbers.ModeNo.{ModeNo}
+use Rattle.osek_values.specs.declared.{event.Event.{Event}, numbers.ModeNo.{ModeNo}}
 use Rattle.osek_standard.specs.declared.app.App.{App}
-use Rattle.image_model.specs.declared.image.Image.{Image}
-use Rattle.image_model.specs.ImageTrace.{has_trap, image_trace}
-use Rattle.image_model.specs.Upgrades.{IsUpgraded}
+use Rattle.image_model.specs.{declared.image.Image.{Image}, ImageTrace.{has_trap, image_trace}, Upgrades.{IsUpgraded}}
 use Rattle.image_model.proofs.UpgradedRuns.{runs_as_before}
-use Rattle.image_codec.specs.Fits.{FitsParts, FitsFormat}
-use Rattle.image_codec.specs.Spelling.{spelling}
+use Rattle.image_codec.specs.{Fits.{FitsParts, FitsFormat}, Spelling.{spelling}}
 use Rattle.osek_io.specs.Files.{Files}
-use Rattle.command_runs.specs.Replaying.{SpellImage}
-use Rattle.command_runs.specs.Running.{whole_run}
-use Rattle.command_runs.specs.declared.stop.Stop.{Stop}
-use Rattle.commands.specs.Due.{RunDue, no_image, bad_image, is_read, ImageRuns}
-use Rattle.commands.specs.Laws.{WhatIsUpgradedReplays, WhatIsUpgradedPrintsTheSame}
-use Rattle.commands.proofs.OneDue.{same_found, not_found, same_image, no_image_fault}
-use Rattle.commands.proofs.SmallImages.{small}
+use Rattle.command_runs.specs.{Replaying.{SpellImage}, Running.{whole_run}, declared.stop.Stop.{Stop}}
+use Rattle.commands.specs.{Due.{RunDue, no_image, bad_image, is_read, ImageRuns}, Laws.{WhatIsUpgradedReplays, WhatIsUpgradedPrintsTheSame}}
+use Rattle.commands.proofs.{OneDue.{same_found, not_found, same_image, no_image_fault}, SmallImages.{small}}
 
 module _ (i j : Image) (upgraded : IsUpgraded i j) where
   same_traps : has_trap j ≡ has_trap i

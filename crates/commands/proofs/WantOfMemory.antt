@@ -5,8 +5,7 @@ use Rattle.commands.specs.Answering.{CommandAnswers}
 use Rattle.commands.specs.Building as building
 use Rattle.commands.specs.Generating as generating
 use Rattle.commands.specs.Informing as informing
-use Rattle.command_runs.specs.Inputs.{no_memory}
-use Rattle.command_runs.specs.Outside.{Outside}
+use Rattle.command_runs.specs.{Inputs.{no_memory}, Outside.{Outside}}
 use Rattle.command_runs.specs.Replaying as replaying
 use Rattle.commands.specs.Showing as showing
 use Rattle.commands.specs.Tracing as tracing

@@ -3,18 +3,11 @@ use Rattle.std.specs.Prelude.{◌≡◌, ◌⊎◌, ℕ, List, Option, Some, Non
 use Rattle.osek_io.specs.{Counts.{Rose}, Files.{Files}, Sunk.{Sunk, Writes}}
 use Rattle.command_runs.specs.declared.stop.Stop.{Stop}
 use Rattle.command_runs.specs.declared.stop.Stop.TheVariants as stop
-use Rattle.commands.specs.Building.{BuildAnswers}
-use Rattle.commands.specs.Due.{IsCalm, IsDue}
-use Rattle.commands.specs.Generating.{GenAnswers}
-use Rattle.commands.specs.Informing.{InfoAnswers}
-use Rattle.command_runs.specs.Outside.{Outside, SameFiles}
-use Rattle.command_runs.specs.Replaying.{ReplayAnswers}
-use Rattle.commands.specs.Showing.{ShowAnswers}
-use Rattle.commands.specs.Statuses.{status_of, text_due}
-use Rattle.command_runs.specs.Telling.{Breaks}
-use Rattle.command_runs.specs.Upgrading.{UpgradeAnswers}
-use Rattle.commands.specs.Tracing.{TraceAnswers}
-use Rattle.commands.specs.Words.{Command, Build, Replay, Trace, Show, Info, Gen, Upgrade}
+use Rattle.commands.specs.{Building.{BuildAnswers}, Due.{IsCalm, IsDue}, Generating.{GenAnswers}, Informing.{InfoAnswers}}
+use Rattle.command_runs.specs.{Outside.{Outside, SameFiles}, Replaying.{ReplayAnswers}}
+use Rattle.commands.specs.{Showing.{ShowAnswers}, Statuses.{status_of, text_due}}
+use Rattle.command_runs.specs.{Telling.{Breaks}, Upgrading.{UpgradeAnswers}}
+use Rattle.commands.specs.{Tracing.{TraceAnswers}, Words.{Command, Build, Replay, Trace, Show, Info, Gen, Upgrade}}
 
 -- err gained the text, no write on it failed, and the status is as given; or one failed: it gained a prefix, and the status is 6
 abbrev pub Tells : (err err_after : Sunk) → (text : List ℕ) → (status answered : ℕ) → Type 0

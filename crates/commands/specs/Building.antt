@@ -4,10 +4,8 @@ use Rattle.osek_standard.specs.declared.app.App.{App}
 use Rattle.image_model.specs.declared.image.Image.{Image}
 use Rattle.image_codec.specs.Spelling.{spelling}
 use Rattle.osek_io.specs.{Counts.{Rose}, Files.{with_file}, Stored.{StoresProperPrefix}}
-use Rattle.commands.specs.Compiling.{OfApp, CompileStops}
-use Rattle.commands.specs.Fitting.{IsFitted}
-use Rattle.command_runs.specs.Outside.{Outside, SameFiles}
-use Rattle.command_runs.specs.declared.stop.Stop.{Stop}
+use Rattle.commands.specs.{Compiling.{OfApp, CompileStops}, Fitting.{IsFitted}}
+use Rattle.command_runs.specs.{Outside.{Outside, SameFiles}, declared.stop.Stop.{Stop}}
 use Rattle.command_runs.specs.declared.stop.Stop.TheVariants as stop
 
 -- the bytes of the image that is fitted to the application

@@ -2,11 +2,9 @@
 use Rattle.std.specs.Prelude.{◌⊎◌, ℕ, List, Option}
 use Rattle.osek_standard.specs.declared.app.App.{App}
 use Rattle.oil_system.specs.declared.system.System.{System}
-use Rattle.front_end.specs.Texts.{DeclaresSystem, GivesApp}
-use Rattle.front_end.specs.Answers.{IsOilRefusal, IsCodeRefusal}
+use Rattle.front_end.specs.{Texts.{DeclaresSystem, GivesApp}, Answers.{IsOilRefusal, IsCodeRefusal}}
 use Rattle.osek_io.specs.Files.{Files}
-use Rattle.command_runs.specs.Inputs.{OfFile, InputStops}
-use Rattle.command_runs.specs.Outside.{Told}
+use Rattle.command_runs.specs.{Inputs.{OfFile, InputStops}, Outside.{Told}}
 use Rattle.command_runs.specs.declared.stop.Input.TheVariants as input
 use Rattle.command_runs.specs.declared.stop.Stop.{Stop}
 use Rattle.command_runs.specs.declared.stop.Stop.TheVariants as stop

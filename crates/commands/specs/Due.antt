@@ -1,27 +1,19 @@
 -- Which answer is due over files that the shelf tells, where no read or write fails and memory suffices: the first cause
 -- in the order in which a command reads and judges its inputs.
-use Rattle.std.specs.Prelude.{◌≡◌, ℕ, Bool, List, Option, Some, None, Result, Ok, Err}
-use Rattle.std.specs.FinMap.{get}
-use Rattle.osek_values.specs.declared.event.Event.{Event}
-use Rattle.osek_values.specs.declared.numbers.ModeNo.{ModeNo}
-use Rattle.osek_values.specs.declared.refusal.Refusal.{Refusal}
+use Rattle.std.specs.{Prelude.{◌≡◌, ℕ, Bool, List, Option, Some, None, Result, Ok, Err}, FinMap.{get}}
+use Rattle.osek_values.specs.declared.{event.Event.{Event}, numbers.ModeNo.{ModeNo}, refusal.Refusal.{Refusal}}
 use Rattle.osek_standard.specs.declared.app.App.{App}
 use Rattle.oil_system.specs.declared.system.System.{System}
-use Rattle.front_end.specs.Texts.{DeclaresSystem, GivesApp}
-use Rattle.front_end.specs.Answers.{IsOilRefusal, IsCodeRefusal}
+use Rattle.front_end.specs.{Texts.{DeclaresSystem, GivesApp}, Answers.{IsOilRefusal, IsCodeRefusal}}
 use Rattle.image_model.specs.declared.image.{Image.{Image}, Version.{Version}}
 use Rattle.image_model.specs.declared.image.Version.TheVariants as version
 use Rattle.image_codec.specs.declared.fault.ImageFault.{ImageFault}
 use Rattle.image_model.specs.ImageTrace.{has_trap}
 use Rattle.trace_text.specs.EventText.{read_text}
-use Rattle.osek_io.specs.Counts.{Rose}
-use Rattle.osek_io.specs.Files.{Files}
+use Rattle.osek_io.specs.{Counts.{Rose}, Files.{Files}}
 use Rattle.commands.specs.GeneratedFiles.{oil_name, code_name, events_name, default_mode, generated_files}
-use Rattle.command_runs.specs.Outside.{Outside}
-use Rattle.command_runs.specs.Replaying.{SpellImage, IsImageFault}
-use Rattle.command_runs.specs.Running.{mode_named, end_of}
-use Rattle.commands.specs.Tracing.{never}
-use Rattle.commands.specs.Words.{Command, Build, Replay, Trace, Show, Info, Gen, Upgrade}
+use Rattle.command_runs.specs.{Outside.{Outside}, Replaying.{SpellImage, IsImageFault}, Running.{mode_named, end_of}}
+use Rattle.commands.specs.{Tracing.{never}, Words.{Command, Build, Replay, Trace, Show, Info, Gen, Upgrade}}
 use Rattle.command_runs.specs.declared.stop.{Input.TheVariants.{Oil, Code, Image as image_file, Events}, Stop.{Stop}}
 use Rattle.command_runs.specs.declared.stop.Stop.TheVariants as stop
 

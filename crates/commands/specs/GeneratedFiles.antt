@@ -1,8 +1,6 @@
 -- The texts of a generated system as files in memory, and the mode in which it runs.
-use Rattle.std.specs.Prelude.{ℕ, List, codes}
-use Rattle.std.specs.FinMap.{empty, insert}
-use Rattle.osek_vectors.specs.declared.generated.Generated.{Generated}
-use Rattle.osek_vectors.specs.GeneratedTexts.{generated_texts}
+use Rattle.std.specs.{Prelude.{ℕ, List, codes}, FinMap.{empty, insert}}
+use Rattle.osek_vectors.specs.{declared.generated.Generated.{Generated}, GeneratedTexts.{generated_texts}}
 use Rattle.osek_io.specs.Files.{Files}
 use Rattle.command_runs.specs.declared.stop.Stop.{Stop}
 use Rattle.command_runs.specs.declared.stop.Stop.TheVariants as stop

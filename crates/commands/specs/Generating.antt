@@ -1,24 +1,16 @@
 -- The answers of `gen`, each with its cause and what it leaves.
 use Rattle.std.specs.Prelude.{◌≡◌, ℕ, List, Option, Some, None, Result, Err}
 use Rattle.osek_values.specs.declared.numbers.ModeNo.{ModeNo}
-use Rattle.osek_standard.specs.declared.app.App.{App}
-use Rattle.osek_standard.specs.TraceText.{kernel_trace}
+use Rattle.osek_standard.specs.{declared.app.App.{App}, TraceText.{kernel_trace}}
 use Rattle.image_model.specs.declared.image.Image.{Image}
-use Rattle.abstract_state.specs.declared.table.PlainTable.{PlainTable}
-use Rattle.abstract_state.specs.{Forms.{HasDictatedForms}, Tables.{sets_of, value_count}}
+use Rattle.abstract_state.specs.{declared.table.PlainTable.{PlainTable}, Forms.{HasDictatedForms}, Tables.{sets_of, value_count}}
 use Rattle.trace_text.specs.EventText.{read_text}
 use Rattle.osek_io.specs.Files.{Files}
-use Rattle.flow_text.specs.declared.gen_line.AnalysisCounts.{AnalysisCounts}
-use Rattle.flow_text.specs.GeneratedLine.{analysis_counts, text_size, gen_line}
-use Rattle.commands.specs.Compiling.{OfApp}
-use Rattle.commands.specs.Due.{GenDue}
-use Rattle.commands.specs.Fitting.{IsLeastTable}
-use Rattle.commands.specs.GeneratedFiles.{oil_name, code_name, events_name, default_mode, generated_files}
-use Rattle.command_runs.specs.Inputs.{OfFile}
-use Rattle.command_runs.specs.Outside.{Outside}
+use Rattle.flow_text.specs.{declared.gen_line.AnalysisCounts.{AnalysisCounts}, GeneratedLine.{analysis_counts, text_size, gen_line}}
+use Rattle.commands.specs.{Compiling.{OfApp}, Due.{GenDue}, Fitting.{IsLeastTable}, GeneratedFiles.{oil_name, code_name, events_name, default_mode, generated_files}}
+use Rattle.command_runs.specs.{Inputs.{OfFile}, Outside.{Outside}}
 use Rattle.commands.specs.Printing.{PrintAnswers}
-use Rattle.command_runs.specs.Running.{mode_named}
-use Rattle.command_runs.specs.declared.stop.Stop.{Stop}
+use Rattle.command_runs.specs.{Running.{mode_named}, declared.stop.Stop.{Stop}}
 use Rattle.command_runs.specs.declared.stop.Stop.TheVariants as stop
 
 -- what the least table of an application counts, and the forms that it dictates

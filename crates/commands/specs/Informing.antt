@@ -3,8 +3,7 @@ use Rattle.std.specs.Prelude.{◌≡◌, ℕ, List, Result, Err}
 use Rattle.flow_text.specs.Texts.{info_text}
 use Rattle.command_runs.specs.Outside.{Outside}
 use Rattle.commands.specs.Printing.{PrintAnswers}
-use Rattle.command_runs.specs.Replaying.{OfImage, ImageStops}
-use Rattle.command_runs.specs.declared.stop.Stop.{Stop}
+use Rattle.command_runs.specs.{Replaying.{OfImage, ImageStops}, declared.stop.Stop.{Stop}}
 
 -- `info` stops at the image and prints nothing, or prints its counts and its forms.
 pub data InfoAnswers (before after : Outside) (image : List ℕ) : Result (Unit {0}) Stop → Type 0 where

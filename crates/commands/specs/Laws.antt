@@ -1,22 +1,17 @@
 -- What holds of the answers that are due, of what is built and then replayed, and of what is upgraded.
-use Rattle.std.specs.Prelude.{◌≡◌, ◌<◌, ℕ, List, length, Option, Some, None, Result, Ok}
-use Rattle.std.specs.FinMap.{get}
+use Rattle.std.specs.{Prelude.{◌≡◌, ◌<◌, ℕ, List, length, Option, Some, None, Result, Ok}, FinMap.{get}}
 use Rattle.osek_values.specs.declared.numbers.ModeNo.{ModeNo}
-use Rattle.osek_standard.specs.declared.app.App.{App}
-use Rattle.osek_standard.specs.TraceText.{kernel_trace}
+use Rattle.osek_standard.specs.{declared.app.App.{App}, TraceText.{kernel_trace}}
 use Rattle.oil_system.specs.declared.system.System.{System}
 use Rattle.front_end.specs.Texts.{DeclaresSystem, GivesApp}
 use Rattle.image_model.specs.declared.image.Image.{Image}
 use Rattle.image_codec.specs.Spelling.{spelling}
-use Rattle.image_model.specs.ImageTrace.{image_trace, has_trap}
-use Rattle.image_model.specs.Upgrades.{IsUpgraded}
+use Rattle.image_model.specs.{ImageTrace.{image_trace, has_trap}, Upgrades.{IsUpgraded}}
 use Rattle.image_codec.specs.Reading.{AreBytes}
 use Rattle.trace_text.specs.EventText.{read_text}
 use Rattle.osek_io.specs.Files.{Files}
-use Rattle.commands.specs.Fitting.{IsKernelImage, IsFitted}
-use Rattle.commands.specs.Due.{ImageDue, ImageRuns, IsDue}
-use Rattle.command_runs.specs.Replaying.{SpellImage}
-use Rattle.command_runs.specs.Running.{mode_named, whole_run}
+use Rattle.commands.specs.{Fitting.{IsKernelImage, IsFitted}, Due.{ImageDue, ImageRuns, IsDue}}
+use Rattle.command_runs.specs.{Replaying.{SpellImage}, Running.{mode_named, whole_run}}
 use Rattle.commands.specs.Words.{Command}
 use Rattle.command_runs.specs.declared.stop.Stop.{Stop}
 

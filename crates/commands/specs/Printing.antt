@@ -1,9 +1,7 @@
 -- A text that is printed line by line.
 use Rattle.std.specs.Prelude.{◌≡◌, ◌⊎◌, List, ℕ, Result, Ok, Err}
 use Rattle.osek_io.specs.Sunk.{Sunk}
-use Rattle.command_runs.specs.Outside.{Outside}
-use Rattle.command_runs.specs.Playing.{played, PlayAnswers}
-use Rattle.command_runs.specs.declared.stop.Stop.{Stop}
+use Rattle.command_runs.specs.{Outside.{Outside}, Playing.{played, PlayAnswers}, declared.stop.Stop.{Stop}}
 use Rattle.command_runs.specs.declared.stop.Stop.TheVariants as stop
 
 -- all of the text was printed, or a prefix of it where a write failed; or nothing, as memory ran out

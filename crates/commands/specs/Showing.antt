@@ -1,14 +1,11 @@
 -- The answers of `show`, each with its cause and what it leaves.
 use Rattle.std.specs.Prelude.{◌≡◌, ◌↔◌, ℕ, List, Contains, Result, Err}
 use Rattle.osek_standard.specs.declared.{app.App.{App}, point.Point.{Point}}
-use Rattle.abstract_state.specs.declared.table.PlainTable.{PlainTable}
-use Rattle.abstract_state.specs.{Forms.{HasDictatedForms, Edge}, Tables.{sets_of, value_count}}
-use Rattle.abstract_state.specs.declared.edge.FlowEdge.{FlowEdge}
+use Rattle.abstract_state.specs.{declared.{table.PlainTable.{PlainTable}, edge.FlowEdge.{FlowEdge}}, Forms.{HasDictatedForms, Edge}, Tables.{sets_of, value_count}}
 use Rattle.abstract_state.specs.Edges.{flow_edge}
 use Rattle.global_cfg.specs.Edges.{AreAscending}
 use Rattle.flow_text.specs.Texts.{show_text}
-use Rattle.commands.specs.Compiling.{OfApp, CompileStops}
-use Rattle.commands.specs.Fitting.{IsLeastTable}
+use Rattle.commands.specs.{Compiling.{OfApp, CompileStops}, Fitting.{IsLeastTable}}
 use Rattle.command_runs.specs.Outside.{Outside}
 use Rattle.commands.specs.Printing.{PrintAnswers}
 use Rattle.command_runs.specs.declared.stop.Stop.{Stop}

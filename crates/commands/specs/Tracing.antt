@@ -1,12 +1,9 @@
 -- The answers of `trace`, each with its cause and what it leaves.
 use Rattle.std.specs.Prelude.{◌≡◌, ℕ, Bool, false, List, Result, Err}
-use Rattle.osek_values.specs.declared.event.Event.{Event}
-use Rattle.osek_values.specs.declared.numbers.ModeNo.{ModeNo}
+use Rattle.osek_values.specs.declared.{event.Event.{Event}, numbers.ModeNo.{ModeNo}}
 use Rattle.osek_standard.specs.TraceText.{kernel_trace}
 use Rattle.commands.specs.Compiling.{OfApp, CompileStops}
-use Rattle.command_runs.specs.Outside.{Outside}
-use Rattle.command_runs.specs.Running.{RunAnswers}
-use Rattle.command_runs.specs.declared.stop.Stop.{Stop}
+use Rattle.command_runs.specs.{Outside.{Outside}, Running.{RunAnswers}, declared.stop.Stop.{Stop}}
 
 -- the kernel never traps
 abbrev pub never : ModeNo → List Event → Bool

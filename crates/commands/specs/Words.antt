@@ -1,9 +1,7 @@
 -- The stated forms of the words (this project's profile).
-use Rattle.std.specs.Prelude.{ℕ, List, [], ◌∷◌, Option, Some, None, if◌then◌else◌, codes}
-use Rattle.std.specs.Str.{bytes_eq}
-use Rattle.command_words.specs.Forms.{is_form}
-use Rattle.command_words.specs.Numerals.{seed_of, tasks_of}
-use Rattle.command_runs.specs.declared.stop.{Input.{Input}, Input.TheVariants.{Oil, Code, Image, Events}}
+use Rattle.std.specs.{Prelude.{ℕ, List, [], ◌∷◌, Option, Some, None, if◌then◌else◌, codes}, Str.{bytes_eq}}
+use Rattle.command_words.specs.{Forms.{is_form}, Numerals.{seed_of, tasks_of}}
+use Rattle.command_runs.specs.declared.stop.Input.{Input, TheVariants.{Oil, Code, Image, Events}}
 
 pub data Command : Type 0 where
   Build : (oil code image : List ℕ) → Command

@@ -1,8 +1,7 @@
 //! The command `build`: the image of an application.
 ghost use Rattle.std.specs.Prelude.{IfOk};
 ghost use Rattle.osek_standard.specs.Versions.{FitsVersion1};
-ghost use Rattle.commands.specs.Building.{BuildAnswers, SpellsFitted};
-ghost use Rattle.commands.specs.Fitting.{IsFitted};
+ghost use Rattle.commands.specs.{Building.{BuildAnswers, SpellsFitted}, Fitting.{IsFitted}};
 ghost use Rattle.osek_io.specs.Sunk.{Sunk};
 ghost use Rattle.command_runs.specs.Outside.{beside, told};
 

@@ -1,12 +1,10 @@
 //! From the OIL text and the task code in two files to an application.
 ghost use Rattle.std.specs.Prelude.{◌≡◌, IfOk, IfErr, OnOk};
 ghost use Rattle.oil_model.specs.Linkable.{IsLinkable};
-ghost use Rattle.osek_io.specs.Counts.{Same};
-ghost use Rattle.osek_io.specs.Reads.{OnlyReads};
+ghost use Rattle.osek_io.specs.{Counts.{Same}, Reads.{OnlyReads}};
 ghost use Rattle.osek_standard.specs.Versions.{FitsVersion1};
 ghost use Rattle.front_end.specs.Texts.{DeclaresSystem, GivesApp};
-ghost use Rattle.command_runs.specs.Inputs.{OfFile};
-ghost use Rattle.command_runs.specs.Outside.{told};
+ghost use Rattle.command_runs.specs.{Inputs.{OfFile}, Outside.{told}};
 ghost use Rattle.commands.specs.Compiling.{OfApp, SystemStops, CodeStops, CompileStops};
 
 use command_runs::{Input, Stop, load_input};

@@ -1,7 +1,6 @@
 //! The command `show`: what the least table of an application dictates.
 ghost use Rattle.std.specs.Prelude.{◌≡◌, ◌≤◌, All, length, IfOk, OnOk, OnErr};
-ghost use Rattle.osek_standard.specs.Points.{IsPoint};
-ghost use Rattle.osek_standard.specs.Versions.{FitsVersion1};
+ghost use Rattle.osek_standard.specs.{Points.{IsPoint}, Versions.{FitsVersion1}};
 ghost use Rattle.abstract_state.specs.declared.edge.FlowEdge.{FlowEdge as AnEdge};
 ghost use Rattle.osek_io.specs.Reads.{OnlyReads};
 ghost use Rattle.flow_text.specs.Texts.{show_text};
@@ -9,8 +8,7 @@ ghost use Rattle.commands.specs.Fitting.{IsLeastTable};
 ghost use Rattle.command_runs.specs.Outside.{outside};
 ghost use Rattle.osek_io.specs.Sunk.{sunk};
 ghost use Rattle.command_runs.specs.Playing.{given, Puts, PutsPrefix};
-ghost use Rattle.commands.specs.Printing.{PrintsWhole};
-ghost use Rattle.commands.specs.Showing.{IsDictated, ShowAnswers};
+ghost use Rattle.commands.specs.{Printing.{PrintsWhole}, Showing.{IsDictated, ShowAnswers}};
 
 use crate::compiling::compile;
 use crate::fitting::{fitted, least_table};

@@ -1,11 +1,7 @@
 //! The answer of a command: its text on err, and its status.
 ghost use Rattle.std.specs.Prelude.{◌≡◌, ◌++◌, OnOk, OnErr, option_map, codes};
-ghost use Rattle.osek_io.specs.Counts.{Rose};
-ghost use Rattle.osek_io.specs.Pieces.{grown};
-ghost use Rattle.osek_io.specs.Sunk.{sunk};
-ghost use Rattle.commands.specs.Answering.{Tells};
-ghost use Rattle.commands.specs.Seen.{seen};
-ghost use Rattle.commands.specs.Statuses.{stop_status, stop_text, names_of, output_of, mode_of, text_input as the_text_input};
+ghost use Rattle.osek_io.specs.{Counts.{Rose}, Pieces.{grown}, Sunk.{sunk}};
+ghost use Rattle.commands.specs.{Answering.{Tells}, Seen.{seen}, Statuses.{stop_status, stop_text, names_of, output_of, mode_of, text_input as the_text_input}};
 ghost use Rattle.command_runs.specs.Telling.{WritesPrefix, fault_text};
 
 use crate::words::{Command, input_name, mode_name, output_name};

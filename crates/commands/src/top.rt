@@ -1,11 +1,9 @@
 //! The top call: the words of the command line, carried out over a shelf and two sinks.
-ghost use Rattle.std.specs.Prelude.{map, option_map, Some};
-ghost use Rattle.std.specs.String.{string_bytes};
+ghost use Rattle.std.specs.{Prelude.{map, option_map, Some}, String.{string_bytes}};
 ghost use Rattle.osek_io.specs.Sunk.{sunk};
 ghost use Rattle.commands.specs.Answering.{Carries, CommandAnswers, IsExact};
 ghost use Rattle.command_runs.specs.Outside.{outside};
-ghost use Rattle.commands.specs.Seen.{seen};
-ghost use Rattle.commands.specs.Words.{command_of};
+ghost use Rattle.commands.specs.{Seen.{seen}, Words.{command_of}};
 
 use crate::building::build;
 use crate::generating::generate_and_run;

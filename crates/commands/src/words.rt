@@ -1,9 +1,6 @@
 //! The words of the command line.
-ghost use Rattle.std.specs.Prelude.{◌≡◌, ◌∷◌, [], ℕ, List, IfOk, map, option_map};
-ghost use Rattle.std.specs.Borrow.{Bor};
-ghost use Rattle.std.specs.String.{string_bytes};
-ghost use Rattle.commands.specs.Words.{command_of, gen_of as the_gen_of, command_of_words as the_command_of_words, input_name, output_name, mode_name};
-ghost use Rattle.commands.specs.Seen.{seen};
+ghost use Rattle.std.specs.{Prelude.{◌≡◌, ◌∷◌, [], ℕ, List, IfOk, map, option_map}, Borrow.{Bor}, String.{string_bytes}};
+ghost use Rattle.commands.specs.{Words.{command_of, gen_of as the_gen_of, command_of_words as the_command_of_words, input_name, output_name, mode_name}, Seen.{seen}};
 
 use command_runs::Input;
 use command_words::{has_form, parse_words, seed_of, tasks_of};

@@ -1,9 +1,6 @@
 -- The answer of a query as a status and a value.
-use Rattle.std.specs.Prelude.{ℕ, Ok, Err, Some, None}
-use Rattle.std.specs.declared.option.Option.{Option}
-use Rattle.std.specs.declared.result.Result.{Result}
-use Rattle.osek_values.specs.declared.mask.Mask.{Mask}
-use Rattle.osek_values.specs.declared.status.Status.{Status}
+use Rattle.std.specs.{Prelude.{ℕ, Ok, Err, Some, None}, declared.{option.Option.{Option}, result.Result.{Result}}}
+use Rattle.osek_values.specs.declared.{mask.Mask.{Mask}, status.Status.{Status}}
 use Rattle.osek_values.specs.declared.status.Status.TheVariants as status
 use Rattle.osek_values.specs.declared.notes.Value.{Value}
 use Rattle.osek_values.specs.declared.notes.Value.TheVariants as value

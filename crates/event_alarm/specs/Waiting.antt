@@ -1,9 +1,6 @@
 -- Where a task calls WaitEvent.
 use Rattle.std.specs.Prelude.{⊤}
-use Rattle.osek_standard.specs.declared.app.App.{App}
-use Rattle.osek_standard.specs.declared.state.{State.{State}, Caller.{Caller}, Caller.TheVariants.{Nobody, Task, Routine}}
-use Rattle.osek_standard.specs.Apps.{the_block}
-use Rattle.osek_standard.specs.States.{here}
+use Rattle.osek_standard.specs.{declared.{app.App.{App}, state.{State.{State}, Caller.{Caller, TheVariants.{Nobody, Task, Routine}}}}, Apps.{the_block}, States.{here}}
 use Rattle.osek_standard.specs.Well.{IsWaitEvent}
 
 -- a task that calls stands at a WaitEvent block

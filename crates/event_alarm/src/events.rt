@@ -1,11 +1,9 @@
 //! The services on events.
 ghost use Rattle.std.specs.Prelude.{◌≡◌, ◌<◌, length, Some, None};
-ghost use Rattle.osek_standard.specs.Apps.{awaited as awaited_at};
-ghost use Rattle.osek_standard.specs.States.{caller};
+ghost use Rattle.osek_standard.specs.{Apps.{awaited as awaited_at}, States.{caller}};
 ghost use Rattle.osek_standard.specs.Services.{answer, set_event as set_event_row, clear_event as clear_event_row, get_event as get_event_row, wait_event as wait_event_row};
 ghost use Rattle.osek_standard.specs.Well.{Well, IsActive};
-ghost use Rattle.event_alarm.specs.Answers.{status_of, mask_of};
-ghost use Rattle.event_alarm.specs.Waiting.{StandsAtWaitEvent};
+ghost use Rattle.event_alarm.specs.{Answers.{status_of, mask_of}, Waiting.{StandsAtWaitEvent}};
 
 use osek_standard::{
     Activity, App, Call, Caller, Kind, MaskService, Place, Processor, Standing, State,

@@ -1,7 +1,6 @@
 //! Joins of sets and entries.
 ghost use Rattle.std.specs.Prelude.{◌≡◌, ◌≤◌, length, IfOk};
-ghost use Rattle.abstract_state.specs.ValueOrder.{IsAscending};
-ghost use Rattle.abstract_state.specs.Tables.{entry_values, AreAscending};
+ghost use Rattle.abstract_state.specs.{ValueOrder.{IsAscending}, Tables.{entry_values, AreAscending}};
 
 use abstract_state::{Domain, LiveVal, PartValue, PlainEntry, Val, ValueSet};
 use osek_values::{BlockNo, Held, Memory, ResNo, Seq};

@@ -1,7 +1,6 @@
 //! Lines that are printed of a worked application and of its images.
 ghost use Rattle.std.specs.Prelude.{◌≡◌, ◌<◌, ◌≤◌, length, IfOk, IfSome};
-ghost use Rattle.osek_standard.specs.Points.{IsPoint};
-ghost use Rattle.osek_standard.specs.Versions.{FitsVersion1};
+ghost use Rattle.osek_standard.specs.{Points.{IsPoint}, Versions.{FitsVersion1}};
 ghost use Rattle.image_model.specs.Sites.{IsForm};
 
 use abstract_state::{FlowEdge, Point};

@@ -2,17 +2,16 @@
 ghost use Rattle.std.specs.Prelude.{◌≡◌, ◌<◌, IfOk};
 ghost use Rattle.osek_standard.specs.Well.{Well};
 ghost use Rattle.abstract_state.specs.Domains.{domains as domains_of_entry};
-ghost use Rattle.state_flow.specs.Rows.{IsProperRow};
+ghost use Rattle.flow_rules.specs.Rows.{IsProperRow};
 
 use abstract_state::{Domain, PlainEntry, TableRow};
 use flow_model::{Decision, Rule};
-use flow_rules::{apply, rules};
+use flow_rules::{apply, rules, row_of};
 use front_end::{TextError, read_app, read_system};
 use generic_kernel::{Ready, start, step};
 use numbered_sets::{Pool, numbered};
 use osek_standard::{App, State};
 use osek_values::{Event, Memory, ModeNo, Steps, TaskNo};
-use state_flow::row_of;
 use std::alloc::Global;
 use std::marker::Brand;
 use std::sync::ledger::{Blank, Ledger};

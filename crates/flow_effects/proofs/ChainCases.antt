@@ -1,23 +1,17 @@
 -- The cases of ChainTask are its effects.
 use Rattle.std.proofs.Common.{◌≡◌, ℕ, ◌<◌, Bool, true, false, not, ◌&&◌, nat_eq, List, [], ◌∷◌, ◌++◌, length, refl, sym, ap, subst, ◌∙◌, inl, inr, arith, Some, None, IsTrue}
 use Rattle.std.specs.Prelude.{◌==◌}
-use Rattle.std.proofs.lemmas.Bool.{cases_Bool}
-use Rattle.std.proofs.Math.ListN.{length-set}
+use Rattle.std.proofs.{lemmas.Bool.{cases_Bool}, Math.ListN.{length-set}}
 use Rattle.osek_values.specs.declared.numbers.{TaskNo.{TaskNo}, BlockNo.{BlockNo}, SourceNo.{SourceNo}}
 use Rattle.osek_values.specs.declared.status.Status.TheVariants as status
 use Rattle.osek_values.specs.declared.status.Ask.TheVariants as ask
-use Rattle.osek_standard.specs.declared.app.App.{App}
-use Rattle.osek_standard.specs.declared.block.Kind.{Kind}
+use Rattle.osek_standard.specs.declared.{app.App.{App}, block.Kind.{Kind}}
 use Rattle.osek_standard.specs.declared.block.Kind.TheVariants as kind
 use Rattle.flow_effects.specs.CallNames as call
-use Rattle.osek_standard.specs.declared.state.{State.{State}, Caller.{Caller}, Caller.TheVariants.{Task, Routine}}
+use Rattle.osek_standard.specs.declared.state.{State.{State}, Caller.{Caller, TheVariants.{Task, Routine}}}
 use Rattle.osek_standard.specs.declared.task_state.Activity.TheVariants as activity
-use Rattle.osek_standard.specs.Apps.{the_block, tables}
-use Rattle.osek_standard.specs.Validity.{NamesEntries}
-use Rattle.osek_standard.specs.TaskStates.{is_suspended}
-use Rattle.osek_standard.specs.States.{task_state, caller}
-use Rattle.osek_standard.specs.Services.{unnoted, refused, left, ended, activated, holds_some, is_full, chain_task}
-use Rattle.osek_standard.specs.Effects.{place_at, moved_to}
+use Rattle.osek_standard.specs.{Apps.{the_block, tables}, Validity.{NamesEntries}, TaskStates.{is_suspended}, States.{task_state, caller}}
+use Rattle.osek_standard.specs.{Services.{unnoted, refused, left, ended, activated, holds_some, is_full, chain_task}, Effects.{place_at, moved_to}}
 use Rattle.abstract_state.specs.Components.{component_count, abstract_of}
 use Rattle.flow_model.specs.declared.case.EffectCase.{EffectCase}
 use Rattle.flow_model.specs.declared.case.Asked.TheVariants as asked
@@ -25,24 +19,14 @@ use Rattle.flow_model.specs.declared.test.{Test.{Test}, Condition.{Condition}}
 use Rattle.flow_model.specs.declared.test.Test.TheVariants as test
 use Rattle.flow_model.specs.declared.runner.Runner.{Runner}
 use Rattle.flow_model.specs.declared.runner.Runner.TheVariants as runner
-use Rattle.flow_model.specs.Changes.{activating}
-use Rattle.flow_model.specs.Tests.{passes, PassesAll, value_after}
-use Rattle.flow_model.specs.Runners.{Stands, OwnsBlock, runner_point}
-use Rattle.flow_model.specs.Effects.{HasEffect, AreCasesOf}
+use Rattle.flow_model.specs.{Changes.{activating}, Tests.{passes, PassesAll, value_after}, Runners.{Stands, OwnsBlock, runner_point}, Effects.{HasEffect, AreCasesOf}}
 use Rattle.flow_model.specs.Cases.{goes_on}
-use Rattle.flow_model.proofs.Activations.{activated_parts, activating_sets}
-use Rattle.flow_model.proofs.ChangeLaws.{each_passes, passes_each, sets_first}
-use Rattle.flow_model.proofs.Standing.{next_owned, task_calls, routine_calls}
-use Rattle.flow_model.proofs.Moves.{moved_suspended, went_on}
-use Rattle.flow_model.proofs.Calls.{asked_none, call_goes_on, call_has}
-use Rattle.flow_effects.specs.Conditions.{of_task}
-use Rattle.flow_effects.specs.TaskEnds.{suspends, refused_holding, chains, holding_nothing, chain_to_itself, chain_to_another, chain_cases}
+use Rattle.flow_model.proofs.{Activations.{activated_parts, activating_sets}, ChangeLaws.{each_passes, passes_each, sets_first}, Standing.{next_owned, task_calls, routine_calls}}
+use Rattle.flow_model.proofs.{Moves.{moved_suspended, went_on}, Calls.{asked_none, call_goes_on, call_has}}
+use Rattle.flow_effects.specs.{Conditions.{of_task}, TaskEnds.{suspends, refused_holding, chains, holding_nothing, chain_to_itself, chain_to_another, chain_cases}}
 use Rattle.flow_effects.proofs.Listed.{IsEffect, IsTaken, are_cases, more_listed, one_listed}
-use Rattle.flow_services.proofs.Seeing.{tests_suspended, tests_not_suspended}
-use Rattle.flow_services.proofs.ServiceListing.{operands_of}
-use Rattle.flow_effects.proofs.TaskValues.{counted, passes_task, some_is, holds_none, none_holds}
-use Rattle.flow_effects.proofs.TaskEndCases.{ended_after, refused_is, same_holds}
-use Rattle.flow_effects.proofs.MoveCases.{goes_on_cases}
+use Rattle.flow_services.proofs.{Seeing.{tests_suspended, tests_not_suspended}, ServiceListing.{operands_of}}
+use Rattle.flow_effects.proofs.{TaskValues.{counted, passes_task, some_is, holds_none, none_holds}, TaskEndCases.{ended_after, refused_is, same_holds}, MoveCases.{goes_on_cases}}
 
 module _ (app : App) (t : TaskNo) (b : BlockNo) (owns : OwnsBlock app (runner.Task t) b) (x : TaskNo) (is : (the_block app b.0).kind ≡ kind.Call (call.Task call.ChainTask x)) where
   abbrev r : Runner

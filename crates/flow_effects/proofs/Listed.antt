@@ -1,17 +1,11 @@
 -- Lists of cases that are effects, one by one.
 use Rattle.std.proofs.Common.{◌≡◌, Bool, List, [], ◌∷◌, ◌++◌, sym, subst, ◌∙◌, inl, inr, Ok, Err}
-use Rattle.std.specs.Prelude.{IfOk}
-use Rattle.std.specs.declared.result.Result.{Result}
-use Rattle.osek_values.specs.declared.memory.Memory.{Memory}
-use Rattle.osek_values.specs.declared.numbers.BlockNo.{BlockNo}
-use Rattle.osek_standard.specs.declared.app.App.{App}
-use Rattle.osek_standard.specs.declared.state.State.{State}
+use Rattle.std.specs.{Prelude.{IfOk}, declared.result.Result.{Result}}
+use Rattle.osek_values.specs.declared.{memory.Memory.{Memory}, numbers.BlockNo.{BlockNo}}
+use Rattle.osek_standard.specs.declared.{app.App.{App}, state.State.{State}}
 use Rattle.osek_standard.proofs.Members.{Among, among_cases, among_left, among_right, contained_among, among_contained}
 use Rattle.abstract_state.specs.Components.{abstract_of}
-use Rattle.flow_model.specs.declared.case.EffectCase.{EffectCase}
-use Rattle.flow_model.specs.declared.runner.Runner.{Runner}
-use Rattle.flow_model.specs.Runners.{Stands, OwnsBlock, runner_point}
-use Rattle.flow_model.specs.Tests.{PassesAll}
+use Rattle.flow_model.specs.{declared.{case.EffectCase.{EffectCase}, runner.Runner.{Runner}}, Runners.{Stands, OwnsBlock, runner_point}, Tests.{PassesAll}}
 use Rattle.flow_model.specs.Effects.{HasEffect, IsKnownStay, AreCasesOf}
 use Rattle.flow_model.proofs.Listing.{AreEffects, covers, exact}
 

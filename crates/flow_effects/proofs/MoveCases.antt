@@ -1,50 +1,34 @@
 -- The cases of instructions that do nothing but go on are their effects.
 use Rattle.std.proofs.Common.{◌≡◌, ℕ, ◌+◌, ◌-◌, ◌<◌, ◌≤◌, Bool, true, false, nat_lt, List, [], ◌∷◌, refl, sym, ap, subst, ◌∙◌, inl, inr, arith, None}
-use Rattle.std.specs.Prelude.{if◌then◌else◌}
-use Rattle.std.specs.declared.option.Option.{Option}
-use Rattle.std.proofs.lemmas.Bool.{cases_Bool, cases_eq, cases_lt}
-use Rattle.std.proofs.lemmas.Bool.Decides.{nat_tests}
-use Rattle.osek_values.specs.declared.numbers.{BlockNo.{BlockNo}}
-use Rattle.osek_values.specs.declared.status.Status.{Status}
+use Rattle.std.specs.{Prelude.{if◌then◌else◌}, declared.option.Option.{Option}}
+use Rattle.std.proofs.lemmas.Bool.{cases_Bool, cases_eq, cases_lt, Decides.{nat_tests}}
+use Rattle.osek_values.specs.declared.{numbers.BlockNo.{BlockNo}, status.Status.{Status}}
 use Rattle.osek_values.specs.declared.status.Ask.TheVariants as ask
-use Rattle.osek_standard.specs.declared.app.App.{App}
-use Rattle.osek_standard.specs.declared.block.Kind.{Kind}
+use Rattle.osek_standard.specs.declared.{app.App.{App}, block.Kind.{Kind}}
 use Rattle.osek_standard.specs.declared.block.Kind.TheVariants as kind
 use Rattle.flow_effects.specs.CallNames as call
-use Rattle.osek_standard.specs.declared.state.{State.{State}, Processor.{Processor}, Caller.{Caller}, Caller.TheVariants.{Nobody, Task, Routine}}
+use Rattle.osek_standard.specs.declared.state.{State.{State}, Processor.{Processor}, Caller.{Caller, TheVariants.{Nobody, Task, Routine}}}
 use Rattle.osek_standard.specs.declared.state.Processor.TheVariants as processor
 use Rattle.osek_standard.specs.declared.task_state.Place.{Place}
 use Rattle.osek_standard.specs.declared.point.Point.TheVariants as point
-use Rattle.osek_standard.specs.Apps.{the_block, is_counter, tables}
-use Rattle.osek_standard.specs.Validity.{NamesEntries}
-use Rattle.osek_standard.specs.States.{here, caller}
-use Rattle.osek_standard.specs.Points.{point_of, StandsAt}
-use Rattle.osek_standard.specs.Services.{unnoted, answer, counted_by, count_up}
-use Rattle.osek_standard.specs.Effects.{effect, noted, place_at, moved, moved_to, called, halted_by, shut_down}
+use Rattle.osek_standard.specs.{Apps.{the_block, is_counter, tables}, Validity.{NamesEntries}, States.{here, caller}, Points.{point_of, StandsAt}}
+use Rattle.osek_standard.specs.{Services.{unnoted, answer, counted_by, count_up}, Effects.{effect, noted, place_at, moved, moved_to, called, halted_by, shut_down}}
 use Rattle.osek_standard.specs.Well.{InOwner, IsActive, IsOffsetAt}
-use Rattle.osek_standard.proofs.BoolLaws.{either_way}
-use Rattle.osek_standard.proofs.Members.{Among, contained_among, among_contained}
-use Rattle.abstract_state.specs.declared.value.{Component.{Component}, PartValue.{PartValue}, PartValue.TheVariants.{OfTask}, Val.TheVariants.{Live}}
+use Rattle.osek_standard.proofs.{BoolLaws.{either_way}, Members.{Among, contained_among, among_contained}}
+use Rattle.abstract_state.specs.declared.value.{Component.{Component}, PartValue.{PartValue, TheVariants.{OfTask}}, Val.TheVariants.{Live}}
 use Rattle.abstract_state.specs.declared.value.Component.TheVariants as component
-use Rattle.abstract_state.specs.declared.table.PlainEntry.{PlainEntry}
-use Rattle.abstract_state.specs.Components.{component_at, abstract_of, part_of, live_val}
+use Rattle.abstract_state.specs.{declared.table.PlainEntry.{PlainEntry}, Components.{component_at, abstract_of, part_of, live_val}}
 use Rattle.abstract_state.proofs.Concretes.{some_quiet_at}
 use Rattle.flow_model.specs.declared.case.EffectCase.{EffectCase}
 use Rattle.flow_model.specs.declared.case.Asked.TheVariants as asked
 use Rattle.flow_model.specs.declared.change.Update.TheVariants as update
 use Rattle.flow_model.specs.declared.runner.Runner.{Runner}
 use Rattle.flow_model.specs.declared.runner.Runner.TheVariants as runner
-use Rattle.flow_model.specs.Tests.{on_task, PassesAll, value_after}
-use Rattle.flow_model.specs.Runners.{Stands, OwnsBlock, runner_point, moving}
-use Rattle.flow_model.specs.Values.{at_block}
-use Rattle.flow_model.specs.Effects.{AreIn, AreAllAllowed, HasEffect, ShowsEffect, IsKnownStay, HaveKnownStays, AreCasesOf}
-use Rattle.flow_model.specs.Cases.{goes_on}
-use Rattle.flow_model.proofs.ChangeLaws.{passes_none}
-use Rattle.flow_model.proofs.Standing.{is_active, next_owned, other_owned, owned_here, owned_point, point_there, stands_here}
-use Rattle.flow_model.proofs.Instructions.{effect_there}
-use Rattle.flow_model.proofs.Moves.{change_here, change_there, moved_has, moved_parts, moved_stands, went_on}
-use Rattle.flow_model.proofs.Calls.{IsCall, asked_none, call_goes_on, call_has, has_effect}
-use Rattle.flow_model.proofs.Listing.{covers_by, exact_by, values_allowed}
+use Rattle.flow_model.specs.{Tests.{on_task, PassesAll, value_after}, Runners.{Stands, OwnsBlock, runner_point, moving}, Values.{at_block}}
+use Rattle.flow_model.specs.{Effects.{AreIn, AreAllAllowed, HasEffect, ShowsEffect, IsKnownStay, HaveKnownStays, AreCasesOf}, Cases.{goes_on}}
+use Rattle.flow_model.proofs.{ChangeLaws.{passes_none}, Standing.{is_active, next_owned, other_owned, owned_here, owned_point, point_there, stands_here}}
+use Rattle.flow_model.proofs.{Instructions.{effect_there}, Moves.{change_here, change_there, moved_has, moved_parts, moved_stands, went_on}}
+use Rattle.flow_model.proofs.{Calls.{IsCall, asked_none, call_goes_on, call_has, has_effect}, Listing.{covers_by, exact_by, values_allowed}}
 use Rattle.flow_services.proofs.ServiceListing.{operands_of}
 use Rattle.flow_effects.specs.Moves.{stays, passes_by, onward, work_cases, choice_cases, halts}
 use Rattle.flow_effects.proofs.Listed.{IsCase, are_cases, one_listed}

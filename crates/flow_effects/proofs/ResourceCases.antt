@@ -1,38 +1,29 @@
 -- The cases of GetResource and ReleaseResource are their effects.
 use Rattle.std.proofs.Common.{◌≡◌, ℕ, ◌-◌, ◌^◌, ◌<◌, Bool, true, false, not, ◌||◌, nat_eq, List, [], ◌∷◌, ◌++◌, length, length-append, take, refl, sym, ap, subst, ◌∙◌, inl, inr, arith, Some, None, IsTrue, get_or, suc, get_or-set_same}
-use Rattle.std.specs.Prelude.{◌==◌, if◌then◌else◌}
-use Rattle.std.specs.List.{list_any, range_with_len}
-use Rattle.std.specs.Int.{bit_at}
-use Rattle.std.proofs.lemmas.Bool.{cases_Bool, cases_eq, eq-eqb, ne_eqb, lt-ltb}
-use Rattle.std.proofs.lemmas.List.Folds.{list_any_at}
-use Rattle.std.proofs.lemmas.Nat.Bits.{bit_at-pow_same, bit_at-pow_other}
-use Rattle.osek_values.specs.Numbers.{mask, task_no}
-use Rattle.osek_values.specs.declared.limits.TheConstants.{MAX_RESOURCES}
+use Rattle.std.specs.{Prelude.{◌==◌, if◌then◌else◌}, List.{list_any, range_with_len}, Int.{bit_at}}
+use Rattle.std.proofs.lemmas.{Bool.{cases_Bool, cases_eq, eq-eqb, ne_eqb, lt-ltb}, List.Folds.{list_any_at}, Nat.Bits.{bit_at-pow_same, bit_at-pow_other}}
+use Rattle.osek_values.specs.{Numbers.{mask, task_no}, declared.limits.TheConstants.{MAX_RESOURCES}}
 use Rattle.osek_values.specs.declared.numbers.{TaskNo.{TaskNo}, BlockNo.{BlockNo}, ResNo.{ResNo}, SourceNo.{SourceNo}}
 use Rattle.osek_values.specs.declared.status.Status.TheVariants as status
 use Rattle.osek_values.specs.declared.status.{Status.{Status}, Ask.{Ask}}
 use Rattle.osek_values.specs.declared.status.Ask.TheVariants as ask
 use Rattle.osek_values.specs.Bits.{has_bit}
-use Rattle.osek_standard.specs.declared.app.App.{App}
-use Rattle.osek_standard.specs.declared.block.Kind.{Kind}
+use Rattle.osek_standard.specs.declared.{app.App.{App}, block.Kind.{Kind}}
 use Rattle.osek_standard.specs.declared.block.Kind.TheVariants as kind
 use Rattle.flow_effects.specs.CallNames as call
-use Rattle.osek_standard.specs.declared.state.{State.{State}, Processor.{Processor}, Caller.{Caller}, Caller.TheVariants.{Task, Routine}}
+use Rattle.osek_standard.specs.declared.state.{State.{State}, Processor.{Processor}, Caller.{Caller, TheVariants.{Task, Routine}}}
 use Rattle.osek_standard.specs.declared.task_state.{TaskState.{TaskState}, Activity.{Activity}}
 use Rattle.osek_standard.specs.declared.task_state.Activity.TheVariants as activity
 use Rattle.osek_standard.specs.declared.point.Point.TheVariants as point
-use Rattle.osek_standard.specs.Apps.{the_block, tables}
-use Rattle.osek_standard.specs.Validity.{NamesEntries}
-use Rattle.osek_standard.specs.TaskStates.{suspended, is_live_activity, held, holds}
-use Rattle.osek_standard.specs.States.{task_state, caller, place_by, place_in, is_taken}
-use Rattle.osek_standard.specs.Points.{point_at, point_of}
+use Rattle.osek_standard.specs.{Apps.{the_block, tables}, Validity.{NamesEntries}, TaskStates.{suspended, is_live_activity, held, holds}}
+use Rattle.osek_standard.specs.{States.{task_state, caller, place_by, place_in, is_taken}, Points.{point_at, point_of}}
 use Rattle.osek_standard.specs.Services.{unnoted, refused, accepted, with_stack, with_held, is_on_top, get_resource, release_resource, get_resource_by, release_resource_by}
 use Rattle.osek_standard.specs.Effects.{place_at, moved_to, called}
 use Rattle.osek_standard.proofs.Members.{among_map, map_among, among_range, range_among}
 use Rattle.osek_standard.specs.Well.{Well}
 use Rattle.osek_standard.proofs.StackLaws.{held_stack, not_taken, push_stack, stack_few}
 use Rattle.flow_services.proofs.ServiceListing.{operands_of}
-use Rattle.abstract_state.specs.declared.value.{Val.{Val}, Val.TheVariants.{Suspended, Live, Waiting}, PartValue.{PartValue}, PartValue.TheVariants.{OfTask, OfEvent, OfAlarm}}
+use Rattle.abstract_state.specs.declared.value.{Val.{Val, TheVariants.{Suspended, Live, Waiting}}, PartValue.{PartValue, TheVariants.{OfTask, OfEvent, OfAlarm}}}
 use Rattle.abstract_state.specs.Components.{component_count, abstract_of, value_in, live_val}
 use Rattle.flow_model.specs.declared.case.{Asked.{Asked}, EffectCase.{EffectCase}}
 use Rattle.flow_model.specs.declared.case.Asked.TheVariants as asked
@@ -42,21 +33,14 @@ use Rattle.flow_model.specs.declared.change.Update.{Update}
 use Rattle.flow_model.specs.declared.change.Update.TheVariants as update
 use Rattle.flow_model.specs.declared.runner.Runner.{Runner}
 use Rattle.flow_model.specs.declared.runner.Runner.TheVariants as runner
-use Rattle.flow_model.specs.Values.{at_block, restacked, with_top, without_top}
-use Rattle.flow_model.specs.Tests.{passes, on_task, updated, PassesAll, value_after}
-use Rattle.flow_model.specs.Runners.{Stands, OwnsBlock, change, runner_point}
-use Rattle.flow_model.specs.Effects.{HasEffect, AreCasesOf}
-use Rattle.flow_model.specs.Cases.{goes_on, asked_after, asked_for}
-use Rattle.flow_model.proofs.ChangeLaws.{each_passes, passes_each}
-use Rattle.flow_model.proofs.Standing.{next_owned, task_calls, routine_calls}
-use Rattle.flow_model.proofs.Moves.{activity_parts, moved_held, moved_parts, moved_has, went_on}
-use Rattle.flow_model.proofs.Calls.{IsCall, asked_none, asked_maybe, call_goes_on, call_has}
-use Rattle.flow_effects.specs.Conditions.{of_task}
-use Rattle.flow_effects.specs.Moves.{refuses}
+use Rattle.flow_model.specs.{Values.{at_block, restacked, with_top, without_top}, Tests.{passes, on_task, updated, PassesAll, value_after}}
+use Rattle.flow_model.specs.{Runners.{Stands, OwnsBlock, change, runner_point}, Effects.{HasEffect, AreCasesOf}, Cases.{goes_on, asked_after, asked_for}}
+use Rattle.flow_model.proofs.{ChangeLaws.{each_passes, passes_each}, Standing.{next_owned, task_calls, routine_calls}}
+use Rattle.flow_model.proofs.{Moves.{activity_parts, moved_held, moved_parts, moved_has, went_on}, Calls.{IsCall, asked_none, asked_maybe, call_goes_on, call_has}}
+use Rattle.flow_effects.specs.{Conditions.{of_task}, Moves.{refuses}}
 use Rattle.flow_effects.specs.Resources.{restacks, only, nobody_holds, taken_cases, takes, gives_back, isnt_on_top, is_barred, get_cases, release_cases}
 use Rattle.flow_effects.proofs.Listed.{IsEffect, IsCase, AreListed, IsTaken, are_cases, both_listed, more_listed, one_listed, taken_first, taken_then}
-use Rattle.flow_effects.proofs.TaskValues.{counted, held_value, task_passes, passes_task, test_value, stands_block, stands_value}
-use Rattle.flow_effects.proofs.TaskEndCases.{changed_over}
+use Rattle.flow_effects.proofs.{TaskValues.{counted, held_value, task_passes, passes_task, test_value, stands_block, stands_value}, TaskEndCases.{changed_over}}
 use Rattle.flow_effects.proofs.MoveCases.{goes_on_cases}
 
 -- bit k of the mask of one resource

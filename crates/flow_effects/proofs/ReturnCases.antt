@@ -2,35 +2,25 @@
 use Rattle.std.proofs.Common.{◌≡◌, ℕ, ◌<◌, Bool, [], ◌∷◌, length, refl, sym, ap, subst, ◌∙◌, Some, None}
 use Rattle.osek_values.specs.declared.numbers.{TaskNo.{TaskNo}, BlockNo.{BlockNo}}
 use Rattle.osek_values.specs.declared.status.Ask.TheVariants as ask
-use Rattle.oil_system.specs.declared.objects.{Schedule.{Schedule}, Schedule.TheVariants.{Non, Full}}
+use Rattle.oil_system.specs.declared.objects.Schedule.{Schedule, TheVariants.{Non, Full}}
 use Rattle.osek_standard.specs.declared.app.App.{App}
 use Rattle.osek_standard.specs.declared.block.Kind.TheVariants as kind
 use Rattle.osek_standard.specs.declared.state.{State.{State}, Processor.{Processor}}
 use Rattle.osek_standard.specs.declared.state.Source.TheVariants as source
 use Rattle.osek_standard.specs.declared.state.Processor.TheVariants as processor
 use Rattle.osek_standard.specs.declared.point.Point.TheVariants as point
-use Rattle.osek_standard.specs.Apps.{the_task, the_block}
-use Rattle.osek_standard.specs.States.{task_state, with_processor, with_source, place_in}
-use Rattle.osek_standard.specs.Services.{unnoted}
-use Rattle.osek_standard.specs.Effects.{effect, noted, asked_over, returned_by}
-use Rattle.osek_standard.specs.Well.{HasProcessor, IsProcessor, IsRoutine}
-use Rattle.abstract_state.specs.declared.value.{Component.{Component}, Val.{Val}, PartValue.{PartValue}}
-use Rattle.abstract_state.specs.Concrete.{val_of}
+use Rattle.osek_standard.specs.{Apps.{the_task, the_block}, States.{task_state, with_processor, with_source, place_in}, Services.{unnoted}}
+use Rattle.osek_standard.specs.{Effects.{effect, noted, asked_over, returned_by}, Well.{HasProcessor, IsProcessor, IsRoutine}}
+use Rattle.abstract_state.specs.{declared.value.{Component.{Component}, Val.{Val}, PartValue.{PartValue}}, Concrete.{val_of}}
 use Rattle.abstract_state.specs.declared.value.Component.TheVariants as component
 use Rattle.abstract_state.specs.Components.{component_at, part_of, abstract_of}
 use Rattle.flow_model.specs.declared.runner.Runner.{Runner}
 use Rattle.flow_model.specs.declared.runner.Runner.TheVariants as runner
-use Rattle.flow_model.specs.Runners.{Stands, OwnsBlock, runner_point}
-use Rattle.flow_model.specs.Values.{block_of}
-use Rattle.flow_model.specs.Effects.{Asks, AreCasesOf}
-use Rattle.flow_model.specs.Cases.{asked_under}
-use Rattle.flow_model.proofs.Instructions.{effect_there}
-use Rattle.flow_model.proofs.Calls.{has_effect}
+use Rattle.flow_model.specs.{Runners.{Stands, OwnsBlock, runner_point}, Values.{block_of}, Effects.{Asks, AreCasesOf}, Cases.{asked_under}}
+use Rattle.flow_model.proofs.{Instructions.{effect_there}, Calls.{has_effect}}
 use Rattle.flow_effects.specs.Returns.{goes_back, leaves_idle, return_cases}
 use Rattle.flow_services.proofs.Seeing.{task_value}
-use Rattle.flow_effects.proofs.Listed.{IsEffect}
-use Rattle.flow_effects.proofs.TaskValues.{live_value}
-use Rattle.flow_effects.proofs.MoveCases.{one_case, idle_cases}
+use Rattle.flow_effects.proofs.{Listed.{IsEffect}, TaskValues.{live_value}, MoveCases.{one_case, idle_cases}}
 
 -- a source that is out, and another processor, change no component
 back_parts : (s : State) (k : ℕ) (p : Processor) (c : Component) → part_of (with_processor (with_source s k source.Out) p) c ≡ part_of s c

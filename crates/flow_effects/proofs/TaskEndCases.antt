@@ -6,20 +6,15 @@ use Rattle.std.specs.declared.option.Option.{Option}
 use Rattle.osek_values.specs.declared.numbers.{TaskNo.{TaskNo}, BlockNo.{BlockNo}, ResNo.{ResNo}, SourceNo.{SourceNo}}
 use Rattle.osek_values.specs.declared.status.Status.TheVariants as status
 use Rattle.osek_values.specs.declared.status.Ask.TheVariants as ask
-use Rattle.oil_system.specs.declared.objects.{Schedule.{Schedule}, Schedule.TheVariants.{Non, Full}}
-use Rattle.osek_standard.specs.declared.app.App.{App}
-use Rattle.osek_standard.specs.declared.block.Kind.{Kind}
+use Rattle.oil_system.specs.declared.objects.Schedule.{Schedule, TheVariants.{Non, Full}}
+use Rattle.osek_standard.specs.declared.{app.App.{App}, block.Kind.{Kind}}
 use Rattle.osek_standard.specs.declared.block.Kind.TheVariants as kind
 use Rattle.flow_effects.specs.CallNames as call
-use Rattle.osek_standard.specs.declared.state.{State.{State}, Caller.{Caller}, Caller.TheVariants.{Task, Routine}}
-use Rattle.osek_standard.specs.declared.task_state.TaskState.{TaskState}
+use Rattle.osek_standard.specs.declared.{state.{State.{State}, Caller.{Caller, TheVariants.{Task, Routine}}}, task_state.TaskState.{TaskState}}
 use Rattle.osek_standard.specs.declared.task_state.Activity.TheVariants as activity
-use Rattle.osek_standard.specs.Apps.{the_task, the_block}
-use Rattle.osek_standard.specs.States.{task_state, caller}
-use Rattle.osek_standard.specs.Services.{unnoted, refused, accepted, left, ended, holds_some, terminate_task, schedule}
-use Rattle.osek_standard.specs.Effects.{noted, end_task, place_at, moved_to, called, asked_under}
-use Rattle.osek_standard.specs.Well.{Well}
-use Rattle.abstract_state.specs.declared.value.{Component.{Component}, PartValue.{PartValue}, Val.TheVariants.{Suspended}, PartValue.TheVariants.{OfTask}}
+use Rattle.osek_standard.specs.{Apps.{the_task, the_block}, States.{task_state, caller}, Services.{unnoted, refused, accepted, left, ended, holds_some, terminate_task, schedule}}
+use Rattle.osek_standard.specs.{Effects.{noted, end_task, place_at, moved_to, called, asked_under}, Well.{Well}}
+use Rattle.abstract_state.specs.declared.value.{Component.{Component}, PartValue.{PartValue, TheVariants.{OfTask}}, Val.TheVariants.{Suspended}}
 use Rattle.abstract_state.specs.declared.value.Component.TheVariants as component
 use Rattle.abstract_state.specs.Components.{component_count, component_at, abstract_of, part_of}
 use Rattle.flow_model.specs.declared.case.EffectCase.{EffectCase}
@@ -30,18 +25,12 @@ use Rattle.flow_model.specs.declared.change.Update.{Update}
 use Rattle.flow_model.specs.declared.change.Update.TheVariants as update
 use Rattle.flow_model.specs.declared.runner.Runner.{Runner}
 use Rattle.flow_model.specs.declared.runner.Runner.TheVariants as runner
-use Rattle.flow_model.specs.Tests.{passes, updated, PassesAll, value_after}
-use Rattle.flow_model.specs.Runners.{Stands, OwnsBlock, change, runner_point}
-use Rattle.flow_model.specs.Cases.{goes_on, asked_for, asked_when}
-use Rattle.flow_model.proofs.Standing.{next_owned, task_calls, routine_calls}
-use Rattle.flow_model.proofs.Instructions.{effect_there}
-use Rattle.flow_model.proofs.Moves.{activity_parts, change_here, change_there, moved_held, moved_parts, went_on}
-use Rattle.flow_model.proofs.Calls.{IsCall, asked_none, call_goes_on, call_has, has_effect}
+use Rattle.flow_model.specs.{Tests.{passes, updated, PassesAll, value_after}, Runners.{Stands, OwnsBlock, change, runner_point}, Cases.{goes_on, asked_for, asked_when}}
+use Rattle.flow_model.proofs.{Standing.{next_owned, task_calls, routine_calls}, Instructions.{effect_there}}
+use Rattle.flow_model.proofs.{Moves.{activity_parts, change_here, change_there, moved_held, moved_parts, went_on}, Calls.{IsCall, asked_none, call_goes_on, call_has, has_effect}}
 use Rattle.flow_model.specs.Effects.{AreCasesOf}
-use Rattle.flow_effects.specs.Conditions.{of_task}
-use Rattle.flow_effects.specs.TaskEnds.{ends, task_end_cases, refused_holding, terminate_cases, schedule_cases}
-use Rattle.flow_effects.proofs.Listed.{IsEffect, IsTaken, are_cases, more_listed, one_listed}
-use Rattle.flow_effects.proofs.TaskValues.{task_passes, passes_task, some_is, holds_none, none_holds}
+use Rattle.flow_effects.specs.{Conditions.{of_task}, TaskEnds.{ends, task_end_cases, refused_holding, terminate_cases, schedule_cases}}
+use Rattle.flow_effects.proofs.{Listed.{IsEffect, IsTaken, are_cases, more_listed, one_listed}, TaskValues.{task_passes, passes_task, some_is, holds_none, none_holds}}
 use Rattle.flow_effects.proofs.MoveCases.{one_case, goes_on_cases, idle_cases}
 
 -- who leaves the processor changes no component

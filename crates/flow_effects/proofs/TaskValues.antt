@@ -3,22 +3,15 @@ use Rattle.std.proofs.Common.{◌≡◌, ◌<◌, Bool, true, false, not, List, 
 use Rattle.std.specs.Prelude.{◌==◌}
 use Rattle.std.proofs.lemmas.Bool.{not-false}
 use Rattle.osek_values.specs.declared.numbers.{TaskNo.{TaskNo}, BlockNo.{BlockNo}, ResNo.{ResNo}}
-use Rattle.osek_standard.specs.declared.app.App.{App}
-use Rattle.osek_standard.specs.declared.state.{State.{State}, Processor.{Processor}}
-use Rattle.osek_standard.specs.declared.task_state.Activity.{Activity}
+use Rattle.osek_standard.specs.declared.{app.App.{App}, state.{State.{State}, Processor.{Processor}}, task_state.Activity.{Activity}}
 use Rattle.osek_standard.specs.declared.task_state.Activity.TheVariants as activity
-use Rattle.osek_standard.specs.TaskStates.{held, held_in, is_live_activity}
-use Rattle.osek_standard.specs.States.{task_state, place_by, place_in}
-use Rattle.osek_standard.specs.Services.{holds_some}
-use Rattle.abstract_state.specs.declared.value.{Val.TheVariants.{Live}, PartValue.TheVariants.{OfTask}}
-use Rattle.abstract_state.specs.Components.{component_count, abstract_of, value_in, live_val}
+use Rattle.osek_standard.specs.{TaskStates.{held, held_in, is_live_activity}, States.{task_state, place_by, place_in}, Services.{holds_some}}
+use Rattle.abstract_state.specs.{declared.value.{Val.TheVariants.{Live}, PartValue.TheVariants.{OfTask}}, Components.{component_count, abstract_of, value_in, live_val}}
 use Rattle.abstract_state.proofs.ComponentLaws.{task_counted}
 use Rattle.flow_model.specs.declared.test.Test.{Test}
 use Rattle.flow_model.specs.declared.test.Test.TheVariants as test
 use Rattle.flow_model.specs.declared.runner.Runner.TheVariants as runner
-use Rattle.flow_model.specs.Values.{held_of}
-use Rattle.flow_model.specs.Tests.{passes, PassesAll}
-use Rattle.flow_model.specs.Runners.{Stands}
+use Rattle.flow_model.specs.{Values.{held_of}, Tests.{passes, PassesAll}, Runners.{Stands}}
 use Rattle.flow_model.proofs.ChangeLaws.{one_passes, passes_one}
 use Rattle.flow_services.proofs.Seeing.{task_value}
 use Rattle.flow_effects.specs.Conditions.{of_task}

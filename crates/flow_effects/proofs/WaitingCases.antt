@@ -1,59 +1,36 @@
 -- The cases of WaitEvent are its effects.
 use Rattle.std.proofs.Common.{◌≡◌, ℕ, zero, suc, ◌^◌, ◌<◌, Bool, true, false, not, List, [], ◌∷◌, length, map, refl, sym, ap, subst, ◌∙◌, ◌⊎◌, inl, inr, arith, Some, None, IsTrue}
-use Rattle.std.specs.Prelude.{◌==◌, bit_and}
-use Rattle.std.specs.Int.{bit_at}
-use Rattle.std.specs.declared.option.Option.{Option}
-use Rattle.std.proofs.lemmas.Bool.{cases_Bool, cases_lt, eqb-true}
-use Rattle.std.proofs.lemmas.Nat.Bits.{bit_at-lt, bit_at-zero, same_from_bits}
-use Rattle.osek_values.specs.Numbers.{event_no}
-use Rattle.osek_values.specs.declared.mask.Mask.{Mask}
-use Rattle.osek_values.specs.declared.numbers.{TaskNo.{TaskNo}, BlockNo.{BlockNo}, SourceNo.{SourceNo}}
-use Rattle.osek_values.specs.declared.status.Status.{Status}
+use Rattle.std.specs.{Prelude.{◌==◌, bit_and}, Int.{bit_at}, declared.option.Option.{Option}}
+use Rattle.std.proofs.lemmas.{Bool.{cases_Bool, cases_lt, eqb-true}, Nat.Bits.{bit_at-lt, bit_at-zero, same_from_bits}}
+use Rattle.osek_values.specs.{Numbers.{event_no}, declared.{mask.Mask.{Mask}, numbers.{TaskNo.{TaskNo}, BlockNo.{BlockNo}, SourceNo.{SourceNo}}, status.Status.{Status}}}
 use Rattle.osek_values.specs.declared.status.Status.TheVariants as status
 use Rattle.osek_values.specs.declared.status.Ask.TheVariants as ask
 use Rattle.osek_values.specs.Bits.{has_bit, bits_of}
 use Rattle.osek_standard.specs.declared.app.App.{App}
 use Rattle.osek_standard.specs.declared.block.Kind.TheVariants as kind
 use Rattle.flow_effects.specs.CallNames as call
-use Rattle.osek_standard.specs.declared.state.{State.{State}, Caller.{Caller}, Caller.TheVariants.{Task, Routine}}
-use Rattle.osek_standard.specs.declared.task_state.TaskState.{TaskState}
+use Rattle.osek_standard.specs.declared.{state.{State.{State}, Caller.{Caller, TheVariants.{Task, Routine}}}, task_state.TaskState.{TaskState}}
 use Rattle.osek_standard.specs.declared.task_state.Activity.TheVariants as activity
-use Rattle.osek_standard.specs.Apps.{the_task, the_block, is_extended, no_task}
-use Rattle.osek_standard.specs.States.{task_state, with_task, caller, here}
-use Rattle.osek_standard.specs.Services.{Answer, answer, refused, accepted, left, share, holds_some, wait_event}
-use Rattle.osek_standard.specs.Effects.{effect, noted, goes_on_unless_left, moved_to}
+use Rattle.osek_standard.specs.{Apps.{the_task, the_block, is_extended, no_task}, States.{task_state, with_task, caller, here}}
+use Rattle.osek_standard.specs.{Services.{Answer, answer, refused, accepted, left, share, holds_some, wait_event}, Effects.{effect, noted, goes_on_unless_left, moved_to}}
 use Rattle.osek_standard.proofs.Members.{Among, among_map, map_among}
 use Rattle.abstract_state.specs.declared.value.{Val.TheVariants.{Waiting}, PartValue.TheVariants.{OfTask, OfEvent}}
 use Rattle.abstract_state.specs.declared.value.Component.TheVariants as component
-use Rattle.abstract_state.specs.Components.{component_at, component_count, component_number, abstract_of, part_of}
-use Rattle.abstract_state.specs.Domains.{HasMasks}
-use Rattle.abstract_state.proofs.Numbers.{component_here, number_known}
-use Rattle.abstract_state.proofs.OrderLaws.{part_right, part_itself}
+use Rattle.abstract_state.specs.{Components.{component_at, component_count, component_number, abstract_of, part_of}, Domains.{HasMasks}}
+use Rattle.abstract_state.proofs.{Numbers.{component_here, number_known}, OrderLaws.{part_right, part_itself}}
 use Rattle.flow_model.specs.declared.case.Asked.TheVariants as asked
 use Rattle.flow_model.specs.declared.test.Condition.{Condition}
 use Rattle.flow_model.specs.declared.test.Test.TheVariants as test
 use Rattle.flow_model.specs.declared.change.Update.TheVariants as update
 use Rattle.flow_model.specs.declared.runner.Runner.{Runner}
 use Rattle.flow_model.specs.declared.runner.Runner.TheVariants as runner
-use Rattle.flow_model.specs.Tests.{passes, PassesAll}
-use Rattle.flow_model.specs.Runners.{Stands, OwnsBlock, runner_point}
-use Rattle.flow_model.specs.Effects.{HasEffect, AreCasesOf}
-use Rattle.flow_model.specs.Cases.{goes_on}
-use Rattle.flow_model.proofs.BitRange.{no_such_bit}
-use Rattle.flow_model.proofs.BitsOf.{bits_among, among_bits, bit_within, own_bit, no_bit}
-use Rattle.flow_model.proofs.ChangeLaws.{each_passes, passes_each}
-use Rattle.flow_model.proofs.Standing.{next_owned, point_there, task_calls, routine_calls}
-use Rattle.flow_model.proofs.Instructions.{effect_there}
-use Rattle.flow_model.proofs.Moves.{activity_parts, moved_parts, went_on}
+use Rattle.flow_model.specs.{Tests.{passes, PassesAll}, Runners.{Stands, OwnsBlock, runner_point}, Effects.{HasEffect, AreCasesOf}, Cases.{goes_on}}
+use Rattle.flow_model.proofs.{BitRange.{no_such_bit}, BitsOf.{bits_among, among_bits, bit_within, own_bit, no_bit}, ChangeLaws.{each_passes, passes_each}}
+use Rattle.flow_model.proofs.{Standing.{next_owned, point_there, task_calls, routine_calls}, Instructions.{effect_there}, Moves.{activity_parts, moved_parts, went_on}}
 use Rattle.flow_model.proofs.Calls.{has_effect}
-use Rattle.flow_effects.specs.Conditions.{of_task}
-use Rattle.flow_effects.specs.Moves.{refuses}
-use Rattle.flow_effects.specs.TaskEnds.{refused_holding}
-use Rattle.flow_effects.specs.Waiting.{of_event, awaited_events, goes_on_by, waits, extended_cases, wait_cases}
+use Rattle.flow_effects.specs.{Conditions.{of_task}, Moves.{refuses}, TaskEnds.{refused_holding}, Waiting.{of_event, awaited_events, goes_on_by, waits, extended_cases, wait_cases}}
 use Rattle.flow_effects.proofs.Listed.{IsEffect, IsCase, AreListed, IsTaken, are_cases, more_listed}
-use Rattle.flow_effects.proofs.TaskValues.{counted, task_passes, passes_task, some_is, holds_none, none_holds}
-use Rattle.flow_effects.proofs.TaskEndCases.{left_parts}
-use Rattle.flow_effects.proofs.MoveCases.{one_case}
+use Rattle.flow_effects.proofs.{TaskValues.{counted, task_passes, passes_task, some_is, holds_none, none_holds}, TaskEndCases.{left_parts}, MoveCases.{one_case}}
 
 -- a bit of both is shared
 shares : (e m k : ℕ) → has_bit e k ≡ true → has_bit m k ≡ true → share e m ≡ true

@@ -1,7 +1,6 @@
 -- Conditions on a task.
-use Rattle.osek_values.specs.declared.numbers.{TaskNo.{TaskNo}}
-use Rattle.flow_model.specs.declared.test.{Test.{Test}, Condition.{Condition}}
-use Rattle.flow_model.specs.Cases.{condition}
+use Rattle.osek_values.specs.declared.numbers.TaskNo.{TaskNo}
+use Rattle.flow_model.specs.{declared.test.{Test.{Test}, Condition.{Condition}}, Cases.{condition}}
 
 -- a test of a task
 abbrev pub of_task : TaskNo → Test → Condition

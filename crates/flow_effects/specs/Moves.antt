@@ -1,14 +1,11 @@
 -- The cases of instructions that do nothing but go on: work, choices, loops, and calls that are refused or have no effect
 -- on the components.
 use Rattle.std.specs.Prelude.{ℕ, nat_lt, List, [], ◌∷◌, Some, None, if◌then◌else◌}
-use Rattle.osek_values.specs.declared.numbers.BlockNo.{BlockNo}
-use Rattle.osek_values.specs.declared.status.Status.{Status}
+use Rattle.osek_values.specs.declared.{numbers.BlockNo.{BlockNo}, status.Status.{Status}}
 use Rattle.osek_standard.specs.declared.point.Point.TheVariants as point
 use Rattle.flow_model.specs.declared.case.EffectCase.{EffectCase}
 use Rattle.flow_model.specs.declared.case.Asked.TheVariants as asked
-use Rattle.flow_model.specs.declared.runner.Runner.{Runner}
-use Rattle.flow_model.specs.Runners.{runner_point, moving}
-use Rattle.flow_model.specs.Cases.{effect_case, goes_on}
+use Rattle.flow_model.specs.{declared.runner.Runner.{Runner}, Runners.{runner_point, moving}, Cases.{effect_case, goes_on}}
 
 -- it stays at its block, and nothing changes
 abbrev pub stays : Runner → BlockNo → EffectCase

@@ -1,13 +1,9 @@
 -- The cases of the services of resources (ISO 17356-3, GetResource, ReleaseResource).
-use Rattle.std.specs.Prelude.{ℕ, ◌^◌, Bool, nat_lt, List, [], ◌∷◌, ◌++◌, length, map, Some, if◌then◌else◌}
-use Rattle.std.specs.List.{range_with_len}
-use Rattle.osek_values.specs.Numbers.{mask, task_no}
-use Rattle.osek_values.specs.declared.numbers.{TaskNo.{TaskNo}, BlockNo.{BlockNo}, ResNo.{ResNo}}
+use Rattle.std.specs.{Prelude.{ℕ, ◌^◌, Bool, nat_lt, List, [], ◌∷◌, ◌++◌, length, map, Some, if◌then◌else◌}, List.{range_with_len}}
+use Rattle.osek_values.specs.{Numbers.{mask, task_no}, declared.numbers.{TaskNo.{TaskNo}, BlockNo.{BlockNo}, ResNo.{ResNo}}}
 use Rattle.osek_values.specs.declared.status.Status.TheVariants as status
-use Rattle.osek_standard.specs.declared.app.App.{App}
-use Rattle.osek_standard.specs.Priority.{base_priority, ceiling}
-use Rattle.flow_model.specs.declared.case.EffectCase.{EffectCase}
-use Rattle.flow_model.specs.declared.case.Asked.{Asked}
+use Rattle.osek_standard.specs.{declared.app.App.{App}, Priority.{base_priority, ceiling}}
+use Rattle.flow_model.specs.declared.case.{EffectCase.{EffectCase}, Asked.{Asked}}
 use Rattle.flow_model.specs.declared.case.Asked.TheVariants as asked
 use Rattle.flow_model.specs.declared.test.Condition.{Condition}
 use Rattle.flow_model.specs.declared.test.Test.TheVariants as test
@@ -15,10 +11,8 @@ use Rattle.flow_model.specs.declared.change.Update.{Update}
 use Rattle.flow_model.specs.declared.change.Update.TheVariants as update
 use Rattle.flow_model.specs.declared.runner.Runner.{Runner}
 use Rattle.flow_model.specs.declared.runner.Runner.TheVariants as runner
-use Rattle.flow_model.specs.Runners.{change, runner_point}
-use Rattle.flow_model.specs.Cases.{effect_case, goes_on, asked_after}
-use Rattle.flow_effects.specs.Conditions.{of_task}
-use Rattle.flow_effects.specs.Moves.{onward, refuses}
+use Rattle.flow_model.specs.{Runners.{change, runner_point}, Cases.{effect_case, goes_on, asked_after}}
+use Rattle.flow_effects.specs.{Conditions.{of_task}, Moves.{onward, refuses}}
 
 -- the task goes on to a block, and its stack becomes another there
 abbrev pub restacks : TaskNo → BlockNo → List Condition → Update → Asked → EffectCase

@@ -14,11 +14,8 @@ use Rattle.flow_model.specs.declared.change.Change.{Change}
 use Rattle.flow_model.specs.declared.change.Update.TheVariants as update
 use Rattle.flow_model.specs.declared.runner.Runner.{Runner}
 use Rattle.flow_model.specs.declared.runner.Runner.TheVariants as runner
-use Rattle.flow_model.specs.Changes.{activating}
-use Rattle.flow_model.specs.Runners.{change}
-use Rattle.flow_model.specs.Cases.{effect_case, goes_on}
-use Rattle.flow_effects.specs.Conditions.{of_task}
-use Rattle.flow_effects.specs.Moves.{stays, refuses}
+use Rattle.flow_model.specs.{Changes.{activating}, Runners.{change}, Cases.{effect_case, goes_on}}
+use Rattle.flow_effects.specs.{Conditions.{of_task}, Moves.{stays, refuses}}
 
 -- the task becomes suspended
 abbrev pub suspends : TaskNo → Change

@@ -1,8 +1,6 @@
 -- The cases of WaitEvent (ISO 17356-3, event control).
 use Rattle.std.specs.Prelude.{ℕ, Bool, true, false, bit_and, List, [], ◌∷◌, map, Some, if◌then◌else◌}
-use Rattle.osek_values.specs.Numbers.{event_no}
-use Rattle.osek_values.specs.declared.mask.Mask.{Mask}
-use Rattle.osek_values.specs.declared.numbers.{TaskNo.{TaskNo}, BlockNo.{BlockNo}}
+use Rattle.osek_values.specs.{Numbers.{event_no}, declared.{mask.Mask.{Mask}, numbers.{TaskNo.{TaskNo}, BlockNo.{BlockNo}}}}
 use Rattle.osek_values.specs.declared.status.Status.TheVariants as status
 use Rattle.osek_values.specs.Bits.{bits_of}
 use Rattle.osek_standard.specs.declared.app.App.{App}
@@ -18,11 +16,8 @@ use Rattle.flow_model.specs.declared.test.Test.TheVariants as test
 use Rattle.flow_model.specs.declared.change.Update.TheVariants as update
 use Rattle.flow_model.specs.declared.runner.Runner.{Runner}
 use Rattle.flow_model.specs.declared.runner.Runner.TheVariants as runner
-use Rattle.flow_model.specs.Runners.{change}
-use Rattle.flow_model.specs.Cases.{condition, effect_case, goes_on}
-use Rattle.flow_effects.specs.Conditions.{of_task}
-use Rattle.flow_effects.specs.Moves.{refuses}
-use Rattle.flow_effects.specs.TaskEnds.{refused_holding}
+use Rattle.flow_model.specs.{Runners.{change}, Cases.{condition, effect_case, goes_on}}
+use Rattle.flow_effects.specs.{Conditions.{of_task}, Moves.{refuses}, TaskEnds.{refused_holding}}
 
 -- an event of the task is set, or isn't
 abbrev pub of_event : App → TaskNo → Bool → ℕ → Condition

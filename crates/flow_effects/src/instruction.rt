@@ -1,12 +1,9 @@
 //! The cases of an instruction, by the kind of its block.
 ghost use Rattle.std.specs.Prelude.{◌≡◌, false, IfOk};
 ghost use Rattle.osek_standard.specs.declared.block.Kind.TheVariants as kind;
-ghost use Rattle.osek_standard.specs.Apps.{the_block};
-ghost use Rattle.osek_standard.specs.Points.{IsPoint};
-ghost use Rattle.abstract_state.specs.declared.table.PlainEntry.{PlainEntry};
-ghost use Rattle.abstract_state.specs.Domains.{domains, domains_of};
-ghost use Rattle.flow_model.specs.Effects.{AreAllAllowed, CoverEffects, AreExactEffects, HaveKnownStays, AreCasesOf};
-ghost use Rattle.flow_model.specs.Runners.{runner_point, OwnsBlock};
+ghost use Rattle.osek_standard.specs.{Apps.{the_block}, Points.{IsPoint}};
+ghost use Rattle.abstract_state.specs.{declared.table.PlainEntry.{PlainEntry}, Domains.{domains, domains_of}};
+ghost use Rattle.flow_model.specs.{Effects.{AreAllAllowed, CoverEffects, AreExactEffects, HaveKnownStays, AreCasesOf}, Runners.{runner_point, OwnsBlock}};
 ghost use Rattle.flow_services.specs.Services.{is_service, is_service_call};
 ghost use Rattle.flow_effects.specs.CallNames as call;
 

@@ -3,16 +3,9 @@ use Rattle.std.proofs.Common.{◌≡◌, ℕ, ◌<◌, List, length, IsTrue, sym
 use Rattle.std.specs.Prelude.{Contains}
 use Rattle.std.proofs.lemmas.Bool.{cases_lt}
 use Rattle.osek_standard.specs.declared.app.App.{App}
-use Rattle.abstract_state.specs.declared.value.PartValue.{PartValue}
-use Rattle.abstract_state.specs.declared.table.PlainEntry.{PlainEntry}
-use Rattle.abstract_state.specs.Components.{component_count}
-use Rattle.abstract_state.specs.Tables.{set_at, is_member}
-use Rattle.flow_model.specs.declared.case.EffectCase.{EffectCase}
-use Rattle.flow_model.specs.Effects.{AreIn}
-use Rattle.flow_model.specs.Rules.{Applies, HasNone}
-use Rattle.flow_model.specs.Tests.{PassesAt, value_after, values_after}
-use Rattle.flow_exits.specs.declared.exit.Exit.{Exit}
-use Rattle.flow_exits.specs.Leaving.{IsOfEffects, HasExitsFor, IsDecided, AddsDecided, effect_rule}
+use Rattle.abstract_state.specs.{declared.{value.PartValue.{PartValue}, table.PlainEntry.{PlainEntry}}, Components.{component_count}, Tables.{set_at, is_member}}
+use Rattle.flow_model.specs.{declared.case.EffectCase.{EffectCase}, Effects.{AreIn}, Rules.{Applies, HasNone}, Tests.{PassesAt, value_after, values_after}}
+use Rattle.flow_exits.specs.{declared.exit.Exit.{Exit}, Leaving.{IsOfEffects, HasExitsFor, IsDecided, AddsDecided, effect_rule}}
 
 -- a value of the entry that the effect takes, and of which it makes this one
 record Before (app : App) (effect : EffectCase) (entry : PlainEntry) (value : ℕ → PartValue) (c : ℕ) : Type 0 where

@@ -1,35 +1,22 @@
 -- Routines that begin: each arrival is the step of its source's rule, and each such rule's step is some state's.
 use Rattle.std.proofs.Common.{◌≡◌, ℕ, ◌+◌, ◌<◌, Bool, true, false, List, length, map, refl, sym, ap, subst, ◌∙◌, arith, Some, None, get_or-set_same}
-use Rattle.std.specs.Prelude.{Contains}
-use Rattle.std.specs.List.{range_with_len}
-use Rattle.std.specs.declared.option.Option.{Option}
-use Rattle.osek_values.specs.declared.event.{Event.{Event}, Event.TheVariants.{Run}}
-use Rattle.osek_values.specs.declared.numbers.{SourceNo.{SourceNo}, TaskNo.{TaskNo}, BlockNo.{BlockNo}}
-use Rattle.osek_values.specs.Numbers.{source_no, task_no}
-use Rattle.osek_standard.specs.declared.app.App.{App}
-use Rattle.osek_standard.specs.declared.state.{State.{State}, Source.{Source}, Processor.{Processor}}
+use Rattle.std.specs.{Prelude.{Contains}, List.{range_with_len}, declared.option.Option.{Option}}
+use Rattle.osek_values.specs.{declared.{event.Event.{Event, TheVariants.{Run}}, numbers.{SourceNo.{SourceNo}, TaskNo.{TaskNo}, BlockNo.{BlockNo}}}, Numbers.{source_no, task_no}}
+use Rattle.osek_standard.specs.declared.{app.App.{App}, state.{State.{State}, Source.{Source}, Processor.{Processor}}}
 use Rattle.osek_standard.specs.declared.state.Source.TheVariants as source
 use Rattle.osek_standard.specs.declared.state.Processor.TheVariants as processor
 use Rattle.osek_standard.specs.declared.point.Point.{Point}
 use Rattle.osek_standard.specs.declared.point.Point.TheVariants as point
-use Rattle.osek_standard.specs.Apps.{source_count, the_block}
-use Rattle.osek_standard.specs.States.{task_of, place_of_source, place_by}
-use Rattle.osek_standard.specs.Points.{point_of, point_at, IsPoint}
-use Rattle.osek_standard.specs.Dispatch.{Stepped, instruction, silent}
-use Rattle.osek_standard.specs.Arrivals.{arrival, entered, begun, takes_none, takes_none_by}
-use Rattle.osek_standard.specs.Kernel.{step, run_by, entered_or}
-use Rattle.osek_standard.specs.Outcomes.{Arrived, Silent, did, arrived_or, shown_by}
-use Rattle.osek_standard.specs.Well.{Well, IsOwn}
-use Rattle.osek_standard.proofs.ArrivalLaws.{arrival_is, latched_known}
-use Rattle.osek_standard.proofs.Members.{among_contained, among_map, among_range, contained_among, map_among, range_among}
+use Rattle.osek_standard.specs.{Apps.{source_count, the_block}, States.{task_of, place_of_source, place_by}, Points.{point_of, point_at, IsPoint}}
+use Rattle.osek_standard.specs.{Dispatch.{Stepped, instruction, silent}, Arrivals.{arrival, entered, begun, takes_none, takes_none_by}, Kernel.{step, run_by, entered_or}}
+use Rattle.osek_standard.specs.{Outcomes.{Arrived, Silent, did, arrived_or, shown_by}, Well.{Well, IsOwn}}
+use Rattle.osek_standard.proofs.{ArrivalLaws.{arrival_is, latched_known}, Members.{among_contained, among_map, among_range, contained_among, map_among, range_among}}
 use Rattle.osek_standard.proofs.OwnerLaws.{own_once}
 use Rattle.abstract_state.specs.declared.value.{Component.{Component}, PartValue.{PartValue}}
 use Rattle.abstract_state.specs.declared.value.Component.TheVariants as component
-use Rattle.abstract_state.specs.Components.{component_at, part_of, abstract_of}
-use Rattle.abstract_state.specs.Concrete.{AreAllowed}
+use Rattle.abstract_state.specs.{Components.{component_at, part_of, abstract_of}, Concrete.{AreAllowed}}
 use Rattle.abstract_state.proofs.Concretes.{some_latched}
-use Rattle.flow_model.specs.declared.rule.Rule.{Rule}
-use Rattle.flow_model.specs.Rules.{Matches, IsMatched, Shown}
+use Rattle.flow_model.specs.{declared.rule.Rule.{Rule}, Rules.{Matches, IsMatched, Shown}}
 use Rattle.flow_model.proofs.Standing.{stands_at}
 use Rattle.flow_exits.specs.Arrivals.{arrival_rule, MayBegin, IsArrivalRule, AreArrivals}
 

@@ -3,10 +3,8 @@ use Rattle.std.proofs.Common.{◌≡◌, ◌≢◌, ℕ, ◌+◌, ◌<◌, ◌�
 use Rattle.std.specs.declared.option.Option.{Option}
 use Rattle.std.proofs.lemmas.Bool.{cases_Bool, cases_eq, eq-eqb, ne_eqb, eqb-true}
 use Rattle.osek_values.specs.declared.numbers.TaskNo.{TaskNo}
-use Rattle.osek_standard.specs.declared.app.App.{App}
-use Rattle.osek_standard.specs.States.{is_that_task}
-use Rattle.abstract_state.specs.declared.value.PartValue.{PartValue}
-use Rattle.abstract_state.specs.Concrete.{val_of}
+use Rattle.osek_standard.specs.{declared.app.App.{App}, States.{is_that_task}}
+use Rattle.abstract_state.specs.{declared.value.PartValue.{PartValue}, Concrete.{val_of}}
 use Rattle.flow_model.specs.Scheduling.{may_tie, task_priority, IsLiveTask, IsBestTask, NoneLive, NoneAbove}
 use Rattle.flow_exits.specs.declared.claim.Claim.{Claim}
 use Rattle.flow_exits.specs.declared.claim.Claim.TheVariants as claim

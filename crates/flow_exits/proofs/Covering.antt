@@ -1,42 +1,20 @@
 -- The exits of a point are where its steps end, and each is one of some step.
 use Rattle.std.proofs.Common.{◌≡◌, ℕ, ◌<◌, Bool, List, [], map, IsTrue, refl, sym, ap, subst, ◌∙◌, inl, inr, arith, Some, None}
-use Rattle.std.specs.declared.option.Option.{Option}
-use Rattle.std.specs.List.{range_with_len}
+use Rattle.std.specs.{declared.option.Option.{Option}, List.{range_with_len}}
 use Rattle.std.proofs.lemmas.Bool.{cases_Bool}
-use Rattle.osek_values.specs.declared.event.{Event.{Event}, Event.TheVariants.{Run, Irq, Tick}}
-use Rattle.osek_values.specs.declared.numbers.{TaskNo.{TaskNo}, BlockNo.{BlockNo}}
-use Rattle.osek_values.specs.declared.status.Status.{Status}
-use Rattle.osek_values.specs.Numbers.{task_no}
-use Rattle.osek_standard.specs.declared.app.App.{App}
-use Rattle.osek_standard.specs.declared.state.State.{State}
-use Rattle.osek_standard.specs.declared.point.Point.{Point}
+use Rattle.osek_values.specs.{declared.{event.Event.{Event, TheVariants.{Run, Irq, Tick}}, numbers.{TaskNo.{TaskNo}, BlockNo.{BlockNo}}, status.Status.{Status}}, Numbers.{task_no}}
+use Rattle.osek_standard.specs.declared.{app.App.{App}, state.State.{State}, point.Point.{Point}}
 use Rattle.osek_standard.specs.declared.point.Point.TheVariants as point
-use Rattle.osek_standard.specs.Apps.{source_count, the_block}
-use Rattle.osek_standard.specs.Points.{point_of, IsPoint}
-use Rattle.osek_standard.specs.Dispatch.{Outcome, outcome}
-use Rattle.osek_standard.specs.Effects.{effect}
-use Rattle.osek_standard.specs.Outcomes.{Mark, Silent, Arrived, Did, shows, IsInstruction}
-use Rattle.osek_standard.specs.Well.{Well, IsActive}
-use Rattle.abstract_state.specs.declared.value.PartValue.{PartValue}
-use Rattle.abstract_state.specs.declared.table.PlainEntry.{PlainEntry}
-use Rattle.abstract_state.specs.Components.{abstract_of}
-use Rattle.abstract_state.specs.Concrete.{HasParts}
-use Rattle.abstract_state.specs.Tables.{set_at, is_member}
+use Rattle.osek_standard.specs.{Apps.{source_count, the_block}, Points.{point_of, IsPoint}, Dispatch.{Outcome, outcome}, Effects.{effect}}
+use Rattle.osek_standard.specs.{Outcomes.{Mark, Silent, Arrived, Did, shows, IsInstruction}, Well.{Well, IsActive}}
+use Rattle.abstract_state.specs.{declared.{value.PartValue.{PartValue}, table.PlainEntry.{PlainEntry}}, Components.{abstract_of}, Concrete.{HasParts}, Tables.{set_at, is_member}}
 use Rattle.abstract_state.proofs.MarkLaws.{shown_instruction, shown_arrival}
-use Rattle.flow_model.specs.declared.case.{Decision.{Decision}, EffectCase.{EffectCase}}
-use Rattle.flow_model.specs.declared.rule.Rule.{Rule}
-use Rattle.flow_model.specs.Effects.{AreIn, AreAllAllowed, IsAt, IsKnownStay, HasEffect}
-use Rattle.flow_model.specs.Scheduling.{Decides}
-use Rattle.flow_model.specs.Rules.{Matches, mark_by}
-use Rattle.flow_model.specs.Runners.{IsNobodys}
-use Rattle.flow_model.specs.Tests.{value_after, values_after}
-use Rattle.flow_model.proofs.Instructions.{instruction_by, shown_so}
-use Rattle.flow_model.proofs.Standing.{active_there, active_within}
-use Rattle.flow_exits.specs.Deciding.{HasValues}
-use Rattle.flow_exits.specs.Arrivals.{arrival_rule, MayBegin, AreArrivals}
+use Rattle.flow_model.specs.{declared.{case.{Decision.{Decision}, EffectCase.{EffectCase}}, rule.Rule.{Rule}}, Effects.{AreIn, AreAllAllowed, IsAt, IsKnownStay, HasEffect}}
+use Rattle.flow_model.specs.{Scheduling.{Decides}, Rules.{Matches, mark_by}, Runners.{IsNobodys}, Tests.{value_after, values_after}}
+use Rattle.flow_model.proofs.{Instructions.{instruction_by, shown_so}, Standing.{active_there, active_within}}
+use Rattle.flow_exits.specs.{Deciding.{HasValues}, Arrivals.{arrival_rule, MayBegin, AreArrivals}}
 use Rattle.flow_exits.proofs.Arriving.{all_arrivals, none_alone, task_alone, arrival_covered, arrival_shown}
-use Rattle.flow_exits.specs.declared.exit.Exit.{Exit}
-use Rattle.flow_exits.specs.Exits.{exit_mark, IsBySome, CoverSteps, CoverInstructions, IsFilled, IsExact, AreExact}
+use Rattle.flow_exits.specs.{declared.exit.Exit.{Exit}, Exits.{exit_mark, IsBySome, CoverSteps, CoverInstructions, IsFilled, IsExact, AreExact}}
 use Rattle.flow_exits.specs.Leaving.{HasDecided, IsOfEffects, arrival_exit, AreExits}
 use Rattle.flow_exits.proofs.Steps.{changed, some_decision, decided, instruction_ends}
 

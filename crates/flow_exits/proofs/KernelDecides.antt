@@ -1,34 +1,25 @@
 -- What the scheduler decides by the values of the tasks is what the kernel does.
 use Rattle.std.proofs.Common.{◌≡◌, ◌≢◌, ℕ, ◌<◌, ◌≤◌, Bool, true, false, length, refl, sym, ap, subst, ◌∙◌, ◌⊎◌, inl, inr, arith, Some, None, nat_lt, IsTrue}
-use Rattle.std.specs.Prelude.{if◌then◌else◌}
-use Rattle.std.specs.declared.option.Option.{Option}
-use Rattle.std.proofs.lemmas.Bool.{cases_Bool, cases_lt, cases_eq}
-use Rattle.std.proofs.lemmas.Bool.Decides.{nat_tests}
+use Rattle.std.specs.{Prelude.{if◌then◌else◌}, declared.option.Option.{Option}}
+use Rattle.std.proofs.lemmas.Bool.{cases_Bool, cases_lt, cases_eq, Decides.{nat_tests}}
 use Rattle.osek_values.specs.declared.numbers.TaskNo.{TaskNo}
 use Rattle.osek_values.specs.declared.status.Ask.TheVariants as ask
-use Rattle.osek_standard.specs.declared.app.App.{App}
-use Rattle.osek_standard.specs.declared.state.{State.{State}, Processor.{Processor}}
+use Rattle.osek_standard.specs.declared.{app.App.{App}, state.{State.{State}, Processor.{Processor}}}
 use Rattle.osek_standard.specs.declared.state.Processor.TheVariants as processor
 use Rattle.osek_standard.specs.declared.task_state.Activity.{Activity}
 use Rattle.osek_standard.specs.declared.task_state.Activity.TheVariants as activity
 use Rattle.osek_standard.specs.declared.point.Point.TheVariants as point
-use Rattle.osek_standard.specs.TaskStates.{is_live, is_live_activity, held_in}
-use Rattle.osek_standard.specs.States.{task_state, caller, place_in}
-use Rattle.osek_standard.specs.Priority.{base_priority, highest, current_priority, precedes, best, IsBest}
-use Rattle.osek_standard.specs.Effects.{Effect}
-use Rattle.osek_standard.specs.Dispatch.{Keep, To, outcome_of, outcome_by, preempted_by, if_above, if_any, settled}
-use Rattle.osek_standard.specs.Points.{point_of}
+use Rattle.osek_standard.specs.{TaskStates.{is_live, is_live_activity, held_in}, States.{task_state, caller, place_in}}
+use Rattle.osek_standard.specs.{Priority.{base_priority, highest, current_priority, precedes, best, IsBest}, Effects.{Effect}}
+use Rattle.osek_standard.specs.{Dispatch.{Keep, To, outcome_of, outcome_by, preempted_by, if_above, if_any, settled}, Points.{point_of}}
 use Rattle.osek_standard.specs.Well.{Well, HasProcessor, IsProcessor, IsTaskLevel}
 use Rattle.osek_standard.proofs.PriorityLaws.{live_known, best_is, is_best, best_none, none_live, some_best}
-use Rattle.abstract_state.specs.declared.value.{PartValue.{PartValue}}
-use Rattle.abstract_state.specs.Components.{value_in, part_of}
-use Rattle.abstract_state.specs.Concrete.{val_of}
+use Rattle.abstract_state.specs.{declared.value.PartValue.{PartValue}, Components.{value_in, part_of}, Concrete.{val_of}}
 use Rattle.abstract_state.proofs.ComponentLaws.{task_counted, task_at_its_number}
 use Rattle.flow_model.specs.declared.case.{Asked.{Asked}, Decision.{Decision}}
 use Rattle.flow_model.specs.declared.case.Asked.TheVariants as asked
 use Rattle.flow_model.specs.declared.case.Decision.TheVariants as decision
-use Rattle.flow_model.specs.Values.{is_live_value, held_of, block_of, value_priority}
-use Rattle.flow_model.specs.Effects.{Asks}
+use Rattle.flow_model.specs.{Values.{is_live_value, held_of, block_of, value_priority}, Effects.{Asks}}
 use Rattle.flow_model.specs.Scheduling.{outcome_of_decision, may_tie, is_live_task, task_priority, IsLiveTask, IsBestTask, NoneLive, NoneAbove, IsAbove, Decides, end_point}
 use Rattle.flow_exits.specs.Deciding.{HasValues, IsKernelDecision}
 

@@ -1,17 +1,14 @@
 -- Where the processor stays, and what that leaves of the components.
 use Rattle.std.proofs.Common.{◌≡◌, ℕ, ◌<◌, refl, ap}
-use Rattle.osek_standard.specs.declared.app.App.{App}
-use Rattle.osek_standard.specs.declared.state.State.{State}
+use Rattle.osek_standard.specs.declared.{app.App.{App}, state.State.{State}}
 use Rattle.osek_standard.specs.declared.point.Point.TheVariants as point
 use Rattle.osek_standard.specs.Dispatch.{Outcome, Keep, To, settled}
 use Rattle.abstract_state.specs.declared.value.{Component.{Component}, PartValue.{PartValue}}
 use Rattle.abstract_state.specs.declared.value.Component.TheVariants as component
-use Rattle.abstract_state.specs.Components.{component_count, part_of}
-use Rattle.abstract_state.specs.Concrete.{val_of}
+use Rattle.abstract_state.specs.{Components.{component_count, part_of}, Concrete.{val_of}}
 use Rattle.flow_model.specs.declared.case.Stay.{Stay}
 use Rattle.flow_model.specs.declared.case.Stay.TheVariants as stay
-use Rattle.flow_model.specs.Values.{block_of}
-use Rattle.flow_model.specs.Effects.{stay_point, IsKnownStay}
+use Rattle.flow_model.specs.{Values.{block_of}, Effects.{stay_point, IsKnownStay}}
 use Rattle.abstract_state.proofs.ComponentLaws.{task_counted}
 
 -- where the processor stays goes by the components' values alone

@@ -1,26 +1,14 @@
 -- What the step of an instruction is, by values after its effect with which the scheduler decides.
 use Rattle.std.proofs.Common.{◌≡◌, ℕ, ◌<◌, Bool, sym, ap, ◌∙◌, Some}
 use Rattle.osek_values.specs.declared.event.Event.{Event}
-use Rattle.osek_standard.specs.declared.app.App.{App}
-use Rattle.osek_standard.specs.declared.state.State.{State}
-use Rattle.osek_standard.specs.declared.point.Point.{Point}
-use Rattle.osek_standard.specs.Points.{point_of}
-use Rattle.osek_standard.specs.Dispatch.{Outcome, Stepped, instruction, outcome, settled}
-use Rattle.osek_standard.specs.Effects.{Effect, effect}
-use Rattle.osek_standard.specs.Kernel.{step}
-use Rattle.osek_standard.specs.Outcomes.{Did, shows}
-use Rattle.osek_standard.specs.Well.{Well}
+use Rattle.osek_standard.specs.{declared.{app.App.{App}, state.State.{State}, point.Point.{Point}}, Points.{point_of}, Dispatch.{Outcome, Stepped, instruction, outcome, settled}}
+use Rattle.osek_standard.specs.{Effects.{Effect, effect}, Kernel.{step}, Outcomes.{Did, shows}, Well.{Well}}
 use Rattle.osek_standard.proofs.EffectKeeps.{effect_keeps}
-use Rattle.abstract_state.specs.declared.value.PartValue.{PartValue}
-use Rattle.abstract_state.specs.Components.{component_count, component_at, abstract_of}
-use Rattle.flow_model.specs.declared.case.{Decision.{Decision}, EffectCase.{EffectCase}}
-use Rattle.flow_model.specs.Effects.{stay_point, IsKnownStay, HasEffect}
-use Rattle.flow_model.specs.Rules.{mark_by}
-use Rattle.flow_model.specs.Scheduling.{Decides, end_point, outcome_of_decision}
-use Rattle.flow_model.specs.Tests.{values_after}
+use Rattle.abstract_state.specs.{declared.value.PartValue.{PartValue}, Components.{component_count, component_at, abstract_of}}
+use Rattle.flow_model.specs.{declared.case.{Decision.{Decision}, EffectCase.{EffectCase}}, Effects.{stay_point, IsKnownStay, HasEffect}, Rules.{mark_by}}
+use Rattle.flow_model.specs.{Scheduling.{Decides, end_point, outcome_of_decision}, Tests.{values_after}}
 use Rattle.flow_exits.specs.Deciding.{HasValues}
-use Rattle.flow_exits.proofs.KernelDecides.{decided_so, some_decided, ends_there}
-use Rattle.flow_exits.proofs.Staying.{same_stay, settled_part}
+use Rattle.flow_exits.proofs.{KernelDecides.{decided_so, some_decided, ends_there}, Staying.{same_stay, settled_part}}
 
 -- The step ends where the decision says, with these values.
 pub record Ends (app : App) (x : EffectCase) (d : Decision) (value : ℕ → PartValue) (s : State) (e : Event) : Type 0 where

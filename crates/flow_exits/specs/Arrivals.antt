@@ -1,12 +1,9 @@
 -- Which routines may begin at a point.
-use Rattle.std.specs.Prelude.{◌≡◌, ⊤, ℕ, ◌<◌, false, List, [], length, Some, None, Contains}
-use Rattle.std.specs.declared.option.Option.{Option}
+use Rattle.std.specs.{Prelude.{◌≡◌, ⊤, ℕ, ◌<◌, false, List, [], length, Some, None, Contains}, declared.option.Option.{Option}}
 use Rattle.osek_values.specs.declared.numbers.TaskNo.{TaskNo}
-use Rattle.osek_standard.specs.declared.app.App.{App}
-use Rattle.osek_standard.specs.declared.point.Point.{Point}
+use Rattle.osek_standard.specs.declared.{app.App.{App}, point.Point.{Point}}
 use Rattle.osek_standard.specs.declared.point.Point.TheVariants as point
-use Rattle.osek_standard.specs.Apps.{the_block, routine_start, source_count}
-use Rattle.osek_standard.specs.Well.{IsOwn}
+use Rattle.osek_standard.specs.{Apps.{the_block, routine_start, source_count}, Well.{IsOwn}}
 use Rattle.flow_model.specs.declared.rule.Rule.{Rule}
 
 -- source k's routine begins, over a task or over none

@@ -1,16 +1,9 @@
 -- Who is to have the processor, and what the other tasks may be then.
-use Rattle.std.specs.Prelude.{◌≡◌, ℕ, ◌+◌, ◌<◌, Bool, true, false, nat_lt, ◌==◌, List, length, if◌then◌else◌, IsTrue, Some, None}
-use Rattle.std.specs.declared.option.Option.{Option}
-use Rattle.osek_values.specs.declared.numbers.{TaskNo.{TaskNo}}
-use Rattle.osek_standard.specs.declared.app.App.{App}
-use Rattle.osek_standard.specs.States.{is_that_task}
-use Rattle.abstract_state.specs.declared.value.{Val.{Val}, Val.TheVariants.{Suspended, Live, Waiting}, PartValue.{PartValue}}
-use Rattle.abstract_state.specs.Components.{IsVal}
-use Rattle.abstract_state.specs.Concrete.{val_of}
-use Rattle.flow_model.specs.declared.{change.Change.{Change}, test.Condition.{Condition}}
-use Rattle.flow_model.specs.Values.{value_priority}
-use Rattle.flow_model.specs.Scheduling.{may_tie}
-use Rattle.flow_model.specs.Tests.{PassesAll, values_after}
+use Rattle.std.specs.{Prelude.{◌≡◌, ℕ, ◌+◌, ◌<◌, Bool, true, nat_lt, ◌==◌, if◌then◌else◌, IsTrue, Some, None}, declared.option.Option.{Option}}
+use Rattle.osek_values.specs.declared.numbers.TaskNo.{TaskNo}
+use Rattle.osek_standard.specs.{declared.app.App.{App}, States.{is_that_task}}
+use Rattle.abstract_state.specs.{declared.value.{Val.{Val, TheVariants.{Suspended, Live, Waiting}}, PartValue.{PartValue}}, Concrete.{val_of}}
+use Rattle.flow_model.specs.{Values.{value_priority}, Scheduling.{may_tie}}
 use Rattle.flow_exits.specs.declared.claim.Claim.{Claim}
 use Rattle.flow_exits.specs.declared.claim.Claim.TheVariants as claim
 

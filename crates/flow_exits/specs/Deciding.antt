@@ -1,14 +1,8 @@
 -- What the scheduler decides, beside what the kernel does.
 use Rattle.std.specs.Prelude.{◌≡◌, ℕ, ◌<◌}
-use Rattle.osek_standard.specs.declared.app.App.{App}
-use Rattle.osek_standard.specs.declared.state.State.{State}
-use Rattle.osek_standard.specs.Effects.{Effect}
-use Rattle.osek_standard.specs.Dispatch.{outcome_of, settled}
-use Rattle.osek_standard.specs.Points.{point_of}
-use Rattle.abstract_state.specs.declared.value.PartValue.{PartValue}
-use Rattle.abstract_state.specs.Components.{component_count, abstract_of}
-use Rattle.flow_model.specs.declared.case.{Asked.{Asked}, Decision.{Decision}}
-use Rattle.flow_model.specs.Scheduling.{outcome_of_decision, Decides, end_point}
+use Rattle.osek_standard.specs.{declared.{app.App.{App}, state.State.{State}}, Effects.{Effect}, Dispatch.{outcome_of, settled}, Points.{point_of}}
+use Rattle.abstract_state.specs.{declared.value.PartValue.{PartValue}, Components.{component_count, abstract_of}}
+use Rattle.flow_model.specs.{declared.case.{Asked.{Asked}, Decision.{Decision}}, Scheduling.{outcome_of_decision, Decides, end_point}}
 
 -- these are the values of the state's components
 abbrev pub HasValues : App → State → (ℕ → PartValue) → Type 0

@@ -1,22 +1,14 @@
 -- How the exits of a point come about: an effect, and then what the scheduler decides with the values after it.
-use Rattle.std.specs.Prelude.{◌≡◌, ◌⊎◌, ℕ, ◌<◌, List, Some, None, Contains}
-use Rattle.std.specs.declared.option.Option.{Option}
+use Rattle.std.specs.{Prelude.{◌≡◌, ◌⊎◌, ℕ, ◌<◌, List, Some, None, Contains}, declared.option.Option.{Option}}
 use Rattle.osek_values.specs.declared.numbers.TaskNo.{TaskNo}
-use Rattle.osek_standard.specs.declared.app.App.{App}
-use Rattle.osek_standard.specs.declared.point.Point.{Point}
+use Rattle.osek_standard.specs.declared.{app.App.{App}, point.Point.{Point}}
 use Rattle.osek_standard.specs.declared.point.Point.TheVariants as point
 use Rattle.osek_standard.specs.Apps.{source_count}
-use Rattle.abstract_state.specs.declared.value.PartValue.{PartValue}
-use Rattle.abstract_state.specs.declared.table.PlainEntry.{PlainEntry}
-use Rattle.abstract_state.specs.Components.{component_count}
-use Rattle.flow_model.specs.declared.{case.{Decision.{Decision}, EffectCase.{EffectCase}, Leaving.{Leaving}}, rule.Rule.{Rule}}
-use Rattle.flow_model.specs.Runners.{IsNobodys}
-use Rattle.flow_model.specs.Effects.{AreIn, AreAllAllowed, stay_point, HaveKnownStays, CoverEffects, AreExactEffects}
-use Rattle.flow_model.specs.Scheduling.{Decides, end_point}
+use Rattle.abstract_state.specs.{declared.{value.PartValue.{PartValue}, table.PlainEntry.{PlainEntry}}, Components.{component_count}}
+use Rattle.flow_model.specs.{declared.{case.{Decision.{Decision}, EffectCase.{EffectCase}, Leaving.{Leaving}}, rule.Rule.{Rule}}, Runners.{IsNobodys}}
+use Rattle.flow_model.specs.{Effects.{AreIn, AreAllAllowed, stay_point, HaveKnownStays, CoverEffects, AreExactEffects}, Scheduling.{Decides, end_point}}
 use Rattle.flow_model.specs.Tests.{PassesAll, value_after, values_after}
-use Rattle.flow_exits.specs.Arrivals.{arrival_rule, MayBegin}
-use Rattle.flow_exits.specs.declared.exit.Exit.{Exit}
-use Rattle.flow_exits.specs.Exits.{IsFilled}
+use Rattle.flow_exits.specs.{Arrivals.{arrival_rule, MayBegin}, declared.exit.Exit.{Exit}, Exits.{IsFilled}}
 
 -- ---- with the values after an effect
 

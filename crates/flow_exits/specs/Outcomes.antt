@@ -1,18 +1,8 @@
 -- Cases of what the scheduler does, one found after another.
-use Rattle.std.specs.Prelude.{◌≡◌, ⊤, ℕ, ◌<◌, List, length, slice_index_or, IsTrue, Some, None, IfSome, Contains}
-use Rattle.std.specs.declared.option.Option.{Option}
-use Rattle.osek_values.specs.declared.numbers.TaskNo.{TaskNo}
-use Rattle.osek_standard.specs.declared.app.App.{App}
-use Rattle.osek_standard.specs.declared.point.Point.{Point}
-use Rattle.osek_standard.specs.declared.point.Point.TheVariants as point
-use Rattle.abstract_state.specs.declared.{value.PartValue.{PartValue}, table.PlainEntry.{PlainEntry}}
-use Rattle.abstract_state.specs.Concrete.{val_of}
-use Rattle.flow_model.specs.declared.{case.Asked.{Asked}, case.Decision.{Decision}, case.EffectCase.{EffectCase}, case.OutcomeCase.{OutcomeCase}, test.Condition.{Condition}, change.Change.{Change}}
+use Rattle.std.specs.Prelude.{◌≡◌, ⊤, ℕ, ◌<◌, None}
+use Rattle.flow_model.specs.declared.case.{Asked.{Asked}, Decision.{Decision}}
 use Rattle.flow_model.specs.declared.case.Asked.TheVariants as asked
 use Rattle.flow_model.specs.declared.case.Decision.TheVariants as decision
-use Rattle.flow_model.specs.Values.{is_live_value}
-use Rattle.flow_model.specs.Tests.{PassesAll, values_after}
-use Rattle.flow_model.specs.Scheduling.{Decides, AreValuesOf, HasOutcome, HasSomeOutcome}
 
 -- nobody has the processor
 abbrev pub IsVacant : Asked → Type 0

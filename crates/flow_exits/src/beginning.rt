@@ -1,8 +1,6 @@
 //! Routines that may begin.
-ghost use Rattle.std.specs.Prelude.{◌≡◌, ◌<◌, ◌++◌, map, IfOk, OnOk};
-ghost use Rattle.std.specs.List.{range_with_len};
-ghost use Rattle.osek_standard.specs.Apps.{source_count};
-ghost use Rattle.osek_standard.specs.Points.{IsPoint};
+ghost use Rattle.std.specs.{Prelude.{◌≡◌, ◌<◌, ◌++◌, map, IfOk, OnOk}, List.{range_with_len}};
+ghost use Rattle.osek_standard.specs.{Apps.{source_count}, Points.{IsPoint}};
 ghost use Rattle.flow_exits.specs.Arrivals.{arrival_rule, AreArrivals};
 
 use abstract_state::Point;

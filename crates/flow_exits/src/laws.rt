@@ -1,18 +1,9 @@
 //! Laws over the definitions, each on a function that does nothing.
 ghost use Rattle.std.specs.Prelude.{◌≡◌, ℕ, List, Contains};
-ghost use Rattle.osek_standard.specs.declared.app.App.{App};
-ghost use Rattle.osek_standard.specs.Effects.{Effect};
-ghost use Rattle.osek_standard.specs.Well.{Well};
-ghost use Rattle.osek_standard.specs.declared.point.Point.{Point};
-ghost use Rattle.osek_standard.specs.Points.{IsPoint};
-ghost use Rattle.abstract_state.specs.declared.value.PartValue.{PartValue};
-ghost use Rattle.abstract_state.specs.declared.table.PlainEntry.{PlainEntry};
-ghost use Rattle.flow_model.specs.declared.case.{Asked.{Asked}, Decision.{Decision}};
-ghost use Rattle.flow_model.specs.Effects.{Asks, AreAllAllowed};
-ghost use Rattle.flow_model.specs.Scheduling.{Decides};
-ghost use Rattle.flow_exits.specs.Deciding.{HasValues, IsKernelDecision};
-ghost use Rattle.flow_exits.specs.declared.exit.Exit.{Exit};
-ghost use Rattle.flow_exits.specs.Exits.{IsFilled, CoverSteps, CoverInstructions, AreExact};
+ghost use Rattle.osek_standard.specs.{declared.{app.App.{App}, point.Point.{Point}}, Effects.{Effect}, Well.{Well}, Points.{IsPoint}};
+ghost use Rattle.abstract_state.specs.declared.{value.PartValue.{PartValue}, table.PlainEntry.{PlainEntry}};
+ghost use Rattle.flow_model.specs.{declared.case.{Asked.{Asked}, Decision.{Decision}}, Effects.{Asks, AreAllAllowed}, Scheduling.{Decides}};
+ghost use Rattle.flow_exits.specs.{Deciding.{HasValues, IsKernelDecision}, declared.exit.Exit.{Exit}, Exits.{IsFilled, CoverSteps, CoverInstructions, AreExact}};
 ghost use Rattle.flow_exits.specs.Leaving.{AreExits};
 
 /// What the scheduler decides by the values of the tasks is what the kernel does after an effect, and it decides

@@ -2,17 +2,10 @@
 use Rattle.std.proofs.Common.{◌≡◌, ℕ, ◌<◌, Bool, false, length, sym, ap, ◌∙◌, inl, inr}
 use Rattle.std.specs.Prelude.{if◌then◌else◌}
 use Rattle.osek_values.specs.Bits.{has_bit}
-use Rattle.osek_standard.specs.declared.app.App.{App}
-use Rattle.osek_standard.specs.declared.state.State.{State}
-use Rattle.osek_standard.specs.Apps.{the_task}
-use Rattle.osek_standard.specs.States.{task_state}
-use Rattle.osek_standard.specs.Services.{activated, activated_state}
+use Rattle.osek_standard.specs.{declared.{app.App.{App}, state.State.{State}}, Apps.{the_task}, States.{task_state}, Services.{activated, activated_state}}
 use Rattle.abstract_state.specs.Components.{component_count, abstract_of}
-use Rattle.flow_model.specs.Tests.{value_after}
-use Rattle.flow_model.specs.Changes.{activating, started}
-use Rattle.flow_model.proofs.ChangeLaws.{AreSets}
-use Rattle.flow_model.proofs.BitsOf.{no_bit}
-use Rattle.flow_model.proofs.Writes.{task_written, task_changes_set, event_changes_set}
+use Rattle.flow_model.specs.{Tests.{value_after}, Changes.{activating, started}}
+use Rattle.flow_model.proofs.{ChangeLaws.{AreSets}, BitsOf.{no_bit}, Writes.{task_written, task_changes_set, event_changes_set}}
 
 module _ (app : App) where
   -- each component after an activation

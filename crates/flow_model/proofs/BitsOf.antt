@@ -1,10 +1,7 @@
 -- The bits of words: which are set, and those of words that services make of events.
 use Rattle.std.proofs.Common.{◌≡◌, ℕ, zero, suc, ◌+◌, ◌<◌, ◌%◌, ◌^◌, true, false, refl, sym, ap, ◌∙◌, arith, min, max}
-use Rattle.std.specs.Prelude.{◌==◌, if◌then◌else◌, bit_and, bit_or, bit_xor}
-use Rattle.std.specs.Int.{bit_at}
-use Rattle.std.proofs.Math.Nat.{zero-div}
-use Rattle.std.proofs.lemmas.Bool.{eqb-true, eq-eqb}
-use Rattle.std.proofs.lemmas.Nat.Bits.{bit_at_and, bit_at_or, bit_at_xor, bit_at-lt}
+use Rattle.std.specs.{Prelude.{◌==◌, if◌then◌else◌, bit_and, bit_or, bit_xor}, Int.{bit_at}}
+use Rattle.std.proofs.{Math.Nat.{zero-div}, lemmas.{Bool.{eqb-true, eq-eqb}, Nat.Bits.{bit_at_and, bit_at_or, bit_at_xor, bit_at-lt}}}
 use Rattle.osek_values.specs.Bits.{has_bit, bits_of}
 use Rattle.osek_standard.proofs.Members.{Among, among_passing, passing_among}
 

@@ -6,30 +6,19 @@ use Rattle.osek_values.specs.declared.status.Ask.TheVariants as ask
 use Rattle.osek_values.specs.declared.notes.{Notes.{Notes}, Value.{Value}}
 use Rattle.std.specs.declared.option.Option.{Option}
 use Rattle.osek_values.specs.declared.numbers.{TaskNo.{TaskNo}, BlockNo.{BlockNo}}
-use Rattle.oil_system.specs.declared.objects.{Schedule.{Schedule}, Schedule.TheVariants.{Non, Full}}
-use Rattle.osek_standard.specs.declared.app.App.{App}
-use Rattle.osek_standard.specs.declared.block.{Block.{Block}, Kind.{Kind}}
-use Rattle.osek_standard.specs.declared.state.{State.{State}, Processor.{Processor}, Caller.TheVariants.{Task}}
+use Rattle.oil_system.specs.declared.objects.Schedule.{Schedule, TheVariants.{Non, Full}}
+use Rattle.osek_standard.specs.declared.{app.App.{App}, block.{Block.{Block}, Kind.{Kind}}, state.{State.{State}, Processor.{Processor}, Caller.TheVariants.{Task}}}
 use Rattle.osek_standard.specs.declared.state.Processor.TheVariants as processor
-use Rattle.osek_standard.specs.declared.task_state.Place.{Place}
-use Rattle.osek_standard.specs.Apps.{the_task, the_block}
-use Rattle.osek_standard.specs.States.{caller, here}
-use Rattle.osek_standard.specs.Points.{point_of}
-use Rattle.osek_standard.specs.Services.{Answer, answer}
+use Rattle.osek_standard.specs.{declared.task_state.Place.{Place}, Apps.{the_task, the_block}, States.{caller, here}, Points.{point_of}, Services.{Answer, answer}}
 use Rattle.osek_standard.specs.Effects.{Effect, effect, effect_at, place_at, effected, noted, asks_as, asked_by, asked_under, is_schedule, called, moved_to}
 use Rattle.abstract_state.specs.Components.{component_count, abstract_of}
 use Rattle.flow_model.specs.declared.case.{Asked.{Asked}, EffectCase.{EffectCase}}
 use Rattle.flow_model.specs.declared.case.Asked.TheVariants as asked
 use Rattle.flow_model.specs.declared.runner.Runner.{Runner}
 use Rattle.flow_model.specs.declared.runner.Runner.TheVariants as runner
-use Rattle.flow_model.specs.Runners.{Stands, Runs}
-use Rattle.flow_model.specs.Tests.{PassesAll, value_after}
-use Rattle.flow_model.specs.Effects.{Asks, HasEffect, stay_point}
-use Rattle.flow_model.specs.declared.test.Condition.{Condition}
+use Rattle.flow_model.specs.{Runners.{Stands, Runs}, Tests.{PassesAll, value_after}, Effects.{Asks, HasEffect, stay_point}, declared.test.Condition.{Condition}}
 use Rattle.flow_model.specs.Cases.{asked_when, asked_for, asked_after, asked_under as asked_of_task, goes_on}
-use Rattle.flow_model.proofs.Standing.{next_owned, point_there}
-use Rattle.flow_model.proofs.Instructions.{effect_there}
-use Rattle.flow_model.proofs.Moves.{moved_has, moved_parts, went_on}
+use Rattle.flow_model.proofs.{Standing.{next_owned, point_there}, Instructions.{effect_there}, Moves.{moved_has, moved_parts, went_on}}
 
 -- Its caller goes on to its next block, and then the row applies: of each such kind this holds by computation.
 abbrev pub IsCall : App → Kind → Type 0

@@ -4,11 +4,8 @@ use Rattle.std.specs.Prelude.{if◌then◌else◌}
 use Rattle.std.proofs.lemmas.Bool.{cases_eq, eq-eqb, ne_eqb}
 use Rattle.osek_standard.specs.declared.app.App.{App}
 use Rattle.osek_standard.proofs.Members.{Among, among_left, among_right, among_cases, contained_among, among_contained}
-use Rattle.abstract_state.specs.declared.value.PartValue.{PartValue}
-use Rattle.abstract_state.specs.Components.{component_count}
-use Rattle.flow_model.specs.declared.change.Change.{Change}
-use Rattle.flow_model.specs.declared.test.Condition.{Condition}
-use Rattle.flow_model.specs.Tests.{passes, updated, value_after, PassesAll}
+use Rattle.abstract_state.specs.{declared.value.PartValue.{PartValue}, Components.{component_count}}
+use Rattle.flow_model.specs.{declared.{change.Change.{Change}, test.Condition.{Condition}}, Tests.{passes, updated, value_after, PassesAll}}
 
 module _ (x : Change) (xs : List Change) (c : ℕ) (v : PartValue) where
   -- the first change, at its component and at another

@@ -1,21 +1,12 @@
 -- Which instruction a step is.
 use Rattle.std.proofs.Common.{◌≡◌, Bool, refl, ap, ◌∙◌, None}
-use Rattle.osek_values.specs.declared.event.Event.TheVariants.{Run}
-use Rattle.osek_values.specs.declared.numbers.BlockNo.{BlockNo}
-use Rattle.osek_standard.specs.declared.app.App.{App}
-use Rattle.osek_standard.specs.declared.block.Kind.{Kind}
-use Rattle.osek_standard.specs.declared.state.{State.{State}, Processor.{Processor}}
+use Rattle.osek_values.specs.declared.{event.Event.TheVariants.{Run}, numbers.BlockNo.{BlockNo}}
+use Rattle.osek_standard.specs.declared.{app.App.{App}, block.Kind.{Kind}, state.{State.{State}, Processor.{Processor}}}
 use Rattle.osek_standard.specs.declared.state.Processor.TheVariants as processor
-use Rattle.osek_standard.specs.Apps.{the_block}
-use Rattle.osek_standard.specs.States.{here}
-use Rattle.osek_standard.specs.Well.{IsActive}
-use Rattle.osek_standard.specs.Effects.{Effect, effect, effect_by, effect_at}
-use Rattle.osek_standard.specs.Dispatch.{Outcome, Stepped, instruction, outcome, outcome_of, settled}
-use Rattle.osek_standard.specs.Arrivals.{arrival}
-use Rattle.osek_standard.specs.Kernel.{step, run_by, entered_or}
+use Rattle.osek_standard.specs.{Apps.{the_block}, States.{here}, Well.{IsActive}, Effects.{Effect, effect, effect_by, effect_at}}
+use Rattle.osek_standard.specs.{Dispatch.{Outcome, Stepped, instruction, outcome, outcome_of, settled}, Arrivals.{arrival}, Kernel.{step, run_by, entered_or}}
 use Rattle.osek_standard.specs.Outcomes.{Did, did, arrived_or, shown_by, shows}
-use Rattle.flow_model.specs.declared.runner.Runner.{Runner}
-use Rattle.flow_model.specs.Runners.{Stands}
+use Rattle.flow_model.specs.{declared.runner.Runner.{Runner}, Runners.{Stands}}
 use Rattle.flow_model.proofs.Standing.{is_active}
 
 abbrev itself : Stepped → Stepped

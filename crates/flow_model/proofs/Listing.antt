@@ -2,20 +2,11 @@
 use Rattle.std.proofs.Common.{ℕ, Bool, true, List, sym, subst}
 use Rattle.std.specs.Prelude.{Contains}
 use Rattle.osek_values.specs.declared.numbers.BlockNo.{BlockNo}
-use Rattle.osek_standard.specs.declared.app.App.{App}
-use Rattle.osek_standard.specs.declared.state.State.{State}
-use Rattle.osek_standard.specs.declared.point.Point.{Point}
-use Rattle.abstract_state.specs.declared.value.PartValue.{PartValue}
-use Rattle.abstract_state.specs.declared.table.PlainEntry.{PlainEntry}
-use Rattle.abstract_state.specs.Components.{abstract_of}
-use Rattle.abstract_state.specs.Concrete.{AreAllowed, HasParts}
+use Rattle.osek_standard.specs.declared.{app.App.{App}, state.State.{State}, point.Point.{Point}}
+use Rattle.abstract_state.specs.{declared.{value.PartValue.{PartValue}, table.PlainEntry.{PlainEntry}}, Components.{abstract_of}, Concrete.{AreAllowed, HasParts}}
 use Rattle.abstract_state.proofs.Concretes.{some_quiet}
-use Rattle.flow_model.specs.declared.case.EffectCase.{EffectCase}
-use Rattle.flow_model.specs.declared.test.Condition.{Condition}
-use Rattle.flow_model.specs.declared.runner.Runner.{Runner}
-use Rattle.flow_model.specs.Runners.{Stands, OwnsBlock, runner_point}
-use Rattle.flow_model.specs.Tests.{PassesAt, PassesAll}
-use Rattle.flow_model.specs.Effects.{AreIn, AreAllAllowed, HasEffect, HasSomeEffect, CoverEffects, AreExactEffects}
+use Rattle.flow_model.specs.{declared.{case.EffectCase.{EffectCase}, test.Condition.{Condition}, runner.Runner.{Runner}}, Runners.{Stands, OwnsBlock, runner_point}}
+use Rattle.flow_model.specs.{Tests.{PassesAt, PassesAll}, Effects.{AreIn, AreAllAllowed, HasEffect, HasSomeEffect, CoverEffects, AreExactEffects}}
 use Rattle.flow_model.proofs.Standing.{owned_point, stands_here}
 
 -- chosen values of an entry are allowed

@@ -1,20 +1,15 @@
 -- Who executes at a point, and what is known of the block there.
 use Rattle.std.proofs.Common.{◌≡◌, refl, sym, ap, subst, ◌∙◌}
 use Rattle.std.specs.declared.option.Option.{Option}
-use Rattle.osek_values.specs.Numbers.{task_no}
-use Rattle.osek_values.specs.declared.numbers.{TaskNo.{TaskNo}, BlockNo.{BlockNo}, SourceNo.{SourceNo}}
+use Rattle.osek_values.specs.{Numbers.{task_no}, declared.numbers.{TaskNo.{TaskNo}, BlockNo.{BlockNo}, SourceNo.{SourceNo}}}
 use Rattle.osek_standard.specs.declared.app.App.{App}
 use Rattle.osek_standard.specs.declared.block.Kind.TheVariants as kind
 use Rattle.osek_standard.specs.declared.state.{State.{State}, Processor.{Processor}, Caller.TheVariants.{Task, Routine}}
 use Rattle.osek_standard.specs.declared.state.Processor.TheVariants as processor
 use Rattle.osek_standard.specs.declared.point.Point.TheVariants as point
-use Rattle.osek_standard.specs.Apps.{the_block}
-use Rattle.osek_standard.specs.States.{place_by, here, caller}
-use Rattle.osek_standard.specs.Points.{point_at, point_of, IsPoint}
+use Rattle.osek_standard.specs.{Apps.{the_block}, States.{place_by, here, caller}, Points.{point_at, point_of, IsPoint}}
 use Rattle.osek_standard.specs.Well.{Well, InOwner, IsActive, IsOfRoutine, IsOwn, IsProcessor}
-use Rattle.osek_standard.proofs.Callers.{BlockHere, block_here}
-use Rattle.osek_standard.proofs.Keeps.{here_own}
-use Rattle.osek_standard.proofs.OwnerLaws.{own_once}
+use Rattle.osek_standard.proofs.{Callers.{BlockHere, block_here}, Keeps.{here_own}, OwnerLaws.{own_once}}
 use Rattle.flow_model.specs.declared.runner.Runner.{Runner}
 use Rattle.flow_model.specs.declared.runner.Runner.TheVariants as runner
 use Rattle.flow_model.specs.Runners.{Stands, Runs, OwnsBlock, runner_point}

@@ -2,26 +2,17 @@
 use Rattle.std.proofs.Common.{◌≡◌, ◌≢◌, ℕ, ◌<◌, Bool, true, false, List, [], ◌∷◌, length, refl, sym, ap, subst, ◌∙◌, inl, inr, get_or-set_same, get_or-set_other}
 use Rattle.std.specs.Prelude.{if◌then◌else◌}
 use Rattle.std.proofs.lemmas.Bool.{cases_Bool, cases_eq}
-use Rattle.osek_values.specs.Numbers.{task_no, event_no, alarm_no}
-use Rattle.osek_values.specs.Bits.{has_bit, bits_of}
-use Rattle.osek_standard.specs.declared.app.App.{App}
-use Rattle.osek_standard.specs.declared.state.{State.{State}, AlarmState.{AlarmState}}
+use Rattle.osek_values.specs.{Numbers.{task_no, event_no, alarm_no}, Bits.{has_bit, bits_of}}
+use Rattle.osek_standard.specs.declared.{app.App.{App}, state.{State.{State}, AlarmState.{AlarmState}}}
 use Rattle.osek_standard.specs.declared.state.AlarmState.TheVariants as alarm
-use Rattle.osek_standard.specs.declared.task_state.TaskState.{TaskState}
-use Rattle.osek_standard.specs.Apps.{the_task}
-use Rattle.osek_standard.specs.TaskStates.{suspended}
-use Rattle.osek_standard.specs.States.{task_state, with_task, alarm_state, with_alarm}
+use Rattle.osek_standard.specs.{declared.task_state.TaskState.{TaskState}, Apps.{the_task}, TaskStates.{suspended}, States.{task_state, with_task, alarm_state, with_alarm}}
 use Rattle.osek_standard.proofs.Members.{among_map, map_among}
-use Rattle.abstract_state.specs.declared.value.{Component.{Component}, PartValue.{PartValue}, PartValue.TheVariants.{OfTask, OfEvent, OfAlarm}}
+use Rattle.abstract_state.specs.declared.value.{Component.{Component}, PartValue.{PartValue, TheVariants.{OfTask, OfEvent, OfAlarm}}}
 use Rattle.abstract_state.specs.declared.value.Component.TheVariants as component
 use Rattle.abstract_state.specs.Components.{component_count, component_at, component_number, part_of, abstract_of, value_in, is_armed, IsComponent}
-use Rattle.abstract_state.proofs.ComponentLaws.{component_numbered, component_known, task_at_its_number}
-use Rattle.abstract_state.proofs.Numbers.{component_here}
-use Rattle.flow_model.specs.declared.change.Change.{Change}
-use Rattle.flow_model.specs.Tests.{updated, value_after}
-use Rattle.flow_model.specs.Changes.{task_change, alarm_change, event_change, event_changes}
-use Rattle.flow_model.proofs.ChangeLaws.{change_here, change_there, elsewhere, made, AreSets}
-use Rattle.flow_model.proofs.BitsOf.{bits_among, among_bits}
+use Rattle.abstract_state.proofs.{ComponentLaws.{component_numbered, component_known, task_at_its_number}, Numbers.{component_here}}
+use Rattle.flow_model.specs.{declared.change.Change.{Change}, Tests.{updated, value_after}, Changes.{task_change, alarm_change, event_change, event_changes}}
+use Rattle.flow_model.proofs.{ChangeLaws.{change_here, change_there, elsewhere, made, AreSets}, BitsOf.{bits_among, among_bits}}
 
 -- the task of an event
 abbrev event_task : Component → ℕ

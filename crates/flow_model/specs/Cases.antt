@@ -1,20 +1,12 @@
 -- The parts of which cases are made.
-use Rattle.std.specs.Prelude.{ℕ, List}
-use Rattle.std.specs.declared.option.Option.{Option}
+use Rattle.std.specs.{Prelude.{ℕ, List}, declared.option.Option.{Option}}
 use Rattle.osek_values.specs.declared.status.{Status.{Status}, Ask.{Ask}}
 use Rattle.osek_values.specs.declared.status.Ask.TheVariants as ask
 use Rattle.osek_values.specs.declared.numbers.{TaskNo.{TaskNo}, BlockNo.{BlockNo}}
-use Rattle.oil_system.specs.declared.objects.{Schedule.{Schedule}, Schedule.TheVariants.{Non, Full}}
-use Rattle.osek_standard.specs.declared.app.App.{App}
-use Rattle.osek_standard.specs.declared.block.Kind.{Kind}
-use Rattle.osek_standard.specs.declared.state.Caller.TheVariants.{Task}
-use Rattle.osek_standard.specs.declared.point.Point.{Point}
-use Rattle.osek_standard.specs.Apps.{the_task}
-use Rattle.osek_standard.specs.Effects.{asked_by}
+use Rattle.oil_system.specs.declared.objects.Schedule.{Schedule, TheVariants.{Non, Full}}
+use Rattle.osek_standard.specs.{declared.{app.App.{App}, block.Kind.{Kind}, state.Caller.TheVariants.{Task}, point.Point.{Point}}, Apps.{the_task}, Effects.{asked_by}}
 use Rattle.abstract_state.specs.Components.{component_no}
-use Rattle.flow_model.specs.declared.test.{Test.{Test}, Condition.{Condition}}
-use Rattle.flow_model.specs.declared.change.Change.{Change}
-use Rattle.flow_model.specs.declared.case.{Asked.{Asked}, Leaving.{Leaving}, EffectCase.{EffectCase}}
+use Rattle.flow_model.specs.declared.{test.{Test.{Test}, Condition.{Condition}}, change.Change.{Change}, case.{Asked.{Asked}, Leaving.{Leaving}, EffectCase.{EffectCase}}}
 use Rattle.flow_model.specs.declared.case.Asked.TheVariants as asked
 use Rattle.flow_model.specs.declared.case.Stay.TheVariants as stay
 use Rattle.flow_model.specs.declared.runner.Runner.{Runner}

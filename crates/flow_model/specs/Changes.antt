@@ -1,10 +1,8 @@
 -- What becomes of the components: of a task, of its events, of an alarm.
 use Rattle.std.specs.Prelude.{ℕ, Bool, false, List, [], ◌∷◌, map}
-use Rattle.osek_values.specs.Bits.{bits_of}
-use Rattle.osek_values.specs.Numbers.{task_no, event_no, alarm_no}
-use Rattle.osek_standard.specs.declared.app.App.{App}
-use Rattle.osek_standard.specs.Apps.{the_task}
-use Rattle.abstract_state.specs.declared.value.{Val.{Val}, Val.TheVariants.{Live}, PartValue.TheVariants.{OfTask, OfEvent, OfAlarm}}
+use Rattle.osek_values.specs.{Bits.{bits_of}, Numbers.{task_no, event_no, alarm_no}}
+use Rattle.osek_standard.specs.{declared.app.App.{App}, Apps.{the_task}}
+use Rattle.abstract_state.specs.declared.value.{Val.{Val, TheVariants.{Live}}, PartValue.TheVariants.{OfTask, OfEvent, OfAlarm}}
 use Rattle.abstract_state.specs.declared.value.Component.TheVariants as component
 use Rattle.abstract_state.specs.Components.{component_number, live_val}
 use Rattle.flow_model.specs.declared.change.Change.{Change}

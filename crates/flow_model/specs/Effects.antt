@@ -1,25 +1,17 @@
 -- What the cases of an effect say of the states at a point.
 use Rattle.std.specs.Prelude.{◌≡◌, ⊤, ℕ, ◌<◌, Bool, List, length, IsTrue, None, Contains}
 use Rattle.osek_values.specs.declared.status.Ask.TheVariants as ask
-use Rattle.osek_standard.specs.declared.app.App.{App}
-use Rattle.osek_standard.specs.declared.state.State.{State}
+use Rattle.osek_standard.specs.declared.{app.App.{App}, state.State.{State}}
 use Rattle.osek_standard.specs.declared.state.Processor.TheVariants as processor
 use Rattle.osek_standard.specs.declared.point.Point.{Point}
 use Rattle.osek_standard.specs.declared.point.Point.TheVariants as point
-use Rattle.osek_standard.specs.Points.{point_of}
-use Rattle.osek_standard.specs.Effects.{Effect, effect}
-use Rattle.osek_standard.specs.Arrivals.{arrival}
-use Rattle.osek_standard.specs.Well.{Well, IsActive}
-use Rattle.abstract_state.specs.declared.value.PartValue.{PartValue}
-use Rattle.abstract_state.specs.declared.table.PlainEntry.{PlainEntry}
-use Rattle.abstract_state.specs.Components.{component_count, abstract_of, IsAllowed}
-use Rattle.abstract_state.specs.Concrete.{HasParts, val_of}
-use Rattle.abstract_state.specs.Tables.{set_at, is_member}
+use Rattle.osek_standard.specs.{Points.{point_of}, Effects.{Effect, effect}, Arrivals.{arrival}, Well.{Well, IsActive}}
+use Rattle.abstract_state.specs.{declared.{value.PartValue.{PartValue}, table.PlainEntry.{PlainEntry}}, Components.{component_count, abstract_of, IsAllowed}}
+use Rattle.abstract_state.specs.{Concrete.{HasParts, val_of}, Tables.{set_at, is_member}}
 use Rattle.flow_model.specs.declared.case.{Asked.{Asked}, Stay.{Stay}, EffectCase.{EffectCase}}
 use Rattle.flow_model.specs.declared.case.Asked.TheVariants as asked
 use Rattle.flow_model.specs.declared.case.Stay.TheVariants as stay
-use Rattle.flow_model.specs.Values.{block_of}
-use Rattle.flow_model.specs.Tests.{PassesAll, value_after}
+use Rattle.flow_model.specs.{Values.{block_of}, Tests.{PassesAll, value_after}}
 
 -- a value for each component, out of its set
 abbrev pub AreIn : App → PlainEntry → (ℕ → PartValue) → Type 0

@@ -1,27 +1,11 @@
 -- What rules say of the steps from a point, and what they make of its entry.
-use Rattle.std.specs.Prelude.{◌≡◌, ℕ, ◌<◌, Bool, List, length, IsTrue, Some, None, Contains}
-use Rattle.std.specs.declared.option.Option.{Option}
-use Rattle.osek_values.specs.declared.event.Event.{Event}
-use Rattle.osek_values.specs.declared.status.Status.{Status}
-use Rattle.osek_standard.specs.declared.app.App.{App}
-use Rattle.osek_standard.specs.declared.state.State.{State}
-use Rattle.osek_standard.specs.declared.point.Point.{Point}
-use Rattle.osek_standard.specs.Points.{point_of}
-use Rattle.osek_standard.specs.Effects.{effect}
-use Rattle.osek_standard.specs.Dispatch.{outcome}
-use Rattle.osek_standard.specs.Kernel.{step}
-use Rattle.osek_standard.specs.Outcomes.{Mark, Silent, Arrived, Did, shows}
-use Rattle.osek_standard.specs.Well.{IsActive}
-use Rattle.abstract_state.specs.declared.value.PartValue.{PartValue}
-use Rattle.abstract_state.specs.declared.table.PlainEntry.{PlainEntry}
-use Rattle.abstract_state.specs.Components.{component_count, abstract_of}
-use Rattle.abstract_state.specs.Concrete.{HasParts}
-use Rattle.abstract_state.specs.Tables.{set_at, is_member, AreAscending}
-use Rattle.abstract_state.specs.Domains.{domains}
-use Rattle.flow_model.specs.declared.case.Decision.{Decision}
-use Rattle.flow_model.specs.declared.rule.Rule.{Rule}
-use Rattle.flow_model.specs.Tests.{PassesAt, PassesAll, value_after}
-use Rattle.flow_model.specs.Effects.{AreIn, IsAt}
+use Rattle.std.specs.{Prelude.{◌≡◌, ℕ, ◌<◌, Bool, List, length, IsTrue, Some, None, Contains}, declared.option.Option.{Option}}
+use Rattle.osek_values.specs.declared.{event.Event.{Event}, status.Status.{Status}}
+use Rattle.osek_standard.specs.{declared.{app.App.{App}, state.State.{State}, point.Point.{Point}}, Points.{point_of}, Effects.{effect}, Dispatch.{outcome}, Kernel.{step}}
+use Rattle.osek_standard.specs.{Outcomes.{Mark, Silent, Arrived, Did, shows}, Well.{IsActive}}
+use Rattle.abstract_state.specs.{declared.{value.PartValue.{PartValue}, table.PlainEntry.{PlainEntry}}, Components.{component_count, abstract_of}, Concrete.{HasParts}}
+use Rattle.abstract_state.specs.{Tables.{set_at, is_member, AreAscending}, Domains.{domains}}
+use Rattle.flow_model.specs.{declared.{case.Decision.{Decision}, rule.Rule.{Rule}}, Tests.{PassesAt, PassesAll, value_after}, Effects.{AreIn, IsAt}}
 use Rattle.flow_model.specs.Scheduling.{outcome_of_decision}
 
 abbrev pub mark_by : Option Decision → Option Status → Mark
@@ -103,11 +87,3 @@ pub record HasNone (rule : Rule) (entry : PlainEntry) : Type 0 where
   pub component : ℕ
   pub known : component < length entry.sets
   pub none : (v : PartValue) → IsTrue (is_member (set_at entry component) v) → PassesAt rule.conditions component v → ⊥
-
--- a state of the entry whose step, which is the rule's, makes component c this value
-pub record IsMadeBy (app : App) (p : Point) (entry : PlainEntry) (rule : Rule) (c : ℕ) (v : PartValue) : Type 0 where
-  pub from : State
-  pub event : Event
-  pub at : IsAt app p entry from
-  pub target : point_of (step app from event).state ≡ rule.target
-  pub value : abstract_of app (step app from event).state c ≡ v

@@ -1,16 +1,11 @@
 -- Who executes at a point, and the states in which it does.
-use Rattle.std.specs.Prelude.{◌≡◌, ⊤, ℕ, ◌<◌, List, [], ◌∷◌, length}
-use Rattle.std.specs.declared.option.Option.{Option}
+use Rattle.std.specs.{Prelude.{◌≡◌, ⊤, ℕ, ◌<◌, List, [], ◌∷◌, length}, declared.option.Option.{Option}}
 use Rattle.osek_values.specs.declared.numbers.{TaskNo.{TaskNo}, BlockNo.{BlockNo}, SourceNo.{SourceNo}}
-use Rattle.osek_standard.specs.declared.app.App.{App}
-use Rattle.osek_standard.specs.declared.state.{State.{State}}
+use Rattle.osek_standard.specs.declared.{app.App.{App}, state.State.{State}}
 use Rattle.osek_standard.specs.declared.state.Processor.TheVariants as processor
 use Rattle.osek_standard.specs.declared.point.Point.{Point}
 use Rattle.osek_standard.specs.declared.point.Point.TheVariants as point
-use Rattle.osek_standard.specs.Apps.{source_count}
-use Rattle.osek_standard.specs.States.{here}
-use Rattle.osek_standard.specs.Points.{IsRoutineBlock}
-use Rattle.osek_standard.specs.Well.{Well, IsOwn, IsOfRoutine, HasProcessor}
+use Rattle.osek_standard.specs.{Apps.{source_count}, States.{here}, Points.{IsRoutineBlock}, Well.{Well, IsOwn, IsOfRoutine, HasProcessor}}
 use Rattle.abstract_state.specs.Components.{component_no}
 use Rattle.flow_model.specs.declared.change.{Update.{Update}, Change.{Change}}
 use Rattle.flow_model.specs.declared.change.Update.TheVariants as update

@@ -1,18 +1,13 @@
 -- The scheduler by the values of the tasks: what it may do after an effect, and what the cases of that say.
 use Rattle.std.specs.Prelude.{◌≡◌, ◌≢◌, ◌⊎◌, ⊤, ℕ, ◌<◌, ◌≤◌, Bool, nat_lt, List, length, IsTrue, Some, None, Contains}
-use Rattle.osek_standard.specs.declared.app.App.{App}
-use Rattle.osek_standard.specs.declared.point.Point.{Point}
+use Rattle.osek_standard.specs.declared.{app.App.{App}, point.Point.{Point}}
 use Rattle.osek_standard.specs.declared.point.Point.TheVariants as point
 use Rattle.osek_standard.specs.Dispatch.{Outcome, Keep, To}
-use Rattle.abstract_state.specs.declared.value.PartValue.{PartValue}
-use Rattle.abstract_state.specs.declared.table.PlainEntry.{PlainEntry}
-use Rattle.abstract_state.specs.Concrete.{AreAllowed, val_of}
+use Rattle.abstract_state.specs.{declared.{value.PartValue.{PartValue}, table.PlainEntry.{PlainEntry}}, Concrete.{AreAllowed, val_of}}
 use Rattle.flow_model.specs.declared.case.{Asked.{Asked}, Decision.{Decision}, EffectCase.{EffectCase}, OutcomeCase.{OutcomeCase}}
 use Rattle.flow_model.specs.declared.case.Asked.TheVariants as asked
 use Rattle.flow_model.specs.declared.case.Decision.TheVariants as decision
-use Rattle.flow_model.specs.Values.{is_live_value, block_of, value_priority}
-use Rattle.flow_model.specs.Tests.{PassesAll, values_after}
-use Rattle.flow_model.specs.Effects.{AreIn, stay_point}
+use Rattle.flow_model.specs.{Values.{is_live_value, block_of, value_priority}, Tests.{PassesAll, values_after}, Effects.{AreIn, stay_point}}
 
 abbrev pub outcome_of_decision : Decision → Outcome
 outcome_of_decision decision.Keep = Keep

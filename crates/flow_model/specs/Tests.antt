@@ -1,14 +1,10 @@
 -- Which values pass a test, and what changes make of them.
-use Rattle.std.specs.Prelude.{◌≡◌, ℕ, ◌<◌, Bool, true, ◌==◌, ◌&&◌, not, List, [], ◌∷◌, length, IsTrue, if◌then◌else◌, Contains}
-use Rattle.std.specs.List.{list_any}
-use Rattle.osek_values.specs.declared.numbers.{ResNo.{ResNo}}
-use Rattle.osek_standard.specs.declared.app.App.{App}
-use Rattle.osek_standard.specs.TaskStates.{holds}
+use Rattle.std.specs.{Prelude.{◌≡◌, ℕ, ◌<◌, Bool, true, ◌==◌, ◌&&◌, not, List, [], ◌∷◌, length, IsTrue, if◌then◌else◌, Contains}, List.{list_any}}
+use Rattle.osek_values.specs.declared.numbers.ResNo.{ResNo}
+use Rattle.osek_standard.specs.{declared.app.App.{App}, TaskStates.{holds}}
 use Rattle.osek_values.specs.Bits.{has_bit}
 use Rattle.osek_standard.specs.Services.{is_on_top}
-use Rattle.abstract_state.specs.declared.value.{Val.{Val}, PartValue.{PartValue}, PartValue.TheVariants.{OfTask, OfEvent, OfAlarm}}
-use Rattle.abstract_state.specs.ValueOrder.{same_part}
-use Rattle.abstract_state.specs.Components.{component_count}
+use Rattle.abstract_state.specs.{declared.value.{Val.{Val}, PartValue.{PartValue, TheVariants.{OfTask, OfEvent, OfAlarm}}}, ValueOrder.{same_part}, Components.{component_count}}
 use Rattle.flow_model.specs.declared.test.{Test.{Test}, Condition.{Condition}}
 use Rattle.flow_model.specs.declared.test.Test.TheVariants as test
 use Rattle.flow_model.specs.declared.change.{Update.{Update}, Change.{Change}}

@@ -1,12 +1,8 @@
 -- What tests and the scheduler read of a task's value.
 use Rattle.std.specs.Prelude.{ℕ, ◌-◌, Bool, true, false, nat_lt, List, [], ◌∷◌, ◌++◌, length, take, if◌then◌else◌}
-use Rattle.osek_values.specs.Numbers.{block_no}
-use Rattle.osek_values.specs.declared.limits.TheConstants.{MAX_RESOURCES}
-use Rattle.osek_values.specs.declared.numbers.{BlockNo.{BlockNo}, ResNo.{ResNo}}
-use Rattle.osek_standard.specs.declared.app.App.{App}
-use Rattle.osek_standard.specs.Priority.{base_priority, highest}
-use Rattle.abstract_state.specs.declared.value.{Val.{Val}, Val.TheVariants.{Suspended, Live, Waiting}}
-use Rattle.abstract_state.specs.Components.{live_val}
+use Rattle.osek_values.specs.{Numbers.{block_no}, declared.{limits.TheConstants.{MAX_RESOURCES}, numbers.{BlockNo.{BlockNo}, ResNo.{ResNo}}}}
+use Rattle.osek_standard.specs.{declared.app.App.{App}, Priority.{base_priority, highest}}
+use Rattle.abstract_state.specs.{declared.value.Val.{Val, TheVariants.{Suspended, Live, Waiting}}, Components.{live_val}}
 
 abbrev pub is_suspended_value : Val → Bool
 is_suspended_value Suspended = true

@@ -3,8 +3,7 @@ ghost use Rattle.std.specs.Prelude.{◌≡◌};
 ghost use Rattle.abstract_state.specs.declared.value.PartValue.TheVariants as part;
 ghost use Rattle.abstract_state.specs.declared.value.Val.TheVariants as val;
 ghost use Rattle.abstract_state.specs.Components.{live_val};
-ghost use Rattle.flow_model.specs.Values.{with_top as with_top_of, without_top as without_top_of};
-ghost use Rattle.flow_model.specs.Tests.{value_after as value_after_of};
+ghost use Rattle.flow_model.specs.{Values.{with_top as with_top_of, without_top as without_top_of}, Tests.{value_after as value_after_of}};
 
 use abstract_state::{ComponentNo, LiveVal, PartValue, Val};
 use osek_values::limits::MAX_RESOURCES;

@@ -1,7 +1,6 @@
 //! Who executes at a point.
 ghost use Rattle.std.specs.Prelude.{◌≡◌, ◌<◌, length};
-ghost use Rattle.osek_standard.specs.Points.{IsTaskBlock};
-ghost use Rattle.osek_standard.specs.Well.{IsOwn};
+ghost use Rattle.osek_standard.specs.{Points.{IsTaskBlock}, Well.{IsOwn}};
 
 use crate::case::{Asked, EffectCase, Leaving};
 use crate::change::{Change, Update};
@@ -37,8 +36,7 @@ pub fn task_of(app: &App, block: BlockNo) -> TaskNo
 impl Runner {
     ghost use Rattle.std.specs.Prelude.{◌≡◌, IfOk, IfSome, IfNone};
     ghost use Rattle.osek_standard.specs.Points.{IsPoint};
-    ghost use Rattle.flow_model.specs.Runners.{runner_point, moving, Executes, IsNobodys, IsKnown};
-    ghost use Rattle.flow_model.specs.Cases.{asked_after, goes_on};
+    ghost use Rattle.flow_model.specs.{Runners.{runner_point, moving, Executes, IsNobodys, IsKnown}, Cases.{asked_after, goes_on}};
 
     /// Who executes at a point.
     pub fn executing(app: &App, point: Point) -> Option<Runner>

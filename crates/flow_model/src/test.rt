@@ -1,8 +1,6 @@
 //! Tests of the values of components.
-ghost use Rattle.std.specs.Prelude.{◌≡◌};
-ghost use Rattle.std.specs.List.{list_any};
-ghost use Rattle.osek_values.specs.declared.numbers.ResNo.{ResNo};
-ghost use Rattle.osek_values.specs.Bits.{has_bit};
+ghost use Rattle.std.specs.{Prelude.{◌≡◌}, List.{list_any}};
+ghost use Rattle.osek_values.specs.{declared.numbers.ResNo.{ResNo}, Bits.{has_bit}};
 ghost use Rattle.osek_standard.specs.Services.{is_on_top as is_on_top_of};
 
 use abstract_state::{ComponentNo, PartValue, Val};

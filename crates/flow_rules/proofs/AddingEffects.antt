@@ -1,26 +1,16 @@
 -- The exits of effects, one effect after another, in a pool that grows.
 use Rattle.std.proofs.Common.{◌≡◌, ℕ, ◌+◌, ◌<◌, List, [], ◌∷◌, ◌++◌, length, get_or, take, refl, sym, ap, subst, ◌∙◌, inl, inr}
 use Rattle.std.specs.Prelude.{Contains}
-use Rattle.std.proofs.lemmas.List.{take_more}
-use Rattle.std.proofs.lemmas.List.Elements.{Contains-append_left, Contains-append_right, Contains-append_cases}
+use Rattle.std.proofs.lemmas.List.{take_more, Elements.{Contains-append_left, Contains-append_right, Contains-append_cases}}
 use Rattle.osek_standard.specs.declared.app.App.{App}
 use Rattle.osek_standard.proofs.Members.{among_contained, contained_among}
-use Rattle.abstract_state.specs.declared.{table.PlainEntry.{PlainEntry}}
-use Rattle.abstract_state.specs.Components.{component_count}
-use Rattle.flow_model.specs.declared.case.{EffectCase.{EffectCase}}
-use Rattle.flow_model.specs.Rules.{Applies, HasNone}
-use Rattle.flow_model.specs.declared.case.Leaving.{Leaving}
-use Rattle.numbered_sets.specs.declared.numbered_entry.NumberedEntry.{NumberedEntry}
-use Rattle.numbered_sets.specs.Pools.{Values, IsLonger}
-use Rattle.numbered_sets.specs.Views.{plain_entry}
-use Rattle.numbered_sets.proofs.NumberingLaws.{longer_itself, longer_onward}
-use Rattle.flow_exits.specs.declared.exit.Exit.{Exit}
-use Rattle.flow_exits.specs.Leaving.{IsOfEffects, HasExitsFor, AddsDecided, effect_rule}
+use Rattle.abstract_state.specs.{declared.table.PlainEntry.{PlainEntry}, Components.{component_count}}
+use Rattle.flow_model.specs.{declared.case.{EffectCase.{EffectCase}, Leaving.{Leaving}}, Rules.{Applies, HasNone}}
+use Rattle.numbered_sets.specs.{declared.numbered_entry.NumberedEntry.{NumberedEntry}, Pools.{Values, IsLonger}, Views.{plain_entry}}
+use Rattle.numbered_sets.proofs.NumberingLaws.{longer_onward}
+use Rattle.flow_exits.specs.{declared.exit.Exit.{Exit}, Leaving.{IsOfEffects, HasExitsFor, AddsDecided, effect_rule}}
 use Rattle.flow_exits.proofs.AfterEffect.{decided_comes, decisions_covered, nothing_taken}
-use Rattle.flow_rules.specs.declared.group.ExitGroup.{ExitGroup}
-use Rattle.flow_rules.specs.Groups.{all_exits, AreKnownGroups}
-use Rattle.flow_rules.specs.Deciding.{AddsFor, IsAny}
-use Rattle.flow_rules.specs.Leaving.{AddsEffects}
+use Rattle.flow_rules.specs.{declared.group.ExitGroup.{ExitGroup}, Groups.{all_exits, AreKnownGroups}, Deciding.{AddsFor, IsAny}, Leaving.{AddsEffects}}
 use Rattle.flow_rules.proofs.GrowingPools.{exits_same, groups_known}
 
 -- an exit of some effects is one of more effects

@@ -1,30 +1,19 @@
 -- Groups that come to others, one after another.
 use Rattle.std.proofs.Common.{◌≡◌, ◌⊎◌, ℕ, ◌+◌, ◌<◌, ◌≤◌, false, List, length, sym, ap, subst, ◌∙◌, inl, inr, arith, IsTrue, Some}
 use Rattle.std.specs.Prelude.{slice_index_or, Contains}
-use Rattle.std.proofs.lemmas.Bool.{cases_eq}
-use Rattle.std.proofs.lemmas.List.{get_or_default}
+use Rattle.std.proofs.lemmas.{Bool.{cases_eq}, List.{get_or_default}}
 use Rattle.osek_values.specs.declared.numbers.TaskNo.{TaskNo}
 use Rattle.osek_standard.specs.declared.app.App.{App}
-use Rattle.abstract_state.specs.declared.value.PartValue.{PartValue}
-use Rattle.abstract_state.specs.Concrete.{val_of}
+use Rattle.abstract_state.specs.{declared.value.PartValue.{PartValue}, Concrete.{val_of}}
 use Rattle.abstract_state.proofs.ComponentLaws.{task_counted}
 use Rattle.flow_model.specs.declared.case.Decision.{Decision}
 use Rattle.flow_model.specs.declared.case.Decision.TheVariants as decision
-use Rattle.flow_model.specs.Values.{is_live_value}
-use Rattle.flow_model.specs.Effects.{AreIn}
-use Rattle.flow_model.specs.declared.case.Leaving.{Leaving}
-use Rattle.numbered_sets.specs.declared.numbered_entry.NumberedEntry.{NumberedEntry}
-use Rattle.numbered_sets.specs.Pools.{Values, values_at}
-use Rattle.numbered_sets.specs.Views.{plain_entry, AreNumbersOf}
-use Rattle.flow_exits.specs.declared.exit.Exit.{Exit}
-use Rattle.flow_exits.specs.Leaving.{IsDecided, HasDecided}
-use Rattle.flow_rules.specs.declared.{task_levels.{Level.{Level}, TaskLevels.{TaskLevels}}, levels.Levels.{Levels}}
-use Rattle.flow_rules.specs.Levels.{AreTaskLevels, AreAllLevels}
-use Rattle.flow_rules.specs.declared.group.ExitGroup.{ExitGroup}
-use Rattle.flow_rules.specs.Groups.{all_exits}
-use Rattle.flow_rules.specs.Deciding.{DecidesSo, AddsFor, IsIt, IsOfLevel, IsAtLevel, IsAtFirst, IsWinnerBelow}
-use Rattle.flow_rules.proofs.NumberLaws.{member_number}
-use Rattle.flow_rules.proofs.OwnLevels.{own_levels, own_judged}
+use Rattle.flow_model.specs.{Values.{is_live_value}, Effects.{AreIn}, declared.case.Leaving.{Leaving}}
+use Rattle.numbered_sets.specs.{declared.numbered_entry.NumberedEntry.{NumberedEntry}, Pools.{Values, values_at}, Views.{plain_entry, AreNumbersOf}}
+use Rattle.flow_exits.specs.{declared.exit.Exit.{Exit}, Leaving.{HasDecided}}
+use Rattle.flow_rules.specs.{declared.{task_levels.{Level.{Level}, TaskLevels.{TaskLevels}}, levels.Levels.{Levels}}, Levels.{AreTaskLevels, AreAllLevels}}
+use Rattle.flow_rules.specs.{declared.group.ExitGroup.{ExitGroup}, Groups.{all_exits}, Deciding.{DecidesSo, AddsFor, IsIt, IsOfLevel, IsAtLevel, IsAtFirst, IsWinnerBelow}}
+use Rattle.flow_rules.proofs.{NumberLaws.{member_number}, OwnLevels.{own_levels, own_judged}}
 
 module _ (app : App) (pool : List Values) (leaving : Leaving) where
   -- an exit is still there

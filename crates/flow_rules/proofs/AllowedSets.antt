@@ -1,18 +1,12 @@
 -- The allowed part of an entry, set by set.
 use Rattle.std.proofs.Common.{◌≡◌, ℕ, zero, suc, ◌+◌, ◌-◌, ◌<◌, ◌≤◌, Bool, true, false, ◌&&◌, ◌||◌, List, [], ◌∷◌, ◌++◌, length, get_or, take, map, All, refl, sym, ap, subst, ◌∙◌, inl, inr, arith}
 use Rattle.std.specs.List.{list_any}
-use Rattle.std.proofs.lemmas.Bool.{cases_lt, and_parts}
-use Rattle.std.proofs.lemmas.List.{take_more, take_all, get_or_append_left, get_or-append_right, length-append}
-use Rattle.std.proofs.lemmas.List.Elements.{All-contains, All-from_get_or, All-get_or, Contains-get_or}
-use Rattle.std.proofs.lemmas.Map.Views.{Contains-from_any, list_any-from_Contains}
-use Rattle.osek_standard.specs.declared.app.App.{App}
-use Rattle.osek_standard.specs.declared.point.Point.{Point}
-use Rattle.abstract_state.specs.declared.value.{Domain.{Domain}, PartValue.{PartValue}, PartValue.TheVariants.{OfAlarm}}
-use Rattle.abstract_state.specs.declared.table.{ValueSet.{ValueSet}, PlainEntry.{PlainEntry}}
-use Rattle.abstract_state.specs.ValueOrder.{same_part, IsAscending}
-use Rattle.abstract_state.specs.Domains.{IsWithin, IsSound, domains}
-use Rattle.abstract_state.specs.Tables.{is_member, empty_of, empty_set, set_at}
-use Rattle.abstract_state.proofs.OrderLaws.{part_right, part_laws, ascending_none}
+use Rattle.std.proofs.lemmas.{Bool.{cases_lt, and_parts}, List.{take_more, get_or_append_left, get_or-append_right, length-append}}
+use Rattle.std.proofs.lemmas.{List.Elements.{All-contains, All-from_get_or, All-get_or, Contains-get_or}, Map.Views.{Contains-from_any, list_any-from_Contains}}
+use Rattle.osek_standard.specs.declared.{app.App.{App}, point.Point.{Point}}
+use Rattle.abstract_state.specs.declared.{value.{Domain.{Domain}, PartValue.{PartValue, TheVariants.{OfAlarm}}}, table.{ValueSet.{ValueSet}, PlainEntry.{PlainEntry}}}
+use Rattle.abstract_state.specs.{ValueOrder.{same_part, IsAscending}, Domains.{IsWithin, IsSound, domains}, Tables.{is_member, empty_set, set_at}}
+use Rattle.abstract_state.proofs.OrderLaws.{part_right, part_laws}
 use Rattle.flow_rules.specs.Allowed.{may_be, IsPartOf, IsAllowedPart}
 use Rattle.flow_rules.proofs.Passing.{any_end}
 
@@ -38,8 +32,6 @@ pub record IsPartUpTo (passes : PartValue → Bool) (set : ValueSet) (k : ℕ) (
   pub members : (w : PartValue) → is_member part w ≡ (list_any (same_part w) (take k set.members) && passes w)
 
 module _ (passes : PartValue → Bool) (set : ValueSet) where
-  pub no_part : (part : ValueSet) → part ≡ empty_of set.domain → IsPartUpTo passes set 0 part
-  no_part part is = subst (IsPartUpTo passes set 0) (sym is) (record { domain = refl; ascending = ascending_none; members = λ w. refl })
 
   module _ (k : ℕ) (part : ValueSet) (v : PartValue) (lt : k < length set.members) (is : get_or set.members k v ≡ v) (h : IsPartUpTo passes set k part) where
     more : (w : PartValue) → list_any (same_part w) (take (k + 1) set.members) ≡ (list_any (same_part w) (take k set.members) || same_part w v)
@@ -63,21 +55,12 @@ module _ (passes : PartValue → Bool) (set : ValueSet) where
           ∙ put_with (list_any (same_part w) (take k set.members)) (same_part w v) (passes w) (its true e w) ∙ sym (ap (λ (b : Bool). b && passes w) (more w));
     }
 
-  pub part_whole : (k : ℕ) (part : ValueSet) → length set.members ≤ k → IsPartUpTo passes set k part → IsPartOf passes set part
-  part_whole k part all h = record {
-    domain = h.domain;
-    ascending = h.ascending;
-    members = λ w. h.members w ∙ ap (λ (xs : List PartValue). list_any (same_part w) xs && passes w) (take_all k set.members all);
-  }
-
 -- the first sets are done
 pub record ArePartsUpTo (app : App) (p : Point) (entry : PlainEntry) (k : ℕ) (sets : List ValueSet) : Type 0 where
   pub size : length sets ≡ k
   pub each : (c : ℕ) → c < k → IsPartOf (may_be app p c) (set_at entry c) (get_or sets c empty_set)
 
 module _ (app : App) (p : Point) (entry : PlainEntry) where
-  pub no_parts : ArePartsUpTo app p entry 0 []
-  no_parts = record { size = refl; each = λ c lt. absurd (omega (arith, lt)) }
 
   pub parts_more : (k : ℕ) (sets : List ValueSet) (new : ValueSet) → ArePartsUpTo app p entry k sets → IsPartOf (may_be app p k) (set_at entry k) new → ArePartsUpTo app p entry (k + 1) (sets ++ new ∷ [])
   parts_more k sets new h last = record {
@@ -92,9 +75,6 @@ module _ (app : App) (p : Point) (entry : PlainEntry) where
           subst (IsPartOf (may_be app p c) (set_at entry c)) (sym at) (subst (λ (i : ℕ). IsPartOf (may_be app p i) (set_at entry i) new) same last))
     ];
   }
-
-  pub all_parts : (k : ℕ) (part : PlainEntry) → k ≡ length entry.sets → ArePartsUpTo app p entry k part.sets → IsAllowedPart app p entry part
-  all_parts k part whole h = record { size = h.size ∙ whole; each = λ c lt. h.each c (subst (λ (n : ℕ). c < n) (sym whole) lt) }
 
 -- ---- it is a sound entry of the same domains
 

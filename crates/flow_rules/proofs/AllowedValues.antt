@@ -1,30 +1,21 @@
 -- The part of an entry that is allowed at a point has exactly the values that well-formed states have there.
 use Rattle.std.proofs.Common.{◌≡◌, ℕ, ◌+◌, ◌<◌, ◌≤◌, Bool, true, false, not, ◌&&◌, ◌||◌, length, refl, sym, ap, subst, ◌∙◌, inl, inr, arith, Some, None, IsTrue}
 use Rattle.std.specs.Prelude.{◌==◌, nat_lt, nat_le}
-use Rattle.std.proofs.lemmas.Bool.Decides.{nat_tests}
-use Rattle.std.proofs.lemmas.Bool.{cases_Bool, and_parts, or_cases, or_left, or_right, eqb-true, eq-eqb}
-use Rattle.osek_values.specs.Numbers.{block_no}
-use Rattle.osek_values.specs.declared.numbers.BlockNo.{BlockNo}
-use Rattle.osek_standard.specs.declared.app.App.{App}
-use Rattle.osek_standard.specs.declared.block.Kind.{Kind}
+use Rattle.std.proofs.lemmas.Bool.{cases_Bool, and_parts, or_cases, or_left, or_right, eqb-true, eq-eqb, Decides.{nat_tests}}
+use Rattle.osek_values.specs.{Numbers.{block_no}, declared.numbers.BlockNo.{BlockNo}}
+use Rattle.osek_standard.specs.declared.{app.App.{App}, block.Kind.{Kind}}
 use Rattle.osek_standard.specs.declared.block.Kind.TheVariants as kind
-use Rattle.osek_standard.specs.declared.call.Call.{Call}
-use Rattle.osek_standard.specs.declared.call.Call.TheVariants.{Plain, Task, Resource, SetEvent, Mask, Alarm, Arm, Lock, ShutdownOs}
-use Rattle.osek_standard.specs.declared.call.MaskService.TheVariants.{ClearEvent, WaitEvent}
-use Rattle.osek_standard.specs.declared.point.Point.{Point}
+use Rattle.osek_standard.specs.declared.call.Call.{Call, TheVariants.{Plain, Task, Resource, SetEvent, Mask, Alarm, Arm, Lock, ShutdownOs}}
+use Rattle.osek_standard.specs.declared.{call.MaskService.TheVariants.{ClearEvent, WaitEvent}, point.Point.{Point}}
 use Rattle.osek_standard.specs.declared.point.Point.TheVariants as point
-use Rattle.osek_standard.specs.Apps.{the_task, the_block, is_extended}
-use Rattle.osek_standard.specs.Well.{IsWaitEvent, IsOwn}
-use Rattle.abstract_state.specs.declared.value.{Val.{Val}, Val.TheVariants.{Suspended, Live, Waiting}, Component.{Component}, PartValue.{PartValue}, PartValue.TheVariants.{OfTask, OfEvent, OfAlarm}}
+use Rattle.osek_standard.specs.{Apps.{the_task, the_block, is_extended}, Well.{IsWaitEvent, IsOwn}}
+use Rattle.abstract_state.specs.declared.value.{Val.{Val, TheVariants.{Suspended, Live, Waiting}}, Component.{Component}, PartValue.{PartValue, TheVariants.{OfTask, OfEvent, OfAlarm}}}
 use Rattle.abstract_state.specs.declared.value.Component.TheVariants as component
 use Rattle.abstract_state.specs.declared.table.PlainEntry.{PlainEntry}
 use Rattle.abstract_state.specs.Components.{component_at, component_count, component_number, IsComponent, IsLiveAt, IsLiveSomewhere, IsVal, FitsPoint, IsPart, IsAllowed}
-use Rattle.abstract_state.specs.Concrete.{AreAllowed}
-use Rattle.abstract_state.specs.Domains.{IsValWithin, IsWithin, domain_of}
-use Rattle.abstract_state.specs.Tables.{set_at, is_member}
+use Rattle.abstract_state.specs.{Concrete.{AreAllowed}, Domains.{IsValWithin, IsWithin, domain_of}, Tables.{set_at, is_member}}
 use Rattle.abstract_state.proofs.ComponentLaws.{component_known, component_numbered}
-use Rattle.flow_model.specs.Effects.{AreIn, AreAllAllowed}
-use Rattle.flow_model.specs.Values.{is_live_value}
+use Rattle.flow_model.specs.{Effects.{AreIn, AreAllAllowed}, Values.{is_live_value}}
 use Rattle.flow_rules.specs.Allowed.{is_wait, stands_at, may_wait, owns, fits, may_be, IsAllowedPart}
 
 -- ---- WaitEvent blocks

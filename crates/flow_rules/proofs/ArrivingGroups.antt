@@ -4,22 +4,15 @@ use Rattle.std.specs.Prelude.{◌==◌, Contains}
 use Rattle.std.proofs.lemmas.Bool.{eqb-true}
 use Rattle.std.specs.declared.option.Option.{Option}
 use Rattle.osek_values.specs.declared.numbers.TaskNo.{TaskNo}
-use Rattle.osek_standard.specs.declared.app.App.{App}
-use Rattle.osek_standard.specs.declared.point.Point.{Point}
-use Rattle.osek_standard.specs.Apps.{source_count}
+use Rattle.osek_standard.specs.{declared.{app.App.{App}, point.Point.{Point}}, Apps.{source_count}}
 use Rattle.osek_standard.proofs.Members.{among_contained, contained_among, among_map, map_among}
 use Rattle.abstract_state.specs.declared.table.PlainEntry.{PlainEntry}
 use Rattle.flow_model.specs.declared.rule.Rule.{Rule}
-use Rattle.numbered_sets.specs.declared.numbered_entry.NumberedEntry.{NumberedEntry}
-use Rattle.numbered_sets.specs.Pools.{Values}
-use Rattle.numbered_sets.specs.Views.{plain_entry, AreNumbersOf}
-use Rattle.flow_exits.specs.Arrivals.{arrival_rule, MayBegin, AreArrivals}
-use Rattle.flow_exits.specs.declared.exit.Exit.{Exit}
-use Rattle.flow_exits.specs.Leaving.{arrival_exit, IsArrivalExit}
-use Rattle.flow_rules.specs.declared.group.{ExitGroup.{ExitGroup}}
+use Rattle.numbered_sets.specs.{declared.numbered_entry.NumberedEntry.{NumberedEntry}, Pools.{Values}, Views.{plain_entry, AreNumbersOf}}
+use Rattle.flow_exits.specs.{Arrivals.{arrival_rule, MayBegin, AreArrivals}, declared.exit.Exit.{Exit}, Leaving.{arrival_exit, IsArrivalExit}}
+use Rattle.flow_rules.specs.declared.group.ExitGroup.{ExitGroup}
 use Rattle.flow_rules.specs.declared.group.Ends.TheVariants as ends
-use Rattle.flow_rules.specs.Groups.{exits_of, AreKnownGroups}
-use Rattle.flow_rules.specs.Leaving.{AddsArrivals}
+use Rattle.flow_rules.specs.{Groups.{exits_of, AreKnownGroups}, Leaving.{AddsArrivals}}
 use Rattle.flow_rules.proofs.GroupLaws.{old_exit, new_exit, exit_cases, known_with}
 
 -- where nothing begins

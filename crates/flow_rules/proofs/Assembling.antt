@@ -1,35 +1,19 @@
 -- Rules out of effects and outcomes: they cover each step that shows something, and each is exact.
 use Rattle.std.proofs.Common.{◌≡◌, ℕ, ◌<◌, Bool, List, ◌++◌, IsTrue, refl, sym, ap, subst, ◌∙◌, inl, inr}
 use Rattle.std.specs.declared.option.Option.{Option}
-use Rattle.osek_values.specs.declared.event.{Event.{Event}, Event.TheVariants.{Run}}
-use Rattle.osek_values.specs.declared.status.Status.{Status}
-use Rattle.osek_standard.specs.declared.app.App.{App}
-use Rattle.osek_standard.specs.declared.state.{State.{State}}
-use Rattle.osek_standard.specs.declared.point.Point.{Point}
-use Rattle.osek_standard.specs.Points.{point_of}
-use Rattle.osek_standard.specs.Dispatch.{Outcome, Stepped, instruction, outcome, outcome_of, settled}
-use Rattle.osek_standard.specs.Effects.{Effect, effect}
-use Rattle.osek_standard.specs.Kernel.{step}
-use Rattle.osek_standard.specs.Outcomes.{Did, shows, IsInstruction}
-use Rattle.osek_standard.specs.Well.{Well, IsActive}
-use Rattle.osek_standard.proofs.Members.{among_left, among_right, among_cases, among_contained, contained_among}
-use Rattle.osek_standard.proofs.EffectKeeps.{effect_keeps}
-use Rattle.abstract_state.specs.declared.value.PartValue.{PartValue}
-use Rattle.abstract_state.specs.declared.table.PlainEntry.{PlainEntry}
-use Rattle.abstract_state.specs.Components.{component_count, component_at, abstract_of, IsAllowed}
-use Rattle.abstract_state.specs.Concrete.{AreAllowed}
-use Rattle.abstract_state.specs.Tables.{set_at, is_member}
+use Rattle.osek_values.specs.declared.{event.Event.{Event, TheVariants.{Run}}, status.Status.{Status}}
+use Rattle.osek_standard.specs.{declared.{app.App.{App}, state.State.{State}, point.Point.{Point}}, Points.{point_of}}
+use Rattle.osek_standard.specs.{Dispatch.{Outcome, Stepped, instruction, outcome, outcome_of, settled}, Effects.{Effect, effect}, Kernel.{step}}
+use Rattle.osek_standard.specs.{Outcomes.{Did, shows, IsInstruction}, Well.{Well, IsActive}}
+use Rattle.osek_standard.proofs.{Members.{among_left, among_right, among_cases, among_contained, contained_among}, EffectKeeps.{effect_keeps}}
+use Rattle.abstract_state.specs.{declared.{value.PartValue.{PartValue}, table.PlainEntry.{PlainEntry}}, Components.{component_count, component_at, abstract_of, IsAllowed}}
+use Rattle.abstract_state.specs.{Concrete.{AreAllowed}, Tables.{set_at, is_member}}
 use Rattle.abstract_state.proofs.AllowedLaws.{well_part}
-use Rattle.flow_model.specs.declared.test.Condition.{Condition}
-use Rattle.flow_model.specs.declared.case.{EffectCase.{EffectCase}, OutcomeCase.{OutcomeCase}}
-use Rattle.flow_model.specs.declared.rule.Rule.{Rule}
-use Rattle.flow_model.specs.Tests.{PassesAt, PassesAll, values_after}
-use Rattle.flow_model.specs.Effects.{AreIn, AreAllAllowed, IsAt, IsKnownStay, HaveKnownStays, HasEffect, CoverEffects, AreExactEffects}
-use Rattle.flow_model.specs.Scheduling.{AreValuesOf, HasOutcome, end_point, outcome_of_decision}
-use Rattle.flow_model.specs.Rules.{Matches, IsMatched, IsForeseen, Shown}
+use Rattle.flow_model.specs.declared.{test.Condition.{Condition}, case.{EffectCase.{EffectCase}, OutcomeCase.{OutcomeCase}}, rule.Rule.{Rule}}
+use Rattle.flow_model.specs.{Tests.{PassesAt, PassesAll, values_after}, Effects.{AreIn, AreAllAllowed, IsAt, IsKnownStay, HaveKnownStays, HasEffect, CoverEffects, AreExactEffects}}
+use Rattle.flow_model.specs.{Scheduling.{AreValuesOf, HasOutcome, end_point, outcome_of_decision}, Rules.{Matches, IsMatched, IsForeseen, Shown}}
 use Rattle.flow_model.proofs.Instructions.{instruction_by, shown_so}
-use Rattle.flow_exits.proofs.KernelDecides.{decided_so, some_decided, ends_there}
-use Rattle.flow_exits.proofs.Staying.{same_stay, settled_part}
+use Rattle.flow_exits.proofs.{KernelDecides.{decided_so, some_decided, ends_there}, Staying.{same_stay, settled_part}}
 use Rattle.flow_rules.specs.Assembly.{rule_of, IsRuleOfSome, AreAllAdded}
 
 -- conditions of two lists

@@ -1,26 +1,18 @@
 -- Which values pass where values are barred.
 use Rattle.std.proofs.Common.{◌≡◌, ℕ, ◌+◌, ◌<◌, Bool, true, false, not, List, [], ◌∷◌, ◌++◌, length, get_or, take, flat_map, refl, sym, ap, subst, ◌∙◌, inl, inr, arith, IsTrue}
-use Rattle.std.specs.Prelude.{if◌then◌else◌, Contains}
-use Rattle.std.proofs.lemmas.Bool.{cases_Bool}
-use Rattle.std.proofs.lemmas.Grind.{flat_map-append}
-use Rattle.std.proofs.lemmas.List.{append-nil, get_or_default, take_more}
-use Rattle.std.proofs.lemmas.List.Elements.{Contains-get_or}
-use Rattle.std.proofs.lemmas.Map.Views.{Contains-from_any}
+use Rattle.std.specs.Prelude.{if◌then◌else◌}
+use Rattle.std.proofs.lemmas.{Bool.{cases_Bool}, Grind.{flat_map-append}, List.{append-nil, get_or_default, take_more, Elements.{Contains-get_or}}, Map.Views.{Contains-from_any}}
 use Rattle.osek_values.specs.Numbers.{alarm_no}
 use Rattle.osek_standard.specs.declared.app.App.{App}
 use Rattle.osek_standard.proofs.Members.{Among, among_flat_map, flat_map_among, contained_among, among_contained}
 use Rattle.abstract_state.specs.declared.value.{Component.{Component}, ComponentNo.{ComponentNo}, PartValue.{PartValue}}
 use Rattle.abstract_state.specs.declared.value.Component.TheVariants as component
-use Rattle.abstract_state.specs.declared.table.PlainEntry.{PlainEntry}
-use Rattle.abstract_state.specs.Components.{components, component_at, component_count, component_number, component_no, IsComponent}
-use Rattle.abstract_state.specs.Tables.{set_at, is_member}
-use Rattle.abstract_state.specs.ValueOrder.{same_part}
-use Rattle.abstract_state.proofs.ComponentLaws.{component_known, component_numbered}
-use Rattle.abstract_state.proofs.OrderLaws.{part_right, part_itself}
+use Rattle.abstract_state.specs.{declared.table.PlainEntry.{PlainEntry}, Components.{components, component_at, component_count, component_number, component_no, IsComponent}}
+use Rattle.abstract_state.specs.{Tables.{set_at, is_member}, ValueOrder.{same_part}}
+use Rattle.abstract_state.proofs.{ComponentLaws.{component_known, component_numbered}, OrderLaws.{part_right, part_itself}}
 use Rattle.flow_model.specs.declared.{change.Change.{Change}, test.Condition.{Condition}}
 use Rattle.flow_model.specs.declared.test.Test.TheVariants as test
-use Rattle.flow_model.specs.Effects.{AreIn}
-use Rattle.flow_model.specs.Tests.{passes, PassesAll, value_after}
+use Rattle.flow_model.specs.{Effects.{AreIn}, Tests.{passes, PassesAll, value_after}}
 use Rattle.flow_rules.specs.Ruling.{bars, bars_at, barred}
 
 module _ (app : App) (changes : List Change) (from kept : PlainEntry) where

@@ -1,21 +1,14 @@
 -- The blocks of a task's values, one number after another.
 use Rattle.std.proofs.Common.{◌≡◌, ℕ, ◌+◌, ◌<◌, ◌≤◌, false, List, [], ◌∷◌, ◌++◌, length, sym, ap, subst, ◌∙◌, inl, inr, arith, IsTrue}
 use Rattle.std.specs.Prelude.{slice_index_or, Contains}
-use Rattle.std.proofs.lemmas.Bool.{cases_eq, cases_lt}
-use Rattle.std.proofs.lemmas.List.{length-map}
-use Rattle.std.proofs.lemmas.List.Elements.{Contains-append_left, Contains-push, Contains-push_cases}
+use Rattle.std.proofs.lemmas.{Bool.{cases_eq, cases_lt}, List.{length-map, Elements.{Contains-append_left, Contains-push, Contains-push_cases}}}
 use Rattle.osek_standard.specs.declared.point.Point.TheVariants as point
 use Rattle.osek_standard.proofs.Members.{contained_among}
-use Rattle.abstract_state.specs.declared.value.PartValue.{PartValue}
-use Rattle.abstract_state.specs.Concrete.{val_of}
+use Rattle.abstract_state.specs.{declared.value.PartValue.{PartValue}, Concrete.{val_of}}
 use Rattle.flow_model.specs.Values.{block_of}
-use Rattle.numbered_sets.specs.declared.numbered_entry.NumberedEntry.{NumberedEntry}
-use Rattle.numbered_sets.specs.Numbers.{Numbers, has_number}
-use Rattle.numbered_sets.specs.NumberedEntries.{numbers_at}
-use Rattle.numbered_sets.specs.Pools.{Values, values_at, IsNumberOf}
-use Rattle.numbered_sets.specs.Views.{AreNumbersOf}
-use Rattle.flow_rules.specs.declared.group.NumberEnd.{NumberEnd}
-use Rattle.flow_rules.specs.Deciding.{AreBlockEnds}
+use Rattle.numbered_sets.specs.{declared.numbered_entry.NumberedEntry.{NumberedEntry}, Numbers.{Numbers, has_number}, NumberedEntries.{numbers_at}}
+use Rattle.numbered_sets.specs.{Pools.{Values, values_at, IsNumberOf}, Views.{AreNumbersOf}}
+use Rattle.flow_rules.specs.{declared.group.NumberEnd.{NumberEnd}, Deciding.{AreBlockEnds}}
 
 -- the pool has the components of the entry
 pub pool_has : (pool : List Values) (entry : NumberedEntry) (t c : ℕ) → AreNumbersOf pool entry → t < length entry.sets → c ≡ t → c < length pool

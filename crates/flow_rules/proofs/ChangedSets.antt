@@ -1,25 +1,13 @@
 -- What changes do to sets of numbers, one after another.
 use Rattle.std.proofs.Common.{◌≡◌, ◌≢◌, ℕ, ◌+◌, ◌<◌, ◌≤◌, Bool, true, false, ◌||◌, List, [], ◌∷◌, ◌++◌, length, get_or, set, take, drop, refl, sym, ap, subst, ◌∙◌, inl, inr, arith, IsTrue, get_or-set_same, get_or-set_other}
-use Rattle.std.specs.Prelude.{◌==◌, if◌then◌else◌}
-use Rattle.std.specs.List.{list_any}
-use Rattle.std.proofs.lemmas.Bool.{cases_Bool, cases_eq, eq-eqb, ne_eqb}
-use Rattle.std.proofs.lemmas.List.{length-set, take_more, take_all, take-append-drop, append-nil}
-use Rattle.std.proofs.lemmas.List.Folds.{list_any-append}
-use Rattle.abstract_state.specs.declared.value.{Domain.{Domain}, PartValue.{PartValue}}
-use Rattle.abstract_state.specs.declared.table.{ValueSet.{ValueSet}}
-use Rattle.abstract_state.specs.Domains.{IsWithin}
-use Rattle.abstract_state.specs.Tables.{set_at, is_member}
-use Rattle.flow_model.specs.declared.{change.Change.{Change}, test.Condition.{Condition}, rule.Rule.{Rule}}
-use Rattle.flow_model.specs.Tests.{PassesAt, updated, value_after}
-use Rattle.numbered_sets.specs.declared.numbered_entry.NumberedEntry.{NumberedEntry}
-use Rattle.numbered_sets.specs.Numbers.{Numbers}
-use Rattle.numbered_sets.specs.NumberedEntries.{no_set, numbers_at}
-use Rattle.numbered_sets.specs.Pools.{Values, values_at, IsLonger}
+use Rattle.std.specs.{Prelude.{◌==◌, if◌then◌else◌}, List.{list_any}}
+use Rattle.std.proofs.lemmas.{Bool.{cases_Bool, cases_eq, eq-eqb, ne_eqb}, List.{length-set, take_more, take_all, take-append-drop, append-nil, Folds.{list_any-append}}}
+use Rattle.abstract_state.specs.{declared.{value.{Domain.{Domain}, PartValue.{PartValue}}, table.ValueSet.{ValueSet}}, Domains.{IsWithin}, Tables.{set_at, is_member}}
+use Rattle.flow_model.specs.{declared.{change.Change.{Change}, test.Condition.{Condition}, rule.Rule.{Rule}}, Tests.{PassesAt, updated, value_after}}
+use Rattle.numbered_sets.specs.{declared.numbered_entry.NumberedEntry.{NumberedEntry}, Numbers.{Numbers}, NumberedEntries.{no_set, numbers_at}, Pools.{Values, values_at, IsLonger}}
 use Rattle.numbered_sets.specs.Views.{plain_set, plain_entry, AreNumbersOf}
-use Rattle.numbered_sets.proofs.PlainLaws.{plain_set_at, length_plain}
-use Rattle.numbered_sets.proofs.NumberingLaws.{longer_onward}
-use Rattle.flow_rules.specs.Applying.{KeepsDomain, IsPassedSet}
-use Rattle.flow_rules.specs.Changing.{names, is_named, up_to, alone, StaysWithin, AreAllPassed}
+use Rattle.numbered_sets.proofs.{PlainLaws.{plain_set_at, length_plain}, NumberingLaws.{longer_onward}}
+use Rattle.flow_rules.specs.{Applying.{KeepsDomain, IsPassedSet}, Changing.{names, is_named, up_to, alone, StaysWithin, AreAllPassed}}
 use Rattle.flow_rules.proofs.NumbersPassing.{passed_on, alike_there}
 
 -- ---- what becomes of a value

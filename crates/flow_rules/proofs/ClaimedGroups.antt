@@ -1,42 +1,27 @@
 -- Groups of a claim: with the values under its limits the scheduler decides so, and back.
 use Rattle.std.proofs.Common.{◌≡◌, ◌≢◌, ℕ, ◌<◌, ◌≤◌, Bool, true, false, ◌&&◌, List, [], length, set, refl, sym, ap, ap₂, subst, ◌∙◌, arith, IsTrue, Some, None, IfSome}
-use Rattle.std.specs.Prelude.{slice_index_or}
-use Rattle.std.specs.declared.option.Option.{Option}
+use Rattle.std.specs.{Prelude.{slice_index_or}, declared.option.Option.{Option}}
 use Rattle.std.proofs.lemmas.Bool.{eq-eqb, and_parts}
 use Rattle.osek_values.specs.declared.numbers.TaskNo.{TaskNo}
-use Rattle.osek_standard.specs.declared.app.App.{App}
-use Rattle.osek_standard.specs.States.{is_that_task}
-use Rattle.abstract_state.specs.declared.value.{PartValue.{PartValue}, PartValue.TheVariants.{OfAlarm}}
-use Rattle.abstract_state.specs.Components.{component_count}
-use Rattle.abstract_state.specs.Concrete.{val_of}
+use Rattle.osek_standard.specs.{declared.app.App.{App}, States.{is_that_task}}
+use Rattle.abstract_state.specs.{declared.value.PartValue.{PartValue, TheVariants.{OfAlarm}}, Components.{component_count}, Concrete.{val_of}}
 use Rattle.abstract_state.proofs.ComponentLaws.{task_counted}
 use Rattle.flow_model.specs.declared.case.{Asked.{Asked}, Decision.{Decision}}
 use Rattle.flow_model.specs.declared.case.Asked.TheVariants as asked
 use Rattle.flow_model.specs.declared.case.Decision.TheVariants as decision
-use Rattle.flow_model.specs.Values.{is_live_value}
-use Rattle.flow_model.specs.Effects.{AreIn}
-use Rattle.flow_model.specs.Scheduling.{task_priority, IsLiveTask, IsBestTask, NoneLive, NoneAbove, Decides}
+use Rattle.flow_model.specs.{Values.{is_live_value}, Effects.{AreIn}, Scheduling.{task_priority, IsLiveTask, IsBestTask, NoneLive, NoneAbove, Decides}}
 use Rattle.flow_model.specs.declared.case.Leaving.{Leaving}
-use Rattle.numbered_sets.specs.declared.numbered_entry.NumberedEntry.{NumberedEntry}
-use Rattle.numbered_sets.specs.Numbers.{Numbers, has_number, kept_numbers, meets}
-use Rattle.numbered_sets.specs.NumberedEntries.{numbers_at, AreFilled}
-use Rattle.numbered_sets.specs.Pools.{Values, values_at, IsNumberOf}
-use Rattle.numbered_sets.specs.Views.{plain_entry, AreNumbersOf}
+use Rattle.numbered_sets.specs.{declared.numbered_entry.NumberedEntry.{NumberedEntry}, Numbers.{Numbers, has_number, kept_numbers, meets}, NumberedEntries.{numbers_at, AreFilled}}
+use Rattle.numbered_sets.specs.{Pools.{Values, values_at, IsNumberOf}, Views.{plain_entry, AreNumbersOf}}
 use Rattle.numbered_sets.proofs.MeetLaws.{common_of, meets_at}
 use Rattle.flow_exits.specs.declared.claim.Claim.{Claim}
 use Rattle.flow_exits.specs.declared.claim.Claim.TheVariants as claim
-use Rattle.flow_exits.specs.Claims.{limit_of, AreUnder}
-use Rattle.flow_exits.specs.Outcomes.{IsVacant, idle_decision}
+use Rattle.flow_exits.specs.{Claims.{limit_of, AreUnder}, Outcomes.{IsVacant, idle_decision}}
 use Rattle.flow_exits.proofs.ClaimLaws.{that_task, nobody_means, nobody_passes, keeps_means, keeps_passes, gets_means, gets_above, gets_passes}
-use Rattle.flow_rules.specs.declared.{task_levels.{Level.{Level}, TaskLevels.{TaskLevels}}, levels.Levels.{Levels}}
-use Rattle.flow_rules.specs.Levels.{IsLiveAt, AreAllLevels}
-use Rattle.flow_rules.specs.declared.group.ExitGroup.{ExitGroup}
-use Rattle.flow_rules.specs.Narrowing.{IsLeft, is_under_limit, NeverUnder}
-use Rattle.flow_rules.specs.Deciding.{DecidesSo, AddsFor, IsIt, IsOfLevel, IsAtLevel, IsLevelOf, IsAlive, IsOver, IsGroupFor}
-use Rattle.flow_rules.proofs.ExitLaws.{IsSound, IsKnownDecision}
-use Rattle.flow_rules.proofs.LeftLaws.{tasks_counted, as_many_left, known_left, within_left, no_limit, under_left, left_under}
-use Rattle.flow_rules.proofs.KeptLaws.{as_many_kept, known_kept, filled_kept, number_kept, within_kept, in_kept}
-use Rattle.flow_rules.proofs.AddingLaws.{nothing_more}
+use Rattle.flow_rules.specs.{declared.{task_levels.{Level.{Level}, TaskLevels.{TaskLevels}}, levels.Levels.{Levels}, group.ExitGroup.{ExitGroup}}, Levels.{IsLiveAt, AreAllLevels}}
+use Rattle.flow_rules.specs.{Narrowing.{IsLeft, is_under_limit, NeverUnder}, Deciding.{DecidesSo, AddsFor, IsIt, IsOfLevel, IsAtLevel, IsLevelOf, IsAlive, IsOver, IsGroupFor}}
+use Rattle.flow_rules.proofs.{ExitLaws.{IsSound, IsKnownDecision}, LeftLaws.{tasks_counted, as_many_left, known_left, within_left, no_limit, under_left, left_under}}
+use Rattle.flow_rules.proofs.{KeptLaws.{as_many_kept, known_kept, filled_kept, number_kept, within_kept, in_kept}, AddingLaws.{nothing_more}}
 
 -- ---- values of a level
 

@@ -1,24 +1,13 @@
 -- What an exact effect makes of the values of an entry lies in their domains.
 use Rattle.std.proofs.Common.{◌≡◌, List, ap, subst, ◌∙◌}
 use Rattle.std.specs.Prelude.{Contains}
-use Rattle.osek_standard.specs.declared.app.App.{App}
-use Rattle.osek_standard.specs.declared.state.State.{State}
-use Rattle.osek_standard.specs.declared.point.Point.{Point}
-use Rattle.osek_standard.specs.Points.{point_of}
-use Rattle.osek_standard.specs.Effects.{effect}
-use Rattle.osek_standard.specs.Well.{Well}
+use Rattle.osek_standard.specs.{declared.{app.App.{App}, state.State.{State}, point.Point.{Point}}, Points.{point_of}, Effects.{effect}, Well.{Well}}
 use Rattle.osek_standard.proofs.EffectKeeps.{effect_keeps}
-use Rattle.abstract_state.specs.declared.{table.PlainEntry.{PlainEntry}}
-use Rattle.abstract_state.specs.Components.{component_at, abstract_of}
-use Rattle.abstract_state.specs.Domains.{IsWithin, domain_of, domains, domains_of}
-use Rattle.abstract_state.proofs.AllowedLaws.{well_part}
-use Rattle.abstract_state.proofs.DomainValues.{allowed_within}
-use Rattle.flow_model.specs.declared.case.EffectCase.{EffectCase}
-use Rattle.flow_model.specs.Tests.{value_after}
-use Rattle.flow_model.specs.Effects.{AreExactEffects}
+use Rattle.abstract_state.specs.{declared.table.PlainEntry.{PlainEntry}, Components.{component_at, abstract_of}, Domains.{IsWithin, domain_of, domains, domains_of}}
+use Rattle.abstract_state.proofs.{AllowedLaws.{well_part}, DomainValues.{allowed_within}}
+use Rattle.flow_model.specs.{declared.case.EffectCase.{EffectCase}, Tests.{value_after}, Effects.{AreExactEffects}}
 use Rattle.flow_exits.specs.Leaving.{effect_rule}
-use Rattle.flow_rules.specs.Passing.{StaysInDomains}
-use Rattle.flow_rules.specs.Applying.{KeepsDomains}
+use Rattle.flow_rules.specs.{Passing.{StaysInDomains}, Applying.{KeepsDomains}}
 use Rattle.flow_rules.proofs.KeptDomains.{shared_keep}
 
 -- the effect of a well-formed state leaves well-formed parts

@@ -2,35 +2,23 @@
 use Rattle.std.proofs.Common.{◌≡◌, ℕ, ◌<◌, ◌≤◌, false, List, [], ◌∷◌, ◌++◌, length, map, get_or, refl, sym, ap, subst, ◌∙◌, inl, inr, arith, Some, None}
 use Rattle.std.specs.Prelude.{⊤, Contains}
 use Rattle.std.proofs.lemmas.List.{get_or_default}
-use Rattle.osek_standard.specs.declared.app.App.{App}
-use Rattle.osek_standard.specs.declared.point.Point.{Point}
+use Rattle.osek_standard.specs.declared.{app.App.{App}, point.Point.{Point}}
 use Rattle.osek_standard.specs.declared.point.Point.TheVariants as point
 use Rattle.osek_standard.proofs.Members.{among_map, map_among, among_contained, contained_among}
-use Rattle.abstract_state.specs.declared.value.{PartValue.{PartValue}, PartValue.TheVariants.{OfAlarm}}
-use Rattle.abstract_state.specs.Components.{component_count}
-use Rattle.abstract_state.specs.Concrete.{val_of}
+use Rattle.abstract_state.specs.{declared.value.PartValue.{PartValue, TheVariants.{OfAlarm}}, Components.{component_count}, Concrete.{val_of}}
 use Rattle.abstract_state.proofs.ComponentLaws.{task_counted}
 use Rattle.flow_model.specs.declared.case.Decision.{Decision}
 use Rattle.flow_model.specs.declared.case.Decision.TheVariants as decision
-use Rattle.flow_model.specs.Values.{block_of}
-use Rattle.flow_model.specs.Effects.{AreIn, stay_point, IsKnownStay}
-use Rattle.flow_model.specs.Scheduling.{end_point}
-use Rattle.flow_model.specs.declared.case.Stay.{Stay}
+use Rattle.flow_model.specs.{Values.{block_of}, Effects.{AreIn, stay_point, IsKnownStay}, Scheduling.{end_point}, declared.case.Stay.{Stay}}
 use Rattle.flow_model.specs.declared.case.Stay.TheVariants as stay
 use Rattle.flow_model.specs.declared.case.Leaving.{Leaving}
-use Rattle.numbered_sets.specs.declared.numbered_entry.NumberedEntry.{NumberedEntry}
-use Rattle.numbered_sets.specs.NumberedEntries.{AreFilled}
-use Rattle.numbered_sets.specs.Pools.{Values, values_at, IsNumberOf}
+use Rattle.numbered_sets.specs.{declared.numbered_entry.NumberedEntry.{NumberedEntry}, NumberedEntries.{AreFilled}, Pools.{Values, values_at, IsNumberOf}}
 use Rattle.numbered_sets.specs.Views.{plain_entry, AreNumbersOf}
-use Rattle.flow_exits.specs.declared.exit.Exit.{Exit}
-use Rattle.flow_exits.specs.Exits.{IsFilled}
-use Rattle.flow_exits.specs.Leaving.{HasDecided}
+use Rattle.flow_exits.specs.{declared.exit.Exit.{Exit}, Exits.{IsFilled}, Leaving.{HasDecided}}
 use Rattle.flow_rules.specs.declared.group.{NumberEnd.{NumberEnd}, Ends.{Ends}, ExitGroup.{ExitGroup}}
 use Rattle.flow_rules.specs.declared.group.Ends.TheVariants as ends
-use Rattle.flow_rules.specs.Groups.{holding, exit_at, exits_by, all_exits, AreKnownEnds}
-use Rattle.flow_rules.specs.Deciding.{AreBlockEnds, AreBlocks, AreEndsBy, AddsOne, AddsFor, IsGroupFor}
-use Rattle.flow_rules.proofs.GroupLaws.{old_exit, new_exit, exit_cases, known_with}
-use Rattle.flow_rules.proofs.NumberLaws.{member_number, filled_plain}
+use Rattle.flow_rules.specs.{Groups.{holding, exit_at, exits_by, all_exits, AreKnownEnds}, Deciding.{AreBlockEnds, AreBlocks, AreEndsBy, AddsOne, AddsFor, IsGroupFor}}
+use Rattle.flow_rules.proofs.{GroupLaws.{old_exit, new_exit, exit_cases, known_with}, NumberLaws.{member_number, filled_plain}}
 use Rattle.flow_rules.proofs.HeldLaws.{held_is, held_within, held_in, held_filled}
 
 -- an entry with numbers of the pool, of which each component has one

@@ -1,13 +1,10 @@
 -- The exits of groups, one group after another.
 use Rattle.std.proofs.Common.{◌≡◌, ◌⊎◌, List, [], ◌∷◌, ◌++◌, sym, ap, subst, ◌∙◌, inl, inr}
 use Rattle.std.specs.Prelude.{Contains}
-use Rattle.std.proofs.lemmas.List.{append-nil}
-use Rattle.std.proofs.lemmas.List.Elements.{Contains-append_left, Contains-append_right, Contains-append_cases, Contains-push_cases}
-use Rattle.std.proofs.lemmas.Grind.{flat_map-append}
+use Rattle.std.proofs.lemmas.{List.{append-nil, Elements.{Contains-append_left, Contains-append_right, Contains-append_cases, Contains-push_cases}}, Grind.{flat_map-append}}
 use Rattle.numbered_sets.specs.Pools.{Values}
 use Rattle.flow_exits.specs.declared.exit.Exit.{Exit}
-use Rattle.flow_rules.specs.declared.group.ExitGroup.{ExitGroup}
-use Rattle.flow_rules.specs.Groups.{exits_of, all_exits, IsKnownGroup, AreKnownGroups}
+use Rattle.flow_rules.specs.{declared.group.ExitGroup.{ExitGroup}, Groups.{exits_of, all_exits, IsKnownGroup, AreKnownGroups}}
 
 module _ (pool : List Values) (before : List ExitGroup) (g : ExitGroup) where
   exits_with : all_exits pool (before ++ g ∷ []) ≡ all_exits pool before ++ exits_of pool g

@@ -8,12 +8,9 @@ use Rattle.bit_words.proofs.BitCounts.{has_either, has_one}
 use Rattle.osek_standard.specs.declared.point.Point.{Point}
 use Rattle.osek_standard.proofs.Members.{Among, among_contained}
 use Rattle.abstract_state.specs.declared.table.PlainEntry.{PlainEntry}
-use Rattle.numbered_sets.specs.declared.numbered_entry.NumberedEntry.{NumberedEntry}
-use Rattle.numbered_sets.specs.Pools.{Values, values_at, IsLonger}
-use Rattle.numbered_sets.specs.Views.{plain_entry, AreNumbersOf}
+use Rattle.numbered_sets.specs.{declared.numbered_entry.NumberedEntry.{NumberedEntry}, Pools.{Values, values_at, IsLonger}, Views.{plain_entry, AreNumbersOf}}
 use Rattle.numbered_sets.proofs.ViewLaws.{same_view, still_known}
-use Rattle.numbered_sets.specs.Numbers.{Numbers, numbers, has_number, with_number}
-use Rattle.numbered_sets.specs.NumberedEntries.{no_set, numbers_at}
+use Rattle.numbered_sets.specs.{Numbers.{Numbers, numbers, has_number, with_number}, NumberedEntries.{no_set, numbers_at}}
 use Rattle.flow_exits.specs.declared.exit.Exit.{Exit}
 use Rattle.flow_rules.specs.declared.group.{NumberEnd.{NumberEnd}, Ends.{Ends}, ExitGroup.{ExitGroup}}
 use Rattle.flow_rules.specs.declared.group.Ends.TheVariants as ends

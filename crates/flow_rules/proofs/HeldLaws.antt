@@ -5,20 +5,13 @@ use Rattle.std.proofs.lemmas.Bool.{cases_eq}
 use Rattle.bit_words.proofs.BitCounts.{has_either, has_one}
 use Rattle.osek_values.specs.Bits.{has_bit}
 use Rattle.osek_standard.specs.declared.app.App.{App}
-use Rattle.abstract_state.specs.declared.{value.PartValue.{PartValue}, table.ValueSet.{ValueSet}}
-use Rattle.abstract_state.specs.ValueOrder.{same_part}
-use Rattle.abstract_state.specs.Components.{component_count}
+use Rattle.abstract_state.specs.{declared.{value.PartValue.{PartValue}, table.ValueSet.{ValueSet}}, ValueOrder.{same_part}, Components.{component_count}}
 use Rattle.abstract_state.specs.Tables.{set_at, is_member}
 use Rattle.abstract_state.proofs.OrderLaws.{part_itself, part_right}
 use Rattle.flow_model.specs.Effects.{AreIn}
-use Rattle.numbered_sets.specs.declared.numbered_entry.NumberedEntry.{NumberedEntry}
-use Rattle.numbered_sets.specs.Numbers.{Numbers, numbers, has_number, with_number}
-use Rattle.numbered_sets.specs.NumberedEntries.{no_set, numbers_at}
-use Rattle.numbered_sets.specs.Pools.{Values, values_at, IsNumberOf}
-use Rattle.numbered_sets.specs.Views.{plain_set, plain_entry}
-use Rattle.numbered_sets.proofs.PlainLaws.{member_of_plain, plain_set_at}
-use Rattle.numbered_sets.proofs.ViewLaws.{false_unless, only_value}
-use Rattle.numbered_sets.proofs.KnownNumbers.{no_bit_of_none}
+use Rattle.numbered_sets.specs.{declared.numbered_entry.NumberedEntry.{NumberedEntry}, Numbers.{Numbers, numbers, has_number, with_number}, NumberedEntries.{no_set, numbers_at}}
+use Rattle.numbered_sets.specs.{Pools.{Values, values_at, IsNumberOf}, Views.{plain_set, plain_entry}}
+use Rattle.numbered_sets.proofs.{PlainLaws.{member_of_plain, plain_set_at}, ViewLaws.{false_unless, only_value}, KnownNumbers.{no_bit_of_none}}
 use Rattle.flow_exits.specs.Exits.{HasMember, IsFilled}
 use Rattle.flow_rules.specs.Groups.{holding}
 use Rattle.flow_rules.proofs.NumberLaws.{number_member}

@@ -1,24 +1,17 @@
 -- What becomes of the levels of a task as its values are judged, one after the other.
 use Rattle.std.proofs.Common.{◌≡◌, ◌⊎◌, ℕ, ◌+◌, ◌^◌, ◌<◌, Bool, true, false, ◌||◌, List, [], ◌∷◌, ◌++◌, length, get_or, set, refl, sym, ap, subst, ◌∙◌, inl, inr, arith, IsTrue, get_or-set_same, get_or-set_other}
-use Rattle.std.specs.Prelude.{Contains, Some, None}
-use Rattle.std.specs.declared.option.Option.{Option}
-use Rattle.std.proofs.Math.Bool.{or-true}
-use Rattle.std.proofs.lemmas.Bool.{cases_eq, or_cases, eq-eqb, eqb-true}
-use Rattle.std.proofs.lemmas.List.{length-set, get_or_default}
+use Rattle.std.specs.{Prelude.{Contains, Some, None}, declared.option.Option.{Option}}
+use Rattle.std.proofs.{Math.Bool.{or-true}, lemmas.{Bool.{cases_eq, or_cases, eq-eqb, eqb-true}, List.{length-set, get_or_default}}}
 use Rattle.std.proofs.lemmas.List.Elements.{All-set, All-contains, Contains-get_or, Contains-append_left, Contains-push_cases}
 use Rattle.bit_words.proofs.BitCounts.{has_either, has_one}
 use Rattle.osek_values.specs.Bits.{has_bit}
 use Rattle.osek_standard.specs.declared.app.App.{App}
-use Rattle.abstract_state.specs.declared.value.{Domain.{Domain}, Val.{Val}, Val.TheVariants.{Suspended, Live, Waiting}, PartValue.{PartValue}}
-use Rattle.abstract_state.specs.Concrete.{val_of}
+use Rattle.abstract_state.specs.{declared.value.{Domain.{Domain}, Val.{Val, TheVariants.{Suspended, Live, Waiting}}, PartValue.{PartValue}}, Concrete.{val_of}}
 use Rattle.flow_model.specs.Values.{is_live_value, value_priority}
-use Rattle.numbered_sets.specs.Numbers.{Numbers, numbers, has_number, with_number}
-use Rattle.numbered_sets.specs.Pools.{IsNumberOf}
+use Rattle.numbered_sets.specs.{Numbers.{Numbers, numbers, has_number, with_number}, Pools.{IsNumberOf}}
 use Rattle.numbered_sets.proofs.KnownNumbers.{no_bit_of_none}
-use Rattle.flow_exits.specs.declared.priority.Candidate.{Candidate}
-use Rattle.flow_exits.specs.Candidates.{candidate_of}
-use Rattle.flow_rules.specs.declared.task_levels.{Level.{Level}, TaskLevels.{TaskLevels}}
-use Rattle.flow_rules.specs.Levels.{IsLiveAt, AreOf, IsDead, IsLevel, HasLevel, AreTaskLevels, with_next}
+use Rattle.flow_exits.specs.{declared.priority.Candidate.{Candidate}, Candidates.{candidate_of}}
+use Rattle.flow_rules.specs.{declared.task_levels.{Level.{Level}, TaskLevels.{TaskLevels}}, Levels.{IsLiveAt, AreOf, IsDead, IsLevel, HasLevel, AreTaskLevels, with_next}}
 
 -- ---- a set with a number more
 

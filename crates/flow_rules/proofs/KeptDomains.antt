@@ -1,28 +1,17 @@
 -- What exact rules make of allowed values lies in the components' domains.
 use Rattle.std.proofs.Common.{◌≡◌, ℕ, ◌<◌, false, List, length, get_or, refl, sym, ap, subst, ◌∙◌, inl, inr, arith, IsTrue}
 use Rattle.std.specs.Prelude.{Contains}
-use Rattle.std.proofs.Math.ListN.{get_or-map}
-use Rattle.std.proofs.lemmas.Bool.{cases_eq, cases_lt}
-use Rattle.std.proofs.lemmas.List.{length-map, get_or_default}
+use Rattle.std.proofs.{Math.ListN.{get_or-map}, lemmas.{Bool.{cases_eq, cases_lt}, List.{length-map, get_or_default}}}
 use Rattle.osek_values.specs.Numbers.{alarm_no}
-use Rattle.osek_standard.specs.declared.app.App.{App}
-use Rattle.osek_standard.specs.declared.point.Point.{Point}
-use Rattle.osek_standard.specs.Kernel.{step}
-use Rattle.osek_standard.specs.Well.{Well}
+use Rattle.osek_standard.specs.{declared.{app.App.{App}, point.Point.{Point}}, Kernel.{step}, Well.{Well}}
 use Rattle.osek_standard.proofs.StepKeeps.{step_keeps}
-use Rattle.abstract_state.specs.declared.value.{Domain.{Domain}, PartValue.{PartValue}, PartValue.TheVariants.{OfAlarm}}
+use Rattle.abstract_state.specs.declared.value.{Domain.{Domain}, PartValue.{PartValue, TheVariants.{OfAlarm}}}
 use Rattle.abstract_state.specs.declared.value.Component.TheVariants as component
-use Rattle.abstract_state.specs.declared.table.{ValueSet.{ValueSet}, PlainEntry.{PlainEntry}}
-use Rattle.abstract_state.specs.Components.{components, component_at, component_count, abstract_of}
-use Rattle.abstract_state.specs.Domains.{IsWithin, domains, domain_of, domains_of}
-use Rattle.abstract_state.specs.Tables.{empty_set, set_at, is_member}
-use Rattle.abstract_state.proofs.AllowedLaws.{well_part}
-use Rattle.abstract_state.proofs.DomainValues.{allowed_within}
-use Rattle.flow_model.specs.declared.rule.Rule.{Rule}
-use Rattle.flow_model.specs.Tests.{PassesAt, value_after}
-use Rattle.flow_model.specs.Rules.{Exact, Shown}
-use Rattle.flow_rules.specs.Passing.{StaysInDomains}
-use Rattle.flow_rules.specs.{Passing.{AreTaken}, Applying.{KeepsDomains}}
+use Rattle.abstract_state.specs.{declared.table.{ValueSet.{ValueSet}, PlainEntry.{PlainEntry}}, Components.{components, component_at, component_count, abstract_of}}
+use Rattle.abstract_state.specs.{Domains.{IsWithin, domains, domain_of, domains_of}, Tables.{empty_set, set_at, is_member}}
+use Rattle.abstract_state.proofs.{AllowedLaws.{well_part}, DomainValues.{allowed_within}}
+use Rattle.flow_model.specs.{declared.rule.Rule.{Rule}, Tests.{PassesAt, value_after}, Rules.{Exact, Shown}}
+use Rattle.flow_rules.specs.{Passing.{StaysInDomains, AreTaken}, Applying.{KeepsDomains}}
 
 module _ (app : App) (entry : PlainEntry) (alike : domains entry ≡ domains_of app) where
   pub size : length entry.sets ≡ component_count app

@@ -1,22 +1,15 @@
 -- What is left where the numbers of a component that another set lacks are left out.
 use Rattle.std.proofs.Common.{◌≡◌, ◌≢◌, ℕ, ◌<◌, Bool, ◌&&◌, List, length, map, get_or, set, sym, ap, ap₂, subst, ◌∙◌, inl, inr, arith, IsTrue, get_or-set_same, get_or-set_other}
-use Rattle.std.proofs.Math.ListN.{get_or-map}
-use Rattle.std.proofs.lemmas.Bool.{cases_eq, and_parts}
-use Rattle.std.proofs.lemmas.List.{length-set, map-set, set-get_or}
+use Rattle.std.proofs.{Math.ListN.{get_or-map}, lemmas.{Bool.{cases_eq, and_parts}, List.{length-set, map-set, set-get_or}}}
 use Rattle.osek_standard.specs.declared.app.App.{App}
 use Rattle.abstract_state.specs.declared.value.PartValue.{PartValue}
 use Rattle.abstract_state.specs.declared.value.Domain.TheVariants as domain
-use Rattle.abstract_state.specs.declared.table.ValueSet.{ValueSet}
-use Rattle.abstract_state.specs.Components.{component_count}
-use Rattle.abstract_state.specs.Tables.{set_at, is_member}
+use Rattle.abstract_state.specs.{declared.table.ValueSet.{ValueSet}, Components.{component_count}, Tables.{set_at, is_member}}
 use Rattle.flow_model.specs.Effects.{AreIn}
-use Rattle.numbered_sets.specs.declared.numbered_entry.NumberedEntry.{NumberedEntry}
-use Rattle.numbered_sets.specs.Numbers.{Numbers, has_number, kept_numbers}
-use Rattle.numbered_sets.specs.NumberedEntries.{no_set, numbers_at, number_domains, AreFilled}
-use Rattle.numbered_sets.specs.Pools.{Values, values_at, IsNumberOf}
+use Rattle.numbered_sets.specs.{declared.numbered_entry.NumberedEntry.{NumberedEntry}, Numbers.{Numbers, has_number, kept_numbers}}
+use Rattle.numbered_sets.specs.{NumberedEntries.{no_set, numbers_at, number_domains, AreFilled}, Pools.{Values, values_at, IsNumberOf}}
 use Rattle.numbered_sets.specs.Views.{plain_set, plain_entry, AreNumbersOf}
-use Rattle.numbered_sets.proofs.MeetLaws.{has_kept}
-use Rattle.numbered_sets.proofs.PlainLaws.{plain_set_at}
+use Rattle.numbered_sets.proofs.{MeetLaws.{has_kept}, PlainLaws.{plain_set_at}}
 use Rattle.flow_rules.proofs.NumberLaws.{HasNumber, member_number, number_member, number_fills}
 
 module _ (pool : List Values) (entry after : NumberedEntry) (c : ℕ) (x : Numbers) (there : c < length entry.sets) (write : after.sets ≡ set entry.sets c (kept_numbers (numbers_at entry c) x)) where

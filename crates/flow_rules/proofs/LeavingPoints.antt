@@ -1,33 +1,17 @@
 -- All exits of a point: those of arrivals, and then those of the instructions.
-use Rattle.std.proofs.Common.{◌≡◌, ◌<◌, ◌≤◌, List, [], length, sym, ap, ◌∙◌, inl, inr, arith}
-use Rattle.std.proofs.lemmas.List.{length-map}
-use Rattle.osek_standard.specs.declared.app.App.{App}
-use Rattle.osek_standard.specs.declared.point.Point.{Point}
+use Rattle.std.proofs.{Common.{◌≡◌, ◌<◌, ◌≤◌, List, [], length, sym, ap, ◌∙◌, inl, inr, arith}, lemmas.List.{length-map}}
+use Rattle.osek_standard.specs.declared.{app.App.{App}, point.Point.{Point}}
 use Rattle.osek_standard.specs.declared.point.Point.TheVariants as point
 use Rattle.osek_standard.proofs.Members.{contained_among}
-use Rattle.abstract_state.specs.declared.value.Domain.{Domain}
-use Rattle.abstract_state.specs.declared.table.{ValueSet.{ValueSet}, PlainEntry.{PlainEntry}}
-use Rattle.abstract_state.specs.Components.{components, component_count}
+use Rattle.abstract_state.specs.{declared.{value.Domain.{Domain}, table.{ValueSet.{ValueSet}, PlainEntry.{PlainEntry}}}, Components.{components, component_count}}
 use Rattle.abstract_state.specs.Domains.{domain_of, domains_of}
-use Rattle.flow_model.specs.declared.runner.Runner.{Runner}
-use Rattle.flow_model.specs.Runners.{Executes, IsNobodys}
-use Rattle.flow_model.specs.declared.rule.Rule.{Rule}
-use Rattle.flow_model.specs.Tests.{value_after}
-use Rattle.flow_model.specs.Rules.{Applies}
-use Rattle.numbered_sets.specs.declared.numbered_entry.NumberedEntry.{NumberedEntry}
-use Rattle.numbered_sets.specs.Numbers.{Numbers}
-use Rattle.numbered_sets.specs.NumberedEntries.{numbers_at, number_domains, AreFilled}
-use Rattle.numbered_sets.specs.Pools.{Values, pool_domains}
-use Rattle.numbered_sets.specs.Views.{plain_entry}
+use Rattle.flow_model.specs.{declared.{runner.Runner.{Runner}, rule.Rule.{Rule}}, Runners.{Executes, IsNobodys}, Tests.{value_after}, Rules.{Applies}}
+use Rattle.numbered_sets.specs.{declared.numbered_entry.NumberedEntry.{NumberedEntry}, Numbers.{Numbers}, NumberedEntries.{numbers_at, number_domains, AreFilled}}
+use Rattle.numbered_sets.specs.{Pools.{Values, pool_domains}, Views.{plain_entry}}
 use Rattle.numbered_sets.proofs.ViewLaws.{same_domains}
-use Rattle.flow_exits.specs.Exits.{IsFilled}
-use Rattle.flow_exits.specs.Leaving.{AreExits, arrival_exit}
-use Rattle.flow_rules.specs.declared.group.ExitGroup.{ExitGroup}
-use Rattle.flow_rules.specs.Groups.{all_exits}
-use Rattle.flow_rules.specs.Leaving.{AddsArrivals, AddsInstructions}
-use Rattle.flow_rules.proofs.LeftLaws.{tasks_counted}
-use Rattle.flow_rules.proofs.NumberLaws.{member_number, number_fills}
-use Rattle.flow_rules.proofs.PointRules.{passive_by}
+use Rattle.flow_exits.specs.{Exits.{IsFilled}, Leaving.{AreExits, arrival_exit}}
+use Rattle.flow_rules.specs.{declared.group.ExitGroup.{ExitGroup}, Groups.{all_exits}, Leaving.{AddsArrivals, AddsInstructions}}
+use Rattle.flow_rules.proofs.{LeftLaws.{tasks_counted}, NumberLaws.{member_number, number_fills}, PointRules.{passive_by}}
 
 -- an entry with the components' domains has a set for each
 pub sets_counted : (app : App) (pool : List Values) (entry : NumberedEntry) → number_domains entry ≡ domains_of app → length (plain_entry pool entry).sets ≡ component_count app

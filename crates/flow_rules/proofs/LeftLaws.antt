@@ -1,32 +1,18 @@
 -- What a claim leaves of an entry.
 use Rattle.std.proofs.Common.{◌≡◌, ◌≢◌, ℕ, ◌+◌, ◌<◌, ◌≤◌, Bool, true, false, not, ◌&&◌, List, length, map, get_or, set, refl, sym, ap, ap₂, subst, ◌∙◌, inl, inr, arith, IsTrue, Some, None, get_or-set_other}
-use Rattle.std.specs.Prelude.{if◌then◌else◌, slice_index_or}
-use Rattle.std.specs.declared.option.Option.{Option}
-use Rattle.std.proofs.Math.ListN.{get_or-map}
-use Rattle.std.proofs.lemmas.Bool.{cases_eq, cases_lt, and_parts, ltb-true, ltb-false, lt-ltb, le-ltb}
-use Rattle.std.proofs.lemmas.List.{length-map, map-set, set-get_or}
+use Rattle.std.specs.{Prelude.{if◌then◌else◌, slice_index_or}, declared.option.Option.{Option}}
+use Rattle.std.proofs.{Math.ListN.{get_or-map}, lemmas.{Bool.{cases_eq, cases_lt, and_parts, ltb-true, ltb-false, lt-ltb, le-ltb}, List.{length-map, map-set, set-get_or}}}
 use Rattle.osek_standard.specs.declared.app.App.{App}
-use Rattle.abstract_state.specs.declared.value.{Val.{Val}, Val.TheVariants.{Suspended, Live, Waiting}, PartValue.{PartValue}, PartValue.TheVariants.{OfAlarm}}
+use Rattle.abstract_state.specs.declared.value.{Val.{Val, TheVariants.{Suspended, Live, Waiting}}, PartValue.{PartValue, TheVariants.{OfAlarm}}}
 use Rattle.abstract_state.specs.declared.value.Domain.TheVariants as domain
-use Rattle.abstract_state.specs.declared.table.ValueSet.{ValueSet}
-use Rattle.abstract_state.specs.Components.{component_count}
-use Rattle.abstract_state.specs.Concrete.{val_of}
-use Rattle.abstract_state.specs.Tables.{set_at, is_member}
+use Rattle.abstract_state.specs.{declared.table.ValueSet.{ValueSet}, Components.{component_count}, Concrete.{val_of}, Tables.{set_at, is_member}}
 use Rattle.abstract_state.proofs.ComponentLaws.{task_counted}
-use Rattle.flow_model.specs.Effects.{AreIn}
-use Rattle.flow_model.specs.Values.{value_priority}
-use Rattle.numbered_sets.specs.declared.numbered_entry.NumberedEntry.{NumberedEntry}
-use Rattle.numbered_sets.specs.Numbers.{Numbers, has_number}
-use Rattle.numbered_sets.specs.NumberedEntries.{no_set, numbers_at, number_domains, AreFilled}
-use Rattle.numbered_sets.specs.Pools.{Values, values_at}
-use Rattle.numbered_sets.specs.Views.{plain_entry, AreNumbersOf}
-use Rattle.numbered_sets.proofs.PlainLaws.{member_of_plain, plain_set_at}
-use Rattle.numbered_sets.proofs.SiftLaws.{value_sifted}
-use Rattle.flow_exits.specs.declared.claim.Claim.{Claim}
-use Rattle.flow_exits.specs.Claims.{limit_of, is_below, is_under, AreUnder}
-use Rattle.flow_exits.specs.Needs.{is_too_low, IsTooLow}
-use Rattle.flow_rules.specs.Levels.{HasBelow, IsNarrowed}
-use Rattle.flow_rules.specs.Narrowing.{IsLeft, is_under_limit, AreNeeds, AreMet, NeverUnder}
+use Rattle.flow_model.specs.{Effects.{AreIn}, Values.{value_priority}}
+use Rattle.numbered_sets.specs.{declared.numbered_entry.NumberedEntry.{NumberedEntry}, Numbers.{Numbers, has_number}}
+use Rattle.numbered_sets.specs.{NumberedEntries.{no_set, numbers_at, number_domains, AreFilled}, Pools.{Values, values_at}, Views.{plain_entry, AreNumbersOf}}
+use Rattle.numbered_sets.proofs.{PlainLaws.{member_of_plain, plain_set_at}, SiftLaws.{value_sifted}}
+use Rattle.flow_exits.specs.{declared.claim.Claim.{Claim}, Claims.{limit_of, is_below, is_under, AreUnder}, Needs.{is_too_low, IsTooLow}}
+use Rattle.flow_rules.specs.{Levels.{HasBelow, IsNarrowed}, Narrowing.{IsLeft, is_under_limit, AreNeeds, AreMet, NeverUnder}}
 use Rattle.flow_rules.proofs.NumberLaws.{member_number, some_number, number_fills}
 
 and_true : (b : Bool) → b ≡ (b && true)

@@ -1,26 +1,13 @@
 -- What levels say as the pool grows, that they say it of all numbers of an entry, and what a narrowed entry means.
-use Rattle.std.proofs.Common.{◌≡◌, ◌≢◌, ℕ, ◌+◌, ◌<◌, ◌≤◌, Bool, true, false, ◌&&◌, List, [], ◌∷◌, ◌++◌, length, get_or, set, map, refl, sym, ap, ap₂, subst, ◌∙◌, inl, inr, arith, IsTrue, get_or-set_same, get_or-set_other}
-use Rattle.std.specs.Prelude.{Contains}
-use Rattle.std.proofs.Math.ListN.{get_or-map}
-use Rattle.std.proofs.Math.Seq.{get_or-append_seam}
-use Rattle.std.proofs.lemmas.Bool.{cases_eq, cases_lt, and_parts}
-use Rattle.std.proofs.lemmas.List.{length-append, length-set, get_or_append_left, map-set, set-set, set-get_or}
+use Rattle.std.proofs.Common.{◌≡◌, ◌≢◌, ℕ, ◌+◌, ◌<◌, ◌≤◌, Bool, false, ◌&&◌, List, [], ◌∷◌, ◌++◌, length, get_or, set, map, sym, ap, ap₂, subst, ◌∙◌, inl, inr, arith, IsTrue, get_or-set_same, get_or-set_other}
+use Rattle.std.proofs.{Math.{ListN.{get_or-map}, Seq.{get_or-append_seam}}, lemmas.Bool.{cases_eq, cases_lt, and_parts}}
+use Rattle.std.proofs.lemmas.List.{length-append, length-set, get_or_append_left, map-set, set-get_or}
 use Rattle.osek_standard.specs.declared.app.App.{App}
-use Rattle.abstract_state.specs.declared.value.PartValue.{PartValue}
-use Rattle.abstract_state.specs.declared.value.PartValue.TheVariants.{OfAlarm}
-use Rattle.abstract_state.specs.Tables.{set_at, is_member}
-use Rattle.abstract_state.specs.declared.table.ValueSet.{ValueSet}
-use Rattle.numbered_sets.specs.declared.numbered_entry.NumberedEntry.{NumberedEntry}
-use Rattle.numbered_sets.specs.Numbers.{Numbers, has_number, kept_numbers, meets}
-use Rattle.numbered_sets.specs.NumberedEntries.{no_set, numbers_at, number_domains}
-use Rattle.numbered_sets.specs.Pools.{Values, values_at, IsExtended, IsLonger}
-use Rattle.numbered_sets.specs.Views.{plain_set, plain_entry, AreNumbersOf}
-use Rattle.numbered_sets.proofs.PlainLaws.{member_of_plain, plain_set_at}
-use Rattle.numbered_sets.proofs.SiftLaws.{value_sifted}
-use Rattle.numbered_sets.proofs.MeetLaws.{has_kept, common_of}
-use Rattle.flow_rules.specs.declared.task_levels.{Level.{Level}, TaskLevels.{TaskLevels}}
-use Rattle.flow_rules.specs.declared.levels.Levels.{Levels}
-use Rattle.flow_rules.specs.Levels.{IsLiveAt, AreOf, IsDead, AreTaskLevels, AreAllJudged, AreLevels, AreAllLevels, IsNarrowed}
+use Rattle.abstract_state.specs.{declared.{value.PartValue.{PartValue, TheVariants.{OfAlarm}}, table.ValueSet.{ValueSet}}, Tables.{set_at, is_member}}
+use Rattle.numbered_sets.specs.{declared.numbered_entry.NumberedEntry.{NumberedEntry}, Numbers.{Numbers, has_number}, NumberedEntries.{no_set, numbers_at, number_domains}}
+use Rattle.numbered_sets.specs.{Pools.{Values, values_at, IsExtended, IsLonger}, Views.{plain_set, plain_entry, AreNumbersOf}}
+use Rattle.numbered_sets.proofs.{PlainLaws.{member_of_plain, plain_set_at}, SiftLaws.{value_sifted}}
+use Rattle.flow_rules.specs.{declared.{task_levels.TaskLevels.{TaskLevels}, levels.Levels.{Levels}}, Levels.{IsLiveAt, AreOf, IsDead, AreTaskLevels, AreLevels, IsNarrowed}}
 
 -- ---- a pool that grew
 

@@ -31,3 +31,5 @@ pub mod AllowedSets
 pub mod AllowedValues
 pub mod RuledExits
 pub mod RuledPoints
+pub mod ProperRows
+pub mod StartEntry

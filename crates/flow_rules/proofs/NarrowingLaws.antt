@@ -1,21 +1,13 @@
 -- What the levels of a task say of its values, and what is left of an entry's numbers without some of them.
 use Rattle.std.proofs.Common.{◌≡◌, ◌⊎◌, ℕ, ◌+◌, ◌-◌, ◌^◌, ◌<◌, ◌≤◌, min, Bool, true, false, ◌&&◌, not, List, length, get_or, set, refl, sym, ap, ap₂, subst, ◌∙◌, inl, inr, arith, IsTrue, get_or-set_same}
-use Rattle.std.specs.Prelude.{Contains}
-use Rattle.std.specs.Int.Bits.{and_zero_l}
-use Rattle.std.proofs.lemmas.Bool.{cases_eq, cases_lt}
-use Rattle.std.proofs.lemmas.List.{length-set, set-set, set-get_or, get_or_default}
-use Rattle.std.proofs.lemmas.List.Elements.{Contains-get_or}
+use Rattle.std.specs.{Prelude.{Contains}, Int.Bits.{and_zero_l}}
+use Rattle.std.proofs.lemmas.{Bool.{cases_eq, cases_lt}, List.{length-set, set-set, set-get_or, get_or_default, Elements.{Contains-get_or}}}
 use Rattle.osek_standard.specs.declared.app.App.{App}
-use Rattle.abstract_state.specs.declared.value.PartValue.{PartValue}
-use Rattle.abstract_state.specs.declared.value.PartValue.TheVariants.{OfAlarm}
-use Rattle.abstract_state.specs.Concrete.{val_of}
+use Rattle.abstract_state.specs.{declared.value.PartValue.{PartValue, TheVariants.{OfAlarm}}, Concrete.{val_of}}
 use Rattle.flow_model.specs.Values.{is_live_value}
-use Rattle.numbered_sets.specs.declared.numbered_entry.NumberedEntry.{NumberedEntry}
-use Rattle.numbered_sets.specs.Numbers.{Numbers, has_number, other_numbers, meets}
-use Rattle.numbered_sets.specs.NumberedEntries.{no_set, numbers_at}
+use Rattle.numbered_sets.specs.{declared.numbered_entry.NumberedEntry.{NumberedEntry}, Numbers.{Numbers, has_number, other_numbers, meets}, NumberedEntries.{no_set, numbers_at}}
 use Rattle.numbered_sets.specs.Pools.{Values, values_at}
-use Rattle.numbered_sets.proofs.ViewLaws.{false_unless}
-use Rattle.numbered_sets.proofs.MeetLaws.{has_other, common_of, meets_at}
+use Rattle.numbered_sets.proofs.{ViewLaws.{false_unless}, MeetLaws.{has_other, common_of, meets_at}}
 use Rattle.flow_exits.specs.Claims.{is_below}
 use Rattle.flow_exits.proofs.PriorityTests.{below_means, below_passes}
 use Rattle.flow_rules.specs.declared.task_levels.{Level.{Level}, TaskLevels.{TaskLevels}}

@@ -2,20 +2,13 @@
 use Rattle.std.proofs.Common.{◌≡◌, ◌⊎◌, ℕ, zero, suc, ◌<◌, ◌≤◌, Bool, true, ◌&&◌, List, [], ◌∷◌, length, refl, sym, ap, ◌∙◌, inl, inr, arith, IsTrue}
 use Rattle.std.proofs.lemmas.Bool.{or_cases, and_parts}
 use Rattle.osek_standard.specs.declared.app.App.{App}
-use Rattle.abstract_state.specs.declared.{value.PartValue.{PartValue}, table.ValueSet.{ValueSet}}
-use Rattle.abstract_state.specs.ValueOrder.{same_part}
-use Rattle.abstract_state.specs.Components.{component_count}
+use Rattle.abstract_state.specs.{declared.{value.PartValue.{PartValue}, table.ValueSet.{ValueSet}}, ValueOrder.{same_part}, Components.{component_count}}
 use Rattle.abstract_state.specs.Tables.{set_at, is_member}
 use Rattle.abstract_state.proofs.OrderLaws.{part_right}
 use Rattle.flow_exits.specs.Exits.{IsFilled}
-use Rattle.numbered_sets.specs.declared.numbered_entry.NumberedEntry.{NumberedEntry}
-use Rattle.numbered_sets.specs.Numbers.{Numbers, has_number}
-use Rattle.numbered_sets.specs.NumberedEntries.{numbers_at, AreFilled}
-use Rattle.numbered_sets.specs.Pools.{Values, values_at, IsNumberOf}
-use Rattle.numbered_sets.specs.Views.{values_with, plain_entry, AreNumbersOf}
-use Rattle.numbered_sets.proofs.PlainLaws.{has_value, member_of_plain, any_first, value_with_number, plain_set_at}
-use Rattle.numbered_sets.proofs.ViewLaws.{below_power}
-use Rattle.numbered_sets.proofs.KnownNumbers.{no_bit_of_none}
+use Rattle.numbered_sets.specs.{declared.numbered_entry.NumberedEntry.{NumberedEntry}, Numbers.{Numbers, has_number}, NumberedEntries.{numbers_at, AreFilled}}
+use Rattle.numbered_sets.specs.{Pools.{Values, values_at, IsNumberOf}, Views.{values_with, plain_entry, AreNumbersOf}}
+use Rattle.numbered_sets.proofs.{PlainLaws.{has_value, member_of_plain, any_first, value_with_number, plain_set_at}, ViewLaws.{below_power}, KnownNumbers.{no_bit_of_none}}
 use Rattle.numbered_sets.proofs.SiftLaws.{some_bit, some_value}
 
 -- a value with a number that passes

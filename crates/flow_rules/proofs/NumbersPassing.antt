@@ -1,34 +1,23 @@
 -- Numbers of what a rule makes of the values that pass, set by set.
 use Rattle.std.proofs.Common.{◌≡◌, ℕ, zero, suc, ◌+◌, ◌^◌, ◌<◌, ◌≤◌, Bool, true, false, ◌||◌, List, [], ◌∷◌, ◌++◌, length, get_or, set, take, map, refl, sym, ap, ap₂, subst, ◌∙◌, inl, inr, arith, IsTrue}
-use Rattle.std.specs.Prelude.{if◌then◌else◌}
-use Rattle.std.specs.List.{list_any}
-use Rattle.std.proofs.Math.ListN.{get_or-map, get_or-eq_default}
-use Rattle.std.proofs.lemmas.Bool.{cases_lt, cases_eq, or_cases, eqb-true}
-use Rattle.std.proofs.lemmas.List.{length-append, get_or_append_left, get_or_default, take_all, append-nil}
-use Rattle.std.proofs.lemmas.List.Elements.{All-from_get_or}
+use Rattle.std.specs.{Prelude.{if◌then◌else◌}, List.{list_any}}
+use Rattle.std.proofs.{Math.ListN.{get_or-map, get_or-eq_default}, lemmas.Bool.{cases_lt, cases_eq, or_cases, eqb-true}}
+use Rattle.std.proofs.lemmas.List.{length-append, get_or_append_left, get_or_default, take_all, append-nil, Elements.{All-from_get_or}}
 use Rattle.bit_words.proofs.BitCounts.{has_either, has_one}
 use Rattle.osek_values.specs.Bits.{has_bit}
-use Rattle.abstract_state.specs.declared.value.{Domain.{Domain}, PartValue.{PartValue}, PartValue.TheVariants.{OfAlarm}}
+use Rattle.abstract_state.specs.declared.value.{Domain.{Domain}, PartValue.{PartValue, TheVariants.{OfAlarm}}}
 use Rattle.abstract_state.specs.declared.value.Domain.TheVariants as domain
-use Rattle.abstract_state.specs.declared.table.{ValueSet.{ValueSet}}
-use Rattle.abstract_state.specs.ValueOrder.{same_part, IsAscending}
-use Rattle.abstract_state.specs.Tables.{empty_set, set_at}
-use Rattle.flow_model.specs.declared.rule.Rule.{Rule}
-use Rattle.flow_model.specs.Tests.{is_failed, value_after}
-use Rattle.flow_model.specs.Rules.{Applies}
-use Rattle.numbered_sets.specs.declared.numbered_entry.NumberedEntry.{NumberedEntry}
-use Rattle.numbered_sets.specs.Numbers.{Numbers, numbers, has_number, with_number}
-use Rattle.numbered_sets.specs.NumberedEntries.{no_set, numbers_at, number_domains}
-use Rattle.numbered_sets.specs.Pools.{Values, no_values, value_seen, seen_at, values_at, domain_at, IsNumberOf, IsLonger}
+use Rattle.abstract_state.specs.{declared.table.ValueSet.{ValueSet}, ValueOrder.{same_part, IsAscending}, Tables.{empty_set, set_at}}
+use Rattle.flow_model.specs.{declared.rule.Rule.{Rule}, Tests.{is_failed, value_after}, Rules.{Applies}}
+use Rattle.numbered_sets.specs.{declared.numbered_entry.NumberedEntry.{NumberedEntry}, Numbers.{Numbers, numbers, has_number, with_number}}
+use Rattle.numbered_sets.specs.{NumberedEntries.{no_set, numbers_at, number_domains}, Pools.{Values, no_values, value_seen, seen_at, values_at, domain_at, IsNumberOf, IsLonger}}
 use Rattle.numbered_sets.specs.Views.{values_with, in_order, plain_set, plain_entry, AreNumbersOf}
 use Rattle.numbered_sets.proofs.PlainLaws.{ascending_in_order, any_in_order, has_value, member_of_plain, values_with_none, values_more, value_of_either, plain_set_at, length_plain}
-use Rattle.numbered_sets.proofs.ViewLaws.{false_unless, longer_with, only_value, same_domains}
-use Rattle.numbered_sets.proofs.KnownNumbers.{no_bit_of_none}
+use Rattle.numbered_sets.proofs.{ViewLaws.{false_unless, longer_with, only_value, same_domains}, KnownNumbers.{no_bit_of_none}}
 use Rattle.numbered_sets.proofs.NumberingLaws.{longer_itself, longer_onward, known_on, values_on}
 use Rattle.flow_rules.specs.Passing.{ArePassed}
 use Rattle.flow_rules.proofs.Passing.{IsWithValue, passed_one, passed_none}
-use Rattle.flow_rules.specs.{Passing.{AreTaken}, Applying.{IsPassedSoFar, IsPassedSet}}
-use Rattle.flow_rules.specs.Changing.{AreAllPassed}
+use Rattle.flow_rules.specs.{Passing.{AreTaken}, Applying.{IsPassedSoFar, IsPassedSet}, Changing.{AreAllPassed}}
 
 -- the values of the numbers up to one, with the next one or without
 pub next_value : (vs : List PartValue) (has : ℕ → Bool) (k : ℕ) (v : PartValue) → IsNumberOf vs v k → has k ≡ true → values_with (take (k + 1) vs) has ≡ values_with (take k vs) has ++ v ∷ []

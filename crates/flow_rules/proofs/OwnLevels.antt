@@ -1,19 +1,11 @@
 -- The levels of one task, all of whose values were judged.
 use Rattle.std.proofs.Common.{◌≡◌, ℕ, ◌+◌, ◌<◌, List, [], ◌∷◌, ◌++◌, length, get_or, sym, ap, subst, ◌∙◌, inl, inr, arith}
 use Rattle.std.specs.Prelude.{slice_index_or, Contains}
-use Rattle.std.proofs.Math.Seq.{get_or-append_seam}
-use Rattle.std.proofs.lemmas.Bool.{cases_lt}
-use Rattle.std.proofs.lemmas.List.{length-append, get_or_append_left}
+use Rattle.std.proofs.{Math.Seq.{get_or-append_seam}, lemmas.{Bool.{cases_lt}, List.{length-append, get_or_append_left}}}
 use Rattle.osek_standard.specs.declared.app.App.{App}
-use Rattle.numbered_sets.specs.declared.numbered_entry.NumberedEntry.{NumberedEntry}
-use Rattle.numbered_sets.specs.NumberedEntries.{numbers_at}
-use Rattle.numbered_sets.specs.Pools.{Values, values_at}
-use Rattle.numbered_sets.specs.Views.{AreNumbersOf}
-use Rattle.flow_rules.specs.declared.{task_levels.TaskLevels.{TaskLevels}, levels.Levels.{Levels}}
-use Rattle.flow_rules.specs.declared.task_levels.Level.{Level}
-use Rattle.flow_rules.specs.Levels.{AreTaskLevels, AreAllLevels, AreAllJudged, IsLeastLimit}
-use Rattle.flow_rules.specs.Narrowing.{AreNeeds}
-use Rattle.flow_rules.specs.Deciding.{IsLevelOf}
+use Rattle.numbered_sets.specs.{declared.numbered_entry.NumberedEntry.{NumberedEntry}, NumberedEntries.{numbers_at}, Pools.{Values, values_at}, Views.{AreNumbersOf}}
+use Rattle.flow_rules.specs.declared.{task_levels.{TaskLevels.{TaskLevels}, Level.{Level}}, levels.Levels.{Levels}}
+use Rattle.flow_rules.specs.{Levels.{AreTaskLevels, AreAllLevels, AreAllJudged, IsLeastLimit}, Narrowing.{AreNeeds}, Deciding.{IsLevelOf}}
 
 module _ (app : App) (pool : List Values) (levels : Levels) (t : ℕ) (known : t < length app.tasks) (all : AreAllLevels app pool levels) where
   pub own_known : t < length levels.tasks

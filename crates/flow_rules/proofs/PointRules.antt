@@ -2,32 +2,20 @@
 use Rattle.std.proofs.Common.{◌≡◌, ℕ, ◌+◌, ◌<◌, Bool, List, [], ◌∷◌, ◌++◌, length, map, take, refl, sym, ap, subst, ◌∙◌, inl, inr, arith, get_or}
 use Rattle.std.specs.Prelude.{Contains, ⊤}
 use Rattle.std.proofs.lemmas.List.{take_more}
-use Rattle.osek_values.specs.declared.event.{Event.TheVariants.{Run, Irq, Tick}}
-use Rattle.osek_standard.specs.declared.app.App.{App}
-use Rattle.osek_standard.specs.declared.state.{State.{State}, Processor.{Processor}}
+use Rattle.osek_values.specs.declared.event.Event.TheVariants.{Run, Irq, Tick}
+use Rattle.osek_standard.specs.declared.{app.App.{App}, state.{State.{State}, Processor.{Processor}}}
 use Rattle.osek_standard.specs.declared.state.Processor.TheVariants as processor
 use Rattle.osek_standard.specs.declared.point.Point.{Point}
 use Rattle.osek_standard.specs.declared.point.Point.TheVariants as point
-use Rattle.osek_standard.specs.Points.{point_at, IsPoint}
-use Rattle.osek_standard.specs.States.{place_by}
-use Rattle.osek_standard.specs.Outcomes.{Mark, Silent, Arrived, Did, shows}
-use Rattle.osek_standard.specs.Well.{IsActive}
+use Rattle.osek_standard.specs.{Points.{point_at, IsPoint}, States.{place_by}, Outcomes.{Mark, Silent, Arrived, Did, shows}, Well.{IsActive}}
 use Rattle.osek_standard.proofs.Members.{among_left, among_right, among_cases, among_contained, contained_among, among_map, map_among}
-use Rattle.abstract_state.specs.declared.value.PartValue.{PartValue}
-use Rattle.abstract_state.specs.declared.table.PlainEntry.{PlainEntry}
-use Rattle.abstract_state.specs.Concrete.{AreAllowed}
+use Rattle.abstract_state.specs.{declared.{value.PartValue.{PartValue}, table.PlainEntry.{PlainEntry}}, Concrete.{AreAllowed}}
 use Rattle.abstract_state.proofs.MarkLaws.{shown_instruction, shown_arrival}
-use Rattle.flow_model.specs.declared.case.{EffectCase.{EffectCase}, OutcomeCase.{OutcomeCase}}
-use Rattle.flow_model.specs.declared.rule.Rule.{Rule}
-use Rattle.flow_model.specs.declared.runner.Runner.{Runner}
-use Rattle.flow_model.specs.Runners.{Executes, IsNobodys}
-use Rattle.flow_model.specs.Effects.{AreIn, AreAllAllowed, IsAt}
-use Rattle.flow_model.specs.Scheduling.{CoverOutcomes, AreExactOutcomes}
-use Rattle.flow_model.specs.Rules.{IsMatched, Foresees, Covering, Exact}
+use Rattle.flow_model.specs.{declared.{case.{EffectCase.{EffectCase}, OutcomeCase.{OutcomeCase}}, rule.Rule.{Rule}, runner.Runner.{Runner}}, Runners.{Executes, IsNobodys}}
+use Rattle.flow_model.specs.{Effects.{AreIn, AreAllAllowed, IsAt}, Scheduling.{CoverOutcomes, AreExactOutcomes}, Rules.{IsMatched, Foresees, Covering, Exact}}
 use Rattle.flow_exits.specs.Arrivals.{AreArrivals}
 use Rattle.flow_exits.proofs.Arriving.{arrival_covered, arrival_shown}
-use Rattle.flow_rules.specs.Assembly.{rule_of, HasRulesFor, AreAdded, AreAllAdded}
-use Rattle.flow_rules.specs.Instructions.{AddsInstructionRules}
+use Rattle.flow_rules.specs.{Assembly.{rule_of, HasRulesFor, AreAdded, AreAllAdded}, Instructions.{AddsInstructionRules}}
 use Rattle.flow_rules.proofs.Assembling.{instruction_covered, instruction_foreseen, instruction_shown}
 
 -- the rules of one effect, one for each outcome, at the end of others

@@ -1,26 +1,16 @@
 -- Rules out of the exits of effects: they cover what the scheduler decides, and each is exact.
-use Rattle.std.proofs.Common.{◌≡◌, ℕ, ◌<◌, Bool, List, [], ◌∷◌, ◌++◌, map, flat_map, refl, sym, ap, subst, ◌∙◌, inl, inr, Some, None, IsTrue}
-use Rattle.std.specs.Prelude.{Contains}
-use Rattle.std.specs.declared.option.Option.{Option}
-use Rattle.osek_standard.specs.declared.app.App.{App}
-use Rattle.osek_standard.specs.declared.point.Point.{Point}
+use Rattle.std.proofs.Common.{◌≡◌, ℕ, ◌<◌, List, [], ◌∷◌, ◌++◌, map, flat_map, refl, sym, ap, subst, ◌∙◌, inl, inr, Some, None}
+use Rattle.std.specs.{Prelude.{Contains}, declared.option.Option.{Option}}
+use Rattle.osek_standard.specs.declared.{app.App.{App}, point.Point.{Point}}
 use Rattle.osek_standard.proofs.Members.{Among, among_flat_map, flat_map_among, contained_among, among_contained}
-use Rattle.abstract_state.specs.declared.value.PartValue.{PartValue}
-use Rattle.abstract_state.specs.declared.table.PlainEntry.{PlainEntry}
-use Rattle.abstract_state.specs.Concrete.{AreAllowed}
-use Rattle.flow_model.specs.declared.case.{Asked.{Asked}, Decision.{Decision}, EffectCase.{EffectCase}, OutcomeCase.{OutcomeCase}}
-use Rattle.flow_model.specs.declared.rule.Rule.{Rule}
-use Rattle.flow_model.specs.Effects.{AreIn, stay_point}
-use Rattle.flow_model.specs.Scheduling.{Decides, end_point, HasOutcome, CoverOutcomes, AreExactOutcomes}
-use Rattle.flow_model.specs.Tests.{PassesAll, values_after}
+use Rattle.abstract_state.specs.{declared.{value.PartValue.{PartValue}, table.PlainEntry.{PlainEntry}}, Concrete.{AreAllowed}}
+use Rattle.flow_model.specs.{declared.{case.{Decision.{Decision}, EffectCase.{EffectCase}, OutcomeCase.{OutcomeCase}}, rule.Rule.{Rule}}, Effects.{AreIn, stay_point}}
+use Rattle.flow_model.specs.{Scheduling.{Decides, end_point, HasOutcome, CoverOutcomes, AreExactOutcomes}, Tests.{PassesAll, values_after}}
 use Rattle.numbered_sets.specs.Pools.{Values}
 use Rattle.flow_exits.specs.declared.exit.Exit.{Exit}
 use Rattle.flow_rules.specs.Assembly.{rule_of, AreAdded}
 use Rattle.flow_rules.proofs.PointRules.{outcomes_added}
-use Rattle.flow_rules.specs.declared.group.ExitGroup.{ExitGroup}
-use Rattle.flow_rules.specs.Groups.{all_exits}
-use Rattle.flow_rules.specs.Leaving.{AddsEffects}
-use Rattle.flow_rules.specs.Ruling.{outcome_by, outcome_if, outcomes_by, AddsRulesOf}
+use Rattle.flow_rules.specs.{declared.group.ExitGroup.{ExitGroup}, Groups.{all_exits}, Leaving.{AddsEffects}, Ruling.{outcome_by, outcome_if, outcomes_by, AddsRulesOf}}
 use Rattle.flow_rules.proofs.BarredValues.{kept_pass, passing_kept}
 
 -- the second entry has the values of the first that states have at the point

@@ -1,27 +1,16 @@
 -- The values of a numbered entry that states have at a point.
-use Rattle.std.proofs.Common.{◌≡◌, ℕ, ◌<◌, List, length, All, sym, subst, ◌∙◌, IsTrue}
-use Rattle.std.proofs.lemmas.List.Elements.{All-contains, All-get_or}
-use Rattle.std.proofs.lemmas.Map.Views.{Contains-from_any}
-use Rattle.osek_standard.specs.declared.app.App.{App}
-use Rattle.osek_standard.specs.declared.point.Point.{Point}
-use Rattle.abstract_state.specs.declared.value.{Domain.{Domain}, PartValue.{PartValue}}
-use Rattle.abstract_state.specs.declared.table.PlainEntry.{PlainEntry}
-use Rattle.abstract_state.specs.Components.{component_at, component_count}
-use Rattle.abstract_state.specs.Concrete.{AreAllowed}
-use Rattle.abstract_state.specs.Domains.{IsWithin, IsSound, domain_of, domains, domains_of}
-use Rattle.abstract_state.specs.Tables.{empty_set, set_at, is_member}
+use Rattle.std.proofs.{Common.{◌≡◌, ℕ, ◌<◌, List, length, All, sym, subst, ◌∙◌, IsTrue}, lemmas.{List.Elements.{All-contains, All-get_or}, Map.Views.{Contains-from_any}}}
+use Rattle.osek_standard.specs.declared.{app.App.{App}, point.Point.{Point}}
+use Rattle.abstract_state.specs.{declared.{value.{Domain.{Domain}, PartValue.{PartValue}}, table.PlainEntry.{PlainEntry}}, Components.{component_at, component_count}}
+use Rattle.abstract_state.specs.{Concrete.{AreAllowed}, Domains.{IsWithin, IsSound, domain_of, domains, domains_of}, Tables.{empty_set, set_at, is_member}}
 use Rattle.abstract_state.proofs.OrderLaws.{part_right}
 use Rattle.flow_model.specs.Effects.{AreIn, AreAllAllowed}
-use Rattle.numbered_sets.specs.declared.numbered_entry.NumberedEntry.{NumberedEntry}
-use Rattle.numbered_sets.specs.NumberedEntries.{number_domains}
-use Rattle.numbered_sets.specs.Pools.{Values, AreValues, pool_domains}
+use Rattle.numbered_sets.specs.{declared.numbered_entry.NumberedEntry.{NumberedEntry}, NumberedEntries.{number_domains}, Pools.{Values, AreValues, pool_domains}}
 use Rattle.numbered_sets.specs.Views.{plain_entry, AreNumbersOf}
 use Rattle.numbered_sets.proofs.ViewLaws.{same_domains, sound_sets}
 use Rattle.flow_rules.proofs.KeptDomains.{its_domain}
 use Rattle.flow_rules.specs.Allowed.{IsAllowedPart}
-use Rattle.flow_rules.proofs.AllowedSets.{part_domains, part_sound}
-use Rattle.flow_rules.proofs.AllowedValues.{part_allowed, in_part}
-use Rattle.flow_rules.proofs.LeavingPoints.{sets_counted}
+use Rattle.flow_rules.proofs.{AllowedSets.{part_domains, part_sound}, AllowedValues.{part_allowed, in_part}, LeavingPoints.{sets_counted}}
 
 module _ (app : App) (p : Point) (pool : List Values) (entry : NumberedEntry) (from : PlainEntry) (alike : number_domains entry ≡ domains_of app) (all : All AreValues pool) (known : AreNumbersOf pool entry)
     (part : IsAllowedPart app p (plain_entry pool entry) from) where

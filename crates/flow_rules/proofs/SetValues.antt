@@ -1,24 +1,15 @@
 -- A change to one value: the set that it leaves has that value's number alone.
 use Rattle.std.proofs.Common.{◌≡◌, ℕ, ◌<◌, ◌^◌, Bool, false, ◌||◌, List, [], ◌∷◌, refl, sym, ap, subst, ◌∙◌, inl, inr, arith, IsTrue}
-use Rattle.std.specs.Prelude.{◌==◌}
-use Rattle.std.specs.List.{list_any}
+use Rattle.std.specs.{Prelude.{◌==◌}, List.{list_any}}
 use Rattle.std.proofs.lemmas.Bool.{cases_eq, eqb-true, eq-eqb}
 use Rattle.bit_words.proofs.BitCounts.{has_either, has_one}
 use Rattle.osek_values.specs.Bits.{has_bit}
-use Rattle.abstract_state.specs.declared.value.{PartValue.{PartValue}}
-use Rattle.abstract_state.specs.ValueOrder.{same_part}
-use Rattle.abstract_state.specs.Tables.{is_member}
+use Rattle.abstract_state.specs.{declared.value.PartValue.{PartValue}, ValueOrder.{same_part}, Tables.{is_member}}
 use Rattle.abstract_state.proofs.OrderLaws.{part_right, part_itself}
-use Rattle.flow_model.specs.declared.change.Change.{Change}
-use Rattle.flow_model.specs.Tests.{value_after}
-use Rattle.numbered_sets.specs.Numbers.{Numbers, numbers, has_number, with_number}
-use Rattle.numbered_sets.specs.Pools.{Values, values_at, IsNumberOf}
-use Rattle.numbered_sets.specs.Views.{values_with, plain_set}
-use Rattle.numbered_sets.proofs.PlainLaws.{ascending_in_order, member_of_plain, values_with_none}
-use Rattle.numbered_sets.proofs.ViewLaws.{only_value}
-use Rattle.numbered_sets.proofs.KnownNumbers.{no_bit_of_none}
-use Rattle.flow_rules.specs.Applying.{IsPassedSet}
-use Rattle.flow_rules.specs.Changing.{alone}
+use Rattle.flow_model.specs.{declared.change.Change.{Change}, Tests.{value_after}}
+use Rattle.numbered_sets.specs.{Numbers.{Numbers, numbers, has_number, with_number}, Pools.{Values, values_at, IsNumberOf}, Views.{values_with, plain_set}}
+use Rattle.numbered_sets.proofs.{PlainLaws.{ascending_in_order, member_of_plain, values_with_none}, ViewLaws.{only_value}, KnownNumbers.{no_bit_of_none}}
+use Rattle.flow_rules.specs.{Applying.{IsPassedSet}, Changing.{alone}}
 use Rattle.flow_rules.proofs.NumbersPassing.{none_passes_bit}
 
 -- numbers of nothing have no value

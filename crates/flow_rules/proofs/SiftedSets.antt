@@ -1,36 +1,20 @@
 -- What conditions leave of sets of numbers, and what a rule without changes makes of them.
-use Rattle.std.proofs.Common.{◌≡◌, ◌≢◌, ℕ, ◌<◌, ◌≤◌, Bool, true, false, not, ◌||◌, ◌&&◌, List, [], ◌∷◌, ◌++◌, length, get_or, set, refl, sym, ap, ap₂, subst, ◌∙◌, inl, inr, arith, IsTrue, get_or-set_same, get_or-set_other}
-use Rattle.std.specs.Prelude.{◌==◌}
-use Rattle.std.specs.List.{list_any}
-use Rattle.std.proofs.Math.ListN.{get_or-eq_default}
-use Rattle.std.proofs.lemmas.Bool.{cases_eq, cases_lt, and_parts, or_left, eq-eqb, ne_eqb}
-use Rattle.std.proofs.lemmas.List.{length-set}
-use Rattle.std.proofs.lemmas.List.Folds.{list_any-append, list_any_at}
+use Rattle.std.proofs.Common.{◌≡◌, ◌≢◌, ℕ, ◌<◌, ◌≤◌, Bool, true, false, not, ◌||◌, ◌&&◌, List, [], ◌∷◌, ◌++◌, length, get_or, refl, sym, ap, ap₂, ◌∙◌, inl, inr, arith, IsTrue}
+use Rattle.std.specs.{Prelude.{◌==◌}, List.{list_any}}
+use Rattle.std.proofs.{Math.ListN.{get_or-eq_default}, lemmas.{Bool.{cases_lt, and_parts, or_left, eq-eqb}, List.Folds.{list_any-append, list_any_at}}}
 use Rattle.osek_values.specs.Bits.{has_bit}
-use Rattle.abstract_state.specs.declared.value.PartValue.{PartValue}
-use Rattle.abstract_state.specs.declared.table.{ValueSet.{ValueSet}}
-use Rattle.abstract_state.specs.ValueOrder.{same_part}
-use Rattle.abstract_state.specs.Tables.{is_member}
+use Rattle.abstract_state.specs.{declared.{value.PartValue.{PartValue}, table.ValueSet.{ValueSet}}, ValueOrder.{same_part}, Tables.{is_member}}
 use Rattle.abstract_state.proofs.OrderLaws.{part_right}
 use Rattle.flow_model.specs.declared.{test.{Test.{Test}, Condition.{Condition}}, rule.Rule.{Rule}}
 use Rattle.flow_model.specs.declared.test.Test.TheVariants as test
-use Rattle.flow_model.specs.Tests.{passes, is_failed, PassesAt}
-use Rattle.flow_model.specs.Rules.{HasNone}
-use Rattle.numbered_sets.specs.declared.numbered_entry.NumberedEntry.{NumberedEntry}
-use Rattle.numbered_sets.specs.Filters.{IsSifted}
-use Rattle.numbered_sets.specs.Numbers.{Numbers, has_number}
-use Rattle.numbered_sets.specs.NumberedEntries.{no_set, numbers_at, number_domains, AreFilled, HasEmptySet}
-use Rattle.numbered_sets.specs.Pools.{Values, values_at}
+use Rattle.flow_model.specs.{Tests.{passes, is_failed, PassesAt}, Rules.{HasNone}}
+use Rattle.numbered_sets.specs.{declared.numbered_entry.NumberedEntry.{NumberedEntry}, Numbers.{Numbers, has_number}}
+use Rattle.numbered_sets.specs.{NumberedEntries.{no_set, numbers_at, number_domains, AreFilled, HasEmptySet}, Pools.{Values, values_at}}
 use Rattle.numbered_sets.specs.Views.{values_with, plain_set, plain_entry, AreNumbersOf}
-use Rattle.numbered_sets.proofs.PlainLaws.{ascending_in_order, member_of_plain, values_with_none, plain_set_at, length_plain}
-use Rattle.numbered_sets.proofs.ViewLaws.{false_unless}
-use Rattle.numbered_sets.proofs.KnownNumbers.{no_bit_of_none}
-use Rattle.numbered_sets.proofs.NumberingLaws.{longer_itself}
-use Rattle.numbered_sets.proofs.SiftLaws.{some_value}
+use Rattle.numbered_sets.proofs.{PlainLaws.{ascending_in_order, member_of_plain, values_with_none, plain_set_at, length_plain}, ViewLaws.{false_unless}}
+use Rattle.numbered_sets.proofs.{KnownNumbers.{no_bit_of_none}, NumberingLaws.{longer_itself}, SiftLaws.{some_value}}
 use Rattle.flow_rules.proofs.Passing.{none_fails, each_passes}
-use Rattle.flow_rules.specs.{Passing.{AreTaken}, Applying.{IsPassedSet}}
-use Rattle.flow_rules.specs.Changing.{up_to, AreAllPassed}
-use Rattle.flow_rules.specs.Sifting.{IsSiftedBy, AreSifted, LeavesNone}
+use Rattle.flow_rules.specs.{Passing.{AreTaken}, Applying.{IsPassedSet}, Changing.{up_to, AreAllPassed}, Sifting.{AreSifted, LeavesNone}}
 use Rattle.flow_rules.proofs.NumbersPassing.{domains_alike}
 
 both_pass : (a p q : Bool) → ((a && not p) && not q) ≡ (a && not (p || q))

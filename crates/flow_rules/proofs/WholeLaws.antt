@@ -4,31 +4,19 @@ use Rattle.std.specs.Prelude.{slice_index_or}
 use Rattle.std.proofs.lemmas.Bool.{cases_eq, and_parts}
 use Rattle.osek_values.specs.declared.numbers.TaskNo.{TaskNo}
 use Rattle.osek_standard.specs.declared.app.App.{App}
-use Rattle.abstract_state.specs.declared.{value.PartValue.{PartValue}, table.ValueSet.{ValueSet}}
-use Rattle.abstract_state.specs.Concrete.{val_of}
-use Rattle.abstract_state.specs.Tables.{set_at, is_member}
+use Rattle.abstract_state.specs.{declared.{value.PartValue.{PartValue}, table.ValueSet.{ValueSet}}, Concrete.{val_of}, Tables.{set_at, is_member}}
 use Rattle.abstract_state.proofs.ComponentLaws.{task_counted}
 use Rattle.flow_model.specs.declared.case.{Asked.{Asked}, Decision.{Decision}}
 use Rattle.flow_model.specs.declared.case.Asked.TheVariants as asked
 use Rattle.flow_model.specs.declared.case.Decision.TheVariants as decision
-use Rattle.flow_model.specs.Values.{is_live_value}
-use Rattle.flow_model.specs.Effects.{AreIn}
-use Rattle.flow_model.specs.Scheduling.{IsLiveTask, Decides}
-use Rattle.flow_model.specs.declared.case.Leaving.{Leaving}
-use Rattle.numbered_sets.specs.declared.numbered_entry.NumberedEntry.{NumberedEntry}
-use Rattle.numbered_sets.specs.Numbers.{Numbers}
-use Rattle.numbered_sets.specs.NumberedEntries.{numbers_at, AreFilled, HasEmptySet}
-use Rattle.numbered_sets.specs.Pools.{Values, values_at}
-use Rattle.numbered_sets.specs.Views.{plain_entry, AreNumbersOf}
+use Rattle.flow_model.specs.{Values.{is_live_value}, Effects.{AreIn}, Scheduling.{IsLiveTask, Decides}, declared.case.Leaving.{Leaving}}
+use Rattle.numbered_sets.specs.{declared.numbered_entry.NumberedEntry.{NumberedEntry}, Numbers.{Numbers}, NumberedEntries.{numbers_at, AreFilled, HasEmptySet}}
+use Rattle.numbered_sets.specs.{Pools.{Values, values_at}, Views.{plain_entry, AreNumbersOf}}
 use Rattle.flow_exits.specs.Outcomes.{IsVacant, idle_decision}
-use Rattle.flow_rules.specs.declared.{task_levels.TaskLevels.{TaskLevels}, levels.Levels.{Levels}}
-use Rattle.flow_rules.specs.Levels.{AreTaskLevels, AreAllLevels, AreAllJudged, IsNarrowed}
+use Rattle.flow_rules.specs.{declared.{task_levels.TaskLevels.{TaskLevels}, levels.Levels.{Levels}}, Levels.{AreTaskLevels, AreAllLevels, AreAllJudged, IsNarrowed}}
 use Rattle.flow_rules.proofs.LevelLaws.{narrowed_elsewhere, narrowed_known, narrowed_members, narrowed_beside, narrowed_size}
-use Rattle.flow_rules.specs.declared.group.ExitGroup.{ExitGroup}
-use Rattle.flow_rules.specs.Deciding.{DecidesSo, AddsFor, IsAny, IsIt, IsWinnerBelow, IsAlive, IsOver, IsGroupFor}
-use Rattle.flow_rules.proofs.NumberLaws.{member_number, number_fills}
-use Rattle.flow_rules.proofs.OwnLevels.{own_levels, all_judged}
-use Rattle.flow_rules.proofs.AddingLaws.{nothing_more, then_more, of_part}
+use Rattle.flow_rules.specs.{declared.group.ExitGroup.{ExitGroup}, Deciding.{DecidesSo, AddsFor, IsAny, IsIt, IsWinnerBelow, IsAlive, IsOver, IsGroupFor}}
+use Rattle.flow_rules.proofs.{NumberLaws.{member_number, number_fills}, OwnLevels.{own_levels, all_judged}, AddingLaws.{nothing_more, then_more, of_part}}
 
 -- ---- the values with which a task is Live
 

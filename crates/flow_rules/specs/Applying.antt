@@ -1,15 +1,9 @@
 -- What a rule makes of the values of numbered sets.
 use Rattle.std.specs.Prelude.{◌≡◌, ℕ, ◌<◌, List, length, IsTrue}
-use Rattle.abstract_state.specs.declared.value.{Domain.{Domain}, PartValue.{PartValue}}
-use Rattle.abstract_state.specs.declared.table.{ValueSet.{ValueSet}, PlainEntry.{PlainEntry}}
-use Rattle.abstract_state.specs.Domains.{IsWithin}
+use Rattle.abstract_state.specs.{declared.{value.{Domain.{Domain}, PartValue.{PartValue}}, table.{ValueSet.{ValueSet}, PlainEntry.{PlainEntry}}}, Domains.{IsWithin}}
 use Rattle.abstract_state.specs.Tables.{set_at, is_member}
-use Rattle.flow_model.specs.declared.rule.Rule.{Rule}
-use Rattle.flow_model.specs.Tests.{PassesAt, value_after}
-use Rattle.flow_model.specs.Rules.{Taken}
-use Rattle.numbered_sets.specs.Numbers.{Numbers, has_number}
-use Rattle.numbered_sets.specs.Pools.{Values, values_at, IsLonger}
-use Rattle.numbered_sets.specs.Views.{plain_set}
+use Rattle.flow_model.specs.{declared.rule.Rule.{Rule}, Tests.{PassesAt, value_after}}
+use Rattle.numbered_sets.specs.{Numbers.{Numbers, has_number}, Pools.{Values, values_at, IsLonger}, Views.{plain_set}}
 use Rattle.flow_rules.specs.Passing.{ArePassed, AreTaken}
 
 -- What the rule makes of the set's values that pass lies in their domain.

@@ -1,13 +1,9 @@
 -- Rules out of the cases of an effect and of its outcome.
 use Rattle.std.specs.Prelude.{◌≡◌, ◌⊎◌, ℕ, List, ◌++◌, Some, Contains}
-use Rattle.osek_standard.specs.declared.app.App.{App}
-use Rattle.osek_standard.specs.declared.point.Point.{Point}
-use Rattle.abstract_state.specs.declared.value.PartValue.{PartValue}
-use Rattle.abstract_state.specs.declared.table.PlainEntry.{PlainEntry}
-use Rattle.flow_model.specs.declared.case.{Decision.{Decision}, EffectCase.{EffectCase}, OutcomeCase.{OutcomeCase}}
-use Rattle.flow_model.specs.declared.{rule.Rule.{Rule}, test.Condition.{Condition}}
-use Rattle.flow_model.specs.Tests.{PassesAll, values_after}
-use Rattle.flow_model.specs.Scheduling.{AreValuesOf, Decides, HasOutcome}
+use Rattle.osek_standard.specs.declared.{app.App.{App}, point.Point.{Point}}
+use Rattle.abstract_state.specs.declared.{value.PartValue.{PartValue}, table.PlainEntry.{PlainEntry}}
+use Rattle.flow_model.specs.declared.{case.{Decision.{Decision}, EffectCase.{EffectCase}, OutcomeCase.{OutcomeCase}}, rule.Rule.{Rule}, test.Condition.{Condition}}
+use Rattle.flow_model.specs.{Tests.{PassesAll, values_after}, Scheduling.{AreValuesOf, Decides, HasOutcome}}
 
 -- the effect, more conditions, and what the scheduler does under them
 abbrev pub rule_by : EffectCase → List Condition → Decision → Point → Rule

@@ -1,17 +1,10 @@
 -- What changes do to numbered sets, one after another.
-use Rattle.std.specs.Prelude.{◌≡◌, ℕ, ◌<◌, Bool, false, ◌==◌, List, [], ◌∷◌, length, take, slice_index_or, IsTrue, None}
-use Rattle.std.specs.List.{list_any}
+use Rattle.std.specs.{Prelude.{◌≡◌, ℕ, ◌<◌, Bool, false, ◌==◌, List, [], ◌∷◌, length, take, slice_index_or, IsTrue, None}, List.{list_any}}
 use Rattle.osek_standard.specs.declared.point.Point.TheVariants as point
-use Rattle.abstract_state.specs.declared.value.PartValue.{PartValue}
-use Rattle.abstract_state.specs.Domains.{IsWithin}
-use Rattle.abstract_state.specs.Tables.{is_member}
-use Rattle.flow_model.specs.declared.{change.Change.{Change}, rule.Rule.{Rule}}
-use Rattle.flow_model.specs.Tests.{updated}
-use Rattle.numbered_sets.specs.declared.numbered_entry.NumberedEntry.{NumberedEntry}
-use Rattle.numbered_sets.specs.Numbers.{Numbers}
-use Rattle.numbered_sets.specs.NumberedEntries.{no_set, numbers_at}
-use Rattle.numbered_sets.specs.Pools.{Values, values_at, domain_at, IsLonger}
-use Rattle.numbered_sets.specs.Views.{plain_set}
+use Rattle.abstract_state.specs.{declared.value.PartValue.{PartValue}, Domains.{IsWithin}, Tables.{is_member}}
+use Rattle.flow_model.specs.{declared.{change.Change.{Change}, rule.Rule.{Rule}}, Tests.{updated}}
+use Rattle.numbered_sets.specs.{declared.numbered_entry.NumberedEntry.{NumberedEntry}, Numbers.{Numbers}, NumberedEntries.{no_set, numbers_at}}
+use Rattle.numbered_sets.specs.{Pools.{Values, values_at, domain_at, IsLonger}, Views.{plain_set}}
 use Rattle.flow_rules.specs.Applying.{IsPassedSet}
 
 abbrev pub names : ℕ → Change → Bool

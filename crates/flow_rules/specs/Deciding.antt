@@ -1,25 +1,17 @@
 -- Groups of exits that come of what the scheduler decides with the values after an effect.
-use Rattle.std.specs.Prelude.{◌≡◌, ◌⊎◌, ⊤, ℕ, ◌<◌, List, [], ◌∷◌, ◌++◌, length, slice_index_or, IsTrue, Some, None, Contains}
-use Rattle.std.specs.declared.option.Option.{Option}
-use Rattle.osek_values.specs.declared.{numbers.TaskNo.{TaskNo}}
+use Rattle.std.specs.{Prelude.{◌≡◌, ◌⊎◌, ⊤, ℕ, ◌<◌, List, [], ◌∷◌, ◌++◌, length, slice_index_or, IsTrue, Some, None, Contains}, declared.option.Option.{Option}}
+use Rattle.osek_values.specs.declared.numbers.TaskNo.{TaskNo}
 use Rattle.osek_standard.specs.declared.app.App.{App}
 use Rattle.osek_standard.specs.declared.point.Point.TheVariants as point
-use Rattle.abstract_state.specs.declared.value.PartValue.{PartValue}
-use Rattle.abstract_state.specs.Concrete.{val_of}
+use Rattle.abstract_state.specs.{declared.value.PartValue.{PartValue}, Concrete.{val_of}}
 use Rattle.flow_model.specs.declared.case.{Asked.{Asked}, Stay.{Stay}, Leaving.{Leaving}, Decision.{Decision}}
 use Rattle.flow_model.specs.declared.case.Asked.TheVariants as asked
 use Rattle.flow_model.specs.declared.case.Stay.TheVariants as stay
 use Rattle.flow_model.specs.declared.case.Decision.TheVariants as decision
-use Rattle.flow_model.specs.Values.{is_live_value, block_of}
-use Rattle.flow_model.specs.Effects.{AreIn}
-use Rattle.flow_model.specs.Scheduling.{Decides}
-use Rattle.numbered_sets.specs.declared.numbered_entry.NumberedEntry.{NumberedEntry}
-use Rattle.numbered_sets.specs.Numbers.{has_number}
-use Rattle.numbered_sets.specs.NumberedEntries.{numbers_at}
-use Rattle.numbered_sets.specs.Pools.{Values, values_at, IsNumberOf}
+use Rattle.flow_model.specs.{Values.{is_live_value, block_of}, Effects.{AreIn}, Scheduling.{Decides}}
+use Rattle.numbered_sets.specs.{declared.numbered_entry.NumberedEntry.{NumberedEntry}, Numbers.{has_number}, NumberedEntries.{numbers_at}, Pools.{Values, values_at, IsNumberOf}}
 use Rattle.numbered_sets.specs.Views.{plain_entry}
-use Rattle.flow_exits.specs.declared.exit.Exit.{Exit}
-use Rattle.flow_exits.specs.Leaving.{IsDecided, HasDecided}
+use Rattle.flow_exits.specs.{declared.exit.Exit.{Exit}, Leaving.{IsDecided, HasDecided}}
 use Rattle.flow_rules.specs.declared.{task_levels.{Level.{Level}, TaskLevels.{TaskLevels}}, levels.Levels.{Levels}}
 use Rattle.flow_rules.specs.declared.group.{NumberEnd.{NumberEnd}, Ends.{Ends}, ExitGroup.{ExitGroup}}
 use Rattle.flow_rules.specs.declared.group.Ends.TheVariants as ends

@@ -1,11 +1,7 @@
 -- The exits that groups of numbers stand for.
-use Rattle.std.specs.Prelude.{⊤, ℕ, ◌<◌, List, length, map, slice_set, Contains}
-use Rattle.std.specs.List.{flat_map}
+use Rattle.std.specs.{Prelude.{⊤, ℕ, ◌<◌, List, length, map, slice_set, Contains}, List.{flat_map}}
 use Rattle.osek_standard.specs.declared.point.Point.{Point}
-use Rattle.numbered_sets.specs.declared.numbered_entry.NumberedEntry.{NumberedEntry}
-use Rattle.numbered_sets.specs.Numbers.{numbers, with_number}
-use Rattle.numbered_sets.specs.NumberedEntries.{numbers_at}
-use Rattle.numbered_sets.specs.Pools.{Values, values_at}
+use Rattle.numbered_sets.specs.{declared.numbered_entry.NumberedEntry.{NumberedEntry}, Numbers.{numbers, with_number}, NumberedEntries.{numbers_at}, Pools.{Values, values_at}}
 use Rattle.numbered_sets.specs.Views.{plain_entry, AreNumbersOf}
 use Rattle.flow_exits.specs.declared.exit.Exit.{Exit}
 use Rattle.flow_rules.specs.declared.group.{NumberEnd.{NumberEnd}, Ends.{Ends}, ExitGroup.{ExitGroup}}

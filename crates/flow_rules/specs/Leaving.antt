@@ -1,19 +1,12 @@
 -- The exits of the instructions at a point, one effect after another, in a pool that grows.
-use Rattle.std.specs.Prelude.{◌⊎◌, ℕ, ◌<◌, List, Contains}
-use Rattle.std.specs.declared.option.Option.{Option}
+use Rattle.std.specs.{Prelude.{◌⊎◌, ℕ, ◌<◌, List, Contains}, declared.option.Option.{Option}}
 use Rattle.osek_values.specs.declared.numbers.TaskNo.{TaskNo}
-use Rattle.osek_standard.specs.declared.app.App.{App}
-use Rattle.osek_standard.specs.declared.point.Point.{Point}
-use Rattle.osek_standard.specs.Apps.{source_count}
+use Rattle.osek_standard.specs.{declared.{app.App.{App}, point.Point.{Point}}, Apps.{source_count}}
 use Rattle.abstract_state.specs.declared.table.PlainEntry.{PlainEntry}
-use Rattle.flow_model.specs.declared.case.EffectCase.{EffectCase}
-use Rattle.flow_model.specs.Effects.{AreAllAllowed, HaveKnownStays, CoverEffects, AreExactEffects}
+use Rattle.flow_model.specs.{declared.case.EffectCase.{EffectCase}, Effects.{AreAllAllowed, HaveKnownStays, CoverEffects, AreExactEffects}}
 use Rattle.numbered_sets.specs.Pools.{Values, IsLonger}
-use Rattle.flow_exits.specs.Arrivals.{MayBegin}
-use Rattle.flow_exits.specs.declared.exit.Exit.{Exit}
-use Rattle.flow_exits.specs.Leaving.{IsOfEffects, HasExitsFor, arrival_exit, IsArrivalExit}
-use Rattle.flow_rules.specs.declared.group.ExitGroup.{ExitGroup}
-use Rattle.flow_rules.specs.Groups.{all_exits, AreKnownGroups}
+use Rattle.flow_exits.specs.{Arrivals.{MayBegin}, declared.exit.Exit.{Exit}, Leaving.{IsOfEffects, HasExitsFor, arrival_exit, IsArrivalExit}}
+use Rattle.flow_rules.specs.{declared.group.ExitGroup.{ExitGroup}, Groups.{all_exits, AreKnownGroups}}
 
 -- the exits by which routines begin come to others
 pub record AddsArrivals (app : App) (p : Point) (entry : PlainEntry) (pool : List Values) (before now : List ExitGroup) : Type 0 where

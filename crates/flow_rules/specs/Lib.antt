@@ -11,3 +11,5 @@ pub mod Deciding
 pub mod Leaving
 pub mod Allowed
 pub mod Ruling
+pub mod Rows
+pub mod Starts

@@ -1,17 +1,11 @@
 -- What is left of the numbers of an entry where the scheduler decides so.
 use Rattle.std.specs.Prelude.{◌≡◌, ℕ, ◌<◌, ◌&&◌, Bool, true, false, nat_lt, List, length, slice_index_or, if◌then◌else◌}
 use Rattle.osek_standard.specs.declared.app.App.{App}
-use Rattle.abstract_state.specs.declared.value.PartValue.{PartValue}
-use Rattle.abstract_state.specs.Concrete.{val_of}
+use Rattle.abstract_state.specs.{declared.value.PartValue.{PartValue}, Concrete.{val_of}}
 use Rattle.flow_model.specs.Effects.{AreIn}
-use Rattle.numbered_sets.specs.declared.numbered_entry.NumberedEntry.{NumberedEntry}
-use Rattle.numbered_sets.specs.Numbers.{has_number}
-use Rattle.numbered_sets.specs.NumberedEntries.{numbers_at, number_domains}
-use Rattle.numbered_sets.specs.Pools.{Values, values_at}
-use Rattle.numbered_sets.specs.Views.{plain_entry}
-use Rattle.flow_exits.specs.declared.claim.Claim.{Claim}
-use Rattle.flow_exits.specs.Claims.{limit_of, is_under, AreUnder}
-use Rattle.flow_exits.specs.Needs.{is_too_low}
+use Rattle.numbered_sets.specs.{declared.numbered_entry.NumberedEntry.{NumberedEntry}, Numbers.{has_number}, NumberedEntries.{numbers_at, number_domains}}
+use Rattle.numbered_sets.specs.{Pools.{Values, values_at}, Views.{plain_entry}}
+use Rattle.flow_exits.specs.{declared.claim.Claim.{Claim}, Claims.{limit_of, is_under, AreUnder}, Needs.{is_too_low}}
 use Rattle.flow_rules.specs.Levels.{IsLeastLimit}
 
 -- Of each component the numbers are left whose values pass.

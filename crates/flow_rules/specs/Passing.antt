@@ -1,17 +1,9 @@
 -- What a rule makes of the values of one component.
-use Rattle.std.specs.Prelude.{◌≡◌, ◌<◌, ℕ, List, length, IsTrue}
-use Rattle.std.specs.List.{list_any}
+use Rattle.std.specs.{Prelude.{◌≡◌, ◌<◌, ℕ, List, length, IsTrue}, List.{list_any}}
 use Rattle.osek_standard.specs.declared.app.App.{App}
-use Rattle.abstract_state.specs.declared.value.{PartValue.{PartValue}, Domain.{Domain}}
-use Rattle.abstract_state.specs.declared.table.{ValueSet.{ValueSet}, PlainEntry.{PlainEntry}}
-use Rattle.abstract_state.specs.ValueOrder.{same_part, IsAscending}
-use Rattle.abstract_state.specs.Components.{component_at, component_count}
-use Rattle.abstract_state.specs.Domains.{IsWithin, domain_of}
-use Rattle.abstract_state.specs.Tables.{is_member}
-use Rattle.flow_model.specs.declared.rule.Rule.{Rule}
-use Rattle.flow_model.specs.Effects.{AreIn}
-use Rattle.flow_model.specs.Tests.{PassesAt, PassesAll, value_after}
-use Rattle.flow_model.specs.Rules.{Taken}
+use Rattle.abstract_state.specs.declared.{value.{PartValue.{PartValue}, Domain.{Domain}}, table.{ValueSet.{ValueSet}, PlainEntry.{PlainEntry}}}
+use Rattle.abstract_state.specs.{ValueOrder.{same_part, IsAscending}, Components.{component_at, component_count}, Domains.{IsWithin, domain_of}, Tables.{is_member}}
+use Rattle.flow_model.specs.{declared.rule.Rule.{Rule}, Effects.{AreIn}, Tests.{PassesAt, PassesAll, value_after}, Rules.{Taken}}
 
 -- a value of a list that the rule takes, and what it makes of it
 pub record Origin (rule : Rule) (c : ℕ) (old : List PartValue) (v : PartValue) : Type 0 where

@@ -1,14 +1,8 @@
 -- What conditions leave of numbered sets.
-use Rattle.std.specs.Prelude.{◌≡◌, ℕ, ◌<◌, ◌&&◌, not, List, length, IsTrue}
-use Rattle.std.specs.List.{list_any}
-use Rattle.abstract_state.specs.declared.value.PartValue.{PartValue}
-use Rattle.abstract_state.specs.Tables.{is_member}
-use Rattle.flow_model.specs.declared.test.Condition.{Condition}
-use Rattle.flow_model.specs.Tests.{is_failed}
-use Rattle.numbered_sets.specs.declared.numbered_entry.NumberedEntry.{NumberedEntry}
-use Rattle.numbered_sets.specs.Numbers.{Numbers, has_number}
-use Rattle.numbered_sets.specs.NumberedEntries.{numbers_at}
-use Rattle.numbered_sets.specs.Pools.{Values, values_at}
+use Rattle.std.specs.{Prelude.{◌≡◌, ℕ, ◌<◌, ◌&&◌, not, List, length, IsTrue}, List.{list_any}}
+use Rattle.abstract_state.specs.{declared.value.PartValue.{PartValue}, Tables.{is_member}}
+use Rattle.flow_model.specs.{declared.test.Condition.{Condition}, Tests.{is_failed}}
+use Rattle.numbered_sets.specs.{declared.numbered_entry.NumberedEntry.{NumberedEntry}, Numbers.{Numbers, has_number}, NumberedEntries.{numbers_at}, Pools.{Values, values_at}}
 use Rattle.numbered_sets.specs.Views.{plain_set}
 
 -- the numbers are left of the values that pass these conditions on component c

@@ -1,12 +1,9 @@
 //! What a rule makes of a numbered entry.
 ghost use Rattle.std.specs.Prelude.{◌≡◌, ◌<◌, ◌≤◌, ◌+◌, List, length, IfOk, OnOk, IfSome, IfNone};
 ghost use Rattle.flow_model.specs.Rules.{Applies, HasNone};
-ghost use Rattle.numbered_sets.specs.declared.numbered_entry.NumberedEntry.{NumberedEntry};
-ghost use Rattle.numbered_sets.specs.NumberedEntries.{number_domains};
-ghost use Rattle.numbered_sets.specs.Pools.{Values, IsLonger};
+ghost use Rattle.numbered_sets.specs.{declared.numbered_entry.NumberedEntry.{NumberedEntry}, NumberedEntries.{number_domains}, Pools.{Values, IsLonger}};
 ghost use Rattle.numbered_sets.specs.Views.{plain_entry, AreNumbersOf};
-ghost use Rattle.flow_rules.specs.Applying.{KeepsDomains};
-ghost use Rattle.flow_rules.specs.Changing.{is_named as is_named_of, up_to, StaysWithin, AreAllPassed};
+ghost use Rattle.flow_rules.specs.{Applying.{KeepsDomains}, Changing.{is_named as is_named_of, up_to, StaysWithin, AreAllPassed}};
 
 use crate::sifting::{may_pass, sift};
 use crate::updating::updated;

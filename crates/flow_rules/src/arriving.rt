@@ -3,8 +3,7 @@ ghost use Rattle.std.specs.Prelude.{◌≡◌, map, IfOk, OnOk};
 ghost use Rattle.osek_standard.specs.Points.{IsPoint};
 ghost use Rattle.flow_model.specs.declared.rule.Rule.{Rule};
 ghost use Rattle.numbered_sets.specs.Views.{plain_entry, AreNumbersOf};
-ghost use Rattle.flow_rules.specs.Groups.{AreKnownGroups};
-ghost use Rattle.flow_rules.specs.Leaving.{AddsArrivals};
+ghost use Rattle.flow_rules.specs.{Groups.{AreKnownGroups}, Leaving.{AddsArrivals}};
 
 use crate::group::{Ends, ExitGroup};
 use abstract_state::Point;

@@ -1,8 +1,6 @@
 //! Conditions that values aren't of those of which changes make other values than some.
-ghost use Rattle.std.specs.Prelude.{◌≡◌, ◌<◌, ◌++◌, length, IfOk, OnOk};
-ghost use Rattle.std.specs.List.{flat_map};
-ghost use Rattle.abstract_state.specs.Domains.{domains, domains_of};
-ghost use Rattle.abstract_state.specs.Tables.{set_at, is_member};
+ghost use Rattle.std.specs.{Prelude.{◌≡◌, ◌<◌, ◌++◌, length, IfOk, OnOk}, List.{flat_map}};
+ghost use Rattle.abstract_state.specs.{Domains.{domains, domains_of}, Tables.{set_at, is_member}};
 ghost use Rattle.flow_rules.specs.Ruling.{bars, bars_at, barred as barred_of};
 
 use abstract_state::{ComponentNo, PartValue, PlainEntry, component_number, components};

@@ -1,13 +1,8 @@
 //! What is left of the numbers after an effect where the scheduler decides so.
-ghost use Rattle.std.specs.Prelude.{◌≡◌, ◌<◌, ◌≤◌, ◌+◌, not, length, slice_index_or, List, IfOk, IfSome, IfNone};
-ghost use Rattle.std.specs.Bool.{OnTrue, OnFalse};
-ghost use Rattle.numbered_sets.specs.declared.numbered_entry.NumberedEntry.{NumberedEntry};
-ghost use Rattle.numbered_sets.specs.NumberedEntries.{AreFilled};
-ghost use Rattle.numbered_sets.specs.Views.{AreNumbersOf};
-ghost use Rattle.flow_exits.specs.Claims.{limit_of};
-ghost use Rattle.flow_exits.specs.Needs.{is_too_low, IsTooLow};
-ghost use Rattle.flow_rules.specs.Levels.{AreAllLevels};
-ghost use Rattle.flow_rules.specs.Narrowing.{IsLeft, is_under_limit, AreNeeds, AreMet, NeverUnder};
+ghost use Rattle.std.specs.{Prelude.{◌≡◌, ◌<◌, ◌≤◌, ◌+◌, not, length, slice_index_or, List, IfOk, IfSome, IfNone}, Bool.{OnTrue, OnFalse}};
+ghost use Rattle.numbered_sets.specs.{declared.numbered_entry.NumberedEntry.{NumberedEntry}, NumberedEntries.{AreFilled}, Views.{AreNumbersOf}};
+ghost use Rattle.flow_exits.specs.{Claims.{limit_of}, Needs.{is_too_low, IsTooLow}};
+ghost use Rattle.flow_rules.specs.{Levels.{AreAllLevels}, Narrowing.{IsLeft, is_under_limit, AreNeeds, AreMet, NeverUnder}};
 
 use crate::levels::Levels;
 use flow_exits::Claim;

@@ -1,19 +1,14 @@
 //! What the scheduler decides with the values after an effect.
 ghost use Rattle.std.specs.Prelude.{◌≡◌, ◌<◌, ◌≤◌, ◌∷◌, [], length, List, None, IfOk, OnOk};
-ghost use Rattle.abstract_state.specs.Components.{component_count};
-ghost use Rattle.abstract_state.specs.Concrete.{val_of};
-ghost use Rattle.flow_model.specs.Effects.{IsKnownStay};
-ghost use Rattle.flow_model.specs.Values.{block_of as block_of_val};
+ghost use Rattle.abstract_state.specs.{Components.{component_count}, Concrete.{val_of}};
+ghost use Rattle.flow_model.specs.{Effects.{IsKnownStay}, Values.{block_of as block_of_val}};
 ghost use Rattle.flow_model.specs.declared.case.Asked.TheVariants as asked;
 ghost use Rattle.flow_model.specs.declared.case.Decision.TheVariants as decision;
-ghost use Rattle.numbered_sets.specs.NumberedEntries.{AreFilled};
-ghost use Rattle.numbered_sets.specs.Pools.{Values};
-ghost use Rattle.numbered_sets.specs.Views.{AreNumbersOf};
+ghost use Rattle.numbered_sets.specs.{NumberedEntries.{AreFilled}, Pools.{Values}, Views.{AreNumbersOf}};
 ghost use Rattle.flow_exits.specs.Outcomes.{IsVacant, idle_decision as idle_decision_of};
 ghost use Rattle.flow_rules.specs.Levels.{AreAllLevels};
 ghost use Rattle.flow_rules.specs.declared.group.Ends.TheVariants as ends;
-ghost use Rattle.flow_rules.specs.Narrowing.{AreNeeds};
-ghost use Rattle.flow_rules.specs.Deciding.{AreBlocks, AreStayEnds, AddsOne, AddsFor, IsAny, IsIt};
+ghost use Rattle.flow_rules.specs.{Narrowing.{AreNeeds}, Deciding.{AreBlocks, AreStayEnds, AddsOne, AddsFor, IsAny, IsIt}};
 
 use crate::claiming::{left_by, needs};
 use crate::group::{Ends, ExitGroup, NumberEnd};

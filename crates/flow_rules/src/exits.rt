@@ -2,16 +2,10 @@
 ghost use Rattle.std.specs.Prelude.{ℕ, ◌≡◌, ◌<◌, ◌∷◌, [], length, slice_index_or, IfOk, OnOk};
 ghost use Rattle.osek_standard.specs.Points.{IsPoint};
 ghost use Rattle.abstract_state.specs.Domains.{domains_of};
-ghost use Rattle.flow_model.specs.declared.case.EffectCase.{EffectCase};
-ghost use Rattle.flow_model.specs.Effects.{AreAllAllowed, IsKnownStay, HaveKnownStays, AreExactEffects};
-ghost use Rattle.numbered_sets.specs.NumberedEntries.{number_domains, AreFilled};
-ghost use Rattle.numbered_sets.specs.Pools.{IsLonger};
-ghost use Rattle.numbered_sets.specs.Views.{plain_entry, AreNumbersOf};
+ghost use Rattle.flow_model.specs.{declared.case.EffectCase.{EffectCase}, Effects.{AreAllAllowed, IsKnownStay, HaveKnownStays, AreExactEffects}};
+ghost use Rattle.numbered_sets.specs.{NumberedEntries.{number_domains, AreFilled}, Pools.{IsLonger}, Views.{plain_entry, AreNumbersOf}};
 ghost use Rattle.flow_exits.specs.Leaving.{AreExits, effect_rule};
-ghost use Rattle.flow_rules.specs.Levels.{AreLevels};
-ghost use Rattle.flow_rules.specs.Applying.{KeepsDomains};
-ghost use Rattle.flow_rules.specs.Groups.{all_exits, AreKnownGroups};
-ghost use Rattle.flow_rules.specs.Leaving.{AddsEffects, AddsInstructions};
+ghost use Rattle.flow_rules.specs.{Levels.{AreLevels}, Applying.{KeepsDomains}, Groups.{all_exits, AreKnownGroups}, Leaving.{AddsEffects, AddsInstructions}};
 
 use crate::applying::apply;
 use crate::arriving::push_arrivals;

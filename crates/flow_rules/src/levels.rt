@@ -16,8 +16,7 @@ pub struct Levels {
 impl Levels {
     ghost use Rattle.std.specs.Prelude.{List, ◌≡◌, ◌<◌, ◌≤◌, length, slice_index_or, IfOk, OnOk};
     ghost use Rattle.numbered_sets.specs.Pools.{Values, IsLonger};
-    ghost use Rattle.flow_rules.specs.declared.task_levels.TaskLevels.{TaskLevels};
-    ghost use Rattle.flow_rules.specs.Levels.{AreLevels, AreAllLevels};
+    ghost use Rattle.flow_rules.specs.{declared.task_levels.TaskLevels.{TaskLevels}, Levels.{AreLevels, AreAllLevels}};
 
     /// No value was judged yet.
     pub fn new(alloc: Global, app: &App, pool: &Pool) -> Result<Levels, Memory>

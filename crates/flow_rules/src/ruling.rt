@@ -1,19 +1,12 @@
 //! The rules of a point, out of its exits.
-ghost use Rattle.std.specs.Prelude.{◌≡◌, ◌≤◌, ◌++◌, length, IfOk, OnOk};
-ghost use Rattle.std.specs.List.{flat_map};
+ghost use Rattle.std.specs.{Prelude.{◌≡◌, ◌≤◌, ◌++◌, length, IfOk, OnOk}, List.{flat_map}};
 ghost use Rattle.osek_standard.specs.Points.{IsPoint};
 ghost use Rattle.abstract_state.specs.Domains.{domains, domains_of};
-ghost use Rattle.flow_model.specs.Effects.{AreAllAllowed, IsKnownStay};
-ghost use Rattle.flow_model.specs.Rules.{Covering, Exact, Foresees};
-ghost use Rattle.numbered_sets.specs.NumberedEntries.{number_domains};
-ghost use Rattle.numbered_sets.specs.Pools.{IsLonger};
-ghost use Rattle.numbered_sets.specs.Views.{plain_entry, AreNumbersOf};
+ghost use Rattle.flow_model.specs.{Effects.{AreAllAllowed, IsKnownStay}, Rules.{Covering, Exact, Foresees}};
+ghost use Rattle.numbered_sets.specs.{NumberedEntries.{number_domains}, Pools.{IsLonger}, Views.{plain_entry, AreNumbersOf}};
 ghost use Rattle.flow_exits.specs.Leaving.{effect_rule};
-ghost use Rattle.flow_rules.specs.Instructions.{AddsInstructionRules as AddsInstructionRules};
-ghost use Rattle.flow_rules.specs.Applying.{KeepsDomains};
-ghost use Rattle.flow_rules.specs.Levels.{AreLevels};
-ghost use Rattle.flow_rules.specs.Groups.{exit_at as exit_of_group, exits_of, all_exits, IsKnownGroup, AreKnownGroups};
-ghost use Rattle.flow_rules.specs.Ruling.{outcomes_by, AddsRulesOf};
+ghost use Rattle.flow_rules.specs.{Instructions.{AddsInstructionRules as AddsInstructionRules}, Applying.{KeepsDomains}, Levels.{AreLevels}};
+ghost use Rattle.flow_rules.specs.{Groups.{exit_at as exit_of_group, exits_of, all_exits, IsKnownGroup, AreKnownGroups}, Ruling.{outcomes_by, AddsRulesOf}};
 
 use crate::allowing::allowed_part;
 use crate::assembly::{add_rules, copied_effect};

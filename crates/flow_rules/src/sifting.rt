@@ -1,6 +1,5 @@
 //! What conditions leave of a numbered entry.
-ghost use Rattle.std.specs.Prelude.{◌≡◌, ◌≤◌, [], ◌∷◌, length, IfOk, OnOk};
-ghost use Rattle.std.specs.Bool.{OnTrue, OnFalse};
+ghost use Rattle.std.specs.{Prelude.{◌≡◌, ◌≤◌, [], ◌∷◌, length, IfOk, OnOk}, Bool.{OnTrue, OnFalse}};
 ghost use Rattle.numbered_sets.specs.NumberedEntries.{number_domains, AreFilled, HasEmptySet};
 ghost use Rattle.flow_rules.specs.Sifting.{AreSifted, LeavesNone};
 

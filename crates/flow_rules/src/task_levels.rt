@@ -29,8 +29,7 @@ impl TaskLevels {
     ghost use Rattle.osek_standard.specs.declared.app.App.{App};
     ghost use Rattle.abstract_state.specs.declared.value.PartValue.{PartValue};
     ghost use Rattle.numbered_sets.specs.Pools.{values_at, IsNumberOf};
-    ghost use Rattle.flow_rules.specs.declared.task_levels.Level.{Level};
-    ghost use Rattle.flow_rules.specs.Levels.{IsLiveAt, AreTaskLevels, with_next};
+    ghost use Rattle.flow_rules.specs.{declared.task_levels.Level.{Level}, Levels.{IsLiveAt, AreTaskLevels, with_next}};
 
     /// No value was judged yet.
     pub fn new(alloc: Global, domain: Domain) -> TaskLevels

@@ -1,14 +1,9 @@
 //! What a change makes of a component's set of numbers.
 ghost use Rattle.std.specs.Prelude.{◌≡◌, ◌<◌, ◌++◌, ◌∷◌, [], List, IsTrue, ℕ, length, IfOk, OnOk};
-ghost use Rattle.abstract_state.specs.declared.value.{Domain.{Domain}, PartValue.{PartValue}};
-ghost use Rattle.abstract_state.specs.Domains.{IsWithin};
-ghost use Rattle.abstract_state.specs.Tables.{is_member};
+ghost use Rattle.abstract_state.specs.{declared.value.{Domain.{Domain}, PartValue.{PartValue}}, Domains.{IsWithin}, Tables.{is_member}};
 ghost use Rattle.flow_model.specs.Tests.{updated as updated_value};
-ghost use Rattle.numbered_sets.specs.Numbers.{has_number};
-ghost use Rattle.numbered_sets.specs.Pools.{Values, values_at, domain_at, IsNumberOf, IsLonger};
-ghost use Rattle.numbered_sets.specs.Views.{plain_set};
-ghost use Rattle.flow_rules.specs.Applying.{IsPassedSet, IsPassedSoFar};
-ghost use Rattle.flow_rules.specs.Changing.{alone};
+ghost use Rattle.numbered_sets.specs.{Numbers.{has_number}, Pools.{Values, values_at, domain_at, IsNumberOf, IsLonger}, Views.{plain_set}};
+ghost use Rattle.flow_rules.specs.{Applying.{IsPassedSet, IsPassedSoFar}, Changing.{alone}};
 
 use abstract_state::PartValue;
 use flow_model::{Change, Update};

@@ -4,11 +4,8 @@ ghost use Rattle.osek_standard.specs.States.{is_that_task};
 ghost use Rattle.abstract_state.specs.Components.{component_count};
 ghost use Rattle.flow_model.specs.declared.case.Decision.TheVariants as decision;
 ghost use Rattle.flow_model.specs.Effects.{IsKnownStay};
-ghost use Rattle.numbered_sets.specs.NumberedEntries.{AreFilled};
-ghost use Rattle.numbered_sets.specs.Views.{AreNumbersOf};
-ghost use Rattle.flow_rules.specs.Levels.{AreAllLevels};
-ghost use Rattle.flow_rules.specs.Narrowing.{AreNeeds};
-ghost use Rattle.flow_rules.specs.Deciding.{AddsOne, AddsFor, IsAlive, IsIt, IsAtLevel, IsLevelOf, IsOver, IsWinnerBelow};
+ghost use Rattle.numbered_sets.specs.{NumberedEntries.{AreFilled}, Views.{AreNumbersOf}};
+ghost use Rattle.flow_rules.specs.{Levels.{AreAllLevels}, Narrowing.{AreNeeds}, Deciding.{AddsOne, AddsFor, IsAlive, IsIt, IsAtLevel, IsLevelOf, IsOver, IsWinnerBelow}};
 
 use crate::claiming::left_by;
 use crate::deciding::at_blocks;

@@ -3,21 +3,15 @@ use Rattle.std.proofs.Common.{◌≡◌, ℕ, ◌<◌, Bool, true, false, not, [
 use Rattle.std.specs.Prelude.{if◌then◌else◌}
 use Rattle.osek_values.specs.declared.status.Ask.TheVariants as ask
 use Rattle.osek_values.specs.declared.status.Status.TheVariants as status
-use Rattle.osek_standard.specs.declared.app.App.{App}
-use Rattle.osek_standard.specs.declared.state.State.{State}
-use Rattle.osek_standard.specs.declared.task_state.Activity.{Activity}
+use Rattle.osek_standard.specs.declared.{app.App.{App}, state.State.{State}, task_state.Activity.{Activity}}
 use Rattle.osek_standard.specs.declared.task_state.Activity.TheVariants as activity
-use Rattle.osek_standard.specs.TaskStates.{is_suspended, is_suspended_activity, is_live_activity}
-use Rattle.osek_standard.specs.States.{task_state}
+use Rattle.osek_standard.specs.{TaskStates.{is_suspended, is_suspended_activity, is_live_activity}, States.{task_state}}
 use Rattle.osek_standard.specs.Services.{activate_task, activated, activated_state, refused, accepted}
 use Rattle.flow_model.specs.declared.test.Test.TheVariants as test
-use Rattle.flow_model.specs.Cases.{condition}
-use Rattle.flow_model.specs.Changes.{activating}
+use Rattle.flow_model.specs.{Cases.{condition}, Changes.{activating}}
 use Rattle.flow_model.proofs.Activations.{activated_parts, activating_sets}
-use Rattle.flow_services.specs.Occasions.{ServiceCase, refused_case, accepted_case}
-use Rattle.flow_services.specs.Services.{activations}
-use Rattle.flow_services.proofs.Seeing.{Sees, off_there, on_there, off_or_on}
-use Rattle.flow_services.proofs.Serving.{Serves, IsServed, keeps_serves, stays_with, two_served}
+use Rattle.flow_services.specs.{Occasions.{ServiceCase, refused_case, accepted_case}, Services.{activations}}
+use Rattle.flow_services.proofs.{Seeing.{Sees, off_there, on_there, off_or_on}, Serving.{Serves, IsServed, keeps_serves, stays_with, two_served}}
 
 pub suspended_or_live : (a : Activity) → is_suspended_activity a ≡ true → is_live_activity a ≡ true → ⊥
 suspended_or_live activity.Suspended e l = cc

@@ -4,23 +4,16 @@ use Rattle.std.specs.Prelude.{if◌then◌else◌, ◌+◌, ◌%◌}
 use Rattle.osek_values.specs.Numbers.{alarm_no}
 use Rattle.osek_values.specs.declared.status.Ask.TheVariants as ask
 use Rattle.osek_values.specs.declared.status.Status.TheVariants as status
-use Rattle.osek_standard.specs.declared.app.App.{App}
-use Rattle.osek_standard.specs.declared.state.{State.{State}, AlarmState.{AlarmState}, AlarmState.TheVariants.{Idle, Armed}}
-use Rattle.osek_standard.specs.Apps.{max_of}
+use Rattle.osek_standard.specs.{declared.{app.App.{App}, state.{State.{State}, AlarmState.{AlarmState, TheVariants.{Idle, Armed}}}}, Apps.{max_of}}
 use Rattle.osek_standard.specs.States.{alarm_state, with_alarm}
 use Rattle.osek_standard.specs.Services.{Answer, is_idle, due, refused, accepted, value_of, time_left, set_rel_alarm, set_abs_alarm, cancel_alarm, get_alarm}
 use Rattle.abstract_state.specs.declared.value.Component.TheVariants as component
 use Rattle.abstract_state.specs.Components.{component_count, component_number, abstract_of, is_armed}
 use Rattle.abstract_state.proofs.Numbers.{number_known}
-use Rattle.flow_model.specs.declared.test.Condition.{Condition}
-use Rattle.flow_model.specs.Tests.{PassesAll}
-use Rattle.flow_model.specs.Changes.{alarm_change}
-use Rattle.flow_model.proofs.ChangeLaws.{passes_one, one_passes}
-use Rattle.flow_model.proofs.Writes.{alarm_written, alarm_changes_set}
-use Rattle.flow_services.specs.Occasions.{ServiceCase, refused_case, accepted_case}
-use Rattle.flow_services.specs.Services.{alarm_is, armings, cancellings, alarm_readings, is_rel_refused, is_abs_refused}
-use Rattle.flow_services.proofs.Seeing.{tests_alarm, alarm_tested}
-use Rattle.flow_services.proofs.Serving.{Serves, IsServed, Stays, keeps_serves, two_served}
+use Rattle.flow_model.specs.{declared.test.Condition.{Condition}, Tests.{PassesAll}, Changes.{alarm_change}}
+use Rattle.flow_model.proofs.{ChangeLaws.{passes_one, one_passes}, Writes.{alarm_written, alarm_changes_set}}
+use Rattle.flow_services.specs.{Occasions.{ServiceCase, refused_case, accepted_case}, Services.{alarm_is, armings, cancellings, alarm_readings, is_rel_refused, is_abs_refused}}
+use Rattle.flow_services.proofs.{Seeing.{tests_alarm, alarm_tested}, Serving.{Serves, IsServed, Stays, keeps_serves, two_served}}
 
 armed_not_idle : (y : AlarmState) → not (is_idle y) ≡ is_armed y
 armed_not_idle Idle = refl

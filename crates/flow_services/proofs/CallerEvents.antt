@@ -3,30 +3,20 @@ use Rattle.std.proofs.Common.{ℕ, ◌<◌, Bool, false, [], ◌∷◌, length, 
 use Rattle.std.specs.Prelude.{if◌then◌else◌, bit_and, bit_xor}
 use Rattle.std.proofs.lemmas.Bool.{cases_Bool}
 use Rattle.std.specs.declared.option.Option.{Option}
-use Rattle.osek_values.specs.Numbers.{mask}
-use Rattle.osek_values.specs.declared.numbers.{TaskNo.{TaskNo}, SourceNo.{SourceNo}}
+use Rattle.osek_values.specs.{Numbers.{mask}, declared.numbers.{TaskNo.{TaskNo}, SourceNo.{SourceNo}}}
 use Rattle.osek_values.specs.declared.notes.Value.TheVariants as value
 use Rattle.osek_values.specs.declared.status.Ask.TheVariants as ask
 use Rattle.osek_values.specs.declared.status.Status.TheVariants as status
 use Rattle.osek_values.specs.Bits.{has_bit}
-use Rattle.osek_standard.specs.declared.app.App.{App}
-use Rattle.osek_standard.specs.declared.state.{State.{State}, Caller.TheVariants.{Task, Routine}}
-use Rattle.osek_standard.specs.Apps.{the_task, is_extended}
-use Rattle.osek_standard.specs.TaskStates.{is_suspended}
-use Rattle.osek_standard.specs.States.{task_state}
-use Rattle.osek_standard.specs.Services.{Answer, clear_event, get_event, refused, accepted, accepted_with, with_events}
+use Rattle.osek_standard.specs.{declared.{app.App.{App}, state.{State.{State}, Caller.TheVariants.{Task, Routine}}}, Apps.{the_task, is_extended}, TaskStates.{is_suspended}}
+use Rattle.osek_standard.specs.{States.{task_state}, Services.{Answer, clear_event, get_event, refused, accepted, accepted_with, with_events}}
 use Rattle.abstract_state.specs.Components.{abstract_of}
 use Rattle.flow_model.specs.declared.test.Test.TheVariants as test
 use Rattle.flow_model.specs.declared.runner.Runner.TheVariants as runner
-use Rattle.flow_model.specs.Cases.{condition}
-use Rattle.flow_model.specs.Changes.{event_changes}
-use Rattle.flow_model.proofs.ChangeLaws.{passes_none}
-use Rattle.flow_model.proofs.BitsOf.{bit_within, bit_cleared, own_bit}
-use Rattle.flow_model.proofs.Writes.{events_written, event_changes_set}
-use Rattle.flow_services.specs.Occasions.{ServiceCase, refused_case, accepted_case}
-use Rattle.flow_services.specs.Services.{own_among, event_clearings, event_readings}
-use Rattle.flow_services.proofs.Seeing.{Sees, off_there, on_there, off_or_on}
-use Rattle.flow_services.proofs.Serving.{Serves, IsServed, keeps_serves, always_served, stays_with, two_served}
+use Rattle.flow_model.specs.{Cases.{condition}, Changes.{event_changes}}
+use Rattle.flow_model.proofs.{ChangeLaws.{passes_none}, BitsOf.{bit_within, bit_cleared, own_bit}, Writes.{events_written, event_changes_set}}
+use Rattle.flow_services.specs.{Occasions.{ServiceCase, refused_case, accepted_case}, Services.{own_among, event_clearings, event_readings}}
+use Rattle.flow_services.proofs.{Seeing.{Sees, off_there, on_there, off_or_on}, Serving.{Serves, IsServed, keeps_serves, always_served, stays_with, two_served}}
 
 module _ (app : App) (s m : State) where
   module _ (t : TaskNo) (e : ℕ) (known : t.0 < length app.tasks) (here : t.0 < length m.tasks) where

@@ -4,40 +4,25 @@ use Rattle.std.specs.Prelude.{if◌then◌else◌, Contains}
 use Rattle.std.proofs.lemmas.List.{append-nil}
 use Rattle.osek_values.specs.declared.status.Ask.TheVariants as ask
 use Rattle.osek_values.specs.declared.numbers.BlockNo.{BlockNo}
-use Rattle.osek_standard.specs.declared.app.App.{App}
-use Rattle.osek_standard.specs.declared.block.Kind.{Kind}
+use Rattle.osek_standard.specs.declared.{app.App.{App}, block.Kind.{Kind}}
 use Rattle.osek_standard.specs.declared.block.Kind.TheVariants as kind
 use Rattle.osek_standard.specs.declared.call.Call.{Call}
 use Rattle.flow_services.specs.CallNames as call
-use Rattle.osek_standard.specs.declared.state.{State.{State}, Caller.{Caller}, AlarmState.{AlarmState}}
-use Rattle.osek_standard.specs.Apps.{tables, the_block}
-use Rattle.osek_standard.specs.Validity.{HasOperands, NamesEntries}
-use Rattle.osek_standard.specs.States.{caller, alarm_state}
-use Rattle.osek_standard.specs.Services.{Answer, clear_event}
-use Rattle.osek_standard.specs.Effects.{is_schedule, moved_to, place_at, row}
+use Rattle.osek_standard.specs.{declared.state.{State.{State}, Caller.{Caller}, AlarmState.{AlarmState}}, Apps.{tables, the_block}, Validity.{HasOperands, NamesEntries}}
+use Rattle.osek_standard.specs.{States.{caller, alarm_state}, Services.{Answer, clear_event}, Effects.{is_schedule, moved_to, place_at, row}}
 use Rattle.osek_standard.proofs.Members.{map_among, among_map, contained_among, among_contained}
 use Rattle.abstract_state.specs.Components.{component_count, abstract_of, is_armed}
-use Rattle.flow_model.specs.declared.change.Change.{Change}
-use Rattle.flow_model.specs.declared.case.{EffectCase.{EffectCase}}
+use Rattle.flow_model.specs.declared.{change.Change.{Change}, case.EffectCase.{EffectCase}}
 use Rattle.flow_model.specs.declared.case.Asked.TheVariants as asked
 use Rattle.flow_model.specs.declared.runner.Runner.{Runner}
 use Rattle.flow_model.specs.declared.runner.Runner.TheVariants as runner
-use Rattle.flow_model.specs.Cases.{asked_for, asked_after}
-use Rattle.flow_model.specs.Runners.{Stands, OwnsBlock, runner_point, moving}
-use Rattle.flow_model.specs.Tests.{PassesAll, value_after}
-use Rattle.flow_model.specs.Effects.{HasEffect, AreCasesOf}
-use Rattle.flow_model.proofs.ChangeLaws.{AreSets, sets_first, passes_left, passes_both, passes_none}
-use Rattle.flow_model.proofs.Moves.{moved_parts, went_on, moved_has, moved_alarms}
-use Rattle.flow_model.proofs.Standing.{point_there, next_owned, known_here, task_calls, routine_calls}
-use Rattle.flow_model.proofs.Calls.{IsCall, HasAnswer, call_has, asked_none, asked_maybe}
+use Rattle.flow_model.specs.{Cases.{asked_for, asked_after}, Runners.{Stands, OwnsBlock, runner_point, moving}, Tests.{PassesAll, value_after}, Effects.{HasEffect, AreCasesOf}}
+use Rattle.flow_model.proofs.{ChangeLaws.{AreSets, sets_first, passes_left, passes_both, passes_none}, Moves.{moved_parts, went_on, moved_has, moved_alarms}}
+use Rattle.flow_model.proofs.{Standing.{point_there, next_owned, known_here, task_calls, routine_calls}, Calls.{IsCall, HasAnswer, call_has, asked_none, asked_maybe}}
 use Rattle.flow_model.proofs.Listing.{AreEffects, covers, exact}
-use Rattle.flow_services.specs.Occasions.{ServiceCase, case_at, accepted_case, unnoted_case}
-use Rattle.flow_services.specs.Services.{is_service_call, call_cases, calling, event_clearings}
-use Rattle.flow_services.proofs.Seeing.{Sees, moved_sees}
-use Rattle.flow_services.proofs.Serving.{Serves, IsServed, point_stays, keeps_serves, always_served, stay_there}
-use Rattle.flow_services.proofs.ActivationLaws.{activation_served}
-use Rattle.flow_services.proofs.SettingEvents.{setting_served}
-use Rattle.flow_services.proofs.CallerEvents.{task_clearing_served, routine_clearing_served, reading_served}
+use Rattle.flow_services.specs.{Occasions.{ServiceCase, case_at, accepted_case, unnoted_case}, Services.{is_service_call, call_cases, calling, event_clearings}}
+use Rattle.flow_services.proofs.{Seeing.{Sees, moved_sees}, Serving.{Serves, IsServed, point_stays, keeps_serves, always_served, stay_there}, ActivationLaws.{activation_served}}
+use Rattle.flow_services.proofs.{SettingEvents.{setting_served}, CallerEvents.{task_clearing_served, routine_clearing_served, reading_served}}
 use Rattle.flow_services.proofs.AlarmServices.{rel_arming_served, abs_arming_served, cancelling_served, alarm_reading_served}
 
 -- what a call of this kind asks where the service may lead to a dispatch, or may not

@@ -4,51 +4,32 @@ use Rattle.std.specs.Prelude.{if◌then◌else◌, ◌==◌, ◌+◌, ◌%◌}
 use Rattle.std.proofs.lemmas.Bool.{cases_Bool, ne_eqb}
 use Rattle.osek_values.specs.Numbers.{alarm_no}
 use Rattle.osek_values.specs.declared.status.Ask.TheVariants as ask
-use Rattle.osek_values.specs.declared.numbers.{BlockNo.{BlockNo}}
+use Rattle.osek_values.specs.declared.numbers.BlockNo.{BlockNo}
 use Rattle.oil_system.specs.declared.objects.Action.{Action}
 use Rattle.oil_system.specs.declared.objects.Action.TheVariants as action
 use Rattle.osek_standard.specs.declared.app.App.{App}
 use Rattle.osek_standard.specs.declared.block.Kind.TheVariants as kind
-use Rattle.osek_standard.specs.declared.state.{State.{State}, AlarmState.{AlarmState}, AlarmState.TheVariants.{Idle, Armed}, Processor.{Processor}}
+use Rattle.osek_standard.specs.declared.state.{State.{State}, AlarmState.{AlarmState, TheVariants.{Idle, Armed}}, Processor.{Processor}}
 use Rattle.osek_standard.specs.declared.state.Processor.TheVariants as processor
-use Rattle.osek_standard.specs.Apps.{tables, the_alarm, the_block, max_of, no_alarm}
-use Rattle.osek_standard.specs.Validity.{IsAction}
-use Rattle.osek_standard.specs.States.{alarm_state, with_alarm, counter_value}
-use Rattle.osek_standard.specs.declared.point.Point.{Point}
-use Rattle.osek_standard.specs.Services.{Answer, due, is_due_at, value_of, rearmed, acted, asks_no, expire, unnoted}
-use Rattle.osek_standard.specs.Effects.{moved_to, moved_by, place_at}
-use Rattle.osek_standard.specs.Arrivals.{arrival}
+use Rattle.osek_standard.specs.{Apps.{tables, the_alarm, the_block, max_of, no_alarm}, Validity.{IsAction}, States.{alarm_state, with_alarm, counter_value}}
+use Rattle.osek_standard.specs.{declared.point.Point.{Point}, Services.{Answer, due, is_due_at, value_of, rearmed, acted, asks_no, expire, unnoted}}
+use Rattle.osek_standard.specs.{Effects.{moved_to, moved_by, place_at}, Arrivals.{arrival}}
 use Rattle.osek_standard.proofs.Members.{Among, map_among, among_map, among_left, among_right, among_cases, contained_among, among_contained}
-use Rattle.abstract_state.specs.declared.value.{PartValue.{PartValue}, PartValue.TheVariants.{OfAlarm}}
+use Rattle.abstract_state.specs.declared.value.PartValue.{PartValue, TheVariants.{OfAlarm}}
 use Rattle.abstract_state.specs.declared.value.Component.TheVariants as component
-use Rattle.abstract_state.specs.declared.table.PlainEntry.{PlainEntry}
-use Rattle.abstract_state.specs.Choices.{IsQuietWith}
-use Rattle.abstract_state.specs.Components.{component_count, component_number, abstract_of, is_armed}
+use Rattle.abstract_state.specs.{declared.table.PlainEntry.{PlainEntry}, Choices.{IsQuietWith}, Components.{component_count, component_number, abstract_of, is_armed}}
 use Rattle.abstract_state.specs.Concrete.{HasParts, AreAllowed}
-use Rattle.abstract_state.proofs.Concretes.{some_quiet, some_armed, some_ticks, armed_once, armed_again}
-use Rattle.abstract_state.proofs.Numbers.{number_known}
-use Rattle.abstract_state.proofs.OrderLaws.{part_right}
-use Rattle.flow_model.specs.declared.test.Condition.{Condition}
-use Rattle.flow_model.specs.declared.case.EffectCase.{EffectCase}
+use Rattle.abstract_state.proofs.{Concretes.{some_quiet, some_armed, some_ticks, armed_once, armed_again}, Numbers.{number_known}, OrderLaws.{part_right}}
+use Rattle.flow_model.specs.declared.{test.Condition.{Condition}, case.EffectCase.{EffectCase}}
 use Rattle.flow_model.specs.declared.case.Asked.TheVariants as asked
-use Rattle.flow_model.specs.declared.runner.Runner.{Runner}
-use Rattle.flow_model.specs.Runners.{Stands, OwnsBlock, runner_point}
-use Rattle.flow_model.specs.Tests.{PassesAll, value_after}
-use Rattle.flow_model.specs.Effects.{AreIn, HasEffect, HasSomeEffect, ShowsEffect, AreAllAllowed, AreCasesOf, IsKnownStay}
-use Rattle.flow_model.specs.Changes.{alarm_change}
-use Rattle.flow_model.proofs.ChangeLaws.{sets_first, sets_both, passes_left, passes_right, passes_both, passes_one, one_passes}
-use Rattle.flow_model.proofs.Writes.{alarm_written, alarm_changes_set}
-use Rattle.flow_model.proofs.Moves.{moved_alarms}
-use Rattle.flow_model.proofs.Standing.{point_there, stands_here, owned_point}
-use Rattle.flow_model.proofs.Calls.{IsCall, HasAnswer, call_has, asked_none}
+use Rattle.flow_model.specs.{declared.runner.Runner.{Runner}, Runners.{Stands, OwnsBlock, runner_point}, Tests.{PassesAll, value_after}}
+use Rattle.flow_model.specs.{Effects.{AreIn, HasEffect, HasSomeEffect, ShowsEffect, AreAllAllowed, AreCasesOf, IsKnownStay}, Changes.{alarm_change}}
+use Rattle.flow_model.proofs.{ChangeLaws.{sets_first, sets_both, passes_left, passes_right, passes_both, passes_one, one_passes}, Writes.{alarm_written, alarm_changes_set}}
+use Rattle.flow_model.proofs.{Moves.{moved_alarms}, Standing.{point_there, stands_here, owned_point}, Calls.{IsCall, HasAnswer, call_has, asked_none}}
 use Rattle.flow_model.proofs.Listing.{covers_by, values_allowed, made_passes}
-use Rattle.flow_services.specs.Occasions.{ServiceCase, case_at, unnoted_case}
-use Rattle.flow_services.specs.Services.{actions, alarm_is, looking, expiring, expiries}
-use Rattle.flow_services.proofs.Seeing.{Sees, tests_alarm, alarm_tested}
-use Rattle.flow_services.proofs.Serving.{Serves, IsServed, Stays, point_stays, stay_there}
-use Rattle.flow_services.proofs.ActivationLaws.{activation_served}
-use Rattle.flow_services.proofs.SettingEvents.{setting_served}
-use Rattle.flow_services.proofs.Calling.{moved_well, parts_after, sees_moved}
+use Rattle.flow_services.specs.{Occasions.{ServiceCase, case_at, unnoted_case}, Services.{actions, alarm_is, looking, expiring, expiries}}
+use Rattle.flow_services.proofs.{Seeing.{Sees, tests_alarm, alarm_tested}, Serving.{Serves, IsServed, Stays, point_stays, stay_there}, ActivationLaws.{activation_served}}
+use Rattle.flow_services.proofs.{SettingEvents.{setting_served}, Calling.{moved_well, parts_after, sees_moved}}
 
 counters_by : (s : State) (b : BlockNo) (p : Processor) → (moved_by s p (place_at b 0)).counters ≡ s.counters
 counters_by s b processor.Halted = refl

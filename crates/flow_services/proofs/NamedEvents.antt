@@ -1,9 +1,7 @@
 -- The events that a call names, as code has them.
 use Rattle.std.proofs.Common.{◌≡◌, ℕ, true, sym, ap, subst, ◌∙◌}
 use Rattle.std.specs.Prelude.{bit_and}
-use Rattle.osek_values.specs.Numbers.{mask}
-use Rattle.osek_values.specs.declared.mask.Mask.{Mask}
-use Rattle.osek_values.specs.Bits.{has_bit}
+use Rattle.osek_values.specs.{Numbers.{mask}, declared.mask.Mask.{Mask}, Bits.{has_bit}}
 use Rattle.osek_standard.specs.declared.objects.Task.{Task}
 use Rattle.flow_model.proofs.BitsOf.{bit_within}
 

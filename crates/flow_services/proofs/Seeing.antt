@@ -4,27 +4,17 @@ use Rattle.std.specs.declared.option.Option.{Option}
 use Rattle.std.proofs.lemmas.Bool.{cases_Bool, not-true}
 use Rattle.flow_model.proofs.ChangeLaws.{passes_one, one_passes}
 use Rattle.flow_model.specs.Cases.{condition}
-use Rattle.osek_values.specs.Numbers.{alarm_no}
-use Rattle.osek_values.specs.declared.numbers.BlockNo.{BlockNo}
-use Rattle.osek_standard.specs.declared.app.App.{App}
-use Rattle.osek_standard.specs.declared.state.State.{State}
-use Rattle.osek_standard.specs.declared.task_state.{TaskState.{TaskState}, Activity.{Activity}, Place.{Place}}
+use Rattle.osek_values.specs.{Numbers.{alarm_no}, declared.numbers.BlockNo.{BlockNo}}
+use Rattle.osek_standard.specs.declared.{app.App.{App}, state.State.{State}, task_state.{TaskState.{TaskState}, Activity.{Activity}, Place.{Place}}}
 use Rattle.osek_standard.specs.declared.task_state.Activity.TheVariants as activity
-use Rattle.osek_standard.specs.TaskStates.{is_suspended, is_suspended_activity}
-use Rattle.osek_standard.specs.States.{task_state, alarm_state}
-use Rattle.osek_standard.specs.Effects.{place_at, standing_at, moved_to}
-use Rattle.abstract_state.specs.declared.value.{Val.{Val}, Val.TheVariants.{Waiting}, PartValue.TheVariants.{OfTask, OfAlarm}}
+use Rattle.osek_standard.specs.{TaskStates.{is_suspended, is_suspended_activity}, States.{task_state, alarm_state}, Effects.{place_at, standing_at, moved_to}}
+use Rattle.abstract_state.specs.declared.value.{Val.{Val, TheVariants.{Waiting}}, PartValue.TheVariants.{OfTask, OfAlarm}}
 use Rattle.abstract_state.specs.declared.value.Component.TheVariants as component
-use Rattle.abstract_state.specs.Components.{component_number, part_of, abstract_of, value_in, is_armed}
-use Rattle.abstract_state.specs.ValueOrder.{same_part}
-use Rattle.abstract_state.proofs.ComponentLaws.{task_at_its_number, task_counted}
-use Rattle.abstract_state.proofs.Numbers.{component_here}
-use Rattle.abstract_state.proofs.OrderLaws.{part_right, part_itself}
+use Rattle.abstract_state.specs.{Components.{component_number, part_of, abstract_of, value_in, is_armed}, ValueOrder.{same_part}}
+use Rattle.abstract_state.proofs.{ComponentLaws.{task_at_its_number, task_counted}, Numbers.{component_here}, OrderLaws.{part_right, part_itself}}
 use Rattle.flow_model.specs.declared.runner.Runner.{Runner}
 use Rattle.flow_model.specs.declared.test.Test.TheVariants as test
-use Rattle.flow_model.specs.Values.{is_suspended_value}
-use Rattle.flow_model.specs.Tests.{passes, PassesAll}
-use Rattle.flow_model.specs.Runners.{Stands}
+use Rattle.flow_model.specs.{Values.{is_suspended_value}, Tests.{passes, PassesAll}, Runners.{Stands}}
 use Rattle.flow_model.proofs.Moves.{moved_keeps_of, moved_suspended}
 
 -- where a task waits

@@ -1,23 +1,15 @@
 -- The lists that code makes are the cases of the block.
 use Rattle.std.proofs.Common.{◌≡◌, ◌<◌, true, List, length, map, sym, ap, subst, ◌∙◌, None, IsTrue}
 use Rattle.osek_values.specs.declared.numbers.{AlarmNo.{AlarmNo}, BlockNo.{BlockNo}}
-use Rattle.osek_standard.specs.declared.app.App.{App}
-use Rattle.osek_standard.specs.declared.block.{Block.{Block}, Kind.{Kind}}
+use Rattle.osek_standard.specs.declared.{app.App.{App}, block.{Block.{Block}, Kind.{Kind}}}
 use Rattle.osek_standard.specs.declared.block.Kind.TheVariants as kind
-use Rattle.osek_standard.specs.declared.call.Call.{Call}
-use Rattle.osek_standard.specs.Apps.{tables, the_block}
-use Rattle.osek_standard.specs.Validity.{NamesEntries}
+use Rattle.osek_standard.specs.{declared.call.Call.{Call}, Apps.{tables, the_block}, Validity.{NamesEntries}}
 use Rattle.osek_standard.proofs.WellLaws.{own_block, routine_block}
-use Rattle.flow_model.specs.declared.case.{Asked.{Asked}, EffectCase.{EffectCase}}
-use Rattle.flow_model.specs.declared.runner.Runner.{Runner}
+use Rattle.flow_model.specs.declared.{case.{Asked.{Asked}, EffectCase.{EffectCase}}, runner.Runner.{Runner}}
 use Rattle.flow_model.specs.declared.runner.Runner.TheVariants as runner
-use Rattle.flow_model.specs.Cases.{asked_after}
-use Rattle.flow_model.specs.Effects.{AreCasesOf}
-use Rattle.flow_model.specs.Runners.{OwnsBlock, runner_point}
-use Rattle.flow_services.specs.Occasions.{case_at}
-use Rattle.flow_services.specs.Services.{is_service, call_cases, calling, expiries}
-use Rattle.flow_services.proofs.Calling.{calls_are_cases}
-use Rattle.flow_services.proofs.Expiring.{expiries_are_cases}
+use Rattle.flow_model.specs.{Cases.{asked_after}, Effects.{AreCasesOf}, Runners.{OwnsBlock, runner_point}}
+use Rattle.flow_services.specs.{Occasions.{case_at}, Services.{is_service, call_cases, calling, expiries}}
+use Rattle.flow_services.proofs.{Calling.{calls_are_cases}, Expiring.{expiries_are_cases}}
 
 -- what a block of the runner's names
 pub operands_of : (app : App) (r : Runner) (b : BlockNo) → OwnsBlock app r b → NamesEntries (tables app) (the_block app b.0).kind

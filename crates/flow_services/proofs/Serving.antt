@@ -3,28 +3,20 @@ use Rattle.std.proofs.Common.{◌≡◌, ℕ, ◌<◌, true, false, List, [], �
 use Rattle.std.specs.Prelude.{if◌then◌else◌, slice_index_or}
 use Rattle.std.proofs.lemmas.Bool.{cases_eq}
 use Rattle.std.specs.declared.option.Option.{Option}
-use Rattle.osek_values.specs.declared.status.{Status.{Status}}
+use Rattle.osek_values.specs.declared.status.Status.{Status}
 use Rattle.osek_values.specs.declared.status.Ask.TheVariants as ask
 use Rattle.osek_values.specs.declared.notes.Value.{Value}
-use Rattle.osek_standard.specs.declared.app.App.{App}
-use Rattle.osek_standard.specs.declared.state.{State.{State}, Processor.{Processor}, Source.{Source}}
+use Rattle.osek_standard.specs.declared.{app.App.{App}, state.{State.{State}, Processor.{Processor}, Source.{Source}}}
 use Rattle.osek_standard.specs.declared.state.Source.TheVariants as source
 use Rattle.osek_standard.specs.declared.state.Processor.TheVariants as processor
-use Rattle.osek_standard.specs.declared.task_state.{TaskState.{TaskState}, Place.{Place}}
-use Rattle.osek_standard.specs.TaskStates.{suspended, is_live}
-use Rattle.osek_standard.specs.States.{task_state, with_task, place_by, place_in, place_of_source}
-use Rattle.osek_standard.specs.Points.{point_at, point_of}
-use Rattle.osek_standard.specs.Services.{Answer, answer}
+use Rattle.osek_standard.specs.{declared.task_state.{TaskState.{TaskState}, Place.{Place}}, TaskStates.{suspended, is_live}}
+use Rattle.osek_standard.specs.{States.{task_state, with_task, place_by, place_in, place_of_source}, Points.{point_at, point_of}, Services.{Answer, answer}}
 use Rattle.osek_standard.specs.Well.{Well, IsProcessor}
 use Rattle.osek_standard.proofs.Members.{Among, map_among}
 use Rattle.abstract_state.specs.Components.{component_count, abstract_of}
-use Rattle.flow_model.specs.declared.test.Condition.{Condition}
-use Rattle.flow_model.specs.declared.case.EffectCase.{EffectCase}
-use Rattle.flow_model.specs.Effects.{IsKnownStay}
-use Rattle.flow_model.specs.Tests.{PassesAll, value_after}
+use Rattle.flow_model.specs.{declared.{test.Condition.{Condition}, case.EffectCase.{EffectCase}}, Effects.{IsKnownStay}, Tests.{PassesAll, value_after}}
 use Rattle.flow_model.proofs.ChangeLaws.{AreSets, sets_none}
-use Rattle.flow_services.specs.declared.occasion.Occasion.{Occasion}
-use Rattle.flow_services.specs.Occasions.{ServiceCase, service_case, case_at}
+use Rattle.flow_services.specs.{declared.occasion.Occasion.{Occasion}, Occasions.{ServiceCase, service_case, case_at}}
 
 -- who has the processor keeps it, and stands where it stood
 pub record Stays (m n : State) : Type 0 where

@@ -2,31 +2,22 @@
 use Rattle.std.specs.List.{range_with_len}
 use Rattle.std.proofs.Common.{map, filter, ◌≡◌, ℕ, ◌<◌, ◌-◌, Bool, true, false, not, List, [], ◌∷◌, length, refl, sym, ap, subst, ◌∙◌, inl, inr, arith, Some, IsTrue}
 use Rattle.std.proofs.lemmas.Bool.{cases_Bool}
-use Rattle.osek_values.specs.Numbers.{mask, block_no}
-use Rattle.osek_values.specs.declared.numbers.BlockNo.{BlockNo}
+use Rattle.osek_values.specs.{Numbers.{mask, block_no}, declared.numbers.BlockNo.{BlockNo}}
 use Rattle.osek_values.specs.declared.status.Ask.TheVariants as ask
 use Rattle.osek_values.specs.declared.status.Status.TheVariants as status
 use Rattle.osek_values.specs.Bits.{has_bit}
-use Rattle.osek_standard.specs.declared.app.App.{App}
-use Rattle.osek_standard.specs.declared.state.State.{State}
-use Rattle.osek_standard.specs.declared.task_state.{TaskState.{TaskState}, Activity.{Activity}}
+use Rattle.osek_standard.specs.declared.{app.App.{App}, state.State.{State}, task_state.{TaskState.{TaskState}, Activity.{Activity}}}
 use Rattle.osek_standard.specs.declared.task_state.Activity.TheVariants as activity
-use Rattle.osek_standard.specs.Apps.{the_task, the_block, is_extended}
-use Rattle.osek_standard.specs.TaskStates.{is_suspended, is_live_activity}
-use Rattle.osek_standard.specs.States.{task_state}
+use Rattle.osek_standard.specs.{Apps.{the_task, the_block, is_extended}, TaskStates.{is_suspended, is_live_activity}, States.{task_state}}
 use Rattle.osek_standard.specs.Services.{set_event, refused, accepted, waits_in, waits_for, woken, with_events, events_set, released_from}
 use Rattle.osek_standard.specs.Well.{Well, IsOwn, IsWaitingAt, IsActivityOf}
 use Rattle.osek_standard.proofs.Members.{Among, among_map, map_among, among_passing, passing_among}
-use Rattle.abstract_state.specs.declared.value.{Val.TheVariants.{Live, Waiting}, PartValue.TheVariants.{OfTask}}
-use Rattle.abstract_state.specs.Components.{component_count, abstract_of, value_in, live_val}
+use Rattle.abstract_state.specs.{declared.value.{Val.TheVariants.{Live, Waiting}, PartValue.TheVariants.{OfTask}}, Components.{component_count, abstract_of, value_in, live_val}}
 use Rattle.abstract_state.proofs.ComponentLaws.{task_counted}
 use Rattle.flow_model.specs.declared.test.Condition.{Condition}
 use Rattle.flow_model.specs.declared.test.Test.TheVariants as test
-use Rattle.flow_model.specs.Cases.{condition}
-use Rattle.flow_model.specs.Tests.{passes, PassesAll, value_after}
-use Rattle.flow_model.specs.Changes.{task_change, event_changes}
-use Rattle.flow_model.proofs.ChangeLaws.{passes_each, each_passes, passes_one, one_passes, sets_both, passes_left}
-use Rattle.flow_model.proofs.BitsOf.{bit_within, bit_set}
+use Rattle.flow_model.specs.{Cases.{condition}, Tests.{passes, PassesAll, value_after}, Changes.{task_change, event_changes}}
+use Rattle.flow_model.proofs.{ChangeLaws.{passes_each, each_passes, passes_one, one_passes, sets_both, passes_left}, BitsOf.{bit_within, bit_set}}
 use Rattle.flow_model.proofs.Writes.{task_written, events_written, task_changes_set, event_changes_set}
 use Rattle.flow_services.specs.Occasions.{ServiceCase, refused_case}
 use Rattle.flow_services.specs.Services.{waits_at, waits_not_at, awaits, own_block, awaiting_blocks, own_among, not_awaiting, waking, settings, event_settings}

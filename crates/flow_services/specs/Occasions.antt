@@ -1,6 +1,5 @@
 -- A case of a service alone, and the case of the effect that it is where the service is called.
-use Rattle.std.specs.Prelude.{Bool, true, false, List, [], ◌∷◌, ◌++◌, Some, None, if◌then◌else◌}
-use Rattle.std.specs.declared.option.Option.{Option}
+use Rattle.std.specs.{Prelude.{Bool, true, false, List, [], ◌∷◌, ◌++◌, Some, None, if◌then◌else◌}, declared.option.Option.{Option}}
 use Rattle.osek_values.specs.declared.status.Status.{Status}
 use Rattle.osek_values.specs.declared.status.Status.TheVariants as status
 use Rattle.abstract_state.specs.declared.value.PartValue.TheVariants.{OfAlarm}
@@ -10,8 +9,7 @@ use Rattle.flow_model.specs.declared.test.Condition.{Condition}
 use Rattle.flow_model.specs.declared.test.Test.TheVariants as test
 use Rattle.flow_model.specs.declared.case.EffectCase.{EffectCase}
 use Rattle.flow_model.specs.declared.case.Asked.TheVariants as asked
-use Rattle.flow_model.specs.Runners.{runner_point, moving, change}
-use Rattle.flow_model.specs.Cases.{condition, effect_case}
+use Rattle.flow_model.specs.{Runners.{runner_point, moving, change}, Cases.{condition, effect_case}}
 use Rattle.flow_services.specs.declared.occasion.{Expired.{Expired}, Occasion.{Occasion}}
 
 -- what a service takes, changes and notes, and whether it may lead to a dispatch

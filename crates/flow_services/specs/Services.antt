@@ -1,31 +1,24 @@
 -- The cases of each service, in the order of ISO 17356-3.
-use Rattle.std.specs.Prelude.{ℕ, ◌+◌, Bool, true, false, not, ◌==◌, ◌||◌, nat_lt, bit_and, List, [], ◌∷◌, ◌++◌, map, filter, Some, None, if◌then◌else◌}
-use Rattle.std.specs.List.{range_with_len}
-use Rattle.osek_values.specs.declared.numbers.{BlockNo.{BlockNo}}
-use Rattle.osek_values.specs.Numbers.{block_no, alarm_no}
+use Rattle.std.specs.{Prelude.{ℕ, ◌+◌, Bool, true, false, not, ◌==◌, ◌||◌, nat_lt, bit_and, List, [], ◌∷◌, ◌++◌, map, filter, Some, None, if◌then◌else◌}, List.{range_with_len}}
+use Rattle.osek_values.specs.{declared.numbers.BlockNo.{BlockNo}, Numbers.{block_no, alarm_no}}
 use Rattle.osek_values.specs.declared.status.Status.TheVariants as status
 use Rattle.oil_system.specs.declared.objects.Action.{Action}
 use Rattle.oil_system.specs.declared.objects.Action.TheVariants as action
-use Rattle.osek_standard.specs.declared.app.App.{App}
-use Rattle.osek_standard.specs.declared.block.Kind.{Kind}
+use Rattle.osek_standard.specs.declared.{app.App.{App}, block.Kind.{Kind}}
 use Rattle.osek_standard.specs.declared.block.Kind.TheVariants as kind
 use Rattle.osek_standard.specs.declared.call.Call.{Call}
 use Rattle.flow_services.specs.CallNames as call
-use Rattle.osek_standard.specs.Apps.{the_task, the_alarm, the_block, is_extended, max_of, is_cycle, awaited}
-use Rattle.osek_standard.specs.Services.{share}
+use Rattle.osek_standard.specs.{Apps.{the_task, the_alarm, the_block, is_extended, max_of, is_cycle, awaited}, Services.{share}}
 use Rattle.abstract_state.specs.declared.value.{Val.TheVariants.{Live, Waiting}, PartValue.TheVariants.{OfTask, OfAlarm}}
 use Rattle.abstract_state.specs.declared.value.Component.TheVariants as component
 use Rattle.abstract_state.specs.Components.{component_no, component_number, live_val}
 use Rattle.flow_model.specs.declared.test.Condition.{Condition}
 use Rattle.flow_model.specs.declared.test.Test.TheVariants as test
 use Rattle.flow_model.specs.declared.case.Asked.TheVariants as asked
-use Rattle.flow_model.specs.declared.case.EffectCase.{EffectCase}
-use Rattle.flow_model.specs.declared.runner.Runner.{Runner}
+use Rattle.flow_model.specs.declared.{case.EffectCase.{EffectCase}, runner.Runner.{Runner}}
 use Rattle.flow_model.specs.declared.runner.Runner.TheVariants as runner
-use Rattle.flow_model.specs.Cases.{condition, asked_after}
-use Rattle.flow_model.specs.Changes.{task_change, alarm_change, event_changes, activating}
-use Rattle.flow_services.specs.Occasions.{ServiceCase, refused_case, accepted_case, unnoted_case, case_at}
-use Rattle.flow_services.specs.declared.occasion.{Expired.{Expired}, Occasion.{Occasion}}
+use Rattle.flow_model.specs.{Cases.{condition, asked_after}, Changes.{task_change, alarm_change, event_changes, activating}}
+use Rattle.flow_services.specs.{Occasions.{ServiceCase, refused_case, accepted_case, unnoted_case, case_at}, declared.occasion.{Expired.{Expired}, Occasion.{Occasion}}}
 
 -- all but the calls by which a caller ends, waits, asks for a dispatch alone, or takes and gives back a resource
 abbrev pub is_service_call : Call → Bool

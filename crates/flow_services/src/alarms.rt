@@ -1,7 +1,6 @@
 //! The cases of the services on alarms, and of an alarm that a tick routine looks at.
 ghost use Rattle.std.specs.Prelude.{◌≡◌, ◌<◌, [], ◌∷◌, ◌++◌, length, map, IfOk, OnOk};
-ghost use Rattle.osek_standard.specs.Apps.{tables, is_cycle as is_cycle_of};
-ghost use Rattle.osek_standard.specs.Validity.{IsAction};
+ghost use Rattle.osek_standard.specs.{Apps.{tables, is_cycle as is_cycle_of}, Validity.{IsAction}};
 ghost use Rattle.abstract_state.specs.Components.{component_number as component_number_of};
 ghost use Rattle.abstract_state.specs.declared.value.Component.TheVariants as component;
 ghost use Rattle.abstract_state.specs.declared.value.PartValue.TheVariants.{OfAlarm};

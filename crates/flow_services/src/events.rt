@@ -1,7 +1,6 @@
 //! The cases of SetEvent, ClearEvent and GetEvent.
 ghost use Rattle.std.specs.Prelude.{◌≡◌, ◌<◌, ℕ, true, ◌++◌, length, map, All, IfOk, OnOk};
-ghost use Rattle.osek_values.specs.declared.numbers.BlockNo.{BlockNo};
-ghost use Rattle.osek_values.specs.Bits.{has_bit as has_bit_of};
+ghost use Rattle.osek_values.specs.{declared.numbers.BlockNo.{BlockNo}, Bits.{has_bit as has_bit_of}};
 ghost use Rattle.osek_standard.specs.Apps.{the_task, awaited as awaited_at};
 ghost use Rattle.flow_model.specs.Runners.{IsKnown};
 ghost use Rattle.flow_services.specs.Occasions.{case_at};

@@ -1,7 +1,6 @@
 //! What all cases of a call have in common, and the parts of which they are made.
 ghost use Rattle.std.specs.Prelude.{◌≡◌, [], ◌∷◌, ◌++◌, IfOk, OnOk, OnErr};
-ghost use Rattle.flow_model.specs.Cases.{condition as condition_on};
-ghost use Rattle.flow_model.specs.Runners.{moving};
+ghost use Rattle.flow_model.specs.{Cases.{condition as condition_on}, Runners.{moving}};
 ghost use Rattle.flow_services.specs.Occasions.{expired_conditions, expired_changes};
 
 use abstract_state::{ComponentNo, PartValue};

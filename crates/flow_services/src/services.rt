@@ -1,11 +1,8 @@
 //! The cases of a service, by the kind of its block.
 ghost use Rattle.std.specs.Prelude.{◌≡◌, ◌<◌, length, map, IsTrue, IfOk};
-ghost use Rattle.osek_standard.specs.Apps.{tables, the_block};
-ghost use Rattle.osek_standard.specs.Validity.{HasOperands};
-ghost use Rattle.flow_model.specs.Runners.{runner_point, OwnsBlock, IsKnown};
-ghost use Rattle.flow_model.specs.Effects.{AreCasesOf};
-ghost use Rattle.flow_services.specs.Occasions.{case_at};
-ghost use Rattle.flow_services.specs.Services.{is_service_call as is_service_call_of, is_service as is_service_of, call_cases as call_cases_of};
+ghost use Rattle.osek_standard.specs.{Apps.{tables, the_block}, Validity.{HasOperands}};
+ghost use Rattle.flow_model.specs.{Runners.{runner_point, OwnsBlock, IsKnown}, Effects.{AreCasesOf}};
+ghost use Rattle.flow_services.specs.{Occasions.{case_at}, Services.{is_service_call as is_service_call_of, is_service as is_service_of, call_cases as call_cases_of}};
 
 use crate::alarms::{
     alarm_readings, armings, cancellings, expiries, is_abs_refused, is_rel_refused,

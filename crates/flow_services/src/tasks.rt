@@ -2,11 +2,9 @@
 ghost use Rattle.std.specs.Prelude.{◌≡◌, ◌<◌, ℕ, true, [], ◌∷◌, ◌++◌, length, map, IfOk, OnOk};
 ghost use Rattle.osek_values.specs.Bits.{has_bit as has_bit_of};
 ghost use Rattle.osek_standard.specs.Apps.{the_task};
-ghost use Rattle.abstract_state.specs.declared.value.Val.TheVariants.{Live};
-ghost use Rattle.abstract_state.specs.Components.{live_val};
+ghost use Rattle.abstract_state.specs.{declared.value.Val.TheVariants.{Live}, Components.{live_val}};
 ghost use Rattle.flow_model.specs.Changes.{event_changes, task_change, activating as activating_of};
-ghost use Rattle.flow_services.specs.Occasions.{case_at};
-ghost use Rattle.flow_services.specs.Services.{activations};
+ghost use Rattle.flow_services.specs.{Occasions.{case_at}, Services.{activations}};
 
 use crate::occasion::{Occasion, only, task_component};
 use abstract_state::{Component, LiveVal, PartValue, Val, component_number};

@@ -8,8 +8,7 @@ use Rattle.image_model.specs.declared.site.Form.{Form}
 use Rattle.image_model.specs.declared.site.Form.TheVariants as form
 use Rattle.image_model.specs.Sites.{IsForm}
 use Rattle.trace_text.specs.PointTexts.{task_or_dash}
-use Rattle.trace_text.proofs.Parting.{heads_differ, parted}
-use Rattle.trace_text.proofs.PointsApart.{IsKnown, task_lacks, task_once}
+use Rattle.trace_text.proofs.{Parting.{heads_differ, parted}, PointsApart.{IsKnown, task_lacks, task_once}}
 use Rattle.flow_text.specs.FlowLines.{form_text}
 
 module _ (app : App) where

@@ -1,21 +1,14 @@
 -- A line tells one edge, or one site.
 use Rattle.std.proofs.Common.{◌≡◌, ℕ, ◌<◌, List, [], ◌∷◌, ◌++◌, length, sym, ◌∙◌, ap, arith, append_assoc}
-use Rattle.std.specs.Prelude.{codes}
-use Rattle.std.specs.Fmt.{decimal}
+use Rattle.std.specs.{Prelude.{codes}, Fmt.{decimal}}
 use Rattle.std.proofs.lemmas.List.{append_cancel_left, append_cancel_right}
-use Rattle.osek_standard.specs.declared.{app.App.{App}, point.Point.{Point}}
-use Rattle.osek_standard.specs.Apps.{the_block}
-use Rattle.osek_standard.specs.Points.{IsPoint}
-use Rattle.image_model.specs.declared.site.{Form.{Form}, Site.{Site}}
-use Rattle.image_model.specs.Sites.{IsForm}
-use Rattle.abstract_state.specs.Edges.{flow_edge}
-use Rattle.abstract_state.specs.declared.edge.FlowEdge.{FlowEdge}
+use Rattle.osek_standard.specs.{declared.{app.App.{App}, point.Point.{Point}}, Apps.{the_block}, Points.{IsPoint}}
+use Rattle.image_model.specs.{declared.site.{Form.{Form}, Site.{Site}}, Sites.{IsForm}}
+use Rattle.abstract_state.specs.{Edges.{flow_edge}, declared.edge.FlowEdge.{FlowEdge}}
 use Rattle.trace_text.specs.PointTexts.{block_text, point_text}
-use Rattle.trace_text.proofs.Parting.{parted}
-use Rattle.trace_text.proofs.PointsApart.{block_lacks, block_once, few, point_lacks, point_once}
+use Rattle.trace_text.proofs.{Parting.{parted}, PointsApart.{block_lacks, block_once, few, point_lacks, point_once}}
 use Rattle.flow_text.specs.FlowLines.{edge_line, form_text, known_line, known_text, site_line}
-use Rattle.flow_text.proofs.FormsApart.{form_first, form_once}
-use Rattle.flow_text.proofs.KnownTexts.{known_once}
+use Rattle.flow_text.proofs.{FormsApart.{form_first, form_once}, KnownTexts.{known_once}}
 
 abbrev lf : List ℕ
 lf = 10 ∷ []

@@ -1,18 +1,13 @@
 -- Forms as they are printed, and the lines of sites, of edges and of counts (this project's profile).
-use Rattle.std.specs.Prelude.{ℕ, List, [], ◌∷◌, ◌++◌, length, Some, None, codes}
-use Rattle.std.specs.Fmt.{decimal}
-use Rattle.osek_standard.specs.declared.app.App.{App}
-use Rattle.osek_standard.specs.Apps.{the_block}
-use Rattle.osek_standard.specs.Counts.{points, height}
-use Rattle.osek_standard.specs.TraceText.{status_name}
+use Rattle.std.specs.{Prelude.{ℕ, List, [], ◌∷◌, ◌++◌, length, Some, None, codes}, Fmt.{decimal}}
+use Rattle.osek_standard.specs.{declared.app.App.{App}, Apps.{the_block}, Counts.{points, height}, TraceText.{status_name}}
 use Rattle.image_model.specs.declared.{site.{Form.{Form}, Known.{Known}, Site.{Site}}, image.{Image.{Image}, Version.{Version}}}
 use Rattle.image_model.specs.declared.image.Version.TheVariants as version
 use Rattle.image_model.specs.declared.site.Form.TheVariants as form
 use Rattle.image_model.specs.declared.site.Known.TheVariants as known
 use Rattle.abstract_state.specs.declared.edge.FlowEdge.{FlowEdge}
 use Rattle.trace_text.specs.PointTexts.{block_text, point_text, task_or_dash}
-use Rattle.flow_text.specs.declared.form_counts.SiteCounts.{SiteCounts}
-use Rattle.flow_text.specs.FormCounts.{site_counts}
+use Rattle.flow_text.specs.{declared.form_counts.SiteCounts.{SiteCounts}, FormCounts.{site_counts}}
 
 -- what is known of a status: any, none, or this one
 abbrev pub known_text : Known → List ℕ

@@ -1,6 +1,5 @@
 -- How many sites there are, and how many of each form.
-use Rattle.std.specs.Prelude.{Bool, true, false, List, count_by, is_some, Some, None}
-use Rattle.std.specs.declared.option.Option.{Option}
+use Rattle.std.specs.{Prelude.{Bool, true, false, List, count_by, is_some, Some, None}, declared.option.Option.{Option}}
 use Rattle.image_model.specs.declared.site.{Form.{Form}, Site.{Site}}
 use Rattle.image_model.specs.declared.site.Form.TheVariants as form
 use Rattle.flow_text.specs.declared.form_counts.SiteCounts.{SiteCounts}

@@ -1,10 +1,8 @@
 -- The line that tells of a generated system: what its analysis counts, and how long its trace is (this project's profile).
-use Rattle.std.specs.Prelude.{ℕ, List, [], ◌∷◌, ◌++◌, ◌==◌, length, count_by, codes}
-use Rattle.std.specs.Fmt.{decimal}
+use Rattle.std.specs.{Prelude.{ℕ, List, [], ◌∷◌, ◌++◌, ◌==◌, length, count_by, codes}, Fmt.{decimal}}
 use Rattle.osek_standard.specs.Counts.{points, height}
 use Rattle.image_model.specs.declared.image.Image.{Image}
-use Rattle.flow_text.specs.declared.gen_line.{AnalysisCounts.{AnalysisCounts}, TextSize.{TextSize}}
-use Rattle.flow_text.specs.{FlowLines.{forms_text}, FormCounts.{site_counts}}
+use Rattle.flow_text.specs.{declared.gen_line.{AnalysisCounts.{AnalysisCounts}, TextSize.{TextSize}}, FlowLines.{forms_text}, FormCounts.{site_counts}}
 
 -- of the application of an image, whose table has so many values
 abbrev pub analysis_counts : Image → ℕ → AnalysisCounts

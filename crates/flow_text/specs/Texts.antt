@@ -1,7 +1,5 @@
 -- What is told of an image, and what is shown of an application and its analysis (this project's profile).
-use Rattle.std.specs.Prelude.{ℕ, List, [], ◌++◌, length, Some, None}
-use Rattle.std.specs.List.{flat_map, enumerate_from}
-use Rattle.std.specs.declared.option.Option.{Option}
+use Rattle.std.specs.{Prelude.{ℕ, List, [], ◌++◌, length, Some, None}, List.{flat_map, enumerate_from}, declared.option.Option.{Option}}
 use Rattle.osek_standard.specs.declared.app.App.{App}
 use Rattle.image_model.specs.declared.{site.Site.{Site}, image.{Image.{Image}, Version.{Version}}}
 use Rattle.image_model.specs.declared.image.Version.TheVariants as version

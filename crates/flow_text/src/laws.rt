@@ -1,9 +1,7 @@
 //! Laws of texts: what a text tells is told by no other.
 ghost use Rattle.std.specs.Prelude.{◌≡◌, ℕ, ◌<◌, length};
-ghost use Rattle.osek_standard.specs.declared.app.App.{App};
-ghost use Rattle.osek_standard.specs.Points.{IsPoint};
-ghost use Rattle.image_model.specs.declared.site.{Form.{Form}, Site.{Site}};
-ghost use Rattle.image_model.specs.Sites.{IsForm};
+ghost use Rattle.osek_standard.specs.{declared.app.App.{App}, Points.{IsPoint}};
+ghost use Rattle.image_model.specs.{declared.site.{Form.{Form}, Site.{Site}}, Sites.{IsForm}};
 ghost use Rattle.abstract_state.specs.declared.edge.FlowEdge.{FlowEdge};
 ghost use Rattle.flow_text.specs.FlowLines.{form_text, edge_line, site_line, known_line};
 

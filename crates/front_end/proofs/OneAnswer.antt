@@ -7,8 +7,7 @@ use Rattle.osek_values.specs.declared.refusal.Rule.TheVariants as rule
 use Rattle.osek_standard.specs.declared.app.App.{App}
 use Rattle.oil_system.specs.declared.system.System.{System}
 use Rattle.osek_values.specs.declared.refused.LineFault.{LineFault}
-use Rattle.oil_lexer.specs.declared.token.Token.{Token}
-use Rattle.oil_lexer.specs.Text.{AreTokens, IsFirstFault}
+use Rattle.oil_lexer.specs.{declared.token.Token.{Token}, Text.{AreTokens, IsFirstFault}}
 use Rattle.oil_lexer.proofs.Unique as lexer_law
 use Rattle.oil_tree.specs.declared.tree.Tree.{Tree}
 use Rattle.oil_tree.specs.Faults as oil
@@ -22,8 +21,7 @@ use Rattle.task_code.specs.Faults as task_code
 use Rattle.task_code.proofs.OneAnswer as code_law
 use Rattle.block_graph.specs.Answers as graph
 use Rattle.block_graph.proofs.OneAnswer as graph_law
-use Rattle.front_end.specs.Texts.{IsOilFault, IsCodeFault}
-use Rattle.front_end.specs.Answers.{IsOilAnswer, IsCodeAnswer}
+use Rattle.front_end.specs.{Texts.{IsOilFault, IsCodeFault}, Answers.{IsOilAnswer, IsCodeAnswer}}
 
 -- what a stage answers, where its fault ends all and its value goes on
 abbrev goes_on : {X F Y : Type 0} → (F → Refusal) → (X → Result Y Refusal) → Result X F → Result Y Refusal

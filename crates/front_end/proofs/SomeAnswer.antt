@@ -7,8 +7,7 @@ use Rattle.osek_values.specs.declared.refusal.Rule.TheVariants as rule
 use Rattle.osek_standard.specs.declared.app.App.{App}
 use Rattle.oil_system.specs.declared.system.System.{System}
 use Rattle.osek_values.specs.declared.refused.LineFault.{LineFault}
-use Rattle.oil_lexer.specs.declared.token.Token.{Token}
-use Rattle.oil_lexer.specs.Text.{AreTokens}
+use Rattle.oil_lexer.specs.{declared.token.Token.{Token}, Text.{AreTokens}}
 use Rattle.oil_lexer.specs.Answers as lexer
 use Rattle.oil_lexer.proofs.EachText as lexer_law
 use Rattle.oil_lexer.proofs.NamedTokens.{are_named}
@@ -27,8 +26,7 @@ use Rattle.task_code.proofs.Depths.{has_fit}
 use Rattle.task_code.proofs.Viable as code_law
 use Rattle.block_graph.specs.Answers as graph
 use Rattle.block_graph.proofs.SomeAnswer as graph_law
-use Rattle.front_end.specs.Texts.{DeclaresSystem, IsCodeFault}
-use Rattle.front_end.specs.Answers.{IsOilAnswer, IsCodeAnswer}
+use Rattle.front_end.specs.{Texts.{DeclaresSystem, IsCodeFault}, Answers.{IsOilAnswer, IsCodeAnswer}}
 use Rattle.front_end.proofs.OneAnswer.{lex_refusal, oil_refusal, model_refusal, code_refusal, link_refusal}
 
 -- an OIL text, stage by stage

@@ -1,8 +1,7 @@
 //! The application that a task code text gives.
 ghost use Rattle.std.specs.Prelude.{◌≡◌, IfOk, Result};
 ghost use Rattle.osek_values.specs.declared.refusal.Refusal.{Refusal};
-ghost use Rattle.osek_standard.specs.declared.app.App.{App};
-ghost use Rattle.osek_standard.specs.Versions.{FitsVersion1};
+ghost use Rattle.osek_standard.specs.{declared.app.App.{App}, Versions.{FitsVersion1}};
 ghost use Rattle.oil_model.specs.Linkable.{IsLinkable};
 ghost use Rattle.osek_values.specs.declared.refusal.TextFile.TheVariants as file;
 ghost use Rattle.osek_values.specs.declared.refused.Refused.TheVariants as errors;

@@ -4,8 +4,7 @@ ghost use Rattle.osek_values.specs.declared.refusal.Refusal.{Refusal};
 ghost use Rattle.osek_standard.specs.declared.app.App.{App};
 ghost use Rattle.oil_system.specs.declared.system.System.{System};
 ghost use Rattle.oil_model.specs.Linkable.{IsLinkable};
-ghost use Rattle.front_end.specs.Texts.{DeclaresSystem};
-ghost use Rattle.front_end.specs.Answers.{IsOilAnswer, IsCodeAnswer};
+ghost use Rattle.front_end.specs.{Texts.{DeclaresSystem}, Answers.{IsOilAnswer, IsCodeAnswer}};
 
 /// A law: each OIL text declares a system that can be linked, or has a first fault; beside such a system each task code
 /// text gives an application, or has a first fault; and none has another answer. It does nothing.

@@ -2,15 +2,11 @@
 use Rattle.std.proofs.Common.{◌≡◌, ℕ, Bool, refl, sym, subst, ◌⊎◌, inl, inr, not}
 use Rattle.osek_values.specs.declared.status.Ask.{Ask}
 use Rattle.osek_values.specs.declared.status.Ask.TheVariants as ask
-use Rattle.osek_standard.specs.declared.app.App.{App}
-use Rattle.osek_standard.specs.declared.task_state.Place.{Place}
-use Rattle.osek_standard.specs.declared.state.{State.{State}, Caller.{Caller}, Caller.TheVariants.{Nobody, Task, Routine}, Processor.{Processor}}
+use Rattle.osek_standard.specs.declared.{app.App.{App}, task_state.Place.{Place}}
+use Rattle.osek_standard.specs.declared.state.{State.{State}, Caller.{Caller, TheVariants.{Nobody, Task, Routine}}, Processor.{Processor}}
 use Rattle.osek_standard.specs.declared.state.Processor.TheVariants as processor
-use Rattle.osek_standard.specs.Apps.{the_block, is_extended}
-use Rattle.osek_standard.specs.States.{here, task_state}
-use Rattle.osek_standard.specs.Services.{Answer, holds_some, share, wait_event}
-use Rattle.osek_standard.specs.Effects.{Effect, effect, effect_by, effect_at}
-use Rattle.osek_standard.specs.Well.{AreOut, IsActive}
+use Rattle.osek_standard.specs.{Apps.{the_block, is_extended}, States.{here, task_state}, Services.{Answer, holds_some, share, wait_event}}
+use Rattle.osek_standard.specs.{Effects.{Effect, effect, effect_by, effect_at}, Well.{AreOut, IsActive}}
 use Rattle.osek_standard.proofs.BoolLaws.{either_way}
 use Rattle.generic_kernel.specs.Moves.{MayDispatch}
 

@@ -1,21 +1,15 @@
 -- Instructions that note nothing leave each task as high as it was.
 use Rattle.std.proofs.Common.{◌≡◌, ℕ, refl, ap, arith}
-use Rattle.std.specs.Int.Bits.{and_zero_r}
-use Rattle.std.specs.declared.option.Option.{Option}
+use Rattle.std.specs.{Int.Bits.{and_zero_r}, declared.option.Option.{Option}}
 use Rattle.osek_values.specs.Hooks.{hook_set}
-use Rattle.osek_standard.specs.declared.app.App.{App}
-use Rattle.osek_standard.specs.declared.state.{State.{State}, Processor.{Processor}}
+use Rattle.osek_standard.specs.declared.{app.App.{App}, state.{State.{State}, Processor.{Processor}}}
 use Rattle.osek_standard.specs.declared.state.Processor.TheVariants as processor
-use Rattle.osek_standard.specs.declared.task_state.{Place.{Place}, TaskState.{TaskState}, Activity.{Activity}, Activity.TheVariants.{Suspended, Live, Waiting}}
-use Rattle.osek_standard.specs.TaskStates.{held, held_in, is_live, is_live_activity}
-use Rattle.osek_standard.specs.States.{caller, task_state}
-use Rattle.osek_standard.specs.Priority.{base_priority, highest}
-use Rattle.osek_standard.specs.Services.{counted_by}
-use Rattle.osek_standard.specs.Effects.{moved, moved_by, returned, standing_at, task_at, wanted}
-use Rattle.osek_standard.specs.Well.{Well, IsProcessor}
+use Rattle.osek_standard.specs.declared.task_state.{Place.{Place}, TaskState.{TaskState}, Activity.{Activity, TheVariants.{Suspended, Live, Waiting}}}
+use Rattle.osek_standard.specs.{TaskStates.{held, held_in, is_live, is_live_activity}, States.{caller, task_state}, Priority.{base_priority, highest}, Services.{counted_by}}
+use Rattle.osek_standard.specs.{Effects.{moved, moved_by, standing_at, task_at, wanted}, Well.{Well, IsProcessor}}
 use Rattle.osek_standard.proofs.Keeps.{task_after}
 use Rattle.generic_kernel.specs.Levels.{level, level_if}
-use Rattle.generic_kernel.proofs.TaskLaws.{counted_leaves_task, returned_leaves_task}
+use Rattle.generic_kernel.proofs.TaskLaws.{counted_leaves_task}
 
 pub nothing_wanted : (app : App) → wanted app 0 ≡ hook_set 0
 nothing_wanted app = ap hook_set (and_zero_r app.hooks.0)
@@ -47,10 +41,6 @@ module _ (app : App) where
     -- a move
     pub moved_levels : (u : ℕ) → level app (moved s to) u ≡ level app s u
     moved_levels u = moved_levels_by s.processor w.processor u
-
-  -- the end of a routine
-  pub returned_levels : (s : State) (u : ℕ) → level app (returned app s).state u ≡ level app s u
-  returned_levels s = same_levels s (returned app s).state (λ u. returned_leaves_task app u s s.processor)
 
   -- a tick
   pub counted_levels : (s : State) (u : ℕ) → level app (counted_by app s (caller s.processor)) u ≡ level app s u

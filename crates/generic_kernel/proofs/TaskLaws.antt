@@ -6,23 +6,20 @@ use Rattle.std.specs.declared.option.Option.{Option}
 use Rattle.osek_values.specs.declared.numbers.{BlockNo.{BlockNo}, ResNo.{ResNo}, TaskNo.{TaskNo}}
 use Rattle.oil_system.specs.declared.objects.Action.{Action}
 use Rattle.oil_system.specs.declared.objects.Action.TheVariants as action
-use Rattle.osek_standard.specs.declared.app.App.{App}
-use Rattle.osek_standard.specs.declared.block.{Block.{Block}, Kind.{Kind}}
+use Rattle.osek_standard.specs.declared.{app.App.{App}, block.{Block.{Block}, Kind.{Kind}}}
 use Rattle.osek_standard.specs.declared.block.Kind.TheVariants as kind
 use Rattle.osek_standard.specs.declared.call.Call.{Call}
 use Rattle.generic_kernel.specs.CallNames as call
-use Rattle.osek_standard.specs.declared.state.{State.{State}, Processor.{Processor}, Caller.{Caller}, Caller.TheVariants.{Nobody, Task, Routine}}
+use Rattle.osek_standard.specs.declared.state.{State.{State}, Processor.{Processor}, Caller.{Caller, TheVariants.{Nobody, Task, Routine}}}
 use Rattle.osek_standard.specs.declared.state.Source.TheVariants as source
 use Rattle.osek_standard.specs.declared.state.Processor.TheVariants as processor
-use Rattle.osek_standard.specs.declared.task_state.{Place.{Place}, TaskState.{TaskState}}
-use Rattle.osek_standard.specs.Apps.{the_alarm, the_block, is_extended, is_counter, is_cycle, max_of}
+use Rattle.osek_standard.specs.{declared.task_state.{Place.{Place}, TaskState.{TaskState}}, Apps.{the_alarm, the_block, is_extended, is_counter, is_cycle, max_of}}
 use Rattle.osek_standard.specs.TaskStates.{held, is_suspended, suspended}
 use Rattle.osek_standard.specs.States.{alarm_state, caller, here, is_taken, is_that_task, task_of, task_state, with_alarm, with_source, with_task}
 use Rattle.osek_standard.specs.Priority.{base_priority, ceiling}
 use Rattle.osek_standard.specs.Services.{Answer, acted, activate_task, cancel_alarm, chain_task, clear_event, count_up, counted_by, due, ended, expire, get_alarm, get_event, get_resource, get_resource_by, holds_some, is_due_at, is_full, is_idle, is_on_top, left, rearmed, release_resource, release_resource_by, schedule, set_abs_alarm, set_event, set_rel_alarm, share, terminate_task, time_left, value_of, wait_event, waits_for}
 use Rattle.osek_standard.specs.Effects.{called, effect, effect_at, effect_by, end_task, given_back, goes_on_unless_left, halted_by, moved_by, moved_to, place_at, returned_by, row}
-use Rattle.osek_standard.proofs.BoolLaws.{either_way}
-use Rattle.osek_standard.proofs.Callers.{IfTask}
+use Rattle.osek_standard.proofs.{BoolLaws.{either_way}, Callers.{IfTask}}
 use Rattle.generic_kernel.specs.Changes.{ChangesOwn, acted_on, named_by, named_here, named_in_call}
 
 abbrev HasTaskOf : ℕ → State → Answer → Type 0

@@ -1,12 +1,7 @@
 -- The best of the tasks below a number, and whether there is one.
-use Rattle.std.specs.Prelude.{◌≡◌, ℕ, ◌<◌, true, false, MatchOption, Some, None}
-use Rattle.std.specs.declared.option.Option.{Option}
+use Rattle.std.specs.{Prelude.{◌≡◌, ℕ, ◌<◌, true, false, MatchOption, Some, None}, declared.option.Option.{Option}}
 use Rattle.osek_values.specs.declared.numbers.TaskNo.{TaskNo}
-use Rattle.osek_standard.specs.declared.app.App.{App}
-use Rattle.osek_standard.specs.declared.state.State.{State}
-use Rattle.osek_standard.specs.TaskStates.{is_live}
-use Rattle.osek_standard.specs.States.{task_state}
-use Rattle.osek_standard.specs.Priority.{goes_before}
+use Rattle.osek_standard.specs.{declared.{app.App.{App}, state.State.{State}}, TaskStates.{is_live}, States.{task_state}, Priority.{goes_before}}
 
 -- 1 where there is a task
 abbrev pub some_of : Option TaskNo → ℕ

@@ -1,17 +1,13 @@
 -- The tasks that an instruction may change: the one that has the processor, and the one that the instruction names.
-use Rattle.std.specs.Prelude.{◌≡◌, ℕ, Bool, Some, None, true, false}
-use Rattle.std.specs.declared.option.Option.{Option}
+use Rattle.std.specs.{Prelude.{◌≡◌, ℕ, Bool, Some, None, true, false}, declared.option.Option.{Option}}
 use Rattle.osek_values.specs.declared.numbers.TaskNo.{TaskNo}
 use Rattle.oil_system.specs.declared.objects.Action.{Action}
 use Rattle.oil_system.specs.declared.objects.Action.TheVariants as action
-use Rattle.osek_standard.specs.declared.app.App.{App}
-use Rattle.osek_standard.specs.declared.block.Kind.{Kind}
+use Rattle.osek_standard.specs.declared.{app.App.{App}, block.Kind.{Kind}}
 use Rattle.osek_standard.specs.declared.block.Kind.TheVariants as kind
 use Rattle.osek_standard.specs.declared.call.Call.{Call}
 use Rattle.osek_standard.specs.declared.call.Call.TheVariants as call
-use Rattle.osek_standard.specs.declared.state.State.{State}
-use Rattle.osek_standard.specs.Apps.{the_alarm, the_block}
-use Rattle.osek_standard.specs.States.{here, is_that_task, task_of, task_state}
+use Rattle.osek_standard.specs.{declared.state.State.{State}, Apps.{the_alarm, the_block}, States.{here, is_that_task, task_of, task_state}}
 
 -- the task that an alarm's action activates or gives an event
 abbrev pub acted_on : Action → TaskNo

@@ -1,11 +1,6 @@
 -- Which tasks are Live and how high each is, as what keeps them has it: task by task.
-use Rattle.std.specs.Prelude.{◌≡◌, ℕ, Bool, true, false, List, Some, None, slice_index_or}
-use Rattle.std.specs.declared.option.Option.{Option}
-use Rattle.osek_standard.specs.declared.app.App.{App}
-use Rattle.osek_standard.specs.declared.state.State.{State}
-use Rattle.osek_standard.specs.TaskStates.{is_live}
-use Rattle.osek_standard.specs.States.{task_state}
-use Rattle.osek_standard.specs.Priority.{current_priority}
+use Rattle.std.specs.{Prelude.{◌≡◌, ℕ, Bool, true, false, List, Some, None, slice_index_or}, declared.option.Option.{Option}}
+use Rattle.osek_standard.specs.{declared.{app.App.{App}, state.State.{State}}, TaskStates.{is_live}, States.{task_state}, Priority.{current_priority}}
 
 abbrev pub level_if : Bool → ℕ → Option ℕ
 level_if false p = None

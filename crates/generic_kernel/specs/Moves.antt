@@ -1,16 +1,11 @@
 -- What callers of the kernel know of its parts.
-use Rattle.std.specs.Prelude.{⊤, ◌+◌, ◌<◌, Bool, true, length, Some, None}
-use Rattle.std.specs.declared.option.Option.{Option}
-use Rattle.osek_values.specs.declared.numbers.SourceNo.{SourceNo}
-use Rattle.osek_values.specs.declared.status.Ask.{Ask}
+use Rattle.std.specs.{Prelude.{⊤, ◌+◌, ◌<◌, Bool, true, length, Some, None}, declared.option.Option.{Option}}
+use Rattle.osek_values.specs.declared.{numbers.SourceNo.{SourceNo}, status.Ask.{Ask}}
 use Rattle.osek_values.specs.declared.status.Ask.TheVariants as ask
-use Rattle.osek_values.specs.declared.event.{Event.{Event}, Event.TheVariants.{Run, Irq, Tick}}
-use Rattle.osek_standard.specs.declared.app.App.{App}
-use Rattle.osek_standard.specs.declared.state.{State.{State}, Processor.{Processor}, Caller.{Caller}, Caller.TheVariants.{Nobody, Task, Routine}}
+use Rattle.osek_values.specs.declared.event.Event.{Event, TheVariants.{Run, Irq, Tick}}
+use Rattle.osek_standard.specs.declared.{app.App.{App}, state.{State.{State}, Processor.{Processor}, Caller.{Caller, TheVariants.{Nobody, Task, Routine}}}}
 use Rattle.osek_standard.specs.declared.state.Processor.TheVariants as processor
-use Rattle.osek_standard.specs.States.{with_latch}
-use Rattle.osek_standard.specs.Arrivals.{arrival, entered}
-use Rattle.osek_standard.specs.Well.{AreOut}
+use Rattle.osek_standard.specs.{States.{with_latch}, Arrivals.{arrival, entered}, Well.{AreOut}}
 
 -- the state after an arrival, if there is one
 abbrev pub entered_if : App → State → Option SourceNo → State

@@ -1,9 +1,6 @@
 //! Interrupts: the routine that begins now.
-ghost use Rattle.std.specs.Prelude.{◌≡◌, ◌<◌, length, is_some};
-ghost use Rattle.std.specs.List.{position};
-ghost use Rattle.osek_standard.specs.Apps.{source_count};
-ghost use Rattle.osek_standard.specs.Arrivals.{arrival as arrival_of, entered, takes_none as takes_none_of};
-ghost use Rattle.osek_standard.specs.Well.{Well};
+ghost use Rattle.std.specs.{Prelude.{◌≡◌, ◌<◌, length, is_some}, List.{position}};
+ghost use Rattle.osek_standard.specs.{Apps.{source_count}, Arrivals.{arrival as arrival_of, entered, takes_none as takes_none_of}, Well.{Well}};
 ghost use Rattle.generic_kernel.specs.Moves.{entered_if};
 
 use crate::places::here;

@@ -1,12 +1,9 @@
 //! The calls: each kind of block with the row of its service.
 ghost use Rattle.std.specs.Prelude.{◌≡◌, ◌<◌, length, Some, None};
-ghost use Rattle.osek_standard.specs.Apps.{tables};
-ghost use Rattle.osek_standard.specs.Validity.{NamesEntries, HasOperands};
+ghost use Rattle.osek_standard.specs.{Apps.{tables}, Validity.{NamesEntries, HasOperands}};
 ghost use Rattle.osek_standard.specs.declared.block.Kind.TheVariants as kind;
 ghost use Rattle.osek_standard.specs.declared.call.Call.TheVariants as call;
-ghost use Rattle.osek_standard.specs.States.{caller};
-ghost use Rattle.osek_standard.specs.Services.{answer, maybe_if, get_resource_by, release_resource_by, counted_by};
-ghost use Rattle.osek_standard.specs.Effects.{called, row};
+ghost use Rattle.osek_standard.specs.{States.{caller}, Services.{answer, maybe_if, get_resource_by, release_resource_by, counted_by}, Effects.{called, row}};
 ghost use Rattle.osek_standard.specs.Well.{Well, IsActive, IsWaitEvent};
 
 use crate::replies::Reply;

@@ -1,8 +1,6 @@
 //! The tasks that an instruction may change.
 ghost use Rattle.std.specs.Prelude.{◌≡◌, ◌<◌, length, IfSome};
-ghost use Rattle.osek_standard.specs.Validity.{NamesEntries};
-ghost use Rattle.osek_standard.specs.Apps.{tables};
-ghost use Rattle.osek_standard.specs.Well.{Well, IsActive};
+ghost use Rattle.osek_standard.specs.{Validity.{NamesEntries}, Apps.{tables}, Well.{Well, IsActive}};
 ghost use Rattle.generic_kernel.specs.Changes.{acted_on as acted_on_of, named_by as named_by_of, named_here as named_here_of};
 
 use crate::places::here;

@@ -1,12 +1,8 @@
 //! What a step does with the processor after the effect of its instruction.
 ghost use Rattle.std.specs.Prelude.{◌≡◌, ◌+◌, ◌≤◌, length, nat_lt, IfSome};
-ghost use Rattle.osek_standard.specs.Priority.{best, current_priority};
-ghost use Rattle.osek_standard.specs.Effects.{wanted};
-ghost use Rattle.osek_standard.specs.Dispatch.{dispatched, dispatch_hooks, settled, outcome_by, outcome_hooks, instruction, stepped};
-ghost use Rattle.osek_standard.specs.Well.{Well, AreOut, HasProcessor, IsActive};
-ghost use Rattle.generic_kernel.specs.BestBelow.{some_of};
-ghost use Rattle.generic_kernel.specs.Levels.{IsReady};
-ghost use Rattle.generic_kernel.specs.Moves.{MayDispatch};
+ghost use Rattle.osek_standard.specs.{Priority.{best, current_priority}, Effects.{wanted}};
+ghost use Rattle.osek_standard.specs.{Dispatch.{dispatched, dispatch_hooks, settled, outcome_by, outcome_hooks, instruction, stepped}, Well.{Well, AreOut, HasProcessor, IsActive}};
+ghost use Rattle.generic_kernel.specs.{BestBelow.{some_of}, Levels.{IsReady}, Moves.{MayDispatch}};
 
 use crate::effects::effect;
 use crate::ready::Ready;

@@ -1,17 +1,11 @@
 //! The effect of an instruction.
 ghost use Rattle.std.specs.Prelude.{◌≡◌, ℕ, ◌+◌, ◌<◌, nat_lt, Some, None, IfSome, IfNone, is_some, if◌then◌else◌};
-ghost use Rattle.osek_standard.specs.Validity.{NamesEntries};
-ghost use Rattle.osek_standard.specs.Apps.{tables, the_block};
-ghost use Rattle.osek_standard.specs.States.{caller, here as here_of};
-ghost use Rattle.osek_standard.specs.Services.{answer, wait_event as wait_event_row};
+ghost use Rattle.osek_standard.specs.{Validity.{NamesEntries}, Apps.{tables, the_block}, States.{caller, here as here_of}, Services.{answer, wait_event as wait_event_row}};
 ghost use Rattle.osek_standard.specs.declared.block.Kind.TheVariants as a_kind;
 ghost use Rattle.osek_standard.specs.Effects.{effected, moved, moved_to, place_at, asked_by as asked_by_row, called, asks_as, goes_on_unless_left, returned as returned_row, shut_down as shut_down_row, effect_at as effect_at_row, effect as effect_row};
-ghost use Rattle.osek_standard.specs.Dispatch.{nothing_noted};
-ghost use Rattle.osek_standard.specs.Well.{Well, IsActive, InOwner, IsWaitEvent};
+ghost use Rattle.osek_standard.specs.{Dispatch.{nothing_noted}, Well.{Well, IsActive, InOwner, IsWaitEvent}};
 ghost use Rattle.event_alarm.specs.Waiting.{StandsAtWaitEvent};
-ghost use Rattle.generic_kernel.specs.Changes.{ChangesOwn, is_silent};
-ghost use Rattle.generic_kernel.specs.Levels.{IsReady, level as level_of};
-ghost use Rattle.generic_kernel.specs.Moves.{IsKnownCaller, MayDispatch};
+ghost use Rattle.generic_kernel.specs.{Changes.{ChangesOwn, is_silent}, Levels.{IsReady, level as level_of}, Moves.{IsKnownCaller, MayDispatch}};
 
 use crate::calls::{call, count};
 use crate::changes::named_here;

@@ -1,9 +1,6 @@
 //! Where the processor stands, and how a caller goes on.
 ghost use Rattle.std.specs.Prelude.{◌≡◌};
-ghost use Rattle.osek_standard.specs.Apps.{the_block};
-ghost use Rattle.osek_standard.specs.Points.{point_of as point_of_state};
-ghost use Rattle.osek_standard.specs.States.{here as here_of};
-ghost use Rattle.osek_standard.specs.Effects.{moved as moved_of};
+ghost use Rattle.osek_standard.specs.{Apps.{the_block}, Points.{point_of as point_of_state}, States.{here as here_of}, Effects.{moved as moved_of}};
 ghost use Rattle.osek_standard.specs.Well.{Well, IsActive, InOwner, IsOffsetAt};
 
 use osek_standard::{Activity, App, Place, Point, Processor, RoutineStanding, Source, State};

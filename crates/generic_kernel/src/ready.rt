@@ -1,15 +1,8 @@
 //! The tasks that are ready or running, kept from step to step, and the best of them.
-ghost use Rattle.std.specs.Prelude.{◌≡◌, ◌≢◌, ◌+◌, ◌<◌, ◌≤◌, length, nat_lt, ℕ, None, IfSome, IfNone, IsTrue, ◌||◌, true, false, slice_index_or};
-ghost use Rattle.std.specs.List.{count_by};
-ghost use Rattle.osek_standard.specs.declared.app.App.{App};
-ghost use Rattle.osek_standard.specs.declared.state.State.{State};
-ghost use Rattle.osek_standard.specs.TaskStates.{is_live};
-ghost use Rattle.osek_standard.specs.States.{is_that_task, task_state};
-ghost use Rattle.osek_standard.specs.Priority.{best};
+ghost use Rattle.std.specs.{Prelude.{◌≡◌, ◌≢◌, ◌+◌, ◌<◌, ◌≤◌, length, nat_lt, ℕ, None, IfSome, IfNone, IsTrue, ◌||◌, true, false, slice_index_or}, List.{count_by}};
+ghost use Rattle.osek_standard.specs.{declared.{app.App.{App}, state.State.{State}}, TaskStates.{is_live}, States.{is_that_task, task_state}, Priority.{best}};
 ghost use Rattle.osek_standard.specs.Well.{Well, HasProcessor};
-ghost use Rattle.generic_kernel.specs.BestBelow.{IsBestBelow, some_of};
-ghost use Rattle.generic_kernel.specs.Changes.{ChangesOnly};
-ghost use Rattle.generic_kernel.specs.Levels.{IsReady, count_of, level as level_of, priority_in};
+ghost use Rattle.generic_kernel.specs.{BestBelow.{IsBestBelow, some_of}, Changes.{ChangesOnly}, Levels.{IsReady, count_of, level as level_of, priority_in}};
 
 use ceiling_rules::current_priority;
 use osek_standard::{App, State};
@@ -26,8 +19,7 @@ pub struct Ready {
 }
 
 impl Model for Ready {
-    ghost use Rattle.std.specs.Prelude.{List, ℕ};
-    ghost use Rattle.std.specs.declared.option.Option.{Option};
+    ghost use Rattle.std.specs.{Prelude.{List, ℕ}, declared.option.Option.{Option}};
 
     ghost Value = { List (Option ℕ) };
 

@@ -1,9 +1,7 @@
 //! The services on tasks whose caller may leave the processor.
 ghost use Rattle.std.specs.Prelude.{◌≡◌, ◌<◌, length, Some, None};
-ghost use Rattle.osek_standard.specs.States.{caller};
-ghost use Rattle.osek_standard.specs.Services.{answer, terminate_task as terminate_task_row, chain_task as chain_task_row, schedule as schedule_row};
-ghost use Rattle.osek_standard.specs.Effects.{end_task as end_task_row};
-ghost use Rattle.osek_standard.specs.Well.{Well, IsActive};
+ghost use Rattle.osek_standard.specs.{States.{caller}, Services.{answer, terminate_task as terminate_task_row, chain_task as chain_task_row, schedule as schedule_row}};
+ghost use Rattle.osek_standard.specs.{Effects.{end_task as end_task_row}, Well.{Well, IsActive}};
 
 use osek_standard::{Activity, App, Caller, Processor, State};
 use osek_values::{Ask, Status, TaskNo};

@@ -2,9 +2,7 @@
 ghost use Rattle.std.specs.Prelude.{◌≡◌, ◌+◌, ◌<◌, ◌≤◌, length, map, replicate, IfOk, false};
 ghost use Rattle.osek_values.specs.Bits.{has_bit};
 ghost use Rattle.osek_standard.specs.declared.state.Source.TheVariants as source;
-ghost use Rattle.osek_standard.specs.Dispatch.{stepped};
-ghost use Rattle.osek_standard.specs.Kernel.{started_task as started_task_of, started_alarm as started_alarm_of, initial, start as start_of};
-ghost use Rattle.osek_standard.specs.Well.{Well};
+ghost use Rattle.osek_standard.specs.{Dispatch.{stepped}, Kernel.{started_task as started_task_of, started_alarm as started_alarm_of, initial, start as start_of}, Well.{Well}};
 
 use crate::dispatch::{best_task, switch_to};
 use crate::ready::Ready;

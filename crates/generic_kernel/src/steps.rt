@@ -1,12 +1,7 @@
 //! One step of the kernel.
 ghost use Rattle.std.specs.Prelude.{◌≡◌, ◌+◌, ◌≤◌, length, IfSome};
-ghost use Rattle.osek_standard.specs.Dispatch.{nothing_noted, stepped};
-ghost use Rattle.osek_standard.specs.Kernel.{step as step_of};
-ghost use Rattle.osek_standard.specs.Arrivals.{arrival as arrival_of};
-ghost use Rattle.osek_standard.specs.Well.{Well, IsActive};
-ghost use Rattle.osek_standard.specs.Apps.{IsDeclared};
-ghost use Rattle.generic_kernel.specs.Levels.{IsReady};
-ghost use Rattle.generic_kernel.specs.Moves.{instruction_due, event_taken, due_by, run_taken};
+ghost use Rattle.osek_standard.specs.{Dispatch.{nothing_noted, stepped}, Kernel.{step as step_of}, Arrivals.{arrival as arrival_of}, Well.{Well, IsActive}, Apps.{IsDeclared}};
+ghost use Rattle.generic_kernel.specs.{Levels.{IsReady}, Moves.{instruction_due, event_taken, due_by, run_taken}};
 
 use crate::arrivals::take_arrival;
 use crate::dispatch::instruct;

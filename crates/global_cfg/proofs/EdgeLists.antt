@@ -1,23 +1,13 @@
 -- The edges of the first rows of a table.
 use Rattle.std.proofs.Common.{◌≡◌, ◌<◌, List, [], ◌∷◌, ◌++◌, length, map, get_or, refl, sym, ap, subst, inl, inr, arith}
 use Rattle.std.specs.Prelude.{◌↔◌, Contains}
-use Rattle.std.proofs.lemmas.List.{get_or-map, length-map}
-use Rattle.std.proofs.lemmas.List.Elements.{Contains-append_left, Contains-append_right, Contains-append_cases, Contains-push, Contains-push_cases}
-use Rattle.osek_standard.specs.declared.app.App.{App}
-use Rattle.osek_standard.specs.declared.point.Point.{Point}
-use Rattle.osek_standard.specs.Points.{point_number}
+use Rattle.std.proofs.lemmas.List.{get_or-map, length-map, Elements.{Contains-append_left, Contains-append_right, Contains-append_cases, Contains-push, Contains-push_cases}}
+use Rattle.osek_standard.specs.{declared.{app.App.{App}, point.Point.{Point}}, Points.{point_number}}
 use Rattle.osek_standard.proofs.Members.{among_contained, among_map, contained_among, map_among}
-use Rattle.abstract_state.specs.declared.table.{TableRow.{TableRow}, PlainTable.{PlainTable}}
-use Rattle.abstract_state.specs.Forms.{Edge}
-use Rattle.abstract_state.specs.Tables.{sets_of}
-use Rattle.abstract_state.specs.Written.{IsWritten}
-use Rattle.abstract_state.specs.declared.edge.FlowEdge.{FlowEdge}
+use Rattle.abstract_state.specs.{declared.{table.{TableRow.{TableRow}, PlainTable.{PlainTable}}, edge.FlowEdge.{FlowEdge}}, Forms.{Edge}, Tables.{sets_of}, Written.{IsWritten}}
 use Rattle.abstract_state.specs.Edges.{flow_edge}
-use Rattle.global_cfg.specs.Edges.{IsBefore, AreAscending}
-use Rattle.global_cfg.specs.PointOrder.{AreInOrder}
-use Rattle.global_cfg.specs.Targets.{LeadsTo, AreTargets}
-use Rattle.global_cfg.proofs.Pairs.{pairs_append}
-use Rattle.global_cfg.proofs.TableRows.{edge_shown, edge_leads, edge_row}
+use Rattle.global_cfg.specs.{Edges.{IsBefore, AreAscending}, PointOrder.{AreInOrder}, Targets.{LeadsTo, AreTargets}}
+use Rattle.global_cfg.proofs.{Pairs.{pairs_append}, TableRows.{edge_shown, edge_leads, edge_row}}
 
 -- it begins at the point of a row, and leads to where a state of its entry steps
 pub record IsOfRow (app : App) (rows : List TableRow) (x : FlowEdge) : Type 0 where

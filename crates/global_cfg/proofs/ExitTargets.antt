@@ -3,21 +3,13 @@ use Rattle.std.proofs.Common.{◌≡◌, ◌≢◌, ◌⊎◌, ℕ, ◌<◌, fal
 use Rattle.std.specs.Prelude.{Contains}
 use Rattle.std.proofs.lemmas.Bool.{cases_lt}
 use Rattle.osek_values.specs.declared.event.Event.{Event}
-use Rattle.osek_standard.specs.declared.app.App.{App}
-use Rattle.osek_standard.specs.declared.state.State.{State}
-use Rattle.osek_standard.specs.declared.point.Point.{Point}
-use Rattle.osek_standard.specs.Points.{IsPoint}
-use Rattle.osek_standard.specs.Kernel.{step}
+use Rattle.osek_standard.specs.{declared.{app.App.{App}, state.State.{State}, point.Point.{Point}}, Points.{IsPoint}, Kernel.{step}}
 use Rattle.osek_standard.proofs.PointLaws.{one_number}
-use Rattle.abstract_state.specs.declared.value.{PartValue.{PartValue}, PartValue.TheVariants.{OfAlarm}}
-use Rattle.abstract_state.specs.declared.table.PlainEntry.{PlainEntry}
-use Rattle.abstract_state.specs.Components.{component_count}
-use Rattle.abstract_state.specs.Forms.{IsAnew}
+use Rattle.abstract_state.specs.{declared.{value.PartValue.{PartValue, TheVariants.{OfAlarm}}, table.PlainEntry.{PlainEntry}}, Components.{component_count}, Forms.{IsAnew}}
 use Rattle.abstract_state.specs.Tables.{set_at, is_member}
 use Rattle.abstract_state.proofs.AllowedLaws.{well_point}
 use Rattle.flow_model.specs.Effects.{IsAt}
-use Rattle.flow_exits.specs.declared.exit.Exit.{Exit}
-use Rattle.flow_exits.specs.Exits.{IsBy, CoverSteps, IsStepTo, IsFilled, IsExact, AreExact}
+use Rattle.flow_exits.specs.{declared.exit.Exit.{Exit}, Exits.{IsBy, CoverSteps, IsStepTo, IsFilled, IsExact, AreExact}}
 use Rattle.global_cfg.specs.Targets.{IsEndOf, AreEndsPut, LeadsTo, AreTargets}
 use Rattle.global_cfg.proofs.LeadingOn.{next_well, target_point, moves_on, leads_where_it_moves, stays_silent}
 

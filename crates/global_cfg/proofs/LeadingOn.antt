@@ -1,36 +1,21 @@
 -- A step is an edge exactly where control flow leads on.
 use Rattle.std.proofs.Common.{◌≡◌, ◌≢◌, ◌⊎◌, true, not, refl, sym, ap, subst, ◌∙◌, inl, inr, Some, None}
-use Rattle.std.specs.Prelude.{◌==◌}
-use Rattle.std.specs.declared.option.Option.{Option}
+use Rattle.std.specs.{Prelude.{◌==◌}, declared.option.Option.{Option}}
 use Rattle.std.proofs.lemmas.Bool.{cases_eq, eq-eqb, ne_eqb, or_left, or_right}
-use Rattle.osek_values.specs.Numbers.{task_no}
-use Rattle.osek_values.specs.declared.{event.Event.{Event}, numbers.{TaskNo.{TaskNo}}, status.Status.{Status}}
-use Rattle.osek_standard.specs.declared.app.App.{App}
-use Rattle.osek_standard.specs.declared.state.{State.{State}}
+use Rattle.osek_values.specs.{Numbers.{task_no}, declared.{event.Event.{Event}, numbers.TaskNo.{TaskNo}, status.Status.{Status}}}
+use Rattle.osek_standard.specs.declared.{app.App.{App}, state.State.{State}}
 use Rattle.osek_standard.specs.declared.state.Processor.TheVariants as processor
 use Rattle.osek_standard.specs.declared.point.Point.{Point}
 use Rattle.osek_standard.specs.declared.point.Point.TheVariants as point
-use Rattle.osek_standard.specs.States.{here}
-use Rattle.osek_standard.specs.Points.{point_at, point_of, point_number, IsPoint}
-use Rattle.osek_standard.specs.Effects.{effect}
-use Rattle.osek_standard.specs.Dispatch.{To, Stepped}
-use Rattle.osek_standard.specs.Kernel.{step}
-use Rattle.osek_standard.specs.Outcomes.{Silent, Did, shows}
-use Rattle.osek_standard.specs.Well.{Well}
-use Rattle.osek_standard.proofs.OwnerLaws.{own_once}
-use Rattle.osek_standard.proofs.PointLaws.{one_number}
-use Rattle.osek_standard.proofs.StepKeeps.{step_keeps}
-use Rattle.abstract_state.specs.declared.table.PlainEntry.{PlainEntry}
-use Rattle.abstract_state.specs.Forms.{IsAnew}
-use Rattle.abstract_state.proofs.AlikeLaws.{alike_point}
-use Rattle.abstract_state.proofs.AllowedLaws.{well_point}
-use Rattle.abstract_state.proofs.MarkLaws.{shown_instruction, shown_silent}
+use Rattle.osek_standard.specs.{States.{here}, Points.{point_at, point_of, point_number, IsPoint}, Effects.{effect}, Dispatch.{To, Stepped}, Kernel.{step}}
+use Rattle.osek_standard.specs.{Outcomes.{Silent, Did, shows}, Well.{Well}}
+use Rattle.osek_standard.proofs.{OwnerLaws.{own_once}, PointLaws.{one_number}, StepKeeps.{step_keeps}}
+use Rattle.abstract_state.specs.{declared.table.PlainEntry.{PlainEntry}, Forms.{IsAnew}}
+use Rattle.abstract_state.proofs.{AlikeLaws.{alike_point}, AllowedLaws.{well_point}, MarkLaws.{shown_instruction, shown_silent}}
 use Rattle.flow_model.specs.declared.case.Decision.{Decision}
 use Rattle.flow_model.specs.declared.case.Decision.TheVariants as decision
-use Rattle.flow_model.specs.Effects.{IsAt}
-use Rattle.flow_model.specs.Rules.{mark_by}
-use Rattle.flow_model.proofs.Instructions.{state_after}
-use Rattle.flow_model.proofs.Standing.{stands_at}
+use Rattle.flow_model.specs.{Effects.{IsAt}, Rules.{mark_by}}
+use Rattle.flow_model.proofs.{Instructions.{state_after}, Standing.{stands_at}}
 use Rattle.global_cfg.specs.Targets.{dispatches, leads}
 
 -- the task that is dispatched

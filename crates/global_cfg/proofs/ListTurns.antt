@@ -1,8 +1,5 @@
 -- The turns of a loop over a list.
-use Rattle.std.proofs.Common.{◌≡◌, ℕ, ◌+◌, ◌<◌, List, [], ◌∷◌, ◌++◌, length, get_or, take, sym, ap, subst, ◌∙◌}
-use Rattle.std.specs.Prelude.{Contains}
-use Rattle.std.proofs.lemmas.List.{take_more}
-use Rattle.std.proofs.lemmas.List.Elements.{Contains-get_or}
+use Rattle.std.proofs.{Common.{◌≡◌, ℕ, ◌+◌, ◌<◌, List, [], ◌∷◌, ◌++◌, length, get_or, take, sym, ap, ◌∙◌}, lemmas.List.{take_more}}
 
 module _ {X : Type 0} (items : List X) (i : ℕ) (x : X) (lt : i < length items) (is : x ≡ get_or items i x) where
   -- what is done after a turn

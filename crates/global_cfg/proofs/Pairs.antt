@@ -1,10 +1,7 @@
 -- Lists of which each two elements are related, in their order: what is put in, and what is joined.
 use Rattle.std.proofs.Common.{◌≡◌, ◌⊎◌, ℕ, ◌+◌, ◌-◌, ◌<◌, ◌≤◌, List, ◌++◌, length, get_or, refl, sym, ap, subst, ◌∙◌, inl, inr, arith, length-append}
-use Rattle.std.specs.Prelude.{Contains}
-use Rattle.std.specs.List.{AllPairs, insert}
-use Rattle.std.proofs.lemmas.Bool.{cases_lt, cases_order}
-use Rattle.std.proofs.lemmas.List.{get_or_append_left, get_or-append_right}
-use Rattle.std.proofs.lemmas.List.Elements.{Contains-get_or}
+use Rattle.std.specs.{Prelude.{Contains}, List.{AllPairs, insert}}
+use Rattle.std.proofs.lemmas.{Bool.{cases_lt, cases_order}, List.{get_or_append_left, get_or-append_right, Elements.{Contains-get_or}}}
 use Rattle.std.proofs.lemmas.List.Edits.{length-insert, get_or-insert_below, get_or-insert_at, get_or-insert_above}
 
 module _ {X : Type 0} where

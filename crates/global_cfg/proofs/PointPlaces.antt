@@ -1,11 +1,8 @@
 -- Points in their order: where a point stands or belongs, and what a point that is put in leaves.
 use Rattle.std.proofs.Common.{◌≡◌, ◌≢◌, ℕ, ◌<◌, ◌≤◌, true, false, List, [], length, get_or, ltb, refl, ap, subst, ◌∙◌, inl, inr, arith}
-use Rattle.std.specs.List.{insert}
-use Rattle.std.specs.List.Sorted.{IsPartitionedBy, IsPartitionPoint}
-use Rattle.std.proofs.lemmas.Bool.{cases_eq, lt-ltb, ltb-true, ltb-false}
-use Rattle.std.proofs.lemmas.List.Elements.{Contains-get_or}
-use Rattle.osek_standard.specs.declared.point.Point.{Point}
-use Rattle.osek_standard.specs.Points.{point_number}
+use Rattle.std.specs.List.{insert, Sorted.{IsPartitionedBy, IsPartitionPoint}}
+use Rattle.std.proofs.lemmas.{Bool.{cases_eq, lt-ltb, ltb-true, ltb-false}, List.Elements.{Contains-get_or}}
+use Rattle.osek_standard.specs.{declared.point.Point.{Point}, Points.{point_number}}
 use Rattle.global_cfg.specs.PointOrder.{IsLower, AreInOrder, IsPlaceOf, IsGapFor, HasNumber, IsPut}
 use Rattle.global_cfg.proofs.Pairs.{insert_has, insert_stays, insert_cases, pairs_insert}
 

@@ -1,21 +1,16 @@
 -- Points that are put in, one after another.
 use Rattle.std.proofs.Common.{◌≡◌, ◌⊎◌, ℕ, ◌+◌, ◌<◌, true, false, List, [], ◌∷◌, ◌++◌, length, get_or, map, take, refl, sym, ap, subst, ◌∙◌, inl, inr}
-use Rattle.std.specs.Prelude.{Contains}
-use Rattle.std.specs.declared.option.Option.{Option}
-use Rattle.std.proofs.lemmas.List.{append-nil, map-append, take_more}
-use Rattle.std.proofs.lemmas.List.Elements.{Contains-append_left, Contains-append_right, Contains-append_cases}
-use Rattle.std.proofs.lemmas.Grind.{flat_map-append}
+use Rattle.std.specs.{Prelude.{Contains}, declared.option.Option.{Option}}
+use Rattle.std.proofs.lemmas.{List.{append-nil, map-append, take_more, Elements.{Contains-append_left, Contains-append_right, Contains-append_cases}}, Grind.{flat_map-append}}
 use Rattle.osek_standard.proofs.Members.{among_contained, among_map, contained_among, map_among}
-use Rattle.osek_standard.specs.declared.point.Point.{Point}
-use Rattle.osek_standard.specs.Points.{point_number}
+use Rattle.osek_standard.specs.{declared.point.Point.{Point}, Points.{point_number}}
 use Rattle.flow_model.specs.declared.case.Decision.{Decision}
 use Rattle.flow_exits.specs.declared.exit.Exit.{Exit}
 use Rattle.numbered_sets.specs.Pools.{Values}
 use Rattle.flow_rules.specs.declared.group.{NumberEnd.{NumberEnd}, ExitGroup.{ExitGroup}}
 use Rattle.flow_rules.specs.declared.group.Ends.TheVariants as ends
 use Rattle.flow_rules.specs.Groups.{holding, exit_at, exits_by, exits_of, all_exits}
-use Rattle.global_cfg.specs.PointOrder.{AreInOrder, HasNumber, IsPut}
-use Rattle.global_cfg.specs.Targets.{leads, end_target, IsEndOf, AreAllPut, AreEndsPut, IsTargetAfter, ArePutAfter}
+use Rattle.global_cfg.specs.{PointOrder.{AreInOrder, HasNumber, IsPut}, Targets.{leads, end_target, IsEndOf, AreAllPut, AreEndsPut, IsTargetAfter, ArePutAfter}}
 
 -- none is to be put in, or those that are have their numbers there
 pub all_there : (Has : Point → Type 0) (points : List Point) → AreInOrder points → ((q : Point) → Has q → HasNumber points (point_number q)) → AreAllPut Has points points

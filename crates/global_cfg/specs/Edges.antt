@@ -1,7 +1,5 @@
 -- Edges and their order.
-use Rattle.std.specs.Prelude.{◌≡◌, ◌⊎◌, ◌<◌, List}
-use Rattle.std.specs.List.{AllPairs}
-use Rattle.osek_standard.specs.declared.point.Point.{Point}
+use Rattle.std.specs.{Prelude.{◌≡◌, ◌⊎◌, ◌<◌, List}, List.{AllPairs}}
 use Rattle.osek_standard.specs.Points.{point_number}
 use Rattle.abstract_state.specs.declared.edge.FlowEdge.{FlowEdge}
 

@@ -1,8 +1,6 @@
 -- Lists of points in their order.
-use Rattle.std.specs.Prelude.{◌≡◌, ◌⊎◌, ℕ, ◌<◌, ◌≤◌, List, length, slice_index_or, Contains}
-use Rattle.std.specs.List.{AllPairs}
-use Rattle.osek_standard.specs.declared.point.Point.{Point}
-use Rattle.osek_standard.specs.Points.{point_number}
+use Rattle.std.specs.{Prelude.{◌≡◌, ◌⊎◌, ℕ, ◌<◌, ◌≤◌, List, length, slice_index_or, Contains}, List.{AllPairs}}
+use Rattle.osek_standard.specs.{declared.point.Point.{Point}, Points.{point_number}}
 
 abbrev pub IsLower : Point → Point → Type 0
 IsLower p q = point_number p < point_number q

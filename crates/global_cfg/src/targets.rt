@@ -4,13 +4,10 @@ ghost use Rattle.osek_standard.specs.Points.{point_number, IsPoint};
 ghost use Rattle.abstract_state.specs.Written.{IsRow};
 ghost use Rattle.flow_model.specs.Effects.{AreAllAllowed};
 ghost use Rattle.flow_exits.specs.Exits.{IsFilled};
-ghost use Rattle.numbered_sets.specs.Pools.{Values, IsLonger};
-ghost use Rattle.numbered_sets.specs.Views.{plain_entry, AreNumbersOf};
-ghost use Rattle.flow_rules.specs.Levels.{AreLevels};
-ghost use Rattle.flow_rules.specs.Groups.{exits_of};
+ghost use Rattle.numbered_sets.specs.{Pools.{Values, IsLonger}, Views.{plain_entry, AreNumbersOf}};
+ghost use Rattle.flow_rules.specs.{Levels.{AreLevels}, Groups.{exits_of}};
 ghost use Rattle.numbered_sets.specs.PlainTables.{plain_row};
-ghost use Rattle.global_cfg.specs.Targets.{dispatches, leads, end_target, AreEndsPut, ArePutAfter, AreTargets};
-ghost use Rattle.global_cfg.specs.PointOrder.{AreInOrder, IsPlaceOf, IsGapFor};
+ghost use Rattle.global_cfg.specs.{Targets.{dispatches, leads, end_target, AreEndsPut, ArePutAfter, AreTargets}, PointOrder.{AreInOrder, IsPlaceOf, IsGapFor}};
 
 use abstract_state::Point;
 use flow_exits::laws::steps_end_at_exits;

@@ -1,7 +1,6 @@
 -- The first fault of a block, and of all blocks, is what the table of fields says.
 use Rattle.std.proofs.Common.{◌≡◌, ℕ, zero, suc, ◌+◌, Bool, true, false, cond, ◌||◌, List, [], ◌∷◌, ◌++◌, length, take, drop, get_or, Option, Some, None, Ok, Err, refl, sym, ap, subst, ◌∙◌}
-use Rattle.std.specs.Prelude.{map, ◌==◌, nat_lt, nat_eq, slice_get, slice_index, is_some}
-use Rattle.std.specs.Int.{Width, w8, w16, w32, w64, from_be_bytes}
+use Rattle.std.specs.{Prelude.{map, ◌==◌, nat_lt, nat_eq, slice_get, slice_index, is_some}, Int.{Width, w8, w16, w32, w64, from_be_bytes}}
 use Rattle.std.proofs.lemmas.List.{length_push}
 use Rattle.osek_values.specs.Numbers.{task_no, alarm_no, res_no, block_no, mask}
 use Rattle.osek_standard.specs.declared.block.Kind.{Kind}
@@ -15,16 +14,12 @@ use Rattle.image_model.specs.declared.site.Known.TheVariants as known
 use Rattle.image_model.specs.declared.image.Version.{Version}
 use Rattle.image_model.specs.declared.image.Version.TheVariants as version
 use Rattle.osek_standard.specs.Apps.{is_routine_end, call_may_dispatch, may_dispatch, is_task_block_in, is_site_in}
-use Rattle.image_codec.specs.declared.fault.{ImageRule.TheVariants.{I3, I5, I6}, Fault.{Fault}}
-use Rattle.image_codec.specs.declared.parts.{Header.{Header}, Tables.{Tables}, Parts.{Parts}}
-use Rattle.image_codec.specs.Laws.{BlocksFaults, ImageFaults}
-use Rattle.image_codec.specs.ImageReading.{placed, read_image}
-use Rattle.image_codec.specs.TableReading.{tables_at}
+use Rattle.image_codec.specs.declared.{fault.{ImageRule.TheVariants.{I3, I5, I6}, Fault.{Fault}}, parts.{Header.{Header}, Tables.{Tables}, Parts.{Parts}}}
+use Rattle.image_codec.specs.{Laws.{BlocksFaults, ImageFaults}, ImageReading.{placed, read_image}, TableReading.{tables_at}}
 use Rattle.image_codec.specs.Reading.{Read, ◌>>=◌, kept, found_at, number_at, tested_at, byte_below_at, flag_at, entries_at}
 use Rattle.image_codec.specs.BlockReading.{blank_kinds, is_allowed, is_due, is_way, judged_at, kind_at, task_no_at, resource_no_at, alarm_no_at, events_at, locks, lock_of, lock_at, due_at, operands_at, way_at, ways_at, form_of, form_at, knowns, known_of, known_at, stated_at, site_at, block_at, blocks_at, parts_at, all_at}
 use Rattle.image_codec.specs.FieldTable.{fault_of, Field, field, any, some, below, or_later, first_broken, behind, kind_of_number, is_form, kind_field, task_field, resource_field, alarm_field, events_field, ticks_field, way_field, call_fields, way_fields, further_field, is_known, site_fields, block_fields, or_else, blocks_fault}
-use Rattle.image_codec.proofs.BlockLaws.{Entry, blank_call, blank_of}
-use Rattle.image_codec.proofs.BlockLoop.{read_block}
+use Rattle.image_codec.proofs.{BlockLaws.{Entry, blank_call, blank_of}, BlockLoop.{read_block}}
 use Rattle.image_codec.proofs.FieldFaults.{CoversAt, Covers, Any, Numbered, covers_then, covers_made, rule_of, kept_cross, number, number_covers, tested_covers, crossed_covers, long, tested_byte_is, byte_covers, Found, found_in}
 
 -- ---- forms

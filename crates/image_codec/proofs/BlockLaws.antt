@@ -1,18 +1,15 @@
 -- Readers of whole blocks, and their spelling.
 use Rattle.std.proofs.Common.{◌≡◌, ℕ, ◌^◌, ◌<◌, Bool, cond, eqb, List, [], ◌++◌, length, Option, Some, Ok, refl, sym, ap, subst, ◌∙◌}
-use Rattle.std.specs.Prelude.{nat_lt, slice_get, slice_index_or}
-use Rattle.std.specs.Int.{w16, w32}
+use Rattle.std.specs.{Prelude.{nat_lt, slice_get, slice_index_or}, Int.{w16, w32}}
 use Rattle.std.proofs.lemmas.Option.{same_Some, get_or_from_slice_get}
-use Rattle.osek_values.specs.Numbers.{task_no, alarm_no, res_no, block_no, mask}
-use Rattle.osek_values.specs.declared.numbers.BlockNo.{BlockNo}
+use Rattle.osek_values.specs.{Numbers.{task_no, alarm_no, res_no, block_no, mask}, declared.numbers.BlockNo.{BlockNo}}
 use Rattle.osek_standard.specs.declared.block.{Block.{Block}, Kind.{Kind}}
 use Rattle.osek_standard.specs.declared.block.Kind.TheVariants as kind
 use Rattle.osek_standard.specs.declared.call.Call.{Call}
 use Rattle.image_model.specs.CallNames as call
 use Rattle.osek_values.specs.declared.lock.Lock.TheVariants as lock
 use Rattle.image_codec.specs.declared.fault.ImageRule.TheVariants.{I3, I5}
-use Rattle.image_model.specs.declared.site.Site.{Site}
-use Rattle.image_model.specs.declared.image.Version.{Version}
+use Rattle.image_model.specs.declared.{site.Site.{Site}, image.Version.{Version}}
 use Rattle.image_codec.specs.declared.parts.Tables.{Tables}
 use Rattle.osek_standard.specs.Apps.{is_site_in}
 use Rattle.image_codec.specs.Spelling.{one, two, four, eight, kind_number, lock_number, operand_bytes, way_bytes, site_bytes, flag_number, block_bytes}

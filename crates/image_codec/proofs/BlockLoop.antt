@@ -5,11 +5,8 @@ use Rattle.std.proofs.lemmas.List.{length_push}
 use Rattle.osek_standard.specs.declared.block.Block.{Block}
 use Rattle.osek_values.specs.declared.refused.Refused.{Refused}
 use Rattle.image_codec.specs.declared.fault.Fault.{Fault}
-use Rattle.image_model.specs.declared.site.Site.{Site}
-use Rattle.image_model.specs.declared.image.Version.{Version}
-use Rattle.image_codec.specs.declared.parts.Tables.{Tables}
-use Rattle.image_codec.specs.Reading.{Read, Fails, entries_at}
-use Rattle.image_codec.specs.BlockReading.{block_at}
+use Rattle.image_model.specs.declared.{site.Site.{Site}, image.Version.{Version}}
+use Rattle.image_codec.specs.{declared.parts.Tables.{Tables}, Reading.{Read, Fails, entries_at}, BlockReading.{block_at}}
 use Rattle.image_codec.proofs.Loop.{goes_on, ends, is_done}
 
 pub length-zip : {K X : Type 0} (ks : List K) (xs : List X) → length ks ≡ length xs → length (zip ks xs) ≡ length ks

@@ -1,20 +1,15 @@
 -- What is so of the blocks that were read: each is fit for whoever has it.
 use Rattle.std.proofs.Common.{◌≡◌, ℕ, zero, suc, ◌+◌, ◌-◌, ◌<◌, ◌≤◌, Bool, true, false, ◌&&◌, eqb, leb, ltb, List, [], ◌∷◌, length, get_or, Option, None, refl, sym, ap, subst, ◌∙◌, arith}
-use Rattle.std.specs.Prelude.{slice_index_or}
-use Rattle.std.specs.List.{list_all, list_any}
-use Rattle.std.proofs.lemmas.Bool.{and_parts, and_from, eqb-true, eq-eqb, leb-true, ltb-true}
-use Rattle.std.proofs.lemmas.List.Sums.{AllPass-from_list_all}
-use Rattle.osek_standard.specs.declared.objects.{Task.{Task}, Isr.{Isr}, Counter.{Counter}}
-use Rattle.osek_standard.specs.declared.block.{Block.{Block}, Kind.{Kind}}
+use Rattle.std.specs.{Prelude.{slice_index_or}, List.{list_all, list_any}}
+use Rattle.std.proofs.lemmas.{Bool.{and_parts, and_from, eqb-true, eq-eqb, leb-true, ltb-true}, List.Sums.{AllPass-from_list_all}}
+use Rattle.osek_standard.specs.declared.{objects.{Task.{Task}, Isr.{Isr}, Counter.{Counter}}, block.{Block.{Block}, Kind.{Kind}}}
 use Rattle.osek_standard.specs.declared.block.Kind.TheVariants as kind
 use Rattle.image_model.specs.CallNames as call
 use Rattle.osek_standard.specs.Validity.{no_block, IsAmong, is_within, owners, is_own_next, task_may, isr_may, due_of, tick_may, NamesEntries, IsOtherWay, IsOwner, IsTaskCode, IsIsrCode, IsTickCode}
 use Rattle.image_model.specs.declared.site.Site.{Site}
 use Rattle.image_codec.specs.declared.parts.{Tables.{Tables}, Parts.{Parts}}
 use Rattle.image_codec.specs.BlockReading.{tick_order, where_has, task_range, isr_range, counter_range, tasks_allow, isrs_allow, counter_allows, counters_allow, is_owned, is_due_in, is_due}
-use Rattle.image_codec.proofs.KindLaws.{GoodOperands}
-use Rattle.image_codec.proofs.BlockLaws.{unwayed, blank_of, GoodWay, LeadsWell, GoodBlock}
-use Rattle.image_codec.proofs.WholeTables.{tables_of_parts}
+use Rattle.image_codec.proofs.{KindLaws.{GoodOperands}, BlockLaws.{unwayed, blank_of, GoodWay, LeadsWell, GoodBlock}, WholeTables.{tables_of_parts}}
 use Rattle.image_codec.proofs.Places.{numbered_at, within_among, where_among}
 
 pub same_within : {X : Type 0} (xs : List X) (i : ℕ) (d e : X) → i < length xs → get_or xs i d ≡ get_or xs i e

@@ -1,12 +1,9 @@
 -- The blocks of a valid application pass the tests of reading.
 use Rattle.std.proofs.Common.{◌≡◌, ℕ, suc, ◌+◌, ◌-◌, ◌^◌, ◌<◌, ◌≤◌, Bool, true, false, not, ◌&&◌, eqb, leb, ltb, List, [], ◌∷◌, length, get_or, Option, Some, None, refl, sym, ap, subst, ◌∙◌, arith, inl, inr}
-use Rattle.std.specs.Prelude.{slice_index_or, slice_get, IsTrue, ⊤}
-use Rattle.std.specs.List.{list_any}
-use Rattle.std.proofs.lemmas.Bool.{and_parts, and_from, or_cases, eqb-true, eq-eqb, ne_eqb, le-leb, ltb-true, lt-ltb, not-true, cases_lt}
-use Rattle.std.proofs.lemmas.List.{get_or_past}
+use Rattle.std.specs.{Prelude.{slice_index_or, slice_get, IsTrue, ⊤}, List.{list_any}}
+use Rattle.std.proofs.lemmas.{Bool.{and_parts, and_from, or_cases, eqb-true, eq-eqb, ne_eqb, le-leb, ltb-true, lt-ltb, not-true, cases_lt}, List.{get_or_past}}
 use Rattle.std.proofs.lemmas.List.Sums.{list_all-from_AllPass}
-use Rattle.osek_standard.specs.declared.objects.{Task.{Task}, Isr.{Isr}, Counter.{Counter}}
-use Rattle.osek_standard.specs.declared.block.{Block.{Block}, Kind.{Kind}}
+use Rattle.osek_standard.specs.declared.{objects.{Task.{Task}, Isr.{Isr}, Counter.{Counter}}, block.{Block.{Block}, Kind.{Kind}}}
 use Rattle.osek_standard.specs.declared.block.Kind.TheVariants as kind
 use Rattle.image_model.specs.CallNames as call
 use Rattle.osek_standard.specs.Validity.{no_block, no_counter, no_task, no_isr, IsAmong, is_within, is_own_next, due_of, tick_may, NamesEntries, IsOtherWay, IsBlock, IsOwner, IsTickCode, IsValid}
@@ -18,15 +15,11 @@ use Rattle.image_model.specs.declared.image.Version.TheVariants as version
 use Rattle.image_model.specs.Versions.{IsUnknown, SaysNothing, FitsAlone}
 use Rattle.image_codec.specs.declared.parts.{Tables.{Tables}, Parts.{Parts}}
 use Rattle.image_model.specs.Sites.{IsForm}
-use Rattle.image_codec.specs.Spelling.{kind_number, form_number}
-use Rattle.image_codec.specs.Fits.{FitsKind}
+use Rattle.image_codec.specs.{Spelling.{kind_number, form_number}, Fits.{FitsKind}}
 use Rattle.image_codec.specs.BlockReading.{blank_kinds, tick_order, where_has, task_range, isr_range, counter_range, tasks_allow, isrs_allow, counter_allows, counters_allow, is_owned, is_allowed, is_due_in, is_due, form_of}
 use Rattle.image_codec.proofs.KindLaws.{other_of, GoodOperands, GoodNo, GoodBlank, GoodFilled}
-use Rattle.image_codec.proofs.BlockLaws.{unwayed, blank_of, listed_blank, number_unwayed, number_blank, GoodWay, LeadsWell}
-use Rattle.image_codec.proofs.SiteLaws.{GoodKnown, GoodSite}
-use Rattle.image_codec.proofs.OwnerTests.{any_of_owners}
-use Rattle.image_codec.proofs.WholeTables.{tables_of_parts}
-use Rattle.image_codec.proofs.Places.{all_numbered, among_within, within_among, among_where}
+use Rattle.image_codec.proofs.{BlockLaws.{unwayed, blank_of, listed_blank, number_unwayed, number_blank, GoodWay, LeadsWell}, SiteLaws.{GoodKnown, GoodSite}}
+use Rattle.image_codec.proofs.{OwnerTests.{any_of_owners}, WholeTables.{tables_of_parts}, Places.{all_numbered, among_within, within_among, among_where}}
 use Rattle.image_codec.proofs.BlocksOfGood.{same_within, task_may_blank, isr_may_blank, tick_order_blank, is_end, tick_place}
 
 -- ---- forms

@@ -1,10 +1,7 @@
 -- The alarms of a counter, in order.
 use Rattle.std.proofs.Common.{◌≡◌, ℕ, suc, ◌+◌, ◌-◌, ◌<◌, ◌≤◌, Bool, true, false, cond, eqb, List, [], ◌∷◌, length, map, get_or, drop, ◌&&◌, add-one, drop-cons, length-drop, refl, sym, ap, ◌∙◌, arith}
-use Rattle.std.specs.Prelude.{count_by}
-use Rattle.std.specs.List.{filter, enumerate_from, list_all}
-use Rattle.std.proofs.lemmas.Bool.{eqb-true, eqb-false, and_parts}
-use Rattle.std.proofs.lemmas.List.{nil_from_length}
-use Rattle.std.proofs.lemmas.List.Sums.{sum_by-cons}
+use Rattle.std.specs.{Prelude.{count_by}, List.{filter, enumerate_from, list_all}}
+use Rattle.std.proofs.lemmas.{Bool.{eqb-true, eqb-false, and_parts}, List.{nil_from_length, Sums.{sum_by-cons}}}
 use Rattle.oil_system.specs.declared.objects.Alarm.{Alarm}
 use Rattle.osek_standard.specs.Validity.{due_of}
 

@@ -1,14 +1,10 @@
 -- Entries that are each good beside the earlier ones, as facts on the whole list, and back.
 use Rattle.std.proofs.Common.{◌≡◌, ℕ, ◌<◌, Bool, true, false, not, List, [], ◌∷◌, ◌++◌, length, map, get_or, All, refl, sym, ap, subst, ◌∙◌, append_assoc, arith}
-use Rattle.std.specs.List.{list_any, IsDistinct, AllByRecursion}
-use Rattle.std.specs.Str.{bytes_eq}
-use Rattle.std.proofs.lemmas.Bool.{or_parts, or_from, not_from_false, not-true, and_parts, and_from}
-use Rattle.std.proofs.lemmas.List.{append-nil, length-append, get_or-map, length-map}
-use Rattle.std.proofs.lemmas.List.Elements.{All-push, All-nil, All-get_or, All-map}
-use Rattle.std.proofs.Math.Seq.{get_or-append_seam}
+use Rattle.std.specs.{List.{list_any, IsDistinct, AllByRecursion}, Str.{bytes_eq}}
+use Rattle.std.proofs.lemmas.{Bool.{or_parts, or_from, not_from_false, not-true, and_parts, and_from}, List.{append-nil, length-append, get_or-map, length-map}}
+use Rattle.std.proofs.{lemmas.List.Elements.{All-push, All-nil, All-get_or, All-map}, Math.Seq.{get_or-append_seam}}
 use Rattle.osek_values.specs.Names.{is_name, AreNames}
-use Rattle.image_codec.proofs.Spells.{Each}
-use Rattle.image_codec.proofs.FieldLaws.{is_fresh}
+use Rattle.image_codec.proofs.{Spells.{Each}, FieldLaws.{is_fresh}}
 
 -- ---- lists without repeats
 

@@ -1,16 +1,11 @@
 -- The first fault of the header, and of an entry of a table, is what the table of fields says.
 use Rattle.std.proofs.Common.{◌≡◌, ℕ, ◌+◌, ◌^◌, Bool, ◌&&◌, List, [], ◌∷◌, ◌++◌, map, Ok, subst}
-use Rattle.std.specs.Prelude.{nat_eq, slice_index_or}
-use Rattle.std.specs.Int.{Width, w8, w16, w32, w64}
-use Rattle.osek_values.specs.declared.limits.TheConstants.{MAX_TASKS, MAX_ISRS, MAX_COUNTERS, MAX_ALARMS, MAX_RESOURCES, MAX_MODES, MAX_BLOCKS}
-use Rattle.osek_values.specs.Hooks.{hook_set}
+use Rattle.std.specs.{Prelude.{nat_eq, slice_index_or}, Int.{Width, w8, w16, w32, w64}}
+use Rattle.osek_values.specs.{declared.limits.TheConstants.{MAX_TASKS, MAX_ISRS, MAX_COUNTERS, MAX_ALARMS, MAX_RESOURCES, MAX_MODES, MAX_BLOCKS}, Hooks.{hook_set}}
 use Rattle.osek_values.specs.Numbers.{counter_no, mask}
-use Rattle.oil_system.specs.declared.objects.{Alarm.{Alarm}, Resource.{Resource}, Schedule.{Schedule}, Action.{Action}}
-use Rattle.oil_system.specs.Objects.{greatest_ceiling}
-use Rattle.osek_standard.specs.declared.objects.{Task.{Task}, Isr.{Isr}, Counter.{Counter}}
-use Rattle.osek_standard.specs.Validity.{no_counter, owners}
-use Rattle.image_codec.specs.declared.fault.ImageRule.TheVariants.{I3, I5}
-use Rattle.image_codec.specs.declared.parts.{Header.{Header}, Range.{Range}}
+use Rattle.oil_system.specs.{declared.objects.{Alarm.{Alarm}, Resource.{Resource}, Schedule.{Schedule}, Action.{Action}}, Objects.{greatest_ceiling}}
+use Rattle.osek_standard.specs.{declared.objects.{Task.{Task}, Isr.{Isr}, Counter.{Counter}}, Validity.{no_counter, owners}}
+use Rattle.image_codec.specs.declared.{fault.ImageRule.TheVariants.{I3, I5}, parts.{Header.{Header}, Range.{Range}}}
 use Rattle.image_model.specs.declared.image.Version.{Version}
 use Rattle.image_codec.specs.Laws.{HeaderFaults, EntryFaults}
 use Rattle.image_codec.specs.Reading.{Read, ◌>>=◌, unused_byte_at, unused_16_at, name_at, number_at, tested_byte_at, tested_at, byte_below_at, modes_at, range_at}

@@ -1,16 +1,10 @@
 -- What reading a field gives is what the table of fields says.
 use Rattle.std.proofs.Common.{◌≡◌, ℕ, suc, ◌+◌, Bool, true, false, cond, ◌&&◌, ◌||◌, List, [], ◌∷◌, ◌++◌, length, take, drop, get_or, Option, Some, None, Ok, Err, refl, sym, ap, subst, ◌∙◌, inl, inr, arith}
-use Rattle.std.specs.Prelude.{⊤, nat_lt, ◌==◌, slice_get}
-use Rattle.std.specs.Int.{Width, w8, w16, byte_len, from_be_bytes}
-use Rattle.std.specs.Str.{bytes_eq}
-use Rattle.std.proofs.lemmas.Bool.{cases_lt, lt-ltb, le-ltb}
-use Rattle.std.proofs.lemmas.Option.{slice_get_cases, get_or_from_slice_get}
-use Rattle.osek_values.specs.Names.{is_name}
-use Rattle.osek_values.specs.Numbers.{block_no}
+use Rattle.std.specs.{Prelude.{⊤, nat_lt, ◌==◌, slice_get}, Int.{Width, w8, w16, byte_len, from_be_bytes}, Str.{bytes_eq}}
+use Rattle.std.proofs.lemmas.{Bool.{cases_lt, lt-ltb, le-ltb}, Option.{slice_get_cases, get_or_from_slice_get}}
+use Rattle.osek_values.specs.{Names.{is_name}, Numbers.{block_no}}
 use Rattle.osek_standard.specs.Validity.{meet}
-use Rattle.image_codec.specs.declared.fault.{ImageRule.{ImageRule}, ImageRule.TheVariants.{I1, I2, I3, I4, I5}, Fault.{Fault}}
-use Rattle.image_codec.specs.declared.parts.Range.{Range}
-use Rattle.image_codec.specs.Spelling.{magic}
+use Rattle.image_codec.specs.{declared.{fault.{ImageRule.{ImageRule, TheVariants.{I1, I2, I3, I4, I5}}, Fault.{Fault}}, parts.Range.{Range}}, Spelling.{magic}}
 use Rattle.image_model.specs.declared.image.Version.{Version}
 use Rattle.image_model.specs.declared.image.Version.TheVariants as version
 use Rattle.image_codec.specs.TableReading.{version_of, version_at}

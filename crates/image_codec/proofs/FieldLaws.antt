@@ -1,18 +1,12 @@
 -- Readers of fields and their spellings.
 use Rattle.std.proofs.Common.{◌≡◌, ℕ, zero, suc, ◌+◌, ◌^◌, ◌<◌, ◌≤◌, Bool, true, false, not, ◌&&◌, eqb, ltb, List, [], ◌∷◌, ◌++◌, length, take, drop, Ok, refl, sym, ap, subst, ◌∙◌, arith}
-use Rattle.std.specs.Prelude.{nat_lt, nat_le}
-use Rattle.std.specs.Int.{w16}
-use Rattle.std.specs.List.{list_any}
-use Rattle.std.specs.Str.{bytes_eq}
-use Rattle.std.proofs.lemmas.Bool.{ltb-true, ltb-false, leb-true, lt-ltb, le-ltb, le-leb, and_parts, and_from}
-use Rattle.std.proofs.lemmas.Slice.Eq.{bytes_eq-Decides}
+use Rattle.std.specs.{Prelude.{nat_lt, nat_le}, Int.{w16}, List.{list_any}, Str.{bytes_eq}}
+use Rattle.std.proofs.lemmas.{Bool.{ltb-true, ltb-false, leb-true, lt-ltb, le-ltb, le-leb, and_parts, and_from}, Slice.Eq.{bytes_eq-Decides}}
 use Rattle.std.proofs.lemmas.List.{take_at, drop_at, take-append-drop, length-append, length-take}
-use Rattle.osek_values.specs.Names.{is_word, is_name}
-use Rattle.osek_values.specs.Numbers.{block_no}
-use Rattle.oil_system.specs.declared.objects.{Schedule.{Schedule}, Schedule.TheVariants.{Non, Full}}
+use Rattle.osek_values.specs.{Names.{is_word, is_name}, Numbers.{block_no}}
+use Rattle.oil_system.specs.declared.objects.Schedule.{Schedule, TheVariants.{Non, Full}}
 use Rattle.osek_standard.specs.Validity.{meet}
-use Rattle.image_codec.specs.declared.fault.{ImageRule.TheVariants.{I1, I3, I4, I5}}
-use Rattle.image_codec.specs.declared.parts.Range.{Range}
+use Rattle.image_codec.specs.declared.{fault.ImageRule.TheVariants.{I1, I3, I4, I5}, parts.Range.{Range}}
 use Rattle.image_codec.specs.Spelling.{one, two, name_bytes, range_bytes, schedule_number, flag_number}
 use Rattle.image_codec.specs.Reading.{Read, ◌>>=◌, kept, tested_byte_at, tested_at, byte_below_at, text_at, name_at, count_at, range_at, flag_at}
 use Rattle.image_codec.specs.TableReading.{schedule_of, schedule_at}

@@ -1,40 +1,24 @@
 -- The parts of each image are good: what is spelled passes every test of reading.
 use Rattle.std.proofs.Common.{◌≡◌, ℕ, zero, suc, ◌+◌, ◌^◌, ◌<◌, ◌≤◌, Bool, true, false, cond, ◌&&◌, eqb, leb, ltb, List, [], ◌∷◌, ◌++◌, length, map, get_or, Option, Some, None, Ok, Err, refl, sym, ap, subst, ◌∙◌, append_assoc, arith, inl, inr}
-use Rattle.std.specs.Prelude.{slice_index_or, nat_eq}
-use Rattle.std.specs.List.{list_any, zip, IsDistinct}
-use Rattle.std.proofs.lemmas.Bool.{and_parts, and_from, or_cases, eqb-true, eq-eqb, leb-true, le-leb, lt-ltb, not_from_false}
-use Rattle.std.proofs.lemmas.List.{append-nil, length-append}
-use Rattle.std.proofs.lemmas.List.Elements.{All-get_or}
-use Rattle.std.proofs.Math.Seq.{get_or-append_seam}
+use Rattle.std.specs.{Prelude.{slice_index_or, nat_eq}, List.{list_any, zip, IsDistinct}}
+use Rattle.std.proofs.lemmas.{Bool.{and_parts, and_from, or_cases, eqb-true, eq-eqb, leb-true, le-leb, lt-ltb, not_from_false}, List.{append-nil, length-append}}
+use Rattle.std.proofs.{lemmas.List.Elements.{All-get_or}, Math.Seq.{get_or-append_seam}}
 use Rattle.oil_system.specs.declared.objects.{Alarm.{Alarm}, Resource.{Resource}, Action.{Action}}
 use Rattle.osek_values.specs.Names.{AreNames}
 use Rattle.oil_system.specs.declared.objects.Action.TheVariants as action
-use Rattle.osek_standard.specs.declared.objects.{Task.{Task}, Isr.{Isr}, Counter.{Counter}}
-use Rattle.osek_standard.specs.declared.app.App.{App}
+use Rattle.osek_standard.specs.declared.{objects.{Task.{Task}, Isr.{Isr}, Counter.{Counter}}, app.App.{App}}
 use Rattle.osek_standard.specs.Validity.{no_block, no_counter, meet, owners, is_cycle_of, IsAction, IsAlarmOf, IsOwner, IsValid}
-use Rattle.image_model.specs.declared.site.Site.{Site}
-use Rattle.image_model.specs.declared.image.Image.{Image}
+use Rattle.image_model.specs.declared.{site.Site.{Site}, image.Image.{Image}}
 use Rattle.image_codec.specs.declared.parts.{Header.{Header}, Range.{Range}, Tables.{Tables}, Parts.{Parts}}
 use Rattle.osek_standard.specs.Apps.{is_site_in}
 use Rattle.image_model.specs.Sites.{IsSiteAt}
-use Rattle.image_codec.specs.Spelling.{spelling}
-use Rattle.image_codec.specs.Fits.{FitsTask, FitsAction, FitsBlock, FitsFormat}
-use Rattle.image_codec.specs.BlockReading.{parts_at, all_at}
-use Rattle.image_codec.specs.ImageReading.{parts_of}
-use Rattle.image_codec.specs.declared.fault.Fault.{Fault}
-use Rattle.image_codec.specs.Laws.{OneSpelling}
-use Rattle.image_codec.proofs.Spells.{done_with, ok_is}
-use Rattle.image_codec.proofs.FieldLaws.{is_fresh, GoodRange}
+use Rattle.image_codec.specs.{Spelling.{spelling}, Fits.{FitsTask, FitsAction, FitsBlock, FitsFormat}, BlockReading.{parts_at, all_at}, ImageReading.{parts_of}}
+use Rattle.image_codec.specs.{declared.fault.Fault.{Fault}, Laws.{OneSpelling}}
+use Rattle.image_codec.proofs.{Spells.{done_with, ok_is}, FieldLaws.{is_fresh, GoodRange}}
 use Rattle.image_codec.proofs.TableLaws.{GoodTask, GoodIsr, GoodCounter, GoodAction, GoodAlarm, GoodResource, GoodMode, GoodTables, range_of, isr_range_of, counter_range_of}
-use Rattle.image_codec.proofs.BlockLaws.{Entry, GoodBlock}
-use Rattle.image_codec.proofs.PartsLaws.{header_of, parts_law, GoodHeader, GoodParts, spelling_is, all_again}
-use Rattle.image_codec.proofs.EachLaws.{each_of, here_of_all, here_distinct, here_fresh}
-use Rattle.image_codec.proofs.OwnerTests.{any_of_map, map_same}
-use Rattle.image_codec.proofs.WholeTables.{tables_of_parts}
-use Rattle.image_codec.proofs.Places.{get_or-zip}
-use Rattle.image_codec.proofs.BlockLoop.{length-zip}
-use Rattle.image_codec.proofs.BlocksOfValid.{good_blank, good_filled, good_leads, FitsSite, good_site, says_its_own}
-use Rattle.image_codec.proofs.DecodeLaws.{image_ext}
+use Rattle.image_codec.proofs.{BlockLaws.{Entry, GoodBlock}, PartsLaws.{header_of, parts_law, GoodHeader, GoodParts, spelling_is, all_again}}
+use Rattle.image_codec.proofs.{EachLaws.{each_of, here_of_all, here_distinct, here_fresh}, OwnerTests.{any_of_map, map_same}, WholeTables.{tables_of_parts}, Places.{get_or-zip}}
+use Rattle.image_codec.proofs.{BlockLoop.{length-zip}, BlocksOfValid.{good_blank, good_filled, good_leads, FitsSite, good_site, says_its_own}, DecodeLaws.{image_ext}}
 
 modes_fit : (m : ℕ) → m ≤ 8 → 2 ^ m ≤ 256
 modes_fit zero le = omega arith

@@ -1,19 +1,13 @@
 -- Readers of a block's kind, its operands and its ways, and their spellings.
 use Rattle.std.proofs.Common.{◌≡◌, ℕ, ◌+◌, ◌^◌, ◌<◌, Bool, true, List, [], ◌∷◌, ◌++◌, length, map, get_or, Option, Some, None, Ok, refl, sym, ap, subst, ◌∙◌, arith}
-use Rattle.std.specs.Prelude.{nat_lt, slice_get, option_map, ⊤}
-use Rattle.std.specs.Int.{w16, w64}
-use Rattle.std.specs.List.{range_with_len}
-use Rattle.std.proofs.lemmas.Option.{slice_get-map, slice_get_within, get_or_from_slice_get}
-use Rattle.std.proofs.lemmas.List.FromFn.{get_or-range_with_len}
-use Rattle.osek_values.specs.Numbers.{task_no, alarm_no, res_no, mask}
-use Rattle.osek_values.specs.declared.lock.Lock.{Lock}
+use Rattle.std.specs.{Prelude.{nat_lt, slice_get, option_map, ⊤}, Int.{w16, w64}, List.{range_with_len}}
+use Rattle.std.proofs.lemmas.{Option.{slice_get-map, slice_get_within, get_or_from_slice_get}, List.FromFn.{get_or-range_with_len}}
+use Rattle.osek_values.specs.{Numbers.{task_no, alarm_no, res_no, mask}, declared.lock.Lock.{Lock}}
 use Rattle.osek_values.specs.declared.lock.Lock.TheVariants as lock
 use Rattle.osek_standard.specs.declared.block.Kind.{Kind}
 use Rattle.osek_standard.specs.declared.block.Kind.TheVariants as kind
 use Rattle.image_model.specs.CallNames as call
-use Rattle.image_codec.specs.declared.fault.ImageRule.TheVariants.{I3, I5}
-use Rattle.image_codec.specs.declared.parts.Tables.{Tables}
-use Rattle.image_codec.specs.Spelling.{one, two, eight, kind_number, lock_number, operand_bytes}
+use Rattle.image_codec.specs.{declared.{fault.ImageRule.TheVariants.{I3, I5}, parts.Tables.{Tables}}, Spelling.{one, two, eight, kind_number, lock_number, operand_bytes}}
 use Rattle.image_codec.specs.Reading.{AreBytes, Read, ◌>>=◌, byte_at, number_at, tested_at}
 use Rattle.image_codec.specs.BlockReading.{blank_kinds, is_allowed, is_due, judged_at, kind_at, task_no_at, resource_no_at, alarm_no_at, events_at, locks, lock_of, lock_at, due_at, operands_at}
 use Rattle.image_codec.proofs.Spells.{bind_ok, kept_ok, kept_again, ok_is, Takes, Spells, nothing_more, and_then, wide16, wide64, number_law, byte_takes, Tested, tested_law, tested_byte_law, tested_number_law}

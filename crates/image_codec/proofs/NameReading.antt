@@ -1,10 +1,8 @@
 -- Reading a name from its parts.
 use Rattle.std.proofs.Common.{◌≡◌, ℕ, true, List, length, Ok, sym, ap, ◌∙◌}
 use Rattle.std.specs.Prelude.{◌&&◌, nat_lt, nat_le}
-use Rattle.image_codec.specs.declared.fault.ImageRule.TheVariants.{I4}
-use Rattle.image_codec.specs.Reading.{Read, ◌>>=◌, kept, tested_byte_at, text_at, name_at}
-use Rattle.image_codec.proofs.Spells.{kept_again, done_with}
-use Rattle.image_codec.proofs.FieldLaws.{is_fresh}
+use Rattle.image_codec.specs.{declared.fault.ImageRule.TheVariants.{I4}, Reading.{Read, ◌>>=◌, kept, tested_byte_at, text_at, name_at}}
+use Rattle.image_codec.proofs.{Spells.{kept_again, done_with}, FieldLaws.{is_fresh}}
 
 pub name_read : (earlier : List (List ℕ)) (bytes : List ℕ) (len : ℕ) (after text rest name : List ℕ) → tested_byte_at (λ n. nat_lt 0 n && nat_le n 64) I4 bytes ≡ Ok (len, after)
     → text_at len (length bytes) after ≡ Ok (text, rest) → is_fresh earlier text ≡ true → name ≡ text → name_at earlier bytes ≡ Ok (name, rest)

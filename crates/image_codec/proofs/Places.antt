@@ -1,8 +1,7 @@
 -- Facts on lists at their places: entries one by one, zipped and numbered lists, and tests of owners.
 use Rattle.std.proofs.Common.{◌≡◌, ℕ, zero, suc, ◌+◌, ◌<◌, Bool, true, false, cond, leb, ltb, List, [], ◌∷◌, ◌++◌, length, get_or, refl, subst, arith}
 use Rattle.std.specs.List.{list_all, zip, enumerate_from}
-use Rattle.std.proofs.lemmas.Bool.{and_parts, and_from, le-leb, lt-ltb, leb-true, ltb-true}
-use Rattle.std.proofs.lemmas.List.{length_push}
+use Rattle.std.proofs.lemmas.{Bool.{and_parts, and_from, le-leb, lt-ltb, leb-true, ltb-true}, List.{length_push}}
 use Rattle.osek_standard.specs.Validity.{IsAmong, is_within}
 use Rattle.image_codec.specs.BlockReading.{where_has}
 use Rattle.image_codec.proofs.Spells.{Each}

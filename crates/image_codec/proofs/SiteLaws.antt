@@ -1,24 +1,18 @@
 -- Readers of sites, and their spelling: the form, and what is known of the status.
 use Rattle.std.proofs.Common.{◌≡◌, ℕ, ◌+◌, ◌-◌, ◌^◌, ◌<◌, ◌≤◌, Bool, true, false, cond, ◌&&◌, eqb, leb, ltb, List, [], ◌++◌, length, Option, Some, None, Ok, refl, sym, ap, subst, ◌∙◌, arith, inl, inr}
-use Rattle.std.specs.Prelude.{slice_get}
-use Rattle.std.specs.Int.{w16}
+use Rattle.std.specs.{Prelude.{slice_get}, Int.{w16}}
 use Rattle.std.proofs.lemmas.Bool.{eqb-true, leb-true, and_parts}
 use Rattle.osek_values.specs.Numbers.{task_no}
 use Rattle.osek_values.specs.declared.status.Status.TheVariants as status
-use Rattle.osek_standard.specs.declared.block.Kind.{Kind}
-use Rattle.osek_standard.specs.Apps.{is_site_in}
+use Rattle.osek_standard.specs.{declared.block.Kind.{Kind}, Apps.{is_site_in}}
 use Rattle.image_model.specs.declared.site.{Form.{Form}, Known.{Known}, Site.{Site}}
 use Rattle.image_model.specs.declared.site.Form.TheVariants as form
 use Rattle.image_model.specs.declared.site.Known.TheVariants as known
 use Rattle.image_model.specs.declared.image.Version.{Version}
 use Rattle.image_model.specs.declared.image.Version.TheVariants as version
-use Rattle.image_codec.specs.declared.fault.ImageRule.TheVariants.{I3}
-use Rattle.image_codec.specs.declared.parts.Tables.{Tables}
-use Rattle.image_codec.specs.Spelling.{one, two, further, form_number, known_number, site_bytes}
-use Rattle.image_codec.specs.Reading.{AreBytes, Read, ◌>>=◌, byte_at, number_at}
-use Rattle.image_codec.specs.BlockReading.{direct_form, form_of, form_at, knowns, known_of, known_at, stated_at, site_at}
-use Rattle.image_codec.proofs.Spells.{bind_ok, ok_is, joined2, Takes, Spells, nothing_more, and_then, said, wide16, number_law, byte_law}
-use Rattle.image_codec.proofs.FoundLaws.{first_choice, found_law}
+use Rattle.image_codec.specs.{declared.{fault.ImageRule.TheVariants.{I3}, parts.Tables.{Tables}}, Spelling.{one, two, further, form_number, known_number, site_bytes}}
+use Rattle.image_codec.specs.{Reading.{AreBytes, Read, ◌>>=◌, byte_at, number_at}, BlockReading.{direct_form, form_of, form_at, knowns, known_of, known_at, stated_at, site_at}}
+use Rattle.image_codec.proofs.{Spells.{bind_ok, ok_is, joined2, Takes, Spells, nothing_more, and_then, said, wide16, number_law, byte_law}, FoundLaws.{first_choice, found_law}}
 use Rattle.image_codec.proofs.KindLaws.{listed}
 
 -- ---- forms

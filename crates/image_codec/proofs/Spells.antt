@@ -1,13 +1,11 @@
 -- A reader and a spelling that belong together: what is read is spelled so, and what is spelled so is read, whatever
 -- follows. Records are built from their fields.
 use Rattle.std.proofs.Common.{◌≡◌, ℕ, zero, suc, ◌+◌, ◌^◌, ◌<◌, ◌≤◌, Bool, true, false, cond, ltb, List, [], ◌∷◌, ◌++◌, length, take, drop, Result, Ok, Err, refl, sym, ap, subst, ◌∙◌, append_assoc, arith, inl, inr}
-use Rattle.std.specs.Int.{Width, w16, w32, w64, byte_len, from_be_bytes, to_be_bytes}
-use Rattle.std.specs.List.{flat_map}
+use Rattle.std.specs.{Int.{Width, w16, w32, w64, byte_len, from_be_bytes, to_be_bytes}, List.{flat_map}}
 use Rattle.std.proofs.lemmas.Bool.{cases_lt, ltb-false, le-ltb}
 use Rattle.std.proofs.lemmas.List.{append-nil, take_at, drop_at, take-append-drop, length-append, length-take, get_or-drop, get_or-take, get_or_past}
 use Rattle.std.proofs.lemmas.Nat.{be_bytes_2, be_bytes_4, be_bytes_8, from_be_bytes-to_be_bytes_2, from_be_bytes-to_be_bytes_4, from_be_bytes-to_be_bytes_8}
-use Rattle.image_codec.specs.declared.fault.{ImageRule.{ImageRule}, ImageRule.TheVariants.{I1}, Fault.{Fault}}
-use Rattle.image_codec.specs.Spelling.{one}
+use Rattle.image_codec.specs.{declared.fault.{ImageRule.{ImageRule, TheVariants.{I1}}, Fault.{Fault}}, Spelling.{one}}
 use Rattle.image_codec.specs.Reading.{AreBytes, Read, ◌>>=◌, fault_at, kept, byte_at, number_at, tested_byte_at, tested_at, entries_at}
 
 pub AreBytes-drop : (n : ℕ) (bytes : List ℕ) → AreBytes bytes → AreBytes (drop n bytes)

@@ -1,16 +1,12 @@
 -- Readers of the header and the tables, and their spellings.
 use Rattle.std.proofs.Common.{◌≡◌, ℕ, zero, suc, ◌^◌, ◌<◌, Bool, true, false, cond, not, eqb, List, [], ◌++◌, map, Ok, refl, sym, ap, ◌∙◌, arith}
-use Rattle.std.specs.Prelude.{nat_lt, nat_le, nat_eq, slice_index_or}
-use Rattle.std.specs.Int.{w16, w32, w64}
-use Rattle.std.specs.List.{list_any, flat_map}
+use Rattle.std.specs.{Prelude.{nat_lt, nat_le, nat_eq, slice_index_or}, Int.{w16, w32, w64}, List.{list_any, flat_map}}
 use Rattle.std.proofs.lemmas.Bool.{ltb-true, lt-ltb, eqb-true}
 use Rattle.osek_values.specs.Numbers.{task_no, counter_no, mask}
 use Rattle.oil_system.specs.declared.objects.{Alarm.{Alarm}, Resource.{Resource}, Action.{Action}, Schedule.{Schedule}}
 use Rattle.oil_system.specs.declared.objects.Action.TheVariants as action
-use Rattle.osek_standard.specs.declared.objects.{Task.{Task}, Isr.{Isr}, Counter.{Counter}}
-use Rattle.osek_standard.specs.Validity.{no_counter, owners}
-use Rattle.image_codec.specs.declared.fault.ImageRule.TheVariants.{I3, I5}
-use Rattle.image_codec.specs.declared.parts.{Header.{Header}, Range.{Range}, Tables.{Tables}}
+use Rattle.osek_standard.specs.{declared.objects.{Task.{Task}, Isr.{Isr}, Counter.{Counter}}, Validity.{no_counter, owners}}
+use Rattle.image_codec.specs.declared.{fault.ImageRule.TheVariants.{I3, I5}, parts.{Header.{Header}, Range.{Range}, Tables.{Tables}}}
 use Rattle.image_model.specs.declared.image.Version.{Version}
 use Rattle.image_codec.specs.Spelling.{one, two, four, eight, further, name_bytes, range_bytes, schedule_number, task_bytes, isr_bytes, counter_bytes, action_bytes, alarm_bytes, resource_bytes}
 use Rattle.image_codec.specs.Reading.{number_at, tested_at, byte_below_at, unused_byte_at, unused_16_at, name_at, modes_at, range_at, entries_at}

@@ -1,19 +1,14 @@
 -- What was read is a valid application, with its sites.
 use Rattle.std.proofs.Common.{◌≡◌, ℕ, suc, ◌+◌, ◌^◌, ◌<◌, ◌≤◌, Bool, true, false, cond, not, ◌&&◌, eqb, leb, ltb, List, [], ◌++◌, length, map, get_or, Option, Some, None, All, refl, sym, ap, subst, ◌∙◌, arith, inl, inr}
-use Rattle.std.specs.Prelude.{slice_index_or, nat_eq}
-use Rattle.std.specs.List.{list_any, zip, IsDistinct}
-use Rattle.std.proofs.lemmas.Bool.{and_parts, eqb-true, eq-eqb, leb-true, ltb-true, not-true, or_left}
-use Rattle.std.proofs.lemmas.List.{append-nil}
+use Rattle.std.specs.{Prelude.{slice_index_or, nat_eq}, List.{list_any, zip, IsDistinct}}
+use Rattle.std.proofs.lemmas.{Bool.{and_parts, eqb-true, eq-eqb, leb-true, ltb-true, not-true, or_left}, List.{append-nil}}
 use Rattle.oil_system.specs.declared.objects.{Alarm.{Alarm}, Resource.{Resource}, Action.{Action}}
 use Rattle.osek_values.specs.Names.{AreNames}
 use Rattle.oil_system.specs.declared.objects.Action.TheVariants as action
-use Rattle.osek_standard.specs.declared.objects.{Task.{Task}, Isr.{Isr}, Counter.{Counter}}
-use Rattle.osek_standard.specs.declared.block.{Block.{Block}, Kind.{Kind}}
+use Rattle.osek_standard.specs.declared.{objects.{Task.{Task}, Isr.{Isr}, Counter.{Counter}}, block.{Block.{Block}, Kind.{Kind}}}
 use Rattle.osek_standard.specs.declared.block.Kind.TheVariants as kind
 use Rattle.image_model.specs.CallNames as call
-use Rattle.osek_standard.specs.declared.app.App.{App}
-use Rattle.osek_standard.specs.Validity.{no_block, no_counter, meet, owners, is_cycle_of, IsAction, IsAlarmOf, IsValid}
-use Rattle.osek_standard.specs.Versions.{FitsVersion1}
+use Rattle.osek_standard.specs.{declared.app.App.{App}, Validity.{no_block, no_counter, meet, owners, is_cycle_of, IsAction, IsAlarmOf, IsValid}, Versions.{FitsVersion1}}
 use Rattle.osek_standard.specs.Apps.{is_site, is_site_in}
 use Rattle.image_model.specs.declared.site.{Form.{Form}, Known.{Known}, Site.{Site}}
 use Rattle.image_model.specs.declared.site.Form.TheVariants as form
@@ -23,21 +18,11 @@ use Rattle.image_model.specs.declared.image.Version.TheVariants as version
 use Rattle.image_model.specs.Versions.{IsUnknown, SaysNothing, FitsBothVersions, FitsAlone}
 use Rattle.image_codec.specs.declared.parts.{Header.{Header}, Tables.{Tables}, Parts.{Parts}}
 use Rattle.image_model.specs.Sites.{IsForm, IsSiteAt, AreSites}
-use Rattle.image_codec.specs.Spelling.{form_number}
-use Rattle.image_codec.specs.Fits.{FitsTask, FitsAction, FitsKind, FitsParts}
-use Rattle.image_codec.specs.BlockReading.{form_of}
-use Rattle.image_codec.proofs.FieldLaws.{is_fresh, is_inside}
-use Rattle.image_codec.proofs.TableLaws.{GoodTask, GoodIsr, GoodCounter, GoodAction, GoodAlarm, GoodResource, GoodMode}
-use Rattle.image_codec.proofs.KindLaws.{GoodOperands}
-use Rattle.image_codec.proofs.FoundLaws.{first_choice}
-use Rattle.image_codec.proofs.SiteLaws.{GoodSite}
-use Rattle.image_codec.proofs.BlockLaws.{unwayed, GoodBlock}
-use Rattle.image_codec.proofs.PartsLaws.{header_of, GoodParts}
-use Rattle.image_codec.proofs.EachLaws.{each_all, each_distinct, each_named, distinct_nil}
-use Rattle.image_codec.proofs.OwnerTests.{any_of_map, map_same}
-use Rattle.image_codec.proofs.WholeTables.{tables_of_parts}
-use Rattle.image_codec.proofs.Places.{each_at, get_or-zip}
-use Rattle.image_codec.proofs.BlockLoop.{length-zip}
+use Rattle.image_codec.specs.{Spelling.{form_number}, Fits.{FitsTask, FitsAction, FitsKind, FitsParts}, BlockReading.{form_of}}
+use Rattle.image_codec.proofs.{FieldLaws.{is_fresh, is_inside}, TableLaws.{GoodTask, GoodIsr, GoodCounter, GoodAction, GoodAlarm, GoodResource, GoodMode}, KindLaws.{GoodOperands}}
+use Rattle.image_codec.proofs.{FoundLaws.{first_choice}, SiteLaws.{GoodSite}, BlockLaws.{unwayed, GoodBlock}, PartsLaws.{header_of, GoodParts}}
+use Rattle.image_codec.proofs.{EachLaws.{each_all, each_distinct, each_named, distinct_nil}, OwnerTests.{any_of_map, map_same}, WholeTables.{tables_of_parts}}
+use Rattle.image_codec.proofs.{Places.{each_at, get_or-zip}, BlockLoop.{length-zip}}
 use Rattle.image_codec.proofs.BlocksOfGood.{block_owned, task_owner, task_code, isr_owner, isr_code, counter_owner, tick_code}
 
 -- ---- forms

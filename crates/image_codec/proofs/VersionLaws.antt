@@ -1,17 +1,12 @@
 -- Readers of what the versions differ in, and their spellings: the magic, and the fields that version 2 alone has.
 use Rattle.std.proofs.Common.{◌≡◌, ℕ, ◌^◌, ◌<◌, ◌≤◌, false, inl, inr, eqb, ltb, List, ◌++◌, length, take, drop, Some, None, refl, sym, ap, subst, ◌∙◌, arith}
-use Rattle.std.specs.Int.{w16}
-use Rattle.std.specs.Str.{bytes_eq}
-use Rattle.std.proofs.lemmas.Bool.{ltb-false, le-ltb, eqb-true, eq-eqb}
-use Rattle.std.proofs.lemmas.List.{take_at, drop_at, take-append-drop, length-append, length-take}
+use Rattle.std.specs.{Int.{w16}, Str.{bytes_eq}}
+use Rattle.std.proofs.lemmas.{Bool.{ltb-false, le-ltb, eqb-true, eq-eqb}, List.{take_at, drop_at, take-append-drop, length-append, length-take}}
 use Rattle.image_model.specs.declared.image.Version.{Version}
 use Rattle.image_model.specs.declared.image.Version.TheVariants as version
-use Rattle.image_codec.specs.declared.fault.{ImageRule.TheVariants.{I1, I2, I3}}
-use Rattle.image_codec.specs.Spelling.{one, two, magic, further}
-use Rattle.image_codec.specs.Reading.{Read, fault_at, text_at, unused_byte_at, unused_16_at}
-use Rattle.image_codec.specs.TableReading.{version_of, version_at}
-use Rattle.image_codec.proofs.Spells.{AreBytes-drop, enough_ok, Takes, Spells, nothing_more, said, wide16, Tested, tested_byte_law, tested_number_law}
-use Rattle.image_codec.proofs.FieldLaws.{bytes_eq_is}
+use Rattle.image_codec.specs.{declared.fault.ImageRule.TheVariants.{I1, I2, I3}, Spelling.{one, two, magic, further}}
+use Rattle.image_codec.specs.{Reading.{Read, fault_at, text_at, unused_byte_at, unused_16_at}, TableReading.{version_of, version_at}}
+use Rattle.image_codec.proofs.{Spells.{AreBytes-drop, enough_ok, Takes, Spells, nothing_more, said, wide16, Tested, tested_byte_law, tested_number_law}, FieldLaws.{bytes_eq_is}}
 use Rattle.image_codec.proofs.FoundLaws.{first_choice, found_law}
 
 -- ---- the magic

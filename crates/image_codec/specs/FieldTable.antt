@@ -1,27 +1,17 @@
 -- What the format asks of each field, as a table and without a reader. Of the fields in their order the first that breaks
 -- a rule is at fault, and of the rules that it breaks that of the lowest number.
 use Rattle.std.specs.Prelude.{ℕ, zero, suc, ◌+◌, ◌^◌, Bool, true, ◌||◌, ◌&&◌, not, nat_lt, nat_le, ◌==◌, List, [], ◌∷◌, ◌++◌, length, map, take, drop, slice_index, slice_index_or, Option, Some, None, Ok, Err, if◌then◌else◌}
-use Rattle.std.specs.Int.{Width, w8, w16, w32, w64, byte_len, from_be_bytes}
-use Rattle.std.specs.List.{list_any}
-use Rattle.std.specs.Str.{bytes_eq}
-use Rattle.osek_values.specs.declared.limits.TheConstants.{MAX_TASKS, MAX_ISRS, MAX_COUNTERS, MAX_ALARMS, MAX_RESOURCES, MAX_MODES, MAX_BLOCKS, MAX_NAME}
-use Rattle.osek_values.specs.Names.{is_name}
-use Rattle.oil_system.specs.declared.objects.{Alarm.{Alarm}, Resource.{Resource}}
-use Rattle.oil_system.specs.Objects.{greatest_ceiling}
-use Rattle.osek_standard.specs.declared.objects.{Task.{Task}, Isr.{Isr}, Counter.{Counter}}
-use Rattle.osek_standard.specs.declared.block.Kind.{Kind}
+use Rattle.std.specs.{Int.{Width, w8, w16, w32, w64, byte_len, from_be_bytes}, List.{list_any}, Str.{bytes_eq}}
+use Rattle.osek_values.specs.{declared.limits.TheConstants.{MAX_TASKS, MAX_ISRS, MAX_COUNTERS, MAX_ALARMS, MAX_RESOURCES, MAX_MODES, MAX_BLOCKS, MAX_NAME}, Names.{is_name}}
+use Rattle.oil_system.specs.{declared.objects.{Alarm.{Alarm}, Resource.{Resource}}, Objects.{greatest_ceiling}}
+use Rattle.osek_standard.specs.declared.{objects.{Task.{Task}, Isr.{Isr}, Counter.{Counter}}, block.Kind.{Kind}}
 use Rattle.osek_standard.specs.declared.block.Kind.TheVariants as kind
 use Rattle.image_model.specs.CallNames as call
-use Rattle.osek_standard.specs.Apps.{is_site_in}
-use Rattle.osek_standard.specs.Validity.{no_counter, meet, owners}
-use Rattle.image_codec.specs.declared.fault.{ImageRule.{ImageRule}, ImageRule.TheVariants.{I1, I2, I3, I4, I5}, Fault.{Fault}}
-use Rattle.image_codec.specs.declared.parts.{Header.{Header}, Tables.{Tables}}
-use Rattle.image_codec.specs.Spelling.{magic}
+use Rattle.osek_standard.specs.{Apps.{is_site_in}, Validity.{no_counter, meet, owners}}
+use Rattle.image_codec.specs.{declared.{fault.{ImageRule.{ImageRule, TheVariants.{I1, I2, I3, I4, I5}}, Fault.{Fault}}, parts.{Header.{Header}, Tables.{Tables}}}, Spelling.{magic}}
 use Rattle.image_model.specs.declared.image.Version.{Version}
 use Rattle.image_model.specs.declared.image.Version.TheVariants as version
-use Rattle.image_codec.specs.TableReading.{is_action_mask, is_start_time, is_start_cycle}
-use Rattle.image_codec.specs.Reading.{Read, fault_at}
-use Rattle.image_codec.specs.BlockReading.{blank_kinds, is_allowed, is_due, is_way}
+use Rattle.image_codec.specs.{TableReading.{is_action_mask, is_start_time, is_start_cycle}, Reading.{Read, fault_at}, BlockReading.{blank_kinds, is_allowed, is_due, is_way}}
 
 -- the fault that reading gives, if it gives one
 abbrev pub fault_of : {A : Type 0} → Read A → Option Fault

@@ -3,8 +3,7 @@
 use Rattle.std.specs.Prelude.{⊤, ◌^◌, ◌<◌, List, All}
 use Rattle.oil_system.specs.declared.objects.{Alarm.{Alarm}, Action.{Action}}
 use Rattle.oil_system.specs.declared.objects.Action.TheVariants as action
-use Rattle.osek_standard.specs.declared.objects.{Task.{Task}, Counter.{Counter}}
-use Rattle.osek_standard.specs.declared.block.{Block.{Block}, Kind.{Kind}}
+use Rattle.osek_standard.specs.declared.{objects.{Task.{Task}, Counter.{Counter}}, block.{Block.{Block}, Kind.{Kind}}}
 use Rattle.osek_standard.specs.declared.block.Kind.TheVariants as kind
 use Rattle.image_model.specs.CallNames as call
 use Rattle.image_model.specs.declared.image.Image.{Image}

@@ -4,9 +4,7 @@ use Rattle.image_codec.specs.declared.fault.{Fault.{Fault}, ImageFault.{ImageFau
 use Rattle.osek_values.specs.declared.refused.Refused.{Refused}
 use Rattle.osek_values.specs.declared.refused.Refused.TheVariants as errors
 use Rattle.image_model.specs.declared.image.Image.{Image}
-use Rattle.image_codec.specs.declared.parts.Parts.{Parts}
-use Rattle.image_codec.specs.Reading.{Read}
-use Rattle.image_codec.specs.BlockReading.{all_at}
+use Rattle.image_codec.specs.{declared.parts.Parts.{Parts}, Reading.{Read}, BlockReading.{all_at}}
 
 -- a fault where so many of the bytes are left, at its offset
 abbrev pub located : ℕ → Fault → ImageFault

@@ -1,13 +1,9 @@
 -- Reading the fields of bytes in order, with the first fault that is met.
 use Rattle.std.specs.Prelude.{◌≡◌, ℕ, zero, suc, ◌+◌, ◌^◌, ◌<◌, Bool, not, ◌&&◌, nat_lt, nat_le, ◌==◌, List, [], ◌∷◌, ◌++◌, length, take, drop, slice_index, Option, Some, None, Result, Ok, Err, if◌then◌else◌}
-use Rattle.std.specs.Int.{Width, w16, byte_len, from_be_bytes}
-use Rattle.std.specs.List.{list_any}
-use Rattle.std.specs.Str.{bytes_eq}
-use Rattle.osek_values.specs.declared.limits.TheConstants.{MAX_NAME}
-use Rattle.osek_values.specs.Names.{is_name}
-use Rattle.osek_values.specs.Numbers.{block_no}
+use Rattle.std.specs.{Int.{Width, w16, byte_len, from_be_bytes}, List.{list_any}, Str.{bytes_eq}}
+use Rattle.osek_values.specs.{declared.limits.TheConstants.{MAX_NAME}, Names.{is_name}, Numbers.{block_no}}
 use Rattle.osek_standard.specs.Validity.{meet}
-use Rattle.image_codec.specs.declared.fault.{ImageRule.{ImageRule}, ImageRule.TheVariants.{I1, I3, I4, I5}, Fault.{Fault}}
+use Rattle.image_codec.specs.declared.fault.{ImageRule.{ImageRule, TheVariants.{I1, I3, I4, I5}}, Fault.{Fault}}
 use Rattle.osek_values.specs.declared.refused.Refused.{Refused}
 use Rattle.osek_values.specs.declared.refused.Refused.TheVariants as errors
 use Rattle.image_codec.specs.declared.parts.Range.{Range}

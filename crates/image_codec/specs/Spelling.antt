@@ -1,16 +1,11 @@
 -- The bytes of an image, of the format's versions 1 and 2: the fields in order, without gaps, numbers big-endian (this
 -- project's profile).
-use Rattle.std.specs.Prelude.{ℕ, ◌+◌, Bool, List, [], ◌∷◌, ◌++◌, length, Option, Some, None, if◌then◌else◌, codes}
-use Rattle.std.specs.List.{flat_map, zip}
-use Rattle.std.specs.Int.{to_be_bytes, w16, w32, w64}
-use Rattle.osek_values.specs.declared.numbers.BlockNo.{BlockNo}
-use Rattle.osek_values.specs.declared.lock.Lock.{Lock}
+use Rattle.std.specs.{Prelude.{ℕ, ◌+◌, Bool, List, [], ◌∷◌, ◌++◌, length, Option, Some, None, if◌then◌else◌, codes}, List.{flat_map, zip}, Int.{to_be_bytes, w16, w32, w64}}
+use Rattle.osek_values.specs.declared.{numbers.BlockNo.{BlockNo}, lock.Lock.{Lock}}
 use Rattle.osek_values.specs.declared.lock.Lock.TheVariants as lock
-use Rattle.oil_system.specs.declared.objects.{Alarm.{Alarm}, Resource.{Resource}, Schedule.{Schedule}, Schedule.TheVariants.{Non, Full}, Action.{Action}}
+use Rattle.oil_system.specs.declared.objects.{Alarm.{Alarm}, Resource.{Resource}, Schedule.{Schedule, TheVariants.{Non, Full}}, Action.{Action}}
 use Rattle.oil_system.specs.declared.objects.Action.TheVariants as action
-use Rattle.osek_standard.specs.declared.app.App.{App}
-use Rattle.osek_standard.specs.declared.objects.{Task.{Task}, Isr.{Isr}, Counter.{Counter}}
-use Rattle.osek_standard.specs.declared.block.{Block.{Block}, Kind.{Kind}}
+use Rattle.osek_standard.specs.declared.{app.App.{App}, objects.{Task.{Task}, Isr.{Isr}, Counter.{Counter}}, block.{Block.{Block}, Kind.{Kind}}}
 use Rattle.osek_standard.specs.declared.call.{PlainService.{PlainService}, TaskService.{TaskService}, ResourceService.{ResourceService}, MaskService.{MaskService}, AlarmService.{AlarmService}, ArmService.{ArmService}}
 use Rattle.osek_standard.specs.declared.block.Kind.TheVariants as kind
 use Rattle.image_model.specs.CallNames as call

@@ -1,19 +1,13 @@
 -- Reading the header and the tables of an image.
 use Rattle.std.specs.Prelude.{ℕ, ◌+◌, ◌≤◌, Bool, not, ◌&&◌, nat_lt, nat_le, nat_eq, ◌==◌, List, [], length, map, Option, Some, None, Ok, slice_index_or, if◌then◌else◌}
-use Rattle.std.specs.Int.{w16, w32, w64}
-use Rattle.std.specs.List.{list_any}
-use Rattle.std.specs.Str.{bytes_eq}
-use Rattle.osek_values.specs.declared.limits.TheConstants.{MAX_TASKS, MAX_ISRS, MAX_COUNTERS, MAX_ALARMS, MAX_RESOURCES, MAX_MODES, MAX_BLOCKS}
-use Rattle.osek_values.specs.Hooks.{hook_set}
+use Rattle.std.specs.{Int.{w16, w32, w64}, List.{list_any}, Str.{bytes_eq}}
+use Rattle.osek_values.specs.{declared.limits.TheConstants.{MAX_TASKS, MAX_ISRS, MAX_COUNTERS, MAX_ALARMS, MAX_RESOURCES, MAX_MODES, MAX_BLOCKS}, Hooks.{hook_set}}
 use Rattle.osek_values.specs.Numbers.{task_no, counter_no, mask}
-use Rattle.oil_system.specs.declared.objects.{Alarm.{Alarm}, Resource.{Resource}, Schedule.{Schedule}, Schedule.TheVariants.{Non, Full}, Action.{Action}}
+use Rattle.oil_system.specs.declared.objects.{Alarm.{Alarm}, Resource.{Resource}, Schedule.{Schedule, TheVariants.{Non, Full}}, Action.{Action}}
 use Rattle.oil_system.specs.declared.objects.Action.TheVariants as action
 use Rattle.oil_system.specs.Objects.{greatest_ceiling}
-use Rattle.osek_standard.specs.declared.objects.{Task.{Task}, Isr.{Isr}, Counter.{Counter}}
-use Rattle.osek_standard.specs.Validity.{no_counter, is_cycle_of, owners}
-use Rattle.image_codec.specs.declared.fault.ImageRule.TheVariants.{I2, I3, I5}
-use Rattle.image_codec.specs.declared.parts.{Header.{Header}, Tables.{Tables}}
-use Rattle.image_codec.specs.Spelling.{magic}
+use Rattle.osek_standard.specs.{declared.objects.{Task.{Task}, Isr.{Isr}, Counter.{Counter}}, Validity.{no_counter, is_cycle_of, owners}}
+use Rattle.image_codec.specs.{declared.{fault.ImageRule.TheVariants.{I2, I3, I5}, parts.{Header.{Header}, Tables.{Tables}}}, Spelling.{magic}}
 use Rattle.image_codec.specs.Reading.{Read, ◌>>=◌, number_at, tested_byte_at, tested_at, byte_below_at, text_at, found_at, unused_byte_at, unused_16_at, name_at, modes_at, range_at, entries_at}
 use Rattle.image_model.specs.declared.image.Version.{Version}
 use Rattle.image_model.specs.declared.image.Version.TheVariants as version

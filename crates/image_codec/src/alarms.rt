@@ -1,6 +1,5 @@
 //! Reading an alarm.
-ghost use Rattle.std.specs.Prelude.{◌≡◌, ◌≤◌, ◌<◌, slice_index_or, length};
-ghost use Rattle.std.specs.Int.{w32, w64};
+ghost use Rattle.std.specs.{Prelude.{◌≡◌, ◌≤◌, ◌<◌, slice_index_or, length}, Int.{w32, w64}};
 ghost use Rattle.osek_standard.specs.Validity.{no_counter, is_cycle_of};
 ghost use Rattle.image_codec.specs.Reading.{Gives, tested_at};
 ghost use Rattle.image_codec.specs.TableReading.{is_action_mask as is_mask_of_action, action_of as action_of_numbers, action_at, is_start_time as is_time_of_start, is_start_cycle as is_cycle_of_start, alarm_at};

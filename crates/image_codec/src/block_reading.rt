@@ -1,8 +1,6 @@
 //! Reading the blocks of an image.
-ghost use Rattle.std.specs.Prelude.{◌≡◌, length, IfOk};
-ghost use Rattle.std.specs.List.{zip};
-ghost use Rattle.image_codec.specs.Reading.{Gives};
-ghost use Rattle.image_codec.specs.BlockReading.{AreSmall, kind_at, block_at, blocks_at};
+ghost use Rattle.std.specs.{Prelude.{◌≡◌, length, IfOk}, List.{zip}};
+ghost use Rattle.image_codec.specs.{Reading.{Gives}, BlockReading.{AreSmall, kind_at, block_at, blocks_at}};
 
 use crate::fault::{ImageRule, ReadError};
 use crate::numbers::blank_kind;

@@ -1,10 +1,6 @@
 //! Images from bytes.
 ghost use Rattle.std.specs.Prelude.{◌≡◌, IfOk};
-ghost use Rattle.image_codec.specs.Spelling.{spelling};
-ghost use Rattle.image_codec.specs.Fits.{FitsFormat};
-ghost use Rattle.image_codec.specs.Reading.{Gives};
-ghost use Rattle.image_codec.specs.BlockReading.{parts_at, all_at};
-ghost use Rattle.image_codec.specs.ImageReading.{Answers, IsAnswered, read_image};
+ghost use Rattle.image_codec.specs.{Spelling.{spelling}, Fits.{FitsFormat}, Reading.{Gives}, BlockReading.{parts_at, all_at}, ImageReading.{Answers, IsAnswered, read_image}};
 ghost use Rattle.image_model.specs.declared.image.Image.{Image as AnImage};
 
 use crate::block_reading::blocks;

@@ -1,6 +1,5 @@
 //! The bytes of an image.
-ghost use Rattle.std.specs.Prelude.{◌≡◌, ◌++◌, length, OnOk, IfOk};
-ghost use Rattle.std.specs.List.{flat_map, zip};
+ghost use Rattle.std.specs.{Prelude.{◌≡◌, ◌++◌, length, OnOk, IfOk}, List.{flat_map, zip}};
 ghost use Rattle.image_codec.specs.Spelling.{one, eight, magic as magic_of, further, spelling, header_bytes, name_bytes, range_bytes, schedule_number as number_of_schedule, task_bytes, isr_bytes, counter_bytes, action_bytes, alarm_bytes, resource_bytes, operand_bytes, way_bytes, site_bytes, block_bytes};
 
 use crate::numbers::{form_number, kind_number, known_number, lock_number};

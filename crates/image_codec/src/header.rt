@@ -1,8 +1,6 @@
 //! Reading the header of an image.
-ghost use Rattle.std.specs.Prelude.{◌≡◌, ◌+◌, ◌≤◌, ◌<◌, IfOk, ◌&&◌, nat_lt, nat_le};
-ghost use Rattle.std.specs.Int.{w16};
-ghost use Rattle.image_codec.specs.Reading.{Gives, byte_below_at, tested_at, tested_byte_at};
-ghost use Rattle.image_codec.specs.TableReading.{HasFew, version_of as version_of_front, version_at, header_at};
+ghost use Rattle.std.specs.{Prelude.{◌≡◌, ◌+◌, ◌≤◌, ◌<◌, IfOk, ◌&&◌, nat_lt, nat_le}, Int.{w16}};
+ghost use Rattle.image_codec.specs.{Reading.{Gives, byte_below_at, tested_at, tested_byte_at}, TableReading.{HasFew, version_of as version_of_front, version_at, header_at}};
 ghost use Rattle.image_codec.specs.declared.fault.ImageRule.TheVariants.{I3};
 
 use crate::encoding::magic;

@@ -1,7 +1,5 @@
 //! Entries of tables, which have names.
-ghost use Rattle.std.specs.Prelude.{◌≡◌, ◌&&◌, not, List, ℕ, map, nat_lt, nat_le};
-ghost use Rattle.std.specs.List.{list_any};
-ghost use Rattle.std.specs.Str.{bytes_eq};
+ghost use Rattle.std.specs.{Prelude.{◌≡◌, ◌&&◌, not, List, ℕ, map, nat_lt, nat_le}, List.{list_any}, Str.{bytes_eq}};
 ghost use Rattle.osek_values.specs.Names.{is_name as is_a_name};
 
 use crate::fault::{ImageRule, ReadError};
@@ -98,8 +96,7 @@ fn is_fresh<T: Named>(entries: &[T], text: &[u8]) -> bool
 }
 
 impl<'a> Reader<'a> {
-    ghost use Rattle.image_codec.specs.Reading.{Gives, tested_byte_at, name_at};
-    ghost use Rattle.image_codec.specs.declared.fault.ImageRule.TheVariants.{I4};
+    ghost use Rattle.image_codec.specs.{Reading.{Gives, tested_byte_at, name_at}, declared.fault.ImageRule.TheVariants.{I4}};
 
     /// The length byte of a name.
     #[tactic(auto, unfolding(crate::specs::Reading::tested_byte_at))]

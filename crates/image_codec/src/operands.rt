@@ -1,9 +1,6 @@
 //! Reading the operands of a kind.
-ghost use Rattle.std.specs.Prelude.{ℕ, nat_lt, length};
-ghost use Rattle.std.specs.Int.{w16, w64};
-ghost use Rattle.image_codec.specs.Reading.{Gives, byte_below_at, tested_at};
-ghost use Rattle.image_codec.specs.BlockReading.{AreSmall, lock_at, due_at, operands_at};
-ghost use Rattle.image_codec.specs.declared.fault.ImageRule.TheVariants.{I3};
+ghost use Rattle.std.specs.{Prelude.{ℕ, nat_lt, length}, Int.{w16, w64}};
+ghost use Rattle.image_codec.specs.{Reading.{Gives, byte_below_at, tested_at}, BlockReading.{AreSmall, lock_at, due_at, operands_at}, declared.fault.ImageRule.TheVariants.{I3}};
 ghost use Rattle.osek_standard.specs.declared.block.Kind.TheVariants as kind;
 
 use crate::fault::{ImageRule, ReadError};

@@ -1,6 +1,5 @@
 //! Which kind of block may stand where, by the owners of blocks.
-ghost use Rattle.std.specs.Prelude.{◌≡◌, ◌+◌, ◌-◌, ◌≤◌, ◌<◌, ◌^◌, ◌&&◌, ◌==◌, length, slice_index_or, if◌then◌else◌};
-ghost use Rattle.std.specs.List.{list_any};
+ghost use Rattle.std.specs.{Prelude.{◌≡◌, ◌+◌, ◌-◌, ◌≤◌, ◌<◌, ◌^◌, ◌&&◌, ◌==◌, length, slice_index_or, if◌then◌else◌}, List.{list_any}};
 ghost use Rattle.osek_standard.specs.Validity.{is_within as is_among, task_may as may_in_task, isr_may as may_in_isr, due_of};
 ghost use Rattle.image_codec.specs.BlockReading.{AreSmall, tick_order as order_of_ticks, where_has, task_range, isr_range, tasks_allow as do_tasks_allow, isrs_allow as do_isrs_allow, counter_allows as does_counter_allow, counters_allow as do_counters_allow, is_owned as has_owner, is_allowed as may_stand, is_due_in as is_due_in_counter, is_due as is_the_due};
 

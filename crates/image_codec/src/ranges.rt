@@ -1,10 +1,7 @@
 //! Reading the blocks of an owner.
-ghost use Rattle.std.specs.Prelude.{◌≡◌, ◌+◌, ◌&&◌, nat_lt, nat_le};
-ghost use Rattle.std.specs.Int.{w16};
-ghost use Rattle.std.specs.List.{list_any};
+ghost use Rattle.std.specs.{Prelude.{◌≡◌, ◌+◌, ◌&&◌, nat_lt, nat_le}, Int.{w16}, List.{list_any}};
 ghost use Rattle.osek_standard.specs.Validity.{meet, owners};
-ghost use Rattle.image_codec.specs.Reading.{Gives, tested_at, count_at, range_at};
-ghost use Rattle.image_codec.specs.declared.fault.ImageRule.TheVariants.{I3};
+ghost use Rattle.image_codec.specs.{Reading.{Gives, tested_at, count_at, range_at}, declared.fault.ImageRule.TheVariants.{I3}};
 
 use crate::fault::{ImageRule, ReadError};
 use crate::parts::Range;

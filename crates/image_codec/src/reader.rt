@@ -1,6 +1,5 @@
 //! Reading fields from the front of bytes.
-ghost use Rattle.std.specs.Prelude.{◌≡◌, ◌≤◌, ◌<◌, ◌+◌, ◌^◌, ◌==◌, ◌&&◌, IfOk, List, ℕ, length, nat_lt};
-ghost use Rattle.std.specs.Int.{w16, w32, w64};
+ghost use Rattle.std.specs.{Prelude.{◌≡◌, ◌≤◌, ◌<◌, ◌+◌, ◌^◌, ◌==◌, ◌&&◌, IfOk, List, ℕ, length, nat_lt}, Int.{w16, w32, w64}};
 ghost use Rattle.image_codec.specs.declared.fault.ImageRule.TheVariants.{I3};
 ghost use Rattle.osek_values.specs.declared.refused.Refused.TheVariants as refused;
 

@@ -1,7 +1,6 @@
 //! Reading what is stated of a call site.
 ghost use Rattle.std.specs.Prelude.{◌≤◌};
-ghost use Rattle.image_codec.specs.Reading.{Gives};
-ghost use Rattle.image_codec.specs.BlockReading.{AreSmall, form_at, known_at, stated_at, site_at};
+ghost use Rattle.image_codec.specs.{Reading.{Gives}, BlockReading.{AreSmall, form_at, known_at, stated_at, site_at}};
 
 use crate::fault::{ImageRule, ReadError};
 use crate::numbers::{form_of, known_of};

@@ -1,11 +1,8 @@
 //! Reading the tables of an image.
-ghost use Rattle.std.specs.Prelude.{◌≡◌, ◌≤◌, IfOk, [], not, nat_eq, nat_lt, nat_le, length};
-ghost use Rattle.std.specs.Int.{w16, w32};
-ghost use Rattle.std.specs.List.{list_any};
+ghost use Rattle.std.specs.{Prelude.{◌≡◌, ◌≤◌, IfOk, [], not, nat_eq, nat_lt, nat_le, length}, Int.{w16, w32}, List.{list_any}};
 ghost use Rattle.image_codec.specs.Reading.{Gives, tested_at, entries_at, name_at};
 ghost use Rattle.image_codec.specs.TableReading.{HasFew, schedule_of as schedule_of_number, schedule_at, task_at, isr_at, counter_at, alarm_at, resource_at, tables_at};
-ghost use Rattle.image_codec.specs.BlockReading.{AreSmall};
-ghost use Rattle.image_codec.specs.declared.fault.ImageRule.TheVariants.{I3, I5};
+ghost use Rattle.image_codec.specs.{BlockReading.{AreSmall}, declared.fault.ImageRule.TheVariants.{I3, I5}};
 
 use crate::alarms::alarm;
 use crate::fault::{ImageRule, ReadError};

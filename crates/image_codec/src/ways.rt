@@ -1,9 +1,7 @@
 //! Reading where a block leads.
-ghost use Rattle.std.specs.Prelude.{◌≡◌, ◌+◌, ◌==◌, true, if◌then◌else◌};
-ghost use Rattle.std.specs.List.{list_all};
+ghost use Rattle.std.specs.{Prelude.{◌≡◌, ◌+◌, ◌==◌, true, if◌then◌else◌}, List.{list_all}};
 ghost use Rattle.osek_standard.specs.Validity.{is_within as is_among};
-ghost use Rattle.image_codec.specs.Reading.{Gives};
-ghost use Rattle.image_codec.specs.BlockReading.{where_has, task_range, isr_range, counter_range, is_way as may_lead_to, way_at, ways_at};
+ghost use Rattle.image_codec.specs.{Reading.{Gives}, BlockReading.{where_has, task_range, isr_range, counter_range, is_way as may_lead_to, way_at, ways_at}};
 
 use crate::fault::{ImageRule, ReadError};
 use crate::parts::Tables;

@@ -1,20 +1,10 @@
 -- An image whose sites all have the general form runs as the kernel.
 use Rattle.std.proofs.Common.{◌≡◌, ℕ, Bool, List, length, get_or, Option, Some, None, refl, sym, ap, subst, inl, inr}
 use Rattle.std.specs.Prelude.{⊤, IfSome, option_map}
-use Rattle.std.proofs.lemmas.Bool.{cases_lt}
-use Rattle.std.proofs.lemmas.List.{get_or_past}
-use Rattle.osek_values.specs.declared.event.Event.{Event}
-use Rattle.osek_values.specs.declared.numbers.ModeNo.{ModeNo}
-use Rattle.osek_standard.specs.declared.app.App.{App}
-use Rattle.osek_standard.specs.declared.state.State.{State}
-use Rattle.osek_standard.specs.States.{here}
-use Rattle.osek_standard.specs.Effects.{Effect, effect}
-use Rattle.osek_standard.specs.Dispatch.{outcome_of, concluded, instruction}
-use Rattle.image_model.specs.declared.site.Site.{Site}
-use Rattle.image_model.specs.declared.image.Image.{Image}
-use Rattle.image_model.specs.Sites.{general}
-use Rattle.image_model.specs.ImageStep.{formed, formed_at, instructed}
-use Rattle.image_model.specs.ImageTrace.{AreGeneral}
+use Rattle.std.proofs.lemmas.{Bool.{cases_lt}, List.{get_or_past}}
+use Rattle.osek_values.specs.declared.{event.Event.{Event}, numbers.ModeNo.{ModeNo}}
+use Rattle.osek_standard.specs.{declared.{app.App.{App}, state.State.{State}}, States.{here}, Effects.{Effect, effect}, Dispatch.{outcome_of, concluded, instruction}}
+use Rattle.image_model.specs.{declared.{site.Site.{Site}, image.Image.{Image}}, Sites.{general}, ImageStep.{formed, formed_at, instructed}, ImageTrace.{AreGeneral}}
 use Rattle.image_model.specs.Laws.{IsKernelsRun}
 use Rattle.image_model.proofs.KernelRuns.{runs_as_kernel}
 

@@ -1,14 +1,9 @@
 -- The sites of general form, one block after the other.
 use Rattle.std.proofs.Common.{◌≡◌, ℕ, ◌+◌, ◌<◌, Bool, true, false, List, [], ◌∷◌, ◌++◌, length, get_or, Option, None, refl, sym, ap, subst, ◌∙◌, inl, inr, arith}
 use Rattle.std.specs.Prelude.{IfSome}
-use Rattle.std.proofs.lemmas.Bool.{cases_lt}
-use Rattle.std.proofs.lemmas.List.{get_or_append_left, get_or_push, length_push}
-use Rattle.std.proofs.lemmas.List.Elements.{All-push}
-use Rattle.osek_standard.specs.declared.app.App.{App}
-use Rattle.osek_standard.specs.Apps.{is_site}
-use Rattle.image_model.specs.declared.site.Site.{Site}
-use Rattle.image_model.specs.Sites.{IsSiteAt, general, general_site}
-use Rattle.image_model.specs.ImageTrace.{AreGeneral}
+use Rattle.std.proofs.lemmas.{Bool.{cases_lt}, List.{get_or_append_left, get_or_push, length_push, Elements.{All-push}}}
+use Rattle.osek_standard.specs.{declared.app.App.{App}, Apps.{is_site}}
+use Rattle.image_model.specs.{declared.site.Site.{Site}, Sites.{IsSiteAt, general, general_site}, ImageTrace.{AreGeneral}}
 
 -- the sites of the first n blocks
 pub record AreFirstSites (app : App) (n : ℕ) (sites : List (Option Site)) : Type 0 where

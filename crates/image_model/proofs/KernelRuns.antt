@@ -1,20 +1,12 @@
 -- An image runs as the kernel where each instruction does, from the states of a set that the kernel doesn't leave.
-use Rattle.std.proofs.Common.{◌≡◌, Bool, false, List, [], ◌∷◌, ◌++◌, length, Option, Some, None, refl, ap, ◌∙◌}
-use Rattle.std.proofs.lemmas.List.{append-nil}
-use Rattle.osek_values.specs.declared.event.{Event.{Event}, Event.TheVariants.{Run as RunEvent, Irq, Tick}}
-use Rattle.osek_values.specs.declared.numbers.{ModeNo.{ModeNo}, SourceNo.{SourceNo}}
-use Rattle.osek_standard.specs.declared.app.App.{App}
-use Rattle.osek_standard.specs.declared.state.{State.{State}, Processor.{Processor}}
+use Rattle.std.proofs.{Common.{◌≡◌, Bool, false, List, [], ◌∷◌, ◌++◌, length, Option, Some, None, refl, ap, ◌∙◌}, lemmas.List.{append-nil}}
+use Rattle.osek_values.specs.declared.{event.Event.{Event, TheVariants.{Run as RunEvent, Irq, Tick}}, numbers.{ModeNo.{ModeNo}, SourceNo.{SourceNo}}}
+use Rattle.osek_standard.specs.declared.{app.App.{App}, state.{State.{State}, Processor.{Processor}}}
 use Rattle.osek_standard.specs.declared.state.Processor.TheVariants as processor
-use Rattle.osek_standard.specs.Dispatch.{Stepped, silent, instruction}
-use Rattle.osek_standard.specs.Arrivals.{arrival}
-use Rattle.osek_standard.specs.Kernel.{entered_or, run_by, step, steps, start, run}
-use Rattle.osek_standard.specs.TraceText.{lines_from, kernel_trace}
-use Rattle.osek_standard.specs.Well.{IsActive}
-use Rattle.image_model.specs.declared.image.Image.{Image}
-use Rattle.image_model.specs.ImageStep.{instructed, image_step}
-use Rattle.image_model.specs.ImageTrace.{Run, run_of, and_then, after, image_steps, image_run, trap_text, image_trace}
-use Rattle.image_model.specs.Laws.{IsKernelsRun}
+use Rattle.osek_standard.specs.{Dispatch.{Stepped, silent, instruction}, Arrivals.{arrival}, Kernel.{entered_or, run_by, step, steps, start, run}}
+use Rattle.osek_standard.specs.{TraceText.{lines_from, kernel_trace}, Well.{IsActive}}
+use Rattle.image_model.specs.{declared.image.Image.{Image}, ImageStep.{instructed, image_step}}
+use Rattle.image_model.specs.{ImageTrace.{Run, run_of, and_then, after, image_steps, image_run, trap_text, image_trace}, Laws.{IsKernelsRun}}
 
 abbrev put_in : Stepped → Option Stepped
 put_in n = Some n

@@ -1,21 +1,11 @@
 -- An image that is upgraded runs as before: its steps read its application and its sites alone.
 use Rattle.std.proofs.Common.{◌≡◌, ◌++◌, Bool, List, [], ◌∷◌, length, Option, Some, None, refl, ap, ◌∙◌}
 use Rattle.std.specs.Prelude.{option_map, slice_index_or}
-use Rattle.osek_values.specs.declared.event.{Event.{Event}, Event.TheVariants.{Run as RunEvent, Irq, Tick}}
-use Rattle.osek_values.specs.declared.numbers.ModeNo.{ModeNo}
-use Rattle.osek_standard.specs.declared.app.App.{App}
-use Rattle.osek_standard.specs.declared.state.State.{State}
-use Rattle.osek_standard.specs.States.{here}
-use Rattle.osek_standard.specs.Effects.{effect}
-use Rattle.osek_standard.specs.Dispatch.{Stepped, concluded}
-use Rattle.osek_standard.specs.Kernel.{run_by, step_with, start}
+use Rattle.osek_values.specs.declared.{event.Event.{Event, TheVariants.{Run as RunEvent, Irq, Tick}}, numbers.ModeNo.{ModeNo}}
+use Rattle.osek_standard.specs.{declared.{app.App.{App}, state.State.{State}}, States.{here}, Effects.{effect}, Dispatch.{Stepped, concluded}, Kernel.{run_by, step_with, start}}
 use Rattle.osek_standard.specs.TraceText.{lines_from}
-use Rattle.image_model.specs.declared.site.Site.{Site}
-use Rattle.image_model.specs.declared.image.Image.{Image}
-use Rattle.image_model.specs.ImageStep.{formed_at, instructed, image_step}
-use Rattle.image_model.specs.ImageTrace.{Run, and_then, after, image_steps, image_run, trap_text, image_trace}
-use Rattle.image_model.specs.Upgrades.{IsUpgraded}
-use Rattle.image_model.specs.Laws.{RunsAsBefore}
+use Rattle.image_model.specs.{declared.{site.Site.{Site}, image.Image.{Image}}, ImageStep.{formed_at, instructed, image_step}}
+use Rattle.image_model.specs.{ImageTrace.{Run, and_then, after, image_steps, image_run, trap_text, image_trace}, Upgrades.{IsUpgraded}, Laws.{RunsAsBefore}}
 
 abbrev put_in : Stepped → Option Stepped
 put_in n = Some n

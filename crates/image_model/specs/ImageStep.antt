@@ -4,17 +4,11 @@ use Rattle.std.specs.Prelude.{ℕ, Bool, true, false, slice_index_or, Option, So
 use Rattle.osek_values.specs.declared.status.Ask.{Ask}
 use Rattle.osek_values.specs.declared.status.Ask.TheVariants as ask
 use Rattle.osek_values.specs.declared.event.Event.{Event}
-use Rattle.osek_standard.specs.declared.app.App.{App}
-use Rattle.osek_standard.specs.declared.state.State.{State}
-use Rattle.osek_standard.specs.TaskStates.{is_live}
-use Rattle.osek_standard.specs.States.{task_state, here}
-use Rattle.osek_standard.specs.Effects.{Effect, effect}
-use Rattle.osek_standard.specs.Dispatch.{Outcome, Keep, To, outcome_of, Stepped, concluded}
-use Rattle.osek_standard.specs.Kernel.{step_with}
+use Rattle.osek_standard.specs.{declared.{app.App.{App}, state.State.{State}}, TaskStates.{is_live}, States.{task_state, here}, Effects.{Effect, effect}}
+use Rattle.osek_standard.specs.{Dispatch.{Outcome, Keep, To, outcome_of, Stepped, concluded}, Kernel.{step_with}}
 use Rattle.image_model.specs.declared.site.{Form.{Form}, Known.{Known}, Site.{Site}}
 use Rattle.image_model.specs.declared.site.Form.TheVariants as form
-use Rattle.image_model.specs.declared.image.Image.{Image}
-use Rattle.image_model.specs.Statuses.{allows_status}
+use Rattle.image_model.specs.{declared.image.Image.{Image}, Statuses.{allows_status}}
 
 -- the site at a block, its form, and what is known of its status
 abbrev pub site_at : Image → ℕ → Option Site

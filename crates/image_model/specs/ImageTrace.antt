@@ -1,16 +1,8 @@
 -- The runs of an image, and their text.
-use Rattle.std.specs.Prelude.{◌≡◌, ℕ, Bool, true, false, List, [], ◌∷◌, ◌++◌, length, All, Option, Some, None, IfSome, if◌then◌else◌, codes}
-use Rattle.std.specs.Fmt.{decimal}
-use Rattle.osek_values.specs.declared.event.Event.{Event}
-use Rattle.osek_values.specs.declared.numbers.ModeNo.{ModeNo}
-use Rattle.osek_standard.specs.declared.state.State.{State}
-use Rattle.osek_standard.specs.Dispatch.{Stepped}
-use Rattle.osek_standard.specs.Kernel.{start}
-use Rattle.osek_standard.specs.TraceText.{lines_from}
-use Rattle.image_model.specs.declared.site.Site.{Site}
-use Rattle.image_model.specs.declared.image.Image.{Image}
-use Rattle.image_model.specs.Sites.{general}
-use Rattle.image_model.specs.ImageStep.{image_step}
+use Rattle.std.specs.{Prelude.{◌≡◌, ℕ, Bool, true, false, List, [], ◌∷◌, ◌++◌, length, All, Option, Some, None, IfSome, if◌then◌else◌, codes}, Fmt.{decimal}}
+use Rattle.osek_values.specs.declared.{event.Event.{Event}, numbers.ModeNo.{ModeNo}}
+use Rattle.osek_standard.specs.{declared.state.State.{State}, Dispatch.{Stepped}, Kernel.{start}, TraceText.{lines_from}}
+use Rattle.image_model.specs.{declared.{site.Site.{Site}, image.Image.{Image}}, Sites.{general}, ImageStep.{image_step}}
 
 -- what a run did, and whether it ended with a trap
 pub record Run : Type 0 where

@@ -1,11 +1,8 @@
 -- What holds of a general image, and of one that is upgraded.
 use Rattle.std.specs.Prelude.{◌≡◌, false, List}
-use Rattle.osek_values.specs.declared.event.Event.{Event}
-use Rattle.osek_values.specs.declared.numbers.ModeNo.{ModeNo}
+use Rattle.osek_values.specs.declared.{event.Event.{Event}, numbers.ModeNo.{ModeNo}}
 use Rattle.osek_standard.specs.TraceText.{kernel_trace}
-use Rattle.image_model.specs.declared.image.Image.{Image}
-use Rattle.image_model.specs.ImageTrace.{AreGeneral, has_trap, image_run, image_trace}
-use Rattle.image_model.specs.Upgrades.{IsUpgraded}
+use Rattle.image_model.specs.{declared.image.Image.{Image}, ImageTrace.{AreGeneral, has_trap, image_run, image_trace}, Upgrades.{IsUpgraded}}
 
 -- the trace is the kernel's, and there is no trap
 pub record IsKernelsRun (i : Image) (mode : ModeNo) (es : List Event) : Type 0 where

@@ -1,9 +1,7 @@
 -- The sites of an image: one where a block of the application is a site, and none elsewhere.
-use Rattle.std.specs.Prelude.{◌≡◌, ⊤, ℕ, ◌<◌, Bool, not, IsTrue, List, length, slice_index_or, Option, Some, None, if◌then◌else◌}
-use Rattle.std.specs.Coded.{Unit-prop, le_prop}
+use Rattle.std.specs.{Prelude.{◌≡◌, ⊤, ℕ, ◌<◌, Bool, not, IsTrue, List, length, slice_index_or, Option, Some, None, if◌then◌else◌}, Coded.{Unit-prop, le_prop}}
 use Rattle.std.proofs.Props.{props}
-use Rattle.osek_standard.specs.declared.app.App.{App}
-use Rattle.osek_standard.specs.Apps.{is_site}
+use Rattle.osek_standard.specs.{declared.app.App.{App}, Apps.{is_site}}
 use Rattle.image_model.specs.declared.site.{Form.{Form}, Site.{Site}}
 use Rattle.image_model.specs.declared.site.Form.TheVariants as form
 use Rattle.image_model.specs.declared.site.Known.TheVariants as known

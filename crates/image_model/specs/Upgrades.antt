@@ -1,6 +1,6 @@
 -- What becomes of an image that is upgraded.
 use Rattle.std.specs.Prelude.{◌≡◌}
-use Rattle.image_model.specs.declared.image.{Image.{Image}}
+use Rattle.image_model.specs.declared.image.Image.{Image}
 use Rattle.image_model.specs.declared.image.Version.TheVariants as version
 use Rattle.image_model.specs.Versions.{FitsVersion1Alone}
 

@@ -1,9 +1,7 @@
 -- What the versions of the image format ask of an image, beside the conditions of its application and of its sites.
-use Rattle.std.specs.Prelude.{⊤, List, All, Option, Some, None}
-use Rattle.std.specs.Coded.{Unit-prop}
+use Rattle.std.specs.{Prelude.{⊤, List, All, Option, Some, None}, Coded.{Unit-prop}}
 use Rattle.std.proofs.Props.{props}
-use Rattle.osek_standard.specs.declared.app.App.{App}
-use Rattle.osek_standard.specs.Versions.{FitsVersion1, FitsVersion1-prop}
+use Rattle.osek_standard.specs.{declared.app.App.{App}, Versions.{FitsVersion1, FitsVersion1-prop}}
 use Rattle.image_model.specs.declared.image.Version.{Version}
 use Rattle.image_model.specs.declared.image.Version.TheVariants as version
 use Rattle.image_model.specs.declared.site.{Known.{Known}, Site.{Site}}

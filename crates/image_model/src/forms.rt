@@ -1,10 +1,7 @@
 //! The sites of an image.
 ghost use Rattle.std.specs.Prelude.{◌≡◌, ◌<◌, ◌↔◌, length, not, IsTrue, None, IfOk};
-ghost use Rattle.osek_standard.specs.Apps.{is_site as is_site_of};
-ghost use Rattle.osek_standard.specs.Versions.{FitsVersion1};
-ghost use Rattle.image_model.specs.Sites.{general_site as general_site_if};
-ghost use Rattle.image_model.specs.ImageStep.{site_at as site_of, form_at};
-ghost use Rattle.image_model.specs.ImageTrace.{AreGeneral};
+ghost use Rattle.osek_standard.specs.{Apps.{is_site as is_site_of}, Versions.{FitsVersion1}};
+ghost use Rattle.image_model.specs.{Sites.{general_site as general_site_if}, ImageStep.{site_at as site_of, form_at}, ImageTrace.{AreGeneral}};
 ghost use Rattle.image_model.specs.declared.image.Version.TheVariants as version;
 
 use crate::image::{Image, Version};

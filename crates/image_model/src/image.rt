@@ -1,6 +1,5 @@
 //! Images.
-ghost use Rattle.image_model.specs.Sites.{AreSites, AreSites-prop};
-ghost use Rattle.image_model.specs.Versions.{FitsBothVersions, FitsBothVersions-prop, FitsAlone, FitsAlone-prop};
+ghost use Rattle.image_model.specs.{Sites.{AreSites, AreSites-prop}, Versions.{FitsBothVersions, FitsBothVersions-prop, FitsAlone, FitsAlone-prop}};
 
 use crate::site::Site;
 use osek_standard::App;

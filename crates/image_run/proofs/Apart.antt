@@ -1,14 +1,9 @@
 -- No block is a task's and a routine's.
 use Rattle.std.proofs.Common.{◌≡◌, ℕ, ◌+◌, ◌-◌, ◌<◌, ◌≤◌, Bool, true, false, ◌||◌, List, [], ◌∷◌, ◌++◌, length, map, refl, ◌∙◌, ap, subst, append_assoc, inl, inr, arith, nat_lt, get_or}
 use Rattle.std.specs.List.{IsDistinct, AllByRecursion, list_any}
-use Rattle.std.proofs.lemmas.Bool.{cases_Bool}
-use Rattle.std.proofs.lemmas.Bool.Decides.{nat_tests}
-use Rattle.std.proofs.lemmas.List.Folds.{list_any-append, list_any_at}
-use Rattle.osek_standard.specs.declared.app.App.{App}
-use Rattle.osek_standard.specs.declared.objects.{Task.{Task}, Isr.{Isr}, Counter.{Counter}}
-use Rattle.osek_standard.specs.Validity.{is_within, meet}
-use Rattle.osek_standard.specs.Apps.{is_task_block, source_count, no_task, no_isr, no_counter}
-use Rattle.osek_standard.specs.Well.{IsOwn, IsOfRoutine}
+use Rattle.std.proofs.lemmas.{Bool.{cases_Bool, Decides.{nat_tests}}, List.Folds.{list_any-append, list_any_at}}
+use Rattle.osek_standard.specs.{declared.{app.App.{App}, objects.{Task.{Task}, Isr.{Isr}, Counter.{Counter}}}, Validity.{is_within, meet}}
+use Rattle.osek_standard.specs.{Apps.{is_task_block, source_count, no_task, no_isr, no_counter}, Well.{IsOwn, IsOfRoutine}}
 
 within_both : (b a m c n : ℕ) → is_within b (a, m) ≡ true → is_within b (c, n) ≡ true → meet (a, m) (c, n) ≡ true
 within_both b a m c n e f = grind (arith, nat_tests)

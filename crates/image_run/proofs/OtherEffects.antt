@@ -1,26 +1,18 @@
 -- An instruction that is no site asks nothing.
 use Rattle.std.proofs.Common.{◌≡◌, ℕ, ◌+◌, Bool, true, false, refl, sym, ◌∙◌, ap, subst, Some, None, not, ◌||◌, nat_lt, nat_eq}
-use Rattle.std.specs.Prelude.{if◌then◌else◌}
-use Rattle.std.specs.declared.option.Option.{Option}
-use Rattle.osek_values.specs.declared.numbers.{ResNo.{ResNo}, BlockNo.{BlockNo}, SourceNo.{SourceNo}}
-use Rattle.osek_values.specs.declared.status.Ask.{Ask}
+use Rattle.std.specs.{Prelude.{if◌then◌else◌}, declared.option.Option.{Option}}
+use Rattle.osek_values.specs.declared.{numbers.{ResNo.{ResNo}, BlockNo.{BlockNo}, SourceNo.{SourceNo}}, status.Ask.{Ask}}
 use Rattle.osek_values.specs.declared.status.Ask.TheVariants as ask
-use Rattle.osek_standard.specs.declared.app.App.{App}
-use Rattle.osek_standard.specs.declared.block.{Block.{Block}, Kind.{Kind}}
+use Rattle.osek_standard.specs.declared.{app.App.{App}, block.{Block.{Block}, Kind.{Kind}}}
 use Rattle.osek_standard.specs.declared.block.Kind.TheVariants as kind
 use Rattle.image_model.specs.CallNames as call
-use Rattle.osek_standard.specs.declared.state.{State.{State}, Processor.{Processor}, Caller.{Caller}, Caller.TheVariants.{Nobody, Task, Routine}}
+use Rattle.osek_standard.specs.declared.state.{State.{State}, Processor.{Processor}, Caller.{Caller, TheVariants.{Nobody, Task, Routine}}}
 use Rattle.osek_standard.specs.declared.state.Processor.TheVariants as processor
-use Rattle.osek_standard.specs.declared.task_state.Place.{Place}
-use Rattle.osek_standard.specs.Apps.{the_block, is_cycle, is_extended, is_routine_end, is_site, is_task_block, max_of, may_dispatch}
-use Rattle.osek_standard.specs.TaskStates.{is_suspended}
-use Rattle.osek_standard.specs.States.{alarm_state, caller, here, is_taken, task_state}
-use Rattle.osek_standard.specs.Priority.{base_priority, ceiling}
+use Rattle.osek_standard.specs.{declared.task_state.Place.{Place}, Apps.{the_block, is_cycle, is_extended, is_routine_end, is_site, is_task_block, max_of, may_dispatch}}
+use Rattle.osek_standard.specs.{TaskStates.{is_suspended}, States.{alarm_state, caller, here, is_taken, task_state}, Priority.{base_priority, ceiling}}
 use Rattle.osek_standard.specs.Services.{Answer, cancel_alarm, clear_event, due, expire, get_alarm, get_event, get_resource, get_resource_by, is_due_at, is_idle, set_abs_alarm, set_rel_alarm, time_left, value_of, wait_event}
-use Rattle.osek_standard.specs.Effects.{asked_by, called, effect, effect_at, effect_by, end_task, goes_on_unless_left, moved_to}
-use Rattle.osek_standard.specs.Well.{Well, InOwner, IsActive, IsProcessor}
-use Rattle.osek_standard.proofs.BoolLaws.{either_way}
-use Rattle.osek_standard.proofs.Keeps.{here_own}
+use Rattle.osek_standard.specs.{Effects.{asked_by, called, effect, effect_at, effect_by, end_task, goes_on_unless_left, moved_to}, Well.{Well, InOwner, IsActive, IsProcessor}}
+use Rattle.osek_standard.proofs.{BoolLaws.{either_way}, Keeps.{here_own}}
 use Rattle.image_run.proofs.Apart.{own_is_task_block}
 
 abbrev AsksNo : Answer → Type 0

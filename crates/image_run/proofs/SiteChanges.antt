@@ -1,21 +1,16 @@
 -- An instruction at a site leaves the mode, the counters, the alarms and the latches as they are.
 use Rattle.std.proofs.Common.{◌≡◌, ℕ, Bool, true, false, List, refl, ◌∙◌, Some, None, not, ◌||◌, ◌&&◌, nat_lt, nat_eq}
-use Rattle.std.specs.Prelude.{if◌then◌else◌}
-use Rattle.std.specs.declared.option.Option.{Option}
+use Rattle.std.specs.{Prelude.{if◌then◌else◌}, declared.option.Option.{Option}}
 use Rattle.osek_values.specs.declared.numbers.{BlockNo.{BlockNo}, ModeNo.{ModeNo}, ResNo.{ResNo}, TaskNo.{TaskNo}}
-use Rattle.osek_standard.specs.declared.app.App.{App}
-use Rattle.osek_standard.specs.declared.block.{Block.{Block}, Kind.{Kind}}
+use Rattle.osek_standard.specs.declared.{app.App.{App}, block.{Block.{Block}, Kind.{Kind}}}
 use Rattle.osek_standard.specs.declared.block.Kind.TheVariants as kind
 use Rattle.image_model.specs.CallNames as call
 use Rattle.osek_standard.specs.declared.call.Call.{Call}
-use Rattle.osek_standard.specs.declared.state.{State.{State}, AlarmState.{AlarmState}, Processor.{Processor}, Caller.{Caller}, Caller.TheVariants.{Nobody, Task, Routine}}
+use Rattle.osek_standard.specs.declared.state.{State.{State}, AlarmState.{AlarmState}, Processor.{Processor}, Caller.{Caller, TheVariants.{Nobody, Task, Routine}}}
 use Rattle.osek_standard.specs.declared.state.Source.TheVariants as source
 use Rattle.osek_standard.specs.declared.state.Processor.TheVariants as processor
-use Rattle.osek_standard.specs.declared.task_state.Place.{Place}
-use Rattle.osek_standard.specs.Apps.{call_may_dispatch, is_extended, is_routine_end, is_site, is_task_block, may_dispatch, the_block}
-use Rattle.osek_standard.specs.TaskStates.{held, is_suspended}
-use Rattle.osek_standard.specs.States.{caller, here, task_state, with_source}
-use Rattle.osek_standard.specs.Priority.{base_priority, ceiling}
+use Rattle.osek_standard.specs.{declared.task_state.Place.{Place}, Apps.{call_may_dispatch, is_extended, is_routine_end, is_site, is_task_block, may_dispatch, the_block}}
+use Rattle.osek_standard.specs.{TaskStates.{held, is_suspended}, States.{caller, here, task_state, with_source}, Priority.{base_priority, ceiling}}
 use Rattle.osek_standard.specs.Services.{Answer, activate_task, chain_task, holds_some, is_full, is_on_top, release_resource, release_resource_by, schedule, set_event, share, terminate_task, wait_event, waits_for}
 use Rattle.osek_standard.specs.Effects.{called, effect, effect_at, effect_by, end_task, given_back, goes_on_unless_left, moved_by, moved_to, place_at, returned_by, row}
 use Rattle.osek_standard.proofs.BoolLaws.{either_way}

@@ -1,27 +1,19 @@
 -- After the effect of a site no routine runs.
 use Rattle.std.proofs.Common.{◌≡◌, ℕ, ◌+◌, ◌<◌, Bool, true, false, List, refl, sym, ◌∙◌, ap, subst, inl, inr, Some, None, not, nat_lt, slice_index_or}
-use Rattle.std.specs.Prelude.{⊤, if◌then◌else◌}
-use Rattle.std.specs.declared.option.Option.{Option}
+use Rattle.std.specs.{Prelude.{⊤, if◌then◌else◌}, declared.option.Option.{Option}}
 use Rattle.std.proofs.lemmas.Bool.{cases_Bool}
 use Rattle.osek_values.specs.declared.numbers.{TaskNo.{TaskNo}, BlockNo.{BlockNo}}
-use Rattle.osek_standard.specs.declared.app.App.{App}
-use Rattle.osek_standard.specs.declared.block.{Block.{Block}, Kind.{Kind}}
+use Rattle.osek_standard.specs.declared.{app.App.{App}, block.{Block.{Block}, Kind.{Kind}}}
 use Rattle.osek_standard.specs.declared.block.Kind.TheVariants as kind
 use Rattle.image_model.specs.CallNames as call
-use Rattle.osek_standard.specs.declared.state.{State.{State}, Source.{Source}, Processor.{Processor}, Caller.{Caller}, Caller.TheVariants.{Nobody, Task, Routine}}
+use Rattle.osek_standard.specs.declared.state.{State.{State}, Source.{Source}, Processor.{Processor}, Caller.{Caller, TheVariants.{Nobody, Task, Routine}}}
 use Rattle.osek_standard.specs.declared.state.Source.TheVariants as source
 use Rattle.osek_standard.specs.declared.state.Processor.TheVariants as processor
-use Rattle.osek_standard.specs.declared.task_state.Place.{Place}
-use Rattle.osek_standard.specs.Apps.{the_block, is_extended, is_routine_end, is_site, is_task_block, may_dispatch, source_count}
-use Rattle.osek_standard.specs.States.{caller, here, task_state, with_source}
-use Rattle.osek_standard.specs.Services.{Answer, holds_some, share, wait_event}
+use Rattle.osek_standard.specs.{declared.task_state.Place.{Place}, Apps.{the_block, is_extended, is_routine_end, is_site, is_task_block, may_dispatch, source_count}}
+use Rattle.osek_standard.specs.{States.{caller, here, task_state, with_source}, Services.{Answer, holds_some, share, wait_event}}
 use Rattle.osek_standard.specs.Effects.{effect, effect_at, effect_by, end_task, given_back, goes_on_unless_left, halted_by, moved_by, moved_to, place_at, returned_by}
 use Rattle.osek_standard.specs.Well.{Well, AreOut, InOwner, IsActive, IsOfRoutine, IsProcessor}
-use Rattle.osek_standard.proofs.BoolLaws.{either_way}
-use Rattle.osek_standard.proofs.Callers.{moved_processor}
-use Rattle.osek_standard.proofs.Keeps.{here_own}
-use Rattle.osek_standard.proofs.SourceLaws.{called_leaves}
-use Rattle.osek_standard.proofs.RoutineKeeps.{ended_out}
+use Rattle.osek_standard.proofs.{BoolLaws.{either_way}, Callers.{moved_processor}, Keeps.{here_own}, SourceLaws.{called_leaves}, RoutineKeeps.{ended_out}}
 use Rattle.image_run.proofs.Apart.{routine_is_no_task_block}
 
 -- a task has the processor

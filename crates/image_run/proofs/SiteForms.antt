@@ -1,14 +1,9 @@
 -- What the site at a block says of the effect there.
 use Rattle.std.proofs.Common.{Bool, IfSome, None, Some, arith, false, get_or-set_other, get_or-set_same, inl, inr, length, refl, slice_index_or, slice_set, subst, sym, true, ℕ, ◌<◌, ◌∙◌, ◌≡◌}
-use Rattle.std.proofs.Math.ListN.{length-set}
-use Rattle.std.proofs.lemmas.Bool.{cases_eq}
+use Rattle.std.proofs.{Math.ListN.{length-set}, lemmas.Bool.{cases_eq}}
 use Rattle.std.specs.declared.option.Option.{Option}
-use Rattle.osek_standard.specs.declared.app.App.{App}
-use Rattle.osek_standard.specs.Apps.{is_site}
-use Rattle.image_model.specs.declared.site.Site.{Site}
-use Rattle.image_model.specs.declared.image.Image.{Image}
-use Rattle.image_model.specs.Sites.{AreSites, IsForm, IsSiteAt}
-use Rattle.image_model.specs.ImageStep.{site_at}
+use Rattle.osek_standard.specs.{declared.app.App.{App}, Apps.{is_site}}
+use Rattle.image_model.specs.{declared.{site.Site.{Site}, image.Image.{Image}}, Sites.{AreSites, IsForm, IsSiteAt}, ImageStep.{site_at}}
 
 -- a block with a site is one
 site_of : (app : App) (is : Bool) (x : Option Site) → IsSiteAt app is x → IfSome x (λ (y : Site). is ≡ true)

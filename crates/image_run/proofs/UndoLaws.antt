@@ -1,31 +1,21 @@
 -- What an instruction at a site changed, put back, is the state as it was.
 use Rattle.std.proofs.Common.{◌≡◌, ℕ, ◌<◌, Bool, true, false, List, length, refl, sym, ◌∙◌, ap, subst, inl, inr, arith, Some, None, slice_index_or, slice_set, get_or-set_same, get_or-set_other}
-use Rattle.std.proofs.Math.ListN.{length-set}
-use Rattle.std.proofs.lemmas.Bool.{cases_Bool}
-use Rattle.std.proofs.lemmas.Bool.Decides.{nat_tests}
-use Rattle.std.proofs.lemmas.List.{ext_get_or, set-get_or, set-set}
+use Rattle.std.proofs.{Math.ListN.{length-set}, lemmas.{Bool.{cases_Bool, Decides.{nat_tests}}, List.{ext_get_or, set-get_or, set-set}}}
 use Rattle.std.specs.declared.option.Option.{Option}
 use Rattle.osek_values.specs.declared.numbers.{ModeNo.{ModeNo}, TaskNo.{TaskNo}}
-use Rattle.osek_standard.specs.declared.app.App.{App}
-use Rattle.osek_standard.specs.declared.block.Kind.{Kind}
+use Rattle.osek_standard.specs.declared.{app.App.{App}, block.Kind.{Kind}}
 use Rattle.osek_standard.specs.declared.block.Kind.TheVariants as kind
 use Rattle.osek_standard.specs.declared.state.{State.{State}, AlarmState.{AlarmState}, Source.{Source}, Processor.{Processor}}
 use Rattle.osek_standard.specs.declared.state.Source.TheVariants as source
 use Rattle.osek_standard.specs.declared.state.Processor.TheVariants as processor
-use Rattle.osek_standard.specs.declared.task_state.TaskState.{TaskState}
-use Rattle.osek_standard.specs.Apps.{is_site, the_block}
-use Rattle.osek_standard.specs.TaskStates.{suspended}
-use Rattle.osek_standard.specs.States.{here, is_that_task, source_state, task_of, task_state, with_source}
-use Rattle.osek_standard.specs.Effects.{effect, effect_at, effect_by, given_back, returned_by}
+use Rattle.osek_standard.specs.{declared.task_state.TaskState.{TaskState}, Apps.{is_site, the_block}, TaskStates.{suspended}}
+use Rattle.osek_standard.specs.{States.{here, is_that_task, source_state, task_of, task_state, with_source}, Effects.{effect, effect_at, effect_by, given_back, returned_by}}
 use Rattle.osek_standard.specs.Well.{Well, InOwner, IsActive, IsProcessor}
-use Rattle.osek_standard.proofs.EffectKeeps.{effect_keeps}
-use Rattle.osek_standard.proofs.Keeps.{here_own}
+use Rattle.osek_standard.proofs.{EffectKeeps.{effect_keeps}, Keeps.{here_own}}
 use Rattle.generic_kernel.specs.Changes.{ChangesOnly, named_here}
 use Rattle.generic_kernel.proofs.TaskLaws.{effect_changes_own}
-use Rattle.image_run.specs.declared.before.OldTask.{OldTask}
-use Rattle.image_run.specs.Befores.{before, old_task, put_back, source_by, with_old_source, with_old_task}
-use Rattle.image_run.proofs.SiteEffects.{TaskRuns, routine_site, task_leaves}
-use Rattle.image_run.proofs.SiteChanges.{rest, site_keeps_rest}
+use Rattle.image_run.specs.{declared.before.OldTask.{OldTask}, Befores.{before, old_task, put_back, source_by, with_old_source, with_old_task}}
+use Rattle.image_run.proofs.{SiteEffects.{TaskRuns, routine_site, task_leaves}, SiteChanges.{rest, site_keeps_rest}}
 
 abbrev state_of : ModeNo → Processor → List TaskState → List ℕ → List AlarmState → List Source → List Bool → State
 state_of m p t c a s l = record { mode = m; processor = p; tasks = t; counters = c; alarms = a; sources = s; latched = l }

@@ -1,15 +1,10 @@
 -- What an instruction may change at a site, as it was, and the state with these parts put back.
-use Rattle.std.specs.Prelude.{⊤, ◌≡◌, ℕ, ◌<◌, Bool, true, Some, None}
-use Rattle.std.specs.declared.option.Option.{Option}
+use Rattle.std.specs.{Prelude.{⊤, ◌≡◌, ℕ, ◌<◌, Bool, true, Some, None}, declared.option.Option.{Option}}
 use Rattle.osek_values.specs.declared.numbers.TaskNo.{TaskNo}
-use Rattle.osek_standard.specs.declared.app.App.{App}
-use Rattle.osek_standard.specs.declared.state.{State.{State}, Source.{Source}, Processor.{Processor}}
+use Rattle.osek_standard.specs.declared.{app.App.{App}, state.{State.{State}, Source.{Source}, Processor.{Processor}}}
 use Rattle.osek_standard.specs.declared.state.Source.TheVariants as source
 use Rattle.osek_standard.specs.declared.state.Processor.TheVariants as processor
-use Rattle.osek_standard.specs.Apps.{is_site}
-use Rattle.osek_standard.specs.Effects.{effect}
-use Rattle.osek_standard.specs.Well.{Well, IsActive}
-use Rattle.osek_standard.specs.States.{here, source_state, task_of, task_state, with_processor, with_source, with_task}
+use Rattle.osek_standard.specs.{Apps.{is_site}, Effects.{effect}, Well.{Well, IsActive}, States.{here, source_state, task_of, task_state, with_processor, with_source, with_task}}
 use Rattle.image_model.specs.declared.image.Image.{Image}
 use Rattle.generic_kernel.specs.Changes.{named_here}
 use Rattle.image_run.specs.declared.before.{Before.{Before}, OldTask.{OldTask}}

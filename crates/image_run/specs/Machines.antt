@@ -1,14 +1,8 @@
 -- A machine at work, and what an event makes of it.
-use Rattle.std.specs.Prelude.{ℕ, List, Bool, true, Option, Some, None, Ok, Err, refl, if◌then◌else◌}
-use Rattle.std.specs.Coded.{Coded, code_by, coded×, coded_bool}
-use Rattle.std.specs.declared.result.Result.{Result}
-use Rattle.osek_values.specs.declared.event.Event.{Event}
-use Rattle.osek_values.specs.declared.notes.Notes.{Notes}
-use Rattle.osek_standard.specs.declared.state.State.{State}
-use Rattle.osek_standard.specs.Dispatch.{Stepped}
-use Rattle.osek_standard.specs.Well.{Well}
-use Rattle.image_model.specs.declared.image.Image.{Image}
-use Rattle.image_model.specs.contracts.image.Image.{the_row as image_row}
+use Rattle.std.specs.{Prelude.{ℕ, List, Bool, true, Option, Some, None, Ok, Err, refl, if◌then◌else◌}, Coded.{Coded, code_by, coded×, coded_bool}, declared.result.Result.{Result}}
+use Rattle.osek_values.specs.declared.{event.Event.{Event}, notes.Notes.{Notes}}
+use Rattle.osek_standard.specs.{declared.state.State.{State}, Dispatch.{Stepped}, Well.{Well}}
+use Rattle.image_model.specs.{declared.image.Image.{Image}, contracts.image.Image.{the_row as image_row}}
 use Rattle.osek_standard.specs.contracts.state.State.{the_row as state_row}
 use Rattle.generic_kernel.specs.Levels.{IsReady}
 use Rattle.image_model.specs.ImageStep.{image_step}

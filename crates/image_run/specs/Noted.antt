@@ -1,8 +1,6 @@
 -- What a step noted, told apart from a trap.
-use Rattle.std.specs.Prelude.{Bool, true, false, Some, None}
-use Rattle.std.specs.declared.option.Option.{Option}
-use Rattle.osek_values.specs.declared.hooks.HookSet.{HookSet}
-use Rattle.osek_values.specs.declared.notes.Notes.{Notes}
+use Rattle.std.specs.{Prelude.{Bool, true, false, Some, None}, declared.option.Option.{Option}}
+use Rattle.osek_values.specs.declared.{hooks.HookSet.{HookSet}, notes.Notes.{Notes}}
 
 -- hooks alone
 abbrev pub hooks_noted : HookSet → Notes

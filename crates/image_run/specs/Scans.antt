@@ -1,13 +1,11 @@
 -- Where a machine compares priorities.
 use Rattle.std.specs.Prelude.{ℕ, length, Bool, Option, Some, None, if◌then◌else◌}
 use Rattle.osek_values.specs.declared.event.Event.{Event}
-use Rattle.osek_standard.specs.declared.state.State.{State}
-use Rattle.osek_standard.specs.States.{here}
+use Rattle.osek_standard.specs.{declared.state.State.{State}, States.{here}}
 use Rattle.generic_kernel.specs.Moves.{instruction_due}
 use Rattle.image_model.specs.declared.site.Form.{Form}
 use Rattle.image_model.specs.declared.site.Form.TheVariants as form
-use Rattle.image_model.specs.declared.image.Image.{Image}
-use Rattle.image_model.specs.ImageStep.{form_at}
+use Rattle.image_model.specs.{declared.image.Image.{Image}, ImageStep.{form_at}}
 use Rattle.image_run.specs.Machines.{AtWork}
 
 -- at a site of the general form at most one comparison for each task, and elsewhere none

@@ -1,7 +1,6 @@
 //! What an instruction may change at a site, kept so that a trap leaves the state as it was.
 ghost use Rattle.std.specs.Prelude.{◌≡◌, ◌<◌, length, IfSome};
-ghost use Rattle.osek_standard.specs.States.{task_of};
-ghost use Rattle.osek_standard.specs.Well.{Well, IsActive};
+ghost use Rattle.osek_standard.specs.{States.{task_of}, Well.{Well, IsActive}};
 ghost use Rattle.generic_kernel.specs.Changes.{named_here as named_here_of};
 ghost use Rattle.image_run.specs.Befores.{before, old_task, put_back, source_by, task_in, with_old_source, with_old_task, IsKnownTask, IsKnownSource};
 

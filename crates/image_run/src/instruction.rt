@@ -1,18 +1,11 @@
 //! One instruction of an image.
 ghost use Rattle.std.specs.Prelude.{◌≡◌, true, false, ◌≢◌, ◌+◌, ◌≤◌, length, Option, Some, None, IfSome, IfNone, option_map};
-ghost use Rattle.osek_standard.specs.States.{here as here_of};
-ghost use Rattle.osek_standard.specs.Effects.{effected, effect as effect_of};
-ghost use Rattle.osek_standard.specs.Dispatch.{concluded, nothing_noted, outcome_by, stepped, with_hooks as with_hooks_of};
-ghost use Rattle.osek_standard.specs.Well.{Well, AreOut, IsActive};
-ghost use Rattle.osek_standard.specs.Apps.{IsDeclared};
-ghost use Rattle.generic_kernel.specs.Levels.{IsReady};
-ghost use Rattle.generic_kernel.specs.Moves.{MayDispatch, instruction_due};
+ghost use Rattle.osek_standard.specs.{States.{here as here_of}, Effects.{effected, effect as effect_of}};
+ghost use Rattle.osek_standard.specs.{Dispatch.{concluded, nothing_noted, outcome_by, stepped, with_hooks as with_hooks_of}, Well.{Well, AreOut, IsActive}, Apps.{IsDeclared}};
+ghost use Rattle.generic_kernel.specs.{Levels.{IsReady}, Moves.{MayDispatch, instruction_due}};
 ghost use Rattle.image_model.specs.declared.site.Form.TheVariants as form;
-ghost use Rattle.image_model.specs.Sites.{IsForm};
-ghost use Rattle.image_model.specs.ImageStep.{form_at, formed_by, formed_at, instructed, image_step as image_step_of, site_at as site_at_of};
-ghost use Rattle.image_run.specs.Befores.{put_back, IsAfter};
-ghost use Rattle.image_run.specs.Noted.{hooks_noted, noted_if};
-ghost use Rattle.image_run.specs.Scans.{scans_at, scans_due};
+ghost use Rattle.image_model.specs.{Sites.{IsForm}, ImageStep.{form_at, formed_by, formed_at, instructed, image_step as image_step_of, site_at as site_at_of}};
+ghost use Rattle.image_run.specs.{Befores.{put_back, IsAfter}, Noted.{hooks_noted, noted_if}, Scans.{scans_at, scans_due}};
 
 use crate::before::{Before, task_of};
 use generic_kernel::{

@@ -1,12 +1,7 @@
 //! The machine.
 ghost use Rattle.std.specs.Prelude.{◌≡◌, ◌+◌, ◌<◌, ◌≤◌, length, false, IfOk};
-ghost use Rattle.osek_standard.specs.Dispatch.{stepped};
-ghost use Rattle.osek_standard.specs.Kernel.{start as start_of};
-ghost use Rattle.osek_standard.specs.Well.{Well};
-ghost use Rattle.osek_standard.specs.Apps.{IsDeclared};
-ghost use Rattle.image_run.specs.Machines.{at_work, turn, turned, noted};
-ghost use Rattle.image_run.specs.Noted.{noted_if};
-ghost use Rattle.image_run.specs.Scans.{most_scans};
+ghost use Rattle.osek_standard.specs.{Dispatch.{stepped}, Kernel.{start as start_of}, Well.{Well}, Apps.{IsDeclared}};
+ghost use Rattle.image_run.specs.{Machines.{at_work, turn, turned, noted}, Noted.{noted_if}, Scans.{most_scans}};
 
 use crate::instruction::image_step;
 use crate::trap::Trap;

@@ -1,9 +1,7 @@
 -- How large the application of the tests is, and its state.
 use Rattle.std.specs.Prelude.{◌≡◌, false, [], ◌∷◌, length}
 use Rattle.osek_values.specs.Numbers.{mode_no}
-use Rattle.osek_standard.specs.declared.app.App.{App}
-use Rattle.osek_standard.specs.declared.state.{State.{State}, Source.TheVariants.{Out}, Processor.TheVariants.{Idle}}
-use Rattle.osek_standard.specs.TaskStates.{suspended}
+use Rattle.osek_standard.specs.{declared.{app.App.{App}, state.{State.{State}, Source.TheVariants.{Out}, Processor.TheVariants.{Idle}}}, TaskStates.{suspended}}
 
 -- one task, ISR, counter and mode, and no alarm
 pub record IsOfSampleSize (app : App) : Type 0 where

@@ -1,6 +1,5 @@
 //! Lines of a small application: an extended task, an ISR and a counter.
-ghost use Rattle.std.specs.Prelude.{◌≡◌, IfOk};
-ghost use Rattle.std.specs.Bool.{OnTrue};
+ghost use Rattle.std.specs.{Prelude.{◌≡◌, IfOk}, Bool.{OnTrue}};
 ghost use Rattle.osek_standard.specs.Well.{Well};
 ghost use Rattle.kernel_cases.specs.Sample.{IsOfSampleSize, sample_state};
 

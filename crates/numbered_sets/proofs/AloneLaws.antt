@@ -1,26 +1,14 @@
 -- Tests for one value, by the set of its number.
 use Rattle.std.proofs.Common.{◌≡◌, ℕ, ◌^◌, Bool, true, false, ◌||◌, List, get_or, sym, ap, ap₂, ◌∙◌, inl, inr, arith}
-use Rattle.std.specs.Prelude.{Option, Some, None, is_some, IfSome, IfNone, position}
-use Rattle.std.specs.List.{list_any, IsDistinct}
-use Rattle.std.proofs.lemmas.Bool.{cases_Bool, cases_eq, eq-eqb, ne_eqb}
-use Rattle.std.proofs.Math.ListN.{get_or-map}
-use Rattle.std.proofs.lemmas.List.{get_or_default, length-map}
-use Rattle.std.proofs.lemmas.List.Folds.{list_any_at}
+use Rattle.std.specs.{Prelude.{Option, Some, None, is_some, IfSome, IfNone, position}, List.{list_any, IsDistinct}}
+use Rattle.std.proofs.{lemmas.{Bool.{cases_Bool, cases_eq, eq-eqb, ne_eqb}, List.{get_or_default, length-map, Folds.{list_any_at}}}, Math.ListN.{get_or-map}}
 use Rattle.std.proofs.lemmas.List.Quantifiers.{position-Some}
 use Rattle.bit_words.proofs.BitCounts.{has_either, has_one}
 use Rattle.osek_values.specs.Bits.{has_bit}
-use Rattle.abstract_state.specs.declared.value.{Domain.{Domain}, PartValue.{PartValue}}
-use Rattle.abstract_state.specs.ValueOrder.{same_part}
+use Rattle.abstract_state.specs.{declared.value.{Domain.{Domain}, PartValue.{PartValue}}, ValueOrder.{same_part}}
 use Rattle.abstract_state.proofs.OrderLaws.{part_itself, part_right}
-use Rattle.numbered_sets.specs.declared.seen.Seen.{Seen}
-use Rattle.numbered_sets.specs.SeenLaws.{same_seen}
-use Rattle.numbered_sets.specs.Filters.{seen_values, IsNumberAlone}
-use Rattle.numbered_sets.specs.Numbers.{numbers, with_number}
-use Rattle.numbered_sets.specs.Pools.{IsNumberOf}
-use Rattle.numbered_sets.proofs.PlainLaws.{has_value, value_with_number}
-use Rattle.numbered_sets.proofs.PoolLaws.{any_seen}
-use Rattle.numbered_sets.proofs.ViewLaws.{false_unless}
-use Rattle.numbered_sets.proofs.KnownNumbers.{no_bit_of_none, one_number, found}
+use Rattle.numbered_sets.specs.{declared.seen.Seen.{Seen}, SeenLaws.{same_seen}, Filters.{seen_values, IsNumberAlone}, Numbers.{numbers, with_number}, Pools.{IsNumberOf}}
+use Rattle.numbered_sets.proofs.{PlainLaws.{has_value, value_with_number}, PoolLaws.{any_seen}, ViewLaws.{false_unless}, KnownNumbers.{no_bit_of_none, one_number, found}}
 
 no_bit : (n : ℕ) → has_bit 0 n ≡ false
 no_bit n = false_unless (has_bit 0 n) ⊥ (no_bit_of_none n) (λ no. no)

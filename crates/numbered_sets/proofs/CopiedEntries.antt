@@ -1,9 +1,6 @@
 -- The domains of a list of sets, of which one becomes another.
-use Rattle.std.proofs.Common.{◌≡◌, ℕ, ◌<◌, List, length, get_or, set, map, sym, ap, ◌∙◌, inl, inr, get_or-set_same, get_or-set_other}
-use Rattle.std.proofs.lemmas.Bool.{cases_eq}
-use Rattle.std.proofs.lemmas.List.{length-set}
-use Rattle.numbered_sets.specs.Numbers.{Numbers}
-use Rattle.numbered_sets.specs.NumberedEntries.{no_set}
+use Rattle.std.proofs.{Common.{◌≡◌, ℕ, ◌<◌, List, length, get_or, set, map, sym, ap, ◌∙◌, inl, inr, get_or-set_same, get_or-set_other}, lemmas.{Bool.{cases_eq}, List.{length-set}}}
+use Rattle.numbered_sets.specs.{Numbers.{Numbers}, NumberedEntries.{no_set}}
 use Rattle.numbered_sets.proofs.NumberLattice.{same_domains}
 
 -- a set of the same domain in the place of another

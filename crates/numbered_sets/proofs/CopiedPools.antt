@@ -1,11 +1,8 @@
 -- Values that come into another pool one after another, under the numbers that they have.
 use Rattle.std.proofs.Common.{◌≡◌, ℕ, ◌+◌, ◌<◌, false, List, [], ◌∷◌, ◌++◌, length, get_or, take, cond, sym, ap, ◌∙◌, inl, inr, arith}
 use Rattle.std.specs.List.{list_any, IsDistinct}
-use Rattle.std.proofs.lemmas.Bool.{cases_Bool}
-use Rattle.std.proofs.lemmas.List.{take_more, get_or-take, length-take-le}
-use Rattle.std.proofs.lemmas.Map.Views.{Contains-from_any}
-use Rattle.abstract_state.specs.declared.value.PartValue.{PartValue}
-use Rattle.abstract_state.specs.ValueOrder.{same_part}
+use Rattle.std.proofs.lemmas.{Bool.{cases_Bool}, List.{take_more, get_or-take, length-take-le}, Map.Views.{Contains-from_any}}
+use Rattle.abstract_state.specs.{declared.value.PartValue.{PartValue}, ValueOrder.{same_part}}
 use Rattle.abstract_state.proofs.OrderLaws.{part_right}
 use Rattle.numbered_sets.specs.Pools.{with_value}
 use Rattle.numbered_sets.proofs.KnownNumbers.{apart_values}

@@ -1,21 +1,13 @@
 -- Numbers are counted, one after another.
 use Rattle.std.proofs.Common.{◌≡◌, ℕ, zero, suc, ◌+◌, ◌-◌, ◌<◌, ◌≤◌, ◌^◌, Bool, true, false, cond, List, [], ◌∷◌, length, get_or, take, sum_by, All, refl, sym, ap, ◌∙◌, arith}
-use Rattle.std.specs.Prelude.{filter}
-use Rattle.std.specs.List.{range_with_len}
-use Rattle.std.proofs.lemmas.List.{take_more}
-use Rattle.std.proofs.lemmas.List.Sums.{sum_by-cons, sum_by_push}
-use Rattle.bit_words.proofs.BitCounts.{ones_below}
-use Rattle.bit_words.proofs.Counting.{passing_past, passing_up}
+use Rattle.std.specs.{Prelude.{filter}, List.{range_with_len}}
+use Rattle.std.proofs.lemmas.List.{take_more, Sums.{sum_by-cons, sum_by_push}}
+use Rattle.bit_words.proofs.{BitCounts.{ones_below}, Counting.{passing_past, passing_up}}
 use Rattle.osek_values.specs.Bits.{has_bit, passing_below}
-use Rattle.abstract_state.specs.declared.table.TableRow.{TableRow}
-use Rattle.abstract_state.specs.Tables.{entry_values, value_count}
-use Rattle.numbered_sets.specs.Numbers.{Numbers, has_number, number_count}
-use Rattle.numbered_sets.specs.NumberedEntries.{entry_numbers}
-use Rattle.numbered_sets.specs.Pools.{Values, AreValues}
+use Rattle.abstract_state.specs.{declared.table.TableRow.{TableRow}, Tables.{entry_values, value_count}}
+use Rattle.numbered_sets.specs.{Numbers.{Numbers, has_number, number_count}, NumberedEntries.{entry_numbers}, Pools.{Values, AreValues}}
 use Rattle.numbered_sets.proofs.ViewLaws.{below_power, false_unless, same_count}
-use Rattle.numbered_sets.specs.declared.table.NumberedRow.{NumberedRow}
-use Rattle.numbered_sets.specs.PlainTables.{plain_row, plain_rows, plain_table, AreRowsOf}
-use Rattle.numbered_sets.specs.Counts.{AreNumbersBelow, row_numbers}
+use Rattle.numbered_sets.specs.{declared.table.NumberedRow.{NumberedRow}, PlainTables.{plain_row, plain_rows, plain_table, AreRowsOf}, Counts.{AreNumbersBelow, row_numbers}}
 use Rattle.numbered_sets.proofs.GrownPools.{rows_of_tail}
 
 -- the numbers below a bound are all that there are

@@ -1,23 +1,14 @@
 -- Flat words as sets of numbers: the set of each component, how many numbers there are, and what writes to the words do.
 use Rattle.std.proofs.Common.{◌≡◌, ◌≢◌, ℕ, zero, suc, ◌+◌, ◌^◌, ◌<◌, ◌≤◌, List, [], ◌∷◌, length, get_or, set, map, drop, replicate, refl, sym, ap, ap₂, subst, ◌∙◌, inl, inr, arith, get_or-set_same, get_or-set_other}
-use Rattle.std.specs.Prelude.{bit_or, count_ones}
-use Rattle.std.specs.Global.{Vec}
-use Rattle.std.proofs.Math.ListN.{get_or-eq_default}
-use Rattle.std.proofs.lemmas.Bool.{cases_eq, cases_lt}
+use Rattle.std.specs.{Prelude.{bit_or, count_ones}, Global.{Vec}}
+use Rattle.std.proofs.{Math.ListN.{get_or-eq_default}, lemmas.Bool.{cases_eq, cases_lt}}
 use Rattle.std.specs.Vec.{with_items}
-use Rattle.std.proofs.lemmas.List.{length-set, set-get_or, with_items_is}
-use Rattle.std.proofs.lemmas.List.Sums.{sum_by-cons}
-use Rattle.std.proofs.lemmas.List.Elements.{All-head, All-tail, All-from_get_or}
-use Rattle.std.proofs.lemmas.Nat.{or_lt, ones_le_self}
-use Rattle.bit_words.specs.Words.{bits_of_words, AreWords}
-use Rattle.bit_words.specs.Further.{further_at, further_bits, further_count}
-use Rattle.bit_words.proofs.WordLaws.{small_at}
-use Rattle.bit_words.proofs.FirstWords.{word_first, same_further, ones_first, ones_of_two, either_two, none_first, bits_of_none}
+use Rattle.std.proofs.lemmas.{List.{length-set, set-get_or, with_items_is, Sums.{sum_by-cons}, Elements.{All-head, All-tail, All-from_get_or}}, Nat.{or_lt, ones_le_self}}
+use Rattle.bit_words.specs.{Words.{bits_of_words, AreWords}, Further.{further_at, further_bits, further_count}}
+use Rattle.bit_words.proofs.{WordLaws.{small_at}, FirstWords.{word_first, same_further, ones_first, ones_of_two, either_two, none_first, bits_of_none}}
 use Rattle.abstract_state.specs.declared.value.Domain.{Domain}
 use Rattle.abstract_state.specs.declared.value.Domain.TheVariants as domain
-use Rattle.numbered_sets.specs.Numbers.{Numbers, numbers, joined_numbers, number_count}
-use Rattle.numbered_sets.specs.SetLists.{set_of, all_numbers, AreJoined}
-use Rattle.numbered_sets.specs.FlatSets.{words_at, flat_sets}
+use Rattle.numbered_sets.specs.{Numbers.{Numbers, numbers, joined_numbers, number_count}, SetLists.{set_of, all_numbers, AreJoined}, FlatSets.{words_at, flat_sets}}
 use Rattle.numbered_sets.proofs.NumberLattice.{same_sets}
 
 pub flat_length : (ds : List Domain) (low high : List ℕ) (more : List (Vec ℕ)) → length (flat_sets ds low high more) ≡ length ds

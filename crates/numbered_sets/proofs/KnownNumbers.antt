@@ -1,29 +1,16 @@
 -- Numbers of values: they stay so, and the order of sets of them is that of the sets of their values.
 use Rattle.std.proofs.Common.{◌≡◌, ℕ, zero, suc, ◌/◌, ◌^◌, ◌<◌, ◌≤◌, Bool, true, false, ◌&&◌, List, [], ◌∷◌, length, get_or, sym, ap, ap₂, subst, ◌∙◌, inl, inr, arith}
-use Rattle.std.specs.Prelude.{◌==◌}
-use Rattle.std.specs.Int.{bit_at}
-use Rattle.std.specs.List.{All, IsDistinct}
-use Rattle.std.proofs.Math.Nat.{pow-suc}
-use Rattle.std.proofs.lemmas.Bool.{cases_lt, or_cases, or_left, or_right, and_parts}
-use Rattle.std.proofs.lemmas.List.{get_or_default}
-use Rattle.std.proofs.lemmas.List.Elements.{All-from_get_or}
-use Rattle.std.proofs.lemmas.Map.Keys.{apart_from_distinct}
-use Rattle.std.proofs.lemmas.Nat.Bits.{bit_at-suc, bit_at-zero, bit_at-lt, same_from_bits}
+use Rattle.std.specs.{Prelude.{◌==◌}, Int.{bit_at}, List.{All, IsDistinct}}
+use Rattle.std.proofs.{Math.Nat.{pow-suc}, lemmas.{Bool.{cases_lt, or_cases, or_left, or_right, and_parts}, List.{get_or_default, Elements.{All-from_get_or}}}}
+use Rattle.std.proofs.lemmas.{Map.Keys.{apart_from_distinct}, Nat.Bits.{bit_at-suc, bit_at-zero, bit_at-lt, same_from_bits}}
 use Rattle.osek_values.specs.Bits.{has_bit}
-use Rattle.abstract_state.specs.declared.value.{PartValue.{PartValue}, PartValue.TheVariants.{OfAlarm}}
-use Rattle.abstract_state.specs.declared.table.ValueSet.{ValueSet}
-use Rattle.abstract_state.specs.ValueOrder.{same_part}
-use Rattle.abstract_state.specs.Domains.{IsBelow, domain_size}
+use Rattle.abstract_state.specs.{declared.{value.PartValue.{PartValue, TheVariants.{OfAlarm}}, table.ValueSet.{ValueSet}}, ValueOrder.{same_part}, Domains.{IsBelow, domain_size}}
 use Rattle.abstract_state.specs.Tables.{set_at, is_member}
 use Rattle.abstract_state.proofs.OrderLaws.{part_itself, part_right}
-use Rattle.numbered_sets.specs.declared.numbered_entry.NumberedEntry.{NumberedEntry}
-use Rattle.numbered_sets.specs.Numbers.{has_number, AreSound}
-use Rattle.numbered_sets.specs.NumberedEntries.{no_set, numbers_at, numbers_height, AreSoundNumbers, IsBelowNumbers}
-use Rattle.numbered_sets.specs.Pools.{Values, values_at, domain_at, AreValues}
+use Rattle.numbered_sets.specs.{declared.numbered_entry.NumberedEntry.{NumberedEntry}, Numbers.{has_number, AreSound}}
+use Rattle.numbered_sets.specs.{NumberedEntries.{no_set, numbers_at, numbers_height, AreSoundNumbers, IsBelowNumbers}, Pools.{Values, values_at, domain_at, AreValues}}
 use Rattle.numbered_sets.specs.Views.{values_with, plain_entry, AreNumbersOf}
-use Rattle.numbered_sets.proofs.PoolLaws.{few_values}
-use Rattle.numbered_sets.proofs.PlainLaws.{has_value, member_of_plain, any_first, value_with_number, plain_set_at}
-use Rattle.numbered_sets.proofs.ViewLaws.{values_of, its_domain}
+use Rattle.numbered_sets.proofs.{PoolLaws.{few_values}, PlainLaws.{has_value, member_of_plain, any_first, value_with_number, plain_set_at}, ViewLaws.{values_of, its_domain}}
 
 -- ---- numbers of the pool
 

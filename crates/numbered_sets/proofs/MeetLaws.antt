@@ -2,13 +2,10 @@
 use Rattle.std.proofs.Common.{◌≡◌, ◌≢◌, ℕ, Bool, true, ◌&&◌, not, sym, ap, ◌∙◌, arith, IsTrue}
 use Rattle.std.specs.Prelude.{◌==◌, bit_and}
 use Rattle.std.proofs.lemmas.Bool.{and_parts, eq-eqb}
-use Rattle.bit_words.proofs.KeptWords.{has_both}
-use Rattle.bit_words.proofs.OtherWords.{has_alone, met}
+use Rattle.bit_words.proofs.{KeptWords.{has_both}, OtherWords.{has_alone, met}}
 use Rattle.osek_values.specs.Bits.{has_bit}
 use Rattle.numbered_sets.specs.Numbers.{Numbers, has_number, kept_numbers, other_numbers, meets}
-use Rattle.numbered_sets.proofs.ViewLaws.{below_power}
-use Rattle.numbered_sets.proofs.KnownNumbers.{no_bit_of_none}
-use Rattle.numbered_sets.proofs.SiftLaws.{some_bit}
+use Rattle.numbered_sets.proofs.{ViewLaws.{below_power}, KnownNumbers.{no_bit_of_none}, SiftLaws.{some_bit}}
 
 pub has_kept : (x y : Numbers) (n : ℕ) → has_number (kept_numbers x y) n ≡ (has_number x n && has_number y n)
 has_kept x y n = has_both x.bits y.bits n

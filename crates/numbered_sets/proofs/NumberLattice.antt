@@ -1,23 +1,14 @@
 -- The lattice of numbered entries: what a join leaves is sound and lies where it should, and the count of numbers grows
 -- with the order.
 use Rattle.std.proofs.Common.{◌≡◌, ◌⊎◌, ℕ, zero, suc, ◌+◌, ◌<◌, ◌≤◌, ◌^◌, Bool, true, false, ◌||◌, List, [], ◌∷◌, length, get_or, map, refl, sym, ap, ap₂, subst, ◌∙◌, inl, inr, arith, sum_by, IsTrue, Result, Ok, Err}
-use Rattle.std.specs.Prelude.{IfOk, OnOk, OnErr, bit_or}
-use Rattle.std.specs.List.{All}
-use Rattle.std.proofs.Math.ListN.{get_or-map}
-use Rattle.std.proofs.lemmas.Bool.{cases_lt, or_cases, or_left, or_right, eqb-true}
-use Rattle.std.proofs.lemmas.List.{length-map, get_or_default, same_lists}
-use Rattle.std.proofs.lemmas.List.Elements.{All-head, All-tail, All-get_or, All-from_get_or}
-use Rattle.std.proofs.lemmas.Nat.{or_lt}
-use Rattle.std.proofs.lemmas.List.Sums.{sum_by-cons}
-use Rattle.bit_words.proofs.Counting.{passing_grows, passing_shows, passing_most}
-use Rattle.bit_words.proofs.BitCounts.{ones_below, no_bit_past, same_bits, has_either, has_one}
-use Rattle.osek_values.specs.declared.memory.Memory.{Memory}
-use Rattle.osek_values.specs.Bits.{has_bit, passing_below}
-use Rattle.abstract_state.specs.declared.value.Domain.{Domain}
-use Rattle.abstract_state.specs.Domains.{domain_size}
+use Rattle.std.specs.{Prelude.{IfOk, OnOk, OnErr, bit_or}, List.{All}}
+use Rattle.std.proofs.{Math.ListN.{get_or-map}, lemmas.{Bool.{cases_lt, or_cases, or_left, or_right, eqb-true}, List.{length-map, get_or_default, same_lists}}}
+use Rattle.std.proofs.lemmas.{List.{Elements.{All-head, All-tail, All-get_or, All-from_get_or}, Sums.{sum_by-cons}}, Nat.{or_lt}}
+use Rattle.bit_words.proofs.{Counting.{passing_grows, passing_shows, passing_most}, BitCounts.{ones_below, no_bit_past, same_bits, has_either, has_one}}
+use Rattle.osek_values.specs.{declared.memory.Memory.{Memory}, Bits.{has_bit, passing_below}}
+use Rattle.abstract_state.specs.{declared.value.Domain.{Domain}, Domains.{domain_size}}
 use Rattle.abstract_state.proofs.HeightLaws.{sum_map}
-use Rattle.numbered_sets.specs.declared.numbered_entry.NumberedEntry.{NumberedEntry}
-use Rattle.numbered_sets.specs.Numbers.{Numbers, has_number, with_number, joined_numbers, number_count, AreSound}
+use Rattle.numbered_sets.specs.{declared.numbered_entry.NumberedEntry.{NumberedEntry}, Numbers.{Numbers, has_number, with_number, joined_numbers, number_count, AreSound}}
 use Rattle.numbered_sets.specs.NumberedEntries.{no_set, numbers_at, number_domains, entry_numbers, room, numbers_height, AreSoundNumbers, IsBelowNumbers, IsNumberJoin, IsPartOfNumberJoin}
 
 pub same_truth : (a b : Bool) → (a ≡ true → b ≡ true) → (b ≡ true → a ≡ true) → a ≡ b

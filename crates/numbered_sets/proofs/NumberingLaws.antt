@@ -1,29 +1,20 @@
 -- The numbers of the values of a set and of an entry, as the pool grows by them.
 use Rattle.std.proofs.Common.{◌≡◌, ℕ, ◌+◌, ◌^◌, ◌<◌, ◌≤◌, Bool, false, ◌||◌, List, [], ◌∷◌, ◌++◌, length, get_or, set, take, map, refl, sym, ap, ap₂, subst, ◌∙◌, inl, inr, arith, IsTrue, append_assoc, get_or-set_same, get_or-set_other}
 use Rattle.std.specs.List.{list_any}
-use Rattle.std.proofs.Math.ListN.{get_or-map, get_or-eq_default}
-use Rattle.std.proofs.lemmas.Bool.{cases_eq, cases_lt, or_cases, eqb-true}
-use Rattle.std.proofs.lemmas.List.{length-append, length-map, take_all}
+use Rattle.std.proofs.{Math.ListN.{get_or-map, get_or-eq_default}, lemmas.{Bool.{cases_eq, cases_lt, or_cases, eqb-true}, List.{length-append, length-map, take_all}}}
 use Rattle.std.proofs.lemmas.List.Folds.{list_any_more}
 use Rattle.bit_words.proofs.BitCounts.{has_either, has_one}
 use Rattle.osek_values.specs.Bits.{has_bit}
 use Rattle.abstract_state.specs.declared.value.{Domain.{Domain}, PartValue.{PartValue}}
 use Rattle.abstract_state.specs.declared.value.Domain.TheVariants as domain
-use Rattle.abstract_state.specs.declared.table.{ValueSet.{ValueSet}, PlainEntry.{PlainEntry}}
-use Rattle.abstract_state.specs.ValueOrder.{same_part}
-use Rattle.abstract_state.specs.Domains.{domains, IsSound}
+use Rattle.abstract_state.specs.{declared.table.{ValueSet.{ValueSet}, PlainEntry.{PlainEntry}}, ValueOrder.{same_part}, Domains.{domains, IsSound}}
 use Rattle.abstract_state.specs.Tables.{empty_set, set_at, is_member}
-use Rattle.abstract_state.proofs.JoinLaws.{equal_sets}
-use Rattle.abstract_state.proofs.EntryJoins.{same_sets}
-use Rattle.numbered_sets.specs.declared.numbered_entry.NumberedEntry.{NumberedEntry}
-use Rattle.numbered_sets.specs.Numbers.{Numbers, numbers, has_number, with_number}
-use Rattle.numbered_sets.specs.NumberedEntries.{no_set}
+use Rattle.abstract_state.proofs.{JoinLaws.{equal_sets}, EntryJoins.{same_sets}}
+use Rattle.numbered_sets.specs.{declared.numbered_entry.NumberedEntry.{NumberedEntry}, Numbers.{Numbers, numbers, has_number, with_number}, NumberedEntries.{no_set}}
 use Rattle.numbered_sets.specs.Pools.{Values, no_values, value_seen, seen_at, values_at, domain_at, pool_domains, IsNumberOf, IsExtended, IsLonger}
 use Rattle.numbered_sets.specs.Views.{values_with, in_order, plain_set, plain_entry, AreNumbersOf, IsNumberedSet}
 use Rattle.numbered_sets.proofs.PlainLaws.{ascending_in_order, has_value, member_of_plain, values_with_none, values_longer, value_of_either, plain_set_at, length_plain}
-use Rattle.numbered_sets.proofs.ViewLaws.{false_unless, extended_by_none, longer_with, only_value}
-use Rattle.numbered_sets.proofs.KnownNumbers.{no_bit_of_none}
-use Rattle.numbered_sets.proofs.CopiedEntries.{domains_put}
+use Rattle.numbered_sets.proofs.{ViewLaws.{false_unless, extended_by_none, longer_with, only_value}, KnownNumbers.{no_bit_of_none}, CopiedEntries.{domains_put}}
 
 pub longer_itself : (pool : List Values) → IsLonger pool pool
 longer_itself pool = record { domains = refl; values = λ c. extended_by_none (values_at pool c) }

@@ -2,33 +2,17 @@
 use Rattle.std.proofs.Common.{◌≡◌, ℕ, zero, suc, ◌+◌, ◌<◌, ◌≤◌, Bool, true, false, ◌||◌, ◌&&◌, List, [], ◌∷◌, ◌++◌, length, get_or, take, refl, sym, ap, ap₂, subst, ◌∙◌, inl, inr, arith}
 use Rattle.std.specs.Prelude.{if◌then◌else◌, ◌==◌}
 use Rattle.std.proofs.lemmas.Nat.Bits.{bit_at-zero}
-use Rattle.std.specs.BTreeSet.{insert_key}
-use Rattle.std.specs.List.{All, list_any}
-use Rattle.std.specs.List.Sorted.{IsStrictlySortedBy}
-use Rattle.std.specs.Ordering.{match_ordering, ordering_reverse, is_eq}
-use Rattle.std.specs.declared.cmp.{Ordering.{Ordering}, Ordering.TheVariants.{Less, Equal, Greater}}
-use Rattle.std.proofs.Math.ListN.{get_or-eq_default}
-use Rattle.std.proofs.Math.Seq.{get_or-append_seam}
-use Rattle.std.proofs.lemmas.Bool.{cases_lt, cases_eq}
-use Rattle.std.proofs.lemmas.List.{length-append, take_all, get_or_append_left, get_or_default}
-use Rattle.std.proofs.lemmas.List.Elements.{All-cons, All-weaker, All-from_recursion, recursion_from_All}
-use Rattle.std.proofs.lemmas.List.Folds.{list_any-append}
-use Rattle.std.proofs.lemmas.Map.Keys.{sorted_head, sorted_tail}
-use Rattle.std.proofs.lemmas.Map.Views.{All-insert_key}
-use Rattle.abstract_state.specs.declared.value.{PartValue.{PartValue}, PartValue.TheVariants.{OfAlarm}}
-use Rattle.abstract_state.specs.declared.table.{ValueSet.{ValueSet}}
-use Rattle.abstract_state.specs.ValueOrder.{part_order, same_part, IsAscending}
+use Rattle.std.specs.{BTreeSet.{insert_key}, List.{All, list_any, Sorted.{IsStrictlySortedBy}}, Ordering.{match_ordering, ordering_reverse, is_eq}}
+use Rattle.std.specs.declared.cmp.Ordering.{Ordering, TheVariants.{Less, Equal, Greater}}
+use Rattle.std.proofs.{Math.{ListN.{get_or-eq_default}, Seq.{get_or-append_seam}}, lemmas.Bool.{cases_lt, cases_eq}}
+use Rattle.std.proofs.lemmas.List.{length-append, take_all, get_or_append_left, get_or_default, Elements.{All-cons, All-weaker, All-from_recursion, recursion_from_All}}
+use Rattle.std.proofs.lemmas.{List.Folds.{list_any-append}, Map.{Keys.{sorted_head, sorted_tail}, Views.{All-insert_key}}}
+use Rattle.abstract_state.specs.{declared.{value.PartValue.{PartValue, TheVariants.{OfAlarm}}, table.ValueSet.{ValueSet}}, ValueOrder.{part_order, same_part, IsAscending}}
 use Rattle.abstract_state.specs.Tables.{empty_set, set_at, is_member}
-use Rattle.abstract_state.proofs.JoinLaws.{equal_sets}
-use Rattle.abstract_state.proofs.EntryJoins.{same_sets}
-use Rattle.abstract_state.proofs.OrderLaws.{order_total, part_itself, part_right, ascending_none}
-use Rattle.numbered_sets.specs.declared.numbered_entry.NumberedEntry.{NumberedEntry}
-use Rattle.numbered_sets.specs.Numbers.{Numbers, has_number}
-use Rattle.numbered_sets.specs.NumberedEntries.{no_set, numbers_at}
-use Rattle.numbered_sets.specs.Pools.{Values, values_at}
-use Rattle.numbered_sets.specs.Views.{values_with, in_order, plain_set, plain_sets, plain_entry}
-use Rattle.abstract_state.specs.declared.value.PartValue.{PartValue}
-use Rattle.abstract_state.specs.declared.table.ValueSet.{ValueSet}
+use Rattle.abstract_state.proofs.{JoinLaws.{equal_sets}, EntryJoins.{same_sets}, OrderLaws.{order_total, part_itself, part_right, ascending_none}}
+use Rattle.numbered_sets.specs.{declared.numbered_entry.NumberedEntry.{NumberedEntry}, Numbers.{Numbers, has_number}, NumberedEntries.{no_set, numbers_at}}
+use Rattle.numbered_sets.specs.{Pools.{Values, values_at}, Views.{values_with, in_order, plain_set, plain_sets, plain_entry}}
+use Rattle.abstract_state.specs.declared.{value.PartValue.{PartValue}, table.ValueSet.{ValueSet}}
 
 abbrev Before : PartValue → PartValue → Type 0
 Before v w = part_order v w ≡ Less

@@ -1,26 +1,12 @@
 -- The values of a pool: what comes in, and how many there can be.
 use Rattle.std.proofs.Common.{◌≡◌, ℕ, ◌<◌, ◌≤◌, Bool, true, false, ◌||◌, List, [], ◌∷◌, ◌++◌, length, cond, refl, sym, ap, ap₂, subst, ◌∙◌, inl, inr, arith}
-use Rattle.std.specs.Prelude.{Some, slice_get}
-use Rattle.std.specs.List.{list_any, IsDistinct}
-use Rattle.std.proofs.Math.ListN.{get_or-map}
-use Rattle.std.proofs.lemmas.Bool.{cases_Bool}
-use Rattle.std.proofs.lemmas.List.{length-map}
-use Rattle.std.proofs.lemmas.List.Folds.{list_any_at}
-use Rattle.std.proofs.lemmas.List.Elements.{All-nil, All-cons, All-append, All-contains}
-use Rattle.std.proofs.lemmas.Map.Keys.{IsDistinct-push}
-use Rattle.std.proofs.lemmas.Map.Made.{length-le_from_is_member}
-use Rattle.std.proofs.lemmas.Map.Views.{Contains-from_any, list_any-from_Contains}
-use Rattle.std.proofs.lemmas.Option.{get_or_from_slice_get}
+use Rattle.std.specs.{Prelude.{Some, slice_get}, List.{list_any, IsDistinct}}
+use Rattle.std.proofs.{Math.ListN.{get_or-map}, lemmas.{Bool.{cases_Bool}, List.{length-map, Folds.{list_any_at}, Elements.{All-nil, All-cons, All-append, All-contains}}}}
+use Rattle.std.proofs.lemmas.{Map.{Keys.{IsDistinct-push}, Made.{length-le_from_is_member}, Views.{Contains-from_any, list_any-from_Contains}}, Option.{get_or_from_slice_get}}
 use Rattle.indexmap.specs.IndexSet.{insert_key}
-use Rattle.abstract_state.specs.declared.value.{Domain.{Domain}, PartValue.{PartValue}}
-use Rattle.abstract_state.specs.ValueOrder.{same_part}
-use Rattle.abstract_state.specs.Domains.{IsWithin, domain_size}
-use Rattle.abstract_state.proofs.DomainValues.{domain_counted}
-use Rattle.abstract_state.proofs.OrderLaws.{part_itself, part_laws, part_right}
-use Rattle.numbered_sets.specs.declared.seen.Seen.{Seen}
-use Rattle.numbered_sets.specs.SeenLaws.{same_seen}
-use Rattle.numbered_sets.specs.Filters.{seen_values}
-use Rattle.numbered_sets.specs.Pools.{Values, value_seen, with_value, AreNumbered, IsNumberOf}
+use Rattle.abstract_state.specs.{declared.value.{Domain.{Domain}, PartValue.{PartValue}}, ValueOrder.{same_part}, Domains.{IsWithin, domain_size}}
+use Rattle.abstract_state.proofs.{DomainValues.{domain_counted}, OrderLaws.{part_itself, part_laws, part_right}}
+use Rattle.numbered_sets.specs.{declared.seen.Seen.{Seen}, SeenLaws.{same_seen}, Filters.{seen_values}, Pools.{Values, value_seen, with_value, AreNumbered, IsNumberOf}}
 
 pub none_numbered : (d : Domain) → AreNumbered d []
 unfolding IsDistinct

@@ -2,12 +2,10 @@
 use Rattle.std.proofs.Common.{◌≡◌, ℕ, ◌<◌, List, length, get_or, sym, ap, ◌∙◌, arith}
 use Rattle.std.specs.Prelude.{Contains}
 use Rattle.std.proofs.lemmas.List.{get_or-map, length-map}
-use Rattle.abstract_state.specs.declared.table.{TableRow.{TableRow}}
-use Rattle.numbered_sets.specs.Pools.{Values, IsLonger}
-use Rattle.numbered_sets.specs.Views.{AreNumbersOf}
+use Rattle.abstract_state.specs.declared.table.TableRow.{TableRow}
+use Rattle.numbered_sets.specs.{Pools.{Values, IsLonger}, Views.{AreNumbersOf}}
 use Rattle.numbered_sets.proofs.ViewLaws.{same_view, still_known}
-use Rattle.numbered_sets.specs.declared.table.NumberedRow.{NumberedRow}
-use Rattle.numbered_sets.specs.PlainTables.{row_at, plain_row, AreRowsFor}
+use Rattle.numbered_sets.specs.{declared.table.NumberedRow.{NumberedRow}, PlainTables.{row_at, plain_row, AreRowsFor}}
 
 module _ (plain : List TableRow) (first : List Values) (rows : List NumberedRow) (are : AreRowsFor plain first rows) where
   pub as_many : length plain ≡ length rows

@@ -1,28 +1,17 @@
 -- Tests of values as numbers: what is left of a set, and that an entry's numbers have values.
 use Rattle.std.proofs.Common.{◌≡◌, ℕ, zero, suc, ◌+◌, ◌/◌, ◌%◌, ◌^◌, ◌<◌, ◌≤◌, Bool, true, false, ◌||◌, ◌&&◌, not, List, [], ◌∷◌, length, get_or, set, refl, sym, ap, ap₂, subst, ◌∙◌, inl, inr, arith, IsTrue, get_or-set_same}
 use Rattle.std.specs.Prelude.{◌==◌}
-use Rattle.std.proofs.Math.Nat.{pow-suc}
-use Rattle.std.proofs.lemmas.Bool.{cases_eq, and_parts, eq-eqb, ne_eqb}
-use Rattle.std.proofs.lemmas.List.{length-append, get_or_append_left, get_or_default}
+use Rattle.std.proofs.{Math.Nat.{pow-suc}, lemmas.{Bool.{cases_eq, and_parts, eq-eqb, ne_eqb}, List.{length-append, get_or_append_left, get_or_default}}}
 use Rattle.std.proofs.lemmas.Nat.Bits.{bit_at_lowest, bit_at-suc}
-use Rattle.bit_words.proofs.BitCounts.{has_either, has_one}
-use Rattle.bit_words.proofs.KeptWords.{has_both}
-use Rattle.bit_words.proofs.OtherWords.{has_alone}
+use Rattle.bit_words.proofs.{BitCounts.{has_either, has_one}, KeptWords.{has_both}, OtherWords.{has_alone}}
 use Rattle.osek_values.specs.Bits.{has_bit}
-use Rattle.abstract_state.specs.declared.value.{PartValue.{PartValue}, PartValue.TheVariants.{OfAlarm}}
-use Rattle.abstract_state.specs.ValueOrder.{same_part}
-use Rattle.abstract_state.specs.Tables.{is_member}
+use Rattle.abstract_state.specs.{declared.value.PartValue.{PartValue, TheVariants.{OfAlarm}}, ValueOrder.{same_part}, Tables.{is_member}}
 use Rattle.abstract_state.proofs.OrderLaws.{part_right}
-use Rattle.flow_model.specs.declared.test.Test.{Test}
-use Rattle.flow_model.specs.Tests.{passes}
-use Rattle.numbered_sets.specs.declared.filter.{Filter.{Filter}, Filters.{Filters}}
-use Rattle.numbered_sets.specs.Filters.{IsFilter, AreFilters, IsSifted}
-use Rattle.numbered_sets.specs.Numbers.{Numbers, has_number, with_number, kept_numbers, other_numbers}
-use Rattle.numbered_sets.specs.NumberedEntries.{no_set}
-use Rattle.numbered_sets.specs.Pools.{IsExtended, with_value}
+use Rattle.flow_model.specs.{declared.test.Test.{Test}, Tests.{passes}}
+use Rattle.numbered_sets.specs.{declared.filter.{Filter.{Filter}, Filters.{Filters}}, Filters.{IsFilter, AreFilters, IsSifted}}
+use Rattle.numbered_sets.specs.{Numbers.{Numbers, has_number, with_number, kept_numbers, other_numbers}, NumberedEntries.{no_set}, Pools.{IsExtended, with_value}}
 use Rattle.numbered_sets.specs.Views.{values_with, plain_set}
-use Rattle.numbered_sets.proofs.PlainLaws.{has_value, member_of_plain, any_first, value_with_number}
-use Rattle.numbered_sets.proofs.ViewLaws.{extended_with, below_power}
+use Rattle.numbered_sets.proofs.{PlainLaws.{has_value, member_of_plain, any_first, value_with_number}, ViewLaws.{extended_with, below_power}}
 
 -- ---- what is left of a set
 

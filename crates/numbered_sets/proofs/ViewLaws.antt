@@ -1,30 +1,17 @@
 -- What numbered entries mean as pools grow, as entries join and as numbers come in, and how many values they have.
 use Rattle.std.proofs.Common.{◌≡◌, ℕ, zero, suc, ◌+◌, ◌^◌, ◌<◌, ◌≤◌, Bool, true, false, ◌||◌, List, [], ◌∷◌, ◌++◌, length, get_or, set, map, sum_by, refl, sym, ap, ap₂, subst, ◌∙◌, inl, inr, arith, lit<, get_or-set_same, get_or-set_other}
-use Rattle.std.specs.Prelude.{if◌then◌else◌, ◌==◌}
-use Rattle.std.specs.BTreeSet.{insert_key}
-use Rattle.std.specs.List.{All, AllByRecursion, list_any, IsDistinct}
-use Rattle.std.specs.Ordering.{is_eq}
-use Rattle.std.specs.declared.cmp.{Ordering.{Ordering}}
-use Rattle.std.proofs.Math.ListN.{get_or-map, get_or-eq_default}
-use Rattle.std.proofs.Math.Nat.{pow-suc}
-use Rattle.std.proofs.lemmas.Bool.{cases_Bool, cases_eq, cases_lt, or_parts, eq-eqb, ne_eqb}
-use Rattle.std.proofs.lemmas.List.{length-append, map-set, set-get_or}
-use Rattle.std.proofs.lemmas.List.Elements.{All-cons, All-head, All-tail, All-get_or, All-from_get_or}
-use Rattle.std.proofs.lemmas.List.Sums.{sum_by-cons}
-use Rattle.std.proofs.lemmas.Map.Keys.{IsDistinct-head, IsDistinct-tail, IsDistinct-cons}
-use Rattle.std.proofs.lemmas.Map.Views.{All-insert_key}
-use Rattle.bit_words.proofs.Counting.{flag, passing_past}
-use Rattle.bit_words.proofs.BitCounts.{ones_below}
+use Rattle.std.specs.{Prelude.{if◌then◌else◌, ◌==◌}, BTreeSet.{insert_key}, List.{All, AllByRecursion, list_any, IsDistinct}, Ordering.{is_eq}, declared.cmp.Ordering.{Ordering}}
+use Rattle.std.proofs.{Math.{ListN.{get_or-map, get_or-eq_default}, Nat.{pow-suc}}, lemmas.Bool.{cases_Bool, cases_eq, cases_lt, or_parts, eq-eqb, ne_eqb}}
+use Rattle.std.proofs.lemmas.List.{length-append, map-set, set-get_or, Elements.{All-cons, All-head, All-tail, All-get_or, All-from_get_or}, Sums.{sum_by-cons}}
+use Rattle.std.proofs.lemmas.Map.{Keys.{IsDistinct-head, IsDistinct-tail, IsDistinct-cons}, Views.{All-insert_key}}
+use Rattle.bit_words.proofs.{Counting.{flag, passing_past}, BitCounts.{ones_below}}
 use Rattle.osek_values.specs.Bits.{passing_below}
 use Rattle.abstract_state.specs.declared.value.{Domain.{Domain}, PartValue.{PartValue}}
 use Rattle.abstract_state.specs.declared.value.Domain.TheVariants as domain
-use Rattle.abstract_state.specs.declared.table.{ValueSet.{ValueSet}}
-use Rattle.abstract_state.specs.ValueOrder.{part_order, same_part}
-use Rattle.abstract_state.specs.Domains.{IsWithin, IsSound, IsSoundEntry, domain_size}
+use Rattle.abstract_state.specs.{declared.table.ValueSet.{ValueSet}, ValueOrder.{part_order, same_part}, Domains.{IsWithin, IsSound, IsSoundEntry, domain_size}}
 use Rattle.abstract_state.specs.Tables.{empty_set, entry_values}
 use Rattle.abstract_state.proofs.EntryJoins.{same_sets}
-use Rattle.numbered_sets.specs.declared.numbered_entry.NumberedEntry.{NumberedEntry}
-use Rattle.numbered_sets.specs.Numbers.{Numbers, has_number, number_count}
+use Rattle.numbered_sets.specs.{declared.numbered_entry.NumberedEntry.{NumberedEntry}, Numbers.{Numbers, has_number, number_count}}
 use Rattle.numbered_sets.specs.NumberedEntries.{no_set, numbers_at, entry_numbers, room, numbers_height}
 use Rattle.numbered_sets.specs.Pools.{Values, no_values, with_value, value_seen, seen_at, values_at, domain_at, pool_domains, AreValues, IsExtended, IsLonger}
 use Rattle.numbered_sets.specs.Views.{values_with, in_order, plain_set, plain_sets, plain_entry, AreNumbersOf}

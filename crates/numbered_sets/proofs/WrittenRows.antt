@@ -1,27 +1,16 @@
 -- The rows of a written table: where they stand, and which values they have.
 use Rattle.std.proofs.Common.{◌≡◌, ℕ, ◌-◌, ◌<◌, ◌≤◌, List, [], ◌∷◌, length, map, get_or, IsTrue, refl, sym, ap, subst, ◌∙◌, inl, inr, arith}
 use Rattle.std.specs.Prelude.{Contains}
-use Rattle.std.proofs.lemmas.Bool.{cases_lt, cases_order}
-use Rattle.std.proofs.lemmas.List.{get_or-map, get_or_default, length-map}
-use Rattle.std.proofs.lemmas.Map.Keys.{below_from_sorted}
+use Rattle.std.proofs.lemmas.{Bool.{cases_lt, cases_order}, List.{get_or-map, get_or_default, length-map}, Map.Keys.{below_from_sorted}}
 use Rattle.std.proofs.lemmas.Map.Views.{Contains-from_any, list_any-from_Contains}
-use Rattle.osek_standard.specs.declared.app.App.{App}
-use Rattle.osek_standard.specs.Points.{point_number}
-use Rattle.abstract_state.specs.declared.value.{Domain.{Domain}, PartValue.{PartValue}}
-use Rattle.abstract_state.specs.declared.table.{TableRow.{TableRow}, PlainTable.{PlainTable}}
-use Rattle.abstract_state.specs.Components.{components, component_count, IsAllowed}
-use Rattle.abstract_state.specs.Domains.{domain_of, domains_of}
-use Rattle.abstract_state.specs.Tables.{set_at, is_member, sets_of}
+use Rattle.osek_standard.specs.{declared.app.App.{App}, Points.{point_number}}
+use Rattle.abstract_state.specs.declared.{value.{Domain.{Domain}, PartValue.{PartValue}}, table.{TableRow.{TableRow}, PlainTable.{PlainTable}}}
+use Rattle.abstract_state.specs.{Components.{components, component_count, IsAllowed}, Domains.{domain_of, domains_of}, Tables.{set_at, is_member, sets_of}}
 use Rattle.abstract_state.specs.Written.{IsRow, IsWritten}
-use Rattle.abstract_state.proofs.ComponentLaws.{task_counted}
-use Rattle.abstract_state.proofs.EqualityLaws.{written_entry, written_value}
-use Rattle.abstract_state.proofs.OrderLaws.{part_right, part_laws}
-use Rattle.numbered_sets.specs.NumberedEntries.{number_domains}
-use Rattle.numbered_sets.specs.Pools.{Values, pool_domains}
-use Rattle.numbered_sets.specs.Views.{AreNumbersOf}
+use Rattle.abstract_state.proofs.{ComponentLaws.{task_counted}, EqualityLaws.{written_entry, written_value}, OrderLaws.{part_right, part_laws}}
+use Rattle.numbered_sets.specs.{NumberedEntries.{number_domains}, Pools.{Values, pool_domains}, Views.{AreNumbersOf}}
 use Rattle.numbered_sets.proofs.ViewLaws.{same_domains}
-use Rattle.numbered_sets.specs.declared.table.NumberedRow.{NumberedRow}
-use Rattle.numbered_sets.specs.PlainTables.{plain_row, AreRowsFor}
+use Rattle.numbered_sets.specs.{declared.table.NumberedRow.{NumberedRow}, PlainTables.{plain_row, AreRowsFor}}
 
 abbrev pub row_number : TableRow → ℕ
 row_number row = point_number row.point

@@ -1,13 +1,8 @@
 -- Tests of values, as the numbers of those that pass.
 use Rattle.std.specs.Prelude.{◌≡◌, ℕ, ◌<◌, ◌≤◌, false, ◌&&◌, List, length, map, slice_index_or, IsTrue, All}
-use Rattle.abstract_state.specs.declared.value.PartValue.{PartValue}
-use Rattle.abstract_state.specs.ValueOrder.{same_part}
-use Rattle.abstract_state.specs.Tables.{is_member}
-use Rattle.flow_model.specs.declared.test.Test.{Test}
-use Rattle.flow_model.specs.Tests.{passes}
-use Rattle.numbered_sets.specs.declared.{seen.Seen.{Seen}, filter.{Filter.{Filter}, Filters.{Filters}}}
-use Rattle.numbered_sets.specs.Numbers.{Numbers, has_number}
-use Rattle.numbered_sets.specs.Views.{plain_set}
+use Rattle.abstract_state.specs.{declared.value.PartValue.{PartValue}, ValueOrder.{same_part}, Tables.{is_member}}
+use Rattle.flow_model.specs.{declared.test.Test.{Test}, Tests.{passes}}
+use Rattle.numbered_sets.specs.{declared.{seen.Seen.{Seen}, filter.{Filter.{Filter}, Filters.{Filters}}}, Numbers.{Numbers, has_number}, Views.{plain_set}}
 
 -- the values of keys
 abbrev pub seen_values : List Seen → List PartValue

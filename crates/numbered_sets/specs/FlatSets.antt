@@ -1,8 +1,6 @@
 -- Sets of numbers in flat words: for each component a word in each of two lists, and further words where it needs them.
-use Rattle.std.specs.Prelude.{ℕ, List, [], ◌∷◌, drop, slice_index_or}
-use Rattle.std.specs.Global.{Vec}
-use Rattle.bit_words.specs.Words.{bits_of_words}
-use Rattle.bit_words.specs.Further.{further_at}
+use Rattle.std.specs.{Prelude.{ℕ, List, [], ◌∷◌, drop, slice_index_or}, Global.{Vec}}
+use Rattle.bit_words.specs.{Words.{bits_of_words}, Further.{further_at}}
 use Rattle.abstract_state.specs.declared.value.Domain.{Domain}
 use Rattle.numbered_sets.specs.Numbers.{Numbers, numbers}
 

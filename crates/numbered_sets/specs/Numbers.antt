@@ -1,8 +1,7 @@
 -- Sets of numbers, each the number whose bits they are.
 use Rattle.std.specs.Prelude.{ℕ, ◌<◌, ◌^◌, ◌==◌, Bool, not, bit_and, bit_or, bit_xor, count_ones}
 use Rattle.osek_values.specs.Bits.{has_bit}
-use Rattle.abstract_state.specs.declared.value.Domain.{Domain}
-use Rattle.abstract_state.specs.Domains.{domain_size}
+use Rattle.abstract_state.specs.{declared.value.Domain.{Domain}, Domains.{domain_size}}
 
 -- Numbers of values of a domain: those whose bit is set.
 pub record Numbers : Type 0 where

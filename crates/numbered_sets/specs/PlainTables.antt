@@ -2,9 +2,7 @@
 use Rattle.std.specs.Prelude.{◌≡◌, List, map, Contains}
 use Rattle.osek_standard.specs.declared.point.Point.{Point}
 use Rattle.abstract_state.specs.declared.table.{PlainEntry.{PlainEntry}, TableRow.{TableRow}, PlainTable.{PlainTable}}
-use Rattle.numbered_sets.specs.Pools.{Values}
-use Rattle.numbered_sets.specs.Views.{plain_entry, AreNumbersOf}
-use Rattle.numbered_sets.specs.declared.table.NumberedRow.{NumberedRow}
+use Rattle.numbered_sets.specs.{Pools.{Values}, Views.{plain_entry, AreNumbersOf}, declared.table.NumberedRow.{NumberedRow}}
 
 abbrev pub row_at : Point → PlainEntry → TableRow
 row_at point entry = record { point = point; entry = entry }

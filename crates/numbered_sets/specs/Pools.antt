@@ -1,10 +1,8 @@
 -- The values that components were seen with, each with a number.
-use Rattle.std.specs.Prelude.{◌≡◌, ℕ, ◌<◌, List, [], ◌∷◌, ◌++◌, length, map, slice_index_or, if◌then◌else◌, All}
-use Rattle.std.specs.List.{list_any, IsDistinct}
+use Rattle.std.specs.{Prelude.{◌≡◌, ℕ, ◌<◌, List, [], ◌∷◌, ◌++◌, length, map, slice_index_or, if◌then◌else◌, All}, List.{list_any, IsDistinct}}
 use Rattle.abstract_state.specs.declared.value.{Domain.{Domain}, PartValue.{PartValue}}
 use Rattle.abstract_state.specs.declared.value.Domain.TheVariants as domain
-use Rattle.abstract_state.specs.ValueOrder.{same_part}
-use Rattle.abstract_state.specs.Domains.{IsWithin}
+use Rattle.abstract_state.specs.{ValueOrder.{same_part}, Domains.{IsWithin}}
 
 -- Values of a domain, in the order in which they were first seen: each has its place as its number.
 pub record Values : Type 0 where

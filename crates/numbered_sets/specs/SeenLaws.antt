@@ -1,12 +1,10 @@
 -- Values as keys: two are equal where they are the same, and what is hashed of one.
-use Rattle.std.specs.Prelude.{◌≡◌, ℕ, Bool, List, [], ◌++◌, IsTrue}
-use Rattle.std.specs.Cmp.{IsPartialEquivalence, IsEquivalence, partial_equiv_from_equiv}
+use Rattle.std.specs.{Prelude.{◌≡◌, ℕ, Bool, List, [], ◌++◌, IsTrue}, Cmp.{IsPartialEquivalence, IsEquivalence, partial_equiv_from_equiv}}
 use Rattle.std.specs.Hash as fed
 use Rattle.std.specs.List.{flat_map}
 use Rattle.std.proofs.Common.{ap}
 use Rattle.osek_values.specs.declared.numbers.ResNo.{ResNo}
-use Rattle.abstract_state.specs.declared.value.{Val.TheVariants.{Suspended, Live, Waiting}, PartValue.{PartValue}, PartValue.TheVariants.{OfTask, OfEvent, OfAlarm}}
-use Rattle.abstract_state.specs.ValueOrder.{same_part}
+use Rattle.abstract_state.specs.{declared.value.{Val.TheVariants.{Suspended, Live, Waiting}, PartValue.{PartValue, TheVariants.{OfTask, OfEvent, OfAlarm}}}, ValueOrder.{same_part}}
 use Rattle.abstract_state.proofs.OrderLaws.{part_laws, part_right}
 use Rattle.numbered_sets.specs.declared.seen.Seen.{Seen}
 

@@ -1,12 +1,7 @@
 -- What numbered entries mean: the entries of their values.
-use Rattle.std.specs.Prelude.{◌≡◌, ℕ, suc, ◌<◌, Bool, List, [], ◌∷◌, ◌++◌, length, if◌then◌else◌, IsTrue}
-use Rattle.std.specs.BTreeSet.{insert_key}
-use Rattle.abstract_state.specs.declared.value.PartValue.{PartValue}
-use Rattle.abstract_state.specs.declared.table.{ValueSet.{ValueSet}, PlainEntry.{PlainEntry}}
-use Rattle.abstract_state.specs.ValueOrder.{part_order}
-use Rattle.numbered_sets.specs.declared.numbered_entry.NumberedEntry.{NumberedEntry}
-use Rattle.numbered_sets.specs.Numbers.{Numbers, has_number}
-use Rattle.numbered_sets.specs.NumberedEntries.{numbers_at, number_domains}
+use Rattle.std.specs.{Prelude.{◌≡◌, ℕ, suc, ◌<◌, Bool, List, [], ◌∷◌, ◌++◌, length, if◌then◌else◌, IsTrue}, BTreeSet.{insert_key}}
+use Rattle.abstract_state.specs.{declared.{value.PartValue.{PartValue}, table.{ValueSet.{ValueSet}, PlainEntry.{PlainEntry}}}, ValueOrder.{part_order}}
+use Rattle.numbered_sets.specs.{declared.numbered_entry.NumberedEntry.{NumberedEntry}, Numbers.{Numbers, has_number}, NumberedEntries.{numbers_at, number_domains}}
 use Rattle.numbered_sets.specs.Pools.{Values, values_at, pool_domains}
 
 -- the values whose number passes, in the order of their numbers

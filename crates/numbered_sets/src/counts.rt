@@ -1,10 +1,6 @@
 //! How many numbers entries have.
 ghost use Rattle.std.specs.Prelude.{◌≡◌, ◌<◌, ◌^◌};
-ghost use Rattle.numbered_sets.specs.NumberedEntries.{entry_numbers};
-ghost use Rattle.numbered_sets.specs.Numbers.{number_count};
-ghost use Rattle.numbered_sets.specs.SetLists.{set_of};
-ghost use Rattle.numbered_sets.specs.Views.{AreNumbersOf};
-ghost use Rattle.numbered_sets.specs.PlainTables.{AreRowsOf};
+ghost use Rattle.numbered_sets.specs.{NumberedEntries.{entry_numbers}, Numbers.{number_count}, SetLists.{set_of}, Views.{AreNumbersOf}, PlainTables.{AreRowsOf}};
 ghost use Rattle.numbered_sets.specs.Counts.{AreNumbersBelow, row_numbers};
 
 use crate::flat_sets::NumberedSets;

@@ -1,6 +1,5 @@
 //! Tests of a component's values, each with the numbers of the values that pass.
-ghost use Rattle.std.specs.Prelude.{◌≡◌, ◌<◌, ◌≤◌, length};
-ghost use Rattle.std.specs.Bool.{OnTrue};
+ghost use Rattle.std.specs.{Prelude.{◌≡◌, ◌<◌, ◌≤◌, length}, Bool.{OnTrue}};
 
 use crate::numbered_entry::NumberedEntry;
 use crate::numbered_set::NumberedSet;
@@ -66,9 +65,7 @@ impl Filters {
     ghost use Rattle.std.specs.Prelude.{◌≡◌, ◌<◌, ◌≤◌, List, length, IfOk, OnOk, OnErr, slice_index_or, slice_set};
     ghost use Rattle.abstract_state.specs.declared.value.PartValue.{PartValue};
     ghost use Rattle.std.specs.Bool.{OnTrue};
-    ghost use Rattle.numbered_sets.specs.declared.filter.Filter.{Filter};
-    ghost use Rattle.numbered_sets.specs.Filters.{seen_values, AreFilters, IsSifted};
-    ghost use Rattle.numbered_sets.specs.NumberedEntries.{numbers_at};
+    ghost use Rattle.numbered_sets.specs.{declared.filter.Filter.{Filter}, Filters.{seen_values, AreFilters, IsSifted}, NumberedEntries.{numbers_at}};
 
     /// No test yet.
     pub fn new(alloc: Global) -> Filters

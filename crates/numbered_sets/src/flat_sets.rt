@@ -22,8 +22,7 @@ pub struct NumberedSets {
 
 impl Model for NumberedSets {
     ghost use Rattle.std.specs.Prelude.{◌≡◌, ◌≤◌, List, length};
-    ghost use Rattle.numbered_sets.specs.Numbers.{Numbers};
-    ghost use Rattle.numbered_sets.specs.FlatSets.{flat_sets};
+    ghost use Rattle.numbered_sets.specs.{Numbers.{Numbers}, FlatSets.{flat_sets}};
 
     ghost Value = { List Numbers };
 
@@ -35,8 +34,7 @@ impl Model for NumberedSets {
 impl NumberedSets {
     ghost use Rattle.std.specs.Prelude.{ℕ, false, IsTrue, ◌≡◌, ◌<◌, ◌≤◌, ◌+◌, ◌^◌, ◌==◌, not, length, map, slice_set, IfOk, OnOk, OnErr, EachIndex, SomeIndex};
     ghost use Rattle.std.specs.Bool.{OnTrue, OnFalse};
-    ghost use Rattle.numbered_sets.specs.Numbers.{numbers, has_number, with_number, kept_numbers, other_numbers, meets};
-    ghost use Rattle.numbered_sets.specs.SetLists.{set_of, all_numbers, AreJoined};
+    ghost use Rattle.numbered_sets.specs.{Numbers.{numbers, has_number, with_number, kept_numbers, other_numbers, meets}, SetLists.{set_of, all_numbers, AreJoined}};
 
     /// The sets without a number, for a component of each domain.
     pub fn new(alloc: Global, domains: &[Domain]) -> Result<NumberedSets, Memory>

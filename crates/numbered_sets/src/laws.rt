@@ -1,15 +1,10 @@
 //! Laws over the definitions, each on a function that does nothing.
 ghost use Rattle.std.specs.Prelude.{◌≡◌, ◌≢◌, ◌||◌, ◌<◌, ◌^◌, ℕ, List, length, map, slice_set, All};
-ghost use Rattle.abstract_state.specs.declared.table.PlainEntry.{PlainEntry};
-ghost use Rattle.abstract_state.specs.declared.value.PartValue.{PartValue};
-ghost use Rattle.abstract_state.specs.ValueOrder.{same_part};
-ghost use Rattle.abstract_state.specs.Domains.{domains, entry_height, IsSoundEntry, IsBelow};
-ghost use Rattle.abstract_state.specs.Tables.{set_at, is_member, entry_values, IsJoin, IsPartOfJoin, IsSetBySet};
-ghost use Rattle.numbered_sets.specs.declared.numbered_entry.NumberedEntry.{NumberedEntry};
-ghost use Rattle.numbered_sets.specs.Numbers.{numbers, with_number};
+ghost use Rattle.abstract_state.specs.{declared.{table.PlainEntry.{PlainEntry}, value.PartValue.{PartValue}}, ValueOrder.{same_part}};
+ghost use Rattle.abstract_state.specs.{Domains.{domains, entry_height, IsSoundEntry, IsBelow}, Tables.{set_at, is_member, entry_values, IsJoin, IsPartOfJoin, IsSetBySet}};
+ghost use Rattle.numbered_sets.specs.{declared.numbered_entry.NumberedEntry.{NumberedEntry}, Numbers.{numbers, with_number}};
 ghost use Rattle.numbered_sets.specs.NumberedEntries.{numbers_at, number_domains, entry_numbers, numbers_height, AreSoundNumbers, IsBelowNumbers, IsNumberJoin, IsPartOfNumberJoin};
-ghost use Rattle.numbered_sets.specs.Pools.{Values, value_seen, seen_at, values_at, pool_domains, AreValues, IsNumberOf, IsLonger};
-ghost use Rattle.numbered_sets.specs.Views.{plain_entry, AreNumbersOf};
+ghost use Rattle.numbered_sets.specs.{Pools.{Values, value_seen, seen_at, values_at, pool_domains, AreValues, IsNumberOf, IsLonger}, Views.{plain_entry, AreNumbersOf}};
 
 /// A pool that grew means the same of every entry whose numbers it had; and it grows by each value that it numbers.
 pub fn a_longer_pool_means_the_same()

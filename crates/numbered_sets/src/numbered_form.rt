@@ -1,8 +1,7 @@
 //! The numbered form of entries.
 ghost use Rattle.std.specs.Prelude.{◌≡◌, ◌<◌, length, IfOk, All};
 ghost use Rattle.abstract_state.specs.Domains.{domains, IsSound};
-ghost use Rattle.numbered_sets.specs.Pools.{domain_at, pool_domains, IsLonger};
-ghost use Rattle.numbered_sets.specs.Views.{plain_entry, AreNumbersOf, IsNumberedSet};
+ghost use Rattle.numbered_sets.specs.{Pools.{domain_at, pool_domains, IsLonger}, Views.{plain_entry, AreNumbersOf, IsNumberedSet}};
 
 use crate::numbered_entry::NumberedEntry;
 use crate::numbered_set::NumberedSet;

@@ -28,8 +28,7 @@ impl Model for NumberedSet {
 }
 
 impl NumberedSet {
-    ghost use Rattle.std.specs.Prelude.{ℕ, false, IsTrue, ◌≡◌, ◌∷◌, ◌<◌, ◌≤◌, ◌+◌, ◌^◌, ◌==◌, not, bit_and, IfOk, OnOk, OnErr};
-    ghost use Rattle.std.specs.Bool.{OnTrue};
+    ghost use Rattle.std.specs.{Prelude.{ℕ, false, IsTrue, ◌≡◌, ◌∷◌, ◌<◌, ◌≤◌, ◌+◌, ◌^◌, ◌==◌, not, bit_and, IfOk, OnOk, OnErr}, Bool.{OnTrue}};
     ghost use Rattle.bit_words.specs.Words.{bits_of_words};
     ghost use Rattle.numbered_sets.specs.Numbers.{numbers, has_number, with_number, joined_numbers, kept_numbers, other_numbers, number_count, meets};
 

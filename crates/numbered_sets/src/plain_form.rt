@@ -1,7 +1,6 @@
 //! The plain form of numbered entries.
 ghost use Rattle.std.specs.Prelude.{◌≡◌, ◌<◌, ◌≤◌, length, IfOk};
-ghost use Rattle.numbered_sets.specs.Pools.{values_at};
-ghost use Rattle.numbered_sets.specs.Views.{plain_set as plain_set_of, plain_entry};
+ghost use Rattle.numbered_sets.specs.{Pools.{values_at}, Views.{plain_set as plain_set_of, plain_entry}};
 
 use crate::numbered_entry::NumberedEntry;
 use crate::numbered_set::NumberedSet;

@@ -23,8 +23,7 @@ struct Numbering {
 }
 
 impl Model for Numbering {
-    ghost use Rattle.numbered_sets.specs.Filters.{seen_values, AreFilters};
-    ghost use Rattle.numbered_sets.specs.Pools.{Values, AreNumbered};
+    ghost use Rattle.numbered_sets.specs.{Filters.{seen_values, AreFilters}, Pools.{Values, AreNumbered}};
 
     ghost Value = { Values };
 
@@ -34,16 +33,10 @@ impl Model for Numbering {
 }
 
 impl Numbering {
-    ghost use Rattle.std.specs.Prelude.{◌≡◌, ◌<◌, false, length, slice_set, IfOk, OnOk, OnErr, IfSome, IfNone};
-    ghost use Rattle.std.specs.List.{list_any};
-    ghost use Rattle.abstract_state.specs.Domains.{IsWithin, domain_size};
-    ghost use Rattle.abstract_state.specs.ValueOrder.{same_part};
-    ghost use Rattle.abstract_state.specs.Tables.{is_member};
+    ghost use Rattle.std.specs.{Prelude.{◌≡◌, ◌<◌, false, length, slice_set, IfOk, OnOk, OnErr, IfSome, IfNone}, List.{list_any}};
+    ghost use Rattle.abstract_state.specs.{Domains.{IsWithin, domain_size}, ValueOrder.{same_part}, Tables.{is_member}};
     ghost use Rattle.flow_model.specs.declared.test.Test.TheVariants as Test;
-    ghost use Rattle.numbered_sets.specs.Filters.{IsNumberAlone, IsSifted};
-    ghost use Rattle.numbered_sets.specs.NumberedEntries.{numbers_at};
-    ghost use Rattle.numbered_sets.specs.Pools.{no_values, value_seen, AreValues, IsNumberOf};
-    ghost use Rattle.numbered_sets.specs.Views.{plain_set};
+    ghost use Rattle.numbered_sets.specs.{Filters.{IsNumberAlone, IsSifted}, NumberedEntries.{numbers_at}, Pools.{no_values, value_seen, AreValues, IsNumberOf}, Views.{plain_set}};
 
     /// No value yet.
     fn new(alloc: Global, domain: Domain) -> Numbering
@@ -244,11 +237,8 @@ impl Model for Pool {
 
 impl Pool {
     ghost use Rattle.std.specs.Prelude.{◌≡◌, ◌<◌, length, map, slice_set, IfOk, OnOk, OnErr, All};
-    ghost use Rattle.abstract_state.specs.Domains.{IsWithin, domain_size};
-    ghost use Rattle.abstract_state.specs.Tables.{is_member};
-    ghost use Rattle.numbered_sets.specs.Filters.{IsSifted};
-    ghost use Rattle.numbered_sets.specs.NumberedEntries.{numbers_at};
-    ghost use Rattle.numbered_sets.specs.Pools.{no_values, value_seen, seen_at, values_at, domain_at, AreValues, IsNumberOf};
+    ghost use Rattle.abstract_state.specs.{Domains.{IsWithin, domain_size}, Tables.{is_member}};
+    ghost use Rattle.numbered_sets.specs.{Filters.{IsSifted}, NumberedEntries.{numbers_at}, Pools.{no_values, value_seen, seen_at, values_at, domain_at, AreValues, IsNumberOf}};
     ghost use Rattle.numbered_sets.specs.Views.{plain_set};
 
     /// A pool without values, for a component of each domain.

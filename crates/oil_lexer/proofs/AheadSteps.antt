@@ -3,10 +3,8 @@ use Rattle.std.proofs.Common.{◌≡◌, ℕ, ◌+◌, List, [], ◌∷◌, take
 use Rattle.std.specs.Prelude.{◌≢◌}
 use mathlib.Core.Logic.{∥∥₁_elim, ∥∥₁_map}
 use Rattle.osek_values.specs.declared.refusal.LexRule.{LexRule}
-use Rattle.oil_lexer.specs.declared.token.{TokenKind.{TokenKind}, Piece.{Piece}, Piece.TheVariants.{Gap, Whole}, Token.{Token}}
-use Rattle.oil_lexer.specs.Ahead.{AreAhead, AreOnly, Ahead, Ahead-prop, tokens_set}
-use Rattle.oil_lexer.specs.Pieces.{IsLongest, Fits, Breaks}
-use Rattle.oil_lexer.specs.Text.{none, gap, token, token_of, line_ends}
+use Rattle.oil_lexer.specs.declared.token.{TokenKind.{TokenKind}, Piece.{Piece, TheVariants.{Gap, Whole}}, Token.{Token}}
+use Rattle.oil_lexer.specs.{Ahead.{AreAhead, AreOnly, Ahead, Ahead-prop, tokens_set}, Pieces.{IsLongest, Fits, Breaks}, Text.{none, gap, token, token_of, line_ends}}
 use Rattle.oil_lexer.proofs.Unique.{same_length, same_piece, stops_end, stops_broken, unique, after}
 
 -- no others are ahead

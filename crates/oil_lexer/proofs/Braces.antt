@@ -2,9 +2,8 @@
 use Rattle.std.proofs.Common.{◌≡◌, ℕ, ◌<◌, ◌≤◌, true, false, cond, List, ◌∷◌, refl, ◌∙◌, arith}
 use Rattle.std.specs.Prelude.{Option, nat_le}
 use Rattle.std.proofs.lemmas.Bool.Decides.{nat_tests}
-use Rattle.oil_lexer.specs.declared.token.{TokenKind.{TokenKind}, TokenKind.TheVariants.{Name, Number, Text, Mark}, Mark.TheVariants.{OpenBrace, CloseBrace}, Token.{Token}}
-use Rattle.oil_lexer.specs.declared.fault.Stop.{Stop}
-use Rattle.oil_lexer.specs.Tokens.{is_open, is_close}
+use Rattle.oil_lexer.specs.declared.token.{TokenKind.{TokenKind, TheVariants.{Name, Number, Text, Mark}}, Mark.TheVariants.{OpenBrace, CloseBrace}, Token.{Token}}
+use Rattle.oil_lexer.specs.{declared.fault.Stop.{Stop}, Tokens.{is_open, is_close}}
 
 pub open_kind : (kind : TokenKind) → is_open kind ≡ true → kind ≡ Mark OpenBrace
 open_kind (Name n) e = absurd cc

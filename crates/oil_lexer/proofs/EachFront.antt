@@ -1,18 +1,12 @@
 -- At each front of a text stands a piece that fits, or it breaks a rule.
 use Rattle.std.proofs.Common.{◌≡◌, ℕ, ◌+◌, ◌-◌, ◌<◌, ◌≤◌, ◌^◌, ◌⊎◌, inl, inr, ⊎_elim, Bool, true, false, zero, suc, List, length, take, arith, refl, subst}
-use Rattle.std.proofs.lemmas.List.{get_or_past, length-take-le}
-use Rattle.std.proofs.str.Laws.{order}
+use Rattle.std.proofs.{lemmas.List.{get_or_past, length-take-le}, str.Laws.{order}}
 use Rattle.std.specs.Prelude.{slice_index, nat_le, ◌==◌, ◌&&◌}
-use Rattle.osek_values.specs.declared.limits.TheConstants.{MAX_NAME}
-use Rattle.osek_values.specs.declared.refusal.{LexRule.{LexRule}, LexRule.TheVariants.{L1, L2, L3, L4, L5}}
-use Rattle.oil_lexer.specs.declared.classes.{Class.{Class}, Class.TheVariants.{Blank, Letter, Digit, Quote, Slash, Single, Nothing}, ByteSet.{ByteSet}, ByteSet.TheVariants.{NameBytes, Digits, HexDigits, TextBytes, LineBytes}}
-use Rattle.oil_lexer.specs.declared.token.{TokenKind.TheVariants.{Name, Number, Text, Mark}, Piece.{Piece}, Piece.TheVariants.{Gap, Whole}}
-use Rattle.oil_lexer.specs.Classes.{class_of, is_in, AllIn}
-use Rattle.oil_lexer.specs.Fronts.{IsRun, IsFirstClose, IsLongestHex}
-use Rattle.oil_lexer.specs.Numbers.{value_of}
-use Rattle.oil_lexer.specs.Pieces.{is_x, part, ClosesAt, IsHex, IsPiece, IsLongest, NoPiece, Fits, Breaks}
-use Rattle.oil_lexer.proofs.Firsts.{quote_first, slash_first}
-use Rattle.oil_lexer.proofs.Longest.{is_of, to_piece, past_run, name_longest, hex_longest, decimal_longest}
+use Rattle.osek_values.specs.declared.{limits.TheConstants.{MAX_NAME}, refusal.LexRule.{LexRule, TheVariants.{L1, L2, L3, L4, L5}}}
+use Rattle.oil_lexer.specs.declared.classes.{Class.{Class, TheVariants.{Blank, Letter, Digit, Quote, Slash, Single, Nothing}}, ByteSet.{ByteSet, TheVariants.{NameBytes, Digits, HexDigits, TextBytes, LineBytes}}}
+use Rattle.oil_lexer.specs.{declared.token.{TokenKind.TheVariants.{Name, Number, Text, Mark}, Piece.{Piece, TheVariants.{Gap, Whole}}}, Classes.{class_of, is_in, AllIn}}
+use Rattle.oil_lexer.specs.{Fronts.{IsRun, IsFirstClose, IsLongestHex}, Numbers.{value_of}, Pieces.{is_x, part, ClosesAt, IsHex, IsPiece, IsLongest, NoPiece, Fits, Breaks}}
+use Rattle.oil_lexer.proofs.{Firsts.{quote_first, slash_first}, Longest.{is_of, to_piece, past_run, name_longest, hex_longest, decimal_longest}}
 
 pub data Front (bytes : List ℕ) : Type 0 where
   stands : (piece : Piece) (n : ℕ) → IsLongest piece bytes n → Fits piece → Front bytes

@@ -1,15 +1,10 @@
 -- Each text has tokens or a first fault.
-use Rattle.std.proofs.Common.{ℕ, ◌+◌, ◌<◌, ◌≤◌, inl, inr, ⊎_elim, zero, suc, List, [], ◌∷◌, length, take, drop, arith, refl}
-use Rattle.std.proofs.lemmas.List.{length-drop}
-use Rattle.std.proofs.str.Laws.{order}
+use Rattle.std.proofs.{Common.{ℕ, ◌+◌, ◌<◌, ◌≤◌, inl, inr, ⊎_elim, zero, suc, List, [], ◌∷◌, length, take, drop, arith, refl}, lemmas.List.{length-drop}, str.Laws.{order}}
 use Rattle.std.specs.Prelude.{◌≢◌, Result, Ok, Err}
-use Rattle.osek_values.specs.declared.limits.TheConstants.{MAX_FILE}
-use Rattle.osek_values.specs.declared.refusal.{LexRule.{LexRule}, LexRule.TheVariants.{L6}}
+use Rattle.osek_values.specs.declared.{limits.TheConstants.{MAX_FILE}, refusal.LexRule.{LexRule, TheVariants.{L6}}}
 use Rattle.oil_lexer.specs.declared.token.{Piece.TheVariants.{Gap, Whole}, Token.{Token}}
 use Rattle.osek_values.specs.declared.refused.LineFault.{LineFault}
-use Rattle.oil_lexer.specs.Pieces.{IsLongest, Fits, Breaks}
-use Rattle.oil_lexer.specs.Text.{Parts, none, gap, token, token_of, line_ends}
-use Rattle.oil_lexer.specs.Answers.{IsAnswer}
+use Rattle.oil_lexer.specs.{Pieces.{IsLongest, Fits, Breaks}, Text.{Parts, none, gap, token, token_of, line_ends}, Answers.{IsAnswer}}
 use Rattle.oil_lexer.proofs.EachFront.{Front, stands, breaks, each_front}
 
 -- how a text ends that begins on a line: it is parted whole, or up to a rest that breaks a rule

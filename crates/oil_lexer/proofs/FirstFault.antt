@@ -1,15 +1,11 @@
 -- The scan, token by token, gives the first fault.
 use Rattle.std.proofs.Common.{◌≡◌, ℕ, ◌≤◌, ◌⊎◌, inl, inr, ⊎_elim, Bool, true, false, cond, List, [], ◌∷◌, ◌++◌, refl, sym, ap, ◌∙◌, subst, append_assoc, arith}
 use Rattle.std.specs.Prelude.{Option, Some, None, option_and_then, ◌&&◌, nat_le}
-use Rattle.std.proofs.lemmas.List.{append-nil}
-use Rattle.std.proofs.lemmas.Bool.Decides.{nat_tests}
-use Rattle.oil_lexer.specs.declared.token.{TokenKind.{TokenKind}, Token.{Token}}
-use Rattle.oil_lexer.specs.declared.fault.{Stop.{Stop}, Stop.TheVariants.{NotAllowed, TooDeep, Ends}}
-use Rattle.osek_values.specs.declared.refused.LineFault.{LineFault}
-use Rattle.osek_values.specs.declared.refusal.SyntaxRule.{SyntaxRule}
+use Rattle.std.proofs.lemmas.{List.{append-nil}, Bool.Decides.{nat_tests}}
+use Rattle.oil_lexer.specs.declared.{token.{TokenKind.{TokenKind}, Token.{Token}}, fault.Stop.{Stop, TheVariants.{NotAllowed, TooDeep, Ends}}}
+use Rattle.osek_values.specs.declared.{refused.LineFault.{LineFault}, refusal.SyntaxRule.{SyntaxRule}}
 use Rattle.oil_lexer.specs.Faults as faults
-use Rattle.oil_lexer.specs.Tokens.{is_open}
-use Rattle.oil_lexer.specs.Depth.{deeper, depth_from}
+use Rattle.oil_lexer.specs.{Tokens.{is_open}, Depth.{deeper, depth_from}}
 use Rattle.oil_lexer.specs.Scan as scans
 use Rattle.oil_lexer.specs.Scan.{at_end, fault_of}
 use Rattle.oil_lexer.proofs.Splits.{split_push}

@@ -3,9 +3,7 @@
 use Rattle.std.proofs.Common.{◌≡◌, ℕ, Bool, true, false, cond, refl, arith}
 use Rattle.std.specs.Prelude.{Option, Some, None, ◌==◌}
 use Rattle.osek_values.specs.Names.{is_letter, is_digit}
-use Rattle.oil_lexer.specs.declared.token.Mark.{Mark}
-use Rattle.oil_lexer.specs.declared.classes.Class.TheVariants.{Blank, Letter, Digit, Quote, Slash}
-use Rattle.oil_lexer.specs.Classes.{is_blank, class_of_mark, class_of}
+use Rattle.oil_lexer.specs.{declared.{token.Mark.{Mark}, classes.Class.TheVariants.{Blank, Letter, Digit, Quote, Slash}}, Classes.{is_blank, class_of_mark, class_of}}
 
 not_digit : (mark : Option Mark) → class_of_mark mark ≡ Digit → ⊥
 not_digit None e = cc

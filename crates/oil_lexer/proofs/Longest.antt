@@ -1,18 +1,12 @@
 -- Numbers and names that are as long as they can be.
 use Rattle.std.proofs.Common.{◌≡◌, ℕ, ◌+◌, ◌-◌, ◌<◌, ◌≤◌, inl, inr, ⊎_elim, true, false, zero, suc, List, length, take, drop, arith, refl, sym, ◌∙◌, subst}
 use Rattle.std.proofs.lemmas.List.{get_or-take, get_or-drop, length-take, length-take-le}
-use Rattle.std.specs.Prelude.{IsTrue, nat_le, slice_index}
-use Rattle.std.specs.Char.{is_ascii_hexdigit}
-use Rattle.osek_values.specs.Names.{is_digit, is_word, is_name}
-use Rattle.osek_values.specs.declared.limits.TheConstants.{MAX_NAME}
-use Rattle.oil_lexer.specs.declared.classes.{Class.{Class}, Class.TheVariants.{Letter, Digit}, ByteSet.{ByteSet}, ByteSet.TheVariants.{NameBytes, Digits, HexDigits}}
-use Rattle.oil_lexer.specs.declared.token.{TokenKind.TheVariants.{Name, Number}, Piece.{Piece}, Piece.TheVariants.{Whole}}
-use Rattle.oil_lexer.specs.Classes.{class_of, is_in, AllIn}
-use Rattle.oil_lexer.specs.Fronts.{IsRun, IsLongestHex}
-use Rattle.oil_lexer.specs.Numbers.{value_of}
-use Rattle.oil_lexer.specs.Pieces.{part, IsOf, IsPiece, IsLongest, IsHex}
-use Rattle.oil_lexer.proofs.Firsts.{digit_first, letter_first}
-use Rattle.oil_lexer.proofs.Words.{is_word-take, word_bytes}
+use Rattle.std.specs.{Prelude.{IsTrue, nat_le, slice_index}, Char.{is_ascii_hexdigit}}
+use Rattle.osek_values.specs.{Names.{is_digit, is_word, is_name}, declared.limits.TheConstants.{MAX_NAME}}
+use Rattle.oil_lexer.specs.declared.classes.{Class.{Class, TheVariants.{Letter, Digit}}, ByteSet.{ByteSet, TheVariants.{NameBytes, Digits, HexDigits}}}
+use Rattle.oil_lexer.specs.{declared.token.{TokenKind.TheVariants.{Name, Number}, Piece.{Piece, TheVariants.{Whole}}}, Classes.{class_of, is_in, AllIn}}
+use Rattle.oil_lexer.specs.{Fronts.{IsRun, IsLongestHex}, Numbers.{value_of}, Pieces.{part, IsOf, IsPiece, IsLongest, IsHex}}
+use Rattle.oil_lexer.proofs.{Firsts.{digit_first, letter_first}, Words.{is_word-take, word_bytes}}
 
 -- what a piece is, at a known class
 pub is_of : (class : Class) (piece : Piece) (bytes : List ℕ) (n : ℕ) → class_of (slice_index bytes 0) ≡ class → IsPiece piece bytes n → IsOf class piece bytes n

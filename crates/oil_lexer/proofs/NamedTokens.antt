@@ -2,11 +2,9 @@
 use Rattle.std.proofs.Common.{◌≡◌, ℕ, inl, inr, true, List, [], ◌∷◌, take, sym, subst}
 use Rattle.std.specs.Prelude.{⊤, IsTrue, slice_index}
 use Rattle.osek_values.specs.Names.{is_word, is_name}
-use Rattle.oil_lexer.specs.declared.classes.{Class.{Class}, Class.TheVariants.{Blank, Letter, Digit, Quote, Slash, Single, Nothing}}
-use Rattle.oil_lexer.specs.declared.token.{TokenKind.{TokenKind}, TokenKind.TheVariants.{Name, Number, Text, Mark}, Token.{Token}, Piece.TheVariants.{Whole}}
-use Rattle.oil_lexer.specs.Classes.{class_of}
-use Rattle.oil_lexer.specs.Pieces.{IsOf, IsLongest, Fits}
-use Rattle.oil_lexer.specs.Text.{Parts, none, gap, token, AreTokens}
+use Rattle.oil_lexer.specs.declared.classes.Class.{Class, TheVariants.{Blank, Letter, Digit, Quote, Slash, Single, Nothing}}
+use Rattle.oil_lexer.specs.{declared.token.{TokenKind.{TokenKind, TheVariants.{Name, Number, Text, Mark}}, Token.{Token}, Piece.TheVariants.{Whole}}, Classes.{class_of}}
+use Rattle.oil_lexer.specs.{Pieces.{IsOf, IsLongest, Fits}, Text.{Parts, none, gap, token, AreTokens}}
 use Rattle.oil_lexer.proofs.Longest.{word_is_name}
 
 abbrev pub IsNamed : TokenKind → Type 0

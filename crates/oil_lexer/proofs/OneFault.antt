@@ -1,7 +1,7 @@
 -- A list of tokens has at most one first fault, and none where it has a tree.
 use Rattle.std.proofs.Common.{◌≡◌, ℕ, ⊎_elim, List, refl, sym, ap, ◌∙◌, subst}
 use Rattle.oil_lexer.specs.declared.token.Token.{Token}
-use Rattle.osek_values.specs.declared.refusal.{SyntaxRule.{SyntaxRule}, SyntaxRule.TheVariants.{S1, S2, S3}}
+use Rattle.osek_values.specs.declared.refusal.SyntaxRule.{SyntaxRule, TheVariants.{S1, S2, S3}}
 use Rattle.oil_lexer.specs.Faults as faults
 use Rattle.oil_lexer.proofs.Splits.{split_two}
 

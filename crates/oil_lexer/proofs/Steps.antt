@@ -1,8 +1,6 @@
 -- One more piece behind those before it.
 use Rattle.std.proofs.Common.{ℕ, ◌+◌, List, ◌++◌, take, drop}
-use Rattle.oil_lexer.specs.declared.token.{Piece.{Piece}, Piece.TheVariants.{Gap, Whole}, Token.{Token}}
-use Rattle.oil_lexer.specs.Pieces.{IsLongest, Fits}
-use Rattle.oil_lexer.specs.Text.{Parts, none, gap, token, tokens_of, line_ends}
+use Rattle.oil_lexer.specs.{declared.token.{Piece.{Piece, TheVariants.{Gap, Whole}}, Token.{Token}}, Pieces.{IsLongest, Fits}, Text.{Parts, none, gap, token, tokens_of, line_ends}}
 
 pub Parts-step : (last : ℕ) (rest : List ℕ) (piece : Piece) (n : ℕ) → IsLongest piece rest n → Fits piece → {line : ℕ} {bytes : List ℕ} {tokens : List Token} → Parts last rest line bytes tokens → Parts (last + line_ends (take n rest)) (drop n rest) line bytes (tokens ++ tokens_of piece last)
 Parts-step last rest Gap n longest fits none = gap n longest none

@@ -1,17 +1,13 @@
 -- A text has at most one list of tokens or first fault.
 use Rattle.std.proofs.Common.{◌≡◌, ℕ, ◌+◌, ◌<◌, ◌≤◌, ◌^◌, inl, inr, ⊎_elim, true, List, [], ◌∷◌, length, take, drop, arith, refl, sym, ◌∙◌, subst, ap}
 use Rattle.std.specs.Prelude.{slice_index, Result, Ok, Err}
-use Rattle.osek_values.specs.Names.{is_digit}
-use Rattle.osek_values.specs.declared.limits.TheConstants.{MAX_NAME}
+use Rattle.osek_values.specs.{Names.{is_digit}, declared.limits.TheConstants.{MAX_NAME}}
 use Rattle.std.proofs.str.Laws.{order}
-use Rattle.oil_lexer.specs.declared.classes.{Class.{Class}, Class.TheVariants.{Blank, Letter, Digit, Quote, Slash, Single, Nothing}, ByteSet.TheVariants.{Digits}}
-use Rattle.oil_lexer.specs.declared.token.{TokenKind.{TokenKind}, TokenKind.TheVariants.{Name, Number}, Piece.{Piece}, Piece.TheVariants.{Gap, Whole}, Token.{Token}}
-use Rattle.osek_values.specs.declared.refusal.{LexRule.{LexRule}, LexRule.TheVariants.{L1, L2, L3, L4, L5, L6}}
-use Rattle.osek_values.specs.declared.refused.LineFault.{LineFault}
-use Rattle.oil_lexer.specs.Classes.{class_of, AllIn}
-use Rattle.oil_lexer.specs.Pieces.{IsOf, IsLongest, IsHex, is_x, Fits, Breaks}
-use Rattle.oil_lexer.specs.Text.{Parts, none, gap, token, line_ends, token_of, AreTokens, IsFirstFault}
-use Rattle.oil_lexer.specs.Answers.{IsAnswer}
+use Rattle.oil_lexer.specs.declared.classes.{Class.{Class, TheVariants.{Blank, Letter, Digit, Quote, Slash, Single, Nothing}}, ByteSet.TheVariants.{Digits}}
+use Rattle.oil_lexer.specs.declared.token.{TokenKind.{TokenKind, TheVariants.{Name, Number}}, Piece.{Piece, TheVariants.{Gap, Whole}}, Token.{Token}}
+use Rattle.osek_values.specs.declared.{refusal.LexRule.{LexRule, TheVariants.{L1, L2, L3, L4, L5, L6}}, refused.LineFault.{LineFault}}
+use Rattle.oil_lexer.specs.{Classes.{class_of, AllIn}, Pieces.{IsOf, IsLongest, IsHex, is_x, Fits, Breaks}}
+use Rattle.oil_lexer.specs.{Text.{Parts, none, gap, token, line_ends, token_of, AreTokens, IsFirstFault}, Answers.{IsAnswer}}
 
 x_no_digit : (b : ℕ) → is_x b ≡ true → is_digit b ≡ true → ⊥
 x_no_digit b x d = grind arith

@@ -1,6 +1,5 @@
 -- The value of digits grows with each digit.
-use Rattle.std.proofs.Common.{◌≡◌, ℕ, ◌+◌, ◌*◌, ◌<◌, ◌≤◌, List, [], ◌∷◌, length, get_or, drop, arith}
-use Rattle.std.proofs.lemmas.List.{at_drop_more}
+use Rattle.std.proofs.{Common.{◌≡◌, ℕ, ◌+◌, ◌*◌, ◌<◌, ◌≤◌, List, [], ◌∷◌, length, get_or, drop, arith}, lemmas.List.{at_drop_more}}
 use Rattle.oil_lexer.specs.Numbers.{digit_value, value_from, value_of}
 
 times_base : (base n d : ℕ) → 1 ≤ base → n ≤ n * base + d

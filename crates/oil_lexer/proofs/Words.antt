@@ -2,8 +2,7 @@
 use Rattle.std.proofs.Common.{◌≡◌, ℕ, ◌<◌, ◌≤◌, Bool, true, zero, suc, List, [], ◌∷◌, length, take, get_or, arith, refl}
 use Rattle.std.specs.List.{list_all}
 use Rattle.osek_values.specs.Names.{is_letter, is_name_byte, is_word}
-use Rattle.oil_lexer.specs.declared.classes.ByteSet.TheVariants.{NameBytes}
-use Rattle.oil_lexer.specs.Classes.{AllIn}
+use Rattle.oil_lexer.specs.{declared.classes.ByteSet.TheVariants.{NameBytes}, Classes.{AllIn}}
 
 all_first : (p : ℕ → Bool) (bytes : List ℕ) (n : ℕ) → n ≤ length bytes → ((k : ℕ) → k < n → p (get_or bytes k 0) ≡ true) → list_all p (take n bytes) ≡ true
 all_first p bytes zero le each = refl

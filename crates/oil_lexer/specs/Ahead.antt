@@ -1,10 +1,8 @@
 -- The tokens that are ahead in a text.
-use Rattle.std.specs.Prelude.{◌≡◌, ℕ, List, []}
-use Rattle.std.specs.Coded.{Coded, Coded-set, codes}
+use Rattle.std.specs.{Prelude.{◌≡◌, ℕ, List, []}, Coded.{Coded, Coded-set, codes}}
 use mathlib.Core.Logic.{∥∥₁_elim}
 use mathlib.Core.HLevel.{Σ_prop_path}
-use Rattle.oil_lexer.specs.declared.token.Token.{Token}
-use Rattle.oil_lexer.specs.Text.{Parts}
+use Rattle.oil_lexer.specs.{declared.token.Token.{Token}, Text.{Parts}}
 
 -- from a line on the bytes are parted into blanks, comments and these tokens, to their end
 abbrev pub AreAhead : ℕ → List ℕ → List Token → Type 0

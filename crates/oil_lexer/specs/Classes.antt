@@ -1,10 +1,9 @@
 -- Bytes by what they begin, and by what they go on with (ISO 17356-6, lexical rules; the marks and the blanks are this
 -- project's profile).
-use Rattle.std.specs.Prelude.{ℕ, ◌<◌, ◌≤◌, Bool, not, ◌&&◌, ◌||◌, ◌==◌, if◌then◌else◌, List, IsTrue, slice_index, Option, Some, None}
-use Rattle.std.specs.Char.{is_ascii_hexdigit}
+use Rattle.std.specs.{Prelude.{ℕ, ◌<◌, ◌≤◌, Bool, not, ◌&&◌, ◌||◌, ◌==◌, if◌then◌else◌, List, IsTrue, slice_index, Option, Some, None}, Char.{is_ascii_hexdigit}}
 use Rattle.osek_values.specs.Names.{is_letter, is_digit, is_name_byte}
-use Rattle.oil_lexer.specs.declared.classes.{Class.{Class}, Class.TheVariants.{Blank, Letter, Digit, Quote, Slash, Single, Nothing}, ByteSet.{ByteSet}, ByteSet.TheVariants.{NameBytes, Digits, HexDigits, TextBytes, LineBytes}}
-use Rattle.oil_lexer.specs.declared.token.{Mark.{Mark}, Mark.TheVariants.{OpenBrace, CloseBrace, OpenParen, CloseParen, OpenBracket, CloseBracket, Equals, Semicolon, Colon, Comma, Period, Question, Bar, Plus, Minus}}
+use Rattle.oil_lexer.specs.declared.classes.{Class.{Class, TheVariants.{Blank, Letter, Digit, Quote, Slash, Single, Nothing}}, ByteSet.{ByteSet, TheVariants.{NameBytes, Digits, HexDigits, TextBytes, LineBytes}}}
+use Rattle.oil_lexer.specs.declared.token.Mark.{Mark, TheVariants.{OpenBrace, CloseBrace, OpenParen, CloseParen, OpenBracket, CloseBracket, Equals, Semicolon, Colon, Comma, Period, Question, Bar, Plus, Minus}}
 
 -- space, tab, CR, LF and form feed
 abbrev pub is_blank : ℕ → Bool

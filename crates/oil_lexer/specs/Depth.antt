@@ -1,6 +1,6 @@
 -- How many braces are open.
 use Rattle.std.specs.Prelude.{ℕ, ◌+◌, ◌-◌, List, [], ◌∷◌}
-use Rattle.oil_lexer.specs.declared.token.{TokenKind.{TokenKind}, TokenKind.TheVariants.{Mark}, Mark.TheVariants.{OpenBrace, CloseBrace}, Token.{Token}}
+use Rattle.oil_lexer.specs.declared.token.{TokenKind.{TokenKind, TheVariants.{Mark}}, Mark.TheVariants.{OpenBrace, CloseBrace}, Token.{Token}}
 
 -- how many braces are open behind a token
 abbrev pub deeper : ℕ → TokenKind → ℕ

@@ -1,10 +1,8 @@
 -- The first fault of a list of tokens, by a grammar and a limit of depth (this project's profile). A grammar is the set
 -- of its sentences with their trees, without any limit.
 use Rattle.std.specs.Prelude.{◌≡◌, ℕ, ◌≤◌, List, [], ◌∷◌, ◌++◌, IsTrue}
-use Rattle.osek_values.specs.declared.refusal.{SyntaxRule.{SyntaxRule}, SyntaxRule.TheVariants.{S1, S2, S3}}
-use Rattle.oil_lexer.specs.declared.token.Token.{Token}
-use Rattle.oil_lexer.specs.Tokens.{is_open, last_line}
-use Rattle.oil_lexer.specs.Depth.{depth_from}
+use Rattle.osek_values.specs.declared.refusal.SyntaxRule.{SyntaxRule, TheVariants.{S1, S2, S3}}
+use Rattle.oil_lexer.specs.{declared.token.Token.{Token}, Tokens.{is_open, last_line}, Depth.{depth_from}}
 
 module _ (Tree : Type 0) (IsSentence : List Token → Tree → Type 0) (limit : ℕ) where
   -- the tokens are a prefix of a sentence

@@ -1,10 +1,8 @@
 -- What the parts of the reader find at the front of a text.
 use Rattle.std.specs.Prelude.{◌≡◌, ℕ, ◌<◌, ◌≤◌, ◌^◌, false, List, length, slice_index, Option, SomeIff, Result, Ok, Err}
-use Rattle.oil_lexer.specs.declared.classes.ByteSet.{ByteSet}
-use Rattle.oil_lexer.specs.declared.token.{TokenKind.TheVariants.{Number}, Piece.{Piece}, Piece.TheVariants.{Whole}}
+use Rattle.oil_lexer.specs.declared.{classes.ByteSet.{ByteSet}, token.{TokenKind.TheVariants.{Number}, Piece.{Piece, TheVariants.{Whole}}}}
 use Rattle.osek_values.specs.declared.refusal.LexRule.{LexRule}
-use Rattle.oil_lexer.specs.Classes.{is_in, AllIn}
-use Rattle.oil_lexer.specs.Pieces.{ClosesAt, IsHex, IsLongest, Fits, Breaks}
+use Rattle.oil_lexer.specs.{Classes.{is_in, AllIn}, Pieces.{ClosesAt, IsHex, IsLongest, Fits, Breaks}}
 
 -- the bytes from one place up to another are in the set, and the next byte, if there is one, isn't
 pub record IsRun (set : ByteSet) (bytes : List ℕ) (from end : ℕ) : Type 0 where

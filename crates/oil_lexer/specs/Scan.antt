@@ -1,11 +1,9 @@
 -- What may still come behind tokens, as a stack of phrases, and the place where reading stops.
 use Rattle.std.specs.Prelude.{ℕ, List, [], ◌∷◌, nat_le, ◌&&◌, if◌then◌else◌, Option, Some, None, option_and_then}
-use Rattle.osek_values.specs.declared.refusal.{SyntaxRule.TheVariants.{S1, S2, S3}, SyntaxRule.{SyntaxRule}}
-use Rattle.oil_lexer.specs.declared.token.{TokenKind.{TokenKind}, Token.{Token}}
-use Rattle.oil_lexer.specs.declared.fault.{Stop.{Stop}, Stop.TheVariants.{NotAllowed, TooDeep, Ends}}
+use Rattle.osek_values.specs.declared.refusal.SyntaxRule.{SyntaxRule, TheVariants.{S1, S2, S3}}
+use Rattle.oil_lexer.specs.declared.{token.{TokenKind.{TokenKind}, Token.{Token}}, fault.Stop.{Stop, TheVariants.{NotAllowed, TooDeep, Ends}}}
 use Rattle.osek_values.specs.declared.refused.LineFault.{LineFault}
-use Rattle.oil_lexer.specs.Tokens.{is_open, last_line}
-use Rattle.oil_lexer.specs.Depth.{deeper}
+use Rattle.oil_lexer.specs.{Tokens.{is_open, last_line}, Depth.{deeper}}
 
 -- The tokens end here: allowed where nothing is expected.
 abbrev pub at_end : {Phrase : Type 0} → List Phrase → Option Stop

@@ -1,11 +1,8 @@
 -- The tokens of a text with their lines, and its first fault (ISO 17356-6, lexical rules; the rules on tokens and the
 -- limit are this project's profile).
 use Rattle.std.specs.Prelude.{◌≡◌, ◌≢◌, ℕ, ◌+◌, ◌<◌, ◌≤◌, ◌==◌, ◌⊎◌, List, [], ◌∷◌, length, take, drop, count_by}
-use Rattle.osek_values.specs.declared.limits.TheConstants.{MAX_FILE}
-use Rattle.osek_values.specs.declared.refused.LineFault.{LineFault}
-use Rattle.osek_values.specs.declared.refusal.{LexRule.{LexRule}, LexRule.TheVariants.{L6}}
-use Rattle.oil_lexer.specs.declared.token.{TokenKind.{TokenKind}, Piece.{Piece}, Piece.TheVariants.{Gap, Whole}, Token.{Token}}
-use Rattle.oil_lexer.specs.Pieces.{IsLongest, Fits, Breaks}
+use Rattle.osek_values.specs.declared.{limits.TheConstants.{MAX_FILE}, refused.LineFault.{LineFault}, refusal.LexRule.{LexRule, TheVariants.{L6}}}
+use Rattle.oil_lexer.specs.{declared.token.{TokenKind.{TokenKind}, Piece.{Piece, TheVariants.{Gap, Whole}}, Token.{Token}}, Pieces.{IsLongest, Fits, Breaks}}
 
 -- how many lines end in these bytes: each LF ends one
 abbrev pub line_ends : List ℕ → ℕ

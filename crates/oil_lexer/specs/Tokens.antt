@@ -1,6 +1,6 @@
 -- Tokens by their kinds.
 use Rattle.std.specs.Prelude.{ℕ, List, [], ◌∷◌, Bool, true, false}
-use Rattle.oil_lexer.specs.declared.token.{TokenKind.{TokenKind}, TokenKind.TheVariants.{Name, Number, Text, Mark}, Mark.{Mark as MarkType}, Mark.TheVariants.{OpenBrace, CloseBrace}, Token.{Token}}
+use Rattle.oil_lexer.specs.declared.token.{TokenKind.{TokenKind, TheVariants.{Name, Number, Text, Mark}}, Mark.{Mark as MarkType, TheVariants.{OpenBrace, CloseBrace}}, Token.{Token}}
 
 abbrev pub name : List ℕ → ℕ → Token
 name n line = record { kind = Name n; line = line }

@@ -1,7 +1,6 @@
 //! Bytes by what they begin, and by what they go on with.
 ghost use Rattle.std.specs.Prelude.{◌≡◌, ◌≤◌, length};
-ghost use Rattle.oil_lexer.specs.Classes.{mark_of, class_of, is_in};
-ghost use Rattle.oil_lexer.specs.Fronts.{IsRun};
+ghost use Rattle.oil_lexer.specs.{Classes.{mark_of, class_of, is_in}, Fronts.{IsRun}};
 
 use crate::token::Mark;
 

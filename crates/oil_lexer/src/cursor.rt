@@ -1,8 +1,7 @@
 //! The tokens of a text that are ahead.
 ghost use Rattle.std.specs.Prelude.{◌≡◌, ◌≤◌, ◌+◌, [], ◌∷◌, length, MatchOption, List};
 ghost use Rattle.osek_values.specs.declared.limits.TheConstants.{MAX_FILE};
-ghost use Rattle.oil_lexer.specs.declared.token.Token.{Token};
-ghost use Rattle.oil_lexer.specs.Ahead.{AreAhead, AreOnly, Ahead, Ahead-prop};
+ghost use Rattle.oil_lexer.specs.{declared.token.Token.{Token}, Ahead.{AreAhead, AreOnly, Ahead, Ahead-prop}};
 
 use crate::lexer::line_ends;
 use crate::piece::piece;

@@ -1,7 +1,6 @@
 //! Faults of grammar, and where reading stops.
 ghost use Rattle.std.specs.Prelude.{◌≡◌};
-ghost use Rattle.oil_lexer.specs.Tokens.{last_line};
-ghost use Rattle.oil_lexer.specs.Scan.{fault_of};
+ghost use Rattle.oil_lexer.specs.{Tokens.{last_line}, Scan.{fault_of}};
 ghost use Rattle.osek_values.specs.declared.refused.Refused.TheVariants.{Fault};
 
 use crate::cursor::Tokens;

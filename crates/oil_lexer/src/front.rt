@@ -1,7 +1,6 @@
 //! The token at the front.
 ghost use Rattle.std.specs.Prelude.{◌≡◌, [], ◌∷◌, MatchResult};
-ghost use Rattle.oil_lexer.specs.declared.fault.Stop.TheVariants.{Ends};
-ghost use Rattle.oil_lexer.specs.Tokens.{is_open, is_close};
+ghost use Rattle.oil_lexer.specs.{declared.fault.Stop.TheVariants.{Ends}, Tokens.{is_open, is_close}};
 
 use crate::cursor::Tokens;
 use crate::fault::Stop;

@@ -1,11 +1,7 @@
 //! The tokens of a text.
 ghost use Rattle.std.specs.Prelude.{◌≡◌, ◌≤◌, ℕ, List, length, MatchResult, Result};
-ghost use Rattle.osek_values.specs.declared.refused.LineFault.{LineFault};
-ghost use Rattle.osek_values.specs.declared.refusal.LexRule.{LexRule};
-ghost use Rattle.oil_lexer.specs.declared.token.Token.{Token};
-ghost use Rattle.oil_lexer.specs.Ahead.{AreAhead};
-ghost use Rattle.oil_lexer.specs.Answers.{IsAnswer};
-ghost use Rattle.oil_lexer.specs.Text.{line_ends, FaultsAt};
+ghost use Rattle.osek_values.specs.declared.{refused.LineFault.{LineFault}, refusal.LexRule.{LexRule}};
+ghost use Rattle.oil_lexer.specs.{declared.token.Token.{Token}, Ahead.{AreAhead}, Answers.{IsAnswer}, Text.{line_ends, FaultsAt}};
 
 use crate::cursor::Tokens;
 use crate::error::LexFault;

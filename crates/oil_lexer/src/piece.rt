@@ -1,13 +1,8 @@
 //! The piece at the front of a text.
 ghost use Rattle.std.specs.Prelude.{◌≡◌, ℕ, ◌-◌, ◌<◌, ◌^◌, ◌≤◌, length, slice_index, SomeIff, MatchOption, MatchResult, IsTrue};
-ghost use Rattle.oil_lexer.specs.declared.classes.Class.TheVariants.{Digit, Quote, Slash};
-ghost use Rattle.oil_lexer.specs.declared.classes.ByteSet.TheVariants.{HexDigits};
-ghost use Rattle.oil_lexer.specs.declared.token.Piece.TheVariants.{Gap, Whole};
-ghost use Rattle.oil_lexer.specs.declared.token.TokenKind.TheVariants.{Text};
-ghost use Rattle.oil_lexer.specs.Classes.{class_of, is_in, AllIn};
-ghost use Rattle.oil_lexer.specs.Numbers.{digit_value, value_of};
-ghost use Rattle.oil_lexer.specs.Pieces.{part, ClosesAt, IsHex, IsLongest, NoPiece, Breaks};
-ghost use Rattle.oil_lexer.specs.Fronts.{IsFirstClose, IsLongestHex, IsNumber, IsFront};
+ghost use Rattle.oil_lexer.specs.declared.{classes.{Class.TheVariants.{Digit, Quote, Slash}, ByteSet.TheVariants.{HexDigits}}, token.Piece.TheVariants.{Gap, Whole}};
+ghost use Rattle.oil_lexer.specs.{declared.token.TokenKind.TheVariants.{Text}, Classes.{class_of, is_in, AllIn}, Numbers.{digit_value, value_of}};
+ghost use Rattle.oil_lexer.specs.{Pieces.{part, ClosesAt, IsHex, IsLongest, NoPiece, Breaks}, Fronts.{IsFirstClose, IsLongestHex, IsNumber, IsFront}};
 
 use crate::classes::{ByteSet, Class, class_of, run_end};
 use crate::token::{Piece, Quoted, TokenKind, Word};

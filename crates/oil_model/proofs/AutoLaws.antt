@@ -1,14 +1,11 @@
 -- The bits that AUTO chooses are the lowest that are free.
 use Rattle.std.proofs.Common.{◌≡◌, ℕ, zero, suc, ◌+◌, ◌*◌, ◌<◌, ◌^◌, ◌⊎◌, inl, inr, ⊎_elim, List, [], ◌∷◌, refl, sym, ap, ◌∙◌, subst, below_more, arith}
-use Rattle.std.specs.Prelude.{Option, Some, None, bit_and, bit_or, max, slice_get, unwrap_or}
-use Rattle.std.specs.Int.{bit_at}
-use Rattle.std.proofs.lemmas.Nat.{pow_pos}
-use Rattle.std.proofs.lemmas.Nat.Bits.{bit_at-zero, bit_at-lt, bit_at_or, and_pow}
+use Rattle.std.specs.{Prelude.{Option, Some, None, bit_and, bit_or, max, slice_get, unwrap_or}, Int.{bit_at}}
+use Rattle.std.proofs.lemmas.Nat.{pow_pos, Bits.{bit_at-zero, bit_at-lt, bit_at_or, and_pow}}
 use Rattle.oil_system.specs.declared.system.EventObject.{EventObject}
 use Rattle.oil_tree.specs.declared.tree.Object.{Object}
 use Rattle.oil_model.specs.AutoBits.{declared, IsTaken, stated, chosen, IsLowestFree, lowest, none_left}
-use Rattle.oil_model.specs.Objects.{explicit, explicit_bits, free_from, free_bit, mask_by, mask_of, used_after}
-use Rattle.oil_model.specs.Systems.{event, events, events_from}
+use Rattle.oil_model.specs.{Objects.{explicit, explicit_bits, free_from, free_bit, mask_by, mask_of, used_after}, Systems.{event, events, events_from}}
 use Rattle.oil_model.proofs.FreeBits as free
 
 some_same : {X : Type 0} {x y : X} → Some x ≡ Some y → x ≡ y

@@ -1,7 +1,6 @@
 -- What it says that nothing is found.
 use Rattle.std.proofs.Common.{◌≡◌, ℕ, zero, suc, ◌<◌, inl, List, [], ◌∷◌, ◌++◌, length, get_or, map, Bool, true, false, refl, sym, subst, arith}
-use Rattle.std.specs.Prelude.{if◌then◌else◌, filter, cond}
-use Rattle.std.specs.List.{flat_map, AllByRecursion}
+use Rattle.std.specs.{Prelude.{if◌then◌else◌, filter, cond}, List.{flat_map, AllByRecursion}}
 use Rattle.oil_model.specs.Lines.{IsIn}
 
 pub true_not_false : true ≡ false → ⊥

@@ -1,8 +1,6 @@
 -- Objects with no two the same, where nothing is repeated.
 use Rattle.std.proofs.Common.{◌≡◌, List, [], ◌∷◌, ◌++◌, map, Bool, true, false, ◌&&◌, ◌||◌, refl, sym, ap, ◌∙◌, subst, append_assoc}
-use Rattle.std.specs.Prelude.{if◌then◌else◌, filter, cond}
-use Rattle.std.specs.Cmp.{IsEquivalence}
-use Rattle.std.specs.List.{AllByRecursion, IsDistinct, list_any}
+use Rattle.std.specs.{Prelude.{if◌then◌else◌, filter, cond}, Cmp.{IsEquivalence}, List.{AllByRecursion, IsDistinct, list_any}}
 use Rattle.std.proofs.lemmas.Map.Keys.{IsDistinct-push, IsDistinct-cons, IsDistinct-head, IsDistinct-tail}
 use Rattle.oil_model.specs.Rules.{repeated}
 use Rattle.oil_model.proofs.Clean.{left_empty, right_empty, mark_empty}

@@ -1,17 +1,12 @@
 -- What holds of the objects where the rules are kept.
 use Rattle.std.proofs.Common.{◌≡◌, ℕ, ◌≤◌, ◌⊎◌, inl, inr, ⊎_elim, List, [], ◌∷◌, ◌++◌, map, Bool, true, false, refl, sym, ap, ◌∙◌, subst, arith}
-use Rattle.std.specs.Prelude.{Option, Some, filter, cond, not, ◌&&◌, nat_le, nat_lt, codes, find}
-use Rattle.std.specs.List.{flat_map, AllByRecursion}
-use Rattle.std.specs.Str.{bytes_eq}
-use Rattle.std.proofs.lemmas.Bool.Decides.{nat_tests}
-use Rattle.std.proofs.lemmas.Slice.Eq.{bytes_eq-Decides}
+use Rattle.std.specs.{Prelude.{Option, Some, filter, cond, not, ◌&&◌, nat_le, nat_lt, codes, find}, List.{flat_map, AllByRecursion}, Str.{bytes_eq}}
+use Rattle.std.proofs.lemmas.{Bool.Decides.{nat_tests}, Slice.Eq.{bytes_eq-Decides}}
 use Rattle.oil_tree.specs.AttrLists.{attr_list}
-use Rattle.oil_tree.specs.declared.tree.{Attr.{Attr}, Object.{Object}, Value.{Value}, Value.TheVariants.{Word, Quoted, Numeric}, Sign.TheVariants.{Bare, Plus, Minus}}
-use Rattle.oil_model.specs.declared.table.{Scope.{Scope}, Presence.{Presence}, Presence.TheVariants.{Required}, Entry.{Entry}}
+use Rattle.oil_tree.specs.declared.tree.{Attr.{Attr}, Object.{Object}, Value.{Value, TheVariants.{Word, Quoted, Numeric}}, Sign.TheVariants.{Bare, Plus, Minus}}
+use Rattle.oil_model.specs.declared.table.{Scope.{Scope}, Presence.{Presence, TheVariants.{Required}}, Entry.{Entry}}
 use Rattle.oil_model.specs.declared.table.Scope.TheVariants as scope
-use Rattle.oil_model.specs.declared.domain.Domain.TheVariants.{Number}
-use Rattle.oil_model.specs.Table.{scope_of, entry_of}
-use Rattle.oil_model.specs.Lists.{found_at, found_of, found_in, found_below}
+use Rattle.oil_model.specs.{declared.domain.Domain.TheVariants.{Number}, Table.{scope_of, entry_of}, Lists.{found_at, found_of, found_in, found_below}}
 use Rattle.oil_model.specs.LookUp.{number, number_at, number_or, first_named, attr_line}
 use Rattle.oil_model.specs.Objects.{is_kind, objects_of, is_called, attrs_of, attrs_named, priority, maximum, minimum, alarm_time, cycle_time, start, line_at}
 use Rattle.oil_model.specs.Rules.{forbids, is_wrong, wrong_in, is_reversed, is_off_cycle, late_times_of, late_times, counter_of}
@@ -41,10 +36,6 @@ none_wrong s line attrs e = none_pass (is_wrong s) attrs (map_empty attr_line (f
 pub none_wrong_of : (kind : List ℕ) (s : Scope) (objects : List Object) → scope_of kind ≡ Some s → found_in wrong_in objects ≡ [] → AllByRecursion (λ (o : Object). NoneWrong s (attr_list o.attrs)) (objects_of kind objects)
 none_wrong_of kind s objects k e =
     all_filtered (λ (o : Object). NoneWrong s (attr_list o.attrs)) (λ (o : Object). found_of wrong_in o ≡ []) (is_kind kind) objects (λ o t h. none_wrong s o.line (attr_list o.attrs) (own_found wrong_in s o (kind_scope kind o t ∙ k) h).0) (each_empty (found_of wrong_in) objects e)
-
-not_false : (b : Bool) → not b ≡ false → b ≡ true
-not_false true e = refl
-not_false false e = absurd cc
 
 both_hold : (low high v : ℕ) → not (nat_le low v && nat_le v high) ≡ false → (low ≤ v) × (v ≤ high)
 both_hold low high v e = (grind (arith, nat_tests), grind (arith, nat_tests))

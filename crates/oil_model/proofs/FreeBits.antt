@@ -1,9 +1,7 @@
 -- The lowest free bit, step by step.
 use Rattle.std.proofs.Common.{◌≡◌, ℕ, suc, ◌+◌, ◌-◌, ◌*◌, ◌<◌, ◌^◌, ◌%◌, refl, sym, ap, ◌∙◌, arith}
 use Rattle.std.specs.Prelude.{bit_and, Bool, if◌then◌else◌, ◌==◌}
-use Rattle.std.proofs.Math.Pow.{pow-lt}
-use Rattle.std.proofs.Math.Nat.{mod-eq_of_lt}
-use Rattle.std.proofs.lemmas.Bool.{eq-eqb, ne_eqb}
+use Rattle.std.proofs.{Math.{Pow.{pow-lt}, Nat.{mod-eq_of_lt}}, lemmas.Bool.{eq-eqb, ne_eqb}}
 use Rattle.oil_model.specs.Objects.{free_from}
 
 pub shifted : (k : ℕ) → k < 64 → 1 * 2 ^ k % 18446744073709551616 ≡ 2 ^ k

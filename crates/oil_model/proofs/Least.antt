@@ -1,10 +1,9 @@
 -- The rules on OIL objects are judged in their order.
 use Rattle.std.proofs.Common.{inl, List, [], ◌∷◌, ℕ, refl, arith}
 use Rattle.oil_tree.specs.declared.tree.Tree.{Tree}
-use Rattle.osek_values.specs.declared.refusal.{OilRule.{OilRule}, OilRule.TheVariants.{O1, O2, O3, O4, O5, O6, O7, O8, O9, O10, O11, O12, O13, O14, O15}}
+use Rattle.osek_values.specs.declared.refusal.OilRule.{OilRule, TheVariants.{O1, O2, O3, O4, O5, O6, O7, O8, O9, O10, O11, O12, O13, O14, O15}}
 use Rattle.osek_values.proofs.LeastFaults.{AreAll, IsJudged}
-use Rattle.oil_model.specs.Rules.{lines}
-use Rattle.oil_model.specs.Faults.{order}
+use Rattle.oil_model.specs.{Rules.{lines}, Faults.{order}}
 
 abbrev pub rules : List OilRule
 rules = O1 ∷ O2 ∷ O3 ∷ O4 ∷ O5 ∷ O6 ∷ O7 ∷ O8 ∷ O9 ∷ O10 ∷ O11 ∷ O12 ∷ O13 ∷ O14 ∷ O15 ∷ []

@@ -1,7 +1,6 @@
 -- The least line, step by step.
 use Rattle.std.proofs.Common.{◌≡◌, ℕ, ◌+◌, ◌<◌, min, List, [], ◌∷◌, ◌++◌, length, get_or, drop, refl, sym, ap, ◌∙◌, arith}
-use Rattle.std.specs.Prelude.{Option, Some, None}
-use Rattle.std.specs.List.{flat_map}
+use Rattle.std.specs.{Prelude.{Option, Some, None}, List.{flat_map}}
 use Rattle.std.proofs.lemmas.List.{drop_more}
 use Rattle.oil_model.specs.Lines.{sooner, least}
 

@@ -1,34 +1,22 @@
 -- The system of a tree without a fault can be linked.
 use Rattle.std.proofs.Common.{◌≡◌, ℕ, zero, suc, ◌+◌, ◌<◌, ◌≤◌, ◌^◌, List, [], ◌∷◌, ◌++◌, length, map, Bool, true, false, refl, sym, ap, ◌∙◌, subst, arith, rules, IsTrue}
 use Rattle.std.specs.Prelude.{Some, if◌then◌else◌, cond, not, ◌&&◌, ◌||◌, codes, filter, nat_eq, nat_le, nat_lt, ◌==◌, slice_index_or, All}
-use Rattle.std.specs.List.{AllByRecursion, IsDistinct, list_any}
-use Rattle.std.specs.Str.{bytes_eq}
-use Rattle.std.proofs.lemmas.Bool.Decides.{nat_tests}
-use Rattle.std.proofs.lemmas.Cmp.{nat_list_eq_equiv, nat_eq_equiv}
-use Rattle.std.proofs.lemmas.Map.Keys.{IsDistinct-push, IsDistinct-cons, IsDistinct-head, IsDistinct-tail}
-use Rattle.osek_values.specs.Names.{is_name, AreNames}
-use Rattle.osek_values.specs.declared.refusal.OilRule.TheVariants.{O2, O4, O6, O7, O8, O11, O12, O13, O14}
-use Rattle.oil_system.specs.declared.objects.{Alarm.{Alarm}, Resource.{Resource}}
-use Rattle.oil_system.specs.declared.system.{TaskObject.{TaskObject}, CounterObject.{CounterObject}, EventObject.{EventObject}}
-use Rattle.oil_model.specs.declared.objects.Category.TheVariants.{One, Two}
-use Rattle.oil_model.specs.Linkable.{no_counter_object, is_cycle_of_object, IsActionAmong, IsAlarmAmong, IsLinkable}
-use Rattle.oil_tree.specs.AttrLists.{attr_list}
-use Rattle.oil_tree.specs.declared.tree.{Attr.{Attr}, Object.{Object}, Tree.{Tree}}
+use Rattle.std.specs.{List.{AllByRecursion, IsDistinct, list_any}, Str.{bytes_eq}}
+use Rattle.std.proofs.lemmas.{Bool.Decides.{nat_tests}, Cmp.{nat_list_eq_equiv, nat_eq_equiv}, Map.Keys.{IsDistinct-push, IsDistinct-cons, IsDistinct-head, IsDistinct-tail}}
+use Rattle.osek_values.specs.{Names.{is_name, AreNames}, declared.refusal.OilRule.TheVariants.{O2, O4, O6, O7, O8, O11, O12, O13, O14}}
+use Rattle.oil_system.specs.declared.{objects.{Alarm.{Alarm}, Resource.{Resource}}, system.{TaskObject.{TaskObject}, CounterObject.{CounterObject}, EventObject.{EventObject}}}
+use Rattle.oil_model.specs.{declared.objects.Category.TheVariants.{One, Two}, Linkable.{no_counter_object, is_cycle_of_object, IsActionAmong, IsAlarmAmong, IsLinkable}}
+use Rattle.oil_tree.specs.{AttrLists.{attr_list}, declared.tree.{Attr.{Attr}, Object.{Object}, Tree.{Tree}}}
 use Rattle.oil_model.specs.declared.table.Scope.TheVariants as scope
-use Rattle.oil_model.specs.Table.{scope_of}
-use Rattle.oil_model.specs.Lists.{found_of, found_in}
-use Rattle.oil_model.specs.LookUp.{number, says, word, inner}
+use Rattle.oil_model.specs.{Table.{scope_of}, Lists.{found_of, found_in}, LookUp.{number, says, word, inner}}
 use Rattle.oil_model.specs.Objects.{is_kind, is_called, objects_of, name_of, attrs_of, has_scheduler, is_other_mode, is_ordinary, is_isr, priority, maximum, minimum, alarm_time, cycle_time, start, explicit_bits, mask_of, used_after, line_at, object_line}
 use Rattle.oil_model.specs.Rules.{kinds, repeated, repeated_names, all_repeated_names, has_same_name, has_same_priority, shared_priorities, missing_in, wrong_in, dangling_in, is_callback, callbacks, empty_masks_from, empty_masks, beyond_limits, late_times, is_off_cycle, counter_of, resource_limit}
 use Rattle.oil_model.specs.Faults.{HasNoFault}
 use Rattle.oil_model.specs.Systems.{modes, events_from, events, task, counter, alarm, action_in, names_of, resource, scheduler, ceiling, names_resource, system_of}
 use Rattle.oil_model.proofs.Clean.{no_line, left_empty, right_empty, map_empty, mark_empty, none_pass, each_empty, all_filtered, all_weaker, all_both, true_not_false}
-use Rattle.oil_model.proofs.Distinct.{distinct_from, distinct_kept, all_kept}
-use Rattle.oil_model.proofs.Facts.{own_found, kind_scope, priorities, IsMaximum, maxima, minima, IsInTime, times}
-use Rattle.oil_model.proofs.WithinLimits.{IsWithinLimits, within_limits, few_modes, length-names}
-use Rattle.oil_model.proofs.Referring.{RefersToDeclared, IsSoundAlarm, sound_list, sound_alarm}
-use Rattle.oil_model.proofs.Bits.{known_hooks, autostart_below, no_start, ceiling_small}
-use Rattle.oil_model.proofs.Numbers.{IsAt, at_number, not_zero, mask_some}
+use Rattle.oil_model.proofs.{Distinct.{distinct_from, distinct_kept, all_kept}, Facts.{own_found, kind_scope, priorities, IsMaximum, maxima, minima, IsInTime, times}}
+use Rattle.oil_model.proofs.{WithinLimits.{IsWithinLimits, within_limits, few_modes, length-names}, Referring.{RefersToDeclared, IsSoundAlarm, sound_list, sound_alarm}}
+use Rattle.oil_model.proofs.{Bits.{known_hooks, autostart_below, no_start, ceiling_small}, Numbers.{IsAt, at_number, not_zero, mask_some}}
 
 none_distinct : {K : Type 0} (eq : K → K → Bool) → IsDistinct eq []
 unfolding IsDistinct

@@ -3,8 +3,7 @@ use Rattle.std.proofs.Common.{◌≡◌, ℕ, ◌+◌, ◌<◌, ◌≤◌, List,
 use Rattle.std.specs.Prelude.{Option, Some, filter, cond}
 use Rattle.std.proofs.lemmas.List.{at_drop_all}
 use Rattle.oil_model.specs.Lines.{sooner, least}
-use Rattle.oil_model.proofs.Leasts.{sooner_assoc, sooner_none}
-use Rattle.oil_model.proofs.Repeats.{filter_yes, filter_not}
+use Rattle.oil_model.proofs.{Leasts.{sooner_assoc, sooner_none}, Repeats.{filter_yes, filter_not}}
 
 module _ {X : Type 0} (p q : X → Bool) (line : X → ℕ) (xs : List X) (i : ℕ) (best : Option ℕ) {total : Option ℕ} (e : sooner best (least (map line (filter q (filter p (drop i xs))))) ≡ total) where
   -- the next element passes the first filter, and passes the second or doesn't

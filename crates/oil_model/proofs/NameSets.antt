@@ -1,12 +1,8 @@
 -- A look-up in a set, as the clauses of the set say it.
 use Rattle.std.proofs.Common.{◌≡◌, ℕ, List, Bool, true, false, ◌||◌, refl, sym, nat_cmp, arith}
-use Rattle.std.specs.Prelude.{cond, ◌==◌, nat_lt}
-use Rattle.std.specs.Borrow.{Bor}
-use Rattle.std.specs.Ordering.{is_eq}
-use Rattle.std.specs.declared.cmp.Ordering.TheVariants.{Less, Equal, Greater}
+use Rattle.std.specs.{Prelude.{cond, ◌==◌, nat_lt}, Borrow.{Bor}, Ordering.{is_eq}, declared.cmp.Ordering.TheVariants.{Less, Equal, Greater}}
 use Rattle.std.proofs.lemmas.Bool.Decides.{nat_tests}
-use Rattle.std.specs.Cmp.Lexicographic.{slice_cmp}
-use Rattle.std.specs.List.{list_any}
+use Rattle.std.specs.{Cmp.Lexicographic.{slice_cmp}, List.{list_any}}
 use Rattle.std.proofs.lemmas.Map.Text.{is_eq-slice_cmp}
 use Rattle.oil_model.specs.NameSets.{is_key}
 

@@ -1,15 +1,10 @@
 -- Objects by their numbers.
 use Rattle.std.proofs.Common.{◌≡◌, ℕ, suc, ◌+◌, ◌<◌, ⊎_elim, List, [], ◌∷◌, length, map, Bool, true, false, refl, sym, ap, ◌∙◌, subst, arith, add-one}
-use Rattle.std.specs.Prelude.{Some, if◌then◌else◌, cond, codes, find, ◌||◌, ◌==◌, slice_index_or}
-use Rattle.std.specs.List.{list_any}
-use Rattle.std.specs.Str.{bytes_eq}
+use Rattle.std.specs.{Prelude.{Some, if◌then◌else◌, cond, codes, find, ◌||◌, ◌==◌, slice_index_or}, List.{list_any}, Str.{bytes_eq}}
 use Rattle.std.proofs.lemmas.Bool.Decides.{nat_tests}
 use Rattle.oil_tree.specs.declared.tree.Object.{Object}
-use Rattle.oil_model.specs.Objects.{is_called, name_of, mask_of, used_after, line_at}
-use Rattle.oil_model.specs.Rules.{empty_masks_from}
-use Rattle.oil_model.specs.Systems.{number_from, number_in, events_from, mask_named}
-use Rattle.oil_model.proofs.Clean.{true_not_false, left_empty, right_empty, mark_empty}
-use Rattle.oil_model.proofs.Facts.{true_or_false}
+use Rattle.oil_model.specs.{Objects.{is_called, name_of, mask_of, used_after, line_at}, Rules.{empty_masks_from}, Systems.{number_from, number_in, events_from, mask_named}}
+use Rattle.oil_model.proofs.{Clean.{true_not_false, left_empty, right_empty, mark_empty}, Facts.{true_or_false}}
 
 or_second : (a b : Bool) → a ≡ false → (a || b) ≡ true → b ≡ true
 or_second true b f h = absurd (true_not_false f)

@@ -3,11 +3,8 @@ use Rattle.std.proofs.Common.{◌≡◌, refl, ◌∙◌, sym, ap}
 use Rattle.std.specs.Prelude.{Option, Some, None, Result, Ok, Err}
 use Rattle.oil_system.specs.declared.system.System.{System}
 use Rattle.oil_tree.specs.declared.tree.Tree.{Tree}
-use Rattle.osek_values.specs.declared.refused.LineFault.{LineFault}
-use Rattle.osek_values.specs.declared.refusal.{OilRule.{OilRule}, OilRule.TheVariants.{O1}}
-use Rattle.oil_model.specs.Answers.{IsAnswer}
-use Rattle.oil_model.specs.Faults.{IsLeastOrNone, order}
-use Rattle.oil_model.specs.Systems.{system_of}
+use Rattle.osek_values.specs.declared.{refused.LineFault.{LineFault}, refusal.OilRule.{OilRule, TheVariants.{O1}}}
+use Rattle.oil_model.specs.{Answers.{IsAnswer}, Faults.{IsLeastOrNone, order}, Systems.{system_of}}
 use Rattle.osek_values.proofs.LeastFaults.{same_fault, no_fault, least_or_none}
 use Rattle.oil_model.proofs.Least.{rules, lines_in, all}
 

@@ -1,22 +1,17 @@
 -- What an attribute refers to, where no required one is missing, none is wrong, and none refers to nothing.
 use Rattle.std.proofs.Common.{◌≡◌, ℕ, inl, inr, List, [], ◌∷◌, Bool, true, false, refl, sym, ap, ◌∙◌, subst}
-use Rattle.std.specs.Prelude.{⊤, Option, Some, None, if◌then◌else◌, cond, not, ◌||◌, codes, filter}
-use Rattle.std.specs.List.{AllByRecursion}
-use Rattle.std.specs.Str.{bytes_eq}
+use Rattle.std.specs.{Prelude.{⊤, Option, Some, None, if◌then◌else◌, cond, not, ◌||◌, codes, filter}, List.{AllByRecursion}, Str.{bytes_eq}}
 use Rattle.std.proofs.lemmas.Slice.Eq.{bytes_eq-Decides}
 use Rattle.oil_tree.specs.AttrLists.{attr_list}
-use Rattle.oil_tree.specs.declared.tree.{Attr.{Attr}, Object.{Object}, Value.{Value}, Value.TheVariants.{Word, Quoted, Numeric}, Sign.{Sign}, Sign.TheVariants.{Bare, Plus, Minus}}
-use Rattle.oil_model.specs.declared.table.{Scope.{Scope}, Presence.{Presence}, Presence.TheVariants.{Required}, Entry.{Entry}}
+use Rattle.oil_tree.specs.declared.tree.{Attr.{Attr}, Object.{Object}, Value.{Value, TheVariants.{Word, Quoted, Numeric}}, Sign.{Sign, TheVariants.{Bare, Plus, Minus}}}
+use Rattle.oil_model.specs.declared.table.{Scope.{Scope}, Presence.{Presence, TheVariants.{Required}}, Entry.{Entry}}
 use Rattle.oil_model.specs.declared.table.Scope.TheVariants as scope
 use Rattle.oil_model.specs.declared.domain.Domain.{Domain}
 use Rattle.oil_model.specs.declared.domain.Domain.TheVariants as domain
-use Rattle.oil_model.specs.Table.{inner_scope, entry_of, allows}
-use Rattle.oil_model.specs.Lists.{found_within, found_below}
-use Rattle.oil_model.specs.LookUp.{has, first_named, word_of, word_at, word, says, inner_at, inner, attr_line}
-use Rattle.oil_model.specs.Objects.{declares}
+use Rattle.oil_model.specs.{Table.{inner_scope, entry_of, allows}, Lists.{found_within, found_below}}
+use Rattle.oil_model.specs.{LookUp.{has, first_named, word_of, word_at, word, says, inner_at, inner, attr_line}, Objects.{declares}}
 use Rattle.oil_model.specs.Rules.{lacks, missing_in, forbids, is_wrong, wrong_in, is_declared, names_nothing, is_dangling, dangling_in}
-use Rattle.oil_model.proofs.Clean.{true_not_false, map_empty, mark_empty, none_pass, all_both}
-use Rattle.oil_model.proofs.Facts.{true_or_false, NoneWrong, none_wrong}
+use Rattle.oil_model.proofs.{Clean.{true_not_false, map_empty, mark_empty, none_pass, all_both}, Facts.{true_or_false, NoneWrong, none_wrong}}
 
 or_second : (a b : Bool) → a ≡ false → (a || b) ≡ true → b ≡ true
 or_second true b f h = absurd (true_not_false f)

@@ -1,11 +1,8 @@
 -- What is repeated in a list, step by step.
 use Rattle.std.proofs.Common.{◌≡◌, ℕ, ◌+◌, ◌<◌, List, [], ◌∷◌, ◌++◌, length, get_or, map, drop, Bool, true, false, ◌||◌, refl, sym, ap, ◌∙◌}
-use Rattle.std.specs.Prelude.{Option, Some, None, if◌then◌else◌, not, filter, cond}
-use Rattle.std.specs.List.{list_any}
-use Rattle.std.proofs.lemmas.List.{drop_more}
-use Rattle.std.proofs.lemmas.List.Folds.{list_any-append}
-use Rattle.oil_model.specs.Lines.{sooner, least}
-use Rattle.oil_model.specs.Rules.{repeated}
+use Rattle.std.specs.{Prelude.{Option, Some, None, if◌then◌else◌, not, filter, cond}, List.{list_any}}
+use Rattle.std.proofs.lemmas.List.{drop_more, Folds.{list_any-append}}
+use Rattle.oil_model.specs.{Lines.{sooner, least}, Rules.{repeated}}
 use Rattle.oil_model.proofs.Leasts.{sooner_assoc}
 
 module _ {X : Type 0} (p : X → Bool) (xs : List X) (i : ℕ) (x : X) (h : i < length xs) (is : x ≡ get_or xs i x) where

@@ -1,14 +1,10 @@
 -- How many objects there are where no object is beyond its limit.
 use Rattle.std.proofs.Common.{◌≡◌, ℕ, zero, suc, ◌+◌, ◌≤◌, ⊎_elim, List, [], ◌∷◌, ◌++◌, length, map, Bool, sym, subst, arith}
-use Rattle.std.specs.Prelude.{if◌then◌else◌, filter, codes, slice_get}
-use Rattle.std.specs.Str.{bytes_eq}
+use Rattle.std.specs.{Prelude.{if◌then◌else◌, filter, codes, slice_get}, Str.{bytes_eq}}
 use Rattle.oil_tree.specs.declared.tree.Object.{Object}
-use Rattle.oil_model.specs.declared.objects.Category.TheVariants.{Two}
-use Rattle.oil_model.specs.Objects.{objects_of, name_of, has_scheduler, is_other_mode, is_ordinary, is_isr}
-use Rattle.oil_model.specs.Rules.{found_line, first_beyond, resource_limit, beyond_limits}
-use Rattle.oil_model.specs.Systems.{modes, number_from, number_in, names_of}
-use Rattle.oil_model.proofs.Clean.{left_empty, right_empty}
-use Rattle.oil_model.proofs.Facts.{true_or_false}
+use Rattle.oil_model.specs.{declared.objects.Category.TheVariants.{Two}, Objects.{objects_of, name_of, has_scheduler, is_other_mode, is_ordinary, is_isr}}
+use Rattle.oil_model.specs.{Rules.{found_line, first_beyond, resource_limit, beyond_limits}, Systems.{modes, number_from, number_in, names_of}}
+use Rattle.oil_model.proofs.{Clean.{left_empty, right_empty}, Facts.{true_or_false}}
 
 at_most : (xs : List Object) (n : ℕ) → found_line (slice_get xs n) ≡ [] → length xs ≤ n
 at_most [] n e = omega arith

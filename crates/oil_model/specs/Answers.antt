@@ -2,10 +2,8 @@
 use Rattle.std.specs.Prelude.{◌≡◌, Result, Ok, Err}
 use Rattle.oil_system.specs.declared.system.System.{System}
 use Rattle.oil_tree.specs.declared.tree.Tree.{Tree}
-use Rattle.osek_values.specs.declared.refused.LineFault.{LineFault}
-use Rattle.osek_values.specs.declared.refusal.OilRule.{OilRule}
-use Rattle.oil_model.specs.Faults.{HasNoFault, IsLeastFault}
-use Rattle.oil_model.specs.Systems.{system_of}
+use Rattle.osek_values.specs.declared.{refused.LineFault.{LineFault}, refusal.OilRule.{OilRule}}
+use Rattle.oil_model.specs.{Faults.{HasNoFault, IsLeastFault}, Systems.{system_of}}
 
 -- a tree without a fault has the system that its objects declare
 pub record HasSystem (t : Tree) (system : System) : Type 0 where

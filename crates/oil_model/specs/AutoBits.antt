@@ -1,10 +1,8 @@
 -- The bits that AUTO chooses, said of each event by itself.
-use Rattle.std.specs.Prelude.{◌≡◌, ℕ, ◌<◌, ◌^◌, List, Some, None, codes, slice_get}
-use Rattle.std.specs.Int.{bit_at}
+use Rattle.std.specs.{Prelude.{◌≡◌, ℕ, ◌<◌, ◌^◌, List, Some, None, codes, slice_get}, Int.{bit_at}}
 use Rattle.oil_system.specs.declared.system.EventObject.{EventObject}
 use Rattle.oil_tree.specs.declared.tree.Object.{Object}
-use Rattle.oil_model.specs.Objects.{objects_of, explicit}
-use Rattle.oil_model.specs.Systems.{events}
+use Rattle.oil_model.specs.{Objects.{objects_of, explicit}, Systems.{events}}
 
 -- the events, in order of declaration
 abbrev pub declared : List Object → List Object

@@ -1,8 +1,7 @@
 -- Which objects are counted against a limit. RES_SCHEDULER, where it exists, and OSDEFAULTAPPMODE have places of their own.
 use Rattle.std.specs.Prelude.{Bool, codes}
 use Rattle.oil_tree.specs.declared.tree.Object.{Object}
-use Rattle.oil_model.specs.declared.limits.{Counted.{Counted}, Counted.TheVariants.{Tasks, Isrs, Counters, Alarms, Events, Resources, Modes}}
-use Rattle.oil_model.specs.declared.objects.Category.TheVariants.{Two}
+use Rattle.oil_model.specs.declared.{limits.Counted.{Counted, TheVariants.{Tasks, Isrs, Counters, Alarms, Events, Resources, Modes}}, objects.Category.TheVariants.{Two}}
 use Rattle.oil_model.specs.Objects.{is_kind, is_isr, is_ordinary, is_other_mode}
 
 abbrev pub is_counted : Counted → Object → Bool

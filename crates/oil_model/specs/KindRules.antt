@@ -1,9 +1,8 @@
 -- The rules on each object of a kind by itself: of which kind, on the line of which attribute, and when it is violated.
 use Rattle.std.specs.Prelude.{ℕ, List, Bool, codes, filter, map}
 use Rattle.oil_tree.specs.declared.tree.Object.{Object}
-use Rattle.oil_model.specs.declared.kind_rules.{KindRule.{KindRule}, KindRule.TheVariants.{SeveralActivations, SpecialResource, Callback, ReversedCounter, OtherCategory, ResourceOfIsr}}
-use Rattle.oil_model.specs.Objects.{objects_of, line_at}
-use Rattle.oil_model.specs.Rules.{is_activated_often, is_special_resource, is_callback, is_reversed, is_other_category, takes_resource}
+use Rattle.oil_model.specs.declared.kind_rules.KindRule.{KindRule, TheVariants.{SeveralActivations, SpecialResource, Callback, ReversedCounter, OtherCategory, ResourceOfIsr}}
+use Rattle.oil_model.specs.{Objects.{objects_of, line_at}, Rules.{is_activated_often, is_special_resource, is_callback, is_reversed, is_other_category, takes_resource}}
 
 abbrev pub kind_of : KindRule → List ℕ
 kind_of SeveralActivations = codes "TASK"

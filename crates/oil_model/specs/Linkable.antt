@@ -1,12 +1,10 @@
 -- What linking needs of a system, and resolving gives: all that an application keeps, but for what comes with code.
 use Rattle.std.specs.Prelude.{◌≡◌, ℕ, ◌^◌, ◌<◌, ◌≤◌, Bool, ◌==◌, nat_le, nat_eq, ◌||◌, ◌&&◌, IsTrue, List, length, map, slice_index_or, All, [], false}
-use Rattle.std.specs.List.{IsDistinct, list_any}
-use Rattle.std.specs.Str.{bytes_eq}
+use Rattle.std.specs.{List.{IsDistinct, list_any}, Str.{bytes_eq}}
 use Rattle.osek_values.specs.declared.limits.TheConstants.{MAX_TASKS, MAX_ISRS, MAX_COUNTERS, MAX_ALARMS, MAX_RESOURCES, MAX_MODES}
-use Rattle.oil_system.specs.declared.objects.{Action.{Action}, Action.TheVariants.{ActivateTask, SetEvent}, Alarm.{Alarm}, Resource.{Resource}}
+use Rattle.oil_system.specs.declared.objects.{Action.{Action, TheVariants.{ActivateTask, SetEvent}}, Alarm.{Alarm}, Resource.{Resource}}
 use Rattle.osek_values.specs.Names.{AreNames}
-use Rattle.oil_system.specs.Objects.{greatest_ceiling}
-use Rattle.oil_system.specs.declared.system.{TaskObject.{TaskObject}, CounterObject.{CounterObject}, EventObject.{EventObject}, System.{System}}
+use Rattle.oil_system.specs.{Objects.{greatest_ceiling}, declared.system.{TaskObject.{TaskObject}, CounterObject.{CounterObject}, EventObject.{EventObject}, System.{System}}}
 
 -- past the end of the table stands a counter that declares nothing
 abbrev pub no_counter_object : CounterObject

@@ -1,11 +1,8 @@
 -- The lists of attributes of a tree, each in its scope: of an object, on the line of its kind, and in an attribute, on
 -- the line of that attribute.
-use Rattle.std.specs.Prelude.{ℕ, List, [], ◌++◌, Option, Some, None}
-use Rattle.std.specs.List.{flat_map}
-use Rattle.oil_tree.specs.AttrLists.{attr_list}
-use Rattle.oil_tree.specs.declared.tree.{Attr.{Attr}, Object.{Object}}
-use Rattle.oil_model.specs.declared.table.Scope.{Scope}
-use Rattle.oil_model.specs.Table.{scope_of, inner_scope}
+use Rattle.std.specs.{Prelude.{ℕ, List, [], ◌++◌, Option, Some, None}, List.{flat_map}}
+use Rattle.oil_tree.specs.{AttrLists.{attr_list}, declared.tree.{Attr.{Attr}, Object.{Object}}}
+use Rattle.oil_model.specs.{declared.table.Scope.{Scope}, Table.{scope_of, inner_scope}}
 
 -- what is found in a list of attributes, by its scope and line
 module _ (found : Scope → ℕ → List Attr → List ℕ) where

@@ -1,9 +1,6 @@
 -- What stands in a list of attributes. The first attribute of a name counts; whether there may be more is for the rules.
-use Rattle.std.specs.Prelude.{ℕ, List, [], Bool, Option, Some, None, find, filter}
-use Rattle.std.specs.List.{list_any}
-use Rattle.std.specs.Str.{bytes_eq}
-use Rattle.oil_tree.specs.declared.tree.{Attr.{Attr}, Value.{Value}, Value.TheVariants.{Word, Numeric}}
-use Rattle.oil_tree.specs.AttrLists.{attr_list}
+use Rattle.std.specs.{Prelude.{ℕ, List, [], Bool, Option, Some, None, find, filter}, List.{list_any}, Str.{bytes_eq}}
+use Rattle.oil_tree.specs.{declared.tree.{Attr.{Attr}, Value.{Value, TheVariants.{Word, Numeric}}}, AttrLists.{attr_list}}
 
 abbrev pub is_named : List ℕ → Attr → Bool
 is_named n a = bytes_eq a.name n

@@ -1,11 +1,7 @@
 -- Sets of names.
-use Rattle.std.specs.Prelude.{◌≡◌, ℕ, Bool, List}
-use Rattle.std.specs.Borrow.{Bor}
-use Rattle.std.specs.List.{list_any}
-use Rattle.std.specs.Str.{bytes_eq}
+use Rattle.std.specs.{Prelude.{◌≡◌, ℕ, Bool, List}, Borrow.{Bor}, List.{list_any}, Str.{bytes_eq}}
 use Rattle.oil_tree.specs.declared.tree.Object.{Object}
-use Rattle.oil_model.specs.declared.name_set.NameSet.{NameSet}
-use Rattle.oil_model.specs.Objects.{declares}
+use Rattle.oil_model.specs.{declared.name_set.NameSet.{NameSet}, Objects.{declares}}
 
 abbrev pub is_key : List ℕ → Bor (List ℕ) → Bool
 is_key n key = bytes_eq n key.now

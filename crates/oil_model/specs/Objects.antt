@@ -1,11 +1,8 @@
 -- What an object declares, of what the rules and the system both read.
 use Rattle.std.specs.Prelude.{ℕ, ◌+◌, List, [], ◌∷◌, Bool, not, ◌&&◌, if◌then◌else◌, Option, Some, None, codes, find, filter, bit_or, bit_and, ◌==◌, ◌^◌, zero, suc, unwrap_or}
-use Rattle.std.specs.List.{list_any}
-use Rattle.std.specs.Str.{bytes_eq}
-use Rattle.oil_tree.specs.declared.tree.{Attr.{Attr}, Object.{Object}, Value.{Value}, Value.TheVariants.{Numeric}}
-use Rattle.oil_tree.specs.AttrLists.{attr_list}
-use Rattle.oil_model.specs.declared.objects.{Category.{Category}, Category.TheVariants.{One, Two}}
-use Rattle.oil_model.specs.LookUp.{first_named, number, says, inner, line}
+use Rattle.std.specs.{List.{list_any}, Str.{bytes_eq}}
+use Rattle.oil_tree.specs.{declared.tree.{Attr.{Attr}, Object.{Object}, Value.{Value, TheVariants.{Numeric}}}, AttrLists.{attr_list}}
+use Rattle.oil_model.specs.{declared.objects.Category.{Category, TheVariants.{One, Two}}, LookUp.{first_named, number, says, inner, line}}
 
 abbrev pub is_kind : List ℕ → Object → Bool
 is_kind kind o = bytes_eq o.kind kind

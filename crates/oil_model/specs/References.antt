@@ -1,9 +1,7 @@
 -- What the rule on references needs to know of the objects.
 use Rattle.std.specs.Prelude.{◌≡◌, List, codes}
 use Rattle.oil_tree.specs.declared.tree.Object.{Object}
-use Rattle.oil_model.specs.declared.references.References.{References}
-use Rattle.oil_model.specs.NameSets.{KnowsNames}
-use Rattle.oil_model.specs.Objects.{has_scheduler}
+use Rattle.oil_model.specs.{declared.references.References.{References}, NameSets.{KnowsNames}, Objects.{has_scheduler}}
 
 -- it has the names of the kinds that are referred to
 pub record KnowsObjects (r : References) (objects : List Object) : Type 0 where

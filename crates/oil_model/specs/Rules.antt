@@ -1,18 +1,14 @@
 -- The rules on a tree: on which lines each is violated.
 use Rattle.std.specs.Prelude.{ℕ, ◌-◌, List, [], ◌∷◌, ◌++◌, Bool, true, false, not, ◌&&◌, ◌||◌, if◌then◌else◌, nat_lt, ◌==◌, Option, Some, None, codes, filter, map, drop, slice_get}
-use Rattle.std.specs.List.{list_any, flat_map}
-use Rattle.std.specs.Str.{bytes_eq}
+use Rattle.std.specs.{List.{list_any, flat_map}, Str.{bytes_eq}}
 use Rattle.osek_values.specs.declared.limits.TheConstants.{MAX_TASKS, MAX_ISRS, MAX_COUNTERS, MAX_ALARMS, MAX_EVENTS, MAX_RESOURCES, MAX_MODES}
-use Rattle.osek_values.specs.declared.refusal.{OilRule.{OilRule}, OilRule.TheVariants.{O1, O2, O3, O4, O5, O6, O7, O8, O9, O10, O11, O12, O13, O14, O15}}
-use Rattle.oil_tree.specs.declared.tree.{Attr.{Attr}, Object.{Object}, Tree.{Tree}, Value.{Value}, Value.TheVariants.{Word}}
-use Rattle.oil_model.specs.declared.objects.Category.TheVariants.{Two}
-use Rattle.oil_model.specs.declared.table.{Scope.{Scope}, Entry.{Entry}}
-use Rattle.oil_model.specs.declared.domain.Domain.{Domain}
+use Rattle.osek_values.specs.declared.refusal.OilRule.{OilRule, TheVariants.{O1, O2, O3, O4, O5, O6, O7, O8, O9, O10, O11, O12, O13, O14, O15}}
+use Rattle.oil_tree.specs.declared.tree.{Attr.{Attr}, Object.{Object}, Tree.{Tree}, Value.{Value, TheVariants.{Word}}}
+use Rattle.oil_model.specs.declared.{objects.Category.TheVariants.{Two}, table.{Scope.{Scope}, Entry.{Entry}}, domain.Domain.{Domain}}
 use Rattle.oil_model.specs.declared.domain.Domain.TheVariants as domain
 use Rattle.oil_model.specs.Table.{Row, scope_of, rows, entry_of, allows, is_many, is_required}
 use Rattle.oil_tree.specs.AttrLists.{attr_list}
-use Rattle.oil_model.specs.Lists.{found_in}
-use Rattle.oil_model.specs.LookUp.{has, named, number, says, line, word, attr_line}
+use Rattle.oil_model.specs.{Lists.{found_in}, LookUp.{has, named, number, says, line, word, attr_line}}
 use Rattle.oil_model.specs.Objects.{objects_of, is_called, declares, attrs_named, line_at, object_line, has_scheduler, is_other_mode, is_ordinary, is_isr, priority, maximum, minimum, alarm_time, cycle_time, start, explicit_bits, mask_of, used_after}
 
 -- those that are the same as an earlier one

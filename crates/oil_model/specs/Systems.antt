@@ -1,15 +1,10 @@
 -- The system that a tree declares: a clause for each attribute (ISO 17356-6, standard objects).
-use Rattle.std.specs.Prelude.{ℕ, ◌+◌, ◌-◌, ◌*◌, ◌^◌, max, List, [], ◌∷◌, ◌++◌, map, length, Bool, ◌&&◌, if◌then◌else◌, codes, filter, bit_or}
-use Rattle.std.specs.List.{list_any}
-use Rattle.std.specs.Str.{bytes_eq}
-use Rattle.osek_values.specs.Hooks.{hook_set, when, startup, shutdown, error, pre_task, post_task}
-use Rattle.osek_values.specs.Numbers.{mask, task_no, counter_no}
-use Rattle.oil_system.specs.declared.objects.{Schedule.{Schedule}, Schedule.TheVariants.{Non, Full}, Action.{Action}, Action.TheVariants.{ActivateTask, SetEvent}, Alarm.{Alarm}, Resource.{Resource}}
+use Rattle.std.specs.{Prelude.{ℕ, ◌+◌, ◌-◌, ◌*◌, ◌^◌, max, List, [], ◌∷◌, ◌++◌, map, length, Bool, ◌&&◌, if◌then◌else◌, codes, filter, bit_or}, List.{list_any}, Str.{bytes_eq}}
+use Rattle.osek_values.specs.{Hooks.{hook_set, when, startup, shutdown, error, pre_task, post_task}, Numbers.{mask, task_no, counter_no}}
+use Rattle.oil_system.specs.declared.objects.{Schedule.{Schedule, TheVariants.{Non, Full}}, Action.{Action, TheVariants.{ActivateTask, SetEvent}}, Alarm.{Alarm}, Resource.{Resource}}
 use Rattle.oil_system.specs.declared.system.{TaskObject.{TaskObject}, CounterObject.{CounterObject}, EventObject.{EventObject}, System.{System}}
-use Rattle.oil_tree.specs.declared.tree.{Attr.{Attr}, Object.{Object}}
-use Rattle.oil_tree.specs.AttrLists.{attr_list}
-use Rattle.oil_model.specs.declared.objects.Category.TheVariants.{One, Two}
-use Rattle.oil_model.specs.LookUp.{is_named, has, number, says, word_of, word, inner}
+use Rattle.oil_tree.specs.{declared.tree.{Attr.{Attr}, Object.{Object}}, AttrLists.{attr_list}}
+use Rattle.oil_model.specs.{declared.objects.Category.TheVariants.{One, Two}, LookUp.{is_named, has, number, says, word_of, word, inner}}
 use Rattle.oil_model.specs.Objects.{objects_of, name_of, os_attrs, has_scheduler, is_other_mode, is_ordinary, is_isr, priority, maximum, minimum, alarm_time, cycle_time, is_started, start, explicit_bits, mask_of, used_after}
 
 -- OS: the hooks that are TRUE

@@ -1,8 +1,7 @@
 -- The table of attributes: which stand where, and with which values (ISO 17356-6, standard objects; which attributes
 -- the table holds, which are required, their ranges and their defaults are this project's profile).
-use Rattle.std.specs.Prelude.{ℕ, List, [], ◌∷◌, Bool, true, false, ◌&&◌, ◌||◌, if◌then◌else◌, nat_le, Option, Some, None, codes}
-use Rattle.std.specs.Str.{bytes_eq}
-use Rattle.oil_tree.specs.declared.tree.{Value.{Value}, Value.TheVariants.{Word, Numeric}, Sign.TheVariants.{Bare}}
+use Rattle.std.specs.{Prelude.{ℕ, List, [], ◌∷◌, Bool, true, false, ◌&&◌, ◌||◌, if◌then◌else◌, nat_le, Option, Some, None, codes}, Str.{bytes_eq}}
+use Rattle.oil_tree.specs.declared.tree.{Value.{Value, TheVariants.{Word, Numeric}}, Sign.TheVariants.{Bare}}
 use Rattle.oil_model.specs.declared.table.{Scope.{Scope}, Presence.{Presence}, Entry.{Entry}}
 use Rattle.oil_model.specs.declared.table.Scope.TheVariants as scope
 use Rattle.oil_model.specs.declared.domain.Domain.{Domain}

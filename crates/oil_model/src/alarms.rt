@@ -1,9 +1,7 @@
 //! Counters and alarms.
 ghost use Rattle.std.specs.Prelude.{◌≡◌, ◌≤◌, [], length, IfOk, map, codes};
 ghost use Rattle.oil_tree.specs.AttrLists.{attr_list};
-ghost use Rattle.oil_model.specs.Lists.{found_in};
-ghost use Rattle.oil_model.specs.Objects.{objects_of, maximum, minimum, alarm_time, cycle_time, start};
-ghost use Rattle.oil_model.specs.Rules.{wrong_in, late_times, beyond_limits};
+ghost use Rattle.oil_model.specs.{Lists.{found_in}, Objects.{objects_of, maximum, minimum, alarm_time, cycle_time, start}, Rules.{wrong_in, late_times, beyond_limits}};
 ghost use Rattle.oil_model.specs.Systems.{number_in, names_of, counter, action, alarm};
 
 use crate::events::mask_named;

@@ -1,11 +1,6 @@
 //! The rules on each list of attributes: what is missing, doubled, of a wrong value, or refers to nothing.
-ghost use Rattle.std.specs.Prelude.{◌≡◌, ⊤, drop, map, filter, IfOk};
-ghost use Rattle.std.specs.List.{list_any, flat_map};
-ghost use Rattle.oil_model.specs.Table.{rows};
-ghost use Rattle.oil_model.specs.Lists.{found_in};
-ghost use Rattle.oil_model.specs.LookUp.{named, attr_line};
-ghost use Rattle.oil_model.specs.Lines.{least};
-ghost use Rattle.oil_model.specs.References.{KnowsObjects};
+ghost use Rattle.std.specs.{Prelude.{◌≡◌, ⊤, drop, map, filter, IfOk}, List.{list_any, flat_map}};
+ghost use Rattle.oil_model.specs.{Table.{rows}, Lists.{found_in}, LookUp.{named, attr_line}, Lines.{least}, References.{KnowsObjects}};
 ghost use Rattle.oil_model.specs.Rules as rules_of;
 ghost use Rattle.oil_model.specs.Rules.{is_missing, missing_in, doubles_of, doubles_in, wrong_in, dangling_in};
 ghost use Rattle.oil_model.specs.declared.table.Scope.TheVariants as scopes;

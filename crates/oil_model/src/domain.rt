@@ -1,7 +1,6 @@
 //! The values that an attribute may have.
 ghost use Rattle.std.specs.Prelude.{◌≡◌};
-ghost use Rattle.oil_tree.specs.declared.tree.Value.TheVariants.{Word, Numeric};
-ghost use Rattle.oil_tree.specs.declared.tree.Sign.TheVariants.{Bare};
+ghost use Rattle.oil_tree.specs.declared.tree.{Value.TheVariants.{Word, Numeric}, Sign.TheVariants.{Bare}};
 ghost use Rattle.oil_model.specs.Table.{allows};
 
 use crate::names::same;

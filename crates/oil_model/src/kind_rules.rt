@@ -1,8 +1,6 @@
 //! The rules on each object of a kind by itself: what its attributes say.
 ghost use Rattle.std.specs.Prelude.{◌≡◌, map, filter};
-ghost use Rattle.oil_model.specs.Lines.{least};
-ghost use Rattle.oil_model.specs.Objects.{objects_of, line_at};
-ghost use Rattle.oil_model.specs.KindRules.{kind_of, attribute_of, is_violated, violations};
+ghost use Rattle.oil_model.specs.{Lines.{least}, Objects.{objects_of, line_at}, KindRules.{kind_of, attribute_of, is_violated, violations}};
 ghost use Rattle.oil_model.specs.Rules as rules_of;
 
 use crate::lines::sooner;

@@ -2,9 +2,7 @@
 ghost use Rattle.std.specs.Prelude.{◌≡◌, ℕ, List, Some, None, slice_get};
 ghost use Rattle.oil_system.specs.declared.system.EventObject.{EventObject};
 ghost use Rattle.oil_tree.specs.declared.tree.Object.{Object};
-ghost use Rattle.oil_model.specs.AutoBits.{declared, IsTaken, IsLowestFree};
-ghost use Rattle.oil_model.specs.Objects.{explicit};
-ghost use Rattle.oil_model.specs.Systems.{events};
+ghost use Rattle.oil_model.specs.{AutoBits.{declared, IsTaken, IsLowestFree}, Objects.{explicit}, Systems.{events}};
 
 /// A law: AUTO chooses the lowest bit that no explicit mask and no earlier AUTO event takes, or none where each is taken;
 /// an explicit mask stays. It does nothing.

@@ -1,8 +1,6 @@
 //! The least pair of a rule that is violated and a line.
 ghost use Rattle.std.specs.Prelude.{◌≡◌, IfOk};
-ghost use Rattle.oil_model.specs.Lines.{least};
-ghost use Rattle.oil_model.specs.Rules.{lines};
-ghost use Rattle.oil_model.specs.Faults.{IsLeastOrNone};
+ghost use Rattle.oil_model.specs.{Lines.{least}, Rules.{lines}, Faults.{IsLeastOrNone}};
 
 use crate::attribute_rules::{
     dangling_reference, doubled_attribute, missing_attribute, wrong_value,

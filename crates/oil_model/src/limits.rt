@@ -1,8 +1,6 @@
 //! How many objects of a kind there may be.
 ghost use Rattle.std.specs.Prelude.{◌≡◌, filter};
-ghost use Rattle.oil_model.specs.Lines.{least};
-ghost use Rattle.oil_model.specs.Counted.{is_counted};
-ghost use Rattle.oil_model.specs.Rules.{first_beyond, beyond_limits, resource_limit};
+ghost use Rattle.oil_model.specs.{Lines.{least}, Counted.{is_counted}, Rules.{first_beyond, beyond_limits, resource_limit}};
 
 use crate::lines::sooner;
 use crate::objects::{Category, has_scheduler, is_isr, is_kind, is_ordinary, is_other_mode};

@@ -1,11 +1,7 @@
 //! The walk over the lists of attributes of a tree.
-ghost use Rattle.std.specs.Prelude.{◌≡◌, List, ℕ};
-ghost use Rattle.std.specs.List.{flat_map};
-ghost use Rattle.oil_tree.specs.declared.tree.Attr.{Attr};
-ghost use Rattle.oil_tree.specs.declared.tree.Object.{Object};
-ghost use Rattle.oil_model.specs.declared.table.Scope.{Scope};
-ghost use Rattle.oil_model.specs.Lists.{found_below, found_of, found_in};
-ghost use Rattle.oil_model.specs.Lines.{least};
+ghost use Rattle.std.specs.{Prelude.{◌≡◌, List, ℕ}, List.{flat_map}};
+ghost use Rattle.oil_tree.specs.declared.tree.{Attr.{Attr}, Object.{Object}};
+ghost use Rattle.oil_model.specs.{declared.table.Scope.{Scope}, Lists.{found_below, found_of, found_in}, Lines.{least}};
 
 use crate::lines::sooner;
 use crate::table::{Scope, inner_scope, scope_of};

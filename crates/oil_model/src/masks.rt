@@ -1,8 +1,6 @@
 //! The masks of events.
 ghost use Rattle.std.specs.Prelude.{◌≡◌, codes, unwrap_or};
-ghost use Rattle.oil_model.specs.Lines.{least};
-ghost use Rattle.oil_model.specs.Objects.{objects_of, explicit, explicit_value, explicit_bits, free_bit, mask_by, mask_of};
-ghost use Rattle.oil_model.specs.Rules.{empty_masks};
+ghost use Rattle.oil_model.specs.{Lines.{least}, Objects.{objects_of, explicit, explicit_value, explicit_bits, free_bit, mask_by, mask_of}, Rules.{empty_masks}};
 
 use crate::lines::{line_if, sooner};
 use crate::look_up::is_named;

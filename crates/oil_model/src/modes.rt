@@ -1,7 +1,6 @@
 //! Application modes, and the modes in which an object is autostarted.
 ghost use Rattle.std.specs.Prelude.{◌≡◌, ◌≤◌, ◌<◌, ◌^◌, ◌-◌, [], length, IfOk};
-ghost use Rattle.oil_model.specs.Rules.{beyond_limits};
-ghost use Rattle.oil_model.specs.Systems.{modes, number_in, mode_bits, autostart};
+ghost use Rattle.oil_model.specs.{Rules.{beyond_limits}, Systems.{modes, number_in, mode_bits, autostart}};
 
 use crate::look_up::{has, is_named, word_of};
 use crate::names::default_mode;

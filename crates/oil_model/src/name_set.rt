@@ -1,6 +1,5 @@
 //! Sets of names, for look-ups among many.
-ghost use Rattle.std.specs.Prelude.{◌≡◌, ℕ, List, not, ◌||◌, false, IfOk, OnOk};
-ghost use Rattle.std.specs.Str.{bytes_eq};
+ghost use Rattle.std.specs.{Prelude.{◌≡◌, ℕ, List, not, ◌||◌, false, IfOk, OnOk}, Str.{bytes_eq}};
 ghost use Rattle.oil_model.specs.NameSets.{has_name};
 
 use osek_values::Memory;

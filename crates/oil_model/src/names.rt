@@ -1,6 +1,5 @@
 //! Names of objects, read and copied.
-ghost use Rattle.std.specs.Prelude.{◌≡◌, IsTrue, All, IfOk, codes};
-ghost use Rattle.std.specs.Str.{bytes_eq};
+ghost use Rattle.std.specs.{Prelude.{◌≡◌, IsTrue, All, IfOk, codes}, Str.{bytes_eq}};
 ghost use Rattle.osek_values.specs.Names.{is_name};
 ghost use Rattle.oil_tree.specs.declared.tree.Object.{Object};
 

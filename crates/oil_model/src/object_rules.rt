@@ -1,7 +1,6 @@
 //! The rules on objects beside one another: their kinds, names and numbers.
 ghost use Rattle.std.specs.Prelude.{◌≡◌, IfOk, codes};
-ghost use Rattle.oil_model.specs.Lines.{least};
-ghost use Rattle.oil_model.specs.Objects.{objects_of};
+ghost use Rattle.oil_model.specs.{Lines.{least}, Objects.{objects_of}};
 ghost use Rattle.oil_model.specs.Rules as rules_of;
 
 use crate::kind_rules::{KindRule, least_violation};

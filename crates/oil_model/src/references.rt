@@ -1,7 +1,6 @@
 //! What attributes may refer to.
 ghost use Rattle.std.specs.Prelude.{◌≡◌, IfOk};
-ghost use Rattle.oil_model.specs.NameSets.{KnowsNames};
-ghost use Rattle.oil_model.specs.References.{KnowsObjects};
+ghost use Rattle.oil_model.specs.{NameSets.{KnowsNames}, References.{KnowsObjects}};
 ghost use Rattle.oil_model.specs.Rules as rules_of;
 
 use crate::domain::Domain;

@@ -3,14 +3,10 @@ ghost use Rattle.std.specs.Prelude.{◌≡◌, [], IfOk, Result, Ok, Err};
 ghost use Rattle.oil_system.specs.declared.system.System.{System};
 ghost use Rattle.oil_model.specs.Linkable.{IsLinkable};
 ghost use Rattle.oil_tree.specs.declared.tree.Tree.{Tree};
-ghost use Rattle.osek_values.specs.declared.refused.LineFault.{LineFault};
-ghost use Rattle.osek_values.specs.declared.refusal.OilRule.{OilRule};
+ghost use Rattle.osek_values.specs.declared.{refused.LineFault.{LineFault}, refusal.OilRule.{OilRule}};
 ghost use Rattle.oil_model.specs.Faults.{HasNoFault};
 ghost use Rattle.osek_values.specs.Answers.{IsRight, Answers};
-ghost use Rattle.oil_model.specs.Answers.{IsAnswer};
-ghost use Rattle.oil_model.specs.Lists.{found_in};
-ghost use Rattle.oil_model.specs.Rules.{wrong_in, late_times, beyond_limits};
-ghost use Rattle.oil_model.specs.Systems.{system_of};
+ghost use Rattle.oil_model.specs.{Answers.{IsAnswer}, Lists.{found_in}, Rules.{wrong_in, late_times, beyond_limits}, Systems.{system_of}};
 
 use crate::alarms::{alarms, counters};
 use crate::events::events;

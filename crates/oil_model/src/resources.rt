@@ -1,8 +1,6 @@
 //! Resources and their ceilings (ISO 17356-3, priority ceiling protocol).
 ghost use Rattle.std.specs.Prelude.{◌≡◌, ◌+◌, ◌*◌, [], IfOk, map, filter, codes};
-ghost use Rattle.oil_model.specs.Lists.{found_in};
-ghost use Rattle.oil_model.specs.Objects.{objects_of, is_ordinary};
-ghost use Rattle.oil_model.specs.Rules.{wrong_in};
+ghost use Rattle.oil_model.specs.{Lists.{found_in}, Objects.{objects_of, is_ordinary}, Rules.{wrong_in}};
 ghost use Rattle.oil_model.specs.Systems.{is_naming, names_resource, ceiling, top_ceiling, resource, scheduler, resources};
 
 use crate::look_up::{is_named, word_of};

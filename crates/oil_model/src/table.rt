@@ -1,10 +1,8 @@
 //! The table of attributes: which stand where, and with which values (this project's profile of ISO 17356-6).
-ghost use Rattle.std.specs.Prelude.{◌≡◌, Some, None, if◌then◌else◌};
-ghost use Rattle.std.specs.Str.{bytes_eq};
+ghost use Rattle.std.specs.{Prelude.{◌≡◌, Some, None, if◌then◌else◌}, Str.{bytes_eq}};
 ghost use Rattle.oil_tree.specs.declared.tree.Value.TheVariants.{Word};
 ghost use Rattle.oil_model.specs.declared.table.Scope.TheVariants as scopes;
-ghost use Rattle.oil_model.specs.declared.table.Presence.TheVariants.{Required, Optional, Many};
-ghost use Rattle.oil_model.specs.Table.{scope_of, entry_of, inner_scope};
+ghost use Rattle.oil_model.specs.{declared.table.Presence.TheVariants.{Required, Optional, Many}, Table.{scope_of, entry_of, inner_scope}};
 
 use crate::domain::Domain;
 use crate::names::same;

@@ -1,9 +1,6 @@
 //! Tasks and ISRs.
 ghost use Rattle.std.specs.Prelude.{◌≡◌, ◌≤◌, [], length, IfOk, map, filter, codes};
-ghost use Rattle.oil_model.specs.Lists.{found_in};
-ghost use Rattle.oil_model.specs.Objects.{objects_of, is_isr, name_of, priority};
-ghost use Rattle.oil_model.specs.Rules.{wrong_in};
-ghost use Rattle.oil_model.specs.Systems.{schedule, task};
+ghost use Rattle.oil_model.specs.{Lists.{found_in}, Objects.{objects_of, is_isr, name_of, priority}, Rules.{wrong_in}, Systems.{schedule, task}};
 
 use crate::events::own_bits;
 use crate::look_up::says;

@@ -1,8 +1,6 @@
 //! The times of counters and alarms.
-ghost use Rattle.std.specs.Prelude.{◌≡◌, codes};
-ghost use Rattle.std.specs.List.{flat_map};
-ghost use Rattle.oil_model.specs.Lines.{least};
-ghost use Rattle.oil_model.specs.Objects.{objects_of, line_at, alarm_time, cycle_time};
+ghost use Rattle.std.specs.{Prelude.{◌≡◌, codes}, List.{flat_map}};
+ghost use Rattle.oil_model.specs.{Lines.{least}, Objects.{objects_of, line_at, alarm_time, cycle_time}};
 ghost use Rattle.oil_model.specs.Rules as rules_of;
 
 use crate::kind_rules::{KindRule, least_violation};

@@ -1,14 +1,12 @@
 -- What the scan does at attributes that were read.
 use Rattle.std.proofs.Common.{◌≡◌, ℕ, ◌+◌, ◌-◌, ◌<◌, true, false, List, [], ◌∷◌, ◌++◌, length, refl, sym, ap, ◌∙◌, subst, arith}
 use Rattle.std.specs.Prelude.{Some}
-use Rattle.oil_lexer.specs.declared.token.{TokenKind.{TokenKind}, TokenKind.TheVariants.{Name, Number, Text, Mark}, Mark.TheVariants.{OpenBrace, CloseBrace, Equals}, Token.{Token}}
+use Rattle.oil_lexer.specs.declared.token.{TokenKind.{TokenKind, TheVariants.{Name, Number, Text, Mark}}, Mark.TheVariants.{OpenBrace, CloseBrace, Equals}, Token.{Token}}
 use Rattle.oil_tree.specs.declared.tree.{Value.{Value}, Attr.{Attr}}
 use Rattle.oil_lexer.specs.declared.fault.Stop.{Stop}
-use Rattle.oil_tree.specs.Attrs.{Attrs, no_attrs, attr_then}
-use Rattle.oil_tree.specs.AttrLists.{list_before}
+use Rattle.oil_tree.specs.{Attrs.{Attrs, no_attrs, attr_then}, AttrLists.{list_before}}
 use Rattle.oil_lexer.specs.Tokens.{name, mark, is_open, is_close}
-use Rattle.oil_tree.specs.Grammar.{IsValue, IsEnd, IsAttrs, no_more, one_more, IsBody, bare, nested}
-use Rattle.oil_tree.specs.Expect.{an_end, a_body, some_attrs, Stack, scan}
+use Rattle.oil_tree.specs.{Grammar.{IsValue, IsEnd, IsAttrs, no_more, one_more, IsBody, bare, nested}, Expect.{an_end, a_body, some_attrs, Stack, scan}}
 use Rattle.oil_tree.specs.Phrases.{attr_phrases, ReadsAttr, ReadsBody, ReadsAttrs}
 use Rattle.osek_values.specs.declared.limits.TheConstants.{MAX_OIL_DEPTH}
 use Rattle.oil_lexer.proofs.Braces.{open_kind, close_kind, front_is, shallow}

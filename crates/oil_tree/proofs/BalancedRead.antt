@@ -1,11 +1,10 @@
 -- What the scan does at tokens whose braces balance.
 use Rattle.std.proofs.Common.{◌≡◌, ℕ, ◌+◌, ◌-◌, ◌<◌, true, false, List, ◌∷◌, length, refl, sym, ap, ◌∙◌, subst, arith}
-use Rattle.oil_lexer.specs.declared.token.{TokenKind.{TokenKind}, TokenKind.TheVariants.{Name, Number, Text, Mark}, Mark.TheVariants.{OpenBrace, CloseBrace}, Token.{Token}}
+use Rattle.oil_lexer.specs.declared.token.{TokenKind.{TokenKind, TheVariants.{Name, Number, Text, Mark}}, Mark.TheVariants.{OpenBrace, CloseBrace}, Token.{Token}}
 use Rattle.oil_lexer.specs.Tokens.{mark, is_open, is_close}
 use Rattle.oil_tree.specs.Grammar.{IsBalanced, closed, braces, other}
 use Rattle.osek_values.specs.declared.limits.TheConstants.{MAX_OIL_DEPTH}
-use Rattle.oil_tree.specs.Expect.{some_balanced, Stack, scan}
-use Rattle.oil_tree.specs.Phrases.{ReadsBalanced}
+use Rattle.oil_tree.specs.{Expect.{some_balanced, Stack, scan}, Phrases.{ReadsBalanced}}
 use Rattle.oil_lexer.proofs.Braces.{open_kind, close_kind, front_is, shallow}
 
 shorter_balanced : {ts rest : List Token} → IsBalanced ts rest → length rest < length ts

@@ -2,12 +2,9 @@
 use Rattle.std.proofs.Common.{◌≡◌, ℕ, List, [], ◌∷◌, refl, sym, ap, ◌∙◌, subst}
 use Rattle.std.specs.Prelude.{Option}
 use Rattle.oil_lexer.specs.declared.token.{Mark.TheVariants.{OpenBrace, Equals}, Token.{Token}}
-use Rattle.oil_tree.specs.declared.words.{Word.{Word}, Word.TheVariants.{Version, Implementation, Cpu, Other}}
-use Rattle.oil_tree.specs.declared.tree.Object.{Object}
-use Rattle.oil_lexer.specs.declared.fault.Stop.{Stop}
-use Rattle.oil_lexer.specs.Tokens.{name, text, mark}
-use Rattle.oil_tree.specs.Words.{word_of}
-use Rattle.oil_tree.specs.Grammar.{IsEnd, IsCpu, cpu, IsUnversioned, no_impl, impl, IsFile, no_version, version}
+use Rattle.oil_tree.specs.declared.{words.Word.{Word, TheVariants.{Version, Implementation, Cpu, Other}}, tree.Object.{Object}}
+use Rattle.oil_lexer.specs.{declared.fault.Stop.{Stop}, Tokens.{name, text, mark}}
+use Rattle.oil_tree.specs.{Words.{word_of}, Grammar.{IsEnd, IsCpu, cpu, IsUnversioned, no_impl, impl, IsFile, no_version, version}}
 use Rattle.oil_lexer.specs.Scan as scans
 use Rattle.osek_values.specs.declared.limits.TheConstants.{MAX_OIL_DEPTH}
 use Rattle.oil_tree.specs.Expect.{Phrase, a_file, an_unversioned, a_cpu, Stack, step_all, scan, onto, cpu_word, unversioned_word, file_word}

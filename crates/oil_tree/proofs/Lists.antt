@@ -1,7 +1,6 @@
 -- The attributes at the top of the list that a vector holds are the vector's.
 use Rattle.std.proofs.Common.{◌≡◌, List, [], ◌∷◌, refl, ap}
-use Rattle.oil_tree.specs.declared.tree.Attr.{Attr}
-use Rattle.oil_tree.specs.AttrLists.{list_of, attr_list}
+use Rattle.oil_tree.specs.{declared.tree.Attr.{Attr}, AttrLists.{list_of, attr_list}}
 
 pub attr_list-list_of : (attrs : List Attr) → attr_list (list_of attrs) ≡ attrs
 attr_list-list_of [] = refl

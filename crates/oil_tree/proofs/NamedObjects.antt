@@ -1,12 +1,10 @@
 -- The names of objects are names, where those among the tokens are.
-use Rattle.std.proofs.Common.{List}
-use Rattle.std.proofs.lemmas.List.Elements.{All-nil, All-cons}
+use Rattle.std.proofs.{Common.{List}, lemmas.List.Elements.{All-nil, All-cons}}
 use Rattle.std.specs.Prelude.{All, IsTrue}
 use Rattle.osek_values.specs.Names.{is_name}
 use Rattle.oil_lexer.specs.declared.token.Token.{Token}
 use Rattle.oil_lexer.proofs.NamedTokens.{AreNamed}
-use Rattle.oil_tree.specs.Attrs.{Attrs}
-use Rattle.oil_tree.specs.declared.tree.{Value.{Value}, Object.{Object}, Tree.{Tree}}
+use Rattle.oil_tree.specs.{Attrs.{Attrs}, declared.tree.{Value.{Value}, Object.{Object}, Tree.{Tree}}}
 use Rattle.oil_tree.specs.Grammar as grammar
 use Rattle.oil_tree.specs.Grammar.{IsValue, is_text, is_number, is_plus, is_minus, IsEnd, plain, described, IsAttrs, no_more, one_more, IsBody, bare, nested, IsObjects, no_objects, one_object, IsBalanced, closed, braces, other, IsCpu, cpu, IsUnversioned, no_impl, impl, IsFile, no_version, version}
 

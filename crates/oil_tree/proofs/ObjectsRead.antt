@@ -1,13 +1,9 @@
 -- What the scan does at objects that were read.
-use Rattle.std.proofs.Common.{◌≡◌, ℕ, true, false, List, [], ◌∷◌, ◌++◌, length, refl, sym, ap, ◌∙◌, subst, arith}
-use Rattle.std.proofs.lemmas.List.{append-nil}
-use Rattle.oil_lexer.specs.declared.token.{TokenKind.{TokenKind}, TokenKind.TheVariants.{Name, Number, Text, Mark}, Mark.TheVariants.{CloseBrace}, Token.{Token}}
-use Rattle.oil_tree.specs.declared.tree.Object.{Object}
-use Rattle.oil_tree.specs.Attrs.{Attrs}
+use Rattle.std.proofs.{Common.{◌≡◌, ℕ, true, false, List, [], ◌∷◌, ◌++◌, length, refl, sym, ap, ◌∙◌, subst, arith}, lemmas.List.{append-nil}}
+use Rattle.oil_lexer.specs.declared.token.{TokenKind.{TokenKind, TheVariants.{Name, Number, Text, Mark}}, Mark.TheVariants.{CloseBrace}, Token.{Token}}
+use Rattle.oil_tree.specs.{declared.tree.Object.{Object}, Attrs.{Attrs}}
 use Rattle.oil_lexer.specs.Tokens.{name, mark, is_close}
-use Rattle.oil_tree.specs.Grammar.{IsObjects, no_objects, one_object}
-use Rattle.oil_tree.specs.Expect.{some_objects, Stack, scan}
-use Rattle.oil_tree.specs.Phrases.{object_phrases, ReadsBody, ReadsObject, ReadsObjects}
+use Rattle.oil_tree.specs.{Grammar.{IsObjects, no_objects, one_object}, Expect.{some_objects, Stack, scan}, Phrases.{object_phrases, ReadsBody, ReadsObject, ReadsObjects}}
 use Rattle.oil_lexer.proofs.Braces.{close_kind, front_is}
 use Rattle.oil_tree.proofs.Ends.{shorter_body}
 

@@ -3,8 +3,7 @@ use Rattle.std.proofs.Common.{◌≡◌, ℕ, List, ◌∷◌, refl, sym, ap, su
 use Rattle.std.specs.Prelude.{Result, Ok, Err}
 use Rattle.oil_lexer.specs.declared.token.{Token.{Token}, Mark.TheVariants.{OpenBrace, Equals}}
 use Rattle.oil_tree.specs.declared.tree.{Value.{Value}, Object.{Object}, Tree.{Tree}}
-use Rattle.osek_values.specs.declared.refused.LineFault.{LineFault}
-use Rattle.osek_values.specs.declared.refusal.SyntaxRule.{SyntaxRule}
+use Rattle.osek_values.specs.declared.{refused.LineFault.{LineFault}, refusal.SyntaxRule.{SyntaxRule}}
 use Rattle.oil_tree.specs.Attrs.{Attrs, attr_then}
 use Rattle.oil_lexer.specs.Tokens.{name, mark}
 use Rattle.oil_tree.specs.Grammar.{IsValue, is_name, is_text, is_number, is_plus, is_minus, IsEnd, plain, described, IsAttrs, no_more, one_more, IsBody, bare, nested, IsObjects, no_objects, one_object, IsBalanced, closed, braces, other, IsCpu, cpu, IsUnversioned, no_impl, impl, IsFile, no_version, version, IsSentence}

@@ -1,9 +1,9 @@
 -- A list of tokens is a prefix of a sentence exactly where the stack of expectations takes it.
 use Rattle.std.proofs.Common.{◌≡◌, ◌⊎◌, ℕ, false, List, [], ◌∷◌, ◌++◌, refl, sym, ap, ◌∙◌, subst}
 use Rattle.std.specs.Prelude.{Option, Some, None, option_and_then, codes}
-use Rattle.oil_lexer.specs.declared.token.{TokenKind.{TokenKind}, TokenKind.TheVariants.{Name, Number, Text, Mark}, Mark.TheVariants.{OpenBrace, CloseBrace, Equals, Semicolon, Colon, Plus, Minus}, Token.{Token}}
-use Rattle.oil_tree.specs.declared.words.{Word.{Word as Keyword}, Word.TheVariants.{Version, Implementation, Cpu, Other}}
-use Rattle.oil_tree.specs.declared.tree.{Value.{Value}, Value.TheVariants.{Word, Quoted, Numeric}, Sign.{Sign}, Object.{Object}, Tree.{Tree}}
+use Rattle.oil_lexer.specs.declared.token.{TokenKind.{TokenKind, TheVariants.{Name, Number, Text, Mark}}, Mark.TheVariants.{OpenBrace, CloseBrace, Equals, Semicolon, Colon, Plus, Minus}, Token.{Token}}
+use Rattle.oil_tree.specs.declared.words.Word.{Word as Keyword, TheVariants.{Version, Implementation, Cpu, Other}}
+use Rattle.oil_tree.specs.declared.tree.{Value.{Value, TheVariants.{Word, Quoted, Numeric}}, Sign.{Sign}, Object.{Object}, Tree.{Tree}}
 use Rattle.oil_tree.specs.declared.tree.Sign.TheVariants as sign
 use Rattle.oil_tree.specs.Attrs.{Attrs, no_attrs, attr_then}
 use Rattle.oil_lexer.specs.Tokens.{is_open, name, number, text, mark, is_close}
@@ -11,8 +11,7 @@ use Rattle.oil_tree.specs.Words.{word_of}
 use Rattle.oil_tree.specs.Grammar.{IsValue, is_name, is_text, is_number, is_plus, is_minus, IsEnd, plain, described, IsAttrs, no_more, one_more, IsBody, bare, nested, IsObjects, no_objects, one_object, IsBalanced, closed, braces, other, IsCpu, cpu, IsUnversioned, no_impl, impl, IsFile, no_version, version, IsSentence}
 use Rattle.oil_tree.specs.Expect.{Phrase, a_file, an_unversioned, a_cpu, some_objects, some_attrs, some_balanced, a_body, an_end, a_value, a_name, a_text, a_number, an_equals, an_open, a_semicolon, Stack, step, step_all, onto, run, cpu_word, unversioned_word, file_word, scan}
 use Rattle.oil_lexer.specs.declared.fault.Stop.{Stop}
-use Rattle.osek_values.specs.declared.refused.LineFault.{LineFault}
-use Rattle.osek_values.specs.declared.refusal.SyntaxRule.{SyntaxRule}
+use Rattle.osek_values.specs.declared.{refused.LineFault.{LineFault}, refusal.SyntaxRule.{SyntaxRule}}
 use Rattle.oil_lexer.specs.Scan.{fault_of}
 use Rattle.oil_lexer.proofs.FirstFault as first
 use Rattle.osek_values.specs.declared.limits.TheConstants.{MAX_OIL_DEPTH}

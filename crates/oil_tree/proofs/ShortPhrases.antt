@@ -1,6 +1,6 @@
 -- Phrases from the tokens that were read.
 use Rattle.std.proofs.Common.{◌≡◌, ℕ, List, ◌∷◌, sym, ap, ◌∙◌, subst}
-use Rattle.oil_lexer.specs.declared.token.{TokenKind.{TokenKind}, TokenKind.TheVariants.{Name, Number, Text, Mark}, Mark.{Mark as MarkType}, Mark.TheVariants.{Semicolon, Colon, Plus as plus_mark, Minus as minus_mark}, Token.{Token}}
+use Rattle.oil_lexer.specs.declared.token.{TokenKind.{TokenKind, TheVariants.{Name, Number, Text, Mark}}, Mark.{Mark as MarkType, TheVariants.{Semicolon, Colon, Plus as plus_mark, Minus as minus_mark}}, Token.{Token}}
 use Rattle.oil_tree.specs.declared.tree.{Value.TheVariants.{Word, Quoted, Numeric}, Sign.TheVariants.{Bare, Plus, Minus}}
 use Rattle.oil_lexer.specs.Tokens.{number, text, mark}
 use Rattle.oil_tree.specs.Grammar.{IsValue, is_name, is_text, is_number, is_plus, is_minus, IsEnd, plain, described}

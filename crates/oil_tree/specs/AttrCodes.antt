@@ -1,10 +1,8 @@
 -- Spellings by which a proof tells two lists of attributes, or of objects, apart.
-use Rattle.std.specs.Prelude.{◌≡◌, ℕ, List, [], ◌∷◌, refl}
-use Rattle.std.specs.Coded.{Coded, coded_ℕ, coded_list}
+use Rattle.std.specs.{Prelude.{◌≡◌, ℕ, List, [], ◌∷◌, refl}, Coded.{Coded, coded_ℕ, coded_list}}
 use Rattle.std.proofs.Common.{arith}
 use base.Stored.{coded_via}
-use Rattle.oil_tree.specs.declared.tree.{Sign.{Sign}, Sign.TheVariants.{Bare, Plus, Minus}, Value.{Value}, Value.TheVariants.{Word, Quoted, Numeric}}
-use Rattle.oil_tree.specs.Attrs.{Attrs, no_attrs, attr_then}
+use Rattle.oil_tree.specs.{declared.tree.{Sign.{Sign, TheVariants.{Bare, Plus, Minus}}, Value.{Value, TheVariants.{Word, Quoted, Numeric}}}, Attrs.{Attrs, no_attrs, attr_then}}
 
 abbrev pub sign_number : Sign → ℕ
 sign_number Bare = 0

@@ -1,7 +1,6 @@
 -- A list of attributes as data, and as the list of those at its top.
 use Rattle.std.specs.Prelude.{List, [], ◌∷◌}
-use Rattle.oil_tree.specs.declared.tree.Attr.{Attr}
-use Rattle.oil_tree.specs.Attrs.{Attrs, no_attrs, attr_then}
+use Rattle.oil_tree.specs.{declared.tree.Attr.{Attr}, Attrs.{Attrs, no_attrs, attr_then}}
 
 -- the attributes of a list, and behind them others
 abbrev pub list_before : List Attr → Attrs → Attrs

@@ -1,7 +1,7 @@
 -- What may still come, as a stack of phrases, and what a token makes of it.
 use Rattle.std.specs.Prelude.{ℕ, List, [], ◌∷◌, ◌++◌, Option, Some, None}
-use Rattle.oil_lexer.specs.declared.token.{TokenKind.{TokenKind}, TokenKind.TheVariants.{Name, Number, Text, Mark}, Mark.TheVariants.{OpenBrace, CloseBrace, Equals, Semicolon, Colon, Plus, Minus}, Token.{Token}}
-use Rattle.oil_tree.specs.declared.words.{Word.{Word}, Word.TheVariants.{Version, Implementation, Cpu, Other}}
+use Rattle.oil_lexer.specs.declared.token.{TokenKind.{TokenKind, TheVariants.{Name, Number, Text, Mark}}, Mark.TheVariants.{OpenBrace, CloseBrace, Equals, Semicolon, Colon, Plus, Minus}, Token.{Token}}
+use Rattle.oil_tree.specs.declared.words.Word.{Word, TheVariants.{Version, Implementation, Cpu, Other}}
 use Rattle.oil_lexer.specs.declared.fault.Stop.{Stop}
 use Rattle.oil_lexer.specs.Scan as scans
 use Rattle.oil_tree.specs.Words.{word_of}

@@ -16,7 +16,7 @@
 use Rattle.std.specs.Prelude.{◌≡◌, ℕ, false, List, [], ◌∷◌}
 use Rattle.oil_lexer.specs.declared.token.{Mark.TheVariants.{OpenBrace, CloseBrace, Equals, Semicolon, Colon, Plus as plus_mark, Minus as minus_mark}, Token.{Token}}
 use Rattle.oil_tree.specs.Attrs.{Attrs, no_attrs, attr_then}
-use Rattle.oil_tree.specs.declared.tree.{Object.{Object}, Tree.{Tree}, Value.{Value}, Value.TheVariants.{Word, Quoted, Numeric}, Sign.TheVariants.{Bare, Plus, Minus}}
+use Rattle.oil_tree.specs.declared.tree.{Object.{Object}, Tree.{Tree}, Value.{Value, TheVariants.{Word, Quoted, Numeric}}, Sign.TheVariants.{Bare, Plus, Minus}}
 use Rattle.oil_tree.specs.declared.words.Word.TheVariants.{Version, Implementation, Cpu}
 use Rattle.oil_lexer.specs.Tokens.{name, number, text, mark, is_open, is_close}
 use Rattle.oil_tree.specs.Words.{word_of}

@@ -1,9 +1,6 @@
 -- A spelling by which a proof tells two lists of objects apart.
-use Rattle.std.specs.Prelude.{ℕ, List, refl}
-use Rattle.std.specs.Coded.{Coded, code_by, coded×, coded_ℕ, coded_list}
-use Rattle.oil_tree.specs.Attrs.{Attrs}
-use Rattle.oil_tree.specs.AttrCodes.{attrs_code}
-use Rattle.oil_tree.specs.declared.tree.Object.{Object}
+use Rattle.std.specs.{Prelude.{ℕ, List, refl}, Coded.{Coded, code_by, coded×, coded_ℕ, coded_list}}
+use Rattle.oil_tree.specs.{Attrs.{Attrs}, AttrCodes.{attrs_code}, declared.tree.Object.{Object}}
 
 abbrev pub object_code : Coded Object
 object_code =

@@ -1,10 +1,8 @@
 -- What reading a phrase did.
 use Rattle.std.specs.Prelude.{◌≡◌, ℕ, ◌-◌, List, [], ◌∷◌, ◌++◌, ◌<◌, length, Some, None}
-use Rattle.oil_lexer.specs.declared.token.Token.{Token}
-use Rattle.oil_lexer.specs.declared.fault.Stop.{Stop}
+use Rattle.oil_lexer.specs.declared.{token.Token.{Token}, fault.Stop.{Stop}}
 use Rattle.oil_tree.specs.Expect.{Phrase, Stack, scan, a_name, an_equals, a_value, a_body, some_attrs, some_objects, some_balanced, a_file, an_unversioned, a_cpu}
-use Rattle.oil_tree.specs.declared.tree.{Attr.{Attr}, Object.{Object}, Tree.{Tree}}
-use Rattle.oil_tree.specs.Attrs.{Attrs, attr_then}
+use Rattle.oil_tree.specs.{declared.tree.{Attr.{Attr}, Object.{Object}, Tree.{Tree}}, Attrs.{Attrs, attr_then}}
 use Rattle.oil_tree.specs.Grammar.{IsAttrs, IsBody, IsObjects, IsBalanced, IsCpu, IsUnversioned, IsFile, IsSentence}
 
 -- reading went on behind the phrase, from a depth to a depth

@@ -1,7 +1,6 @@
 -- The words of the grammar.
-use Rattle.std.specs.Prelude.{ℕ, List, if◌then◌else◌, codes}
-use Rattle.std.specs.Str.{bytes_eq}
-use Rattle.oil_tree.specs.declared.words.{Word.{Word}, Word.TheVariants.{Version, Implementation, Cpu, Other}}
+use Rattle.std.specs.{Prelude.{ℕ, List, if◌then◌else◌, codes}, Str.{bytes_eq}}
+use Rattle.oil_tree.specs.declared.words.Word.{Word, TheVariants.{Version, Implementation, Cpu, Other}}
 
 -- the word that a name is to the grammar of a file
 abbrev pub word_of : List ℕ → Word

@@ -1,8 +1,7 @@
 //! Attributes, within attributes.
 ghost use Rattle.std.specs.Prelude.{◌≡◌, ℕ, ◌≤◌, [], ◌∷◌, MatchResult};
 ghost use Rattle.osek_values.specs.Answers.{Refuses};
-ghost use Rattle.oil_tree.specs.Expect.{a_body, some_attrs};
-ghost use Rattle.oil_tree.specs.Phrases.{StopsIn, attr_phrases, ReadsAttr, ReadsBody, ReadsAttrs};
+ghost use Rattle.oil_tree.specs.{Expect.{a_body, some_attrs}, Phrases.{StopsIn, attr_phrases, ReadsAttr, ReadsBody, ReadsAttrs}};
 
 use crate::phrases::{end, equals, name_of, value};
 use crate::tree::{Attr, AttrList};

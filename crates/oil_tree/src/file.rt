@@ -2,8 +2,7 @@
 ghost use Rattle.std.specs.Prelude.{◌≡◌, ◌≤◌, ℕ, List, [], ◌∷◌, Some, MatchResult};
 ghost use Rattle.oil_lexer.specs.Tokens.{name};
 ghost use Rattle.osek_values.specs.Answers.{Refuses};
-ghost use Rattle.oil_tree.specs.Words.{word_of};
-ghost use Rattle.oil_tree.specs.Expect.{scan, a_file, an_unversioned, a_cpu, some_objects, some_balanced};
+ghost use Rattle.oil_tree.specs.{Words.{word_of}, Expect.{scan, a_file, an_unversioned, a_cpu, some_objects, some_balanced}};
 ghost use Rattle.oil_tree.specs.Phrases.{StopsIn, StopsAtWord, object_phrases, ReadsObject, ReadsObjects, ReadsBalanced, ReadsVersion, ReadsImpl, ReadsCpu, ReadsFile, ReadsAll};
 
 use crate::attrs::body;

@@ -1,8 +1,7 @@
 //! The tree of an OIL file, or its first fault.
 ghost use Rattle.std.specs.Prelude.{◌≡◌, ◌⊎◌, List, Result, Ok, Err};
 ghost use Rattle.oil_lexer.specs.declared.token.Token.{Token};
-ghost use Rattle.osek_values.specs.declared.refused.LineFault.{LineFault};
-ghost use Rattle.osek_values.specs.declared.refusal.SyntaxRule.{SyntaxRule};
+ghost use Rattle.osek_values.specs.declared.{refused.LineFault.{LineFault}, refusal.SyntaxRule.{SyntaxRule}};
 ghost use Rattle.oil_tree.specs.declared.tree.Tree.{Tree};
 ghost use Rattle.osek_values.specs.Answers.{IsRight, Answers};
 ghost use Rattle.oil_tree.specs.Answers.{IsAnswer};

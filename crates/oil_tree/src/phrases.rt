@@ -1,8 +1,7 @@
 //! Phrases of a few tokens.
 ghost use Rattle.std.specs.Prelude.{◌≡◌, ℕ, List, [], ◌∷◌, MatchResult};
 ghost use Rattle.oil_lexer.specs.Tokens.{name, number, text, mark};
-ghost use Rattle.oil_tree.specs.Grammar.{IsValue, IsEnd};
-ghost use Rattle.oil_tree.specs.Expect.{a_value, an_end, a_name, a_text, a_number, an_equals, an_open, a_semicolon};
+ghost use Rattle.oil_tree.specs.{Grammar.{IsValue, IsEnd}, Expect.{a_value, an_end, a_name, a_text, a_number, an_equals, an_open, a_semicolon}};
 ghost use Rattle.osek_values.specs.Answers.{Refuses};
 ghost use Rattle.oil_tree.specs.Phrases.{StopsIn};
 ghost use Rattle.oil_lexer.specs.declared.token.Mark.TheVariants.{Equals, OpenBrace, Semicolon};

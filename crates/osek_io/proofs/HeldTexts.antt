@@ -1,11 +1,7 @@
 -- What was held back, and what came behind it: what of both was written, and what is held back.
-use Rattle.std.proofs.Common.{◌≡◌, ℕ, ◌+◌, List, [], ◌++◌, length, take, Option, Result, Ok, Err, OnOk, OnErr, sym, ap, ◌∙◌, arith}
-use Rattle.std.proofs.Math.Seq.{take-append-add}
+use Rattle.std.proofs.{Common.{◌≡◌, ℕ, ◌+◌, List, [], ◌++◌, length, take, Option, Result, Ok, Err, OnOk, OnErr, sym, ap, ◌∙◌, arith}, Math.Seq.{take-append-add}}
 use Rattle.std.proofs.lemmas.List.{append-nil, length-append}
-use Rattle.osek_io.specs.HeldBytes.{PassesOn}
-use Rattle.osek_io.specs.Pieces.{grown}
-use Rattle.osek_io.specs.Stored.{WritesProperPrefix}
-use Rattle.osek_io.specs.declared.storing.PutError.{PutError}
+use Rattle.osek_io.specs.{HeldBytes.{PassesOn}, Pieces.{grown}, Stored.{WritesProperPrefix}, declared.storing.PutError.{PutError}}
 use Rattle.osek_io.proofs.Turns.{grown-grown}
 
 -- what was held was written, and a prefix of other bytes behind it

@@ -1,11 +1,7 @@
 -- What a shelf in memory answers and leaves is what is asked of a shelf.
 use Rattle.std.proofs.Common.{◌≡◌, ℕ, ◌-◌, ◌^◌, ◌<◌, ◌⊎◌, ◌||◌, min, true, false, cond, List, [], ◌++◌, length, take, drop, Option, Some, None, Result, Ok, Err, OnErr, OnOk, IfOk, IsErr, refl, sym, ap, subst, ◌∙◌, arith, inl, inr, unwrap_or}
 use Rattle.std.specs.FinMap.{get, insert}
-use Rattle.osek_io.specs.Counts.{Rose, is_listed}
-use Rattle.osek_io.specs.Files.{IsMissing, with_file, with_more}
-use Rattle.osek_io.specs.Pieces.{ReadsPiece}
-use Rattle.osek_io.specs.declared.failed.Failed.{Failed}
-use Rattle.osek_io.specs.MemSink.{is_full, fitting_count}
+use Rattle.osek_io.specs.{Counts.{Rose, is_listed}, Files.{IsMissing, with_file, with_more}, Pieces.{ReadsPiece}, declared.failed.Failed.{Failed}, MemSink.{is_full, fitting_count}}
 use Rattle.osek_io.specs.MemShelf.{ShelfState, read_answer, after_read, create_answer, after_create, append_answer, after_append, after_call, after_failed_read, after_failed_write, after_write}
 use Rattle.std.proofs.lemmas.List.{length-drop}
 

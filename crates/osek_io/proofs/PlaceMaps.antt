@@ -1,16 +1,9 @@
 -- The files and the rooms of the places of a shelf.
 use Rattle.std.proofs.Common.{◌≡◌, ℕ, ◌+◌, ◌≤◌, Bool, true, false, cond, List, [], ◌∷◌, ◌++◌, length, Option, Some, None, option_map, option_and_then, unwrap_or, IsSomeAnd, IfSome, IsSome, refl, sym, ap, subst, ◌∙◌, is_some}
-use Rattle.std.specs.List.{find, position}
-use Rattle.std.specs.Prelude.{slice_set, get_or}
-use Rattle.std.specs.Str.{bytes_eq}
-use Rattle.std.specs.Ordering.{nat_cmp}
-use Rattle.std.specs.Cmp.Lexicographic.{slice_cmp, nat_list_cmp_total}
+use Rattle.std.specs.{List.{find, position}, Prelude.{slice_set, get_or}, Str.{bytes_eq}, Ordering.{nat_cmp}, Cmp.Lexicographic.{slice_cmp, nat_list_cmp_total}}
 use Rattle.std.specs.FinMap.{get, insert, get-insert, get-remove, get-empty, same_map, slice_cmp-IsAntisymmetric, nat_cmp-IsAntisymmetric}
-use Rattle.std.proofs.lemmas.Map.Text.{is_eq-slice_cmp}
-use Rattle.std.proofs.lemmas.Slice.Eq.{bytes_eq-Decides}
-use Rattle.osek_io.specs.Files.{Files, with_or_without}
-use Rattle.osek_io.specs.MemShelf.{Rooms}
-use Rattle.osek_io.specs.Place.{PlaceState, is_named, files_of, rooms_of}
+use Rattle.std.proofs.lemmas.{Map.Text.{is_eq-slice_cmp}, Slice.Eq.{bytes_eq-Decides}}
+use Rattle.osek_io.specs.{Files.{Files, with_or_without}, MemShelf.{Rooms}, Place.{PlaceState, is_named, files_of, rooms_of}}
 use Rattle.osek_io.proofs.FirstOf.{update_first, set_first, find_first, find_none, find-passes}
 
 -- the bytes of a place, and its room

@@ -1,10 +1,7 @@
 -- What one more turn of a loop adds to what was read or written.
 use Rattle.std.proofs.Common.{◌≡◌, ℕ, ◌+◌, ◌-◌, ◌≤◌, List, [], ◌++◌, length, take, drop, Option, Some, None, refl, sym, ap, ◌∙◌, append_assoc, arith, inl, inr, subst, ◌⊎◌}
-use Rattle.std.proofs.Math.Seq.{take-add}
-use Rattle.std.proofs.lemmas.List.{append-nil, take_all, take-append-le, length-drop, length-append, length-take, length-take-le}
-use Rattle.osek_io.specs.Counts.{Rose}
-use Rattle.osek_io.specs.Files.{Files, IsMissing, with_file, with_more}
-use Rattle.osek_io.specs.Pieces.{grown, ReadsPiece}
+use Rattle.std.proofs.{Math.Seq.{take-add}, lemmas.List.{append-nil, take_all, take-append-le, length-drop, length-append, length-take, length-take-le}}
+use Rattle.osek_io.specs.{Counts.{Rose}, Files.{Files, IsMissing, with_file, with_more}, Pieces.{grown, ReadsPiece}}
 use Rattle.osek_io.proofs.FileChanges.{with_more-with_file, with_file-there}
 
 pub grown-grown : (c : Option (List ℕ)) (a b : List ℕ) → grown (grown c a) b ≡ grown c (a ++ b)

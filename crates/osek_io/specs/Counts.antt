@@ -1,6 +1,5 @@
 -- Counts of calls and of faults, which never fall and end at 2^64-1.
-use Rattle.std.specs.Prelude.{◌+◌, ◌-◌, ◌^◌, ◌≡◌, ◌≤◌, ◌==◌, ℕ, Bool, List, min}
-use Rattle.std.specs.List.{list_any}
+use Rattle.std.specs.{Prelude.{◌+◌, ◌-◌, ◌^◌, ◌≡◌, ◌≤◌, ◌==◌, ℕ, Bool, List, min}, List.{list_any}}
 
 -- one more, where the count can rise
 abbrev pub one_more : ℕ → ℕ

@@ -1,7 +1,6 @@
 -- Bytes that are held back on their way to a sink.
 use Rattle.std.specs.Prelude.{◌≡◌, ℕ, ◌+◌, nat_le, List, [], ◌++◌, length, if◌then◌else◌, Option}
-use Rattle.osek_io.specs.Pieces.{grown}
-use Rattle.osek_io.specs.declared.put_buffer.TheConstants.{PUT_ROOM}
+use Rattle.osek_io.specs.{Pieces.{grown}, declared.put_buffer.TheConstants.{PUT_ROOM}}
 
 -- what is held back where bytes came behind those that were: all of it where there is room, else the new bytes alone,
 -- and nothing where they are too many

@@ -1,12 +1,7 @@
 -- A shelf in memory: which calls fail, and what each leaves.
-use Rattle.std.specs.Prelude.{ℕ, ◌-◌, min, ◌||◌, List, [], ◌++◌, length, take, if◌then◌else◌, Option, Some, None, Result, Ok, Err}
-use Rattle.std.specs.FinMap.{FinMap, insert}
-use Rattle.std.specs.Ordering.{nat_cmp}
+use Rattle.std.specs.{Prelude.{ℕ, ◌-◌, min, ◌||◌, List, [], ◌++◌, length, take, if◌then◌else◌, Option, Some, None, Result, Ok, Err}, FinMap.{FinMap, insert}, Ordering.{nat_cmp}}
 use Rattle.std.specs.Cmp.Lexicographic.{slice_cmp}
-use Rattle.osek_io.specs.Counts.{one_more, is_listed}
-use Rattle.osek_io.specs.Files.{Files}
-use Rattle.osek_io.specs.MemSink.{is_full, fitting_count}
-use Rattle.osek_io.specs.declared.failed.Failed.{Failed}
+use Rattle.osek_io.specs.{Counts.{one_more, is_listed}, Files.{Files}, MemSink.{is_full, fitting_count}, declared.failed.Failed.{Failed}}
 
 -- how many bytes there is room for, by the names that have a place
 abbrev pub Rooms : Type 0

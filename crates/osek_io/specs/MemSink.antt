@@ -1,7 +1,6 @@
 -- A sink in memory: which calls fail, and what each leaves.
 use Rattle.std.specs.Prelude.{ℕ, ◌-◌, min, Bool, ◌&&◌, ◌||◌, nat_lt, ◌==◌, List, ◌++◌, length, take, if◌then◌else◌, Result, Ok, Err}
-use Rattle.osek_io.specs.Counts.{one_more, is_listed}
-use Rattle.osek_io.specs.declared.failed.Failed.{Failed}
+use Rattle.osek_io.specs.{Counts.{one_more, is_listed}, declared.failed.Failed.{Failed}}
 
 -- the numbers of the calls that are to fail, what was written, the room for it, how many bytes a call takes at most, and the
 -- counts of calls and of faults

@@ -1,9 +1,6 @@
 -- The places of a shelf in memory: a name, its bytes where the file is there, and its room. Of two places of one name the first counts.
-use Rattle.std.specs.Prelude.{ℕ, List, [], ◌∷◌, Option, Bool}
-use Rattle.std.specs.Str.{bytes_eq}
-use Rattle.std.specs.FinMap.{empty, insert}
-use Rattle.osek_io.specs.Files.{Files, with_or_without}
-use Rattle.osek_io.specs.MemShelf.{Rooms}
+use Rattle.std.specs.{Prelude.{ℕ, List, [], ◌∷◌, Option, Bool}, Str.{bytes_eq}, FinMap.{empty, insert}}
+use Rattle.osek_io.specs.{Files.{Files, with_or_without}, MemShelf.{Rooms}}
 
 pub record PlaceState : Type 0 where
   pub name : List ℕ

@@ -1,7 +1,6 @@
 -- What a call leaves of a shelf that it only reads.
 use Rattle.std.specs.Prelude.{◌≡◌}
-use Rattle.osek_io.specs.Counts.{NeverFall}
-use Rattle.osek_io.specs.declared.shelf.Shelf.{Ghosts}
+use Rattle.osek_io.specs.{Counts.{NeverFall}, declared.shelf.Shelf.{Ghosts}}
 
 pub record OnlyReads {S : Type 0} (g : Ghosts S) (old new : S) : Type 0 where
   pub files : g.contents new ≡ g.contents old

@@ -1,9 +1,6 @@
 -- How a proof tells two states of a shelf in memory apart: by its fields.
-use Rattle.std.specs.Prelude.{ℕ, List, refl}
-use Rattle.std.specs.FinMap.{code as map_code}
-use Rattle.std.specs.Coded.{Coded, code_by, coded×, coded_ℕ, coded_list}
-use Rattle.osek_io.specs.Files.{Files}
-use Rattle.osek_io.specs.MemShelf.{Rooms, ShelfState}
+use Rattle.std.specs.{Prelude.{ℕ, List, refl}, FinMap.{code as map_code}, Coded.{Coded, code_by, coded×, coded_ℕ, coded_list}}
+use Rattle.osek_io.specs.{Files.{Files}, MemShelf.{Rooms, ShelfState}}
 
 -- the code of a state, as nested pairs of its fields
 abbrev pub shelf_code : Coded ShelfState

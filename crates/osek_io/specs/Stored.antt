@@ -1,7 +1,6 @@
 -- What a write of many bytes may leave where it fails.
 use Rattle.std.specs.Prelude.{◌≡◌, ◌<◌, ◌⊎◌, ℕ, List, length, take, Option}
-use Rattle.osek_io.specs.Files.{Files, with_file}
-use Rattle.osek_io.specs.Pieces.{grown}
+use Rattle.osek_io.specs.{Files.{Files, with_file}, Pieces.{grown}}
 
 -- A prefix of the bytes, not all of them, was written.
 abbrev pub WritesProperPrefix : Option (List ℕ) → Option (List ℕ) → List ℕ → Type 0

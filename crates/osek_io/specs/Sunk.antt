@@ -1,7 +1,6 @@
 -- What is known of a sink, and what a write leaves of it.
 use Rattle.std.specs.Prelude.{◌≡◌, ℕ, List, Option}
-use Rattle.osek_io.specs.Pieces.{grown}
-use Rattle.osek_io.specs.declared.sink.Sink.{Ghosts}
+use Rattle.osek_io.specs.{Pieces.{grown}, declared.sink.Sink.{Ghosts}}
 
 -- how often a call failed, and what was written, where the sink tells it
 pub record Sunk : Type 0 where

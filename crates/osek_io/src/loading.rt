@@ -1,9 +1,6 @@
 //! Whole files.
 ghost use Rattle.std.specs.Prelude.{◌≡◌, ◌≤◌, ◌<◌, ◌+◌, ◌⊎◌, ℕ, List, length, max, IfOk, OnOk, IsErrOf};
-ghost use Rattle.osek_io.specs.Counts.{RoseSomewhere, Same};
-ghost use Rattle.osek_io.specs.Files.{Holds, IsMissing};
-ghost use Rattle.osek_io.specs.Reads.{OnlyReads};
-ghost use Rattle.osek_io.specs.declared.loading.LoadError.TheVariants.{Memory};
+ghost use Rattle.osek_io.specs.{Counts.{RoseSomewhere, Same}, Files.{Holds, IsMissing}, Reads.{OnlyReads}, declared.loading.LoadError.TheVariants.{Memory}};
 
 use crate::shelf::Shelf;
 use std::alloc::{AllocError, Global};

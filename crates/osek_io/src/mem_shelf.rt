@@ -1,9 +1,7 @@
 //! A shelf in memory, whose failing calls are listed.
 ghost use Rattle.std.specs.Prelude.{◌≡◌, ◌≤◌, ◌<◌, ◌^◌, ◌+◌, ◌-◌, ◌⊎◌, ℕ, List, [], length, take, drop, min, max, Option, Some, IfOk, OnOk, OnErr, IsErr, IfSome, option_map, unwrap_or};
 ghost use Rattle.std.specs.FinMap.{get, insert, empty};
-ghost use Rattle.osek_io.specs.Counts.{Rose, Same, NeverFall};
-ghost use Rattle.osek_io.specs.Files.{Holds, IsMissing, with_file, with_more, with_or_without};
-ghost use Rattle.osek_io.specs.Pieces.{ReadsPiece};
+ghost use Rattle.osek_io.specs.{Counts.{Rose, Same, NeverFall}, Files.{Holds, IsMissing, with_file, with_more, with_or_without}, Pieces.{ReadsPiece}};
 
 use crate::counts::{is_listed, one_more};
 use crate::failed::Failed;
@@ -45,9 +43,7 @@ pub struct MemShelf {
 
 impl Model for MemShelf {
     ghost use Rattle.std.specs.Prelude.{◌<◌};
-    ghost use Rattle.osek_io.specs.MemShelf.{ShelfState};
-    ghost use Rattle.osek_io.specs.ShelfCode.{shelf_code};
-    ghost use Rattle.osek_io.specs.Place.{files_of, rooms_of};
+    ghost use Rattle.osek_io.specs.{MemShelf.{ShelfState}, ShelfCode.{shelf_code}, Place.{files_of, rooms_of}};
 
     ghost Value = { ShelfState };
 

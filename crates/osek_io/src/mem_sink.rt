@@ -1,7 +1,6 @@
 //! A sink in memory, whose failing calls are listed.
 ghost use Rattle.std.specs.Prelude.{◌≡◌, ◌≤◌, ◌<◌, ◌^◌, ◌-◌, [], length, take, Some, IfOk, OnOk, OnErr};
-ghost use Rattle.osek_io.specs.Counts.{Rose};
-ghost use Rattle.osek_io.specs.Pieces.{grown};
+ghost use Rattle.osek_io.specs.{Counts.{Rose}, Pieces.{grown}};
 
 use crate::counts::{is_listed, one_more};
 use crate::failed::Failed;

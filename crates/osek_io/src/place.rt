@@ -15,8 +15,7 @@ pub struct Place {
 }
 
 impl Model for Place {
-    ghost use Rattle.std.specs.Prelude.{◌≤◌, Some, None, if◌then◌else◌, vec_capacity, vec_len};
-    ghost use Rattle.std.specs.String.{string_bytes};
+    ghost use Rattle.std.specs.{Prelude.{◌≤◌, Some, None, if◌then◌else◌, vec_capacity, vec_len}, String.{string_bytes}};
     ghost use Rattle.osek_io.specs.Place.{PlaceState};
 
     ghost Value = { PlaceState };

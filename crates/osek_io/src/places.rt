@@ -1,9 +1,7 @@
 //! The places of a shelf in memory, by their names.
 ghost use Rattle.std.specs.Prelude.{◌≡◌, ◌≤◌, ◌+◌, ◌++◌, [], length, Some, None, OnOk, OnErr, IfSome, IfNone, IsSome, IsSomeAnd, is_some, option_map, option_copied, unwrap_or};
-ghost use Rattle.std.specs.List.{position, find};
-ghost use Rattle.std.specs.FinMap.{get, insert};
-ghost use Rattle.osek_io.specs.Files.{with_or_without};
-ghost use Rattle.osek_io.specs.Place.{is_named, files_of, rooms_of};
+ghost use Rattle.std.specs.{List.{position, find}, FinMap.{get, insert}};
+ghost use Rattle.osek_io.specs.{Files.{with_or_without}, Place.{is_named, files_of, rooms_of}};
 
 use crate::place::Place;
 use osek_values::Memory;

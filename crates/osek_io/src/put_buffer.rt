@@ -1,9 +1,6 @@
 //! A buffer in front of a sink.
 ghost use Rattle.std.specs.Prelude.{◌≡◌, ◌≤◌, ◌+◌, [], ◌++◌, length, IfOk, OnOk, OnErr, IsOk};
-ghost use Rattle.osek_io.specs.Counts.{Rose};
-ghost use Rattle.osek_io.specs.HeldBytes.{held_back, held_behind, PassesOn};
-ghost use Rattle.osek_io.specs.Pieces.{grown};
-ghost use Rattle.osek_io.specs.Stored.{WritesProperPrefix};
+ghost use Rattle.osek_io.specs.{Counts.{Rose}, HeldBytes.{held_back, held_behind, PassesOn}, Pieces.{grown}, Stored.{WritesProperPrefix}};
 
 use crate::piece::Piece;
 use crate::sink::Sink;

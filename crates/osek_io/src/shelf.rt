@@ -1,8 +1,6 @@
 //! Files by their names, as the project asks for them.
 ghost use Rattle.std.specs.Prelude.{◌≡◌, ◌≤◌, ◌+◌, ◌⊎◌, ℕ, List, [], length, take, max, Option, IfOk, OnOk, OnErr, IsErr};
-ghost use Rattle.osek_io.specs.Counts.{ReadFaults, Rose, Same, NeverFall};
-ghost use Rattle.osek_io.specs.Files.{Files, Holds, IsMissing, with_file, with_more};
-ghost use Rattle.osek_io.specs.Pieces.{ReadsPiece};
+ghost use Rattle.osek_io.specs.{Counts.{ReadFaults, Rose, Same, NeverFall}, Files.{Files, Holds, IsMissing, with_file, with_more}, Pieces.{ReadsPiece}};
 
 use crate::failed::Failed;
 

@@ -1,7 +1,6 @@
 //! A place to write bytes to, as the project asks for it.
 ghost use Rattle.std.specs.Prelude.{◌≡◌, ◌≤◌, ℕ, List, length, take, Option, IfOk, OnOk, OnErr};
-ghost use Rattle.osek_io.specs.Counts.{Rose};
-ghost use Rattle.osek_io.specs.Pieces.{grown};
+ghost use Rattle.osek_io.specs.{Counts.{Rose}, Pieces.{grown}};
 
 use crate::failed::Failed;
 

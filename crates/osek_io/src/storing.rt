@@ -1,9 +1,6 @@
 //! Whole texts, to a sink or a file.
 ghost use Rattle.std.specs.Prelude.{◌≡◌, ◌≤◌, OnOk, OnErr};
-ghost use Rattle.osek_io.specs.Counts.{Rose, Same};
-ghost use Rattle.osek_io.specs.Files.{with_file, KeepsOthers};
-ghost use Rattle.osek_io.specs.Pieces.{grown};
-ghost use Rattle.osek_io.specs.Stored.{WritesProperPrefix, StoresProperPrefix};
+ghost use Rattle.osek_io.specs.{Counts.{Rose, Same}, Files.{with_file, KeepsOthers}, Pieces.{grown}, Stored.{WritesProperPrefix, StoresProperPrefix}};
 
 use crate::shelf::Shelf;
 use crate::sink::Sink;

@@ -1,7 +1,6 @@
 //! One read and one write of std, tried again where a signal interrupts them.
 //! Over a reader or a writer that tells its bytes, the contracts say which ones moved.
-ghost use Rattle.std.specs.Prelude.{◌≡◌, ◌≤◌, ◌<◌, Bool, false, true, is_some, refl, length, take, IfOk, OnErr};
-ghost use Rattle.std.specs.Io.KnownBytes.{Keeps, Appends, Consumes, IsAtEnd};
+ghost use Rattle.std.specs.{Prelude.{◌≡◌, ◌≤◌, ◌<◌, Bool, false, true, is_some, refl, length, take, IfOk, OnErr}, Io.KnownBytes.{Keeps, Appends, Consumes, IsAtEnd}};
 
 use crate::failed::Failed;
 use std::io::{ErrorKind, Read, Stderr, Stdout, Write};

@@ -1,21 +1,15 @@
 -- The alarm services, an alarm that expires and a counter that goes on keep a state well-formed (ISO 17356-3, alarms).
 use Rattle.std.proofs.Common.{◌≡◌, ℕ, ◌+◌, ◌%◌, ◌<◌, ◌≤◌, false, length, refl, sym, ◌∙◌, subst, inl, inr, arith, Some, None, not, ◌||◌, nat_lt, nat_eq, slice_set, slice_index_or, get_or-set_same, get_or-set_other}
-use Rattle.std.proofs.lemmas.Bool.{cases_Bool, cases_eq, or_parts, not-false}
-use Rattle.std.proofs.Math.ListN.{length-set}
-use Rattle.std.proofs.lemmas.Bool.Decides.{nat_tests}
-use Rattle.std.specs.Prelude.{if◌then◌else◌}
-use Rattle.std.specs.declared.option.Option.{Option}
+use Rattle.std.proofs.{lemmas.Bool.{cases_Bool, cases_eq, or_parts, not-false, Decides.{nat_tests}}, Math.ListN.{length-set}}
+use Rattle.std.specs.{Prelude.{if◌then◌else◌}, declared.option.Option.{Option}}
 use Rattle.oil_system.specs.declared.objects.Action.{Action}
 use Rattle.oil_system.specs.declared.objects.Action.TheVariants as action
 use Rattle.osek_standard.specs.declared.app.App.{App}
-use Rattle.osek_standard.specs.declared.state.{State.{State}, AlarmState.{AlarmState}, AlarmState.TheVariants.{Idle, Armed}, Caller.{Caller}, Caller.TheVariants.{Nobody, Task, Routine}}
-use Rattle.osek_standard.specs.Validity.{IsAction}
-use Rattle.osek_standard.specs.Apps.{tables, the_alarm, the_counter, max_of, is_cycle, is_counter, no_alarm}
-use Rattle.osek_standard.specs.States.{with_alarm, alarm_state, counter_value}
+use Rattle.osek_standard.specs.declared.state.{State.{State}, AlarmState.{AlarmState, TheVariants.{Idle, Armed}}, Caller.{Caller, TheVariants.{Nobody, Task, Routine}}}
+use Rattle.osek_standard.specs.{Validity.{IsAction}, Apps.{tables, the_alarm, the_counter, max_of, is_cycle, is_counter, no_alarm}, States.{with_alarm, alarm_state, counter_value}}
 use Rattle.osek_standard.specs.Services.{set_rel_alarm, set_abs_alarm, cancel_alarm, get_alarm, time_left, count_up, counted_by, expire, acted, rearmed, value_of, due, is_due_at, is_idle}
 use Rattle.osek_standard.specs.Well.{Well, IsAlarmState}
-use Rattle.osek_standard.proofs.Keeps.{processor_keeps, activate_keeps}
-use Rattle.osek_standard.proofs.EventKeeps.{set_event_keeps}
+use Rattle.osek_standard.proofs.{Keeps.{processor_keeps, activate_keeps}, EventKeeps.{set_event_keeps}}
 
 -- a remainder is at most the greatest value
 below_round : (n m : ℕ) → n % (m + 1) ≤ m

@@ -1,21 +1,11 @@
 -- Which source's routine begins: the computed one is the one with the property, and the lowest flag that is set.
-use Rattle.std.proofs.Common.{◌≡◌, ℕ, ◌<◌, ◌≤◌, Bool, true, false, cond, length, refl, ap, subst, ◌⊎◌, inl, inr, arith, Some, None, nat_lt}
-use Rattle.std.proofs.lemmas.Bool.{cases_Bool, cases_lt}
-use Rattle.std.proofs.lemmas.Bool.Decides.{nat_tests}
-use Rattle.std.proofs.lemmas.List.{get_or_past}
-use Rattle.std.proofs.lemmas.List.Sums.{passes_at_first, fails_before_first}
-use Rattle.std.specs.Prelude.{option_map}
-use Rattle.std.specs.List.{position, position_or_len}
-use Rattle.std.specs.declared.option.Option.{Option}
-use Rattle.osek_values.specs.declared.numbers.SourceNo.{SourceNo}
-use Rattle.osek_values.specs.Numbers.{source_no}
-use Rattle.osek_standard.specs.declared.app.App.{App}
-use Rattle.osek_standard.specs.declared.state.State.{State}
-use Rattle.osek_standard.specs.States.{is_latched}
-use Rattle.osek_standard.specs.Priority.{first_of_all}
+use Rattle.std.proofs.{Common.{◌≡◌, ℕ, ◌<◌, ◌≤◌, Bool, true, false, cond, length, refl, ap, subst, ◌⊎◌, inl, inr, arith, Some, None, nat_lt}, lemmas.Bool.{cases_Bool, cases_lt}}
+use Rattle.std.proofs.lemmas.{Bool.Decides.{nat_tests}, List.{get_or_past, Sums.{passes_at_first, fails_before_first}}}
+use Rattle.std.specs.{Prelude.{option_map}, List.{position, position_or_len}, declared.option.Option.{Option}}
+use Rattle.osek_values.specs.{declared.numbers.SourceNo.{SourceNo}, Numbers.{source_no}}
+use Rattle.osek_standard.specs.{declared.{app.App.{App}, state.State.{State}}, States.{is_latched}, Priority.{first_of_all}}
 use Rattle.osek_standard.specs.Arrivals.{arrival, takes_none, comes_before, latched_sources, IsArrival}
-use Rattle.osek_standard.proofs.Members.{Among, among_passing, passing_among}
-use Rattle.osek_standard.proofs.FirstLaws.{Orders, lower_orders, first_is, is_first, none_first, first_none}
+use Rattle.osek_standard.proofs.{Members.{Among, among_passing, passing_among}, FirstLaws.{Orders, lower_orders, first_is, is_first, none_first, first_none}}
 
 module _ (s : State) where
   -- a latched source is in the table

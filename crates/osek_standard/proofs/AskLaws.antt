@@ -3,23 +3,17 @@ use Rattle.std.proofs.Common.{◌≡◌, ℕ, ◌+◌, Bool, List, refl, ◌∙�
 use Rattle.std.specs.declared.option.Option.{Option}
 use Rattle.osek_values.specs.declared.status.Ask.TheVariants as ask
 use Rattle.osek_values.specs.declared.numbers.{TaskNo.{TaskNo}, BlockNo.{BlockNo}}
-use Rattle.osek_standard.specs.declared.app.App.{App}
-use Rattle.osek_standard.specs.declared.block.{Block.{Block}, Kind.{Kind}}
+use Rattle.osek_standard.specs.declared.{app.App.{App}, block.{Block.{Block}, Kind.{Kind}}}
 use Rattle.osek_standard.specs.declared.block.Kind.TheVariants as kind
 use Rattle.osek_standard.specs.CallNames as call
-use Rattle.osek_standard.specs.declared.state.{State.{State}, Source.{Source}, Processor.{Processor}, Caller.{Caller}, Caller.TheVariants.{Nobody, Task, Routine}}
+use Rattle.osek_standard.specs.declared.state.{State.{State}, Source.{Source}, Processor.{Processor}, Caller.{Caller, TheVariants.{Nobody, Task, Routine}}}
 use Rattle.osek_standard.specs.declared.state.Source.TheVariants as source
 use Rattle.osek_standard.specs.declared.state.Processor.TheVariants as processor
-use Rattle.osek_standard.specs.declared.task_state.Place.{Place}
-use Rattle.osek_standard.specs.Apps.{the_block, is_extended}
-use Rattle.osek_standard.specs.States.{caller, here, task_state, with_source}
+use Rattle.osek_standard.specs.{declared.task_state.Place.{Place}, Apps.{the_block, is_extended}, States.{caller, here, task_state, with_source}}
 use Rattle.osek_standard.specs.Services.{Answer, holds_some, share, wait_event}
 use Rattle.osek_standard.specs.Effects.{Effect, asks_as, called, effect, effect_at, effect_by, end_task, given_back, goes_on_unless_left, moved_by, moved_to, noted, place_at, returned_by}
 use Rattle.osek_standard.specs.Well.{Well, AreOut, IsProcessor, IsTaskLevel}
-use Rattle.osek_standard.proofs.BoolLaws.{either_way}
-use Rattle.osek_standard.proofs.Callers.{IfTask, calls, if_task_onward}
-use Rattle.osek_standard.proofs.SourceLaws.{called_leaves}
-use Rattle.osek_standard.proofs.RoutineKeeps.{ended_out}
+use Rattle.osek_standard.proofs.{BoolLaws.{either_way}, Callers.{IfTask, calls, if_task_onward}, SourceLaws.{called_leaves}, RoutineKeeps.{ended_out}}
 
 -- it asks nothing, or no routine runs
 abbrev pub MayDispatch : App → Effect → Type 0

@@ -2,19 +2,13 @@
 use Rattle.std.proofs.Common.{◌≡◌, ℕ, ◌<◌, length, refl, subst}
 use Rattle.std.specs.Prelude.{⊤}
 use Rattle.osek_values.specs.declared.numbers.{TaskNo.{TaskNo}, BlockNo.{BlockNo}}
-use Rattle.osek_standard.specs.declared.app.App.{App}
-use Rattle.osek_standard.specs.declared.block.Kind.{Kind}
+use Rattle.osek_standard.specs.declared.{app.App.{App}, block.Kind.{Kind}}
 use Rattle.osek_standard.specs.declared.block.Kind.TheVariants as kind
-use Rattle.osek_standard.specs.declared.state.{State.{State}, Processor.{Processor}, Caller.{Caller}, Caller.TheVariants.{Nobody, Task, Routine}}
+use Rattle.osek_standard.specs.declared.state.{State.{State}, Processor.{Processor}, Caller.{Caller, TheVariants.{Nobody, Task, Routine}}}
 use Rattle.osek_standard.specs.declared.state.Processor.TheVariants as processor
-use Rattle.osek_standard.specs.declared.task_state.Place.{Place}
-use Rattle.osek_standard.specs.Validity.{IsAmong, IsOtherWay, NamesEntries}
-use Rattle.osek_standard.specs.Apps.{tables, the_block}
-use Rattle.osek_standard.specs.States.{caller}
-use Rattle.osek_standard.specs.Effects.{moved_by}
+use Rattle.osek_standard.specs.{declared.task_state.Place.{Place}, Validity.{IsAmong, IsOtherWay, NamesEntries}, Apps.{tables, the_block}, States.{caller}, Effects.{moved_by}}
 use Rattle.osek_standard.specs.Well.{Well, InOwner, IsOffsetAt, IsOwn, IsProcessor, IsTaskLevel}
-use Rattle.osek_standard.proofs.WellLaws.{own_block, routine_block}
-use Rattle.osek_standard.proofs.Keeps.{offset_0}
+use Rattle.osek_standard.proofs.{WellLaws.{own_block, routine_block}, Keeps.{offset_0}}
 
 -- a fact of the task that calls, if a task calls
 abbrev pub IfTask : Caller → (TaskNo → Type 0) → Type 0

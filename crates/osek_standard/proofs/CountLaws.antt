@@ -1,11 +1,8 @@
 -- The heights of tasks, summed, and how many stacks there are at most.
-use Rattle.std.proofs.Common.{◌≡◌, ℕ, zero, suc, ◌+◌, ◌*◌, ◌<◌, ◌≤◌, List, [], ◌∷◌, length, sym, ◌∙◌, ap, subst, inl, inr, arith}
-use Rattle.std.proofs.lemmas.Bool.{cases_eq}
-use Rattle.std.proofs.Math.Nat.{add-mul, mul-add, mul-le-mul}
-use Rattle.std.proofs.lemmas.List.Sums.{sum_by-cons}
+use Rattle.std.proofs.{Common.{◌≡◌, ℕ, zero, suc, ◌+◌, ◌*◌, ◌<◌, ◌≤◌, List, [], ◌∷◌, length, sym, ◌∙◌, ap, subst, inl, inr, arith}, lemmas.Bool.{cases_eq}}
+use Rattle.std.proofs.{Math.Nat.{add-mul, mul-add, mul-le-mul}, lemmas.List.Sums.{sum_by-cons}}
 use Rattle.std.specs.List.{sum_by}
-use Rattle.osek_standard.specs.declared.objects.Task.{Task}
-use Rattle.osek_standard.specs.Counts.{stacks, task_height}
+use Rattle.osek_standard.specs.{declared.objects.Task.{Task}, Counts.{stacks, task_height}}
 
 -- one more task of c blocks, where there are n tasks of b blocks, and s stacks
 one_more : (c b s n : ℕ) → 1 + c + c * s + (n + b * (1 + s)) ≡ n + 1 + (c + b) * (1 + s)

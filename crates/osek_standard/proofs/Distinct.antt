@@ -1,20 +1,13 @@
 -- Lists without a second of any element: joined lists, lists of what each element gives, and of numbers those that pass.
 use Rattle.std.proofs.Common.{◌≡◌, ℕ, zero, suc, ◌+◌, Bool, true, false, cond, List, [], ◌∷◌, ◌++◌, length, filter, sym, subst, ◌∙◌, inl, inr, arith, nat_eq, flat_map, refl}
-use Rattle.std.specs.List.{IsDistinct, range_with_len}
-use Rattle.std.specs.Set.{is_member}
-use Rattle.std.proofs.lemmas.Bool.{ne_eqb, true≢false}
-use Rattle.std.proofs.lemmas.Cmp.{nat_eq_equiv}
-use Rattle.std.proofs.lemmas.Map.Made.{length-le_from_is_member}
+use Rattle.std.specs.{List.{IsDistinct, range_with_len}, Set.{is_member}}
+use Rattle.std.proofs.lemmas.{Bool.{ne_eqb, true≢false}, Cmp.{nat_eq_equiv}, Map.Made.{length-le_from_is_member}}
 use Rattle.std.proofs.lemmas.Map.Views.{Contains-from_any, exact_unsigned_eq, list_any-from_Contains}
 use Rattle.osek_standard.proofs.Members.{Among, among_cases, among_contained, among_each, among_left, among_right, contained_among, each_among, filter_among, flat_map_among, range_among}
 
 module _ {X : Type 0} (same : X → X → Bool) where
   abbrev Differs : X → X → Type 0
   Differs x y = same x y ≡ false
-
-  pub distinct_one : (x : X) → IsDistinct same (x ∷ [])
-  unfolding IsDistinct
-  distinct_one x = (tt, tt)
 
   pub distinct_first : (x : X) (xs : List X) → ((y : X) → Among y xs → Differs x y) → IsDistinct same xs → IsDistinct same (x ∷ xs)
   unfolding IsDistinct

@@ -1,25 +1,15 @@
 -- The effect of an instruction keeps a state well-formed.
-use Rattle.std.proofs.Common.{◌≡◌, ℕ, ◌+◌, ◌<◌, Bool, true, false, refl, sym, ap, subst, inl, inr, arith, nat_lt}
-use Rattle.std.proofs.lemmas.Bool.{cases_Bool}
-use Rattle.std.proofs.lemmas.Bool.Decides.{nat_tests}
-use Rattle.osek_values.specs.declared.numbers.BlockNo.{BlockNo}
-use Rattle.osek_values.specs.declared.mask.Mask.{Mask}
-use Rattle.osek_standard.specs.declared.app.App.{App}
-use Rattle.osek_standard.specs.declared.block.Kind.{Kind}
+use Rattle.std.proofs.{Common.{◌≡◌, ℕ, ◌+◌, ◌<◌, Bool, true, false, refl, sym, ap, subst, inl, inr, arith, nat_lt}, lemmas.Bool.{cases_Bool, Decides.{nat_tests}}}
+use Rattle.osek_values.specs.declared.{numbers.BlockNo.{BlockNo}, mask.Mask.{Mask}}
+use Rattle.osek_standard.specs.declared.{app.App.{App}, block.Kind.{Kind}}
 use Rattle.osek_standard.specs.declared.block.Kind.TheVariants as kind
 use Rattle.osek_standard.specs.CallNames as call
 use Rattle.osek_standard.specs.declared.state.{State.{State}, Processor.{Processor}, Caller.{Caller}}
 use Rattle.osek_standard.specs.declared.state.Processor.TheVariants as processor
-use Rattle.osek_standard.specs.declared.task_state.Place.{Place}
-use Rattle.osek_standard.specs.Validity.{NamesEntries}
-use Rattle.osek_standard.specs.Apps.{tables, the_block}
-use Rattle.osek_standard.specs.States.{caller, here}
-use Rattle.osek_standard.specs.Effects.{effect, effect_by, effect_at, moved_to, place_at}
-use Rattle.osek_standard.specs.Well.{Well, InOwner, IsActive, IsOffsetAt, IsTaskLevel, IsWaitEvent}
-use Rattle.osek_standard.proofs.Callers.{IfTask, BlockHere, block_here, calls, caller_owns, enters, known_caller, moved_processor}
-use Rattle.osek_standard.proofs.Keeps.{activate_keeps, here_own, moved_keeps}
-use Rattle.osek_standard.proofs.TaskServiceKeeps.{terminate_keeps, chain_keeps, schedule_keeps, end_task_keeps}
-use Rattle.osek_standard.proofs.ResourceKeeps.{get_resource_by_keeps, release_resource_by_keeps}
+use Rattle.osek_standard.specs.{declared.task_state.Place.{Place}, Validity.{NamesEntries}, Apps.{tables, the_block}, States.{caller, here}}
+use Rattle.osek_standard.specs.{Effects.{effect, effect_by, effect_at, moved_to, place_at}, Well.{Well, InOwner, IsActive, IsOffsetAt, IsTaskLevel, IsWaitEvent}}
+use Rattle.osek_standard.proofs.{Callers.{IfTask, BlockHere, block_here, calls, caller_owns, enters, known_caller, moved_processor}, Keeps.{activate_keeps, here_own, moved_keeps}}
+use Rattle.osek_standard.proofs.{TaskServiceKeeps.{terminate_keeps, chain_keeps, schedule_keeps, end_task_keeps}, ResourceKeeps.{get_resource_by_keeps, release_resource_by_keeps}}
 use Rattle.osek_standard.proofs.EventKeeps.{set_event_keeps, clear_event_keeps, get_event_keeps, wait_or_on_keeps}
 use Rattle.osek_standard.proofs.AlarmKeeps.{set_rel_alarm_keeps, set_abs_alarm_keeps, cancel_alarm_keeps, get_alarm_keeps, expire_keeps, counted_by_keeps}
 use Rattle.osek_standard.proofs.RoutineKeeps.{returned_keeps, halted_keeps}

@@ -1,21 +1,13 @@
 -- The event services keep a state well-formed (ISO 17356-3, event control).
-use Rattle.std.proofs.Common.{◌≡◌, ℕ, ◌<◌, true, false, length, inl, inr, arith, not}
-use Rattle.std.proofs.lemmas.Bool.{cases_Bool, not-false}
+use Rattle.std.proofs.{Common.{◌≡◌, ℕ, ◌<◌, true, false, length, inl, inr, arith, not}, lemmas.Bool.{cases_Bool, not-false}}
 use Rattle.std.specs.List.{IsDistinct}
 use Rattle.osek_values.specs.declared.numbers.{TaskNo.{TaskNo}, BlockNo.{BlockNo}}
-use Rattle.osek_standard.specs.declared.app.App.{App}
-use Rattle.osek_standard.specs.declared.state.{State.{State}, Caller.{Caller}, Caller.TheVariants.{Nobody, Task, Routine}}
-use Rattle.osek_standard.specs.declared.task_state.{Activity.{Activity}, Activity.TheVariants.{Suspended, Live, Waiting}}
-use Rattle.osek_standard.specs.Apps.{the_block, is_extended}
-use Rattle.osek_standard.specs.TaskStates.{is_live_activity, is_suspended}
-use Rattle.osek_standard.specs.States.{task_state, with_task, here}
+use Rattle.osek_standard.specs.declared.{app.App.{App}, state.{State.{State}, Caller.{Caller, TheVariants.{Nobody, Task, Routine}}}}
+use Rattle.osek_standard.specs.{declared.task_state.Activity.{Activity, TheVariants.{Suspended, Live, Waiting}}, Apps.{the_block, is_extended}}
+use Rattle.osek_standard.specs.{TaskStates.{is_live_activity, is_suspended}, States.{task_state, with_task, here}}
 use Rattle.osek_standard.specs.Services.{set_event, clear_event, get_event, wait_event, waits_for, holds_some, share, released_from, left}
-use Rattle.osek_standard.specs.Effects.{moved_to, goes_on_unless_left}
-use Rattle.osek_standard.specs.Well.{Well, IsActivityOf, IsOwn, IsTaskLevel, IsWaitEvent}
-use Rattle.osek_standard.proofs.Callers.{IfTask}
-use Rattle.osek_standard.proofs.MaskLaws.{set_within, clear_within}
-use Rattle.osek_standard.proofs.WellLaws.{own_block}
-use Rattle.osek_standard.proofs.Keeps.{with_task_keeps, left_keeps, offset_0}
+use Rattle.osek_standard.specs.{Effects.{moved_to, goes_on_unless_left}, Well.{Well, IsActivityOf, IsOwn, IsTaskLevel, IsWaitEvent}}
+use Rattle.osek_standard.proofs.{Callers.{IfTask}, MaskLaws.{set_within, clear_within}, WellLaws.{own_block}, Keeps.{with_task_keeps, left_keeps, offset_0}}
 
 -- a task that waited is Live at the block after
 released_is_right : (app : App) (t : ℕ) (a : Activity) → t < length app.tasks → IsActivityOf app t a → IsActivityOf app t (released_from app a)

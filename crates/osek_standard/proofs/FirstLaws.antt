@@ -1,7 +1,5 @@
 -- The first of some numbers, by a test that orders all numbers.
-use Rattle.std.proofs.Common.{◌≡◌, ℕ, Bool, true, List, [], ◌∷◌, refl, sym, subst, ◌⊎◌, inl, inr, arith, Some, None, nat_le}
-use Rattle.std.proofs.lemmas.Bool.{cases_Bool}
-use Rattle.std.proofs.lemmas.Bool.Decides.{nat_tests}
+use Rattle.std.proofs.{Common.{◌≡◌, ℕ, Bool, true, List, [], ◌∷◌, refl, sym, subst, ◌⊎◌, inl, inr, arith, Some, None, nat_le}, lemmas.Bool.{cases_Bool, Decides.{nat_tests}}}
 use Rattle.std.specs.List.{list_all}
 use Rattle.osek_standard.specs.Priority.{first_of_all}
 use Rattle.osek_standard.proofs.Members.{Among, all_of, of_all, find_one, find_among}

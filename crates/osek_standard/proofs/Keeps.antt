@@ -1,23 +1,17 @@
 -- What keeps a state well-formed: another state of a task, another processor, another place of a routine, and a move.
 use Rattle.std.proofs.Common.{◌≡◌, ◌≢◌, ℕ, ◌+◌, ◌<◌, ◌≤◌, true, [], length, refl, sym, ◌∙◌, subst, inl, inr, arith, Some, None, IfSome, get_or-set_same, get_or-set_other}
-use Rattle.std.proofs.lemmas.Bool.{cases_Bool, cases_eq}
-use Rattle.std.proofs.Math.ListN.{length-set}
-use Rattle.std.specs.List.{IsDistinct}
-use Rattle.std.specs.declared.option.Option.{Option}
+use Rattle.std.proofs.{lemmas.Bool.{cases_Bool, cases_eq}, Math.ListN.{length-set}}
+use Rattle.std.specs.{List.{IsDistinct}, declared.option.Option.{Option}}
 use Rattle.osek_values.specs.declared.numbers.{TaskNo.{TaskNo}, SourceNo.{SourceNo}}
-use Rattle.osek_standard.specs.declared.app.App.{App}
-use Rattle.osek_standard.specs.declared.block.Kind.{Kind}
+use Rattle.osek_standard.specs.declared.{app.App.{App}, block.Kind.{Kind}}
 use Rattle.osek_standard.specs.declared.block.Kind.TheVariants as kind
 use Rattle.osek_standard.specs.declared.state.{State.{State}, Source.{Source}, Processor.{Processor}}
 use Rattle.osek_standard.specs.declared.state.Source.TheVariants as source
 use Rattle.osek_standard.specs.declared.state.Processor.TheVariants as processor
-use Rattle.osek_standard.specs.declared.task_state.{TaskState.{TaskState}, Place.{Place}, Activity.{Activity}, Activity.TheVariants.{Suspended, Live, Waiting}}
-use Rattle.osek_standard.specs.Apps.{tables, the_task, the_block}
-use Rattle.osek_standard.specs.TaskStates.{suspended, is_live, is_live_activity}
-use Rattle.osek_standard.specs.Validity.{NamesEntries}
+use Rattle.osek_standard.specs.declared.task_state.{TaskState.{TaskState}, Place.{Place}, Activity.{Activity, TheVariants.{Suspended, Live, Waiting}}}
+use Rattle.osek_standard.specs.{Apps.{tables, the_task, the_block}, TaskStates.{suspended, is_live, is_live_activity}, Validity.{NamesEntries}}
 use Rattle.osek_standard.specs.States.{task_state, with_task, source_state, with_source, with_processor, place_in, place_of_source, place_by, here}
-use Rattle.osek_standard.specs.Services.{activate_task, activated_state, is_full, left}
-use Rattle.osek_standard.specs.Effects.{source_at, place_at, task_at, standing_at, moved_by, moved}
+use Rattle.osek_standard.specs.{Services.{activate_task, activated_state, is_full, left}, Effects.{source_at, place_at, task_at, standing_at, moved_by, moved}}
 use Rattle.osek_standard.specs.Well.{Well, AreOut, HasProcessor, InOwner, IsActive, IsActivityOf, IsOffsetAt, IsOfRoutine, IsOwn, IsPlaceOf, IsProcessor, IsRoutine, IsRunningAt, IsStandingOf, IsTaskState}
 use Rattle.osek_standard.proofs.WellLaws.{owner_of, own_block}
 

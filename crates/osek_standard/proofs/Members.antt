@@ -2,9 +2,7 @@
 -- of all, and by a search.
 use Rattle.std.proofs.Common.{◌≡◌, ℕ, zero, suc, ◌+◌, ◌*◌, ◌<◌, ◌≤◌, Bool, true, false, cond, List, [], ◌∷◌, ◌++◌, length, map, flat_map, get_or, length-append, refl, sym, ◌∙◌, ap, subst, ◌⊎◌, inl, inr, arith, Some, nat_eq, Contains}
 use Rattle.std.specs.List.{AllByRecursion, find, filter, list_all, range_with_len}
-use Rattle.std.proofs.Math.Nat.{add-mul}
-use Rattle.std.proofs.lemmas.Bool.{cases_Bool, and_parts}
-use Rattle.std.proofs.lemmas.Bool.Decides.{nat_tests}
+use Rattle.std.proofs.{Math.Nat.{add-mul}, lemmas.Bool.{cases_Bool, and_parts, Decides.{nat_tests}}}
 
 abbrev pub Among : {X : Type 0} → X → List X → Type 0
 Among t [] = ⊥

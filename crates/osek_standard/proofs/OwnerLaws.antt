@@ -1,24 +1,12 @@
 -- Each block has one owner: the blocks of tasks and of routines, in order of their owners.
 use Rattle.std.proofs.Common.{◌≡◌, ℕ, zero, suc, ◌+◌, ◌-◌, ◌<◌, ◌≤◌, Bool, true, false, List, [], ◌∷◌, ◌++◌, length, map, get_or, sym, subst, ap, ◌∙◌, inl, inr, arith, nat_eq, nat_lt, append_assoc, refl, length-append}
-use Rattle.std.specs.Prelude.{slice_index_or, if◌then◌else◌, IfSome}
-use Rattle.std.specs.List.{IsDistinct, flat_map, range_with_len, sum_by}
-use Rattle.std.specs.declared.option.Option.{Option}
-use Rattle.std.proofs.lemmas.Bool.{cases_Bool, cases_order, lt-ltb, ne_eqb, and_from, true≢false}
-use Rattle.std.proofs.lemmas.Bool.Decides.{nat_tests}
-use Rattle.std.proofs.lemmas.Grind.{flat_map-append}
-use Rattle.std.proofs.lemmas.List.{length-map, get_or-map}
-use Rattle.std.proofs.lemmas.List.FromFn.{length-range_with_len}
-use Rattle.std.proofs.lemmas.List.Sums.{sum_by-cons}
-use Rattle.std.proofs.lemmas.Map.Keys.{apart_from_distinct}
+use Rattle.std.specs.{Prelude.{slice_index_or, if◌then◌else◌, IfSome}, List.{IsDistinct, flat_map, range_with_len, sum_by}, declared.option.Option.{Option}}
+use Rattle.std.proofs.lemmas.{Bool.{cases_Bool, cases_order, lt-ltb, ne_eqb, and_from, true≢false, Decides.{nat_tests}}, Grind.{flat_map-append}, List.{length-map, get_or-map}}
+use Rattle.std.proofs.lemmas.{List.{FromFn.{length-range_with_len}, Sums.{sum_by-cons}}, Map.Keys.{apart_from_distinct}}
 use Rattle.osek_values.specs.declared.numbers.{BlockNo.{BlockNo}, TaskNo.{TaskNo}}
-use Rattle.osek_standard.specs.declared.app.App.{App}
-use Rattle.osek_standard.specs.declared.objects.{Task.{Task}, Isr.{Isr}, Counter.{Counter}}
-use Rattle.osek_standard.specs.Validity.{IsAmong, meet, owners}
-use Rattle.osek_standard.specs.Apps.{the_task, the_isr, the_counter, source_count, no_task, no_isr, no_counter}
-use Rattle.osek_standard.specs.Well.{IsOwn, IsOfRoutine}
-use Rattle.osek_standard.specs.Points.{IsTaskBlock, IsRoutineBlock}
-use Rattle.osek_standard.proofs.Members.{Among, among_cases, among_left, among_range, among_right, range_among}
-use Rattle.osek_standard.proofs.Distinct.{distinct_flat_map, distinct_left, distinct_range}
+use Rattle.osek_standard.specs.{declared.{app.App.{App}, objects.{Task.{Task}, Isr.{Isr}, Counter.{Counter}}}, Validity.{IsAmong, meet, owners}}
+use Rattle.osek_standard.specs.{Apps.{the_task, the_isr, the_counter, source_count, no_task, no_isr, no_counter}, Well.{IsOwn, IsOfRoutine}, Points.{IsTaskBlock, IsRoutineBlock}}
+use Rattle.osek_standard.proofs.{Members.{Among, among_cases, among_left, among_range, among_right, range_among}, Distinct.{distinct_flat_map, distinct_left, distinct_range}}
 
 abbrev pub of_task : Task → ℕ × ℕ
 of_task x = (x.first.0, x.count)

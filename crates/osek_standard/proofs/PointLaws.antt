@@ -1,25 +1,13 @@
 -- Points in their order: their numbers ascend, they are the points of an application, and so many as its count says.
 use Rattle.std.proofs.Common.{◌≡◌, ◌≢◌, ℕ, zero, suc, ◌+◌, ◌*◌, ◌<◌, ◌≤◌, Bool, true, false, cond, Less, List, [], ◌∷◌, ◌++◌, length, map, filter, sym, subst, ap, ◌∙◌, ◌⊎◌, inl, inr, arith, nat_eq, nat_lt, refl, Some, None, length-append}
-use Rattle.std.specs.Prelude.{IfSome, nat_le, not, ◌||◌}
-use Rattle.std.specs.Cmp.{nat_cmp_is}
-use Rattle.std.specs.List.{IsDistinct, flat_map, list_any, range_with_len, sum_by}
-use Rattle.std.specs.List.Sorted.{IsStrictlySortedBy}
-use Rattle.std.specs.Ordering.{nat_cmp}
-use Rattle.std.specs.declared.option.Option.{Option}
-use Rattle.std.proofs.Math.Bool.{or-true}
-use Rattle.std.proofs.Math.Nat.{add-mul, zero-mul}
-use Rattle.std.proofs.lemmas.Bool.{and_from, and_parts, cases_Bool, eq-eqb, eqb-false, le-leb, lt-ltb, ne_eqb, or_cases}
-use Rattle.std.proofs.lemmas.Bool.Decides.{nat_tests}
-use Rattle.std.proofs.lemmas.List.{length-map}
-use Rattle.std.proofs.lemmas.List.FromFn.{length-range_with_len}
-use Rattle.osek_values.specs.declared.numbers.{BlockNo.{BlockNo}, TaskNo.{TaskNo}}
-use Rattle.osek_values.specs.Numbers.{block_no, task_no}
-use Rattle.osek_standard.specs.declared.app.App.{App}
-use Rattle.osek_standard.specs.declared.objects.Isr.{Isr}
-use Rattle.osek_standard.specs.declared.point.Point.{Point}
+use Rattle.std.specs.{Prelude.{IfSome, nat_le, not, ◌||◌}, Cmp.{nat_cmp_is}, List.{IsDistinct, flat_map, list_any, range_with_len, sum_by, Sorted.{IsStrictlySortedBy}}}
+use Rattle.std.specs.{Ordering.{nat_cmp}, declared.option.Option.{Option}}
+use Rattle.std.proofs.{Math.{Bool.{or-true}, Nat.{add-mul, zero-mul}}, lemmas.Bool.{and_from, and_parts, cases_Bool, eq-eqb, eqb-false, le-leb, lt-ltb, ne_eqb, or_cases}}
+use Rattle.std.proofs.lemmas.{Bool.Decides.{nat_tests}, List.{length-map, FromFn.{length-range_with_len}}}
+use Rattle.osek_values.specs.{declared.numbers.{BlockNo.{BlockNo}, TaskNo.{TaskNo}}, Numbers.{block_no, task_no}}
+use Rattle.osek_standard.specs.declared.{app.App.{App}, objects.Isr.{Isr}, point.Point.{Point}}
 use Rattle.osek_standard.specs.declared.point.Point.TheVariants as point
-use Rattle.osek_standard.specs.Apps.{is_task_block, no_task}
-use Rattle.osek_standard.specs.Counts.{points, task_blocks, routine_blocks}
+use Rattle.osek_standard.specs.{Apps.{is_task_block, no_task}, Counts.{points, task_blocks, routine_blocks}}
 use Rattle.osek_standard.specs.Points.{ArePoints, IsPoint, StandsAt, block_points, over_number, point_number, points_by, points_in_order, routine_points, same_number}
 use Rattle.osek_standard.specs.Validity.{is_within, owners}
 use Rattle.osek_standard.proofs.Members.{Among, among_cases, among_contained, among_flat_map, among_left, among_map, among_passing, among_range, among_right, contained_among, each_among, flat_map_among, map_among, passing_among, range_among}

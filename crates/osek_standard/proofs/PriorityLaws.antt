@@ -1,17 +1,9 @@
 -- Which task is best: the computed one is the one with the property.
 use Rattle.std.proofs.Common.{◌≡◌, ◌∙◌, ℕ, ◌<◌, ◌||◌, ◌&&◌, Bool, true, false, length, refl, sym, ap, subst, ◌⊎◌, inl, inr, arith, Some, None, nat_eq, nat_lt}
-use Rattle.std.proofs.lemmas.Bool.{cases_Bool, cases_lt, cases_eq}
-use Rattle.std.proofs.lemmas.Bool.Decides.{nat_tests}
-use Rattle.std.proofs.lemmas.List.{get_or_past}
-use Rattle.std.specs.Prelude.{option_map}
-use Rattle.std.specs.declared.option.Option.{Option}
-use Rattle.osek_values.specs.declared.numbers.TaskNo.{TaskNo}
-use Rattle.osek_values.specs.Numbers.{task_no}
-use Rattle.osek_standard.specs.declared.app.App.{App}
-use Rattle.osek_standard.specs.declared.state.State.{State}
-use Rattle.osek_standard.specs.declared.task_state.TaskState.{TaskState}
-use Rattle.osek_standard.specs.TaskStates.{is_live, suspended}
-use Rattle.osek_standard.specs.States.{task_state, live_tasks}
+use Rattle.std.proofs.lemmas.{Bool.{cases_Bool, cases_lt, cases_eq, Decides.{nat_tests}}, List.{get_or_past}}
+use Rattle.std.specs.{Prelude.{option_map}, declared.option.Option.{Option}}
+use Rattle.osek_values.specs.{declared.numbers.TaskNo.{TaskNo}, Numbers.{task_no}}
+use Rattle.osek_standard.specs.{declared.{app.App.{App}, state.State.{State}, task_state.TaskState.{TaskState}}, TaskStates.{is_live, suspended}, States.{task_state, live_tasks}}
 use Rattle.osek_standard.specs.Priority.{best, IsBest, goes_before, precedes, current_priority}
 use Rattle.osek_standard.proofs.Members.{Among, among_passing, passing_among}
 use Rattle.osek_standard.proofs.FirstLaws.{Orders, lower_orders, before_itself, IsFirst, first_is, is_first, none_first, first_none}

@@ -1,18 +1,11 @@
 -- The resource services keep a state well-formed (ISO 17356-3, resource management).
-use Rattle.std.proofs.Common.{◌≡◌, ℕ, ◌-◌, ◌<◌, true, List, [], ◌∷◌, ◌++◌, take, length, refl, inl, inr, arith, ◌||◌, nat_lt}
-use Rattle.std.proofs.lemmas.Bool.{cases_Bool, or_parts}
+use Rattle.std.proofs.{Common.{◌≡◌, ℕ, ◌-◌, ◌<◌, true, List, [], ◌∷◌, ◌++◌, take, length, refl, inl, inr, arith, ◌||◌, nat_lt}, lemmas.Bool.{cases_Bool, or_parts}}
 use Rattle.osek_values.specs.declared.numbers.ResNo.{ResNo}
-use Rattle.osek_standard.specs.declared.app.App.{App}
-use Rattle.osek_standard.specs.declared.state.{State.{State}, Caller.{Caller}, Caller.TheVariants.{Nobody, Task, Routine}}
-use Rattle.osek_standard.specs.declared.task_state.{Activity.{Activity}, Activity.TheVariants.{Suspended, Live, Waiting}}
-use Rattle.osek_standard.specs.TaskStates.{is_live, is_live_activity, held}
-use Rattle.osek_standard.specs.States.{task_state, is_taken}
-use Rattle.osek_standard.specs.Services.{get_resource, release_resource, get_resource_by, release_resource_by, with_stack, with_held, is_on_top}
-use Rattle.osek_standard.specs.Priority.{ceiling, base_priority}
-use Rattle.osek_standard.specs.Well.{Well, IsActivityOf, IsStack, IsTaskLevel}
-use Rattle.osek_standard.proofs.Callers.{IfTask}
-use Rattle.osek_standard.proofs.StackLaws.{held_stack, push_stack, pop_stack, not_taken}
-use Rattle.osek_standard.proofs.Keeps.{with_task_keeps}
+use Rattle.osek_standard.specs.declared.{app.App.{App}, state.{State.{State}, Caller.{Caller, TheVariants.{Nobody, Task, Routine}}}}
+use Rattle.osek_standard.specs.{declared.task_state.Activity.{Activity, TheVariants.{Suspended, Live, Waiting}}, TaskStates.{is_live, is_live_activity, held}}
+use Rattle.osek_standard.specs.{States.{task_state, is_taken}, Services.{get_resource, release_resource, get_resource_by, release_resource_by, with_stack, with_held, is_on_top}}
+use Rattle.osek_standard.specs.{Priority.{ceiling, base_priority}, Well.{Well, IsActivityOf, IsStack, IsTaskLevel}}
+use Rattle.osek_standard.proofs.{Callers.{IfTask}, StackLaws.{held_stack, push_stack, pop_stack, not_taken}, Keeps.{with_task_keeps}}
 
 -- another stack of a Live task
 stack_is_right : (app : App) (t : ℕ) (g : List ResNo) (a : Activity) → IsActivityOf app t a → IsStack app g → IsActivityOf app t (with_stack a g)

@@ -1,22 +1,16 @@
 -- Latches, the begin and the end of a routine, and ShutdownOS keep a state well-formed (ISO 17356-3, interrupt
 -- processing).
 use Rattle.std.proofs.Common.{◌≡◌, ℕ, ◌+◌, ◌<◌, ◌≤◌, Bool, false, length, refl, sym, ◌∙◌, subst, inl, inr, arith, Some, None, IfSome, get_or-set_same, get_or-set_other}
-use Rattle.std.proofs.lemmas.Bool.{cases_eq}
-use Rattle.std.proofs.Math.ListN.{length-set}
+use Rattle.std.proofs.{lemmas.Bool.{cases_eq}, Math.ListN.{length-set}}
 use Rattle.std.specs.declared.option.Option.{Option}
 use Rattle.osek_values.specs.declared.numbers.{TaskNo.{TaskNo}, SourceNo.{SourceNo}}
-use Rattle.osek_standard.specs.declared.app.App.{App}
-use Rattle.osek_standard.specs.declared.state.{State.{State}, Source.{Source}, Processor.{Processor}}
+use Rattle.osek_standard.specs.declared.{app.App.{App}, state.{State.{State}, Source.{Source}, Processor.{Processor}}}
 use Rattle.osek_standard.specs.declared.state.Source.TheVariants as source
 use Rattle.osek_standard.specs.declared.state.Processor.TheVariants as processor
-use Rattle.osek_standard.specs.Apps.{source_count, routine_start, routine_count, no_block}
-use Rattle.osek_standard.specs.States.{task_of, with_latch, with_source, source_state}
-use Rattle.osek_standard.specs.Effects.{place_at, given_back, returned_by, returned, halted_by}
-use Rattle.osek_standard.specs.Arrivals.{begun, arrival, entered, takes_none_by}
+use Rattle.osek_standard.specs.{Apps.{source_count, routine_start, routine_count, no_block}, States.{task_of, with_latch, with_source, source_state}}
+use Rattle.osek_standard.specs.{Effects.{place_at, given_back, returned_by, returned, halted_by}, Arrivals.{begun, arrival, entered, takes_none_by}}
 use Rattle.osek_standard.specs.Well.{Well, AreOut, HasProcessor, IsPlaceOf, IsProcessor, IsRoutine, IsRunningAt}
-use Rattle.osek_standard.proofs.WellLaws.{routine_owner}
-use Rattle.osek_standard.proofs.Keeps.{processor_keeps, with_processor_keeps, with_source_keeps, offset_0}
-use Rattle.osek_standard.proofs.ArrivalLaws.{arrival_is, latched_known}
+use Rattle.osek_standard.proofs.{WellLaws.{routine_owner}, Keeps.{processor_keeps, with_processor_keeps, with_source_keeps, offset_0}, ArrivalLaws.{arrival_is, latched_known}}
 
 module _ (app : App) (s : State) where
   -- a state with another latch

@@ -4,16 +4,12 @@ use Rattle.std.specs.declared.option.Option.{Option}
 use Rattle.osek_values.specs.declared.numbers.ResNo.{ResNo}
 use Rattle.oil_system.specs.declared.objects.Action.{Action}
 use Rattle.oil_system.specs.declared.objects.Action.TheVariants as action
-use Rattle.osek_standard.specs.declared.app.App.{App}
-use Rattle.osek_standard.specs.declared.block.Kind.{Kind}
+use Rattle.osek_standard.specs.declared.{app.App.{App}, block.Kind.{Kind}}
 use Rattle.osek_standard.specs.declared.block.Kind.TheVariants as kind
 use Rattle.osek_standard.specs.declared.call.Call.{Call}
 use Rattle.osek_standard.specs.CallNames as call
-use Rattle.osek_standard.specs.declared.state.{State.{State}, Caller.{Caller}, Caller.TheVariants.{Nobody, Task, Routine}}
-use Rattle.osek_standard.specs.Apps.{the_alarm, is_extended, is_counter, is_cycle, max_of}
-use Rattle.osek_standard.specs.TaskStates.{held, is_suspended}
-use Rattle.osek_standard.specs.States.{alarm_state, is_taken, task_state, with_alarm}
-use Rattle.osek_standard.specs.Priority.{base_priority, ceiling}
+use Rattle.osek_standard.specs.{declared.state.{State.{State}, Caller.{Caller, TheVariants.{Nobody, Task, Routine}}}, Apps.{the_alarm, is_extended, is_counter, is_cycle, max_of}}
+use Rattle.osek_standard.specs.{TaskStates.{held, is_suspended}, States.{alarm_state, is_taken, task_state, with_alarm}, Priority.{base_priority, ceiling}}
 use Rattle.osek_standard.specs.Services.{Answer, acted, activate_task, cancel_alarm, chain_task, clear_event, count_up, counted_by, due, expire, get_alarm, get_event, get_resource, get_resource_by, holds_some, is_due_at, is_full, is_idle, is_on_top, rearmed, release_resource, release_resource_by, schedule, set_abs_alarm, set_event, set_rel_alarm, share, terminate_task, time_left, value_of, wait_event, waits_for}
 use Rattle.osek_standard.specs.Effects.{called, row}
 use Rattle.osek_standard.proofs.BoolLaws.{either_way}

@@ -3,18 +3,11 @@
 use Rattle.std.proofs.Common.{◌≡◌, ℕ, suc, ◌<◌, ◌≤◌, Bool, true, false, ◌||◌, List, [], ◌∷◌, ◌++◌, zero, take, length, length-append, sym, ◌∙◌, ap, inl, inr, arith, nat_eq, map}
 use Rattle.std.proofs.Math.ListN.{length-map}
 use Rattle.std.specs.List.{IsDistinct, AllByRecursion, list_any}
-use Rattle.std.proofs.lemmas.Bool.Decides.{nat_tests}
-use Rattle.std.proofs.lemmas.List.Elements.{All-nil, recursion_from_All, All-from_recursion}
-use Rattle.std.proofs.lemmas.List.Folds.{list_any_at}
+use Rattle.std.proofs.lemmas.{Bool.Decides.{nat_tests}, List.{Elements.{All-nil, recursion_from_All, All-from_recursion}, Folds.{list_any_at}}}
 use Rattle.std.proofs.lemmas.Map.Steps.{length-le_from_distinct_below}
-use Rattle.osek_values.specs.declared.limits.TheConstants.{MAX_RESOURCES}
-use Rattle.osek_values.specs.declared.numbers.ResNo.{ResNo}
-use Rattle.osek_values.specs.Numbers.{res_no}
-use Rattle.osek_standard.specs.declared.app.App.{App}
-use Rattle.osek_standard.specs.declared.state.State.{State}
-use Rattle.osek_standard.specs.TaskStates.{holds, held, held_in, suspended}
-use Rattle.osek_standard.specs.States.{task_state, is_taken}
-use Rattle.osek_standard.specs.declared.task_state.{TaskState.{TaskState}, Standing.{Standing}, Activity.{Activity}, Activity.TheVariants.{Suspended, Live, Waiting}}
+use Rattle.osek_values.specs.{declared.{limits.TheConstants.{MAX_RESOURCES}, numbers.ResNo.{ResNo}}, Numbers.{res_no}}
+use Rattle.osek_standard.specs.{declared.{app.App.{App}, state.State.{State}}, TaskStates.{holds, held, held_in, suspended}, States.{task_state, is_taken}}
+use Rattle.osek_standard.specs.declared.task_state.{TaskState.{TaskState}, Standing.{Standing}, Activity.{Activity, TheVariants.{Suspended, Live, Waiting}}}
 use Rattle.osek_standard.specs.Well.{Well, IsActivityOf, IsStack, IsStackOutOf, same_resource}
 use Rattle.std.proofs.lemmas.Bool.{cases_Bool, or_parts}
 

@@ -1,35 +1,20 @@
 -- The start and each step of the kernel keep a state well-formed.
 use Rattle.std.proofs.Common.{◌≡◌, ℕ, ◌<◌, ◌≤◌, Bool, true, false, length, replicate, refl, sym, subst, ◌⊎◌, inl, inr, arith, Some, None, IfSome, nat_lt, get_or}
-use Rattle.std.proofs.lemmas.Bool.{cases_Bool, cases_lt}
-use Rattle.std.proofs.Math.ListN.{length-map, length-replicate}
-use Rattle.std.proofs.lemmas.List.{get_or-map, get_or-replicate, get_or_past}
-use Rattle.std.specs.Prelude.{if◌then◌else◌}
-use Rattle.std.specs.declared.option.Option.{Option}
+use Rattle.std.proofs.{lemmas.{Bool.{cases_Bool, cases_lt}, List.{get_or-map, get_or-replicate, get_or_past}}, Math.ListN.{length-map, length-replicate}}
+use Rattle.std.specs.{Prelude.{if◌then◌else◌}, declared.option.Option.{Option}}
 use Rattle.osek_values.specs.declared.status.Ask.{Ask}
 use Rattle.osek_values.specs.declared.status.Ask.TheVariants as ask
-use Rattle.osek_values.specs.declared.event.{Event.{Event}, Event.TheVariants.{Run, Irq, Tick}}
-use Rattle.osek_values.specs.declared.numbers.{TaskNo.{TaskNo}, SourceNo.{SourceNo}, ModeNo.{ModeNo}}
-use Rattle.osek_values.specs.Bits.{has_bit}
-use Rattle.osek_standard.specs.declared.app.App.{App}
-use Rattle.osek_standard.specs.declared.state.{State.{State}, Processor.{Processor}, Caller.{Caller}, Caller.TheVariants.{Nobody, Task, Routine}}
+use Rattle.osek_values.specs.{declared.{event.Event.{Event, TheVariants.{Run, Irq, Tick}}, numbers.{TaskNo.{TaskNo}, SourceNo.{SourceNo}, ModeNo.{ModeNo}}}, Bits.{has_bit}}
+use Rattle.osek_standard.specs.declared.{app.App.{App}, state.{State.{State}, Processor.{Processor}, Caller.{Caller, TheVariants.{Nobody, Task, Routine}}}}
 use Rattle.osek_standard.specs.declared.state.Source.TheVariants as source
 use Rattle.osek_standard.specs.declared.state.AlarmState.TheVariants as alarm
 use Rattle.osek_standard.specs.declared.state.Processor.TheVariants as processor
-use Rattle.osek_standard.specs.Apps.{the_task, the_alarm, the_counter, source_count, no_task, no_alarm, no_counter}
-use Rattle.osek_standard.specs.TaskStates.{suspended}
-use Rattle.osek_standard.specs.States.{caller}
-use Rattle.osek_standard.specs.Services.{activated_state}
-use Rattle.osek_standard.specs.Priority.{best, current_priority}
-use Rattle.osek_standard.specs.Effects.{Effect, effect}
-use Rattle.osek_standard.specs.Dispatch.{Stepped, if_any, if_above, preempted_by, outcome_by, outcome_of, concluded, dispatched, settled, instruction}
-use Rattle.osek_standard.specs.Arrivals.{arrival}
-use Rattle.osek_standard.specs.Kernel.{step, run_by, entered_or, start, initial, started_task, started_alarm}
-use Rattle.osek_standard.specs.Well.{Well, AreOut, HasProcessor, IsAlarmState, IsTaskState}
-use Rattle.osek_standard.proofs.PriorityLaws.{best_is_live}
-use Rattle.osek_standard.proofs.Keeps.{activated_is_right, with_processor_keeps}
-use Rattle.osek_standard.proofs.RoutineKeeps.{with_latch_keeps, arrival_keeps}
-use Rattle.osek_standard.proofs.EffectKeeps.{effect_keeps}
-use Rattle.osek_standard.proofs.AskLaws.{MayDispatch, effect_may}
+use Rattle.osek_standard.specs.{Apps.{the_task, the_alarm, the_counter, source_count, no_task, no_alarm, no_counter}, TaskStates.{suspended}, States.{caller}}
+use Rattle.osek_standard.specs.{Services.{activated_state}, Priority.{best, current_priority}, Effects.{Effect, effect}}
+use Rattle.osek_standard.specs.{Dispatch.{Stepped, if_any, if_above, preempted_by, outcome_by, outcome_of, concluded, dispatched, settled, instruction}, Arrivals.{arrival}}
+use Rattle.osek_standard.specs.{Kernel.{step, run_by, entered_or, start, initial, started_task, started_alarm}, Well.{Well, AreOut, HasProcessor, IsAlarmState, IsTaskState}}
+use Rattle.osek_standard.proofs.{PriorityLaws.{best_is_live}, Keeps.{activated_is_right, with_processor_keeps}, RoutineKeeps.{with_latch_keeps, arrival_keeps}}
+use Rattle.osek_standard.proofs.{EffectKeeps.{effect_keeps}, AskLaws.{MayDispatch, effect_may}}
 
 -- where all sources are out, each is
 all_out : (n k : ℕ) → get_or (replicate n source.Out) k source.Out ≡ source.Out

@@ -1,14 +1,9 @@
 -- The task services keep a state well-formed: a task that ends leaves the processor (ISO 17356-3, task management).
-use Rattle.std.proofs.Common.{ℕ, ◌<◌, length, refl, inl, inr, not, ◌&&◌, nat_eq}
-use Rattle.std.proofs.lemmas.Bool.{cases_Bool}
+use Rattle.std.proofs.{Common.{ℕ, ◌<◌, length, refl, inl, inr, not, ◌&&◌, nat_eq}, lemmas.Bool.{cases_Bool}}
 use Rattle.osek_values.specs.declared.numbers.TaskNo.{TaskNo}
-use Rattle.osek_standard.specs.declared.app.App.{App}
-use Rattle.osek_standard.specs.declared.state.{State.{State}, Caller.{Caller}, Caller.TheVariants.{Nobody, Task, Routine}}
-use Rattle.osek_standard.specs.Services.{terminate_task, chain_task, schedule, holds_some, is_full, ended, left, activated_state}
-use Rattle.osek_standard.specs.Effects.{end_task}
-use Rattle.osek_standard.specs.Well.{Well, IsTaskLevel}
-use Rattle.osek_standard.proofs.Callers.{IfTask}
-use Rattle.osek_standard.proofs.Keeps.{with_task_keeps, left_keeps, activated_is_right}
+use Rattle.osek_standard.specs.declared.{app.App.{App}, state.{State.{State}, Caller.{Caller, TheVariants.{Nobody, Task, Routine}}}}
+use Rattle.osek_standard.specs.{Services.{terminate_task, chain_task, schedule, holds_some, is_full, ended, left, activated_state}, Effects.{end_task}, Well.{Well, IsTaskLevel}}
+use Rattle.osek_standard.proofs.{Callers.{IfTask}, Keeps.{with_task_keeps, left_keeps, activated_is_right}}
 
 module _ (app : App) (s : State) where
   -- a task that ended has left

@@ -1,22 +1,12 @@
 -- What follows from a well-formed state, and from the conditions on an application.
-use Rattle.std.proofs.Common.{◌≡◌, ℕ, ◌<◌, ◌-◌, length, subst, ap, ◌∙◌, inl, inr, arith, nat_lt}
-use Rattle.std.proofs.lemmas.Bool.{cases_Bool}
-use Rattle.std.proofs.lemmas.Bool.Decides.{nat_tests}
-use Rattle.osek_standard.specs.declared.app.App.{App}
-use Rattle.osek_standard.specs.declared.state.{State.{State}, Processor.{Processor}}
+use Rattle.std.proofs.{Common.{◌≡◌, ℕ, ◌<◌, ◌-◌, length, ◌∙◌, inl, inr, arith, nat_lt}, lemmas.Bool.{cases_Bool, Decides.{nat_tests}}}
+use Rattle.osek_standard.specs.declared.{app.App.{App}, state.{State.{State}, Processor.{Processor}}}
 use Rattle.osek_standard.specs.declared.state.Processor.TheVariants as processor
-use Rattle.osek_standard.specs.declared.task_state.{TaskState.{TaskState}, Standing.{Standing}, Activity.{Activity}, Activity.TheVariants.{Live}}
-use Rattle.osek_standard.specs.Apps.{tables, the_task, the_block, source_count, routine_start, routine_count, no_task, no_block, no_counter, no_isr}
-use Rattle.osek_standard.specs.Validity.{IsBlock, IsOwner}
-use Rattle.osek_standard.specs.States.{task_state}
-use Rattle.osek_standard.specs.Well.{Well, IsActivityOf, IsStandingOf, IsOwn, IsOfRoutine, IsProcessor, InOwner}
+use Rattle.osek_standard.specs.declared.task_state.TaskState.{TaskState}
+use Rattle.osek_standard.specs.{Apps.{tables, the_task, the_block, source_count, routine_start, routine_count, no_task, no_block, no_counter, no_isr}, Validity.{IsBlock, IsOwner}}
+use Rattle.osek_standard.specs.{States.{task_state}, Well.{Well, IsOwn, IsOfRoutine, IsProcessor, InOwner}}
 
 module _ (app : App) (s : State) (w : Well app s) (t : ℕ) (known : t < length app.tasks) (x : TaskState) (is : task_state s t ≡ x) where
-  activity_of : (a : Activity) → x.activity ≡ a → IsActivityOf app t a
-  activity_of a e = subst (IsActivityOf app t) (ap (λ (y : TaskState). y.activity) is ∙ e) (w.tasks t known).activity
-
-  pub live_at : (y : Standing) → x.activity ≡ Live y → IsStandingOf app t y
-  live_at y e = activity_of (Live y) e
 
 -- the blocks of a task
 pub owner_of : (app : App) (t : ℕ) → t < length app.tasks → IsOwner (tables app) (the_task app t).first.0 (the_task app t).count

@@ -1,14 +1,9 @@
 -- What an application declares, looked up by number. Past the end of a table stands an entry that declares nothing.
-use Rattle.std.specs.Prelude.{⊤, ℕ, ◌-◌, ◌+◌, ◌<◌, Bool, true, false, ◌==◌, nat_lt, not, List, length, slice_index_or, if◌then◌else◌}
-use Rattle.std.specs.List.{list_any}
-use Rattle.osek_values.specs.declared.numbers.BlockNo.{BlockNo}
-use Rattle.osek_values.specs.declared.event.{Event.{Event}, Event.TheVariants.{Run, Irq, Tick}}
+use Rattle.std.specs.{Prelude.{⊤, ℕ, ◌-◌, ◌+◌, ◌<◌, Bool, true, false, ◌==◌, nat_lt, not, List, length, slice_index_or, if◌then◌else◌}, List.{list_any}}
+use Rattle.osek_values.specs.declared.{numbers.BlockNo.{BlockNo}, event.Event.{Event, TheVariants.{Run, Irq, Tick}}}
 use Rattle.oil_system.specs.declared.objects.{Alarm.{Alarm}, Resource.{Resource}}
 pub use Rattle.osek_standard.specs.Validity.{no_task, no_isr, no_counter, no_alarm, no_resource, no_block}
-use Rattle.osek_standard.specs.Validity.{is_cycle_of, is_within}
-use Rattle.osek_standard.specs.Tables.{Tables, tabled}
-use Rattle.osek_standard.specs.declared.app.App.{App}
-use Rattle.osek_standard.specs.declared.objects.{Task.{Task}, Isr.{Isr}, Counter.{Counter}}
+use Rattle.osek_standard.specs.{Validity.{is_cycle_of, is_within}, Tables.{Tables, tabled}, declared.{app.App.{App}, objects.{Task.{Task}, Isr.{Isr}, Counter.{Counter}}}}
 use Rattle.osek_standard.specs.declared.block.{Block.{Block}, Kind.{Kind}}
 use Rattle.osek_standard.specs.declared.block.Kind.TheVariants as kind
 use Rattle.osek_standard.specs.declared.call.Call.{Call}

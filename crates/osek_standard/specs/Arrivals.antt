@@ -1,17 +1,12 @@
 -- Interrupts: which source's routine begins now (ISO 17356-3, interrupt processing). Routines don't nest (this
 -- project's profile).
-use Rattle.std.specs.Prelude.{IsTrue, ◌≡◌, ℕ, Bool, true, false, nat_le, List, length, if◌then◌else◌, None, option_map}
-use Rattle.std.specs.List.{filter, range_with_len}
+use Rattle.std.specs.{Prelude.{IsTrue, ◌≡◌, ℕ, Bool, true, false, nat_le, List, length, if◌then◌else◌, None, option_map}, List.{filter, range_with_len}}
 use Rattle.std.specs.declared.option.Option.{Option}
-use Rattle.osek_values.specs.declared.numbers.SourceNo.{SourceNo}
-use Rattle.osek_values.specs.Numbers.{source_no}
-use Rattle.osek_standard.specs.declared.app.App.{App}
-use Rattle.osek_standard.specs.declared.state.{State.{State}, RoutineStanding.{RoutineStanding}, Processor.{Processor}}
+use Rattle.osek_values.specs.{declared.numbers.SourceNo.{SourceNo}, Numbers.{source_no}}
+use Rattle.osek_standard.specs.declared.{app.App.{App}, state.{State.{State}, RoutineStanding.{RoutineStanding}, Processor.{Processor}}}
 use Rattle.osek_standard.specs.declared.state.Source.TheVariants as source
 use Rattle.osek_standard.specs.declared.state.Processor.TheVariants as processor
-use Rattle.osek_standard.specs.Apps.{the_block, routine_start}
-use Rattle.osek_standard.specs.States.{task_of, is_latched, with_latch, with_source, with_processor, here}
-use Rattle.osek_standard.specs.Priority.{first_of_all}
+use Rattle.osek_standard.specs.{Apps.{the_block, routine_start}, States.{task_of, is_latched, with_latch, with_source, with_processor, here}, Priority.{first_of_all}}
 use Rattle.osek_standard.specs.Effects.{place_at}
 
 abbrev pub latched_sources : State → List ℕ

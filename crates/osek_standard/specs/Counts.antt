@@ -1,8 +1,6 @@
 -- How many points an application has, and how high its tables of possible states are (this project's profile).
-use Rattle.std.specs.Prelude.{ℕ, zero, suc, ◌+◌, ◌*◌, count_ones, length}
-use Rattle.std.specs.List.{sum_by}
-use Rattle.osek_standard.specs.declared.app.App.{App}
-use Rattle.osek_standard.specs.declared.objects.{Task.{Task}, Isr.{Isr}, Counter.{Counter}}
+use Rattle.std.specs.{Prelude.{ℕ, zero, suc, ◌+◌, ◌*◌, count_ones, length}, List.{sum_by}}
+use Rattle.osek_standard.specs.declared.{app.App.{App}, objects.{Task.{Task}, Isr.{Isr}, Counter.{Counter}}}
 
 -- the stacks of distinct resources out of n: the empty one, and each of the n above a stack of the others
 abbrev pub stacks : ℕ → ℕ

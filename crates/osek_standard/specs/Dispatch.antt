@@ -1,19 +1,12 @@
 -- What a step does with the processor after the effect of its instruction (ISO 17356-3, scheduling policy), and the
 -- hooks of a dispatch (ISO 17356-3, PreTaskHook and PostTaskHook).
-use Rattle.std.specs.Prelude.{ℕ, Bool, true, false, nat_lt, ◌||◌, bit_or, if◌then◌else◌, Some, None, is_some}
-use Rattle.std.specs.declared.option.Option.{Option}
-use Rattle.osek_values.specs.declared.hooks.HookSet.{HookSet}
-use Rattle.osek_values.specs.Hooks.{hook_set, pre_task, post_task, when}
-use Rattle.osek_values.specs.declared.status.Ask.{Ask}
+use Rattle.std.specs.{Prelude.{ℕ, Bool, true, false, nat_lt, ◌||◌, bit_or, if◌then◌else◌, Some, None, is_some}, declared.option.Option.{Option}}
+use Rattle.osek_values.specs.{declared.{hooks.HookSet.{HookSet}, status.Ask.{Ask}}, Hooks.{hook_set, pre_task, post_task, when}}
 use Rattle.osek_values.specs.declared.status.Ask.TheVariants as ask
-use Rattle.osek_values.specs.declared.notes.Notes.{Notes}
-use Rattle.osek_values.specs.declared.numbers.TaskNo.{TaskNo}
-use Rattle.osek_standard.specs.declared.app.App.{App}
-use Rattle.osek_standard.specs.declared.state.{State.{State}, Processor.{Processor}, Caller.{Caller}, Caller.TheVariants.{Nobody, Task, Routine}}
+use Rattle.osek_values.specs.declared.{notes.Notes.{Notes}, numbers.TaskNo.{TaskNo}}
+use Rattle.osek_standard.specs.declared.{app.App.{App}, state.{State.{State}, Processor.{Processor}, Caller.{Caller, TheVariants.{Nobody, Task, Routine}}}}
 use Rattle.osek_standard.specs.declared.state.Processor.TheVariants as processor
-use Rattle.osek_standard.specs.States.{task_of, caller, with_processor}
-use Rattle.osek_standard.specs.Priority.{current_priority, best}
-use Rattle.osek_standard.specs.Effects.{Effect, effect, wanted}
+use Rattle.osek_standard.specs.{States.{task_of, caller, with_processor}, Priority.{current_priority, best}, Effects.{Effect, effect, wanted}}
 
 -- who had the processor keeps it, or it goes to a task or to none
 pub data Outcome : Type 0 where

@@ -1,26 +1,20 @@
 -- The effect of one instruction: what it does to the state, what it notes, and what it asks of the scheduler.
-use Rattle.std.specs.Prelude.{ℕ, ◌+◌, Bool, true, false, nat_lt, bit_and, if◌then◌else◌, Some, None}
-use Rattle.std.specs.declared.option.Option.{Option}
-use Rattle.osek_values.specs.declared.hooks.HookSet.{HookSet}
-use Rattle.osek_values.specs.Hooks.{hook_set, shutdown, error, when}
-use Rattle.osek_values.specs.declared.status.{Status.{Status}, Ask.{Ask}}
+use Rattle.std.specs.{Prelude.{ℕ, ◌+◌, Bool, true, false, nat_lt, bit_and, if◌then◌else◌, Some, None}, declared.option.Option.{Option}}
+use Rattle.osek_values.specs.{declared.{hooks.HookSet.{HookSet}, status.{Status.{Status}, Ask.{Ask}}}, Hooks.{hook_set, shutdown, error, when}}
 use Rattle.osek_values.specs.declared.status.Status.TheVariants as status
 use Rattle.osek_values.specs.declared.status.Ask.TheVariants as ask
 use Rattle.osek_values.specs.declared.notes.Value.TheVariants as value
-use Rattle.osek_values.specs.declared.notes.Notes.{Notes}
-use Rattle.osek_values.specs.declared.numbers.{TaskNo.{TaskNo}, BlockNo.{BlockNo}}
-use Rattle.oil_system.specs.declared.objects.{Schedule.{Schedule}, Schedule.TheVariants.{Non, Full}}
-use Rattle.osek_standard.specs.declared.app.App.{App}
-use Rattle.osek_standard.specs.declared.block.{Block.{Block}, Kind.{Kind}}
+use Rattle.osek_values.specs.declared.{notes.Notes.{Notes}, numbers.{TaskNo.{TaskNo}, BlockNo.{BlockNo}}}
+use Rattle.oil_system.specs.declared.objects.Schedule.{Schedule, TheVariants.{Non, Full}}
+use Rattle.osek_standard.specs.declared.{app.App.{App}, block.{Block.{Block}, Kind.{Kind}}}
 use Rattle.osek_standard.specs.declared.block.Kind.TheVariants as kind
 use Rattle.osek_standard.specs.declared.call.Call.{Call}
 use Rattle.osek_standard.specs.CallNames as call
-use Rattle.osek_standard.specs.declared.task_state.{Place.{Place}, TaskState.{TaskState}, Activity.{Activity}, Activity.TheVariants.{Suspended, Live, Waiting}}
-use Rattle.osek_standard.specs.declared.state.{State.{State}, Source.{Source}, Processor.{Processor}, Caller.{Caller}, Caller.TheVariants.{Nobody, Task, Routine}}
+use Rattle.osek_standard.specs.declared.task_state.{Place.{Place}, TaskState.{TaskState}, Activity.{Activity, TheVariants.{Suspended, Live, Waiting}}}
+use Rattle.osek_standard.specs.declared.state.{State.{State}, Source.{Source}, Processor.{Processor}, Caller.{Caller, TheVariants.{Nobody, Task, Routine}}}
 use Rattle.osek_standard.specs.declared.state.Source.TheVariants as source
 use Rattle.osek_standard.specs.declared.state.Processor.TheVariants as processor
-use Rattle.osek_standard.specs.Apps.{the_task, the_block}
-use Rattle.osek_standard.specs.States.{caller, task_state, with_task, source_state, with_source, with_processor, here}
+use Rattle.osek_standard.specs.{Apps.{the_task, the_block}, States.{caller, task_state, with_task, source_state, with_source, with_processor, here}}
 use Rattle.osek_standard.specs.Services.{Answer, unnoted, left, ended, activate_task, terminate_task, chain_task, schedule, get_task_id, get_task_state, get_resource_by, release_resource_by, set_event, clear_event, get_event, wait_event, set_rel_alarm, set_abs_alarm, cancel_alarm, get_alarm, counted_by, expire}
 
 -- what an instruction leaves, notes and asks

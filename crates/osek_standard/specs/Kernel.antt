@@ -1,27 +1,16 @@
 -- One step of the kernel, its start in an application mode, and its runs (ISO 17356-3).
-use Rattle.std.specs.Prelude.{ℕ, ◌+◌, Bool, false, true, List, [], ◌∷◌, length, map, replicate, if◌then◌else◌, Some, None}
-use Rattle.std.specs.declared.option.Option.{Option}
-use Rattle.osek_values.specs.Bits.{has_bit}
-use Rattle.osek_values.specs.Hooks.{startup}
-use Rattle.osek_values.specs.Numbers.{mask}
+use Rattle.std.specs.{Prelude.{ℕ, ◌+◌, Bool, false, true, List, [], ◌∷◌, length, map, replicate, if◌then◌else◌, Some, None}, declared.option.Option.{Option}}
+use Rattle.osek_values.specs.{Bits.{has_bit}, Hooks.{startup}, Numbers.{mask}}
 use Rattle.osek_values.specs.declared.status.Ask.TheVariants as ask
-use Rattle.osek_values.specs.declared.event.{Event.{Event}, Event.TheVariants.{Run, Irq, Tick}}
-use Rattle.osek_values.specs.declared.numbers.{ModeNo.{ModeNo}, SourceNo.{SourceNo}}
+use Rattle.osek_values.specs.declared.{event.Event.{Event, TheVariants.{Run, Irq, Tick}}, numbers.{ModeNo.{ModeNo}, SourceNo.{SourceNo}}}
 use Rattle.oil_system.specs.declared.objects.Alarm.{Alarm}
-use Rattle.osek_standard.specs.declared.app.App.{App}
-use Rattle.osek_standard.specs.declared.objects.Task.{Task}
-use Rattle.osek_standard.specs.declared.task_state.{TaskState.{TaskState}, Activity.TheVariants.{Live}}
+use Rattle.osek_standard.specs.declared.{app.App.{App}, objects.Task.{Task}, task_state.{TaskState.{TaskState}, Activity.TheVariants.{Live}}}
 use Rattle.osek_standard.specs.declared.state.{State.{State}, AlarmState.{AlarmState}, Processor.{Processor}}
 use Rattle.osek_standard.specs.declared.state.AlarmState.TheVariants as alarm
 use Rattle.osek_standard.specs.declared.state.Source.TheVariants as source
 use Rattle.osek_standard.specs.declared.state.Processor.TheVariants as processor
-use Rattle.osek_standard.specs.Apps.{source_count}
-use Rattle.osek_standard.specs.TaskStates.{suspended}
-use Rattle.osek_standard.specs.States.{with_latch}
-use Rattle.osek_standard.specs.Priority.{best}
-use Rattle.osek_standard.specs.Effects.{place_at, wanted, effected}
-use Rattle.osek_standard.specs.Dispatch.{Stepped, silent, nothing_noted, with_hooks, if_any, concluded, instruction}
-use Rattle.osek_standard.specs.Arrivals.{arrival, entered}
+use Rattle.osek_standard.specs.{Apps.{source_count}, TaskStates.{suspended}, States.{with_latch}, Priority.{best}, Effects.{place_at, wanted, effected}}
+use Rattle.osek_standard.specs.{Dispatch.{Stepped, silent, nothing_noted, with_hooks, if_any, concluded, instruction}, Arrivals.{arrival, entered}}
 
 -- Steps of the kernel and of images differ in the instruction alone, whose result may be a trap of an image: so the
 -- result is of a type R into which each plain step is put.

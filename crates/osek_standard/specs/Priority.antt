@@ -1,15 +1,9 @@
 -- Priorities under the priority ceiling protocol (ISO 17356-3, OSEK priority ceiling protocol), and the task that is
 -- to run (ISO 17356-3, task priority).
-use Rattle.std.specs.Prelude.{◌≡◌, ◌≢◌, ◌⊎◌, ℕ, ◌*◌, ◌<◌, max, Bool, ◌==◌, nat_lt, nat_le, ◌&&◌, ◌||◌, List, true, option_map, IsTrue}
-use Rattle.std.specs.List.{fold, find, list_all}
+use Rattle.std.specs.{Prelude.{◌≡◌, ◌≢◌, ◌⊎◌, ℕ, ◌*◌, ◌<◌, max, Bool, ◌==◌, nat_lt, nat_le, ◌&&◌, ◌||◌, List, true, option_map, IsTrue}, List.{fold, find, list_all}}
 use Rattle.std.specs.declared.option.Option.{Option}
-use Rattle.osek_values.specs.declared.numbers.{TaskNo.{TaskNo}, ResNo.{ResNo}}
-use Rattle.osek_values.specs.Numbers.{task_no}
-use Rattle.osek_standard.specs.declared.app.App.{App}
-use Rattle.osek_standard.specs.declared.state.State.{State}
-use Rattle.osek_standard.specs.Apps.{the_task, the_resource}
-use Rattle.osek_standard.specs.TaskStates.{is_live, held}
-use Rattle.osek_standard.specs.States.{task_state, live_tasks}
+use Rattle.osek_values.specs.{declared.numbers.{TaskNo.{TaskNo}, ResNo.{ResNo}}, Numbers.{task_no}}
+use Rattle.osek_standard.specs.{declared.{app.App.{App}, state.State.{State}}, Apps.{the_task, the_resource}, TaskStates.{is_live, held}, States.{task_state, live_tasks}}
 
 -- the number that goes before each of them, if there is one
 unfoldable pub first_of_all : (ℕ → ℕ → Bool) → List ℕ → Option ℕ

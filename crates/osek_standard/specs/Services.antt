@@ -12,16 +12,13 @@ use Rattle.osek_values.specs.declared.status.Status.TheVariants as status
 use Rattle.osek_values.specs.declared.status.Ask.TheVariants as ask
 use Rattle.osek_values.specs.declared.notes.Value.{Value}
 use Rattle.osek_values.specs.declared.notes.Value.TheVariants as value
-use Rattle.osek_values.specs.declared.numbers.ResNo.{ResNo}
-use Rattle.osek_values.specs.Numbers.{mask}
+use Rattle.osek_values.specs.{declared.numbers.ResNo.{ResNo}, Numbers.{mask}}
 use Rattle.oil_system.specs.declared.objects.Action.{Action}
 use Rattle.oil_system.specs.declared.objects.Action.TheVariants as action
-use Rattle.osek_standard.specs.declared.app.App.{App}
-use Rattle.osek_standard.specs.declared.task_state.{TaskState.{TaskState}, Activity.{Activity}, Activity.TheVariants.{Suspended, Live, Waiting}}
-use Rattle.osek_standard.specs.declared.state.{State.{State}, AlarmState.{AlarmState}, AlarmState.TheVariants.{Idle, Armed}, Caller.{Caller}, Caller.TheVariants.{Nobody, Task, Routine}}
+use Rattle.osek_standard.specs.declared.{app.App.{App}, task_state.{TaskState.{TaskState}, Activity.{Activity, TheVariants.{Suspended, Live, Waiting}}}}
+use Rattle.osek_standard.specs.declared.state.{State.{State}, AlarmState.{AlarmState, TheVariants.{Idle, Armed}}, Caller.{Caller, TheVariants.{Nobody, Task, Routine}}}
 use Rattle.osek_standard.specs.declared.state.Processor.TheVariants as processor
-use Rattle.osek_standard.specs.Apps.{the_task, the_counter, the_alarm, the_block, is_extended, is_counter, max_of, is_cycle, awaited}
-use Rattle.osek_standard.specs.TaskStates.{is_suspended, held}
+use Rattle.osek_standard.specs.{Apps.{the_task, the_counter, the_alarm, the_block, is_extended, is_counter, max_of, is_cycle, awaited}, TaskStates.{is_suspended, held}}
 use Rattle.osek_standard.specs.States.{task_of, letter_of, is_taken, task_state, with_task, alarm_state, with_alarm, counter_value, with_processor, here}
 use Rattle.osek_standard.specs.Priority.{base_priority, ceiling}
 

@@ -1,11 +1,8 @@
 -- The parts of a state, looked up by number, and who has the processor.
-use Rattle.std.specs.Prelude.{ℕ, Bool, false, ◌==◌, Some, None, List, length, slice_index_or, slice_set, if◌then◌else◌}
-use Rattle.std.specs.List.{list_any, filter, range_with_len}
+use Rattle.std.specs.{Prelude.{ℕ, Bool, false, ◌==◌, Some, None, List, length, slice_index_or, slice_set, if◌then◌else◌}, List.{list_any, filter, range_with_len}}
 use Rattle.std.specs.declared.option.Option.{Option}
-use Rattle.osek_values.specs.declared.numbers.TaskNo.{TaskNo}
-use Rattle.osek_values.specs.declared.status.{Letter.{Letter}, Letter.TheVariants.{S, Y, R, W}}
-use Rattle.osek_values.specs.Numbers.{block_no}
-use Rattle.osek_standard.specs.declared.task_state.{TaskState.{TaskState}, Activity.{Activity}, Activity.TheVariants.{Suspended, Live, Waiting}, Place.{Place}}
+use Rattle.osek_values.specs.{declared.{numbers.TaskNo.{TaskNo}, status.Letter.{Letter, TheVariants.{S, Y, R, W}}}, Numbers.{block_no}}
+use Rattle.osek_standard.specs.declared.task_state.{TaskState.{TaskState}, Activity.{Activity, TheVariants.{Suspended, Live, Waiting}}, Place.{Place}}
 use Rattle.osek_standard.specs.declared.state.{State.{State}, AlarmState.{AlarmState}, Source.{Source}, Processor.{Processor}, Caller.{Caller}}
 use Rattle.osek_standard.specs.declared.state.AlarmState.TheVariants as alarm
 use Rattle.osek_standard.specs.declared.state.Source.TheVariants as source

@@ -2,8 +2,7 @@
 use Rattle.std.specs.Prelude.{ℕ, List}
 use Rattle.osek_values.specs.declared.hooks.HookSet.{HookSet}
 use Rattle.oil_system.specs.declared.objects.{Alarm.{Alarm}, Resource.{Resource}}
-use Rattle.osek_standard.specs.declared.objects.{Task.{Task}, Isr.{Isr}, Counter.{Counter}}
-use Rattle.osek_standard.specs.declared.block.Block.{Block}
+use Rattle.osek_standard.specs.declared.{objects.{Task.{Task}, Isr.{Isr}, Counter.{Counter}}, block.Block.{Block}}
 
 pub record Tables : Type 0 where
   pub hooks : HookSet

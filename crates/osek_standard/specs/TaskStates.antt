@@ -1,10 +1,8 @@
 -- The states of the task models (ISO 17356-3, task state model). A Live task is ready or running; which, the
 -- processor says.
-use Rattle.std.specs.Prelude.{ℕ, Bool, true, false, ◌==◌, List, []}
-use Rattle.std.specs.List.{list_any}
-use Rattle.osek_values.specs.declared.numbers.ResNo.{ResNo}
-use Rattle.osek_values.specs.Numbers.{mask}
-use Rattle.osek_standard.specs.declared.task_state.{TaskState.{TaskState}, Activity.{Activity}, Activity.TheVariants.{Suspended, Live, Waiting}}
+use Rattle.std.specs.{Prelude.{ℕ, Bool, true, false, ◌==◌, List, []}, List.{list_any}}
+use Rattle.osek_values.specs.{declared.numbers.ResNo.{ResNo}, Numbers.{mask}}
+use Rattle.osek_standard.specs.declared.task_state.{TaskState.{TaskState}, Activity.{Activity, TheVariants.{Suspended, Live, Waiting}}}
 
 abbrev pub suspended : TaskState
 suspended = record { activity = Suspended; events = mask 0 }

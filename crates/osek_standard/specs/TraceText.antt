@@ -1,27 +1,16 @@
 -- Trace text: a line for the start, and one for each event (this project's profile).
 use Rattle.std.specs.Prelude.{ℕ, ◌+◌, ◌-◌, Bool, not, ◌==◌, bit_and, List, [], ◌∷◌, ◌++◌, length, slice_index_or, if◌then◌else◌, Some, None, codes}
-use Rattle.std.specs.List.{flat_map, enumerate_from}
-use Rattle.std.specs.Fmt.{decimal}
-use Rattle.std.specs.declared.option.Option.{Option}
-use Rattle.osek_values.specs.declared.status.{Status.{Status}, Letter.{Letter}, Letter.TheVariants.{S, Y, R, W}}
+use Rattle.std.specs.{List.{flat_map, enumerate_from}, Fmt.{decimal}, declared.option.Option.{Option}}
+use Rattle.osek_values.specs.declared.status.{Status.{Status}, Letter.{Letter, TheVariants.{S, Y, R, W}}}
 use Rattle.osek_values.specs.declared.status.Status.TheVariants as status
 use Rattle.osek_values.specs.declared.notes.{Value.{Value}, Notes.{Notes}}
 use Rattle.osek_values.specs.declared.notes.Value.TheVariants as value
-use Rattle.osek_values.specs.declared.event.Event.{Event}
-use Rattle.osek_values.specs.declared.numbers.{ModeNo.{ModeNo}, ResNo.{ResNo}}
-use Rattle.osek_values.specs.declared.hooks.HookSet.{HookSet}
-use Rattle.osek_values.specs.Hooks.{startup, shutdown, error, pre_task, post_task}
-use Rattle.osek_values.specs.Numbers.{hexadecimal}
-use Rattle.osek_standard.specs.declared.app.App.{App}
-use Rattle.osek_standard.specs.declared.objects.Task.{Task}
-use Rattle.osek_standard.specs.declared.state.{State.{State}, Processor.{Processor}}
-use Rattle.osek_standard.specs.declared.task_state.TaskState.{TaskState}
+use Rattle.osek_values.specs.declared.{event.Event.{Event}, numbers.{ModeNo.{ModeNo}, ResNo.{ResNo}}, hooks.HookSet.{HookSet}}
+use Rattle.osek_values.specs.{Hooks.{startup, shutdown, error, pre_task, post_task}, Numbers.{hexadecimal}}
+use Rattle.osek_standard.specs.declared.{app.App.{App}, objects.Task.{Task}, state.{State.{State}, Processor.{Processor}}, task_state.TaskState.{TaskState}}
 use Rattle.osek_standard.specs.declared.state.Processor.TheVariants as processor
-use Rattle.osek_standard.specs.Apps.{the_task, the_counter, the_isr, the_resource, is_counter}
-use Rattle.osek_standard.specs.TaskStates.{is_suspended, held}
-use Rattle.osek_standard.specs.States.{task_state, letter_of}
-use Rattle.osek_standard.specs.Dispatch.{Stepped}
-use Rattle.osek_standard.specs.Kernel.{run}
+use Rattle.osek_standard.specs.{Apps.{the_task, the_counter, the_isr, the_resource, is_counter}, TaskStates.{is_suspended, held}, States.{task_state, letter_of}}
+use Rattle.osek_standard.specs.{Dispatch.{Stepped}, Kernel.{run}}
 
 abbrev pub status_name : Status → List ℕ
 status_name status.Ok = codes "E_OK"

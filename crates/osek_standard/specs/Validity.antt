@@ -1,18 +1,13 @@
 -- What each application keeps: the conditions on its tables.
 use Rattle.std.specs.Prelude.{◌≡◌, ⊤, ℕ, ◌+◌, ◌-◌, ◌^◌, ◌<◌, ◌≤◌, Bool, true, false, not, ◌==◌, nat_lt, nat_le, ◌||◌, ◌&&◌, IsTrue, [], ◌++◌, List, length, map, slice_index_or, All, if◌then◌else◌}
-use Rattle.std.specs.List.{IsDistinct, IsDistinct-prop, list_any, filter, enumerate_from}
-use Rattle.std.specs.Coded.{×_prop, Unit-prop, le_prop}
+use Rattle.std.specs.{List.{IsDistinct, IsDistinct-prop, list_any, filter, enumerate_from}, Coded.{×_prop, Unit-prop, le_prop}}
 use Rattle.std.proofs.Props.{props}
-use Rattle.osek_values.specs.declared.limits.TheConstants.{MAX_TASKS, MAX_ISRS, MAX_COUNTERS, MAX_ALARMS, MAX_RESOURCES, MAX_MODES, MAX_BLOCKS}
-use Rattle.osek_values.specs.Names.{AreNames}
+use Rattle.osek_values.specs.{declared.limits.TheConstants.{MAX_TASKS, MAX_ISRS, MAX_COUNTERS, MAX_ALARMS, MAX_RESOURCES, MAX_MODES, MAX_BLOCKS}, Names.{AreNames}}
 use Rattle.osek_values.specs.Numbers.{task_no, counter_no, block_no, mask}
-use Rattle.oil_system.specs.Objects.{greatest_ceiling}
-use Rattle.oil_system.specs.declared.objects.{Alarm.{Alarm}, Resource.{Resource}, Action.{Action}}
+use Rattle.oil_system.specs.{Objects.{greatest_ceiling}, declared.objects.{Alarm.{Alarm}, Resource.{Resource}, Action.{Action}}}
 use Rattle.oil_system.specs.declared.objects.Action.TheVariants as action
 use Rattle.oil_system.specs.declared.objects.Schedule.TheVariants as schedule
-use Rattle.osek_standard.specs.declared.objects.{Task.{Task}, Isr.{Isr}, Counter.{Counter}}
-use Rattle.osek_standard.specs.Tables.{Tables}
-use Rattle.osek_standard.specs.declared.block.{Block.{Block}, Kind.{Kind}}
+use Rattle.osek_standard.specs.{declared.{objects.{Task.{Task}, Isr.{Isr}, Counter.{Counter}}, block.{Block.{Block}, Kind.{Kind}}}, Tables.{Tables}}
 use Rattle.osek_standard.specs.declared.block.Kind.TheVariants as kind
 use Rattle.osek_standard.specs.declared.call.Call.{Call}
 use Rattle.osek_standard.specs.CallNames as call

@@ -1,6 +1,5 @@
 -- What the image format's version 1 asks of an application besides.
-use Rattle.std.specs.Prelude.{List, map, nat_eq}
-use Rattle.std.specs.List.{IsDistinct, IsDistinct-prop}
+use Rattle.std.specs.{Prelude.{List, map, nat_eq}, List.{IsDistinct, IsDistinct-prop}}
 use Rattle.std.proofs.Props.{props}
 use Rattle.osek_standard.specs.declared.objects.Task.{Task}
 

@@ -1,20 +1,16 @@
 -- The states that the kernel can be in, for an application.
-use Rattle.std.specs.Prelude.{◌≡◌, ◌≢◌, ⊤, ℕ, ◌<◌, ◌≤◌, Bool, nat_eq, bit_and, List, length, All, IsTrue, IfSome}
-use Rattle.std.specs.List.{IsDistinct}
+use Rattle.std.specs.{Prelude.{◌≡◌, ◌≢◌, ⊤, ℕ, ◌<◌, ◌≤◌, Bool, nat_eq, bit_and, List, length, All, IsTrue, IfSome}, List.{IsDistinct}}
 use Rattle.osek_values.specs.declared.numbers.{TaskNo.{TaskNo}, ResNo.{ResNo}, SourceNo.{SourceNo}}
-use Rattle.osek_standard.specs.declared.app.App.{App}
-use Rattle.osek_standard.specs.declared.block.Kind.{Kind}
+use Rattle.osek_standard.specs.declared.{app.App.{App}, block.Kind.{Kind}}
 use Rattle.osek_standard.specs.declared.block.Kind.TheVariants as kind
 use Rattle.osek_standard.specs.CallNames as call
-use Rattle.osek_standard.specs.declared.state.{State.{State}, AlarmState.{AlarmState}, AlarmState.TheVariants.{Idle, Armed}, Source.{Source}, Processor.{Processor}}
-use Rattle.osek_standard.specs.declared.task_state.{TaskState.{TaskState}, Activity.{Activity}, Activity.TheVariants.{Suspended, Live, Waiting}, Place.{Place}, Standing.{Standing}}
+use Rattle.osek_standard.specs.declared.state.{State.{State}, AlarmState.{AlarmState, TheVariants.{Idle, Armed}}, Source.{Source}, Processor.{Processor}}
+use Rattle.osek_standard.specs.declared.task_state.{TaskState.{TaskState}, Activity.{Activity, TheVariants.{Suspended, Live, Waiting}}, Place.{Place}, Standing.{Standing}}
 use Rattle.osek_standard.specs.declared.state.Source.TheVariants as source
 use Rattle.std.specs.declared.option.Option.{Option}
 use Rattle.osek_standard.specs.declared.state.Processor.TheVariants as processor
-use Rattle.osek_standard.specs.Validity.{IsAmong}
-use Rattle.osek_standard.specs.Apps.{the_task, the_counter, the_block, is_extended, source_count, routine_start, routine_count, max_of, is_cycle}
-use Rattle.osek_standard.specs.TaskStates.{is_live}
-use Rattle.osek_standard.specs.States.{task_state, alarm_state, counter_value, source_state}
+use Rattle.osek_standard.specs.{Validity.{IsAmong}, Apps.{the_task, the_counter, the_block, is_extended, source_count, routine_start, routine_count, max_of, is_cycle}}
+use Rattle.osek_standard.specs.{TaskStates.{is_live}, States.{task_state, alarm_state, counter_value, source_state}}
 
 -- an offset counts the instructions of `work n` that are done, and is 0 elsewhere
 abbrev pub IsOffsetAt : Kind → ℕ → Type 0

@@ -1,7 +1,6 @@
 //! The activation of a task (ISO 17356-3, ActivateTask).
 ghost use Rattle.std.specs.Prelude.{◌≡◌, ◌<◌, length, Some, None};
-ghost use Rattle.osek_standard.specs.Services.{activate_task, answer, maybe_if};
-ghost use Rattle.osek_standard.specs.Well.{Well};
+ghost use Rattle.osek_standard.specs.{Services.{activate_task, answer, maybe_if}, Well.{Well}};
 
 use crate::app::App;
 use crate::state::State;

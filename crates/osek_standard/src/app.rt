@@ -1,6 +1,5 @@
 //! An application: what an image holds but for the forms of its sites.
-ghost use Rattle.osek_standard.specs.Validity.{IsValid, IsValid-prop};
-ghost use Rattle.osek_standard.specs.Tables.{tabled};
+ghost use Rattle.osek_standard.specs.{Validity.{IsValid, IsValid-prop}, Tables.{tabled}};
 
 use crate::block::Block;
 use crate::objects::{Alarm, Counter, Isr, Resource, Task};
@@ -27,8 +26,7 @@ pub struct App {
 
 impl App {
     ghost use Rattle.std.specs.Prelude.{◌≡◌, ◌<◌, length};
-    ghost use Rattle.osek_standard.specs.Apps.{the_task, the_block, the_alarm, the_counter, the_resource, source_count, routine_start};
-    ghost use Rattle.osek_standard.specs.Services.{activated_state};
+    ghost use Rattle.osek_standard.specs.{Apps.{the_task, the_block, the_alarm, the_counter, the_resource, source_count, routine_start}, Services.{activated_state}};
 
     /// A task's declaration.
     pub fn task(&self, task: TaskNo) -> &Task

@@ -1,6 +1,5 @@
 //! How many points an application has, and how high its tables of possible states are.
-ghost use Rattle.std.specs.Prelude.{◌≡◌, ◌≤◌, length};
-ghost use Rattle.std.specs.List.{sum_by};
+ghost use Rattle.std.specs.{Prelude.{◌≡◌, ◌≤◌, length}, List.{sum_by}};
 ghost use Rattle.osek_standard.specs.Counts.{stacks, event_height};
 
 use crate::app::App;

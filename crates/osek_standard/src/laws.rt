@@ -1,27 +1,12 @@
 //! Laws of the definitions, each on a function that does nothing.
-ghost use Rattle.std.specs.Prelude.{◌≡◌, ◌≢◌, ◌⊎◌, ℕ, ◌<◌, Bool, Some, None, true, false, length, map};
-ghost use Rattle.std.specs.List.{position};
-ghost use Rattle.std.specs.List.Sorted.{IsStrictlySortedBy};
-ghost use Rattle.std.specs.Ordering.{nat_cmp};
-ghost use Rattle.osek_values.specs.declared.event.Event.{Event};
-ghost use Rattle.osek_values.specs.declared.numbers.BlockNo.{BlockNo};
-ghost use Rattle.osek_values.specs.declared.numbers.ModeNo.{ModeNo};
-ghost use Rattle.osek_values.specs.declared.numbers.SourceNo.{SourceNo};
-ghost use Rattle.osek_values.specs.declared.numbers.TaskNo.{TaskNo};
+ghost use Rattle.std.specs.{Prelude.{◌≡◌, ◌≢◌, ◌⊎◌, ℕ, ◌<◌, Bool, Some, None, true, false, length, map}, List.{position, Sorted.{IsStrictlySortedBy}}, Ordering.{nat_cmp}};
+ghost use Rattle.osek_values.specs.declared.{event.Event.{Event}, numbers.{BlockNo.{BlockNo}, ModeNo.{ModeNo}, SourceNo.{SourceNo}, TaskNo.{TaskNo}}};
 ghost use Rattle.osek_values.specs.Numbers.{task_no, source_no};
-ghost use Rattle.osek_standard.specs.declared.app.App.{App};
-ghost use Rattle.osek_standard.specs.declared.state.State.{State};
-ghost use Rattle.osek_standard.specs.declared.point.Point.{Point};
+ghost use Rattle.osek_standard.specs.declared.{app.App.{App}, state.State.{State}, point.Point.{Point}};
 ghost use Rattle.osek_standard.specs.declared.point.Point.TheVariants as point;
-ghost use Rattle.osek_standard.specs.Counts.{points};
-ghost use Rattle.osek_standard.specs.Points.{ArePoints, IsPoint, StandsAt, point_number, points_in_order};
-ghost use Rattle.osek_standard.specs.TaskStates.{is_live};
-ghost use Rattle.osek_standard.specs.States.{task_state, is_latched};
-ghost use Rattle.osek_standard.specs.Priority.{best, first_of_all, IsBest};
-ghost use Rattle.osek_standard.specs.Effects.{effect};
-ghost use Rattle.osek_standard.specs.Arrivals.{arrival, comes_before, latched_sources, takes_none, IsArrival};
-ghost use Rattle.osek_standard.specs.Kernel.{start, step};
-ghost use Rattle.osek_standard.specs.Well.{Well};
+ghost use Rattle.osek_standard.specs.{Counts.{points}, Points.{ArePoints, IsPoint, StandsAt, point_number, points_in_order}, TaskStates.{is_live}, States.{task_state, is_latched}};
+ghost use Rattle.osek_standard.specs.{Priority.{best, first_of_all, IsBest}, Effects.{effect}, Arrivals.{arrival, comes_before, latched_sources, takes_none, IsArrival}};
+ghost use Rattle.osek_standard.specs.{Kernel.{start, step}, Well.{Well}};
 
 /// The start in each mode is well-formed, and each effect and each event leads from a well-formed state to a
 /// well-formed one.

@@ -78,10 +78,8 @@ fn copy_tasks(to: &mut Seq<TaskState>, from: &Seq<TaskState>)
 }
 
 impl State {
-    ghost use Rattle.std.specs.Prelude.{◌≡◌, ◌<◌, length};
-    ghost use Rattle.std.specs.Borrow.{Lends, sem};
-    ghost use Rattle.osek_standard.specs.contracts.state.State.{the_row};
-    ghost use Rattle.osek_standard.specs.contracts.task_state.TaskState.{the_row as task_row};
+    ghost use Rattle.std.specs.{Prelude.{◌≡◌, ◌<◌, length}, Borrow.{Lends, sem}};
+    ghost use Rattle.osek_standard.specs.contracts.{state.State.{the_row}, task_state.TaskState.{the_row as task_row}};
     ghost use Rattle.osek_standard.specs.States.{task_of, caller, letter_of, task_state, with_task, alarm_state, with_alarm, counter_value};
 
     /// A task's state.

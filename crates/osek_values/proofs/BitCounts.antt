@@ -1,10 +1,7 @@
 -- How many bits a number has, counted by a test of each.
-use Rattle.std.proofs.Common.{◌≡◌, ℕ, zero, suc, ◌+◌, ◌/◌, ◌%◌, ◌^◌, ◌<◌, Bool, true, false, cond, List, ◌∷◌, length, filter, refl, sym, ap, ◌∙◌, arith}
-use Rattle.std.proofs.Math.Nat.{pow-suc}
-use Rattle.std.specs.Prelude.{◌==◌, count_ones}
-use Rattle.std.specs.List.{range_with_len}
-use Rattle.std.proofs.lemmas.Nat.{ones-le}
-use Rattle.std.proofs.lemmas.Nat.Bits.{bit_at_lowest, bit_at-suc}
+use Rattle.std.proofs.{Common.{◌≡◌, ℕ, zero, suc, ◌+◌, ◌/◌, ◌%◌, ◌^◌, ◌<◌, Bool, true, false, cond, List, ◌∷◌, length, filter, refl, sym, ap, ◌∙◌, arith}, Math.Nat.{pow-suc}}
+use Rattle.std.specs.{Prelude.{◌==◌, count_ones}, List.{range_with_len}}
+use Rattle.std.proofs.lemmas.Nat.{ones-le, Bits.{bit_at_lowest, bit_at-suc}}
 use lib.Count.{ones_step}
 use Rattle.osek_values.specs.Bits.{has_bit}
 

@@ -1,11 +1,8 @@
 -- The least fault: found by judging the rules in their order, and one at most.
 use Rattle.std.proofs.Common.{◌≡◌, ℕ, suc, zero, ◌+◌, ◌<◌, ◌≤◌, ◌⊎◌, min, inl, inr, ⊎_elim, Bool, true, List, [], ◌∷◌, length, get_or, refl, sym, ap, ◌∙◌, subst, arith, below_more}
-use Rattle.std.proofs.str.Laws.{order as compare}
-use Rattle.std.proofs.lemmas.Bool.Decides.{nat_tests}
+use Rattle.std.proofs.{str.Laws.{order as compare}, lemmas.Bool.Decides.{nat_tests}}
 use Rattle.std.specs.Prelude.{Option, Some, None, nat_lt, ◌&&◌}
-use Rattle.osek_values.specs.declared.refused.LineFault.{LineFault}
-use Rattle.osek_values.specs.Lines.{sooner, least, IsIn}
-use Rattle.osek_values.specs.LeastFaults.{HasNoFault, IsLeastFault, IsLeastOrNone}
+use Rattle.osek_values.specs.{declared.refused.LineFault.{LineFault}, Lines.{sooner, least, IsIn}, LeastFaults.{HasNoFault, IsLeastFault, IsLeastOrNone}}
 
 -- the least of some lines
 

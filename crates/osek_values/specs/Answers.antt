@@ -1,6 +1,6 @@
 -- What a reader answers: the value that it wants or the first fault of its input, unless memory runs out.
 use Rattle.std.specs.Prelude.{◌≡◌, ⊤, Result, Ok, Err}
-use Rattle.osek_values.specs.declared.refused.{Refused.{Refused}, Refused.TheVariants.{Fault, Memory}}
+use Rattle.osek_values.specs.declared.refused.Refused.{Refused, TheVariants.{Fault, Memory}}
 
 -- the fault is such a one, or memory ran out
 abbrev pub Refuses : {F : Type 0} → Refused F → (F → Type 0) → Type 0

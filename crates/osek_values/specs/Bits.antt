@@ -1,6 +1,5 @@
 -- The bits of a number.
-use Rattle.std.specs.Prelude.{ℕ, zero, suc, ◌+◌, ◌%◌, ◌/◌, ◌^◌, ◌==◌, Bool, List, filter, if◌then◌else◌}
-use Rattle.std.specs.List.{range_with_len}
+use Rattle.std.specs.{Prelude.{ℕ, zero, suc, ◌+◌, ◌%◌, ◌/◌, ◌^◌, ◌==◌, Bool, List, filter, if◌then◌else◌}, List.{range_with_len}}
 
 -- bit k of a number
 abbrev pub has_bit : ℕ → ℕ → Bool

@@ -1,7 +1,6 @@
 -- The least fault of a text: by the number of its rule, then by its line.
 use Rattle.std.specs.Prelude.{ℕ, ◌<◌, ◌≤◌, List, Option, Some, None}
-use Rattle.osek_values.specs.declared.refused.LineFault.{LineFault}
-use Rattle.osek_values.specs.Lines.{IsIn}
+use Rattle.osek_values.specs.{declared.refused.LineFault.{LineFault}, Lines.{IsIn}}
 
 -- each rule has a number, and lines on which it is violated
 module _ {Rule : Type 0} (order : Rule → ℕ) (lines : Rule → List ℕ) where

@@ -1,12 +1,7 @@
 -- The texts of one writer, taken in turn, are the generated ones.
 use Rattle.std.proofs.Common.{◌≡◌, ℕ, [], refl}
-use Rattle.osek_vectors.specs.declared.generated.Generated.{Generated}
-use Rattle.osek_vectors.specs.Draws.{first_state}
-use Rattle.osek_vectors.specs.Writing.{Written, onto}
-use Rattle.osek_vectors.specs.OilTexts.{oil_text}
-use Rattle.osek_vectors.specs.CodeTexts.{code_text}
-use Rattle.osek_vectors.specs.EventLines.{event_text}
-use Rattle.osek_vectors.specs.GeneratedTexts.{generated_texts}
+use Rattle.osek_vectors.specs.{declared.generated.Generated.{Generated}, Draws.{first_state}, Writing.{Written, onto}, OilTexts.{oil_text}, CodeTexts.{code_text}}
+use Rattle.osek_vectors.specs.{EventLines.{event_text}, GeneratedTexts.{generated_texts}}
 
 -- the texts as they stand when each is taken
 abbrev taken : Written → Written → Written → Generated

@@ -1,12 +1,7 @@
 -- How many lines a text of draws has, whatever is drawn.
-use Rattle.std.proofs.Common.{◌≡◌, ℕ, ◌+◌, ◌*◌, ◌/◌, ◌%◌, ◌^◌, ◌<◌, cond, false, ◌==◌, zero, suc, List, [], ◌∷◌, ◌++◌, decimal, refl, subst, ◌∙◌, arith}
-use Rattle.std.proofs.lemmas.Bool.{ne_eqb}
-use Rattle.std.proofs.lemmas.Fmt.{decimal_by_steps}
-use Rattle.std.proofs.lemmas.List.Sums.{sum_by-append}
-use Rattle.std.proofs.lemmas.Nat.{mod_below}
-use Rattle.osek_vectors.specs.Draws.{next_state, number_of}
-use Rattle.osek_vectors.specs.Writing.{Text, fixed, draw, onto, ◌⨾◌, each_from}
-use Rattle.osek_vectors.specs.LineCounts.{line_count}
+use Rattle.std.proofs.{Common.{◌≡◌, ℕ, ◌+◌, ◌*◌, ◌/◌, ◌%◌, ◌^◌, ◌<◌, cond, false, ◌==◌, zero, suc, List, [], ◌∷◌, ◌++◌, decimal, refl, subst, ◌∙◌, arith}, lemmas.Bool.{ne_eqb}}
+use Rattle.std.proofs.lemmas.{Fmt.{decimal_by_steps}, List.Sums.{sum_by-append}, Nat.{mod_below}}
+use Rattle.osek_vectors.specs.{Draws.{next_state, number_of}, Writing.{Text, fixed, draw, onto, ◌⨾◌, each_from}, LineCounts.{line_count}}
 
 pub line_count-append : (xs ys : List ℕ) → line_count (xs ++ ys) ≡ line_count xs + line_count ys
 line_count-append xs ys = sum_by-append (λ c. cond (c == 10) 1 0) xs ys

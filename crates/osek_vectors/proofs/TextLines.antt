@@ -1,9 +1,7 @@
 -- How many lines the generated texts have.
 use Rattle.std.proofs.Common.{◌≡◌, ℕ, ◌+◌, ◌*◌, ◌^◌, ◌<◌, ◌≤◌, ◌==◌, Bool, true, false, List, ◌++◌, codes, decimal, refl, ap₂, subst, ◌∙◌, arith}
 use Rattle.std.specs.Prelude.{if◌then◌else◌}
-use Rattle.osek_vectors.specs.Writing.{Text, fixed, draw, ◌⨾◌, each_from}
-use Rattle.osek_vectors.specs.LineCounts.{line_count}
-use Rattle.osek_vectors.specs.OilTexts.{oil_head, oil_foot, schedule, task_line, oil_text}
+use Rattle.osek_vectors.specs.{Writing.{Text, fixed, draw, ◌⨾◌, each_from}, LineCounts.{line_count}, OilTexts.{oil_head, oil_foot, schedule, task_line, oil_text}}
 use Rattle.osek_vectors.specs.CodeTexts.{alarm_setting, statement_of_kind, statement, statements, task_body, isr_body, code_text}
 use Rattle.osek_vectors.specs.EventLines.{event_line_of_kind, event_line, event_text}
 use Rattle.osek_vectors.proofs.LineCountLaws.{HasLines, HasLines-fixed, HasLines-draw, HasLines-then, HasLines-each, line_count-append, line_count-decimal}

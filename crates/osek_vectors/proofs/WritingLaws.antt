@@ -1,6 +1,5 @@
 -- How what is written grows, text by text.
-use Rattle.std.proofs.Common.{◌≡◌, ℕ, ◌+◌, ◌-◌, ◌<◌, ◌≤◌, suc, List, [], ◌++◌, refl, sym, ap, append_assoc, arith}
-use Rattle.std.proofs.lemmas.List.{append-nil}
+use Rattle.std.proofs.{Common.{◌≡◌, ℕ, ◌+◌, ◌-◌, ◌<◌, ◌≤◌, suc, List, [], ◌++◌, refl, sym, ap, append_assoc, arith}, lemmas.List.{append-nil}}
 use Rattle.osek_vectors.specs.Writing.{Written, Text, fixed, draw, onto, ◌⨾◌, each_from, drawn, with_draw}
 
 -- `w` with another text, and a state behind it

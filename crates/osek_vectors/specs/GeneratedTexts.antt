@@ -1,10 +1,6 @@
 -- The three texts of a generated system. Each draws from the state on that the one before leaves.
 use Rattle.std.specs.Prelude.{ℕ}
-use Rattle.osek_vectors.specs.declared.generated.Generated.{Generated}
-use Rattle.osek_vectors.specs.Draws.{first_state}
-use Rattle.osek_vectors.specs.OilTexts.{oil_text}
-use Rattle.osek_vectors.specs.CodeTexts.{code_text}
-use Rattle.osek_vectors.specs.EventLines.{event_text}
+use Rattle.osek_vectors.specs.{declared.generated.Generated.{Generated}, Draws.{first_state}, OilTexts.{oil_text}, CodeTexts.{code_text}, EventLines.{event_text}}
 
 -- for a seed and n tasks
 abbrev pub generated_texts : ℕ → ℕ → Generated

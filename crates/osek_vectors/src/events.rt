@@ -1,8 +1,7 @@
 //! The events for a generated system.
 ghost use Rattle.std.specs.Prelude.{◌≡◌, ◌≤◌, OnOk};
 ghost use Rattle.osek_values.specs.declared.limits.TheConstants.{MAX_TASKS};
-ghost use Rattle.osek_vectors.specs.Writing.{onto};
-ghost use Rattle.osek_vectors.specs.EventLines.{run_line, event_line, event_line_of_kind, event_text};
+ghost use Rattle.osek_vectors.specs.{Writing.{onto}, EventLines.{run_line, event_line, event_line_of_kind, event_text}};
 
 use crate::writer::Writer;
 use osek_values::Memory;

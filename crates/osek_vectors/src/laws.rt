@@ -1,8 +1,7 @@
 //! Laws of generated texts.
 ghost use Rattle.std.specs.Prelude.{◌≡◌, ℕ, ◌+◌, ◌*◌, ◌<◌, ◌≤◌};
 ghost use Rattle.osek_values.specs.declared.limits.TheConstants.{MAX_TASKS};
-ghost use Rattle.osek_vectors.specs.GeneratedTexts.{generated_texts};
-ghost use Rattle.osek_vectors.specs.LineCounts.{line_count};
+ghost use Rattle.osek_vectors.specs.{GeneratedTexts.{generated_texts}, LineCounts.{line_count}};
 
 /// Each text has as many lines as the number of tasks says, whatever the seed.
 pub fn a_seed_gives_no_other_number_of_lines()

@@ -1,7 +1,6 @@
 //! The OIL text of a generated system.
 ghost use Rattle.std.specs.Prelude.{◌≡◌, ◌<◌, OnOk};
-ghost use Rattle.osek_vectors.specs.Writing.{onto, each_from};
-ghost use Rattle.osek_vectors.specs.OilTexts.{schedule as the_schedule, task_line, oil_text};
+ghost use Rattle.osek_vectors.specs.{Writing.{onto, each_from}, OilTexts.{schedule as the_schedule, task_line, oil_text}};
 
 use crate::writer::Writer;
 use osek_values::Memory;

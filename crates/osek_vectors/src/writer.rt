@@ -1,7 +1,6 @@
 //! Texts that draw numbers, one behind the other.
 ghost use Rattle.std.specs.Prelude.{◌≡◌, ◌<◌, [], OnOk, IfSome};
-ghost use Rattle.osek_vectors.specs.Draws.{next_state};
-ghost use Rattle.osek_vectors.specs.Writing.{fixed, onto, drawn, with_draw};
+ghost use Rattle.osek_vectors.specs.{Draws.{next_state}, Writing.{fixed, onto, drawn, with_draw}};
 
 use osek_values::{Memory, Seq};
 use std::alloc::Global;

@@ -1,35 +1,15 @@
 -- Rows stand at different points, so there are no more of them than points, nor of their values than these times the height.
 use Rattle.std.proofs.Common.{◌≡◌, ℕ, ◌+◌, ◌*◌, ◌<◌, ◌≤◌, List, length, map, get_or, IsTrue, sym, ap, subst, arith}
-use Rattle.std.specs.Prelude.{Contains}
-use Rattle.std.specs.List.{list_any}
-use Rattle.std.specs.Cmp.{IsEquivalence}
-use Rattle.std.specs.Ordering.{nat_cmp, eq_by_cmp}
-use Rattle.std.proofs.Math.Nat.{mul-le-mul}
-use Rattle.std.proofs.lemmas.Cmp.{nat_cmp_total, eq_by_cmp_equiv}
-use Rattle.std.proofs.lemmas.List.{length-map}
-use Rattle.std.proofs.lemmas.List.Sums.{sum_by-le}
-use Rattle.std.proofs.lemmas.Map.Keys.{IsDistinct-from_sorted}
-use Rattle.std.proofs.lemmas.Map.Lookups.{exact_unsigned}
-use Rattle.std.proofs.lemmas.Map.Made.{length-le_from_is_member}
-use Rattle.std.proofs.lemmas.Map.Views.{Contains-from_any, list_any-from_Contains, tells_apart}
-use Rattle.osek_standard.specs.declared.app.App.{App}
-use Rattle.osek_standard.specs.Counts.{points, height}
-use Rattle.osek_standard.specs.Points.{point_number, points_in_order, IsPoint}
-use Rattle.osek_standard.proofs.Members.{among_map, map_among, contained_among, among_contained}
-use Rattle.osek_standard.proofs.PointLaws.{are_points, points_counted}
-use Rattle.abstract_state.specs.declared.table.{PlainEntry.{PlainEntry}, TableRow.{TableRow}, PlainTable.{PlainTable}}
-use Rattle.abstract_state.specs.Domains.{HasMasks}
-use Rattle.abstract_state.specs.Tables.{entry_values, value_count}
+use Rattle.std.specs.{Prelude.{Contains}, List.{list_any}, Cmp.{IsEquivalence}, Ordering.{nat_cmp, eq_by_cmp}}
+use Rattle.std.proofs.{Math.Nat.{mul-le-mul}, lemmas.{Cmp.{nat_cmp_total, eq_by_cmp_equiv}, List.{length-map, Sums.{sum_by-le}}, Map.Keys.{IsDistinct-from_sorted}}}
+use Rattle.std.proofs.lemmas.Map.{Lookups.{exact_unsigned}, Made.{length-le_from_is_member}, Views.{Contains-from_any, list_any-from_Contains, tells_apart}}
+use Rattle.osek_standard.specs.{declared.app.App.{App}, Counts.{points, height}, Points.{point_number, points_in_order, IsPoint}}
+use Rattle.osek_standard.proofs.{Members.{among_map, map_among, contained_among, among_contained}, PointLaws.{are_points, points_counted}}
+use Rattle.abstract_state.specs.{declared.table.{PlainEntry.{PlainEntry}, TableRow.{TableRow}, PlainTable.{PlainTable}}, Domains.{HasMasks}, Tables.{entry_values, value_count}}
 use Rattle.abstract_state.specs.Written.{IsWritten}
-use Rattle.abstract_state.proofs.DomainValues.{domain_counted}
-use Rattle.abstract_state.proofs.LatticeLaws.{most_values}
-use Rattle.abstract_state.proofs.HeightLaws.{entry_height_is, sum_map}
-use Rattle.state_flow.specs.declared.cells.Cell.{Cell}
-use Rattle.state_flow.specs.Cells.{IsWaitingAt, NoneWaitsFrom}
-use Rattle.state_flow.specs.Rows.{row_of, table_of}
-use Rattle.state_flow.specs.Progress.{values_in, Progress}
-use Rattle.state_flow.proofs.RowLaws.{written}
-use Rattle.state_flow.proofs.Closing.{room_left, counted_at_end}
+use Rattle.abstract_state.proofs.{DomainValues.{domain_counted}, LatticeLaws.{most_values}, HeightLaws.{entry_height_is, sum_map}}
+use Rattle.state_flow.specs.{declared.cells.Cell.{Cell}, Cells.{IsWaitingAt, NoneWaitsFrom}, Rows.{row_of, table_of}, Progress.{values_in, Progress}}
+use Rattle.state_flow.proofs.{RowLaws.{written}, Closing.{room_left, counted_at_end}}
 
 same_laws : IsEquivalence (eq_by_cmp nat_cmp)
 same_laws = eq_by_cmp_equiv nat_cmp_total

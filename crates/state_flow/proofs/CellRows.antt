@@ -3,14 +3,9 @@ use Rattle.std.proofs.Common.{◌≡◌, List, [], ◌∷◌, map, refl, sym, ap
 use Rattle.std.specs.Prelude.{Contains}
 use Rattle.osek_standard.proofs.Members.{among_contained, contained_among, map_among}
 use Rattle.abstract_state.specs.declared.table.{TableRow.{TableRow}, PlainTable.{PlainTable}}
-use Rattle.numbered_sets.specs.declared.numbered_entry.NumberedEntry.{NumberedEntry}
-use Rattle.numbered_sets.specs.Pools.{Values}
-use Rattle.numbered_sets.specs.Views.{AreNumbersOf}
-use Rattle.numbered_sets.specs.declared.table.NumberedRow.{NumberedRow}
+use Rattle.numbered_sets.specs.{declared.{numbered_entry.NumberedEntry.{NumberedEntry}, table.NumberedRow.{NumberedRow}}, Pools.{Values}, Views.{AreNumbersOf}}
 use Rattle.numbered_sets.specs.PlainTables.{plain_row, plain_rows, plain_table, AreRowsOf}
-use Rattle.state_flow.specs.declared.cells.Cell.{Cell}
-use Rattle.state_flow.specs.Rows.{row_of, table_of}
-use Rattle.state_flow.specs.PlainCells.{plain_cells, numbered_row, AreCellsOf}
+use Rattle.state_flow.specs.{declared.cells.Cell.{Cell}, Rows.{row_of, table_of}, PlainCells.{plain_cells, numbered_row, AreCellsOf}}
 
 rows_alike : (pool : List Values) (cells : List (Cell NumberedEntry)) → plain_rows pool (map numbered_row cells) ≡ map row_of (plain_cells pool cells)
 rows_alike pool [] = refl

@@ -1,35 +1,23 @@
 -- What holds between two evaluations, and at the end: the cells that don't wait are closed.
 use Rattle.std.proofs.Common.{◌≡◌, ◌⊎◌, ℕ, suc, ◌+◌, ◌<◌, ◌≤◌, true, false, List, [], ◌∷◌, length, map, get_or, set, IsTrue, refl, sym, ap, subst, ◌∙◌, inl, inr, arith}
 use Rattle.std.specs.Prelude.{Contains}
-use Rattle.std.proofs.lemmas.Bool.{cases_lt}
-use Rattle.std.proofs.lemmas.List.{map-set, set-get_or, length-set, get_or_default, get_or-map}
-use Rattle.std.proofs.lemmas.List.Sums.{sum_by-set, sum_by-cons, get_or-le-sum_by}
-use Rattle.osek_values.specs.declared.{numbers.ModeNo.{ModeNo}}
-use Rattle.osek_standard.specs.declared.app.App.{App}
-use Rattle.osek_standard.specs.declared.state.State.{State}
-use Rattle.osek_standard.specs.declared.point.Point.{Point}
+use Rattle.std.proofs.lemmas.{Bool.{cases_lt}, List.{map-set, set-get_or, length-set, get_or_default, get_or-map, Sums.{sum_by-set, sum_by-cons, get_or-le-sum_by}}}
+use Rattle.osek_values.specs.declared.numbers.ModeNo.{ModeNo}
+use Rattle.osek_standard.specs.declared.{app.App.{App}, state.State.{State}, point.Point.{Point}}
 use Rattle.osek_standard.specs.declared.point.Point.TheVariants as point
-use Rattle.osek_standard.specs.Points.{point_of}
-use Rattle.osek_standard.specs.Kernel.{start, step}
-use Rattle.osek_standard.specs.Outcomes.{Mark, Silent, Arrived, Did, shows}
-use Rattle.osek_standard.specs.Well.{Well}
+use Rattle.osek_standard.specs.{Points.{point_of}, Kernel.{start, step}, Outcomes.{Mark, Silent, Arrived, Did, shows}, Well.{Well}}
 use Rattle.osek_standard.proofs.StepKeeps.{start_is_well, step_keeps}
-use Rattle.abstract_state.specs.declared.table.{PlainEntry.{PlainEntry}, TableRow.{TableRow}}
-use Rattle.abstract_state.specs.Components.{abstract_of}
+use Rattle.abstract_state.specs.{declared.table.{PlainEntry.{PlainEntry}, TableRow.{TableRow}}, Components.{abstract_of}}
 use Rattle.abstract_state.specs.Tables.{Sets, In, Inductive, IsContained, Least, entry_values, sets_of}
-use Rattle.abstract_state.proofs.ContainmentLaws.{in_larger}
-use Rattle.abstract_state.proofs.AlikeLaws.{in_alike}
-use Rattle.abstract_state.proofs.MarkLaws.{shown_silent}
+use Rattle.abstract_state.proofs.{ContainmentLaws.{in_larger}, AlikeLaws.{in_alike}, MarkLaws.{shown_silent}}
 use Rattle.flow_model.specs.Effects.{IsAt}
 use Rattle.numbered_sets.specs.PlainTables.{row_at}
-use Rattle.state_flow.specs.declared.cells.Cell.{Cell}
-use Rattle.state_flow.specs.Cells.{AreInOrder, IsWaitingAt, NoneWaitsFrom, cell_number, waits, waiting_count}
-use Rattle.state_flow.specs.Rows.{row_of, sets_in, IsProperRow, IsRowIn}
-use Rattle.state_flow.specs.Starts.{IsStartRow}
-use Rattle.state_flow.specs.Reaching.{IsLed, Leads}
-use Rattle.state_flow.specs.Progress.{AreProperCells, IsClosed, values_in, AreJoined, Progress, AreStarted}
-use Rattle.state_flow.proofs.CellLists.{set_cases, order_set}
-use Rattle.state_flow.proofs.RowLaws.{entry_cell, cell_entry, cell_value, only_there, value_cell}
+use Rattle.state_flow.specs.{declared.cells.Cell.{Cell}, Cells.{AreInOrder, IsWaitingAt, NoneWaitsFrom, cell_number, waits, waiting_count}}
+use Rattle.flow_rules.specs.Rows.{IsProperRow, IsRowIn}
+use Rattle.state_flow.specs.Rows.{row_of, sets_in}
+use Rattle.flow_rules.specs.Starts.{IsStartRow}
+use Rattle.state_flow.specs.{Reaching.{IsLed, Leads}, Progress.{AreProperCells, IsClosed, values_in, AreJoined, Progress, AreStarted}}
+use Rattle.state_flow.proofs.{CellLists.{set_cases, order_set}, RowLaws.{entry_cell, cell_entry, cell_value, only_there}}
 
 silent_or : (m : Mark) → (m ≡ Silent) ⊎ (m ≡ Silent → ⊥)
 silent_or Silent = inl refl

@@ -1,12 +1,8 @@
 -- An entry that has the values of two: what is below it has no others.
-use Rattle.std.proofs.Common.{◌≡◌, ◌⊎◌, ℕ, zero, suc, Bool, true, false, ◌||◌, List, [], ◌∷◌, ◌++◌, get_or, IsTrue, refl, sym, ◌∙◌}
-use Rattle.std.proofs.lemmas.Bool.{or_cases, or_left, or_right}
+use Rattle.std.proofs.{Common.{◌≡◌, ◌⊎◌, ℕ, zero, suc, Bool, true, false, ◌||◌, List, [], ◌∷◌, ◌++◌, get_or, IsTrue, refl, sym, ◌∙◌}, lemmas.Bool.{or_cases, or_left, or_right}}
 use Rattle.std.proofs.lemmas.List.Folds.{list_any-append}
-use Rattle.abstract_state.specs.declared.value.PartValue.{PartValue}
-use Rattle.abstract_state.specs.declared.table.{ValueSet.{ValueSet}, PlainEntry.{PlainEntry}}
-use Rattle.abstract_state.specs.ValueOrder.{same_part}
-use Rattle.abstract_state.specs.Tables.{empty_set, set_at, is_member}
-use Rattle.abstract_state.specs.Domains.{IsBelow}
+use Rattle.abstract_state.specs.{declared.{value.PartValue.{PartValue}, table.{ValueSet.{ValueSet}, PlainEntry.{PlainEntry}}}, ValueOrder.{same_part}}
+use Rattle.abstract_state.specs.{Tables.{empty_set, set_at, is_member}, Domains.{IsBelow}}
 
 -- the members of two sets, one after the other
 abbrev both : ValueSet → ValueSet → ValueSet

@@ -2,31 +2,21 @@
 use Rattle.std.proofs.Common.{◌≡◌, List, map, sym, ap, subst, ◌∙◌}
 use Rattle.std.specs.Prelude.{Contains}
 use Rattle.std.proofs.lemmas.List.Elements.{All-from_get_or}
-use Rattle.osek_standard.specs.declared.app.App.{App}
-use Rattle.osek_standard.specs.declared.point.Point.{Point}
+use Rattle.osek_standard.specs.declared.{app.App.{App}, point.Point.{Point}}
 use Rattle.osek_standard.proofs.Members.{Among, among_contained, contained_among, map_among, flat_map_among}
-use Rattle.abstract_state.specs.declared.{table.{ValueSet.{ValueSet}, TableRow.{TableRow}}}
-use Rattle.abstract_state.specs.Domains.{HasMasks, domains, domains_of}
-use Rattle.abstract_state.specs.ValueOrder.{IsAscending}
+use Rattle.abstract_state.specs.{declared.table.{ValueSet.{ValueSet}, TableRow.{TableRow}}, Domains.{HasMasks, domains, domains_of}, ValueOrder.{IsAscending}}
 use Rattle.abstract_state.specs.Tables.{empty_set, AreAscending}
-use Rattle.numbered_sets.specs.declared.numbered_entry.NumberedEntry.{NumberedEntry}
-use Rattle.numbered_sets.specs.Numbers.{has_number}
-use Rattle.numbered_sets.specs.NumberedEntries.{numbers_at, number_domains, AreFilled}
-use Rattle.numbered_sets.specs.Pools.{Values, values_at, pool_domains, IsLonger}
-use Rattle.numbered_sets.specs.Views.{values_with, plain_entry, AreNumbersOf}
-use Rattle.numbered_sets.proofs.PlainLaws.{ascending_in_order, plain_set_at}
-use Rattle.numbered_sets.proofs.ViewLaws.{same_domains}
+use Rattle.numbered_sets.specs.{declared.numbered_entry.NumberedEntry.{NumberedEntry}, Numbers.{has_number}, NumberedEntries.{numbers_at, number_domains, AreFilled}}
+use Rattle.numbered_sets.specs.{Pools.{Values, values_at, pool_domains, IsLonger}, Views.{values_with, plain_entry, AreNumbersOf}}
+use Rattle.numbered_sets.proofs.{PlainLaws.{ascending_in_order, plain_set_at}, ViewLaws.{same_domains}}
 use Rattle.numbered_sets.specs.PlainTables.{row_at}
-use Rattle.flow_exits.specs.declared.exit.Exit.{Exit}
-use Rattle.flow_exits.specs.Exits.{IsFilled, AreExact}
-use Rattle.flow_exits.specs.Leaving.{AreExits}
+use Rattle.flow_exits.specs.{declared.exit.Exit.{Exit}, Exits.{IsFilled, AreExact}, Leaving.{AreExits}}
 use Rattle.flow_exits.proofs.Covering.{exits_cover, exits_shown}
 use Rattle.flow_rules.specs.declared.group.{NumberEnd.{NumberEnd}, Ends.{Ends}, ExitGroup.{ExitGroup}}
 use Rattle.flow_rules.specs.declared.group.Ends.TheVariants as ends
 use Rattle.flow_rules.specs.Groups.{holding, exits_by, exits_of, all_exits, AreKnownEnds, AreKnownGroups}
-use Rattle.flow_rules.proofs.GrowingPools.{held_known}
-use Rattle.flow_rules.proofs.LeavingPoints.{filled_numbers}
-use Rattle.state_flow.specs.Rows.{IsProperRow}
+use Rattle.flow_rules.proofs.{GrowingPools.{held_known}, LeavingPoints.{filled_numbers}}
+use Rattle.flow_rules.specs.Rows.{IsProperRow}
 use Rattle.state_flow.specs.Reaching.{Leads}
 use Rattle.state_flow.proofs.ExitRows.{exits_lead, exit_row_proper}
 use Rattle.state_flow.specs.ExitRows.{all_rows, AreProperRows}

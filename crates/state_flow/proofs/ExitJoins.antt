@@ -1,27 +1,19 @@
 -- The rows of exits, joined to the cells one after another.
 use Rattle.std.proofs.Common.{◌≡◌, ℕ, ◌+◌, ◌<◌, List, [], ◌∷◌, ◌++◌, length, get_or, take, map, refl, sym, ap, ap₂, subst, ◌∙◌}
 use Rattle.std.specs.Prelude.{Contains}
-use Rattle.std.proofs.lemmas.List.{take_more, map-append, append-nil}
-use Rattle.std.proofs.lemmas.Grind.{flat_map-append}
-use Rattle.std.proofs.lemmas.List.Elements.{Contains-get_or}
-use Rattle.osek_standard.specs.declared.app.App.{App}
-use Rattle.osek_standard.specs.declared.point.Point.{Point}
+use Rattle.std.proofs.lemmas.{List.{take_more, map-append, append-nil, Elements.{Contains-get_or}}, Grind.{flat_map-append}}
+use Rattle.osek_standard.specs.declared.{app.App.{App}, point.Point.{Point}}
 use Rattle.osek_standard.proofs.Members.{among_contained, contained_among, among_map, among_flat_map}
 use Rattle.abstract_state.specs.declared.table.TableRow.{TableRow}
-use Rattle.numbered_sets.specs.declared.numbered_entry.NumberedEntry.{NumberedEntry}
-use Rattle.numbered_sets.specs.Pools.{Values}
-use Rattle.numbered_sets.specs.Views.{plain_entry}
-use Rattle.numbered_sets.specs.PlainTables.{row_at}
+use Rattle.numbered_sets.specs.{declared.numbered_entry.NumberedEntry.{NumberedEntry}, Pools.{Values}, Views.{plain_entry}, PlainTables.{row_at}}
 use Rattle.flow_exits.specs.declared.exit.Exit.{Exit}
 use Rattle.flow_rules.specs.declared.group.{NumberEnd.{NumberEnd}, Ends.{Ends}, ExitGroup.{ExitGroup}}
 use Rattle.flow_rules.specs.declared.group.Ends.TheVariants as ends
 use Rattle.flow_rules.specs.Groups.{holding, exits_by, exits_of, all_exits}
 use Rattle.state_flow.specs.declared.cells.Cell.{Cell}
-use Rattle.state_flow.specs.Rows.{IsProperRow}
+use Rattle.flow_rules.specs.Rows.{IsProperRow}
 use Rattle.state_flow.proofs.JoinedRows.{joined_none, joined_then}
-use Rattle.state_flow.specs.PlainCells.{plain_cells}
-use Rattle.state_flow.specs.Numbering.{AreNumberedCells}
-use Rattle.state_flow.specs.ExitRows.{rows_at, rows_with, rows_by, all_rows, AreProperRows, AreRowsJoined}
+use Rattle.state_flow.specs.{PlainCells.{plain_cells}, Numbering.{AreNumberedCells}, ExitRows.{rows_at, rows_with, rows_by, all_rows, AreProperRows, AreRowsJoined}}
 
 module _ (app : App) (pool : List Values) where
   pub joined_nothing : (cells : List (Cell NumberedEntry)) → AreNumberedCells app pool cells → AreRowsJoined app pool cells [] cells

@@ -3,28 +3,18 @@ use Rattle.std.proofs.Common.{◌≡◌, ℕ, ◌<◌, false, List, map, IsTrue,
 use Rattle.std.specs.Prelude.{Contains}
 use Rattle.std.proofs.lemmas.Bool.{cases_eq, cases_lt}
 use Rattle.osek_values.specs.declared.event.Event.{Event}
-use Rattle.osek_standard.specs.declared.app.App.{App}
-use Rattle.osek_standard.specs.declared.state.State.{State}
-use Rattle.osek_standard.specs.declared.point.Point.{Point}
-use Rattle.osek_standard.specs.Points.{point_of, IsPoint}
-use Rattle.osek_standard.specs.Kernel.{step}
-use Rattle.osek_standard.specs.Outcomes.{Silent, shows}
-use Rattle.osek_standard.proofs.Members.{among_contained, among_map, contained_among, map_among}
-use Rattle.osek_standard.proofs.StepKeeps.{step_keeps}
-use Rattle.abstract_state.specs.declared.value.{PartValue.{PartValue}, PartValue.TheVariants.{OfAlarm}}
-use Rattle.abstract_state.specs.declared.table.{PlainEntry.{PlainEntry}, TableRow.{TableRow}}
-use Rattle.abstract_state.specs.Components.{component_count, abstract_of, IsAllowed}
-use Rattle.abstract_state.specs.Domains.{domains, domains_of, HasMasks}
+use Rattle.osek_standard.specs.{declared.{app.App.{App}, state.State.{State}, point.Point.{Point}}, Points.{point_of, IsPoint}, Kernel.{step}, Outcomes.{Silent, shows}}
+use Rattle.osek_standard.proofs.{Members.{among_contained, among_map, contained_among, map_among}, StepKeeps.{step_keeps}}
+use Rattle.abstract_state.specs.declared.{value.PartValue.{PartValue, TheVariants.{OfAlarm}}, table.{PlainEntry.{PlainEntry}, TableRow.{TableRow}}}
+use Rattle.abstract_state.specs.{Components.{component_count, abstract_of, IsAllowed}, Domains.{domains, domains_of, HasMasks}}
 use Rattle.abstract_state.specs.Tables.{Sets, In, Inductive, set_at, is_member, AreAscending}
 use Rattle.abstract_state.proofs.AllowedLaws.{well_point, well_part}
 use Rattle.flow_model.specs.Effects.{AreAllAllowed, IsAt}
 use Rattle.numbered_sets.specs.PlainTables.{row_at}
-use Rattle.flow_exits.specs.declared.exit.Exit.{Exit}
-use Rattle.flow_exits.specs.Exits.{CoverSteps, IsStepTo, IsExact, AreExact}
-use Rattle.state_flow.specs.Rows.{IsFilled, IsProperRow, IsRowIn}
+use Rattle.flow_exits.specs.{declared.exit.Exit.{Exit}, Exits.{CoverSteps, IsStepTo, IsExact, AreExact}}
+use Rattle.flow_rules.specs.Rows.{IsFilled, IsProperRow, IsRowIn}
 use Rattle.state_flow.specs.Reaching.{IsLed, IsReached, Leads}
-use Rattle.state_flow.proofs.RowLaws.{set_known}
-use Rattle.state_flow.proofs.ReachedRows.{proper_row}
+use Rattle.flow_rules.proofs.ProperRows.{set_known, proper_row}
 
 -- the row of an exit
 abbrev pub exit_row : Exit → TableRow

@@ -1,10 +1,7 @@
 -- One number alone in the place of a set, again and again.
-use Rattle.std.proofs.Common.{◌≡◌, ℕ, ◌<◌, length, set, ap, ◌∙◌, arith, get_or-set_same}
-use Rattle.std.proofs.lemmas.List.{length-set, set-set}
-use Rattle.abstract_state.specs.declared.value.{Domain.{Domain}}
-use Rattle.numbered_sets.specs.declared.numbered_entry.NumberedEntry.{NumberedEntry}
-use Rattle.numbered_sets.specs.Numbers.{Numbers, numbers, with_number}
-use Rattle.numbered_sets.specs.NumberedEntries.{no_set, numbers_at}
+use Rattle.std.proofs.{Common.{◌≡◌, ℕ, ◌<◌, length, set, ap, ◌∙◌, arith, get_or-set_same}, lemmas.List.{length-set, set-set}}
+use Rattle.abstract_state.specs.declared.value.Domain.{Domain}
+use Rattle.numbered_sets.specs.{declared.numbered_entry.NumberedEntry.{NumberedEntry}, Numbers.{Numbers, numbers, with_number}, NumberedEntries.{no_set, numbers_at}}
 use Rattle.flow_rules.specs.Groups.{holding}
 
 -- what is held makes no difference to what is held next

@@ -1,24 +1,16 @@
 -- Rows that are joined to cells, one after the other.
-use Rattle.std.proofs.Common.{◌≡◌, ℕ, ◌+◌, ◌<◌, ◌≤◌, List, [], ◌∷◌, ◌++◌, length, get_or, take, IsTrue, sym, ap, subst, ◌∙◌, inl, inr, arith}
+use Rattle.std.proofs.Common.{◌≡◌, ℕ, ◌+◌, ◌<◌, ◌≤◌, List, [], ◌∷◌, ◌++◌, IsTrue, sym, subst, ◌∙◌, inl, inr, arith}
 use Rattle.std.specs.Prelude.{Contains}
-use Rattle.std.proofs.lemmas.List.{take_more, take_all}
 use Rattle.std.proofs.lemmas.List.Elements.{Contains-push, Contains-push_cases}
-use Rattle.osek_standard.specs.declared.app.App.{App}
-use Rattle.osek_standard.specs.declared.point.Point.{Point}
-use Rattle.osek_standard.specs.Points.{IsPoint}
-use Rattle.osek_standard.proofs.PointLaws.{one_number}
-use Rattle.osek_standard.proofs.Members.{among_left, among_right, among_cases, among_contained, contained_among}
-use Rattle.abstract_state.specs.declared.table.{PlainEntry.{PlainEntry}, TableRow.{TableRow}}
-use Rattle.abstract_state.specs.Components.{IsAllowed}
-use Rattle.abstract_state.specs.Domains.{domains, IsSoundEntry, IsBelow}
+use Rattle.osek_standard.specs.{declared.{app.App.{App}, point.Point.{Point}}, Points.{IsPoint}}
+use Rattle.osek_standard.proofs.{PointLaws.{one_number}, Members.{among_left, among_right, among_cases, among_contained, contained_among}}
+use Rattle.abstract_state.specs.{declared.table.{PlainEntry.{PlainEntry}, TableRow.{TableRow}}, Components.{IsAllowed}, Domains.{domains, IsSoundEntry, IsBelow}}
 use Rattle.abstract_state.specs.Tables.{Sets, IsContained, entry_values}
 use Rattle.abstract_state.proofs.ContainmentLaws.{contained_itself, contained_onward}
-use Rattle.state_flow.specs.declared.cells.Cell.{Cell}
-use Rattle.state_flow.specs.Cells.{MayJoin, HasAbove, IsNewCell, IsRaisedCell, IsJoined}
-use Rattle.state_flow.specs.Rows.{row_of, sets_in, IsProperRow, IsRowIn}
-use Rattle.state_flow.specs.Progress.{AreProperCells, AreJoined}
-use Rattle.state_flow.proofs.EntryUnion.{of_two}
-use Rattle.state_flow.proofs.RowLaws.{cell_in, cells_contained, contained_row}
+use Rattle.state_flow.specs.{declared.cells.Cell.{Cell}, Cells.{MayJoin, HasAbove, IsNewCell, IsRaisedCell, IsJoined}}
+use Rattle.flow_rules.specs.Rows.{IsProperRow, IsRowIn}
+use Rattle.state_flow.specs.{Rows.{row_of, sets_in}, Progress.{AreProperCells, AreJoined}}
+use Rattle.state_flow.proofs.{EntryUnion.{of_two}, RowLaws.{cell_in, cells_contained, contained_row}}
 
 abbrev pub AreAlike : PlainEntry → PlainEntry → Type 0
 AreAlike a b = domains a ≡ domains b

@@ -1,22 +1,14 @@
 -- A join to the cells of all points, by values.
 use Rattle.std.proofs.Common.{◌≡◌, ℕ, ◌<◌, false, List, [], ◌∷◌, length, get_or, refl, sym, ap, subst, ◌∙◌, inl, inr, arith, All}
 use Rattle.std.specs.Prelude.{Contains}
-use Rattle.std.proofs.Math.ListN.{get_or-map}
-use Rattle.std.proofs.lemmas.List.{length-map, get_or_default}
-use Rattle.std.proofs.lemmas.List.Sums.{sum_by-cons}
+use Rattle.std.proofs.{Math.ListN.{get_or-map}, lemmas.List.{length-map, get_or_default, Sums.{sum_by-cons}}}
 use Rattle.osek_standard.specs.declared.point.Point.{Point}
 use Rattle.osek_standard.proofs.Members.{Among, among_map, map_among, contained_among, among_contained}
-use Rattle.abstract_state.specs.declared.table.PlainEntry.{PlainEntry}
-use Rattle.abstract_state.specs.Domains.{IsSoundEntry, IsBelow}
-use Rattle.abstract_state.specs.Tables.{entry_values}
-use Rattle.numbered_sets.specs.declared.numbered_entry.NumberedEntry.{NumberedEntry}
-use Rattle.numbered_sets.specs.NumberedEntries.{entry_numbers, AreSoundNumbers, IsBelowNumbers}
-use Rattle.numbered_sets.specs.Pools.{Values, AreValues}
+use Rattle.abstract_state.specs.{declared.table.PlainEntry.{PlainEntry}, Domains.{IsSoundEntry, IsBelow}, Tables.{entry_values}}
+use Rattle.numbered_sets.specs.{declared.numbered_entry.NumberedEntry.{NumberedEntry}, NumberedEntries.{entry_numbers, AreSoundNumbers, IsBelowNumbers}, Pools.{Values, AreValues}}
 use Rattle.numbered_sets.specs.Views.{plain_entry, AreNumbersOf}
-use Rattle.numbered_sets.proofs.ViewLaws.{same_count}
-use Rattle.numbered_sets.proofs.KnownNumbers.{order_onward}
-use Rattle.state_flow.specs.declared.cells.Cell.{Cell}
-use Rattle.state_flow.specs.Cells.{cell_number, waits, waiting_count, ranks, HasAbove, IsNewCell, IsRaisedCell, IsJoined}
+use Rattle.numbered_sets.proofs.{ViewLaws.{same_count}, KnownNumbers.{order_onward}}
+use Rattle.state_flow.specs.{declared.cells.Cell.{Cell}, Cells.{cell_number, waits, waiting_count, ranks, HasAbove, IsNewCell, IsRaisedCell, IsJoined}}
 use Rattle.state_flow.specs.PlainCells.{plain_cell, plain_cells, AreCellsOf}
 use Rattle.state_flow.proofs.Raising.{AreAlikeNumbers, AreAlikeEntries, raised_known, raised_plain}
 

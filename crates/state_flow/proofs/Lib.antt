@@ -1,9 +1,7 @@
 pub mod CellLists
 pub mod EntryUnion
 pub mod RowLaws
-pub mod ReachedRows
 pub mod ExitRows
-pub mod StartEntry
 pub mod JoinedRows
 pub mod Closing
 pub mod Bounds

@@ -1,35 +1,21 @@
 -- Cells of numbered entries: what may be joined to them, and that they stay as the pool grows.
 use Rattle.std.proofs.Common.{◌≡◌, ℕ, ◌+◌, ◌<◌, ◌≤◌, false, List, [], ◌∷◌, length, get_or, set, map, refl, sym, ap, ap₂, subst, ◌∙◌, inl, inr, arith, All}
 use Rattle.std.specs.Prelude.{Contains}
-use Rattle.std.proofs.lemmas.Bool.{cases_lt}
-use Rattle.std.proofs.lemmas.List.{length-map, map-set, get_or-map}
-use Rattle.osek_standard.specs.declared.app.App.{App}
-use Rattle.osek_standard.specs.declared.point.Point.{Point}
+use Rattle.std.proofs.lemmas.{Bool.{cases_lt}, List.{length-map, map-set, get_or-map}}
+use Rattle.osek_standard.specs.declared.{app.App.{App}, point.Point.{Point}}
 use Rattle.osek_standard.proofs.Members.{Among, among_contained}
-use Rattle.abstract_state.specs.declared.table.{PlainEntry.{PlainEntry}}
-use Rattle.abstract_state.specs.declared.value.Domain.{Domain}
-use Rattle.abstract_state.specs.Components.{components, component_count}
-use Rattle.abstract_state.specs.Domains.{domain_of, domains_of}
+use Rattle.abstract_state.specs.{declared.{table.PlainEntry.{PlainEntry}, value.Domain.{Domain}}, Components.{components, component_count}, Domains.{domain_of, domains_of}}
 use Rattle.abstract_state.proofs.ComponentLaws.{task_counted}
-use Rattle.numbered_sets.specs.declared.numbered_entry.NumberedEntry.{NumberedEntry}
-use Rattle.numbered_sets.specs.NumberedEntries.{entry_numbers, AreSoundNumbers, IsBelowNumbers}
-use Rattle.numbered_sets.specs.Numbers.{Numbers}
-use Rattle.numbered_sets.specs.Pools.{Values, no_values, pool_domains, AreValues, IsLonger}
-use Rattle.numbered_sets.specs.Views.{plain_entry, AreNumbersOf}
-use Rattle.numbered_sets.proofs.ViewLaws.{same_view, still_known, same_heights}
-use Rattle.numbered_sets.proofs.KnownNumbers.{known_sound}
+use Rattle.numbered_sets.specs.{declared.numbered_entry.NumberedEntry.{NumberedEntry}, NumberedEntries.{entry_numbers, AreSoundNumbers, IsBelowNumbers}}
+use Rattle.numbered_sets.specs.{Pools.{Values, no_values, pool_domains, AreValues, IsLonger}, Views.{plain_entry, AreNumbersOf}}
+use Rattle.numbered_sets.proofs.{ViewLaws.{same_view, still_known, same_heights}, KnownNumbers.{known_sound}}
 use Rattle.numbered_sets.specs.PlainTables.{row_at}
-use Rattle.state_flow.specs.declared.cells.Cell.{Cell}
-use Rattle.state_flow.specs.Cells.{cell_number, AreInOrder, IsWaitingAt, NoneWaitsFrom, MayJoin, IsJoined}
-use Rattle.state_flow.specs.Rows.{IsProperRow}
+use Rattle.state_flow.specs.{declared.cells.Cell.{Cell}, Cells.{cell_number, AreInOrder, IsWaitingAt, NoneWaitsFrom, MayJoin, IsJoined}}
+use Rattle.flow_rules.specs.Rows.{IsProperRow}
 use Rattle.state_flow.specs.Progress.{AreProperCells, AreJoined}
-use Rattle.state_flow.proofs.CellLists.{set_cases}
-use Rattle.state_flow.proofs.JoinedRows.{may_join, joined_one}
-use Rattle.state_flow.proofs.Closing.{evaluated, evaluated_proper, progress_made}
-use Rattle.state_flow.specs.PlainCells.{plain_cell, plain_cells, AreCellsOf}
-use Rattle.state_flow.specs.Numbering.{AreNumberedCells, IsEvaluated, HasProgress}
-use Rattle.state_flow.proofs.Raising.{AreAlikeNumbers}
-use Rattle.state_flow.proofs.JoiningCells.{among_plain, joined_known, joined_plain}
+use Rattle.state_flow.proofs.{CellLists.{set_cases}, JoinedRows.{may_join, joined_one}, Closing.{evaluated, evaluated_proper, progress_made}}
+use Rattle.state_flow.specs.{PlainCells.{plain_cell, plain_cells, AreCellsOf}, Numbering.{AreNumberedCells, IsEvaluated, HasProgress}}
+use Rattle.state_flow.proofs.{Raising.{AreAlikeNumbers}, JoiningCells.{among_plain, joined_known, joined_plain}}
 
 plain_at : (pool : List Values) (cells : List (Cell NumberedEntry)) (k : ℕ) (d : Cell PlainEntry) (some : Cell NumberedEntry) → k < length cells → get_or (plain_cells pool cells) k d ≡ plain_cell pool (get_or cells k some)
 plain_at pool cells k d some lt = get_or-map (plain_cell pool) cells k some d lt

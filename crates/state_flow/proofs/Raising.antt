@@ -1,33 +1,20 @@
 -- A join to one cell, by values.
 use Rattle.std.proofs.Common.{◌≡◌, ℕ, zero, suc, ◌+◌, ◌*◌, ◌^◌, ◌<◌, ◌≤◌, Bool, true, false, ◌&&◌, List, [], ◌∷◌, length, get_or, map, sym, ap, subst, ◌∙◌, inl, inr, arith, All, lit<}
-use Rattle.std.specs.Prelude.{if◌then◌else◌}
-use Rattle.std.specs.List.{range_with_len}
-use Rattle.std.proofs.Math.Nat.{pow-suc}
-use Rattle.std.proofs.Math.ListN.{get_or-map, get_or-eq_default}
-use Rattle.std.proofs.lemmas.Bool.{cases_lt, or_cases, and_parts}
-use Rattle.std.proofs.lemmas.List.{get_or_default}
+use Rattle.std.specs.{Prelude.{if◌then◌else◌}, List.{range_with_len}}
+use Rattle.std.proofs.{Math.{Nat.{pow-suc}, ListN.{get_or-map, get_or-eq_default}}, lemmas.{Bool.{cases_lt, or_cases, and_parts}, List.{get_or_default}}}
 use Rattle.std.proofs.lemmas.List.FromFn.{get_or-range_with_len, length-map-range_with_len}
 use Rattle.bit_words.proofs.BitCounts.{no_bit_past}
-use Rattle.abstract_state.specs.declared.value.{PartValue.{PartValue}, PartValue.TheVariants.{OfAlarm}}
+use Rattle.abstract_state.specs.declared.value.PartValue.{PartValue, TheVariants.{OfAlarm}}
 use Rattle.abstract_state.specs.declared.value.Domain.TheVariants as domain
-use Rattle.abstract_state.specs.declared.table.{ValueSet.{ValueSet}, PlainEntry.{PlainEntry}}
-use Rattle.abstract_state.specs.ValueOrder.{same_part}
-use Rattle.abstract_state.specs.Concrete.{bits_number}
-use Rattle.abstract_state.specs.Domains.{domains, IsSoundEntry, IsBelow}
-use Rattle.abstract_state.specs.Tables.{set_at, is_member, entry_values}
-use Rattle.abstract_state.proofs.BitLaws.{has_bit_of_number}
-use Rattle.abstract_state.proofs.OrderLaws.{part_right}
-use Rattle.numbered_sets.specs.declared.numbered_entry.NumberedEntry.{NumberedEntry}
-use Rattle.numbered_sets.specs.Numbers.{Numbers, numbers, has_number}
+use Rattle.abstract_state.specs.{declared.table.{ValueSet.{ValueSet}, PlainEntry.{PlainEntry}}, ValueOrder.{same_part}, Concrete.{bits_number}}
+use Rattle.abstract_state.specs.{Domains.{domains, IsSoundEntry, IsBelow}, Tables.{set_at, is_member, entry_values}}
+use Rattle.abstract_state.proofs.{BitLaws.{has_bit_of_number}, OrderLaws.{part_right}}
+use Rattle.numbered_sets.specs.{declared.numbered_entry.NumberedEntry.{NumberedEntry}, Numbers.{Numbers, numbers, has_number}}
 use Rattle.numbered_sets.specs.NumberedEntries.{no_set, numbers_at, number_domains, entry_numbers, AreSoundNumbers, IsBelowNumbers}
-use Rattle.numbered_sets.specs.Pools.{Values, no_values, values_at, domain_at, AreValues}
-use Rattle.numbered_sets.specs.Views.{values_with, plain_entry, AreNumbersOf}
-use Rattle.numbered_sets.proofs.PlainLaws.{has_value, member_of_plain, any_first, value_with_number, plain_set_at}
-use Rattle.numbered_sets.proofs.ViewLaws.{same_count, same_domains, plain_sound}
+use Rattle.numbered_sets.specs.{Pools.{Values, no_values, values_at, domain_at, AreValues}, Views.{values_with, plain_entry, AreNumbersOf}}
+use Rattle.numbered_sets.proofs.{PlainLaws.{has_value, member_of_plain, any_first, value_with_number, plain_set_at}, ViewLaws.{same_count, same_domains, plain_sound}}
 use Rattle.numbered_sets.proofs.KnownNumbers.{no_bit_of_none, order_onward}
-use Rattle.state_flow.specs.declared.cells.Cell.{Cell}
-use Rattle.state_flow.specs.Cells.{IsRaised}
-use Rattle.state_flow.specs.PlainCells.{plain_cell}
+use Rattle.state_flow.specs.{declared.cells.Cell.{Cell}, Cells.{IsRaised}, PlainCells.{plain_cell}}
 
 -- the number by which a value is there
 record Found (vs : List PartValue) (has : ℕ → Bool) (w : PartValue) : Type 0 where

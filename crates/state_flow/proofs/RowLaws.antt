@@ -1,30 +1,19 @@
 -- What the table of cells says, cell by cell, and that it is proper.
-use Rattle.std.proofs.Common.{◌≡◌, ℕ, ◌+◌, ◌<◌, true, false, List, [], length, map, get_or, IsTrue, refl, sym, ap, subst, ◌∙◌, inl, inr, arith}
-use Rattle.std.specs.Prelude.{Contains}
-use Rattle.std.specs.List.Sorted.{IsStrictlySortedBy}
-use Rattle.std.specs.Ordering.{nat_cmp}
-use Rattle.std.proofs.lemmas.Bool.{cases_lt}
-use Rattle.std.proofs.lemmas.List.{length-map, get_or-map, get_or_past}
-use Rattle.std.proofs.lemmas.List.Elements.{Contains-get_or}
-use Rattle.std.proofs.lemmas.Map.Keys.{sorted_from_strictly_increasing}
+use Rattle.std.proofs.Common.{◌≡◌, ℕ, ◌+◌, ◌<◌, false, List, [], length, map, get_or, IsTrue, refl, sym, ap, subst, ◌∙◌, arith}
+use Rattle.std.specs.{Prelude.{Contains}, List.Sorted.{IsStrictlySortedBy}, Ordering.{nat_cmp}}
+use Rattle.std.proofs.lemmas.{List.{length-map, get_or-map, Elements.{Contains-get_or}}, Map.Keys.{sorted_from_strictly_increasing}}
 use Rattle.std.proofs.lemmas.Map.Views.{Contains-from_any, list_any-from_Contains}
-use Rattle.osek_standard.specs.declared.app.App.{App}
-use Rattle.osek_standard.specs.declared.point.Point.{Point}
+use Rattle.osek_standard.specs.declared.{app.App.{App}, point.Point.{Point}}
 use Rattle.osek_standard.specs.declared.point.Point.TheVariants as point
 use Rattle.osek_standard.specs.Points.{point_number, IsPoint}
 use Rattle.osek_standard.proofs.Members.{among_map, map_among, contained_among, among_contained}
-use Rattle.abstract_state.specs.declared.value.{PartValue.{PartValue}}
-use Rattle.abstract_state.specs.declared.table.{ValueSet.{ValueSet}, PlainEntry.{PlainEntry}, TableRow.{TableRow}}
-use Rattle.abstract_state.specs.Components.{components, component_count, IsAllowed}
-use Rattle.abstract_state.specs.Domains.{domain_of, domains, domains_of}
-use Rattle.abstract_state.specs.Tables.{Sets, IsContained, IsProper, set_at, is_member, empty_set}
-use Rattle.abstract_state.specs.Written.{IsRow, IsWritten}
-use Rattle.abstract_state.proofs.OrderLaws.{part_right, part_laws}
-use Rattle.abstract_state.proofs.EqualityLaws.{written_entry, written_value}
-use Rattle.state_flow.specs.declared.cells.Cell.{Cell}
-use Rattle.state_flow.specs.Cells.{cell_number, AreInOrder}
-use Rattle.state_flow.specs.Rows.{row_of, table_of, sets_in, IsRowIn}
-use Rattle.state_flow.specs.Progress.{AreProperCells}
+use Rattle.abstract_state.specs.{declared.{value.PartValue.{PartValue}, table.{PlainEntry.{PlainEntry}, TableRow.{TableRow}}}, Components.{IsAllowed}, Domains.{domains}}
+use Rattle.abstract_state.specs.{Tables.{Sets, IsContained, IsProper, set_at, is_member}, Written.{IsRow, IsWritten}}
+use Rattle.abstract_state.proofs.{OrderLaws.{part_right, part_laws}, EqualityLaws.{written_entry, written_value}}
+use Rattle.state_flow.specs.{declared.cells.Cell.{Cell}, Cells.{cell_number, AreInOrder}}
+use Rattle.flow_rules.specs.Rows.{IsRowIn}
+use Rattle.flow_rules.proofs.ProperRows.{set_known}
+use Rattle.state_flow.specs.{Rows.{row_of, table_of, sets_in}, Progress.{AreProperCells}}
 use Rattle.state_flow.proofs.CellLists.{same_cell}
 
 -- the cell of a row
@@ -90,19 +79,6 @@ module _ (cells : List (Cell PlainEntry)) where
 
 pub contained_row : (table other : Sets) (row : TableRow) → IsContained table other → IsRowIn table row → IsRowIn other row
 contained_row table other row x h = record { entry = x.entry row.point h.entry; has = λ c v m. x.has row.point c v (h.has c v m) }
-
--- an entry has a set for each component
-pub as_many_sets : (app : App) (entry : PlainEntry) → domains entry ≡ domains_of app → length entry.sets ≡ component_count app
-as_many_sets app entry e = sym (length-map entry.sets (λ (set : ValueSet). set.domain)) ∙ ap length e ∙ length-map (components app) (domain_of app)
-
-pub set_known : (app : App) (entry : PlainEntry) (c : ℕ) (v : PartValue) → domains entry ≡ domains_of app → IsTrue (is_member (set_at entry c) v) → c < component_count app
-set_known app entry c v e m = elim (cases_lt c (component_count app)) [
-  | inl below ↦ below
-  | inr above ↦
-      (let past : set_at entry c ≡ empty_set = get_or_past entry.sets c empty_set (omega (arith, above, as_many_sets app entry e)) in
-      let none : is_member empty_set v ≡ true = ap (λ (set : ValueSet). is_member set v) (sym past) ∙ m in
-      absurd (cc))
-]
 
 -- the points' numbers, in the order of the rows
 abbrev numbers : List (Cell PlainEntry) → List ℕ

@@ -1,16 +1,9 @@
 -- How many points an application has at most, and how high its tables are, so that a count of 64 bits holds the values.
-use Rattle.std.proofs.Common.{◌+◌, ◌^◌, ◌<◌, ◌≤◌, length, get_or, All, arith}
-use Rattle.std.proofs.Math.Nat.{mul-le-mul}
-use Rattle.std.proofs.lemmas.List.Sums.{sum_by-le}
-use Rattle.std.proofs.lemmas.Nat.{ones-le}
-use Rattle.osek_standard.specs.declared.app.App.{App}
-use Rattle.osek_standard.specs.declared.objects.{Task.{Task}, Isr.{Isr}, Counter.{Counter}}
+use Rattle.std.proofs.{Common.{◌+◌, ◌^◌, ◌<◌, ◌≤◌, length, get_or, All, arith}, Math.Nat.{mul-le-mul}, lemmas.{List.Sums.{sum_by-le}, Nat.{ones-le}}}
+use Rattle.osek_standard.specs.declared.{app.App.{App}, objects.{Task.{Task}, Isr.{Isr}, Counter.{Counter}}}
 use Rattle.osek_standard.specs.Counts.{stacks, event_height, points, height, task_blocks, routine_blocks}
 use Rattle.osek_standard.proofs.CountLaws.{few_stacks, heights_together}
-use Rattle.abstract_state.specs.declared.table.PlainTable.{PlainTable}
-use Rattle.abstract_state.specs.Domains.{HasMasks}
-use Rattle.abstract_state.specs.Tables.{value_count}
-use Rattle.abstract_state.specs.Written.{IsWritten}
+use Rattle.abstract_state.specs.{declared.table.PlainTable.{PlainTable}, Domains.{HasMasks}, Tables.{value_count}, Written.{IsWritten}}
 use Rattle.state_flow.proofs.Bounds.{values_few}
 
 module _ (app : App) where

@@ -1,7 +1,6 @@
 -- Points that were reached, with what is known of each, in the order of the points.
 use Rattle.std.specs.Prelude.{◌≡◌, ◌⊎◌, ℕ, ◌+◌, ◌<◌, ◌≤◌, true, false, List, length, slice_index_or, sum_by, if◌then◌else◌, Contains}
-use Rattle.osek_standard.specs.declared.point.Point.{Point}
-use Rattle.osek_standard.specs.Points.{point_number}
+use Rattle.osek_standard.specs.{declared.point.Point.{Point}, Points.{point_number}}
 use Rattle.state_flow.specs.declared.cells.Cell.{Cell}
 
 module _ {E : Type 0} where

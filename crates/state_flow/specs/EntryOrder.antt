@@ -1,8 +1,6 @@
 -- The laws of the order of entries, under names that an impl can cite.
 use Rattle.std.specs.Prelude.{◌≡◌, ◌≤◌}
-use Rattle.abstract_state.specs.declared.table.PlainEntry.{PlainEntry}
-use Rattle.abstract_state.specs.Tables.{entry_values}
-use Rattle.abstract_state.specs.Domains.{domains, entry_height, IsSoundEntry, IsBelow}
+use Rattle.abstract_state.specs.{declared.table.PlainEntry.{PlainEntry}, Tables.{entry_values}, Domains.{domains, entry_height, IsSoundEntry, IsBelow}}
 use Rattle.abstract_state.proofs.DomainValues.{domain_counted}
 use Rattle.abstract_state.proofs.LatticeLaws as laws
 

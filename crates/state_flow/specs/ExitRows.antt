@@ -1,20 +1,14 @@
 -- The rows of exits, by number, and their joins to cells.
-use Rattle.std.specs.Prelude.{ℕ, List, map, Contains}
-use Rattle.std.specs.List.{flat_map}
-use Rattle.osek_standard.specs.declared.app.App.{App}
-use Rattle.osek_standard.specs.declared.point.Point.{Point}
+use Rattle.std.specs.{Prelude.{ℕ, List, map, Contains}, List.{flat_map}}
+use Rattle.osek_standard.specs.declared.{app.App.{App}, point.Point.{Point}}
 use Rattle.abstract_state.specs.declared.table.TableRow.{TableRow}
-use Rattle.numbered_sets.specs.declared.numbered_entry.NumberedEntry.{NumberedEntry}
-use Rattle.numbered_sets.specs.Pools.{Values}
-use Rattle.numbered_sets.specs.Views.{plain_entry}
-use Rattle.numbered_sets.specs.PlainTables.{row_at}
+use Rattle.numbered_sets.specs.{declared.numbered_entry.NumberedEntry.{NumberedEntry}, Pools.{Values}, Views.{plain_entry}, PlainTables.{row_at}}
 use Rattle.flow_rules.specs.declared.group.{NumberEnd.{NumberEnd}, Ends.{Ends}, ExitGroup.{ExitGroup}}
 use Rattle.flow_rules.specs.declared.group.Ends.TheVariants as ends
 use Rattle.flow_rules.specs.Groups.{holding}
 use Rattle.state_flow.specs.declared.cells.Cell.{Cell}
-use Rattle.state_flow.specs.Rows.{IsProperRow}
-use Rattle.state_flow.specs.Progress.{AreJoined}
-use Rattle.state_flow.specs.PlainCells.{plain_cells, AreCellsOf}
+use Rattle.flow_rules.specs.Rows.{IsProperRow}
+use Rattle.state_flow.specs.{Progress.{AreJoined}, PlainCells.{plain_cells, AreCellsOf}}
 
 -- the rows of an entry at points
 abbrev pub rows_at : List Values → NumberedEntry → List Point → List TableRow

@@ -2,7 +2,6 @@ pub mod EntryOrder
 pub mod NumberOrder
 pub mod Cells
 pub mod Rows
-pub mod Starts
 pub mod Reaching
 pub mod Progress
 pub mod PlainCells

@@ -1,14 +1,9 @@
 -- Cells of numbered entries, over the plain ones that they stand for.
 use Rattle.std.specs.Prelude.{ℕ, List}
-use Rattle.osek_standard.specs.declared.app.App.{App}
-use Rattle.osek_standard.specs.declared.point.Point.{Point}
+use Rattle.osek_standard.specs.declared.{app.App.{App}, point.Point.{Point}}
 use Rattle.abstract_state.specs.declared.table.{PlainEntry.{PlainEntry}, TableRow.{TableRow}}
-use Rattle.numbered_sets.specs.declared.numbered_entry.NumberedEntry.{NumberedEntry}
-use Rattle.numbered_sets.specs.Pools.{Values}
-use Rattle.state_flow.specs.declared.cells.Cell.{Cell}
-use Rattle.state_flow.specs.Reaching.{Leads}
-use Rattle.state_flow.specs.Progress.{AreProperCells, AreJoined, Progress}
-use Rattle.state_flow.specs.PlainCells.{plain_cells, AreCellsOf}
+use Rattle.numbered_sets.specs.{declared.numbered_entry.NumberedEntry.{NumberedEntry}, Pools.{Values}}
+use Rattle.state_flow.specs.{declared.cells.Cell.{Cell}, Reaching.{Leads}, Progress.{AreProperCells, AreJoined, Progress}, PlainCells.{plain_cells, AreCellsOf}}
 
 pub record AreNumberedCells (app : App) (pool : List Values) (cells : List (Cell NumberedEntry)) : Type 0 where
   pub known : AreCellsOf pool cells

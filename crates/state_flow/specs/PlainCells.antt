@@ -1,10 +1,7 @@
 -- The cells of plain entries that cells of numbered ones stand for.
 use Rattle.std.specs.Prelude.{List, map, Contains}
 use Rattle.abstract_state.specs.declared.table.PlainEntry.{PlainEntry}
-use Rattle.numbered_sets.specs.declared.numbered_entry.NumberedEntry.{NumberedEntry}
-use Rattle.numbered_sets.specs.Pools.{Values}
-use Rattle.numbered_sets.specs.Views.{plain_entry, AreNumbersOf}
-use Rattle.numbered_sets.specs.declared.table.NumberedRow.{NumberedRow}
+use Rattle.numbered_sets.specs.{declared.{numbered_entry.NumberedEntry.{NumberedEntry}, table.NumberedRow.{NumberedRow}}, Pools.{Values}, Views.{plain_entry, AreNumbersOf}}
 use Rattle.state_flow.specs.declared.cells.Cell.{Cell}
 
 abbrev pub plain_cell : List Values → Cell NumberedEntry → Cell PlainEntry

@@ -1,16 +1,11 @@
 -- The table on its way to the least one.
 use Rattle.std.specs.Prelude.{◌≡◌, ℕ, ◌+◌, ◌<◌, ◌≤◌, false, List, length, Contains}
 use Rattle.osek_values.specs.declared.{event.Event.{Event}, numbers.ModeNo.{ModeNo}}
-use Rattle.osek_standard.specs.declared.app.App.{App}
-use Rattle.osek_standard.specs.declared.state.State.{State}
-use Rattle.osek_standard.specs.declared.point.Point.{Point}
-use Rattle.osek_standard.specs.Points.{point_of}
-use Rattle.osek_standard.specs.Kernel.{start, step}
-use Rattle.abstract_state.specs.declared.table.{PlainEntry.{PlainEntry}, TableRow.{TableRow}}
-use Rattle.abstract_state.specs.Tables.{Sets, In, Inductive, IsContained, entry_values}
-use Rattle.state_flow.specs.declared.cells.Cell.{Cell}
-use Rattle.state_flow.specs.Cells.{AreInOrder, waiting_count, ranks}
-use Rattle.state_flow.specs.Rows.{row_of, sets_in, IsProperRow, IsRowIn}
+use Rattle.osek_standard.specs.{declared.{app.App.{App}, state.State.{State}, point.Point.{Point}}, Points.{point_of}, Kernel.{start, step}}
+use Rattle.abstract_state.specs.{declared.table.{PlainEntry.{PlainEntry}, TableRow.{TableRow}}, Tables.{Sets, In, Inductive, IsContained, entry_values}}
+use Rattle.state_flow.specs.{declared.cells.Cell.{Cell}, Cells.{AreInOrder, waiting_count, ranks}}
+use Rattle.flow_rules.specs.Rows.{IsProperRow, IsRowIn}
+use Rattle.state_flow.specs.Rows.{row_of, sets_in}
 
 -- The cells stand in order, each for a proper row.
 pub record AreProperCells (app : App) (cells : List (Cell PlainEntry)) : Type 0 where

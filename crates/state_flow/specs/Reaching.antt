@@ -1,18 +1,11 @@
 -- What the evaluation of a point gives.
 use Rattle.std.specs.Prelude.{◌≡◌, List, Contains}
 use Rattle.osek_values.specs.declared.event.Event.{Event}
-use Rattle.osek_standard.specs.declared.app.App.{App}
-use Rattle.osek_standard.specs.declared.state.State.{State}
-use Rattle.osek_standard.specs.declared.point.Point.{Point}
-use Rattle.osek_standard.specs.Points.{point_of}
-use Rattle.osek_standard.specs.Kernel.{step}
-use Rattle.osek_standard.specs.Outcomes.{Silent, shows}
-use Rattle.abstract_state.specs.declared.table.{PlainEntry.{PlainEntry}, TableRow.{TableRow}}
-use Rattle.abstract_state.specs.Components.{abstract_of}
-use Rattle.abstract_state.specs.Tables.{Sets, Inductive}
+use Rattle.osek_standard.specs.{declared.{app.App.{App}, state.State.{State}, point.Point.{Point}}, Points.{point_of}, Kernel.{step}, Outcomes.{Silent, shows}}
+use Rattle.abstract_state.specs.{declared.table.{PlainEntry.{PlainEntry}, TableRow.{TableRow}}, Components.{abstract_of}, Tables.{Sets, Inductive}}
 use Rattle.flow_model.specs.Effects.{AreIn, IsAt}
 use Rattle.numbered_sets.specs.PlainTables.{row_at}
-use Rattle.state_flow.specs.Rows.{IsProperRow, IsRowIn}
+use Rattle.flow_rules.specs.Rows.{IsProperRow, IsRowIn}
 
 -- the state is one of some row
 pub record IsLed (app : App) (rows : List TableRow) (s : State) : Type 0 where

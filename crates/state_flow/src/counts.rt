@@ -1,7 +1,6 @@
 //! How many values a table has.
 ghost use Rattle.std.specs.Prelude.{◌≡◌};
-ghost use Rattle.abstract_state.specs.Tables.{value_count};
-ghost use Rattle.abstract_state.specs.Written.{IsWritten};
+ghost use Rattle.abstract_state.specs.{Tables.{value_count}, Written.{IsWritten}};
 
 use abstract_state::masks_are_few;
 use numbered_sets::Table;

@@ -9,8 +9,7 @@ use std::alloc::Global;
 
 impl Lattice for PlainEntry {
     ghost use Rattle.std.specs.Prelude.{◌≡◌};
-    ghost use Rattle.abstract_state.specs.Tables.{entry_values};
-    ghost use Rattle.abstract_state.specs.Domains.{domains, entry_height, IsSoundEntry, IsBelow};
+    ghost use Rattle.abstract_state.specs.{Tables.{entry_values}, Domains.{domains, entry_height, IsSoundEntry, IsBelow}};
     ghost use Rattle.state_flow.specs.EntryOrder.{below_itself, below_onward, most_values, heights_agree, values_grow, growth_shows, equal_entries};
 
     ghost is_element = { IsSoundEntry };

@@ -1,13 +1,9 @@
 //! What the steps from a point reach, by number.
 ghost use Rattle.std.specs.Prelude.{◌≡◌, OnOk};
 ghost use Rattle.abstract_state.specs.Domains.{HasMasks};
-ghost use Rattle.numbered_sets.specs.Pools.{IsLonger};
-ghost use Rattle.numbered_sets.specs.Views.{plain_entry, AreNumbersOf};
-ghost use Rattle.numbered_sets.specs.PlainTables.{row_at};
-ghost use Rattle.flow_rules.specs.Levels.{AreLevels};
-ghost use Rattle.state_flow.specs.Rows.{IsProperRow};
-ghost use Rattle.state_flow.specs.PlainCells.{plain_cells, AreCellsOf};
-ghost use Rattle.state_flow.specs.Numbering.{AreNumberedCells, IsEvaluated};
+ghost use Rattle.numbered_sets.specs.{Pools.{IsLonger}, Views.{plain_entry, AreNumbersOf}, PlainTables.{row_at}};
+ghost use Rattle.flow_rules.specs.{Levels.{AreLevels}, Rows.{IsProperRow}};
+ghost use Rattle.state_flow.specs.{PlainCells.{plain_cells, AreCellsOf}, Numbering.{AreNumberedCells, IsEvaluated}};
 
 use crate::cells::Cell;
 use crate::joining::join_groups;

@@ -1,11 +1,8 @@
 //! The exits of a point, joined to cells.
 ghost use Rattle.std.specs.Prelude.{◌<◌, length, Contains, OnOk};
-ghost use Rattle.numbered_sets.specs.Pools.{values_at};
-ghost use Rattle.numbered_sets.specs.Views.{AreNumbersOf};
-ghost use Rattle.flow_rules.specs.declared.group.NumberEnd.{NumberEnd};
-ghost use Rattle.flow_rules.specs.Groups.{IsKnownGroup, AreKnownGroups};
-ghost use Rattle.state_flow.specs.Numbering.{AreNumberedCells};
-ghost use Rattle.state_flow.specs.ExitRows.{rows_at, rows_with, rows_by, all_rows, AreProperRows, AreRowsJoined};
+ghost use Rattle.numbered_sets.specs.{Pools.{values_at}, Views.{AreNumbersOf}};
+ghost use Rattle.flow_rules.specs.{declared.group.NumberEnd.{NumberEnd}, Groups.{IsKnownGroup, AreKnownGroups}};
+ghost use Rattle.state_flow.specs.{Numbering.{AreNumberedCells}, ExitRows.{rows_at, rows_with, rows_by, all_rows, AreProperRows, AreRowsJoined}};
 
 use crate::cells::Cell;
 use crate::numbered_cells::put_in;

@@ -1,22 +1,16 @@
 //! The least table, by numbered entries: each point that is reached is evaluated until no entry grows.
 ghost use Rattle.std.specs.Prelude.{◌≡◌, ◌+◌, ◌*◌, ◌≤◌, ℕ, length, map, IfOk, OnOk};
 ghost use Rattle.osek_standard.specs.Counts.{points, height};
-ghost use Rattle.abstract_state.specs.Domains.{HasMasks, domains as domains_of_entry, domains_of};
-ghost use Rattle.abstract_state.specs.Tables.{Least, sets_of, value_count};
-ghost use Rattle.abstract_state.specs.Written.{IsWritten};
+ghost use Rattle.abstract_state.specs.{Domains.{HasMasks, domains as domains_of_entry, domains_of}, Tables.{Least, sets_of, value_count}, Written.{IsWritten}};
 ghost use Rattle.numbered_sets.specs.Pools.{no_values, pool_domains, IsLonger};
 ghost use Rattle.flow_rules.specs.Levels.{AreLevels};
-ghost use Rattle.state_flow.specs.Cells.{IsWaitingAt};
-ghost use Rattle.state_flow.specs.Progress.{Progress};
-ghost use Rattle.state_flow.specs.PlainCells.{plain_cells, AreCellsOf};
-ghost use Rattle.state_flow.specs.Numbering.{AreNumberedCells, HasProgress};
+ghost use Rattle.state_flow.specs.{Cells.{IsWaitingAt}, Progress.{Progress}, PlainCells.{plain_cells, AreCellsOf}, Numbering.{AreNumberedCells, HasProgress}};
 
 use crate::cells::{Cell, next_waiting, place_behind};
 use crate::evaluation::evaluate;
 use crate::numbered_cells::{put_in, rows};
-use crate::starts::start_row;
 use abstract_state::{Domain, PlainEntry, masks_are_few};
-use flow_rules::Levels;
+use flow_rules::{Levels, start_row};
 use numbered_sets::{NumberedEntry, Pool, Table, numbered};
 use osek_standard::App;
 use osek_values::{Memory, ModeNo, Steps};

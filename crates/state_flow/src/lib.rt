@@ -10,10 +10,7 @@ mod lattice;
 mod least_table;
 mod numbered;
 mod numbered_cells;
-mod starts;
-mod state_row;
 
 pub use counts::values;
 pub use lattice::Lattice;
 pub use least_table::solve;
-pub use state_row::row_of;

@@ -1,11 +1,8 @@
 //! Cells of numbered entries.
 ghost use Rattle.std.specs.Prelude.{◌≡◌, [], ◌∷◌, map, IfOk, OnOk};
-ghost use Rattle.numbered_sets.specs.Views.{plain_entry, AreNumbersOf};
-ghost use Rattle.numbered_sets.specs.PlainTables.{row_at};
-ghost use Rattle.state_flow.specs.Rows.{IsProperRow};
-ghost use Rattle.state_flow.specs.Progress.{AreJoined};
-ghost use Rattle.state_flow.specs.PlainCells.{plain_cells, numbered_row, AreCellsOf};
-ghost use Rattle.state_flow.specs.Numbering.{AreNumberedCells};
+ghost use Rattle.numbered_sets.specs.{Views.{plain_entry, AreNumbersOf}, PlainTables.{row_at}};
+ghost use Rattle.flow_rules.specs.Rows.{IsProperRow};
+ghost use Rattle.state_flow.specs.{Progress.{AreJoined}, PlainCells.{plain_cells, numbered_row, AreCellsOf}, Numbering.{AreNumberedCells}};
 
 use crate::cells::{Cell, join};
 use abstract_state::Point;

@@ -1,17 +1,10 @@
 -- Bodies that were read.
 use Rattle.std.proofs.Common.{◌≡◌, ℕ, ◌<◌, List, [], ◌∷◌, ◌++◌, length, sym, ap, ◌∙◌, subst, append_assoc, arith}
 use Rattle.std.specs.Prelude.{All}
-use Rattle.std.proofs.lemmas.List.{append-nil}
-use Rattle.std.proofs.lemmas.List.Elements.{All-push}
-use Rattle.oil_lexer.specs.declared.token.{Mark.TheVariants.{OpenBrace, OpenParen, CloseParen}, Token.{Token}}
-use Rattle.oil_lexer.specs.Tokens.{name, mark}
-use Rattle.task_code.specs.declared.call.Reference.{Reference}
-use Rattle.task_code.specs.declared.tree.Body.{Body}
-use Rattle.task_code.specs.Statements.{Statements}
-use Rattle.task_code.specs.Fit.{depth}
-use Rattle.task_code.specs.Grammar.{AreBodies, no_body, a_body}
-use Rattle.task_code.specs.Expect.{scan, body_stack}
-use Rattle.task_code.specs.Phrases.{ReadsBlock, ReadsOwned, ReadsBody, ReadsAll}
+use Rattle.std.proofs.lemmas.List.{append-nil, Elements.{All-push}}
+use Rattle.oil_lexer.specs.{declared.token.{Mark.TheVariants.{OpenBrace, OpenParen, CloseParen}, Token.{Token}}, Tokens.{name, mark}}
+use Rattle.task_code.specs.{declared.{call.Reference.{Reference}, tree.Body.{Body}}, Statements.{Statements}, Fit.{depth}, Grammar.{AreBodies, no_body, a_body}}
+use Rattle.task_code.specs.{Expect.{scan, body_stack}, Phrases.{ReadsBlock, ReadsOwned, ReadsBody, ReadsAll}}
 use Rattle.task_code.proofs.Scanned.{shorter_statements}
 
 pub reads_owned : (l l' : ℕ) (owner : Reference) (s : Statements) (tokens r1 r2 r rest : List Token) → tokens ≡ mark OpenParen l ∷ r1 → r1 ≡ name owner.name owner.line ∷ r2 → r2 ≡ mark CloseParen l' ∷ r → ReadsBlock 0 r s rest → ReadsOwned tokens owner s rest

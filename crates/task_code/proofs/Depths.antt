@@ -1,17 +1,11 @@
 -- Task code whose braces are within the limit has bodies that nest no deeper.
-use Rattle.std.proofs.Common.{◌≡◌, ℕ, ◌+◌, ◌-◌, ◌<◌, ◌≤◌, ⊎_elim, true, List, [], ◌∷◌, ◌++◌, refl, sym, ◌∙◌, subst, append_assoc, arith}
-use Rattle.std.proofs.lemmas.List.Elements.{All-nil, All-cons}
+use Rattle.std.proofs.{Common.{◌≡◌, ℕ, ◌+◌, ◌-◌, ◌<◌, ◌≤◌, ⊎_elim, true, List, [], ◌∷◌, ◌++◌, refl, sym, ◌∙◌, subst, append_assoc, arith}, lemmas.List.Elements.{All-nil, All-cons}}
 use Rattle.std.proofs.str.Laws.{order}
 use Rattle.std.specs.Prelude.{⊤, All}
 use Rattle.osek_values.specs.declared.limits.TheConstants.{MAX_CODE_DEPTH}
-use Rattle.oil_lexer.specs.declared.token.{Token.{Token}, Mark.TheVariants.{CloseParen, OpenBrace}}
-use Rattle.oil_lexer.specs.Depth.{deeper, depth_from}
-use Rattle.oil_lexer.specs.Tokens.{is_open, mark}
-use Rattle.task_code.specs.declared.call.{Call.{Call}, Reference.{Reference}}
-use Rattle.task_code.specs.declared.tree.{Body.{Body}, Code.{Code}, Condition.{Condition}}
-use Rattle.task_code.specs.declared.words.Service.{Service}
-use Rattle.task_code.specs.Statements.{Statements}
-use Rattle.task_code.specs.Fit.{depth, AreFit}
+use Rattle.oil_lexer.specs.{declared.token.{Token.{Token}, Mark.TheVariants.{CloseParen, OpenBrace}}, Depth.{deeper, depth_from}, Tokens.{is_open, mark}}
+use Rattle.task_code.specs.declared.{call.{Call.{Call}, Reference.{Reference}}, tree.{Body.{Body}, Code.{Code}, Condition.{Condition}}, words.Service.{Service}}
+use Rattle.task_code.specs.{Statements.{Statements}, Fit.{depth, AreFit}}
 use Rattle.task_code.specs.Grammar.{IsMask, last_event, more_events, IsCall, plain, object, mask, set_event, alarm, shutdown, IsCondition, choice, always, IsStatements, no_more, a_work, an_if, an_if_else, a_while, a_call, AreBodies, no_body, a_body}
 use Rattle.task_code.specs.Faults.{HasTree, HasCode}
 use Rattle.task_code.proofs.FitLaws.{are_fit}

@@ -1,10 +1,8 @@
 -- `else` begins no statement.
 use Rattle.std.proofs.Common.{◌≡◌, ℕ, true, false, List, refl, ap, ◌∙◌}
 use Rattle.std.specs.Prelude.{Option, Some, None, codes}
-use Rattle.std.proofs.lemmas.Bool.{false_from_ne_true}
-use Rattle.std.proofs.lemmas.Slice.Eq.{bytes_eq-Decides}
-use Rattle.task_code.specs.declared.words.StatementWord.{StatementWord}
-use Rattle.task_code.specs.Words.{is_else, plain_service, object_service, service_of, statement_word}
+use Rattle.std.proofs.lemmas.{Bool.{false_from_ne_true}, Slice.Eq.{bytes_eq-Decides}}
+use Rattle.task_code.specs.{declared.words.StatementWord.{StatementWord}, Words.{is_else, plain_service, object_service, service_of, statement_word}}
 
 else_is : (n : List ℕ) → is_else n ≡ true → n ≡ codes "else"
 unfolding is_else

@@ -1,13 +1,9 @@
 -- The stack of expectations takes each phrase of the grammar.
 use Rattle.std.proofs.Common.{◌≡◌, List, [], ◌∷◌, ◌++◌, refl, ap, ◌∙◌}
 use Rattle.std.specs.Prelude.{Option, Some, option_and_then}
-use Rattle.oil_lexer.specs.declared.token.{Mark.TheVariants.{OpenBrace, OpenParen, CloseParen, Semicolon, Question}, Token.{Token}}
-use Rattle.oil_lexer.specs.Tokens.{name, number, mark}
-use Rattle.task_code.specs.declared.call.{Reference.{Reference}, Call.{Call}}
-use Rattle.task_code.specs.declared.tree.{Body.{Body}, Condition.{Condition}}
-use Rattle.task_code.specs.declared.words.{Service.{Service}, StatementWord.{StatementWord}}
-use Rattle.task_code.specs.Statements.{Statements}
-use Rattle.task_code.specs.Words.{statement_word}
+use Rattle.oil_lexer.specs.{declared.token.{Mark.TheVariants.{OpenBrace, OpenParen, CloseParen, Semicolon, Question}, Token.{Token}}, Tokens.{name, number, mark}}
+use Rattle.task_code.specs.declared.{call.{Reference.{Reference}, Call.{Call}}, tree.{Body.{Body}, Condition.{Condition}}, words.{Service.{Service}, StatementWord.{StatementWord}}}
+use Rattle.task_code.specs.{Statements.{Statements}, Words.{statement_word}}
 use Rattle.task_code.specs.Grammar.{IsMask, last_event, more_events, IsCall, plain, object, mask, set_event, alarm, shutdown, IsCondition, choice, always, IsStatements, no_more, a_work, an_if, an_if_else, a_while, AreBodies, no_body, a_body}
 use Rattle.task_code.specs.Grammar as grammar
 use Rattle.task_code.specs.Expect.{some_statements, after_if, mask_rest, a_name, a_condition, a_semicolon, close_paren, Stack, operands, statement_step, else_step, status_step, body_phrases, step, onto, run}

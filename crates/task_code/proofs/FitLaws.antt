@@ -1,14 +1,11 @@
 -- Code without a fault can be linked.
 use Rattle.std.proofs.Common.{◌≡◌, ℕ, ◌<◌, ◌≤◌, Bool, true, false, cond, List, [], ◌∷◌, ◌++◌, length, refl, arith}
 use Rattle.std.specs.Prelude.{All, ◌&&◌, nat_le, IsTrue}
-use Rattle.std.proofs.lemmas.Bool.Decides.{nat_tests}
-use Rattle.std.proofs.lemmas.List.Elements.{All-nil, All-cons, All-head, All-tail}
+use Rattle.std.proofs.lemmas.{Bool.Decides.{nat_tests}, List.Elements.{All-nil, All-cons, All-head, All-tail}}
 use Rattle.oil_lexer.specs.declared.token.Token.{Token}
-use Rattle.task_code.specs.declared.call.{Reference.{Reference}, Call.{Call}}
-use Rattle.task_code.specs.declared.tree.Body.{Body}
-use Rattle.task_code.specs.declared.words.{Service.{Service}, PlainService.{PlainService}, PlainService.TheVariants.{TerminateTask, Schedule, GetTaskId, GetActiveApplicationMode, Lock}, ObjectService.{ObjectService}, ObjectService.TheVariants.{ActivateTask, ChainTask, GetResource, ReleaseResource, GetEvent, CancelAlarm, GetAlarm, GetTaskState}, MaskService.{MaskService}, MaskService.TheVariants.{ClearEvent, WaitEvent}, AlarmService.{AlarmService}, AlarmService.TheVariants.{SetRelAlarm, SetAbsAlarm}}
-use Rattle.task_code.specs.Services.{plain_call, object_call, mask_call, alarm_call}
-use Rattle.task_code.specs.Statements.{Statements, closed, work_then, if_then, if_else_then, while_then, call_then}
+use Rattle.task_code.specs.declared.{call.{Reference.{Reference}, Call.{Call}}, tree.Body.{Body}}
+use Rattle.task_code.specs.declared.words.{Service.{Service}, PlainService.{PlainService, TheVariants.{TerminateTask, Schedule, GetTaskId, GetActiveApplicationMode, Lock}}, ObjectService.{ObjectService, TheVariants.{ActivateTask, ChainTask, GetResource, ReleaseResource, GetEvent, CancelAlarm, GetAlarm, GetTaskState}}, MaskService.{MaskService, TheVariants.{ClearEvent, WaitEvent}}, AlarmService.{AlarmService, TheVariants.{SetRelAlarm, SetAbsAlarm}}}
+use Rattle.task_code.specs.{Services.{plain_call, object_call, mask_call, alarm_call}, Statements.{Statements, closed, work_then, if_then, if_else_then, while_then, call_then}}
 use Rattle.task_code.specs.Fit.{HasCounts, NamesEvents, HasMasks, depth, IsFit}
 use Rattle.task_code.specs.Grammar.{IsMask, last_event, more_events, IsCall, plain, object, mask, set_event, alarm, shutdown, IsStatements, no_more, a_work, an_if, an_if_else, a_while, AreBodies, no_body, a_body}
 use Rattle.task_code.specs.Grammar as grammar

@@ -1,8 +1,7 @@
 -- Phrases from the tokens that were read.
 use Rattle.std.proofs.Common.{◌≡◌, ℕ, sym, ap, ◌∙◌, subst}
-use Rattle.oil_lexer.specs.declared.token.{TokenKind.TheVariants.{Number, Mark}, Mark.{Mark as AMark}, Mark.TheVariants.{Question}, Token.{Token}}
-use Rattle.task_code.specs.declared.tree.Condition.TheVariants.{Choice, Always}
-use Rattle.task_code.specs.Grammar.{IsCondition, choice, always}
+use Rattle.oil_lexer.specs.declared.token.{TokenKind.TheVariants.{Number, Mark}, Mark.{Mark as AMark, TheVariants.{Question}}, Token.{Token}}
+use Rattle.task_code.specs.{declared.tree.Condition.TheVariants.{Choice, Always}, Grammar.{IsCondition, choice, always}}
 
 pub choice_is : (t : Token) (m : AMark) → t.kind ≡ Mark m → m ≡ Question → IsCondition Choice t
 choice_is t m k s = subst (λ (x : Token). IsCondition Choice x) (λ i. record { kind = sym (k ∙ ap Mark s) i; line = t.line }) choice

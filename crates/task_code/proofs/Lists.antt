@@ -1,8 +1,7 @@
 -- The list of statements of a vector ends at its closing brace.
 use Rattle.std.proofs.Common.{◌≡◌, ℕ, List, [], ◌∷◌, refl, ap, ◌∙◌}
 use Rattle.std.specs.Prelude.{Some, None}
-use Rattle.task_code.specs.declared.tree.{Statement.{Statement}, Statement.TheVariants.{Work, If, While, Call}}
-use Rattle.task_code.specs.Statements.{Statements, closing_line}
+use Rattle.task_code.specs.{declared.tree.Statement.{Statement, TheVariants.{Work, If, While, Call}}, Statements.{Statements, closing_line}}
 use Rattle.task_code.specs.StatementLists.{statement_before, list_of}
 
 behind : (s : Statement) (next : Statements) → closing_line (statement_before s next) ≡ closing_line next

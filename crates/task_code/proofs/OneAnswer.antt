@@ -1,10 +1,9 @@
 -- A list of tokens has at most one code or first fault.
 use Rattle.std.proofs.Common.{◌≡◌, ℕ, true, false, List, [], ◌∷◌, refl, sym, ap, ◌∙◌, subst}
 use Rattle.std.specs.Prelude.{Some, Result, Ok, Err}
-use Rattle.osek_values.specs.declared.refusal.{Rule.{Rule}, Rule.TheVariants.{Lex, Syntax, Oil, Code as of_code}, SyntaxRule.{SyntaxRule}, CodeRule.TheVariants.{C1, C2, C3, C4, C6, C7, C8, C9}}
+use Rattle.osek_values.specs.declared.refusal.{Rule.{Rule, TheVariants.{Lex, Syntax, Oil, Code as of_code}}, SyntaxRule.{SyntaxRule}, CodeRule.TheVariants.{C1, C2, C3, C4, C6, C7, C8, C9}}
 use Rattle.osek_values.specs.declared.limits.TheConstants.{MAX_CODE_DEPTH}
-use Rattle.oil_lexer.specs.declared.token.{Mark.TheVariants.{Semicolon}, Token.{Token}}
-use Rattle.oil_lexer.specs.Tokens.{name, mark}
+use Rattle.oil_lexer.specs.{declared.token.{Mark.TheVariants.{Semicolon}, Token.{Token}}, Tokens.{name, mark}}
 use Rattle.oil_lexer.proofs.OneFault.{same_fault, no_fault}
 use Rattle.task_code.specs.declared.call.{Reference.{Reference}, Call.{Call}}
 use Rattle.task_code.specs.declared.call.Call.TheVariants as call
@@ -12,13 +11,11 @@ use Rattle.task_code.specs.declared.tree.{Body.{Body}, Code.{Code}, Condition.{C
 use Rattle.osek_values.specs.declared.refused.LineFault.{LineFault}
 use Rattle.task_code.specs.declared.words.{Service.{Service}, StatementWord.{StatementWord}}
 use Rattle.task_code.specs.declared.words.StatementWord.TheVariants as word
-use Rattle.task_code.specs.Statements.{Statements, work_then, if_then, if_else_then, while_then, call_then}
-use Rattle.task_code.specs.Words.{is_else, statement_word}
+use Rattle.task_code.specs.{Statements.{Statements, work_then, if_then, if_else_then, while_then, call_then}, Words.{is_else, statement_word}}
 use Rattle.task_code.specs.Grammar.{reference, IsMask, last_event, more_events, IsCall, plain, object, mask, set_event, alarm, shutdown, IsCondition, choice, always, IsStatements, no_more, a_work, an_if, an_if_else, a_while, AreBodies, no_body, a_body, IsSentence}
 use Rattle.task_code.specs.Services.{mask_call}
 use Rattle.task_code.specs.Grammar as grammar
-use Rattle.task_code.specs.Faults.{IsSyntaxFault, HasCode, HasWrongWork, IsFirstFault, wrong_works_in}
-use Rattle.task_code.specs.Answers.{IsAnswer}
+use Rattle.task_code.specs.{Faults.{IsSyntaxFault, HasCode, HasWrongWork, IsFirstFault, wrong_works_in}, Answers.{IsAnswer}}
 use Rattle.task_code.proofs.Elses.{else_is_no_statement}
 
 same_mask : {m m' : List Reference} {a b c : List Token} → IsMask m a b → IsMask m' a c → (m ≡ m') × (b ≡ c)

@@ -1,10 +1,7 @@
 -- A call that is read operand by operand.
 use Rattle.std.proofs.Common.{◌≡◌, ℕ, List, [], ◌∷◌, ◌++◌, sym, ap, ◌∙◌, subst, append_assoc}
-use Rattle.oil_lexer.specs.declared.token.{TokenKind.TheVariants.{Mark}, Mark.{Mark as AMark}, Mark.TheVariants.{CloseParen, Bar}, Token.{Token}}
-use Rattle.oil_lexer.specs.Tokens.{name, mark}
-use Rattle.task_code.specs.declared.call.{Reference.{Reference}, Call.{Call}}
-use Rattle.task_code.specs.declared.words.Service.{Service}
-use Rattle.task_code.specs.Grammar.{IsMask, last_event, more_events, IsCall}
+use Rattle.oil_lexer.specs.{declared.token.{TokenKind.TheVariants.{Mark}, Mark.{Mark as AMark, TheVariants.{CloseParen, Bar}}, Token.{Token}}, Tokens.{name, mark}}
+use Rattle.task_code.specs.{declared.{call.{Reference.{Reference}, Call.{Call}}, words.Service.{Service}}, Grammar.{IsMask, last_event, more_events, IsCall}}
 use Rattle.task_code.specs.Expect.{Stack, scan, a_name, mask_rest}
 
 -- whatever mask goes on behind the tokens that were read is a mask with the events so far

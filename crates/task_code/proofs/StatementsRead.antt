@@ -1,19 +1,14 @@
 -- Statements that were read.
 use Rattle.std.proofs.Common.{◌≡◌, ℕ, ◌+◌, ◌-◌, ◌<◌, ◌≤◌, true, false, List, [], ◌∷◌, ◌++◌, length, refl, sym, ap, ◌∙◌, subst, arith}
 use Rattle.std.specs.Prelude.{Some, None, max}
-use Rattle.oil_lexer.specs.declared.token.{TokenKind.{TokenKind}, TokenKind.TheVariants.{Name, Number, Text, Mark}, Mark.{Mark as AMark}, Mark.TheVariants.{OpenBrace, CloseBrace, OpenParen, CloseParen, Semicolon, Question}, Token.{Token}}
-use Rattle.oil_lexer.specs.declared.fault.{Stop.{Stop}, Stop.TheVariants.{NotAllowed}}
-use Rattle.oil_lexer.specs.Tokens.{name, number, mark, is_open}
+use Rattle.oil_lexer.specs.declared.token.{TokenKind.{TokenKind, TheVariants.{Name, Number, Text, Mark}}, Mark.{Mark as AMark, TheVariants.{OpenBrace, CloseBrace, OpenParen, CloseParen, Semicolon, Question}}, Token.{Token}}
+use Rattle.oil_lexer.specs.{declared.fault.Stop.{Stop, TheVariants.{NotAllowed}}, Tokens.{name, number, mark, is_open}}
 use Rattle.oil_lexer.proofs.Braces.{open_kind, front_is}
-use Rattle.task_code.specs.declared.call.Call.{Call as ACall}
-use Rattle.task_code.specs.declared.tree.{Condition.{Condition}, Statement.{Statement}, Statement.TheVariants.{Work, If, While, Call}}
+use Rattle.task_code.specs.declared.{call.Call.{Call as ACall}, tree.{Condition.{Condition}, Statement.{Statement, TheVariants.{Work, If, While, Call}}}}
 use Rattle.task_code.specs.declared.words.{Service.{Service}, StatementWord.{StatementWord}}
 use Rattle.task_code.specs.declared.words.StatementWord.TheVariants as word
-use Rattle.task_code.specs.Statements.{Statements, closed, work_then, if_then, if_else_then, while_then, call_then}
-use Rattle.task_code.specs.StatementLists.{statement_before, list_before, list_of}
-use Rattle.task_code.specs.Fit.{depth}
-use Rattle.task_code.specs.Words.{is_else, statement_word}
-use Rattle.task_code.specs.Grammar.{IsCall, IsCondition, IsStatements, no_more, a_work, an_if, an_if_else, a_while}
+use Rattle.task_code.specs.{Statements.{Statements, closed, work_then, if_then, if_else_then, while_then, call_then}, StatementLists.{statement_before, list_before, list_of}}
+use Rattle.task_code.specs.{Fit.{depth}, Words.{is_else, statement_word}, Grammar.{IsCall, IsCondition, IsStatements, no_more, a_work, an_if, an_if_else, a_while}}
 use Rattle.task_code.specs.Grammar as grammar
 use Rattle.task_code.specs.Expect.{some_statements, after_if, a_semicolon, close_paren, open_brace, Stack, statement_phrases, scan}
 use Rattle.task_code.specs.Phrases.{StopsIn, block_phrases, IsWithin, ReadsRest, ReadsStatement, ReadsStatements, ReadsBlock}

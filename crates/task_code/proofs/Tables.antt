@@ -1,9 +1,7 @@
 -- Looking a name up in a table of words, from a place on.
 use Rattle.std.proofs.Common.{◌≡◌, ℕ, ◌+◌, ◌<◌, ◌≤◌, true, false, Bool, cond, List, ◌∷◌, length, map, get_or, drop, length-drop, arith, sym, ap, ◌∙◌}
 use Rattle.std.proofs.lemmas.List.{at_drop_more, nil_from_length}
-use Rattle.std.specs.Borrow.{Bor}
-use Rattle.std.specs.Prelude.{Option, Some, None}
-use Rattle.std.specs.Str.{bytes_eq}
+use Rattle.std.specs.{Borrow.{Bor}, Prelude.{Option, Some, None}, Str.{bytes_eq}}
 use Rattle.task_code.specs.Words.{found_in, entry}
 
 module _ {T : Type 0} (table : List (Bor (List ℕ) × T)) (name : List ℕ) where

@@ -1,29 +1,22 @@
 -- A list of tokens is a prefix of task code exactly where the stack of expectations takes it.
-use Rattle.std.proofs.lemmas.Bool.Decides.{nat_tests}
-use Rattle.std.proofs.Common.{◌≡◌, ⊎_elim, ℕ, Bool, true, false, cond, List, [], ◌∷◌, ◌++◌, refl, sym, ap, ◌∙◌, subst, append_assoc, arith}
+use Rattle.std.proofs.{lemmas.Bool.Decides.{nat_tests}, Common.{◌≡◌, ⊎_elim, ℕ, Bool, true, false, cond, List, [], ◌∷◌, ◌++◌, refl, sym, ap, ◌∙◌, subst, append_assoc, arith}}
 use Rattle.std.specs.Prelude.{Result, Ok, Err, Option, Some, None, option_and_then, codes, ◌==◌}
-use Rattle.osek_values.specs.declared.status.Status.{Status}
-use Rattle.osek_values.specs.declared.limits.TheConstants.{MAX_CODE_DEPTH}
-use Rattle.oil_lexer.specs.declared.token.{TokenKind.{TokenKind}, TokenKind.TheVariants.{Name, Number, Text, Mark}, Mark.TheVariants.{OpenBrace, CloseBrace, OpenParen, CloseParen, Comma, Semicolon, Question, Bar}, Token.{Token}}
-use Rattle.oil_lexer.specs.declared.fault.Stop.{Stop}
-use Rattle.oil_lexer.specs.Tokens.{name, number, mark}
-use Rattle.oil_lexer.specs.Scan.{fault_of}
+use Rattle.osek_values.specs.declared.{status.Status.{Status}, limits.TheConstants.{MAX_CODE_DEPTH}}
+use Rattle.oil_lexer.specs.declared.token.{TokenKind.{TokenKind, TheVariants.{Name, Number, Text, Mark}}, Mark.TheVariants.{OpenBrace, CloseBrace, OpenParen, CloseParen, Comma, Semicolon, Question, Bar}, Token.{Token}}
+use Rattle.oil_lexer.specs.{declared.fault.Stop.{Stop}, Tokens.{name, number, mark}, Scan.{fault_of}}
 use Rattle.oil_lexer.proofs.FirstFault as first
 use Rattle.task_code.specs.declared.call.{Reference.{Reference}, Call.{Call}}
 use Rattle.task_code.specs.declared.call.Call.TheVariants as call
 use Rattle.task_code.specs.Services.{plain_call, object_call, mask_call, alarm_call}
-use Rattle.task_code.specs.declared.tree.{Body.{Body}, BodyKind.{BodyKind}, Code.{Code}, Condition.{Condition}, Condition.TheVariants.{Choice, Always}}
+use Rattle.task_code.specs.declared.tree.{Body.{Body}, BodyKind.{BodyKind}, Code.{Code}, Condition.{Condition, TheVariants.{Choice, Always}}}
 use Rattle.task_code.specs.declared.words.{Service.{Service}, StatementWord.{StatementWord}}
 use Rattle.task_code.specs.declared.words.Service.TheVariants as service
 use Rattle.task_code.specs.declared.words.StatementWord.TheVariants as word
-use Rattle.task_code.specs.Statements.{Statements, closed, work_then, if_then, if_else_then, while_then, call_then}
-use Rattle.task_code.specs.Words.{body_kind, is_else, status_of, statement_word}
+use Rattle.task_code.specs.{Statements.{Statements, closed, work_then, if_then, if_else_then, while_then, call_then}, Words.{body_kind, is_else, status_of, statement_word}}
 use Rattle.task_code.specs.Grammar.{reference, IsMask, last_event, more_events, IsCall, plain, object, mask, set_event, alarm, shutdown, IsCondition, choice, always, IsStatements, no_more, a_work, an_if, an_if_else, a_while, AreBodies, no_body, a_body, IsSentence}
 use Rattle.task_code.specs.Grammar as grammar
-use Rattle.osek_values.specs.declared.refusal.{Rule.TheVariants.{Syntax, Code as of_code}, CodeRule.TheVariants.{C9}, Rule.{Rule}}
-use Rattle.osek_values.specs.declared.refused.LineFault.{LineFault}
-use Rattle.task_code.specs.Answers.{IsAnswer}
-use Rattle.task_code.specs.Faults.{HasTree, IsSyntaxFault, wrong_works_in}
+use Rattle.osek_values.specs.declared.{refusal.{Rule.{Rule, TheVariants.{Syntax, Code as of_code}}, CodeRule.TheVariants.{C9}}, refused.LineFault.{LineFault}}
+use Rattle.task_code.specs.{Answers.{IsAnswer}, Faults.{HasTree, IsSyntaxFault, wrong_works_in}}
 use Rattle.task_code.specs.Expect.{Phrase, some_statements, after_if, mask_rest, a_name, a_number, a_status, a_condition, open_paren, close_paren, open_brace, a_comma, a_semicolon, a_question, Stack, operands, statement_step, else_step, status_step, step, body_phrases, body_step, step_all, run, scan}
 use Rattle.task_code.proofs.Expected.{behind, run_bodies}
 

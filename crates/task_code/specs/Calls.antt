@@ -3,8 +3,8 @@ use Rattle.std.specs.Prelude.{◌≡◌, ◌==◌, ℕ, List, [], ◌∷◌, dro
 use Rattle.std.proofs.Common.{ap}
 use Rattle.osek_values.specs.declared.status.Status.{Status}
 use Rattle.osek_values.specs.declared.status.Status.TheVariants as status
-use Rattle.osek_values.specs.declared.lock.{Lock.{Lock}, Lock.TheVariants.{SuspendAll, ResumeAll, SuspendOs, ResumeOs, DisableAll, EnableAll}}
-use Rattle.task_code.specs.declared.call.{Reference.{Reference}, Call.{Call}, Call.TheVariants.{ActivateTask, TerminateTask, ChainTask, Schedule, GetResource, ReleaseResource, SetEvent, ClearEvent, GetEvent, WaitEvent, SetRelAlarm, SetAbsAlarm, CancelAlarm, GetAlarm, GetTaskId, GetTaskState, GetActiveApplicationMode, ShutdownOs, LockCall}}
+use Rattle.osek_values.specs.declared.lock.Lock.{Lock, TheVariants.{SuspendAll, ResumeAll, SuspendOs, ResumeOs, DisableAll, EnableAll}}
+use Rattle.task_code.specs.declared.call.{Reference.{Reference}, Call.{Call, TheVariants.{ActivateTask, TerminateTask, ChainTask, Schedule, GetResource, ReleaseResource, SetEvent, ClearEvent, GetEvent, WaitEvent, SetRelAlarm, SetAbsAlarm, CancelAlarm, GetAlarm, GetTaskId, GetTaskState, GetActiveApplicationMode, ShutdownOs, LockCall}}}
 
 abbrev pub status_number : Status → ℕ
 status_number status.Ok = 0

@@ -1,12 +1,10 @@
 -- What may still come, as a stack of phrases, and what a token makes of it. Below the stack any bodies may come.
 use Rattle.std.specs.Prelude.{ℕ, List, [], ◌∷◌, ◌++◌, Bool, true, false, ◌==◌, if◌then◌else◌, Option, Some, None}
-use Rattle.oil_lexer.specs.declared.token.{TokenKind.{TokenKind}, TokenKind.TheVariants.{Name, Number, Mark}, Mark.TheVariants.{OpenBrace, CloseBrace, OpenParen, CloseParen, Comma, Semicolon, Question, Bar}, Token.{Token}}
+use Rattle.oil_lexer.specs.declared.token.{TokenKind.{TokenKind, TheVariants.{Name, Number, Mark}}, Mark.TheVariants.{OpenBrace, CloseBrace, OpenParen, CloseParen, Comma, Semicolon, Question, Bar}, Token.{Token}}
 use Rattle.oil_lexer.specs.declared.fault.Stop.{Stop}
 use Rattle.oil_lexer.specs.Scan as scans
-use Rattle.osek_values.specs.declared.limits.TheConstants.{MAX_CODE_DEPTH}
-use Rattle.osek_values.specs.declared.status.Status.{Status}
-use Rattle.task_code.specs.declared.tree.BodyKind.{BodyKind}
-use Rattle.task_code.specs.declared.words.{Service.{Service}, StatementWord.{StatementWord}}
+use Rattle.osek_values.specs.declared.{limits.TheConstants.{MAX_CODE_DEPTH}, status.Status.{Status}}
+use Rattle.task_code.specs.declared.{tree.BodyKind.{BodyKind}, words.{Service.{Service}, StatementWord.{StatementWord}}}
 use Rattle.task_code.specs.declared.words.Service.TheVariants as service
 use Rattle.task_code.specs.declared.words.StatementWord.TheVariants as word
 use Rattle.task_code.specs.Words.{body_kind, is_else, status_of, statement_word}

@@ -2,11 +2,10 @@
 -- behind that of the numbers of its `work` statements.
 use Rattle.std.specs.Prelude.{◌≡◌, ℕ, Bool, ◌&&◌, nat_le, if◌then◌else◌, List, [], ◌∷◌, ◌++◌}
 use Rattle.osek_values.specs.declared.limits.TheConstants.{MAX_CODE_DEPTH}
-use Rattle.osek_values.specs.declared.refusal.{Rule.{Rule}, Rule.TheVariants.{Syntax, Code as of_code}, SyntaxRule.{SyntaxRule}, CodeRule.TheVariants.{C9}}
+use Rattle.osek_values.specs.declared.refusal.{Rule.{Rule, TheVariants.{Syntax, Code as of_code}}, SyntaxRule.{SyntaxRule}, CodeRule.TheVariants.{C9}}
 use Rattle.oil_lexer.specs.declared.token.Token.{Token}
 use Rattle.oil_lexer.specs.Faults as faults
-use Rattle.task_code.specs.declared.tree.{Body.{Body}, Code.{Code}}
-use Rattle.task_code.specs.Statements.{Statements, closed, work_then, if_then, if_else_then, while_then, call_then}
+use Rattle.task_code.specs.{declared.tree.{Body.{Body}, Code.{Code}}, Statements.{Statements, closed, work_then, if_then, if_else_then, while_then, call_then}}
 use Rattle.task_code.specs.Grammar.{IsSentence}
 
 -- a sentence with its tree, within the depth

@@ -1,9 +1,7 @@
 -- What holds of each task code text that has no fault (this project's profile), beside its grammar.
 use Rattle.std.specs.Prelude.{ℕ, ◌+◌, ◌≤◌, ◌<◌, max, length, All, IsTrue, ⊤}
 use Rattle.osek_values.specs.declared.limits.TheConstants.{MAX_CODE_DEPTH}
-use Rattle.task_code.specs.declared.call.{Call.{Call}, Call.TheVariants.{SetEvent, ClearEvent, WaitEvent}}
-use Rattle.task_code.specs.declared.tree.{Body.{Body}, Code.{Code}}
-use Rattle.task_code.specs.Faults.{is_count}
+use Rattle.task_code.specs.{declared.{call.Call.{Call, TheVariants.{SetEvent, ClearEvent, WaitEvent}}, tree.{Body.{Body}, Code.{Code}}}, Faults.{is_count}}
 use Rattle.task_code.specs.Statements.{Statements, closed, work_then, if_then, if_else_then, while_then, call_then}
 
 -- each `work` takes as many instructions as it may

@@ -7,10 +7,9 @@ use Rattle.oil_lexer.specs.declared.token.{Mark.TheVariants.{OpenBrace, CloseBra
 use Rattle.oil_lexer.specs.Tokens.{name, number, mark}
 use Rattle.task_code.specs.declared.call.{Reference.{Reference}, Call.{Call}}
 use Rattle.task_code.specs.declared.call.Call.TheVariants as call
-use Rattle.task_code.specs.declared.tree.{BodyKind.{BodyKind}, Body.{Body}, Code.{Code}, Condition.{Condition}, Condition.TheVariants.{Choice, Always}}
-use Rattle.task_code.specs.declared.words.{PlainService.{PlainService}, ObjectService.{ObjectService}, MaskService.{MaskService}, AlarmService.{AlarmService}, Service.{Service}, Service.TheVariants.{Plain, Object, Mask, SetEvent, Alarm, ShutdownOs}, StatementWord.TheVariants.{Work, If, While, Service as a_service}}
-use Rattle.task_code.specs.Statements.{Statements, closed, work_then, if_then, if_else_then, while_then, call_then}
-use Rattle.task_code.specs.Words.{body_kind, is_else, status_of, statement_word}
+use Rattle.task_code.specs.declared.tree.{BodyKind.{BodyKind}, Body.{Body}, Code.{Code}, Condition.{Condition, TheVariants.{Choice, Always}}}
+use Rattle.task_code.specs.declared.words.{PlainService.{PlainService}, ObjectService.{ObjectService}, MaskService.{MaskService}, AlarmService.{AlarmService}, Service.{Service, TheVariants.{Plain, Object, Mask, SetEvent, Alarm, ShutdownOs}}, StatementWord.TheVariants.{Work, If, While, Service as a_service}}
+use Rattle.task_code.specs.{Statements.{Statements, closed, work_then, if_then, if_else_then, while_then, call_then}, Words.{body_kind, is_else, status_of, statement_word}}
 use Rattle.task_code.specs.Services.{plain_call, object_call, mask_call, alarm_call}
 
 abbrev pub reference : List ℕ → ℕ → Reference

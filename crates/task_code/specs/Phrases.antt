@@ -1,17 +1,9 @@
 -- What reading a phrase did.
 use Rattle.std.specs.Prelude.{◌≡◌, ℕ, ◌+◌, ◌-◌, ◌≤◌, ◌<◌, List, [], ◌∷◌, ◌++◌, length, All, Some, None}
 use Rattle.osek_values.specs.declared.limits.TheConstants.{MAX_CODE_DEPTH}
-use Rattle.oil_lexer.specs.declared.token.{Token.{Token}, Mark.TheVariants.{OpenBrace}}
-use Rattle.oil_lexer.specs.declared.fault.Stop.{Stop}
-use Rattle.oil_lexer.specs.Tokens.{name, mark}
-use Rattle.task_code.specs.declared.tree.{Statement.{Statement}, Body.{Body}, BodyKind.{BodyKind}}
-use Rattle.task_code.specs.declared.call.Reference.{Reference}
-use Rattle.task_code.specs.declared.words.StatementWord.{StatementWord}
-use Rattle.task_code.specs.Statements.{Statements}
-use Rattle.task_code.specs.StatementLists.{statement_before}
-use Rattle.task_code.specs.Fit.{depth}
-use Rattle.task_code.specs.Words.{body_kind, statement_word}
-use Rattle.task_code.specs.Grammar.{IsStatements, AreBodies}
+use Rattle.oil_lexer.specs.{declared.{token.{Token.{Token}, Mark.TheVariants.{OpenBrace}}, fault.Stop.{Stop}}, Tokens.{name, mark}}
+use Rattle.task_code.specs.declared.{tree.{Statement.{Statement}, Body.{Body}, BodyKind.{BodyKind}}, call.Reference.{Reference}, words.StatementWord.{StatementWord}}
+use Rattle.task_code.specs.{Statements.{Statements}, StatementLists.{statement_before}, Fit.{depth}, Words.{body_kind, statement_word}, Grammar.{IsStatements, AreBodies}}
 use Rattle.task_code.specs.Expect.{Stack, scan, some_statements, open_brace, statement_phrases, body_stack}
 
 -- reading went on behind the phrases

@@ -2,7 +2,7 @@
 use Rattle.std.specs.Prelude.{ℕ, List}
 use Rattle.task_code.specs.declared.call.{Reference.{Reference}, Call.{Call}}
 use Rattle.task_code.specs.declared.call.Call.TheVariants as call
-use Rattle.task_code.specs.declared.words.{PlainService.{PlainService}, PlainService.TheVariants.{TerminateTask, Schedule, GetTaskId, GetActiveApplicationMode, Lock}, ObjectService.{ObjectService}, ObjectService.TheVariants.{ActivateTask, ChainTask, GetResource, ReleaseResource, GetEvent, CancelAlarm, GetAlarm, GetTaskState}, MaskService.{MaskService}, MaskService.TheVariants.{ClearEvent, WaitEvent}, AlarmService.{AlarmService}, AlarmService.TheVariants.{SetRelAlarm, SetAbsAlarm}}
+use Rattle.task_code.specs.declared.words.{PlainService.{PlainService, TheVariants.{TerminateTask, Schedule, GetTaskId, GetActiveApplicationMode, Lock}}, ObjectService.{ObjectService, TheVariants.{ActivateTask, ChainTask, GetResource, ReleaseResource, GetEvent, CancelAlarm, GetAlarm, GetTaskState}}, MaskService.{MaskService, TheVariants.{ClearEvent, WaitEvent}}, AlarmService.{AlarmService, TheVariants.{SetRelAlarm, SetAbsAlarm}}}
 
 abbrev pub plain_call : PlainService → Call
 plain_call TerminateTask = call.TerminateTask

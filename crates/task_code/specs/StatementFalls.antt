@@ -2,8 +2,7 @@
 use Rattle.std.specs.Prelude.{ℕ, ◌≤◌, max, List, [], ◌∷◌, Some, None}
 use Rattle.std.proofs.Common.{arith}
 use denote.Param.Weighed.{most}
-use Rattle.task_code.specs.declared.tree.{Statement.{Statement}, Statement.TheVariants.{Work, If, While, Call}, StatementList.TheDeep.{deep-Statement}}
-use Rattle.task_code.specs.Statements.{Statements, nodes}
+use Rattle.task_code.specs.{declared.tree.{Statement.{Statement, TheVariants.{Work, If, While, Call}}, StatementList.TheDeep.{deep-Statement}}, Statements.{Statements, nodes}}
 use Rattle.task_code.specs.StatementLists.{statement_before, list_of}
 
 both : (s : Statement) (next : Statements) → (deep-Statement s ≤ nodes (statement_before s next)) × (nodes next ≤ nodes (statement_before s next))

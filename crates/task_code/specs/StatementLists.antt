@@ -1,6 +1,6 @@
 -- The list of statements that a vector holds.
 use Rattle.std.specs.Prelude.{ℕ, List, [], ◌∷◌, Some, None}
-use Rattle.task_code.specs.declared.tree.{Statement.{Statement}, Statement.TheVariants.{Work, If, While, Call}}
+use Rattle.task_code.specs.declared.tree.Statement.{Statement, TheVariants.{Work, If, While, Call}}
 use Rattle.task_code.specs.Statements.{Statements, closed, work_then, if_then, if_else_then, while_then, call_then}
 
 -- a statement, and behind it a list

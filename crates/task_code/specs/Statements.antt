@@ -1,10 +1,8 @@
 -- Lists of statements, as data: each list with the statements in it and the line of its closing brace.
-use Rattle.std.specs.Prelude.{◌≡◌, ◌==◌, ℕ, ◌+◌, List, [], ◌∷◌, if◌then◌else◌, refl}
-use Rattle.std.specs.Coded.{Coded, coded_ℕ, coded_list}
+use Rattle.std.specs.{Prelude.{◌≡◌, ◌==◌, ℕ, ◌+◌, List, [], ◌∷◌, if◌then◌else◌, refl}, Coded.{Coded, coded_ℕ, coded_list}}
 use Rattle.std.proofs.Common.{sym, ap, ◌∙◌}
 use base.Stored.{coded_via}
-use Rattle.task_code.specs.declared.call.Call.{Call}
-use Rattle.task_code.specs.declared.tree.{Condition.{Condition}, Condition.TheVariants.{Choice, Always}}
+use Rattle.task_code.specs.declared.{call.Call.{Call}, tree.Condition.{Condition, TheVariants.{Choice, Always}}}
 use Rattle.task_code.specs.Calls.{call_numbers, call_references, call_of, call_of-parts, flat, unflat, unflat-flat}
 
 -- a list of statements: its first, with the lists in it, and behind it the next; or the closing brace. Lines are those

@@ -1,12 +1,10 @@
 -- The words of task code (this project's profile): keywords, the services of ISO 17356-3 that code may call, statuses.
-use Rattle.std.specs.Prelude.{ℕ, List, [], ◌∷◌, Bool, if◌then◌else◌, Option, Some, None, codes}
-use Rattle.std.specs.Borrow.{Bor}
-use Rattle.std.specs.Str.{bytes_eq}
+use Rattle.std.specs.{Prelude.{ℕ, List, [], ◌∷◌, Bool, if◌then◌else◌, Option, Some, None, codes}, Borrow.{Bor}, Str.{bytes_eq}}
 use Rattle.osek_values.specs.declared.status.Status.{Status}
 use Rattle.osek_values.specs.declared.status.Status.TheVariants as status
 use Rattle.osek_values.specs.declared.lock.Lock.TheVariants.{SuspendAll, ResumeAll, SuspendOs, ResumeOs, DisableAll, EnableAll}
-use Rattle.task_code.specs.declared.tree.{BodyKind.{BodyKind}, BodyKind.TheVariants.{Task, Isr}}
-use Rattle.task_code.specs.declared.words.{PlainService.{PlainService}, PlainService.TheVariants.{TerminateTask, Schedule, GetTaskId, GetActiveApplicationMode, Lock}, ObjectService.{ObjectService}, ObjectService.TheVariants.{ActivateTask, ChainTask, GetResource, ReleaseResource, GetEvent, CancelAlarm, GetAlarm, GetTaskState}, MaskService.TheVariants.{ClearEvent, WaitEvent}, AlarmService.TheVariants.{SetRelAlarm, SetAbsAlarm}, Service.{Service}, Service.TheVariants.{Plain, Object, Mask, SetEvent, Alarm, ShutdownOs}, StatementWord.{StatementWord}, StatementWord.TheVariants.{Work, If, While, Service as a_service}}
+use Rattle.task_code.specs.declared.tree.BodyKind.{BodyKind, TheVariants.{Task, Isr}}
+use Rattle.task_code.specs.declared.words.{PlainService.{PlainService, TheVariants.{TerminateTask, Schedule, GetTaskId, GetActiveApplicationMode, Lock}}, ObjectService.{ObjectService, TheVariants.{ActivateTask, ChainTask, GetResource, ReleaseResource, GetEvent, CancelAlarm, GetAlarm, GetTaskState}}, MaskService.TheVariants.{ClearEvent, WaitEvent}, AlarmService.TheVariants.{SetRelAlarm, SetAbsAlarm}, Service.{Service, TheVariants.{Plain, Object, Mask, SetEvent, Alarm, ShutdownOs}}, StatementWord.{StatementWord, TheVariants.{Work, If, While, Service as a_service}}}
 
 -- what a name stands for in a table of words, if it is one of them
 abbrev pub found_in : {A : Type 0} → List (List ℕ × A) → List ℕ → Option A

@@ -1,8 +1,7 @@
 //! The bodies of tasks and ISRs.
 ghost use Rattle.std.specs.Prelude.{◌≡◌, ◌∷◌, [], MatchResult, Some};
 ghost use Rattle.osek_values.specs.Answers.{Refuses};
-ghost use Rattle.task_code.specs.Expect.{scan, body_stack};
-ghost use Rattle.task_code.specs.Phrases.{StopsIn, ReadsOwned, ReadsBody, ReadsAll};
+ghost use Rattle.task_code.specs.{Expect.{scan, body_stack}, Phrases.{StopsIn, ReadsOwned, ReadsBody, ReadsAll}};
 
 use crate::call::Reference;
 use crate::phrases::{close_paren, object_name, open_paren};

@@ -1,14 +1,10 @@
 //! Calls: what stands between their parentheses.
 ghost use Rattle.std.specs.Prelude.{◌≡◌, ℕ, List, [], ◌∷◌, Some, MatchResult};
 ghost use Rattle.task_code.specs.Services.{plain_call as the_plain_call, object_call as the_object_call, mask_call as the_mask_call, alarm_call as the_alarm_call};
-ghost use Rattle.oil_lexer.specs.Tokens.{name, number as a_number_token, mark};
-ghost use Rattle.oil_lexer.specs.declared.token.Mark.TheVariants.{Comma};
-ghost use Rattle.task_code.specs.Words.{status_of as the_status_of};
-ghost use Rattle.task_code.specs.Grammar.{IsMask, IsCall};
-ghost use Rattle.task_code.specs.Expect.{a_name, a_number, a_comma, a_status, mask_rest, operands};
+ghost use Rattle.oil_lexer.specs.{Tokens.{name, number as a_number_token, mark}, declared.token.Mark.TheVariants.{Comma}};
+ghost use Rattle.task_code.specs.{Words.{status_of as the_status_of}, Grammar.{IsMask, IsCall}, Expect.{a_name, a_number, a_comma, a_status, mask_rest, operands}};
 ghost use Rattle.task_code.specs.Phrases.{StopsIn};
-ghost use Rattle.osek_values.specs.Answers.{Refuses};
-ghost use Rattle.osek_values.specs.declared.status.Status.{Status};
+ghost use Rattle.osek_values.specs.{Answers.{Refuses}, declared.status.Status.{Status}};
 
 use crate::call::{Call, Reference};
 use crate::phrases::{close_paren, comma, number, object_name};

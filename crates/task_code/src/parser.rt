@@ -3,10 +3,8 @@ ghost use Rattle.std.specs.Prelude.{◌≡◌, List, Result, Ok, Err, IfOk};
 ghost use Rattle.oil_lexer.specs.declared.token.Token.{Token};
 ghost use Rattle.osek_values.specs.declared.refusal.Rule.TheVariants.{Syntax};
 ghost use Rattle.oil_lexer.specs.Scan.{fault_of as the_fault_of};
-ghost use Rattle.osek_values.specs.declared.refused.LineFault.{LineFault};
-ghost use Rattle.osek_values.specs.declared.refusal.Rule.{Rule};
-ghost use Rattle.task_code.specs.declared.tree.Code.{Code};
-ghost use Rattle.task_code.specs.Fit.{AreFit};
+ghost use Rattle.osek_values.specs.declared.{refused.LineFault.{LineFault}, refusal.Rule.{Rule}};
+ghost use Rattle.task_code.specs.{declared.tree.Code.{Code}, Fit.{AreFit}};
 ghost use Rattle.osek_values.specs.Answers.{IsRight, Answers};
 ghost use Rattle.task_code.specs.Answers.{IsAnswer};
 

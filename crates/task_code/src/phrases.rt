@@ -1,7 +1,6 @@
 //! Phrases of one token.
 ghost use Rattle.std.specs.Prelude.{◌≡◌, ℕ, [], ◌∷◌, MatchResult};
-ghost use Rattle.oil_lexer.specs.declared.token.Mark.TheVariants.{OpenParen, CloseParen, Comma, Semicolon, Question};
-ghost use Rattle.oil_lexer.specs.Tokens.{name, number, mark};
+ghost use Rattle.oil_lexer.specs.{declared.token.Mark.TheVariants.{OpenParen, CloseParen, Comma, Semicolon, Question}, Tokens.{name, number, mark}};
 ghost use Rattle.task_code.specs.Grammar.{IsCondition};
 ghost use Rattle.task_code.specs.Expect.{a_name, a_number, a_condition, open_paren as the_open_paren, close_paren as the_close_paren, a_comma, a_semicolon, a_question};
 ghost use Rattle.task_code.specs.Phrases.{StopsIn};

@@ -1,10 +1,8 @@
 //! Statements, and lists of them in braces.
 ghost use Rattle.std.specs.Prelude.{◌≡◌, ℕ, ◌≤◌, List, [], ◌∷◌, true, MatchResult, MatchOption};
 ghost use Rattle.osek_values.specs.Answers.{Refuses};
-ghost use Rattle.oil_lexer.specs.Tokens.{name as a_name_token, mark};
-ghost use Rattle.oil_lexer.specs.declared.token.Mark.TheVariants.{OpenParen, Question, CloseParen};
-ghost use Rattle.task_code.specs.declared.words.StatementWord.TheVariants.{Work, If, While, Service as a_service};
-ghost use Rattle.task_code.specs.Words.{is_else as the_is_else};
+ghost use Rattle.oil_lexer.specs.{Tokens.{name as a_name_token, mark}, declared.token.Mark.TheVariants.{OpenParen, Question, CloseParen}};
+ghost use Rattle.task_code.specs.{declared.words.StatementWord.TheVariants.{Work, If, While, Service as a_service}, Words.{is_else as the_is_else}};
 ghost use Rattle.task_code.specs.Expect.{Stack, scan, some_statements, after_if, a_question, open_paren as the_open_paren, close_paren as the_close_paren, statement_phrases};
 ghost use Rattle.task_code.specs.Phrases.{StopsIn, block_phrases, ReadsRest, ReadsStatement, ReadsStatements, ReadsBlock};
 

@@ -67,8 +67,7 @@ impl Model for StatementList {
 
 impl StatementList {
     ghost use Rattle.std.specs.Prelude.{◌≡◌};
-    ghost use Rattle.task_code.specs.Statements.{closing_line};
-    ghost use Rattle.task_code.specs.StatementLists.{list_of};
+    ghost use Rattle.task_code.specs.{Statements.{closing_line}, StatementLists.{list_of}};
 
     /// The statements of a `Vec` and the line of the closing brace. It takes no memory, and keeps no room for more: most
     /// lists are short.

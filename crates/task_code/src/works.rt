@@ -1,8 +1,6 @@
 //! The first `work` outside its range.
 ghost use Rattle.std.specs.Prelude.{◌≡◌};
-ghost use Rattle.task_code.specs.Faults.{is_count as is_a_count, wrong_works, wrong_works_in};
-ghost use Rattle.task_code.specs.FirstLines.{first_line, or_later};
-ghost use Rattle.task_code.specs.Statements.{Statements};
+ghost use Rattle.task_code.specs.{Faults.{is_count as is_a_count, wrong_works, wrong_works_in}, FirstLines.{first_line, or_later}, Statements.{Statements}};
 ghost use Rattle.task_code.specs.StatementLists.{statement_before};
 
 use crate::tree::{Body, Statement, StatementList};

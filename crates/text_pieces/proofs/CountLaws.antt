@@ -1,10 +1,7 @@
 -- A number that goes up by one within its last digit.
 use Rattle.std.proofs.Common.{◌≡◌, ℕ, ◌+◌, ◌-◌, ◌/◌, ◌%◌, ◌<◌, ◌≤◌, ◌^◌, List, [], ◌∷◌, ◌++◌, length, take, set, sym, ◌∙◌, ap, arith, inl, inr}
 use Rattle.std.specs.Fmt.{decimal}
-use Rattle.std.proofs.lemmas.Bool.{cases_lt}
-use Rattle.std.proofs.lemmas.Fmt.{decimal_digit, decimal_step, decimal_nonempty}
-use Rattle.std.proofs.lemmas.List.{length-take-le, length-append, set_at}
-use Rattle.std.proofs.Math.Seq.{take-set-lt}
+use Rattle.std.proofs.{lemmas.{Bool.{cases_lt}, Fmt.{decimal_digit, decimal_step, decimal_nonempty}, List.{length-take-le, length-append, set_at}}, Math.Seq.{take-set-lt}}
 
 -- the digits in front of the last one are the same
 record Parted (n m : ℕ) : Type 0 where

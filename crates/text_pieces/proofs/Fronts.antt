@@ -1,7 +1,5 @@
 -- A front of what was put.
-use Rattle.std.proofs.Common.{◌≡◌, ℕ, ◌+◌, ◌≤◌, List, ◌++◌, length, take, sym, ◌∙◌, ap, arith}
-use Rattle.std.proofs.Math.Seq.{take-append-add}
-use Rattle.std.proofs.lemmas.List.{length-take-le, take-take}
+use Rattle.std.proofs.{Common.{◌≡◌, ℕ, ◌+◌, ◌≤◌, List, ◌++◌, length, take, sym, ◌∙◌, ap, arith}, Math.Seq.{take-append-add}, lemmas.List.{length-take-le, take-take}}
 
 -- a front of a piece stands where the piece was put
 pub front_put : (at n : ℕ) (old new piece : List ℕ) → at ≤ length old → n ≤ length piece → take (at + length piece) new ≡ take at old ++ piece → take (at + n) new ≡ take at old ++ take n piece

@@ -1,10 +1,7 @@
 -- Hexadecimal digits, the last one first.
 use Rattle.std.proofs.Common.{◌≡◌, ℕ, zero, suc, ◌+◌, ◌-◌, ◌*◌, ◌/◌, ◌%◌, ◌^◌, ◌<◌, ◌≤◌, false, cond, eqb, List, ◌∷◌, length, take, take_all, drop, set, sym, ◌∙◌, ap, subst, arith, add-one, pow-suc, div-lt_iff_lt-mul}
 use Rattle.std.specs.Fmt.{digits_onto, digit_glyph}
-use Rattle.std.proofs.lemmas.Bool.{ne_eqb}
-use Rattle.std.proofs.lemmas.List.{drop-set, length-drop, drop-take, take-take, length-take-le}
-use Rattle.std.proofs.Math.ListN.{length-set}
-use Rattle.std.proofs.Math.Seq.{take-set-lt}
+use Rattle.std.proofs.{lemmas.{Bool.{ne_eqb}, List.{drop-set, length-drop, drop-take, take-take, length-take-le}}, Math.{ListN.{length-set}, Seq.{take-set-lt}}}
 
 -- a digit is parted off
 pub digit_more : (k n : ℕ) (acc : List ℕ) → 16 ≤ n → digits_onto (suc k) 16 false n acc ≡ digits_onto k 16 false (n / 16) (digit_glyph false (n % 16) ∷ acc)

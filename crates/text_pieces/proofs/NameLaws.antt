@@ -1,12 +1,7 @@
 -- Names: which bytes they have, and that no two of a list are the same.
 use Rattle.std.proofs.Common.{◌≡◌, ℕ, ◌<◌, ◌≤◌, Bool, true, false, ◌||◌, not, eqb, leb, List, [], ◌∷◌, map, length, get_or, refl, sym, ◌∙◌, ap, inl, inr, arith}
-use Rattle.std.specs.List.{IsDistinct, list_all}
-use Rattle.std.specs.Str.{bytes_eq}
-use Rattle.std.proofs.Math.ListN.{get_or-map}
-use Rattle.std.proofs.lemmas.Bool.{and_parts, cases_order, true≢false}
-use Rattle.std.proofs.lemmas.List.{length-map}
-use Rattle.std.proofs.lemmas.Map.Keys.{apart_from_distinct}
-use Rattle.std.proofs.lemmas.Slice.Eq.{bytes_eq-Decides}
+use Rattle.std.specs.{List.{IsDistinct, list_all}, Str.{bytes_eq}}
+use Rattle.std.proofs.{Math.ListN.{get_or-map}, lemmas.{Bool.{and_parts, cases_order, true≢false}, List.{length-map}, Map.Keys.{apart_from_distinct}, Slice.Eq.{bytes_eq-Decides}}}
 use borrow.Author.Tests.{eqb-true, leb-true}
 use Rattle.osek_values.specs.Names.{is_letter, is_digit, is_name_byte, is_word, is_name}
 

@@ -1,7 +1,6 @@
 //! Pieces of text. Each call puts its piece at a place of a buffer and answers the place behind it; what stood before
 //! the place stays, and what stands behind the piece has no meaning. No call takes memory.
-ghost use Rattle.std.specs.Prelude.{◌≡◌, ◌+◌, ◌<◌, ◌≤◌, false, [], ◌∷◌, ◌++◌, length, take, decimal};
-ghost use Rattle.std.specs.Fmt.{digit_glyph};
+ghost use Rattle.std.specs.{Prelude.{◌≡◌, ◌+◌, ◌<◌, ◌≤◌, false, [], ◌∷◌, ◌++◌, length, take, decimal}, Fmt.{digit_glyph}};
 ghost use Rattle.osek_values.specs.Numbers.{hexadecimal};
 
 use osek_values::Name;

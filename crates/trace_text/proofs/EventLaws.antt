@@ -1,22 +1,13 @@
 -- Which words are read as which event.
 use Rattle.std.proofs.Common.{◌≡◌, ℕ, ◌<◌, Bool, true, false, cond, ltb, List, [], ◌∷◌, map, length, get_or, Option, Some, None, Ok, Err, Result, refl, sym, ◌∙◌, ap, subst, arith}
-use Rattle.std.specs.Prelude.{codes}
-use Rattle.std.specs.List.{IsDistinct, position}
-use Rattle.std.specs.Str.{bytes_eq}
-use Rattle.std.proofs.lemmas.Bool.{lt-ltb, le-ltb}
-use Rattle.std.proofs.lemmas.List.Sums.{position_or_len_is}
-use Rattle.std.proofs.lemmas.List.Quantifiers.{position-Some}
-use Rattle.std.proofs.lemmas.Slice.Eq.{bytes_eq-Decides}
+use Rattle.std.specs.{Prelude.{codes}, List.{IsDistinct, position}, Str.{bytes_eq}}
+use Rattle.std.proofs.lemmas.{Bool.{lt-ltb, le-ltb}, List.{Sums.{position_or_len_is}, Quantifiers.{position-Some}}, Slice.Eq.{bytes_eq-Decides}}
 use borrow.Author.Tests.{ltb-false}
-use Rattle.osek_values.specs.declared.event.{Event.{Event}, Event.TheVariants.{Run, Irq, Tick}}
-use Rattle.osek_values.specs.Numbers.{isr_no, counter_no}
-use Rattle.osek_standard.specs.declared.app.App.{App}
-use Rattle.osek_standard.specs.declared.objects.{Isr.{Isr}, Counter.{Counter}}
-use Rattle.osek_standard.specs.Apps.{the_isr, the_counter, no_isr, no_counter, IsDeclared}
+use Rattle.osek_values.specs.{declared.event.Event.{Event, TheVariants.{Run, Irq, Tick}}, Numbers.{isr_no, counter_no}}
+use Rattle.osek_standard.specs.{declared.{app.App.{App}, objects.{Isr.{Isr}, Counter.{Counter}}}, Apps.{the_isr, the_counter, no_isr, no_counter, IsDeclared}}
 use Rattle.text_pieces.proofs.NameLaws.{apart}
-use Rattle.trace_text.specs.declared.fault.{EventFault.{EventFault}, EventFault.TheVariants.{E1, E3}}
-use Rattle.trace_text.specs.EventWords.{is_comment, run_by, of_source, isr_named, counter_named, said_with, said, read_line, words}
-use Rattle.trace_text.specs.EventGrammar.{event_words, Says, HasWords}
+use Rattle.trace_text.specs.declared.fault.EventFault.{EventFault, TheVariants.{E1, E3}}
+use Rattle.trace_text.specs.{EventWords.{is_comment, run_by, of_source, isr_named, counter_named, said_with, said, read_line, words}, EventGrammar.{event_words, Says, HasWords}}
 use Rattle.trace_text.proofs.GrammarLaws.{words_hold, no_other_words}
 
 abbrev Answer : Type 0

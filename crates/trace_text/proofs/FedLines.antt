@@ -1,16 +1,11 @@
 -- The lines that come out of a feed are the same for every cut of its text, also behind one that is too long.
 use Rattle.std.proofs.Common.{◌≡◌, ℕ, zero, suc, ◌+◌, ◌<◌, ◌≤◌, Bool, true, false, cond, ◌&&◌, ltb, List, [], ◌∷◌, ◌++◌, length, take, drop, Option, Some, None, refl, sym, ◌∙◌, ap, subst, arith}
-use Rattle.std.specs.List.{position}
-use Rattle.std.specs.Str.Lines.{strip_carriage_return}
-use Rattle.std.proofs.lemmas.Bool.{lt-ltb, ltb-true}
-use Rattle.std.proofs.lemmas.List.{append-nil, drop-append-le, length-append, length-take, get_or-take, take-append-le}
-use Rattle.std.proofs.lemmas.List.Quantifiers.{position-Some}
+use Rattle.std.specs.{List.{position}, Str.Lines.{strip_carriage_return}}
+use Rattle.std.proofs.lemmas.{Bool.{lt-ltb, ltb-true}, List.{append-nil, drop-append-le, length-append, length-take, get_or-take, take-append-le, Quantifiers.{position-Some}}}
 use Rattle.trace_text.specs.declared.feed.FeedStep.TheVariants.{Line}
 use Rattle.trace_text.specs.Feeds.{FeedState, no_bytes, taken_count, Peeled, peeled_at, peeled, answer_by, left_by, after_next, ComesOut, gives, finishes, waits, a_line, ends}
-use Rattle.trace_text.proofs.EventLaws.{position_is}
-use Rattle.trace_text.proofs.FeedLaws.{both_true, no_line, given, drops_nothing, stays_finished, stays_ahead, end_is_last, line_shortens}
-use Rattle.trace_text.proofs.FirstLines.{front_place}
-use Rattle.trace_text.proofs.LineLaws.{is_lf}
+use Rattle.trace_text.proofs.{EventLaws.{position_is}, FeedLaws.{both_true, no_line, given, drops_nothing, stays_finished, stays_ahead, end_is_last, line_shortens}}
+use Rattle.trace_text.proofs.{FirstLines.{front_place}, LineLaws.{is_lf}}
 
 -- what is peeled of the bytes ahead is what is peeled of all that is left of the text
 abbrev IsOfAll : (ahead rest : List ℕ) → Option Peeled → Type 0

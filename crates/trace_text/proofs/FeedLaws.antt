@@ -1,18 +1,13 @@
 -- The lines that come out of a feed are those of its text, however it is cut.
 use Rattle.std.proofs.Common.{◌≡◌, ℕ, ◌+◌, ◌-◌, ◌<◌, ◌≤◌, Bool, true, false, cond, ◌&&◌, ltb, min, List, [], ◌∷◌, ◌++◌, length, take, drop, Option, Some, None, Err, Result, refl, sym, ◌∙◌, ap, subst, arith, append_assoc}
 use Rattle.std.specs.List.{position, enumerate_from}
-use Rattle.std.proofs.lemmas.Bool.{lt-ltb, ltb-true, ltb-false}
-use Rattle.std.proofs.lemmas.List.{drop_all, length-drop, length-take, length-take-le, take-append-drop, take-take}
+use Rattle.std.proofs.lemmas.{Bool.{lt-ltb, ltb-true, ltb-false}, List.{drop_all, length-drop, length-take, length-take-le, take-append-drop, take-take}}
 use Rattle.osek_values.specs.declared.event.Event.{Event}
 use Rattle.osek_standard.specs.declared.app.App.{App}
-use Rattle.trace_text.specs.declared.fault.EventFault.{EventFault}
-use Rattle.trace_text.specs.declared.fault.EventFault.TheVariants.{E3}
-use Rattle.trace_text.specs.declared.feed.FeedStep.TheVariants.{Line, End, More}
-use Rattle.trace_text.specs.EventWords.{read_line, said, words}
+use Rattle.trace_text.specs.{declared.{fault.EventFault.{EventFault, TheVariants.{E3}}, feed.FeedStep.TheVariants.{Line, End, More}}, EventWords.{read_line, said, words}}
 use Rattle.trace_text.specs.EventText.{text_lines, with_line, read_lines, nothing_read, numbered_lines}
 use Rattle.trace_text.specs.Feeds.{FeedState, no_bytes, taken_count, after_give, Peeled, peeled_at, peeled, answer_by, next_answer, left_by, after_next, ComesOut, gives, finishes, waits, a_line, ends, lines_to_long}
-use Rattle.trace_text.proofs.FirstLines.{front_place, long_first, short_line, long_line, last_line}
-use Rattle.trace_text.proofs.LineLaws.{is_lf}
+use Rattle.trace_text.proofs.{FirstLines.{front_place, long_first, short_line, long_line, last_line}, LineLaws.{is_lf}}
 
 -- what is known of the text, where this line is peeled, or none
 abbrev IsPeeled : (finished : Bool) (ahead rest : List ℕ) → Option Peeled → Type 0

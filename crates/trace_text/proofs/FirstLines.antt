@@ -1,16 +1,11 @@
 -- The first line of a text, from its first bytes.
 use Rattle.std.proofs.Common.{◌≡◌, ℕ, ◌+◌, ◌<◌, ◌≤◌, Bool, true, false, cond, List, [], ◌∷◌, ◌++◌, length, take, drop, get_or, Option, Some, None, IfSome, refl, sym, ◌∙◌, ap, arith, inl, inr}
-use Rattle.std.specs.List.{position, position_or_len}
-use Rattle.std.specs.Str.Lines.{strip_carriage_return}
+use Rattle.std.specs.{List.{position, position_or_len}, Str.Lines.{strip_carriage_return}}
 use Rattle.std.proofs.lemmas.Bool.{lt-ltb, le-ltb, cases_lt}
 use Rattle.std.proofs.lemmas.List.{append-nil, drop-append-le, get_or-take, get_or_append_left, length-append, length-take, length-take-le, take-append-le, take-take, take_all}
-use Rattle.std.proofs.lemmas.List.Quantifiers.{position-Some}
-use Rattle.std.proofs.lemmas.List.Sums.{fails_before_first}
-use Rattle.trace_text.specs.EventText.{ended_line, text_lines}
-use Rattle.trace_text.specs.Feeds.{lines_to_long}
-use Rattle.trace_text.proofs.EventLaws.{position_is}
-use Rattle.trace_text.proofs.LineLaws.{is_lf, line_before_lf, line_without_lf}
-use Rattle.trace_text.proofs.Parts.{none_found}
+use Rattle.std.proofs.lemmas.List.{Quantifiers.{position-Some}, Sums.{fails_before_first}}
+use Rattle.trace_text.specs.{EventText.{ended_line, text_lines}, Feeds.{lines_to_long}}
+use Rattle.trace_text.proofs.{EventLaws.{position_is}, LineLaws.{is_lf, line_before_lf, line_without_lf}, Parts.{none_found}}
 
 -- an element of a front stands there with more behind it too
 in_front : (w j : ℕ) (xs more : List ℕ) → j < w → j < length xs → get_or (xs ++ more) j 0 ≡ get_or (take w xs) j 0

@@ -2,8 +2,7 @@
 use Rattle.std.proofs.Common.{◌≡◌, ℕ, zero, suc, ◌+◌, ◌<◌, ◌≤◌, Bool, true, false, cond, ◌&&◌, not, List, [], ◌∷◌, ◌++◌, length, take, take_all, drop, Option, Some, None, refl, sym, ◌∙◌, ap, subst, arith, one-add}
 use Rattle.std.specs.List.{list_all, position, position_or_len}
 use Rattle.std.proofs.lemmas.List.{take-append-drop, length-drop}
-use Rattle.trace_text.specs.EventWords.{is_blank, is_some_word, words}
-use Rattle.trace_text.specs.EventGrammar.{ends_word, BeginsWith, HasWords}
+use Rattle.trace_text.specs.{EventWords.{is_blank, is_some_word, words}, EventGrammar.{ends_word, BeginsWith, HasWords}}
 use Rattle.trace_text.proofs.Parts.{place_found, place_below, none_found, whole_tail}
 use Rattle.trace_text.proofs.WordLaws.{is_visible, no_word, first_word, word_ends, skip, skip_is, skip_visible, one_more}
 

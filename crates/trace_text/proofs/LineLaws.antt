@@ -1,8 +1,7 @@
 -- The lines of a text, the first one and the rest.
 use Rattle.std.proofs.Common.{◌≡◌, ℕ, ◌+◌, ◌<◌, Bool, ◌==◌, List, [], ◌∷◌, length, take, drop, Some, None, refl, ◌∙◌, ap, arith, take_all}
 use Rattle.std.specs.List.{slice_split, position, position_or_len}
-use Rattle.std.proofs.lemmas.List.{drop_all}
-use Rattle.std.proofs.lemmas.List.Splits.{slice_split_first}
+use Rattle.std.proofs.lemmas.List.{drop_all, Splits.{slice_split_first}}
 use Rattle.trace_text.specs.EventText.{ended_line, lines_in, text_lines}
 use Rattle.trace_text.proofs.Parts.{split_ahead, parts_behind, place_found, place_below, none_found}
 

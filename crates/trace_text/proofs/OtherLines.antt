@@ -1,14 +1,11 @@
 -- Which lines are faulty for the source that they name, and which say nothing.
 use Rattle.std.proofs.Common.{◌≡◌, ℕ, ◌≤◌, Bool, true, false, cond, ltb, List, [], ◌∷◌, length, Option, Some, None, Ok, Err, Result, refl, ◌∙◌, ap, inl, inr}
-use Rattle.std.specs.Prelude.{codes}
-use Rattle.std.specs.Str.{bytes_eq}
+use Rattle.std.specs.{Prelude.{codes}, Str.{bytes_eq}}
 use Rattle.std.proofs.lemmas.Bool.{le-ltb, ltb-false}
-use Rattle.osek_values.specs.declared.event.{Event.{Event}, Event.TheVariants.{Run, Irq, Tick}}
-use Rattle.osek_values.specs.Numbers.{isr_no, counter_no}
+use Rattle.osek_values.specs.{declared.event.Event.{Event, TheVariants.{Run, Irq, Tick}}, Numbers.{isr_no, counter_no}}
 use Rattle.osek_standard.specs.declared.app.App.{App}
-use Rattle.trace_text.specs.declared.fault.{EventFault.{EventFault}, EventFault.TheVariants.{E1, E2, E3}}
-use Rattle.trace_text.specs.EventWords.{is_comment, run_by, of_source, isr_named, counter_named, said_with, said, read_line, words}
-use Rattle.trace_text.specs.EventGrammar.{NamesNone, SayNothing}
+use Rattle.trace_text.specs.declared.fault.EventFault.{EventFault, TheVariants.{E1, E2, E3}}
+use Rattle.trace_text.specs.{EventWords.{is_comment, run_by, of_source, isr_named, counter_named, said_with, said, read_line, words}, EventGrammar.{NamesNone, SayNothing}}
 use Rattle.trace_text.proofs.EventLaws.{same_bytes}
 
 abbrev Answer : Type 0

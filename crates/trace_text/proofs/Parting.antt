@@ -1,10 +1,7 @@
 -- A text is parted at a byte that what stands before it lacks.
 use Rattle.std.proofs.Common.{◌≡◌, ℕ, ◌+◌, ◌<◌, ◌^◌, ◌%◌, true, false, ◌&&◌, not, eqb, List, [], ◌∷◌, ◌++◌, refl, sym, ◌∙◌, ap, arith, get_or}
-use Rattle.std.specs.Fmt.{decimal}
-use Rattle.std.specs.List.{list_all}
-use Rattle.std.proofs.lemmas.Bool.{and_parts, eq-eqb, ne_eqb, true≢false}
-use Rattle.std.proofs.lemmas.Fmt.{decimal_by_steps}
-use Rattle.std.proofs.lemmas.List.Folds.{list_all-append}
+use Rattle.std.specs.{Fmt.{decimal}, List.{list_all}}
+use Rattle.std.proofs.lemmas.{Bool.{and_parts, eq-eqb, ne_eqb, true≢false}, Fmt.{decimal_by_steps}, List.Folds.{list_all-append}}
 
 -- no byte of the text is c
 abbrev pub Lacks : ℕ → List ℕ → Type 0

@@ -1,17 +1,11 @@
 -- A line that spells a declared source with no blank more than it needs says its event.
 use Rattle.std.proofs.Common.{◌≡◌, ℕ, List, ◌++◌, Ok, Some, subst}
-use Rattle.std.specs.Prelude.{codes}
-use Rattle.std.specs.Str.{bytes_eq}
+use Rattle.std.specs.{Prelude.{codes}, Str.{bytes_eq}}
 use Rattle.std.proofs.lemmas.List.Quantifiers.{position-Some}
-use Rattle.osek_values.specs.declared.event.Event.TheVariants.{Irq, Tick}
-use Rattle.osek_values.specs.Numbers.{isr_no, counter_no}
-use Rattle.osek_standard.specs.declared.app.App.{App}
-use Rattle.osek_standard.specs.declared.objects.{Isr.{Isr}, Counter.{Counter}}
-use Rattle.osek_standard.specs.Apps.{the_isr, the_counter, no_isr, no_counter}
-use Rattle.trace_text.specs.EventWords.{isr_named, counter_named, read_line}
-use Rattle.trace_text.specs.EventGrammar.{event_line}
-use Rattle.trace_text.proofs.EventLaws.{read_as_said, same_bytes}
-use Rattle.trace_text.proofs.TextLaws.{says}
+use Rattle.osek_values.specs.{declared.event.Event.TheVariants.{Irq, Tick}, Numbers.{isr_no, counter_no}}
+use Rattle.osek_standard.specs.{declared.{app.App.{App}, objects.{Isr.{Isr}, Counter.{Counter}}}, Apps.{the_isr, the_counter, no_isr, no_counter}}
+use Rattle.trace_text.specs.{EventWords.{isr_named, counter_named, read_line}, EventGrammar.{event_line}}
+use Rattle.trace_text.proofs.{EventLaws.{read_as_said, same_bytes}, TextLaws.{says}}
 
 pub irq_line : (app : App) (name : List ℕ) (k : ℕ) → isr_named app name ≡ Some k → read_line app (codes "irq " ++ name) ≡ Ok (Some (Irq (isr_no k)))
 irq_line app name k e =

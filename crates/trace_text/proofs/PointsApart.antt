@@ -1,19 +1,11 @@
 -- A point has a text of its own.
 use Rattle.std.proofs.Common.{◌≡◌, ℕ, ◌<◌, ◌^◌, true, List, [], ◌++◌, map, length, refl, sym, ◌∙◌, ap, subst, arith, append_assoc, Option, Some, None}
-use Rattle.std.specs.Prelude.{codes, IfSome}
-use Rattle.std.specs.Fmt.{decimal}
-use Rattle.std.proofs.Math.ListN.{get_or-map}
-use Rattle.std.proofs.lemmas.Bool.{true≢false}
-use Rattle.std.proofs.lemmas.Fmt.{decimal_injective}
-use Rattle.std.proofs.lemmas.List.{append_cancel_left, length-map}
-use Rattle.osek_values.specs.Names.{is_name}
-use Rattle.osek_values.specs.Numbers.{task_no, block_no}
-use Rattle.osek_values.specs.declared.numbers.{BlockNo.{BlockNo}, TaskNo.{TaskNo}}
+use Rattle.std.specs.{Prelude.{codes, IfSome}, Fmt.{decimal}}
+use Rattle.std.proofs.{Math.ListN.{get_or-map}, lemmas.{Bool.{true≢false}, Fmt.{decimal_injective}, List.{append_cancel_left, length-map}}}
+use Rattle.osek_values.specs.{Names.{is_name}, Numbers.{task_no, block_no}, declared.numbers.{BlockNo.{BlockNo}, TaskNo.{TaskNo}}}
 use Rattle.osek_standard.specs.declared.{app.App.{App}, objects.Task.{Task}, point.Point.{Point}}
 use Rattle.osek_standard.specs.declared.point.Point.TheVariants as point
-use Rattle.osek_standard.specs.Apps.{no_task}
-use Rattle.osek_standard.specs.Points.{IsPoint, IsTaskBlock, IsRoutineBlock}
-use Rattle.osek_standard.specs.TraceText.{task_name}
+use Rattle.osek_standard.specs.{Apps.{no_task}, Points.{IsPoint, IsTaskBlock, IsRoutineBlock}, TraceText.{task_name}}
 use Rattle.osek_standard.proofs.WellLaws.{own_known, routine_known}
 use Rattle.text_pieces.proofs.NameLaws.{lacks, name_is, name_once}
 use Rattle.trace_text.specs.PointTexts.{block_text, point_text, task_or_dash}

@@ -1,17 +1,11 @@
 -- What lines show of the tasks, and their text.
 use Rattle.std.proofs.Common.{◌≡◌, ℕ, ◌==◌, Bool, true, false, List, [], ◌∷◌, ◌++◌, map, codes, if◌then◌else◌, refl, sym, ◌∙◌, ap}
 use Rattle.std.specs.List.{flat_map, enumerate_from}
-use Rattle.osek_values.specs.declared.status.{Letter.{Letter}, Letter.TheVariants.{S, Y, R, W}}
-use Rattle.osek_values.specs.Numbers.{hexadecimal}
-use Rattle.osek_standard.specs.declared.app.App.{App}
-use Rattle.osek_standard.specs.declared.objects.Task.{Task}
-use Rattle.osek_standard.specs.declared.state.{State.{State}, Processor.{Processor}}
-use Rattle.osek_standard.specs.declared.task_state.{Activity.{Activity}, Activity.TheVariants.{Suspended, Live, Waiting}}
-use Rattle.osek_standard.specs.TaskStates.{is_suspended_activity}
-use Rattle.osek_standard.specs.States.{task_state, letter_in, is_that_task, task_of}
-use Rattle.osek_standard.specs.TraceText.{letter, resource_text, task_text}
-use Rattle.trace_text.specs.declared.shown.Shown.{Shown}
-use Rattle.trace_text.specs.LineParts.{shown_of, all_shown, tasks_text}
+use Rattle.osek_values.specs.{declared.status.Letter.{Letter, TheVariants.{S, Y, R, W}}, Numbers.{hexadecimal}}
+use Rattle.osek_standard.specs.declared.{app.App.{App}, objects.Task.{Task}, state.{State.{State}, Processor.{Processor}}}
+use Rattle.osek_standard.specs.{declared.task_state.Activity.{Activity, TheVariants.{Suspended, Live, Waiting}}, TaskStates.{is_suspended_activity}}
+use Rattle.osek_standard.specs.{States.{task_state, letter_in, is_that_task, task_of}, TraceText.{letter, resource_text, task_text}}
+use Rattle.trace_text.specs.{declared.shown.Shown.{Shown}, LineParts.{shown_of, all_shown, tasks_text}}
 
 abbrev is_s : Letter → Bool
 is_s S = true

@@ -1,27 +1,15 @@
 -- A text of events reads back as these events.
 use Rattle.std.proofs.Common.{◌≡◌, ℕ, ◌+◌, ◌-◌, ◌<◌, ◌≤◌, Bool, true, false, cond, ◌||◌, not, eqb, ltb, List, [], ◌∷◌, ◌++◌, map, length, take, get_or, Some, None, Ok, refl, sym, ◌∙◌, ap, subst, arith, append_assoc}
-use Rattle.std.specs.Prelude.{codes}
-use Rattle.std.specs.List.{All, list_all, slice_split, enumerate_from}
-use Rattle.std.specs.Str.Lines.{strip_carriage_return}
-use Rattle.std.proofs.lemmas.Bool.{le-ltb, not-true}
-use Rattle.std.proofs.lemmas.List.{length-map, append-nil}
-use Rattle.std.proofs.Math.ListN.{get_or-map}
-use Rattle.std.proofs.lemmas.List.Elements.{All-head, All-tail, All-weaker}
-use Rattle.std.proofs.lemmas.List.Sums.{AllPass-from_list_all}
-use Rattle.std.proofs.lemmas.List.Splits.{slice_split_at}
-use Rattle.osek_values.specs.declared.event.{Event.{Event}, Event.TheVariants.{Run, Irq, Tick}}
-use Rattle.osek_values.specs.Names.{is_name_byte, is_name}
-use Rattle.osek_standard.specs.declared.app.App.{App}
-use Rattle.osek_standard.specs.declared.objects.{Isr.{Isr}, Counter.{Counter}}
-use Rattle.osek_standard.specs.Apps.{the_isr, the_counter, no_isr, no_counter, IsDeclared}
+use Rattle.std.specs.{Prelude.{codes}, List.{All, list_all, slice_split, enumerate_from}, Str.Lines.{strip_carriage_return}}
+use Rattle.std.proofs.{lemmas.{Bool.{le-ltb, not-true}, List.{length-map, append-nil, Elements.{All-head, All-tail, All-weaker}}}, Math.ListN.{get_or-map}}
+use Rattle.std.proofs.lemmas.List.{Sums.{AllPass-from_list_all}, Splits.{slice_split_at}}
+use Rattle.osek_values.specs.{declared.event.Event.{Event, TheVariants.{Run, Irq, Tick}}, Names.{is_name_byte, is_name}}
+use Rattle.osek_standard.specs.{declared.{app.App.{App}, objects.{Isr.{Isr}, Counter.{Counter}}}, Apps.{the_isr, the_counter, no_isr, no_counter, IsDeclared}}
 use Rattle.text_pieces.proofs.NameLaws.{byte_lacks, lacks, Name, name_is}
-use Rattle.trace_text.specs.EventWords.{is_blank, is_some_word}
-use Rattle.trace_text.specs.declared.fault.EventFault.TheVariants.{E4}
+use Rattle.trace_text.specs.{EventWords.{is_blank, is_some_word}, declared.fault.EventFault.TheVariants.{E4}}
 use Rattle.trace_text.specs.EventText.{Reading, ended_line, lines_in, text_lines, with_line, read_lines, fault_at, numbered_lines, read_text}
 use Rattle.trace_text.specs.EventGrammar.{HasWords, Says, event_line, event_text}
-use Rattle.trace_text.proofs.LineLaws.{is_lf, ended_first, some_parts}
-use Rattle.trace_text.proofs.EventLaws.{read_as_said}
-use Rattle.trace_text.proofs.GrammarLaws.{both}
+use Rattle.trace_text.proofs.{LineLaws.{is_lf, ended_first, some_parts}, EventLaws.{read_as_said}, GrammarLaws.{both}}
 
 no_blank_by : (a b : Bool) → not a ≡ true → not b ≡ true → not (a || b) ≡ true
 no_blank_by true b h k = absurd (cc)

@@ -2,8 +2,7 @@
 use Rattle.std.proofs.Common.{◌≡◌, ℕ, suc, ◌-◌, Some, None, ◌+◌, ◌<◌, Bool, true, false, cond, not, List, [], ◌∷◌, length, take, drop, refl, sym, ◌∙◌, ap, subst, arith, one-add}
 use Rattle.std.specs.List.{slice_split, onto_first, position, position_or_len, filter}
 use Rattle.std.proofs.lemmas.List.{drop_all, length-drop}
-use Rattle.trace_text.specs.EventWords.{is_blank, is_some_word, words}
-use Rattle.trace_text.specs.EventGrammar.{ends_word}
+use Rattle.trace_text.specs.{EventWords.{is_blank, is_some_word, words}, EventGrammar.{ends_word}}
 use Rattle.trace_text.proofs.Parts.{split_ahead, parts_behind, place_found, place_below, none_found, whole_tail}
 
 abbrev pub is_visible : ℕ → Bool

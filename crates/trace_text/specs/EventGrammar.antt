@@ -1,10 +1,7 @@
 -- The grammar of event lines: which words a line has, which words an event has, and the text of a list of events.
-use Rattle.std.specs.Prelude.{◌≡◌, ◌⊎◌, ⊤, ℕ, ◌≤◌, Bool, true, false, not, List, [], ◌∷◌, ◌++◌, length, IsTrue, codes, None}
-use Rattle.std.specs.List.{list_all, flat_map}
-use Rattle.osek_values.specs.declared.limits.TheConstants.{MAX_EVENT_LINE}
-use Rattle.osek_values.specs.declared.event.{Event.{Event}, Event.TheVariants.{Run, Irq, Tick}}
-use Rattle.osek_standard.specs.declared.app.App.{App}
-use Rattle.osek_standard.specs.Apps.{the_isr, the_counter, IsDeclared}
+use Rattle.std.specs.{Prelude.{◌≡◌, ◌⊎◌, ⊤, ℕ, ◌≤◌, Bool, true, false, not, List, [], ◌∷◌, ◌++◌, length, IsTrue, codes, None}, List.{list_all, flat_map}}
+use Rattle.osek_values.specs.declared.{limits.TheConstants.{MAX_EVENT_LINE}, event.Event.{Event, TheVariants.{Run, Irq, Tick}}}
+use Rattle.osek_standard.specs.{declared.app.App.{App}, Apps.{the_isr, the_counter, IsDeclared}}
 use Rattle.trace_text.specs.EventWords.{is_blank, is_some_word, is_comment, isr_named, counter_named}
 
 -- nothing, or a blank

@@ -1,14 +1,9 @@
 -- The lines of an event text, and what it says up to its first fault (this project's profile).
-use Rattle.std.specs.Prelude.{ℕ, ◌==◌, nat_lt, List, [], ◌∷◌, length, if◌then◌else◌, Some, None, Ok, Err}
-use Rattle.std.specs.List.{slice_split, enumerate_from}
-use Rattle.std.specs.Str.Lines.{strip_carriage_return}
-use Rattle.std.specs.declared.option.Option.{Option}
-use Rattle.std.specs.declared.result.Result.{Result}
-use Rattle.osek_values.specs.declared.limits.TheConstants.{MAX_EVENT_LINE, MAX_EVENT_TEXT}
-use Rattle.osek_values.specs.declared.event.Event.{Event}
+use Rattle.std.specs.{Prelude.{ℕ, ◌==◌, nat_lt, List, [], ◌∷◌, length, if◌then◌else◌, Some, None, Ok, Err}, List.{slice_split, enumerate_from}, Str.Lines.{strip_carriage_return}}
+use Rattle.std.specs.declared.{option.Option.{Option}, result.Result.{Result}}
+use Rattle.osek_values.specs.declared.{limits.TheConstants.{MAX_EVENT_LINE, MAX_EVENT_TEXT}, event.Event.{Event}}
 use Rattle.osek_standard.specs.declared.app.App.{App}
-use Rattle.trace_text.specs.declared.fault.{EventFault.{EventFault}, EventFault.TheVariants.{E4}, FaultyLine.{FaultyLine}}
-use Rattle.trace_text.specs.EventWords.{read_line}
+use Rattle.trace_text.specs.{declared.fault.{EventFault.{EventFault, TheVariants.{E4}}, FaultyLine.{FaultyLine}}, EventWords.{read_line}}
 
 -- A CR right before an LF is dropped. It counts for the bytes of its line, so a line that is longer with it stays as it is.
 abbrev pub ended_line : List ℕ → List ℕ

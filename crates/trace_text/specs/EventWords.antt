@@ -1,15 +1,9 @@
 -- What one line of an event text says: `run 0`, `run 1`, `irq ISR` or `tick COUNTER` (this project's profile).
-use Rattle.std.specs.Prelude.{ℕ, ◌==◌, ◌||◌, nat_lt, Bool, true, false, List, [], ◌∷◌, length, filter, if◌then◌else◌, codes, Some, None, Ok, Err}
-use Rattle.std.specs.List.{slice_split, position}
-use Rattle.std.specs.Str.{bytes_eq}
-use Rattle.std.specs.declared.option.Option.{Option}
-use Rattle.std.specs.declared.result.Result.{Result}
-use Rattle.osek_values.specs.declared.limits.TheConstants.{MAX_EVENT_LINE}
-use Rattle.osek_values.specs.declared.event.{Event.{Event}, Event.TheVariants.{Run, Irq, Tick}}
-use Rattle.osek_values.specs.Numbers.{isr_no, counter_no}
-use Rattle.osek_standard.specs.declared.app.App.{App}
-use Rattle.osek_standard.specs.declared.objects.{Isr.{Isr}, Counter.{Counter}}
-use Rattle.trace_text.specs.declared.fault.{EventFault.{EventFault}, EventFault.TheVariants.{E1, E2, E3}}
+use Rattle.std.specs.{Prelude.{ℕ, ◌==◌, ◌||◌, nat_lt, Bool, true, false, List, [], ◌∷◌, length, filter, if◌then◌else◌, codes, Some, None, Ok, Err}, List.{slice_split, position}}
+use Rattle.std.specs.{Str.{bytes_eq}, declared.{option.Option.{Option}, result.Result.{Result}}}
+use Rattle.osek_values.specs.{declared.{limits.TheConstants.{MAX_EVENT_LINE}, event.Event.{Event, TheVariants.{Run, Irq, Tick}}}, Numbers.{isr_no, counter_no}}
+use Rattle.osek_standard.specs.declared.{app.App.{App}, objects.{Isr.{Isr}, Counter.{Counter}}}
+use Rattle.trace_text.specs.declared.fault.EventFault.{EventFault, TheVariants.{E1, E2, E3}}
 
 -- a space or a tab
 abbrev pub is_blank : ℕ → Bool

@@ -1,9 +1,8 @@
 -- An event text that comes in pieces: what a feed holds of it, and the lines that come out (this project's profile).
 use Rattle.std.specs.Prelude.{◌≡◌, ℕ, ◌+◌, ◌-◌, ◌==◌, ◌&&◌, min, nat_lt, Bool, true, false, List, [], ◌∷◌, ◌++◌, length, take, drop, if◌then◌else◌, Option, Some, None}
-use Rattle.std.specs.List.{position}
-use Rattle.std.specs.Str.Lines.{strip_carriage_return}
+use Rattle.std.specs.{List.{position}, Str.Lines.{strip_carriage_return}}
 use Rattle.osek_values.specs.declared.limits.TheConstants.{MAX_EVENT_LINE}
-use Rattle.trace_text.specs.declared.feed.{FeedStep.{FeedStep}, FeedStep.TheVariants.{Line, End, More}, TheConstants.{FEED_ROOM}}
+use Rattle.trace_text.specs.declared.feed.{FeedStep.{FeedStep, TheVariants.{Line, End, More}}, TheConstants.{FEED_ROOM}}
 
 -- the bytes that came and are ahead, whether none comes behind them, and the line that came out last
 pub record FeedState : Type 0 where

@@ -1,8 +1,7 @@
 -- The texts that stand in many lines of a trace of an application, each a mark and a name.
 use Rattle.std.specs.Prelude.{ℕ, List, ◌++◌, map, codes}
 use Rattle.oil_system.specs.declared.objects.Resource.{Resource}
-use Rattle.osek_standard.specs.declared.app.App.{App}
-use Rattle.osek_standard.specs.declared.objects.{Task.{Task}, Isr.{Isr}, Counter.{Counter}}
+use Rattle.osek_standard.specs.declared.{app.App.{App}, objects.{Task.{Task}, Isr.{Isr}, Counter.{Counter}}}
 
 -- of the tasks, of the sources, which are the counters and then the ISRs, and of the resources
 pub record LabelTexts : Type 0 where

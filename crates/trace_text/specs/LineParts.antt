@@ -1,13 +1,7 @@
 -- What the lines of a trace are put by: labels, and the text of the tasks as they were shown last.
-use Rattle.std.specs.Prelude.{◌≡◌, ℕ, List, map}
-use Rattle.std.specs.List.{flat_map, enumerate_from}
-use Rattle.osek_standard.specs.declared.app.App.{App}
-use Rattle.osek_standard.specs.declared.state.State.{State}
-use Rattle.osek_standard.specs.TaskStates.{held}
-use Rattle.osek_standard.specs.States.{task_state, letter_of}
-use Rattle.osek_standard.specs.TraceText.{task_text}
-use Rattle.trace_text.specs.declared.shown.Shown.{Shown}
-use Rattle.trace_text.specs.Labels.{LabelTexts, label_texts}
+use Rattle.std.specs.{Prelude.{◌≡◌, ℕ, List, map}, List.{flat_map, enumerate_from}}
+use Rattle.osek_standard.specs.{declared.{app.App.{App}, state.State.{State}}, TaskStates.{held}, States.{task_state, letter_of}, TraceText.{task_text}}
+use Rattle.trace_text.specs.{declared.shown.Shown.{Shown}, Labels.{LabelTexts, label_texts}}
 
 -- what a line shows of a task
 abbrev pub shown_of : State → ℕ → Shown

@@ -1,6 +1,5 @@
 //! What one line of an event text says.
-ghost use Rattle.std.specs.Prelude.{◌≡◌, [], ◌∷◌, ◌++◌, codes, not, IfSome, MatchOption, Ok, Some};
-ghost use Rattle.std.specs.List.{position, position_or_len};
+ghost use Rattle.std.specs.{Prelude.{◌≡◌, [], ◌∷◌, ◌++◌, codes, not, IfSome, MatchOption, Ok, Some}, List.{position, position_or_len}};
 ghost use Rattle.trace_text.specs.EventWords.{is_blank as is_a_blank, is_comment as is_a_comment, words, run_by, isr_named, counter_named, said_by, said, read_line};
 
 use crate::fault::EventFault;

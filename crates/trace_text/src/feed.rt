@@ -1,6 +1,5 @@
 //! The lines of an event text that comes in pieces.
-ghost use Rattle.std.specs.Prelude.{◌≡◌, ◌≤◌, ◌+◌, ◌==◌, ◌<◌, length, take, drop, vec_len, vec_capacity, IfOk, IfSome, option_map};
-ghost use Rattle.std.specs.List.{position};
+ghost use Rattle.std.specs.{Prelude.{◌≡◌, ◌≤◌, ◌+◌, ◌==◌, ◌<◌, length, take, drop, vec_len, vec_capacity, IfOk, IfSome, option_map}, List.{position}};
 ghost use Rattle.std.specs.Str.Lines.{strip_carriage_return};
 ghost use Rattle.trace_text.specs.Feeds.{peeled};
 
@@ -43,8 +42,7 @@ pub struct Feed {
 
 impl Model for Feed {
     ghost use Rattle.std.specs.Prelude.{◌≤◌, ◌-◌, take, drop, vec_capacity, vec_len};
-    ghost use Rattle.trace_text.specs.Feeds.{FeedState};
-    ghost use Rattle.trace_text.specs.declared.feed.TheConstants.{FEED_ROOM};
+    ghost use Rattle.trace_text.specs.{Feeds.{FeedState}, declared.feed.TheConstants.{FEED_ROOM}};
 
     ghost Value = { FeedState };
 

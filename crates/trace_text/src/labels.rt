@@ -1,7 +1,6 @@
 //! The texts that stand in many lines of a trace, prepared once.
 ghost use Rattle.std.specs.Prelude.{◌≡◌, ◌+◌, ◌<◌, ◌≤◌, ◌++◌, length, map, codes};
-ghost use Rattle.osek_standard.specs.Apps.{the_task, the_resource, source_count};
-ghost use Rattle.osek_standard.specs.TraceText.{source_text, resource_text};
+ghost use Rattle.osek_standard.specs.{Apps.{the_task, the_resource, source_count}, TraceText.{source_text, resource_text}};
 ghost use Rattle.trace_text.specs.Labels.{task_label, counter_label, isr_label, resource_label, label_texts};
 
 use arrayvec::ArrayVec;

@@ -1,19 +1,10 @@
 //! Laws of event texts, and of the texts of points.
-ghost use Rattle.std.specs.Prelude.{◌≡◌, ℕ, ◌≤◌, ◌↔◌, true, false, List, [], ◌∷◌, ◌++◌, length, All, Some, None, Ok, Err};
-ghost use Rattle.std.specs.List.{enumerate_from};
-ghost use Rattle.osek_values.specs.declared.limits.TheConstants.{MAX_EVENT_LINE, MAX_EVENT_TEXT};
-ghost use Rattle.osek_values.specs.declared.event.Event.{Event};
-ghost use Rattle.osek_standard.specs.declared.app.App.{App};
-ghost use Rattle.osek_standard.specs.declared.point.Point.{Point};
-ghost use Rattle.osek_standard.specs.Apps.{IsDeclared};
-ghost use Rattle.osek_standard.specs.Points.{IsPoint};
-ghost use Rattle.trace_text.specs.declared.fault.EventFault.TheVariants.{E2};
-ghost use Rattle.trace_text.specs.EventWords.{words, read_line};
-ghost use Rattle.trace_text.specs.declared.feed.FeedStep.TheVariants.{Line, End, More};
-ghost use Rattle.trace_text.specs.EventText.{text_lines, numbered_lines, read_lines, read_text};
-ghost use Rattle.trace_text.specs.Feeds.{FeedState, no_bytes, next_answer, after_next, ComesOut, lines_to_long};
-ghost use Rattle.trace_text.specs.EventGrammar.{HasWords, NamesNone, SayNothing, Says, event_text};
-ghost use Rattle.trace_text.specs.PointTexts.{point_text};
+ghost use Rattle.std.specs.{Prelude.{◌≡◌, ℕ, ◌≤◌, ◌↔◌, true, false, List, [], ◌∷◌, ◌++◌, length, All, Some, None, Ok, Err}, List.{enumerate_from}};
+ghost use Rattle.osek_values.specs.declared.{limits.TheConstants.{MAX_EVENT_LINE, MAX_EVENT_TEXT}, event.Event.{Event}};
+ghost use Rattle.osek_standard.specs.{declared.{app.App.{App}, point.Point.{Point}}, Apps.{IsDeclared}, Points.{IsPoint}};
+ghost use Rattle.trace_text.specs.{declared.{fault.EventFault.TheVariants.{E2}, feed.FeedStep.TheVariants.{Line, End, More}}, EventWords.{words, read_line}};
+ghost use Rattle.trace_text.specs.{EventText.{text_lines, numbered_lines, read_lines, read_text}, Feeds.{FeedState, no_bytes, next_answer, after_next, ComesOut, lines_to_long}};
+ghost use Rattle.trace_text.specs.{EventGrammar.{HasWords, NamesNone, SayNothing, Says, event_text}, PointTexts.{point_text}};
 
 /// A line has the words that it is read by, and no other ones.
 pub fn a_line_has_one_list_of_words()

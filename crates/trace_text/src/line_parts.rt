@@ -34,8 +34,7 @@ pub struct LineParts {
 
 impl Model for LineParts {
     ghost use Rattle.std.specs.Prelude.{◌≤◌, take};
-    ghost use Rattle.trace_text.specs.LineParts.{LineTexts};
-    ghost use Rattle.trace_text.specs.declared.trace_line.TheConstants.{MAX_ALL_TASKS};
+    ghost use Rattle.trace_text.specs.{LineParts.{LineTexts}, declared.trace_line.TheConstants.{MAX_ALL_TASKS}};
 
     ghost Value = { LineTexts };
 

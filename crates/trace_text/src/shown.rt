@@ -1,9 +1,6 @@
 //! What a line of the trace shows of the tasks.
 ghost use Rattle.std.specs.Prelude.{◌≡◌, ◌<◌, ◌≤◌, length, true};
-ghost use Rattle.osek_standard.specs.TaskStates.{held};
-ghost use Rattle.osek_standard.specs.declared.state.Processor.{Processor};
-ghost use Rattle.osek_standard.specs.States.{letter_of, task_of};
-ghost use Rattle.osek_standard.specs.Well.{Well};
+ghost use Rattle.osek_standard.specs.{TaskStates.{held}, declared.state.Processor.{Processor}, States.{letter_of, task_of}, Well.{Well}};
 ghost use Rattle.trace_text.specs.LineParts.{shown_of as what_is_shown, all_shown as what_all_show};
 
 use arrayvec::ArrayVec;

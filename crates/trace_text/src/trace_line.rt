@@ -1,14 +1,9 @@
 //! A line of the trace.
-ghost use Rattle.std.specs.Prelude.{◌≡◌, ◌+◌, ◌*◌, ◌<◌, ◌≤◌, [], ◌∷◌, ◌++◌, All, length, take};
-ghost use Rattle.std.specs.List.{flat_map, enumerate_from};
+ghost use Rattle.std.specs.{Prelude.{◌≡◌, ◌+◌, ◌*◌, ◌<◌, ◌≤◌, [], ◌∷◌, ◌++◌, All, length, take}, List.{flat_map, enumerate_from}};
 ghost use Rattle.osek_values.specs.declared.numbers.ResNo.{ResNo as AResource};
-ghost use Rattle.osek_standard.specs.Apps.{the_task};
-ghost use Rattle.osek_standard.specs.Dispatch.{stepped};
-ghost use Rattle.osek_standard.specs.TaskStates.{held};
-ghost use Rattle.osek_standard.specs.TraceText.{who, events_text, resource_text, task_text, line_text};
+ghost use Rattle.osek_standard.specs.{Apps.{the_task}, Dispatch.{stepped}, TaskStates.{held}, TraceText.{who, events_text, resource_text, task_text, line_text}};
 ghost use Rattle.osek_standard.specs.Well.{Well, IsStack};
-ghost use Rattle.trace_text.specs.Labels.{label_texts};
-ghost use Rattle.trace_text.specs.LineParts.{tasks_text};
+ghost use Rattle.trace_text.specs.{Labels.{label_texts}, LineParts.{tasks_text}};
 
 use crate::labels::Labels;
 use crate::line_parts::LineParts;

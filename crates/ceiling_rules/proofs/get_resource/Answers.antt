@@ -4,15 +4,9 @@ use Rattle.std.proofs.Common.{◌≡◌, ◌∙◌, ℕ, Bool, true, false, ◌|
 use Rattle.osek_values.specs.declared.numbers.ResNo.{ResNo}
 use Rattle.osek_values.specs.declared.status.Ask.TheVariants as ask
 use Rattle.osek_values.specs.declared.status.Status.TheVariants as status
-use Rattle.osek_standard.specs.declared.app.App.{App}
-use Rattle.osek_standard.specs.declared.state.State.{State}
-use Rattle.osek_standard.specs.Priority.{base_priority, ceiling}
-use Rattle.osek_standard.specs.States.{is_taken, task_state}
-use Rattle.osek_standard.specs.TaskStates.{held}
-use Rattle.osek_standard.specs.Services.{Answer, answer, get_resource, with_held}
-use Rattle.osek_standard.specs.Well.{Well}
-use Rattle.osek_standard.proofs.StackLaws.{room_at}
-use Rattle.osek_standard.proofs.ResourceKeeps.{get_resource_keeps}
+use Rattle.osek_standard.specs.{declared.{app.App.{App}, state.State.{State}}, Priority.{base_priority, ceiling}, States.{is_taken, task_state}, TaskStates.{held}}
+use Rattle.osek_standard.specs.{Services.{Answer, answer, get_resource, with_held}, Well.{Well}}
+use Rattle.osek_standard.proofs.{StackLaws.{room_at}, ResourceKeeps.{get_resource_keeps}}
 use Rattle.ceiling_rules.proofs.Stacks.{with_stack_of}
 use Rattle.ceiling_rules.proofs.get_resource.Goals as goal
 use Rattle.ceiling_rules.proofs.get_resource.Goals.{then-is_taken-via-then-is_taken, then-is_taken-via-else-is_taken+then-ceiling-base_priority}

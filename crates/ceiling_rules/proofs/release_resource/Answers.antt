@@ -3,13 +3,8 @@ use Rattle.std.proofs.Common.{◌≡◌, ℕ, ◌-◌, true, false, nat_lt, None
 use Rattle.osek_values.specs.declared.numbers.ResNo.{ResNo}
 use Rattle.osek_values.specs.declared.status.Ask.TheVariants as ask
 use Rattle.osek_values.specs.declared.status.Status.TheVariants as status
-use Rattle.osek_standard.specs.declared.app.App.{App}
-use Rattle.osek_standard.specs.declared.state.State.{State}
-use Rattle.osek_standard.specs.Priority.{base_priority, ceiling}
-use Rattle.osek_standard.specs.States.{task_state}
-use Rattle.osek_standard.specs.TaskStates.{held}
-use Rattle.osek_standard.specs.Services.{Answer, answer, is_on_top, release_resource, with_held}
-use Rattle.osek_standard.specs.Well.{Well}
+use Rattle.osek_standard.specs.{declared.{app.App.{App}, state.State.{State}}, Priority.{base_priority, ceiling}, States.{task_state}, TaskStates.{held}}
+use Rattle.osek_standard.specs.{Services.{Answer, answer, is_on_top, release_resource, with_held}, Well.{Well}}
 use Rattle.osek_standard.proofs.ResourceKeeps.{release_resource_keeps}
 use Rattle.ceiling_rules.proofs.Stacks.{with_stack_of}
 use Rattle.ceiling_rules.proofs.release_resource.Goals as goal

@@ -1,6 +1,5 @@
 use Rattle.abstract_state.specs.Tables.{set_at}
-use Rattle.abstract_state.proofs.JoinLaws.{part_joined}
-use Rattle.abstract_state.proofs.EntryJoins.{entry_join_one}
+use Rattle.abstract_state.proofs.{JoinLaws.{part_joined}, EntryJoins.{entry_join_one}}
 use Rattle.abstract_state.proofs.laws.entries_join_set_by_set.Goals as goal
 
 pub returns : goal.returns

@@ -1,5 +1,4 @@
-use Rattle.abstract_state.proofs.JoinLaws.{equal_sets}
-use Rattle.abstract_state.proofs.LatticeLaws.{equal_entries}
+use Rattle.abstract_state.proofs.{JoinLaws.{equal_sets}, LatticeLaws.{equal_entries}}
 use Rattle.abstract_state.proofs.laws.sound_sets_are_their_values.Goals as goal
 
 pub returns : goal.returns

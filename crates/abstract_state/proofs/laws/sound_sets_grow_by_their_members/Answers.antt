@@ -1,5 +1,4 @@
-use Rattle.abstract_state.proofs.JoinLaws.{no_longer, no_other, join_part}
-use Rattle.abstract_state.proofs.SoundSets.{sound_part}
+use Rattle.abstract_state.proofs.{JoinLaws.{no_longer, no_other, join_part}, SoundSets.{sound_part}}
 use Rattle.abstract_state.proofs.laws.sound_sets_grow_by_their_members.Goals as goal
 
 pub returns : goal.returns

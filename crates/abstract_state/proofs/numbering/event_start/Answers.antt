@@ -1,7 +1,6 @@
 use Rattle.std.proofs.Common.{◌≡◌, ℕ, ◌<◌, ◌^◌, ap, sym, subst, arith}
 use Rattle.std.specs.Prelude.{count_ones}
-use Rattle.osek_standard.specs.declared.objects.Task.{Task}
-use Rattle.osek_standard.specs.Apps.{the_task, no_task}
+use Rattle.osek_standard.specs.{declared.objects.Task.{Task}, Apps.{the_task, no_task}}
 use Rattle.abstract_state.proofs.Numbers.{start_after}
 use Rattle.abstract_state.proofs.numbering.event_start.Goals as goal
 

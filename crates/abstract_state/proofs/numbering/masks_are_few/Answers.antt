@@ -1,5 +1,4 @@
-use Rattle.std.proofs.Common.{ℕ, ◌≡◌, ◌<◌, ◌^◌, get_or, sym, subst, inl, inr, arith}
-use Rattle.std.proofs.lemmas.Bool.{cases_lt}
+use Rattle.std.proofs.{Common.{ℕ, ◌≡◌, ◌<◌, ◌^◌, get_or, sym, subst, inl, inr, arith}, lemmas.Bool.{cases_lt}}
 use Rattle.osek_standard.specs.declared.objects.Task.{Task}
 use Rattle.abstract_state.proofs.numbering.masks_are_few.Goals as goal
 

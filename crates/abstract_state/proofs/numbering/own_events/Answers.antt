@@ -1,7 +1,6 @@
 use Rattle.std.proofs.Common.{◌≡◌, ℕ, map, filter, ap, sym, ◌∙◌, arith}
 use Rattle.std.specs.List.{range_with_len}
-use Rattle.osek_values.specs.Numbers.{event_no}
-use Rattle.osek_values.specs.Bits.{has_bit}
+use Rattle.osek_values.specs.{Numbers.{event_no}, Bits.{has_bit}}
 use Rattle.osek_standard.specs.declared.objects.Task.{Task}
 use Rattle.abstract_state.proofs.RangeLaws.{passed_more, failed_more}
 use Rattle.abstract_state.proofs.numbering.own_events.Goals as goal

@@ -1,6 +1,5 @@
 use Rattle.std.proofs.Common.{◌++◌, List, ◌∙◌, ap, arith}
-use Rattle.osek_values.specs.Numbers.{event_no}
-use Rattle.osek_values.specs.declared.numbers.EventNo.{EventNo}
+use Rattle.osek_values.specs.{Numbers.{event_no}, declared.numbers.EventNo.{EventNo}}
 use Rattle.abstract_state.specs.declared.value.Component.{Component}
 use Rattle.abstract_state.specs.declared.value.Component.TheVariants as component
 use Rattle.abstract_state.specs.Components.{own_bits}

@@ -1,7 +1,6 @@
 use Rattle.std.proofs.Common.{[], refl, ap, ◌∙◌, arith}
 use Rattle.bit_words.specs.Words.{bits_of_words}
-use Rattle.bit_words.proofs.FirstWords.{bits_of_none}
-use Rattle.bit_words.proofs.FurtherLaws.{no_further, bits_after, changed_by}
+use Rattle.bit_words.proofs.{FirstWords.{bits_of_none}, FurtherLaws.{no_further, bits_after, changed_by}}
 use Rattle.bit_words.proofs.further.clear.Goals as goal
 
 pub returns-then-component-len-clause-bits : goal.returns-then-component-len-clause-bits

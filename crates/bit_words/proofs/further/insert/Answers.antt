@@ -1,7 +1,6 @@
 use Rattle.std.proofs.Common.{rules, ◌≡◌, ◌^◌, ap, ◌∙◌, arith}
 use Rattle.std.specs.Prelude.{bit_or}
-use Rattle.bit_words.specs.Words.{bits_of_words}
-use Rattle.bit_words.specs.Further.{further_bits}
+use Rattle.bit_words.specs.{Words.{bits_of_words}, Further.{further_bits}}
 use Rattle.bit_words.proofs.further.insert.Goals as goal
 
 pub returns-in_err-make_room-clause-few : goal.returns-in_err-make_room-clause-few

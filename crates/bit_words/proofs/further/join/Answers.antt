@@ -1,6 +1,5 @@
 use Rattle.std.proofs.Common.{rules, ◌≡◌, ◌<◌, ◌+◌, ◌^◌, List, ℕ, length, get_or, sym, ap, ◌∙◌, arith}
-use Rattle.std.specs.Prelude.{count_ones}
-use Rattle.std.specs.Global.{Vec}
+use Rattle.std.specs.{Prelude.{count_ones}, Global.{Vec}}
 use Rattle.std.proofs.lemmas.List.Sums.{sum_by_more, sum_by_more_le}
 use Rattle.bit_words.specs.Words.{bits_of_words}
 use Rattle.bit_words.proofs.FurtherLaws.{further_is, more_bits_joined, all_bits_joined}

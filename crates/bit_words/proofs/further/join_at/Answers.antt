@@ -1,6 +1,5 @@
 use Rattle.std.proofs.Common.{◌≡◌, ◌+◌, List, ℕ, length, sym, ap, ◌∙◌, arith}
-use Rattle.std.specs.Prelude.{bit_or, count_ones}
-use Rattle.std.specs.Vec.{with_items}
+use Rattle.std.specs.{Prelude.{bit_or, count_ones}, Vec.{with_items}}
 use Rattle.std.proofs.lemmas.List.{with_items_is}
 use Rattle.bit_words.specs.Words.{bits_of_words}
 use Rattle.bit_words.proofs.FurtherLaws.{further_is, further_set, further_counted, bits_before, bits_after, changed_by}

@@ -1,10 +1,8 @@
 use Rattle.std.proofs.Common.{◌≡◌, ◌<◌, length, sym, ap, ◌∙◌, arith}
-use Rattle.std.specs.Prelude.{bit_and}
-use Rattle.std.specs.Vec.{with_items}
+use Rattle.std.specs.{Prelude.{bit_and}, Vec.{with_items}}
 use Rattle.std.proofs.lemmas.List.{with_items_is}
 use Rattle.bit_words.specs.Words.{bits_of_words}
-use Rattle.bit_words.proofs.OtherWords.{and_zero_l}
-use Rattle.bit_words.proofs.FurtherLaws.{no_further, bits_before, bits_after, changed_by}
+use Rattle.bit_words.proofs.{OtherWords.{and_zero_l}, FurtherLaws.{no_further, bits_before, bits_after, changed_by}}
 use Rattle.bit_words.proofs.further.keep.Goals as goal
 
 pub returns-then-component-len-clause-bits : goal.returns-then-component-len-clause-bits

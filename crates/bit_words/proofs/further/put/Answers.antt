@@ -1,9 +1,7 @@
 use Rattle.std.proofs.Common.{rules, ◌≡◌, ◌^◌, length, set, sym, ap, ◌∙◌, arith}
-use Rattle.std.specs.Prelude.{bit_or}
-use Rattle.std.specs.Vec.{with_items}
+use Rattle.std.specs.{Prelude.{bit_or}, Vec.{with_items}}
 use Rattle.std.proofs.lemmas.List.{with_items_is}
-use Rattle.bit_words.specs.Words.{bits_of_words}
-use Rattle.bit_words.specs.Further.{further_bits}
+use Rattle.bit_words.specs.{Words.{bits_of_words}, Further.{further_bits}}
 use Rattle.bit_words.proofs.FurtherLaws.{bits_before, bits_after, changed_by}
 use Rattle.bit_words.proofs.further.put.Goals as goal
 

@@ -1,7 +1,5 @@
-use Rattle.std.proofs.Common.{rules, ◌≡◌, length, sym, ap, ◌∙◌, arith}
-use Rattle.std.proofs.lemmas.Bool.{eqb-true}
-use Rattle.bit_words.specs.Words.{bits_of_words}
-use Rattle.bit_words.specs.Further.{further_bits}
+use Rattle.std.proofs.{Common.{rules, ◌≡◌, length, sym, ap, ◌∙◌, arith}, lemmas.Bool.{eqb-true}}
+use Rattle.bit_words.specs.{Words.{bits_of_words}, Further.{further_bits}}
 use Rattle.bit_words.proofs.FirstWords.{bits_of_none}
 use Rattle.bit_words.proofs.further.put_words.Goals as goal
 

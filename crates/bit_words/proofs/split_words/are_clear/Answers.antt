@@ -1,5 +1,4 @@
-use Rattle.std.proofs.Common.{◌∷◌, sym, ◌∙◌, arith}
-use Rattle.std.proofs.lemmas.Bool.{ne_eqb}
+use Rattle.std.proofs.{Common.{◌∷◌, sym, ◌∙◌, arith}, lemmas.Bool.{ne_eqb}}
 use Rattle.bit_words.specs.Words.{bits_of_words}
 use Rattle.bit_words.proofs.FirstWords.{some_first, some_after, clear_two}
 use Rattle.bit_words.proofs.split_words.are_clear.Goals as goal

@@ -1,5 +1,4 @@
-use Rattle.std.proofs.Common.{◌≡◌, ◌+◌, ◌-◌, ap, ◌∙◌, inl, inr, arith}
-use Rattle.std.proofs.lemmas.Bool.{cases_lt}
+use Rattle.std.proofs.{Common.{◌≡◌, ◌+◌, ◌-◌, ap, ◌∙◌, inl, inr, arith}, lemmas.Bool.{cases_lt}}
 use Rattle.bit_words.specs.Words.{bits_of_words}
 use Rattle.bit_words.proofs.FirstWords.{has_further}
 use Rattle.bit_words.proofs.split_words.next.Goals as goal

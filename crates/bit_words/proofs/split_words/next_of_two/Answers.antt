@@ -1,5 +1,4 @@
-use Rattle.std.proofs.Common.{◌<◌, ◌-◌, inl, inr, arith}
-use Rattle.std.proofs.lemmas.Bool.{cases_lt}
+use Rattle.std.proofs.{Common.{◌<◌, ◌-◌, inl, inr, arith}, lemmas.Bool.{cases_lt}}
 use Rattle.bit_words.proofs.NextNumbers.{low_has, low_none, high_has, high_none}
 use Rattle.bit_words.proofs.split_words.next_of_two.Goals as goal
 

@@ -1,5 +1,4 @@
-use Rattle.std.proofs.Common.{◌≢◌, ◌<◌, length, get_or, sym, arith}
-use Rattle.std.proofs.lemmas.Bool.{eq-eqb, ne_eqb}
+use Rattle.std.proofs.{Common.{◌≢◌, ◌<◌, length, get_or, sym, arith}, lemmas.Bool.{eq-eqb, ne_eqb}}
 use Rattle.bit_words.specs.Words.{bits_of_words}
 use Rattle.bit_words.proofs.KeptWords.{no_bits, some_bits}
 use Rattle.bit_words.proofs.words.are_clear.Goals as goal

@@ -1,5 +1,4 @@
-use Rattle.std.proofs.Common.{◌<◌, ◌^◌, arith}
-use Rattle.std.proofs.lemmas.List.Elements.{All-from_get_or}
+use Rattle.std.proofs.{Common.{◌<◌, ◌^◌, arith}, lemmas.List.Elements.{All-from_get_or}}
 use Rattle.bit_words.proofs.words.are_words.Goals as goal
 
 pub returns : goal.returns

@@ -1,6 +1,4 @@
-use Rattle.std.proofs.Common.{◌<◌, ◌≤◌, ◌^◌, ◌/◌, length, sym, ◌∙◌, arith}
-use Rattle.std.proofs.lemmas.Bool.{le-ltb}
-use Rattle.std.proofs.lemmas.List.Elements.{All-from_get_or}
+use Rattle.std.proofs.{Common.{◌<◌, ◌≤◌, ◌^◌, ◌/◌, length, sym, ◌∙◌, arith}, lemmas.{Bool.{le-ltb}, List.Elements.{All-from_get_or}}}
 use Rattle.bit_words.specs.Words.{AreWords}
 use Rattle.bit_words.proofs.WordLaws.{number_at, number_past, has_of_words}
 use Rattle.bit_words.proofs.words.has.Goals as goal

@@ -1,6 +1,5 @@
 use Rattle.std.proofs.Common.{◌≡◌, ℕ, ◌<◌, get_or}
-use Rattle.std.specs.Prelude.{bit_or}
-use Rattle.std.specs.Bool.{OnTrue}
+use Rattle.std.specs.{Prelude.{bit_or}, Bool.{OnTrue}}
 use Rattle.bit_words.proofs.words.have_all.Given as goal
 
 abbrev pub invariant-loop-place : goal.invariant-loop-place

@@ -1,5 +1,4 @@
-use Rattle.std.proofs.Common.{◌*◌, ap, ◌∙◌, inl, inr, arith}
-use Rattle.std.proofs.lemmas.Bool.{cases_lt}
+use Rattle.std.proofs.{Common.{◌*◌, ap, ◌∙◌, inl, inr, arith}, lemmas.Bool.{cases_lt}}
 use Rattle.bit_words.specs.Words.{bits_of_words}
 use Rattle.bit_words.proofs.SkippedWords.{bit_of_word, none_skipped, none_past}
 use Rattle.bit_words.proofs.words.next.Goals as goal

@@ -1,7 +1,6 @@
 use Rattle.std.proofs.Common.{◌<◌, ◌*◌, ◌/◌, ◌%◌, ◌^◌, get_or, set, arith}
 use Rattle.std.specs.Prelude.{bit_or}
-use Rattle.std.proofs.lemmas.Nat.{or_lt}
-use Rattle.std.proofs.lemmas.List.Elements.{All-get_or}
+use Rattle.std.proofs.lemmas.{Nat.{or_lt}, List.Elements.{All-get_or}}
 use Rattle.bit_words.proofs.WordLaws.{number_put, bits_put, words_with}
 use Rattle.bit_words.proofs.words.put.Goals as goal
 

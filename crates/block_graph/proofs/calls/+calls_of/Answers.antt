@@ -1,5 +1,4 @@
-use Rattle.std.proofs.Common.{arith, rules}
-use Rattle.std.proofs.lemmas.Grind.{common_steps}
+use Rattle.std.proofs.{Common.{arith, rules}, lemmas.Grind.{common_steps}}
 use Rattle.oil_model.proofs.Leasts.{least_steps}
 use Rattle.block_graph.proofs.calls.+calls_of.Goals as goal
 

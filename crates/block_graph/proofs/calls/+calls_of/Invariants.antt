@@ -1,9 +1,7 @@
 use Rattle.std.proofs.Common.{◌≡◌, ◌+◌, ◌*◌, ◌≤◌, drop}
 use Rattle.oil_model.specs.Lines.{sooner, least}
-use Rattle.task_code.specs.Statements.{closed, closing_line, nodes}
-use Rattle.task_code.specs.StatementLists.{statement_before, list_of}
-use Rattle.block_graph.specs.Rules.{from_calls}
-use Rattle.block_graph.specs.CallRules.{lines_of}
+use Rattle.task_code.specs.{Statements.{closed, closing_line, nodes}, StatementLists.{statement_before, list_of}}
+use Rattle.block_graph.specs.{Rules.{from_calls}, CallRules.{lines_of}}
 use Rattle.block_graph.proofs.calls.+calls_of.Given as goal
 
 abbrev pub decreases-least_of_list : goal.decreases-least_of_list

@@ -1,6 +1,5 @@
 use Rattle.std.proofs.Common.{ap, refl}
-use Rattle.block_graph.proofs.FollowsBlocks.{brace_at, goes_on, line_at, statement_inside}
-use Rattle.block_graph.proofs.FollowsPlaces.{goes_somewhere, goes_to_one}
+use Rattle.block_graph.proofs.{FollowsBlocks.{brace_at, goes_on, line_at, statement_inside}, FollowsPlaces.{goes_somewhere, goes_to_one}}
 use Rattle.block_graph.proofs.laws.blocks_follow.Goals as goal
 
 pub returns-clause-leads : goal.returns-clause-leads

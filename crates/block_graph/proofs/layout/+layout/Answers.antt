@@ -1,14 +1,10 @@
-use Rattle.std.proofs.Common.{◌≡◌, ℕ, ◌+◌, ◌-◌, List, [], ◌∷◌, ◌++◌, length, length-drop, append_assoc, ◌∙◌, sym, ap, subst, drop, rules, arith}
-use Rattle.std.proofs.lemmas.Grind.{common_steps}
+use Rattle.std.proofs.{Common.{◌≡◌, ℕ, ◌+◌, ◌-◌, List, [], ◌∷◌, ◌++◌, length, length-drop, append_assoc, ◌∙◌, sym, ap, subst, drop, rules, arith}, lemmas.Grind.{common_steps}}
 use Rattle.std.proofs.lemmas.List.{take_all}
 use Rattle.osek_values.specs.Numbers.{block_no}
 use Rattle.osek_standard.specs.declared.block.Block.{Block}
 use Rattle.osek_standard.specs.declared.block.Kind.TheVariants as kind
-use Rattle.task_code.specs.declared.tree.Statement.{Statement}
-use Rattle.task_code.specs.Statements.{closing_line}
-use Rattle.task_code.specs.StatementLists.{list_of}
-use Rattle.block_graph.specs.Blocks.{block, entry, blocks_of}
-use Rattle.block_graph.specs.StatementBlocks.{loop_kind, statement_blocks}
+use Rattle.task_code.specs.{declared.tree.Statement.{Statement}, Statements.{closing_line}, StatementLists.{list_of}}
+use Rattle.block_graph.specs.{Blocks.{block, entry, blocks_of}, StatementBlocks.{loop_kind, statement_blocks}}
 use Rattle.block_graph.proofs.BlocksSteps.{laid_out, nodes_left, counts_left}
 use Rattle.block_graph.proofs.layout.+layout.Goals as goal
 

@@ -1,9 +1,6 @@
 use Rattle.std.proofs.Common.{◌≡◌, ◌+◌, ◌*◌, ◌≤◌, ◌++◌, drop}
-use Rattle.task_code.specs.Fit.{HasCounts}
-use Rattle.task_code.specs.Statements.{closing_line, nodes}
-use Rattle.task_code.specs.StatementLists.{list_of}
-use Rattle.block_graph.specs.Blocks.{blocks_of}
-use Rattle.block_graph.specs.StatementBlocks.{statement_nodes}
+use Rattle.task_code.specs.{Fit.{HasCounts}, Statements.{closing_line, nodes}, StatementLists.{list_of}}
+use Rattle.block_graph.specs.{Blocks.{blocks_of}, StatementBlocks.{statement_nodes}}
 use Rattle.block_graph.proofs.layout.+layout.Given as goal
 
 abbrev pub decreases-lay_out : goal.decreases-lay_out

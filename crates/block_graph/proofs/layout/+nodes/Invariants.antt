@@ -1,6 +1,5 @@
 use Rattle.std.proofs.Common.{◌≡◌, ◌+◌, ◌*◌, drop}
-use Rattle.task_code.specs.Statements.{closing_line, nodes}
-use Rattle.task_code.specs.StatementLists.{list_of}
+use Rattle.task_code.specs.{Statements.{closing_line, nodes}, StatementLists.{list_of}}
 use Rattle.block_graph.specs.StatementBlocks.{statement_nodes}
 use Rattle.block_graph.proofs.layout.+nodes.Given as goal
 

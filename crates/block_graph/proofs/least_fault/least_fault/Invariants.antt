@@ -1,7 +1,6 @@
 use Rattle.std.proofs.Common.{◌≡◌, ℕ, ◌<◌, get_or}
 use Rattle.std.specs.Prelude.{None}
-use Rattle.osek_values.specs.declared.refusal.CodeRule.TheVariants.{C1}
-use Rattle.osek_values.specs.Lines.{least}
+use Rattle.osek_values.specs.{declared.refusal.CodeRule.TheVariants.{C1}, Lines.{least}}
 use Rattle.block_graph.specs.Rules.{lines}
 use Rattle.block_graph.proofs.least_fault.least_fault.Given as goal
 

@@ -1,10 +1,8 @@
 -- the application of what was generated is valid
 use Rattle.std.proofs.Common.{◌≡◌, ◌≤◌, List, ◌∙◌, sym, ap, subst}
 use Rattle.task_code.specs.declared.tree.Body.{Body}
-use Rattle.block_graph.specs.Apps.{tasks_of, isrs_of, counters_of}
-use Rattle.block_graph.specs.Blocks.{source_size, app_blocks}
-use Rattle.block_graph.proofs.ExtentsRules.{few_source_blocks}
-use Rattle.block_graph.proofs.SomeAnswer.{valid_with}
+use Rattle.block_graph.specs.{Apps.{tasks_of, isrs_of, counters_of}, Blocks.{source_size, app_blocks}}
+use Rattle.block_graph.proofs.{ExtentsRules.{few_source_blocks}, SomeAnswer.{valid_with}}
 use Rattle.block_graph.proofs.linker.app.Goals as goal
 
 pub generate-requires-clause-room : goal.generate-requires-clause-room

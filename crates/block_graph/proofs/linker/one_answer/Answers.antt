@@ -1,5 +1,4 @@
-use Rattle.block_graph.proofs.OneAnswer.{one}
-use Rattle.block_graph.proofs.SomeAnswer.{some}
+use Rattle.block_graph.proofs.{OneAnswer.{one}, SomeAnswer.{some}}
 use Rattle.block_graph.proofs.linker.one_answer.Goals as goal
 
 pub returns-clause-some : goal.returns-clause-some

@@ -1,6 +1,5 @@
 use Rattle.std.proofs.Common.{ℕ, List, sym, ◌∙◌}
-use Rattle.std.specs.Borrow.{Bor}
-use Rattle.std.specs.Str.{bytes_eq}
+use Rattle.std.specs.{Borrow.{Bor}, Str.{bytes_eq}}
 use Rattle.block_graph.proofs.Numbered.{position_map}
 use Rattle.block_graph.proofs.names.number_of.Goals as goal
 

@@ -1,6 +1,5 @@
 use Rattle.std.proofs.Common.{◌≡◌, map, take, drop}
-use Rattle.oil_model.specs.Lines.{sooner, least}
-use Rattle.oil_model.specs.Rules.{repeated}
+use Rattle.oil_model.specs.{Lines.{sooner, least}, Rules.{repeated}}
 use Rattle.block_graph.specs.Rules.{has_same_owner, line_of_body, repeated_code}
 use Rattle.block_graph.proofs.owners.repeated_code.Given as goal
 

@@ -2,8 +2,7 @@
 use Rattle.std.proofs.Common.{◌+◌, List, [], ◌∷◌, map, drop, sym, ap, ◌∙◌}
 use Rattle.task_code.specs.declared.tree.Body.{Body}
 use Rattle.oil_model.specs.Lines.{sooner, least}
-use Rattle.oil_model.proofs.Leasts.{sooner_assoc}
-use Rattle.oil_model.proofs.Repeats.{filter_yes, filter_not}
+use Rattle.oil_model.proofs.{Leasts.{sooner_assoc}, Repeats.{filter_yes, filter_not}}
 use Rattle.block_graph.specs.Rules.{is_stray, line_of_body, stray_code}
 use Rattle.block_graph.proofs.owners.stray_code.Goals as goal
 use Rattle.block_graph.proofs.owners.stray_code.Goals.{then-is_stray, else-is_stray}

@@ -1,6 +1,5 @@
 use Rattle.std.proofs.Common.{◌≡◌, ℕ, ◌+◌, ◌*◌, ◌≤◌, List, ◌++◌, drop}
-use Rattle.task_code.specs.Statements.{closed, closing_line, nodes}
-use Rattle.task_code.specs.StatementLists.{statement_before, list_of}
+use Rattle.task_code.specs.{Statements.{closed, closing_line, nodes}, StatementLists.{statement_before, list_of}}
 use Rattle.block_graph.specs.Rules.{statement_lines}
 use Rattle.block_graph.proofs.sizes.+rooms.Given as goal
 

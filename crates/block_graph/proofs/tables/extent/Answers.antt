@@ -1,12 +1,9 @@
 -- the first body that is the code
-use Rattle.std.proofs.Common.{◌≡◌, List, ◌∷◌, ◌+◌, true, drop, sym, ap, ◌∙◌, arith, rules}
-use Rattle.std.proofs.lemmas.Grind.{common_steps}
+use Rattle.std.proofs.{Common.{◌≡◌, List, ◌∷◌, ◌+◌, true, drop, sym, ap, ◌∙◌, arith, rules}, lemmas.Grind.{common_steps}}
 use Rattle.std.specs.Prelude.{if◌then◌else◌}
 use Rattle.std.proofs.lemmas.List.{drop_more}
 use Rattle.task_code.specs.declared.tree.Body.{Body}
-use Rattle.block_graph.specs.Apps.{extent}
-use Rattle.block_graph.specs.Blocks.{size}
-use Rattle.block_graph.specs.Rules.{is_code_of}
+use Rattle.block_graph.specs.{Apps.{extent}, Blocks.{size}, Rules.{is_code_of}}
 use Rattle.block_graph.proofs.tables.extent.Goals as goal
 
 pub returns-then-is_code_of-clause-is : goal.returns-then-is_code_of-clause-is

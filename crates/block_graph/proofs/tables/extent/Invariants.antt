@@ -1,6 +1,5 @@
 use Rattle.std.proofs.Common.{◌≡◌, ◌+◌, drop}
-use Rattle.block_graph.specs.Apps.{extent}
-use Rattle.block_graph.specs.Blocks.{source_size}
+use Rattle.block_graph.specs.{Apps.{extent}, Blocks.{source_size}}
 use Rattle.block_graph.proofs.tables.extent.Given as goal
 
 abbrev pub invariant-loop-body : goal.invariant-loop-body

@@ -1,6 +1,5 @@
 -- one alarm more
-use Rattle.std.proofs.Common.{◌≡◌, ℕ, ◌+◌, List, [], ◌∷◌, ◌++◌, append_assoc, drop, eqb, true, false, sym, ap, ◌∙◌, arith}
-use Rattle.std.proofs.lemmas.Bool.Decides.{nat_tests}
+use Rattle.std.proofs.{Common.{◌≡◌, ℕ, ◌+◌, List, [], ◌∷◌, ◌++◌, append_assoc, drop, eqb, true, false, sym, ap, ◌∙◌, arith}, lemmas.Bool.Decides.{nat_tests}}
 use Rattle.osek_values.specs.Numbers.{alarm_no}
 use Rattle.osek_standard.specs.declared.block.Kind.TheVariants as kind
 use Rattle.block_graph.specs.Blocks.{tick_block, expiries}

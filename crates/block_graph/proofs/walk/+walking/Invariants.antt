@@ -1,6 +1,5 @@
 use Rattle.std.proofs.Common.{◌≡◌, ◌+◌, ◌*◌, ◌≤◌, drop}
-use Rattle.task_code.specs.Statements.{closed, closing_line, nodes}
-use Rattle.task_code.specs.StatementLists.{statement_before, list_of}
+use Rattle.task_code.specs.{Statements.{closed, closing_line, nodes}, StatementLists.{statement_before, list_of}}
 use Rattle.block_graph.specs.Locks.{walked}
 use Rattle.block_graph.proofs.walk.+walking.Given as goal
 

@@ -1,6 +1,5 @@
 use Rattle.std.proofs.Common.{◌≡◌, ◌<◌, ◌++◌, ◌∷◌, [], ◌∙◌, ℕ, length, get_or, set, Some, None, sym, ap, subst, arith}
-use Rattle.osek_values.specs.Numbers.{block_no}
-use Rattle.osek_values.specs.declared.numbers.BlockNo.{BlockNo}
+use Rattle.osek_values.specs.{Numbers.{block_no}, declared.numbers.BlockNo.{BlockNo}}
 use Rattle.numbered_sets.specs.PlainTables.{plain_row}
 use Rattle.call_tailor.specs.Outcomes.{AreFound}
 use Rattle.call_tailor.proofs.RowOutcomes.{stands_once, stands_known, row_passed, row_added}

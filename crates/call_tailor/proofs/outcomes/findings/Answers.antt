@@ -2,8 +2,7 @@ use Rattle.std.proofs.Common.{◌<◌, List, length, take, sym, subst, arith}
 use Rattle.abstract_state.specs.declared.table.TableRow.{TableRow}
 use Rattle.numbered_sets.proofs.NumberingLaws.{longer_onward}
 use Rattle.numbered_sets.specs.PlainTables.{plain_row, AreRowsFor}
-use Rattle.numbered_sets.proofs.RowsByNumber.{as_many, row_known, row_is, row_listed}
-use Rattle.numbered_sets.proofs.WrittenRows.{row_there, row_allowed, row_filled, pool_has_tasks}
+use Rattle.numbered_sets.proofs.{RowsByNumber.{as_many, row_known, row_is, row_listed}, WrittenRows.{row_there, row_allowed, row_filled, pool_has_tasks}}
 use Rattle.call_tailor.specs.Outcomes.{AreFound}
 use Rattle.call_tailor.proofs.RowOutcomes.{rows_more}
 use Rattle.call_tailor.proofs.outcomes.findings.Goals as goal

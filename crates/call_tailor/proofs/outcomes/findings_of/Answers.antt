@@ -1,8 +1,6 @@
-use Rattle.std.proofs.Common.{◌∙◌, List, subst, take}
-use Rattle.std.proofs.lemmas.List.{take_all}
+use Rattle.std.proofs.{Common.{◌∙◌, List, subst, take}, lemmas.List.{take_all}}
 use Rattle.flow_exits.specs.declared.exit.Exit.{Exit}
-use Rattle.flow_rules.specs.declared.group.ExitGroup.{ExitGroup}
-use Rattle.flow_rules.specs.Groups.{all_exits}
+use Rattle.flow_rules.specs.{declared.group.ExitGroup.{ExitGroup}, Groups.{all_exits}}
 use Rattle.flow_rules.proofs.LeavingPoints.{filled_numbers}
 use Rattle.numbered_sets.specs.PlainTables.{plain_row}
 use Rattle.numbered_sets.proofs.WrittenRows.{number_domains_of}

@@ -1,5 +1,4 @@
-use Rattle.std.proofs.Common.{◌∙◌}
-use Rattle.std.proofs.lemmas.Bool.{OnTrue_at, OnFalse_at}
+use Rattle.std.proofs.{Common.{◌∙◌}, lemmas.Bool.{OnTrue_at, OnFalse_at}}
 use Rattle.flow_rules.specs.Groups.{exits_of}
 use Rattle.call_tailor.proofs.ExitOutcomes.{with_arrivals, with_one, with_old, alike_in_group, some_in_group, none_in_group}
 use Rattle.call_tailor.proofs.outcomes.with_group.Goals.{then-tells-via-then-tells, then-tells-via-else-tells+then-not-has_end}

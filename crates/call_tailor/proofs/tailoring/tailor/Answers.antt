@@ -1,13 +1,9 @@
 use Rattle.std.proofs.Common.{◌≡◌, ◌<◌, ◌∙◌, List, length, map, Option, sym, ap, subst}
 use Rattle.osek_values.specs.declared.{event.Event.{Event}, numbers.ModeNo.{ModeNo}}
-use Rattle.image_model.specs.declared.{image.Image.{Image}, site.Site.{Site}}
-use Rattle.image_model.specs.Laws.{IsKernelsRun}
-use Rattle.image_model.specs.Sites.{AreSites}
-use Rattle.abstract_state.specs.Tables.{Sets, Inductive, sets_of}
-use Rattle.abstract_state.specs.Forms.{HasDictatedForms, HasDictatedStatuses}
+use Rattle.image_model.specs.{declared.{image.Image.{Image}, site.Site.{Site}}, Laws.{IsKernelsRun}, Sites.{AreSites}}
+use Rattle.abstract_state.specs.{Tables.{Sets, Inductive, sets_of}, Forms.{HasDictatedForms, HasDictatedStatuses}}
 use Rattle.abstract_state.proofs.ImageLaws.{runs_as_kernel, dictated_statuses as no_more_than_dictated}
-use Rattle.call_tailor.specs.declared.found.Findings.{Findings}
-use Rattle.call_tailor.specs.Found.{site_of}
+use Rattle.call_tailor.specs.{declared.found.Findings.{Findings}, Found.{site_of}}
 use Rattle.call_tailor.proofs.DictatedForms.{are_sites, dictated_forms, dictated_statuses}
 use Rattle.call_tailor.proofs.tailoring.tailor.Goals as goal
 

@@ -1,10 +1,7 @@
 -- the text has no byte at its limit, has one, or isn't there
-use Rattle.std.proofs.Common.{◌≡◌, ◌≢◌, ◌<◌, ◌≤◌, ◌⊎◌, ℕ, List, length, drop, sym, subst, inl, inr, arith}
-use Rattle.std.proofs.lemmas.List.{length-drop}
+use Rattle.std.proofs.{Common.{◌≡◌, ◌≢◌, ◌<◌, ◌≤◌, ◌⊎◌, ℕ, List, length, drop, sym, subst, inl, inr, arith}, lemmas.List.{length-drop}}
 use Rattle.osek_io.specs.Counts.{Rose, RoseSomewhere}
-use Rattle.command_runs.specs.Inputs.{unread, faulty, NotLoaded}
-use Rattle.command_runs.specs.Outside.{told}
-use Rattle.command_runs.specs.declared.stop.Input.TheVariants.{Events}
+use Rattle.command_runs.specs.{Inputs.{unread, faulty, NotLoaded}, Outside.{told}, declared.stop.Input.TheVariants.{Events}}
 use Rattle.command_runs.proofs.InputFiles.{of_told, of_longer}
 use Rattle.command_runs.proofs.inputs.judge_length.Goals as goal
 

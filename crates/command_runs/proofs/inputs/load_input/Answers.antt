@@ -1,11 +1,8 @@
 -- what was loaded is what the file holds
 use Rattle.std.proofs.Common.{◌≡◌, ◌≤◌, ◌<◌, ℕ, List, length, refl, subst}
-use Rattle.osek_io.specs.declared.loading.LoadError.TheVariants.{Read}
-use Rattle.osek_io.specs.Files.{Holds}
+use Rattle.osek_io.specs.{declared.loading.LoadError.TheVariants.{Read}, Files.{Holds}}
 use Rattle.command_runs.specs.Outside.{told}
-use Rattle.command_runs.proofs.Results.{ok_is_no_error}
-use Rattle.command_runs.proofs.InputFiles.{of_loaded}
-use Rattle.command_runs.proofs.Unloaded.{not_loaded}
+use Rattle.command_runs.proofs.{Results.{ok_is_no_error}, InputFiles.{of_loaded}, Unloaded.{not_loaded}}
 use Rattle.command_runs.proofs.inputs.load_input.Goals as goal
 
 pub returns-in-Ok-clause-bytes : goal.returns-in-Ok-clause-bytes

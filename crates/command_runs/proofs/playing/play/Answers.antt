@@ -1,20 +1,12 @@
 -- a piece of the text that was read and played, and how it ends
-use Rattle.std.proofs.Common.{◌≡◌, ◌+◌, ◌≤◌, Option, [], length, true, eqb, sym, ◌∙◌, ap, subst, inl, inr, arith, Err}
-use Rattle.std.proofs.lemmas.List.{length-append}
-use Rattle.std.proofs.lemmas.Bool.{ne_eqb, eq-eqb}
+use Rattle.std.proofs.{Common.{◌≡◌, ◌+◌, ◌≤◌, Option, [], length, true, eqb, sym, ◌∙◌, ap, subst, inl, inr, arith, Err}, lemmas.{List.{length-append}, Bool.{ne_eqb, eq-eqb}}}
 use Rattle.image_model.specs.declared.image.Image.{Image}
 use Rattle.trace_text.specs.LineParts.{ArePartsOf}
-use Rattle.osek_io.specs.Counts.{Rose}
-use Rattle.osek_io.specs.Files.{Files}
-use Rattle.osek_io.specs.Sunk.{sunk}
-use Rattle.command_runs.specs.Inputs.{ReadsOn}
-use Rattle.command_runs.specs.Playing.{given, PlaysOn, HeldAnswers, plays_fed}
-use Rattle.command_runs.specs.declared.stop.{Input.TheVariants.{Events}, Stop.{Stop}}
+use Rattle.osek_io.specs.{Counts.{Rose}, Files.{Files}, Sunk.{sunk}}
+use Rattle.command_runs.specs.{Inputs.{ReadsOn}, Playing.{given, PlaysOn, HeldAnswers, plays_fed}, declared.stop.{Input.TheVariants.{Events}, Stop.{Stop}}}
 use Rattle.command_runs.specs.declared.stop.Stop.TheVariants as stop
-use Rattle.command_runs.proofs.FaultlessReads.{then_reads}
-use Rattle.command_runs.proofs.GivenTexts.{puts_held, prefix_of_held, puts_prefix_of_first}
-use Rattle.command_runs.proofs.FedPlays.{held_played, more_came, more_played, ends_there, stops_there, ends_with_text}
-use Rattle.command_runs.proofs.TextReads.{rose_there, has_come}
+use Rattle.command_runs.proofs.{FaultlessReads.{then_reads}, GivenTexts.{puts_held, prefix_of_held, puts_prefix_of_first}}
+use Rattle.command_runs.proofs.{FedPlays.{held_played, more_came, more_played, ends_there, stops_there, ends_with_text}, TextReads.{rose_there, has_come}}
 use Rattle.command_runs.proofs.playing.play.Goals as goal
 
 pub returns-in-Err-clause-answer : goal.returns-in-Err-clause-answer

@@ -1,7 +1,6 @@
 -- how far the read and the play of the text have come
 use Rattle.std.proofs.Common.{◌≡◌, ◌+◌, ◌-◌, ◌≤◌, false, length}
-use Rattle.osek_io.specs.Counts.{Same}
-use Rattle.osek_io.specs.Reads.{OnlyReads}
+use Rattle.osek_io.specs.{Counts.{Same}, Reads.{OnlyReads}}
 use Rattle.trace_text.specs.LineParts.{ArePartsOf}
 use Rattle.osek_io.specs.Sunk.{sunk}
 use Rattle.command_runs.specs.Playing.{given, HasNoEnd}

@@ -2,15 +2,11 @@
 use Rattle.std.proofs.Common.{◌≡◌, ◌+◌, ◌<◌, ◌≤◌, ℕ, length, refl, sym, ◌∙◌, ap, subst, arith, Err}
 use Rattle.osek_standard.specs.declared.state.State.{State}
 use Rattle.image_model.specs.declared.image.Image.{Image}
-use Rattle.trace_text.specs.declared.feed.FeedStep.TheVariants.{Line}
-use Rattle.trace_text.specs.EventWords.{read_line}
-use Rattle.trace_text.specs.LineParts.{ArePartsOf}
-use Rattle.trace_text.specs.Feeds.{FeedState, peeled, next_answer, after_next}
+use Rattle.trace_text.specs.{declared.feed.FeedStep.TheVariants.{Line}, EventWords.{read_line}, LineParts.{ArePartsOf}, Feeds.{FeedState, peeled, next_answer, after_next}}
 use Rattle.trace_text.proofs.FeedLaws.{line_shortens, no_line_ahead, stays_finished}
 use Rattle.osek_io.specs.Sunk.{sunk}
 use Rattle.command_runs.specs.Playing.{Played, played_line, given, HasNoEnd, GoesOn, PlaysOn, HeldAnswers}
-use Rattle.command_runs.proofs.EndedLines.{none_ends_ahead}
-use Rattle.command_runs.proofs.FedPlays.{starts_on, one_line_on, kept_on, line_ends_on}
+use Rattle.command_runs.proofs.{EndedLines.{none_ends_ahead}, FedPlays.{starts_on, one_line_on, kept_on, line_ends_on}}
 use Rattle.command_runs.proofs.playing.play_ahead.Goals as goal
 
 pub lines-init : goal.lines-init

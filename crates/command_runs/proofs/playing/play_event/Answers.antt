@@ -1,12 +1,9 @@
 -- a prefix of the line of the step was printed, or the line of a trap
 use Rattle.std.proofs.Common.{◌≡◌, ◌∙◌, ℕ, Bool, refl, sym, ap, subst, inl, Some, None, Err}
 use Rattle.std.specs.declared.option.Option.{Option}
-use Rattle.osek_standard.specs.declared.state.State.{State}
-use Rattle.osek_standard.specs.Dispatch.{Stepped}
-use Rattle.image_model.specs.declared.image.Image.{Image}
-use Rattle.image_model.specs.ImageTrace.{trap_line}
-use Rattle.image_run.specs.Machines.{turned}
-use Rattle.image_run.specs.Noted.{noted_if}
+use Rattle.osek_standard.specs.{declared.state.State.{State}, Dispatch.{Stepped}}
+use Rattle.image_model.specs.{declared.image.Image.{Image}, ImageTrace.{trap_line}}
+use Rattle.image_run.specs.{Machines.{turned}, Noted.{noted_if}}
 use Rattle.trace_text.specs.LineParts.{ArePartsOf}
 use Rattle.osek_io.specs.Sunk.{sunk}
 use Rattle.command_runs.specs.Playing.{Given, given, Puts, AnswersEvent}

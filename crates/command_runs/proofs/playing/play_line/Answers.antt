@@ -1,11 +1,9 @@
 -- a line that is no event, an event whose line was printed, or one that ends the play
 use Rattle.std.proofs.Common.{◌≡◌, ℕ, List, refl, sym, ◌∙◌, ap, subst, Ok}
-use Rattle.std.specs.declared.option.Option.{Option}
-use Rattle.std.specs.declared.result.Result.{Result}
+use Rattle.std.specs.declared.{option.Option.{Option}, result.Result.{Result}}
 use Rattle.osek_values.specs.declared.event.Event.{Event}
 use Rattle.osek_standard.specs.declared.app.App.{App}
-use Rattle.trace_text.specs.declared.fault.EventFault.{EventFault}
-use Rattle.trace_text.specs.EventWords.{read_line}
+use Rattle.trace_text.specs.{declared.fault.EventFault.{EventFault}, EventWords.{read_line}}
 use Rattle.osek_io.specs.Sunk.{sunk}
 use Rattle.command_runs.specs.Playing.{given}
 use Rattle.command_runs.proofs.Plays.{line_skipped, line_played, line_ends}

@@ -1,15 +1,10 @@
 -- the image is spelled by what the file holds
 use Rattle.std.proofs.Common.{◌≡◌, List, ℕ, Err, inl, inr, refl, subst, ◌∙◌}
 use Rattle.osek_values.specs.declared.refused.Refused.{Refused}
-use Rattle.image_codec.specs.declared.fault.ImageFault.{ImageFault}
-use Rattle.image_codec.specs.ImageReading.{read_image, Answers as DecodeAnswers}
-use Rattle.command_runs.specs.Inputs.{faulty, no_memory}
-use Rattle.command_runs.specs.Outside.{told}
-use Rattle.command_runs.specs.Replaying.{SpellImage, IsImageFault}
-use Rattle.command_runs.specs.declared.stop.Input.TheVariants.{Image}
+use Rattle.image_codec.specs.{declared.fault.ImageFault.{ImageFault}, ImageReading.{read_image, Answers as DecodeAnswers}}
+use Rattle.command_runs.specs.{Inputs.{faulty, no_memory}, Outside.{told}, Replaying.{SpellImage, IsImageFault}, declared.stop.Input.TheVariants.{Image}}
 use Rattle.command_runs.specs.declared.stop.Stop.TheVariants as stop
-use Rattle.command_runs.proofs.InputFiles.{of_bytes}
-use Rattle.command_runs.proofs.Unloaded.{too_long}
+use Rattle.command_runs.proofs.{InputFiles.{of_bytes}, Unloaded.{too_long}}
 use Rattle.command_runs.proofs.replaying.load_image.Goals as goal
 
 pub returns-in-Ok-decode-clause-image : goal.returns-in-Ok-decode-clause-image

@@ -2,11 +2,8 @@
 use Rattle.std.proofs.Common.{refl}
 use Rattle.image_model.specs.ImageTrace.{image_trace, has_trap}
 use Rattle.osek_io.specs.Sunk.{sunk}
-use Rattle.command_runs.specs.Outside.{Told, beside, outside}
-use Rattle.command_runs.specs.Replaying.{stops, runs}
-use Rattle.command_runs.specs.Running.{RunAnswers}
-use Rattle.command_runs.proofs.InputFiles.{of_map}
-use Rattle.command_runs.proofs.FaultlessReads.{earlier, then_reads}
+use Rattle.command_runs.specs.{Outside.{Told, beside, outside}, Replaying.{stops, runs}, Running.{RunAnswers}}
+use Rattle.command_runs.proofs.{InputFiles.{of_map}, FaultlessReads.{earlier, then_reads}}
 use Rattle.command_runs.proofs.replaying.replay.Goals as goal
 
 pub returns-clause-answer : goal.returns-clause-answer

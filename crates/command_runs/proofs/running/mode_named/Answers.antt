@@ -1,8 +1,6 @@
 -- the mode at the place of the name
 use Rattle.std.proofs.Common.{ℕ, List, sym, ◌∙◌, ap, option_map}
-use Rattle.std.specs.List.{position}
-use Rattle.std.specs.Str.{bytes_eq}
-use Rattle.std.specs.declared.option.Option.{Option}
+use Rattle.std.specs.{List.{position}, Str.{bytes_eq}, declared.option.Option.{Option}}
 use Rattle.osek_values.specs.Numbers.{mode_no}
 use Rattle.command_runs.proofs.running.mode_named.Goals as goal
 

@@ -3,8 +3,7 @@ use Rattle.std.proofs.Common.{◌≡◌, List, ℕ, [], subst, sym, Err}
 use Rattle.osek_standard.specs.Dispatch.{stepped}
 use Rattle.trace_text.specs.EventText.{numbered_lines}
 use Rattle.osek_io.specs.Sunk.{sunk}
-use Rattle.command_runs.specs.Playing.{given, Played, printing, plays, line_of, HeldReadAnswers, ReadAnswers}
-use Rattle.command_runs.specs.declared.stop.Stop.{Stop}
+use Rattle.command_runs.specs.{Playing.{given, Played, printing, plays, line_of, HeldReadAnswers, ReadAnswers}, declared.stop.Stop.{Stop}}
 use Rattle.command_runs.specs.declared.stop.Stop.TheVariants as stop
 use Rattle.command_runs.proofs.PlayEnds.{all_printed, prefix_printed}
 use Rattle.command_runs.proofs.running.play_machine.Goals as goal

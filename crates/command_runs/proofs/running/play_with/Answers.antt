@@ -2,8 +2,7 @@
 use Rattle.std.proofs.Common.{◌≡◌, List, ℕ, sym, ap, inr, subst}
 use Rattle.osek_standard.specs.Dispatch.{stepped}
 use Rattle.image_run.specs.Machines.{AtWork}
-use Rattle.trace_text.specs.EventText.{numbered_lines}
-use Rattle.trace_text.specs.LineParts.{ArePartsOf}
+use Rattle.trace_text.specs.{EventText.{numbered_lines}, LineParts.{ArePartsOf}}
 use Rattle.osek_io.specs.Sunk.{sunk}
 use Rattle.command_runs.specs.Playing.{Played, printing, plays, line_of, ReadAnswers, whole_play}
 use Rattle.command_runs.proofs.Runs.{whole_started}

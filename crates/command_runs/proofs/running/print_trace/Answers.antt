@@ -5,9 +5,7 @@ use Rattle.trace_text.specs.EventText.{numbered_lines}
 use Rattle.osek_io.specs.Sunk.{sunk}
 use Rattle.command_runs.specs.Playing.{given, plays, line_of}
 use Rattle.command_runs.specs.declared.stop.Stop.TheVariants as stop
-use Rattle.command_runs.proofs.FedPlays.{read_behind}
-use Rattle.command_runs.proofs.InputFiles.{of_map}
-use Rattle.command_runs.proofs.Plays.{first_fails}
+use Rattle.command_runs.proofs.{FedPlays.{read_behind}, InputFiles.{of_map}, Plays.{first_fails}}
 use Rattle.command_runs.proofs.running.print_trace.Goals as goal
 
 pub returns-in-Ok-clause-answer : goal.returns-in-Ok-clause-answer

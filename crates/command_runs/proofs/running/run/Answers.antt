@@ -2,10 +2,8 @@
 use Rattle.std.proofs.Common.{◌≡◌, refl, sym, None}
 use Rattle.image_model.specs.ImageTrace.{image_trace, has_trap}
 use Rattle.osek_io.specs.Sunk.{sunk}
-use Rattle.command_runs.specs.Outside.{Told, beside, outside}
-use Rattle.command_runs.specs.Running.{mode_named, no_mode, stops, RunAnswers}
-use Rattle.command_runs.proofs.FaultlessReads.{earlier, then_reads}
-use Rattle.command_runs.proofs.Runs.{image_runs}
+use Rattle.command_runs.specs.{Outside.{Told, beside, outside}, Running.{mode_named, no_mode, stops, RunAnswers}}
+use Rattle.command_runs.proofs.{FaultlessReads.{earlier, then_reads}, Runs.{image_runs}}
 use Rattle.command_runs.proofs.running.run.Goals as goal
 
 pub returns-in_default-clause-answer : goal.returns-in_default-clause-answer

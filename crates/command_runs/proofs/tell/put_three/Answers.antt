@@ -1,7 +1,6 @@
 -- a prefix of the first two pieces, or one of the third behind them
 use Rattle.std.proofs.Common.{◌++◌}
-use Rattle.command_runs.proofs.Prefixes.{prefix_of_proper, prefix_of_first, prefix_behind}
-use Rattle.command_runs.proofs.Results.{on_err}
+use Rattle.command_runs.proofs.{Prefixes.{prefix_of_proper, prefix_of_first, prefix_behind}, Results.{on_err}}
 use Rattle.command_runs.proofs.tell.put_three.Goals as goal
 
 pub returns-in_err-put_two-clause-prefix : goal.returns-in_err-put_two-clause-prefix

@@ -1,6 +1,5 @@
 -- a prefix of the first piece, or one of the second behind it
-use Rattle.command_runs.proofs.Prefixes.{prefix_of_proper, prefix_of_first, prefix_behind}
-use Rattle.command_runs.proofs.Results.{on_err}
+use Rattle.command_runs.proofs.{Prefixes.{prefix_of_proper, prefix_of_first, prefix_behind}, Results.{on_err}}
 use Rattle.command_runs.proofs.tell.put_two.Goals as goal
 
 pub returns-in_err-put_all-clause-prefix : goal.returns-in_err-put_all-clause-prefix

@@ -1,8 +1,7 @@
 -- a prefix of the file and the place, or one of the rule behind them
 use Rattle.std.proofs.Common.{◌++◌, codes}
 use Rattle.std.specs.Fmt.{decimal}
-use Rattle.command_runs.proofs.Prefixes.{prefix_of_first, prefix_behind}
-use Rattle.command_runs.proofs.Results.{on_err}
+use Rattle.command_runs.proofs.{Prefixes.{prefix_of_first, prefix_behind}, Results.{on_err}}
 use Rattle.command_runs.proofs.tell.tell_fault.Goals as goal
 
 pub returns-in_err-put_place-clause-prefix : goal.returns-in_err-put_place-clause-prefix

@@ -1,15 +1,12 @@
 -- what becomes of the image was stored, or a prefix of it
 use Rattle.std.proofs.Common.{◌≡◌, ℕ, List, ◌∙◌, inl, inr, sym, subst}
-use Rattle.std.specs.Prelude.{◌⊎◌, Err}
-use Rattle.std.specs.declared.option.Option.{Option}
+use Rattle.std.specs.{Prelude.{◌⊎◌, Err}, declared.option.Option.{Option}}
 use Rattle.image_model.specs.declared.image.{Image.{Image}, Version.TheVariants.{Two}}
 use Rattle.osek_io.specs.{Counts.{Rose}, Files.{Files}}
 use Rattle.command_runs.specs.{Inputs.{OfFile, no_memory}, Outside.{Outside, SameFiles, beside, told}, Replaying.{SpellImage, OfImage}}
-use Rattle.command_runs.specs.Upgrading.{UpgradeAnswers, StoresUpgraded, StoresUpgradedPrefix, stops, already, fails, stores}
-use Rattle.command_runs.specs.declared.stop.Stop.{Stop}
+use Rattle.command_runs.specs.{Upgrading.{UpgradeAnswers, StoresUpgraded, StoresUpgradedPrefix, stops, already, fails, stores}, declared.stop.Stop.{Stop}}
 use Rattle.command_runs.specs.declared.stop.Stop.TheVariants as stop
-use Rattle.command_runs.proofs.InputFiles.{of_map}
-use Rattle.command_runs.proofs.StoredFiles.{stored_all, stored_prefix}
+use Rattle.command_runs.proofs.{InputFiles.{of_map}, StoredFiles.{stored_all, stored_prefix}}
 use Rattle.command_runs.proofs.upgrading.upgrade.Goals as goal
 
 over_image : (files : Option Files) (image : List ℕ) (i : Image) (P : Image → Type 0) → OfFile files image (λ b. SpellImage b i) → P i → OfImage files image P

@@ -1,5 +1,4 @@
-use Rattle.std.proofs.Common.{map, drop, ap, ◌∙◌}
-use Rattle.std.proofs.lemmas.Result.{IfOk-weaker}
+use Rattle.std.proofs.{Common.{map, drop, ap, ◌∙◌}, lemmas.Result.{IfOk-weaker}}
 use Rattle.std.specs.String.{string_bytes}
 use Rattle.clap.specs.Words.{App, is_simple, subcommand_of}
 use Rattle.command_words.proofs.FormRows.{form_finds}

@@ -3,8 +3,7 @@ use Rattle.std.proofs.Common.{ℕ, ◌∙◌, subst, inl}
 use Rattle.image_codec.specs.Spelling.{spelling}
 use Rattle.osek_io.specs.Counts.{Rose}
 use Rattle.commands.specs.Building.{stops, fails, stores, Stores, StoresPrefix}
-use Rattle.command_runs.specs.Inputs.{no_memory}
-use Rattle.command_runs.specs.Outside.{beside, told}
+use Rattle.command_runs.specs.{Inputs.{no_memory}, Outside.{beside, told}}
 use Rattle.command_runs.proofs.StoredFiles.{stored_all, stored_prefix}
 use Rattle.commands.proofs.Compiles.{over_app}
 use Rattle.commands.proofs.building.build.Goals as goal

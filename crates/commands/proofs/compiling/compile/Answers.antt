@@ -2,8 +2,7 @@
 use Rattle.std.proofs.Common.{ℕ, List, inl, inr}
 use Rattle.front_end.specs.Texts.{GivesApp}
 use Rattle.commands.specs.Compiling.{CodeStops}
-use Rattle.command_runs.specs.Inputs.{OfFile}
-use Rattle.command_runs.specs.Outside.{Told, told}
+use Rattle.command_runs.specs.{Inputs.{OfFile}, Outside.{Told, told}}
 use Rattle.commands.proofs.Compiles.{of_system, of_app}
 use Rattle.command_runs.proofs.FaultlessReads.{earlier, then_reads, then_same}
 use Rattle.commands.proofs.compiling.compile.Goals as goal

@@ -4,14 +4,10 @@ use Rattle.std.specs.declared.result.Result.{Result}
 use Rattle.osek_values.specs.declared.refusal.Refusal.{Refusal}
 use Rattle.osek_standard.specs.declared.app.App.{App}
 use Rattle.front_end.specs.Answers.{IsCodeRefusal, IsCodeAnswer}
-use Rattle.osek_values.specs.Answers.{IsRight}
-use Rattle.osek_values.specs.declared.refused.Refused.{Refused as Refusing}
+use Rattle.osek_values.specs.{Answers.{IsRight}, declared.refused.Refused.{Refused as Refusing}}
 use Rattle.front_end.specs.Texts.{GivesApp}
-use Rattle.command_runs.specs.Outside.{told}
-use Rattle.command_runs.specs.Inputs.{faulty, no_memory}
-use Rattle.command_runs.specs.declared.stop.{Input.TheVariants.{Code}, Stop.TheVariants.{Refused}}
-use Rattle.command_runs.proofs.InputFiles.{of_bytes}
-use Rattle.command_runs.proofs.Unloaded.{too_long}
+use Rattle.command_runs.specs.{Outside.{told}, Inputs.{faulty, no_memory}, declared.stop.{Input.TheVariants.{Code}, Stop.TheVariants.{Refused}}}
+use Rattle.command_runs.proofs.{InputFiles.{of_bytes}, Unloaded.{too_long}}
 use Rattle.commands.proofs.compiling.load_code.Goals as goal
 
 pub returns-in-Ok-read_app-clause-app : goal.returns-in-Ok-read_app-clause-app

@@ -1,7 +1,6 @@
 use Rattle.std.proofs.Common.{ap, Some, refl}
 use Rattle.osek_io.specs.{Files.{Files}, Sunk.{sunk}}
-use Rattle.commands.specs.GeneratedFiles.{generated_files}
-use Rattle.commands.specs.Generating.{no_memory}
+use Rattle.commands.specs.{GeneratedFiles.{generated_files}, Generating.{no_memory}}
 use Rattle.command_runs.specs.Outside.{beside}
 use Rattle.commands.proofs.GeneratedRuns.{own_answers, own_tells}
 use Rattle.commands.proofs.generating.generate_and_run.Goals as goal

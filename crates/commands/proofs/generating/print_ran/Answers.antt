@@ -1,6 +1,5 @@
 use Rattle.std.proofs.Common.{ℕ, List, inr, refl, ap, subst, ◌∙◌}
-use Rattle.flow_text.specs.declared.gen_line.TextSize.{TextSize}
-use Rattle.flow_text.specs.GeneratedLine.{gen_line, text_size}
+use Rattle.flow_text.specs.{declared.gen_line.TextSize.{TextSize}, GeneratedLine.{gen_line, text_size}}
 use Rattle.osek_io.specs.Stored.{WritesProperPrefix}
 use Rattle.command_runs.proofs.Prefixes.{prefix_of_proper}
 use Rattle.commands.proofs.generating.print_ran.Goals as goal

@@ -1,16 +1,11 @@
 use Rattle.std.proofs.Common.{ℕ, List, Some, Err, Ok, refl, ap}
 use Rattle.osek_standard.specs.declared.app.App.{App}
 use Rattle.image_model.specs.ImageTrace.{image_trace, has_trap}
-use Rattle.commands.specs.GeneratedFiles.{oil_name, code_name, events_name, default_mode}
-use Rattle.commands.specs.Generating.{AreLeastCounts, IsDefaultTrace}
-use Rattle.commands.specs.KeptTexts.{Kept}
+use Rattle.commands.specs.{GeneratedFiles.{oil_name, code_name, events_name, default_mode}, Generating.{AreLeastCounts, IsDefaultTrace}, KeptTexts.{Kept}}
 use Rattle.osek_io.specs.Sunk.{Sunk}
-use Rattle.command_runs.specs.Inputs.{OfFile}
-use Rattle.command_runs.specs.Outside.{Told, told, beside}
-use Rattle.command_runs.specs.Running.{RunAnswers}
+use Rattle.command_runs.specs.{Inputs.{OfFile}, Outside.{Told, told, beside}, Running.{RunAnswers}}
 use Rattle.commands.proofs.Compiles.{over_app}
-use Rattle.command_runs.proofs.FaultlessReads.{earlier}
-use Rattle.command_runs.proofs.InputFiles.{of_map}
+use Rattle.command_runs.proofs.{FaultlessReads.{earlier}, InputFiles.{of_map}}
 use Rattle.commands.proofs.OwnRuns.{compile_stops, run_stops, run_tells, own_due, over_own}
 use Rattle.commands.proofs.generating.run_system.Goals as goal
 

@@ -2,8 +2,7 @@
 use Rattle.flow_text.specs.{FlowLines.{info_line}, Texts.{sites_text}}
 use Rattle.osek_io.specs.Sunk.{sunk}
 use Rattle.command_runs.specs.Playing.{given}
-use Rattle.command_runs.proofs.GivenTexts.{puts_both, puts_prefix_of_first, puts_prefix_behind}
-use Rattle.command_runs.proofs.Results.{on_err}
+use Rattle.command_runs.proofs.{GivenTexts.{puts_both, puts_prefix_of_first, puts_prefix_behind}, Results.{on_err}}
 use Rattle.commands.proofs.informing.print_image.Goals as goal
 
 pub returns-in_err-print_info-clause-prefix : goal.returns-in_err-print_info-clause-prefix

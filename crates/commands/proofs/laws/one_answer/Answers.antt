@@ -1,5 +1,4 @@
-use Rattle.commands.proofs.OneDue.{one_due}
-use Rattle.commands.proofs.SomeDue.{some_due}
+use Rattle.commands.proofs.{OneDue.{one_due}, SomeDue.{some_due}}
 use Rattle.commands.proofs.laws.one_answer.Goals as goal
 
 pub returns-clause-some : goal.returns-clause-some

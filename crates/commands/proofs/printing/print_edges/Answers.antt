@@ -5,8 +5,7 @@ use Rattle.std.proofs.lemmas.List.{take_all}
 use Rattle.flow_text.specs.FlowLines.{edge_line}
 use Rattle.osek_io.specs.Sunk.{sunk}
 use Rattle.command_runs.specs.Playing.{given, Puts}
-use Rattle.command_runs.proofs.GivenTexts.{puts_nothing}
-use Rattle.command_runs.proofs.Results.{on_err}
+use Rattle.command_runs.proofs.{GivenTexts.{puts_nothing}, Results.{on_err}}
 use Rattle.commands.proofs.Printed.{next_put, prefix_of_lines}
 use Rattle.commands.proofs.printing.print_edges.Goals as goal
 

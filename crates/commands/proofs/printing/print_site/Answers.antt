@@ -1,8 +1,7 @@
 -- the prefix of the line's room is the line of the site, or there is none
 use Rattle.std.proofs.Common.{◌≡◌, sym, ◌∙◌, ap, subst, Some, None}
 use Rattle.std.specs.declared.option.Option.{Option}
-use Rattle.image_model.specs.declared.site.Site.{Site}
-use Rattle.image_model.specs.ImageStep.{site_at}
+use Rattle.image_model.specs.{declared.site.Site.{Site}, ImageStep.{site_at}}
 use Rattle.flow_text.specs.Texts.{site_text}
 use Rattle.osek_io.specs.Sunk.{sunk}
 use Rattle.command_runs.specs.Playing.{given, Puts}

@@ -1,11 +1,8 @@
 -- the next line, or a prefix of it, behind those before it
 use Rattle.std.proofs.Common.{◌≡◌, ℕ, ◌+◌, ◌<◌, ◌≤◌, List, length, get_or, refl, sym, ◌∙◌, ap, subst, None, arith}
-use Rattle.std.specs.List.{flat_map, enumerate_from}
-use Rattle.std.specs.declared.option.Option.{Option}
-use Rattle.std.proofs.lemmas.List.{take_all}
-use Rattle.std.proofs.lemmas.List.FromFn.{get_or-enumerate_from, length-enumerate_from}
-use Rattle.image_model.specs.declared.{image.{Image.{Image}, Version.{Version}}, site.Site.{Site}}
-use Rattle.image_model.specs.ImageStep.{site_at}
+use Rattle.std.specs.{List.{flat_map, enumerate_from}, declared.option.Option.{Option}}
+use Rattle.std.proofs.lemmas.List.{take_all, FromFn.{get_or-enumerate_from, length-enumerate_from}}
+use Rattle.image_model.specs.{declared.{image.{Image.{Image}, Version.{Version}}, site.Site.{Site}}, ImageStep.{site_at}}
 use Rattle.flow_text.specs.Texts.{site_text}
 use Rattle.osek_io.specs.Sunk.{sunk}
 use Rattle.command_runs.specs.Playing.{given, Puts}

@@ -1,7 +1,6 @@
 -- the lines so far were put
 use Rattle.std.proofs.Common.{◌≡◌, ℕ, length, take}
-use Rattle.std.specs.List.{flat_map, enumerate_from}
-use Rattle.std.specs.declared.option.Option.{Option}
+use Rattle.std.specs.{List.{flat_map, enumerate_from}, declared.option.Option.{Option}}
 use Rattle.image_model.specs.declared.site.Site.{Site}
 use Rattle.flow_text.specs.Texts.{site_text}
 use Rattle.osek_io.specs.Sunk.{sunk}

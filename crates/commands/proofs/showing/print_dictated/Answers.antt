@@ -5,8 +5,7 @@ use Rattle.image_model.specs.declared.image.Version.TheVariants as version
 use Rattle.flow_text.specs.{FlowLines.{counts_line}, Texts.{sites_text, edges_text, show_text}}
 use Rattle.osek_io.specs.Sunk.{sunk}
 use Rattle.command_runs.specs.Playing.{given, Puts, PutsPrefix}
-use Rattle.command_runs.proofs.GivenTexts.{puts_both, puts_prefix_of_first, puts_prefix_behind}
-use Rattle.command_runs.proofs.Results.{on_err}
+use Rattle.command_runs.proofs.{GivenTexts.{puts_both, puts_prefix_of_first, puts_prefix_behind}, Results.{on_err}}
 use Rattle.commands.proofs.showing.print_dictated.Goals as goal
 
 pub returns-in_err-print_sites-clause-prefix : goal.returns-in_err-print_sites-clause-prefix

@@ -6,8 +6,7 @@ use Rattle.flow_text.specs.Texts.{show_text}
 use Rattle.command_runs.specs.{Inputs.{no_memory}, Outside.{Outside, outside}, declared.stop.Stop.{Stop}}
 use Rattle.commands.specs.{Compiling.{OfApp}, Printing.{PrintsWhole, PrintAnswers}, Showing.{IsDictated, TellsLeast, ShowAnswers, stops, tells}}
 use Rattle.commands.specs.declared.showing.Dictated.{Dictated}
-use Rattle.commands.proofs.Compiles.{over_app}
-use Rattle.commands.proofs.ShownEdges.{begin_at_points, end_at_points}
+use Rattle.commands.proofs.{Compiles.{over_app}, ShownEdges.{begin_at_points, end_at_points}}
 use Rattle.commands.proofs.showing.show.Goals as goal
 
 -- what was printed of an application that was compiled

@@ -3,8 +3,7 @@ use Rattle.std.proofs.Common.{refl, sym, subst, Some}
 use Rattle.commands.specs.Answering.{CommandAnswers}
 use Rattle.osek_io.specs.Sunk.{sunk}
 use Rattle.command_runs.specs.Outside.{outside}
-use Rattle.commands.specs.Seen.{seen}
-use Rattle.commands.specs.declared.words.Command.{Command}
+use Rattle.commands.specs.{Seen.{seen}, declared.words.Command.{Command}}
 use Rattle.commands.proofs.top.carry_out.Goals as goal
 
 pub returns-in-Build : goal.returns-in-Build

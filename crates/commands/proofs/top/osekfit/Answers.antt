@@ -1,15 +1,12 @@
 -- the command that the words are, its answer, and that it is the one which is due
 use Rattle.std.proofs.Common.{ℕ, List, sym, subst, map, Global, Err}
-use Rattle.std.specs.String.{string_bytes}
-use Rattle.std.specs.declared.option.Option.{Option}
-use Rattle.commands.specs.Answering.{CommandAnswers, Does, Tells}
-use Rattle.commands.specs.Due.{IsDue}
+use Rattle.std.specs.{String.{string_bytes}, declared.option.Option.{Option}}
+use Rattle.commands.specs.{Answering.{CommandAnswers, Does, Tells}, Due.{IsDue}}
 use Rattle.osek_io.specs.Sunk.{sunk}
 use Rattle.command_runs.specs.Outside.{outside}
 use Rattle.commands.specs.Words.{Command, command_of}
 use Rattle.command_runs.specs.declared.stop.Stop.TheVariants as stop
-use Rattle.commands.proofs.Exact.{exact_of}
-use Rattle.commands.proofs.WantOfMemory.{memory_answers}
+use Rattle.commands.proofs.{Exact.{exact_of}, WantOfMemory.{memory_answers}}
 use Rattle.commands.proofs.top.osekfit.Goals as goal
 
 pub returns-in-Ok-clause-does : goal.returns-in-Ok-clause-does

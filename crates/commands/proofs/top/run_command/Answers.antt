@@ -1,15 +1,12 @@
 -- the command, its answer, and that it is the one which is due
 use Rattle.std.proofs.Common.{ℕ, List, refl, option_map, inl, Ok, Err}
-use Rattle.std.specs.declared.option.Option.{Option}
-use Rattle.std.specs.declared.result.Result.{Result}
+use Rattle.std.specs.declared.{option.Option.{Option}, result.Result.{Result}}
 use Rattle.commands.specs.Answering.{CommandAnswers, Tells}
 use Rattle.osek_io.specs.Sunk.{sunk}
 use Rattle.command_runs.specs.Outside.{outside}
-use Rattle.commands.specs.Seen.{seen}
-use Rattle.commands.specs.Words.{Command}
+use Rattle.commands.specs.{Seen.{seen}, Words.{Command}}
 use Rattle.command_runs.specs.declared.stop.Stop.{Stop}
-use Rattle.commands.proofs.Commands.{does_of}
-use Rattle.commands.proofs.Exact.{exact_of}
+use Rattle.commands.proofs.{Commands.{does_of}, Exact.{exact_of}}
 use Rattle.command_runs.proofs.GivenTexts.{grown-nil}
 use Rattle.commands.proofs.top.run_command.Goals as goal
 

@@ -1,12 +1,9 @@
 -- the application that was compiled runs as the kernel
 use Rattle.std.proofs.Common.{refl, inl}
-use Rattle.osek_standard.specs.TraceText.{kernel_trace}
-use Rattle.osek_standard.specs.declared.app.App.{App}
+use Rattle.osek_standard.specs.{TraceText.{kernel_trace}, declared.app.App.{App}}
 use Rattle.image_model.specs.ImageTrace.{image_trace, has_trap}
 use Rattle.osek_io.specs.Sunk.{sunk}
-use Rattle.command_runs.specs.Inputs.{no_memory}
-use Rattle.command_runs.specs.Outside.{Told, beside, outside}
-use Rattle.command_runs.specs.Running.{RunAnswers}
+use Rattle.command_runs.specs.{Inputs.{no_memory}, Outside.{Told, beside, outside}, Running.{RunAnswers}}
 use Rattle.commands.specs.Tracing.{never, stops, runs}
 use Rattle.commands.proofs.Compiles.{over_app}
 use Rattle.command_runs.proofs.FaultlessReads.{earlier, then_reads}

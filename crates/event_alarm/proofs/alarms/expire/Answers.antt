@@ -1,14 +1,9 @@
 -- the alarm is due at its counter's value and at no other, and a rearmed alarm keeps the state well-formed
 use Rattle.std.proofs.Common.{◌≡◌, ◌≢◌, ◌<◌, ℕ, ◌+◌, ◌%◌, length, sym, subst, arith, rules}
-use Rattle.osek_standard.specs.declared.app.App.{App}
-use Rattle.osek_standard.specs.declared.state.{State.{State}, AlarmState.{AlarmState}, AlarmState.TheVariants.{Idle, Armed}}
+use Rattle.osek_standard.specs.declared.{app.App.{App}, state.{State.{State}, AlarmState.{AlarmState, TheVariants.{Idle, Armed}}}}
 use Rattle.std.specs.Prelude.{◌==◌}
-use Rattle.osek_standard.specs.Apps.{max_of}
-use Rattle.osek_standard.specs.Services.{expire, rearmed}
-use Rattle.osek_standard.specs.States.{alarm_state, with_alarm}
-use Rattle.osek_standard.specs.Well.{Well, IsAlarmState}
-use Rattle.osek_standard.proofs.AlarmKeeps.{with_alarm_keeps}
-use Rattle.osek_standard.proofs.BoolLaws.{either_way}
+use Rattle.osek_standard.specs.{Apps.{max_of}, Services.{expire, rearmed}, States.{alarm_state, with_alarm}, Well.{Well, IsAlarmState}}
+use Rattle.osek_standard.proofs.{AlarmKeeps.{with_alarm_keeps}, BoolLaws.{either_way}}
 use Rattle.event_alarm.proofs.alarms.expire.Goals as goal
 
 rearmed_keeps : (app : App) (s t : State) (a at cycle : ℕ) (x : AlarmState) → t ≡ with_alarm s a x → x ≡ rearmed app a (Armed at cycle) → alarm_state s a ≡ Armed at cycle →

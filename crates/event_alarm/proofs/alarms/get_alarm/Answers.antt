@@ -1,7 +1,6 @@
 -- at the alarm's own value a whole round is left
 use Rattle.std.proofs.Common.{◌≡◌, ◌+◌, Some, rules}
-use Rattle.osek_values.specs.declared.status.{Status.TheVariants.{Ok}, Ask.TheVariants.{No}}
-use Rattle.osek_values.specs.declared.notes.Value.TheVariants.{Number}
+use Rattle.osek_values.specs.declared.{status.{Status.TheVariants.{Ok}, Ask.TheVariants.{No}}, notes.Value.TheVariants.{Number}}
 use Rattle.osek_standard.specs.Services.{get_alarm, answer}
 use Rattle.event_alarm.proofs.alarms.get_alarm.Goals as goal
 

@@ -1,9 +1,6 @@
 -- the alarm expires so many ticks on, round the counter, and the state stays well-formed
 use Rattle.std.proofs.Common.{◌≡◌, ◌+◌, ◌%◌, sym, subst, rules}
-use Rattle.osek_standard.specs.declared.state.AlarmState.TheVariants.{Armed}
-use Rattle.osek_standard.specs.States.{with_alarm}
-use Rattle.osek_standard.specs.Services.{set_rel_alarm}
-use Rattle.osek_standard.specs.Well.{Well}
+use Rattle.osek_standard.specs.{declared.state.AlarmState.TheVariants.{Armed}, States.{with_alarm}, Services.{set_rel_alarm}, Well.{Well}}
 use Rattle.osek_standard.proofs.AlarmKeeps.{set_rel_alarm_keeps}
 use Rattle.event_alarm.proofs.alarms.set_rel_alarm.Goals as goal
 

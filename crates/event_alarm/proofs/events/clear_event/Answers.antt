@@ -1,10 +1,7 @@
 -- the state is the row's, and the row keeps it well-formed
 use Rattle.std.proofs.Common.{◌≡◌, sym, subst, rules}
-use Rattle.osek_standard.specs.States.{with_task, caller}
-use Rattle.osek_standard.specs.Services.{clear_event}
-use Rattle.osek_standard.specs.Well.{Well}
-use Rattle.osek_standard.proofs.Callers.{calls, known_caller}
-use Rattle.osek_standard.proofs.EventKeeps.{clear_event_keeps}
+use Rattle.osek_standard.specs.{States.{with_task, caller}, Services.{clear_event}, Well.{Well}}
+use Rattle.osek_standard.proofs.{Callers.{calls, known_caller}, EventKeeps.{clear_event_keeps}}
 use Rattle.event_alarm.proofs.events.clear_event.Goals as goal
 
 pub returns-clause-well : goal.returns-clause-well

@@ -1,9 +1,6 @@
 -- each state is the row's, and the row keeps it well-formed
 use Rattle.std.proofs.Common.{◌≡◌, sym, subst, rules}
-use Rattle.osek_standard.specs.declared.task_state.Activity.TheVariants.{Live}
-use Rattle.osek_standard.specs.States.{with_task}
-use Rattle.osek_standard.specs.Services.{set_event}
-use Rattle.osek_standard.specs.Well.{Well}
+use Rattle.osek_standard.specs.{declared.task_state.Activity.TheVariants.{Live}, States.{with_task}, Services.{set_event}, Well.{Well}}
 use Rattle.osek_standard.proofs.EventKeeps.{set_event_keeps}
 use Rattle.event_alarm.proofs.events.set_event.Goals as goal
 

@@ -2,9 +2,7 @@ use Rattle.std.proofs.Common.{◌≡◌, List, length, sym, ap, subst, ◌∙◌
 use Rattle.std.specs.Prelude.{Contains}
 use Rattle.std.proofs.lemmas.List.{length-map}
 use Rattle.abstract_state.specs.declared.value.Domain.{Domain}
-use Rattle.numbered_sets.specs.Numbers.{Numbers}
-use Rattle.numbered_sets.specs.Pools.{Values}
-use Rattle.numbered_sets.specs.declared.table.NumberedRow.{NumberedRow}
+use Rattle.numbered_sets.specs.{Numbers.{Numbers}, Pools.{Values}, declared.table.NumberedRow.{NumberedRow}}
 use Rattle.flow_cases.proofs.point_tables.text_of.Goals as goal
 
 -- a row has a set for each component of the pool

@@ -1,14 +1,9 @@
 use Rattle.std.proofs.Common.{◌≡◌, List, [], ◌∷◌, map, refl, sym, ap, subst, ◌∙◌}
 use Rattle.std.specs.Prelude.{Contains}
-use Rattle.abstract_state.specs.declared.value.Domain.{Domain}
-use Rattle.abstract_state.specs.declared.table.PlainEntry.{PlainEntry}
-use Rattle.abstract_state.specs.Domains.{domains}
-use Rattle.flow_model.specs.declared.rule.Rule.{Rule}
-use Rattle.flow_model.specs.Effects.{AreAllAllowed}
-use Rattle.numbered_sets.specs.Pools.{no_values, pool_domains}
-use Rattle.numbered_sets.specs.Views.{plain_entry}
-use Rattle.numbered_sets.proofs.ViewLaws.{same_view, still_known, same_domains}
-use Rattle.numbered_sets.proofs.NumberingLaws.{longer_onward}
+use Rattle.abstract_state.specs.{declared.{value.Domain.{Domain}, table.PlainEntry.{PlainEntry}}, Domains.{domains}}
+use Rattle.flow_model.specs.{declared.rule.Rule.{Rule}, Effects.{AreAllAllowed}}
+use Rattle.numbered_sets.specs.{Pools.{no_values, pool_domains}, Views.{plain_entry}}
+use Rattle.numbered_sets.proofs.{ViewLaws.{same_view, still_known, same_domains}, NumberingLaws.{longer_onward}}
 use Rattle.flow_rules.specs.Applying.{KeepsDomains}
 use Rattle.flow_rules.proofs.KeptDomains.{exact_keep}
 use Rattle.flow_cases.proofs.rules_at_points.outcomes.Goals as goal

@@ -5,8 +5,7 @@ use Rattle.osek_standard.specs.declared.block.Kind.TheVariants as kind
 use Rattle.osek_standard.specs.declared.call.Call.{Call}
 use Rattle.flow_effects.specs.Moves.{halts}
 use Rattle.flow_effects.proofs.MoveCases.{halt_cases}
-use Rattle.flow_model.specs.Runners.{runner_point}
-use Rattle.flow_model.specs.Effects.{AreCasesOf}
+use Rattle.flow_model.specs.{Runners.{runner_point}, Effects.{AreCasesOf}}
 use Rattle.flow_effects.proofs.Listed.{ok_list}
 use Rattle.flow_effects.proofs.instruction.call_cases.Goals as goal
 

@@ -1,15 +1,11 @@
 -- at the point of the runner
 use Rattle.std.proofs.Common.{◌≡◌, List, sym, subst}
-use Rattle.std.specs.Prelude.{IfOk}
-use Rattle.std.specs.declared.result.Result.{Result}
+use Rattle.std.specs.{Prelude.{IfOk}, declared.result.Result.{Result}}
 use Rattle.std.proofs.lemmas.Result.{IfOk-weaker}
 use Rattle.osek_values.specs.declared.memory.Memory.{Memory}
-use Rattle.osek_standard.specs.declared.app.App.{App}
-use Rattle.osek_standard.specs.declared.point.Point.{Point}
-use Rattle.abstract_state.specs.declared.table.PlainEntry.{PlainEntry}
-use Rattle.abstract_state.specs.Domains.{domains, domains_of}
-use Rattle.flow_model.specs.declared.case.EffectCase.{EffectCase}
-use Rattle.flow_model.specs.Effects.{AreAllAllowed, CoverEffects, AreExactEffects, HaveKnownStays, AreCasesOf}
+use Rattle.osek_standard.specs.declared.{app.App.{App}, point.Point.{Point}}
+use Rattle.abstract_state.specs.{declared.table.PlainEntry.{PlainEntry}, Domains.{domains, domains_of}}
+use Rattle.flow_model.specs.{declared.case.EffectCase.{EffectCase}, Effects.{AreAllAllowed, CoverEffects, AreExactEffects, HaveKnownStays, AreCasesOf}}
 use Rattle.flow_effects.proofs.instruction.effect_cases.Goals as goal
 
 module _ (app : App) (p q : Point) (result : Result (List EffectCase) Memory) (is : p ≡ q) (cases : IfOk result (AreCasesOf app q)) where

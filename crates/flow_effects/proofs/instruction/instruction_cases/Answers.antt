@@ -1,13 +1,9 @@
 -- by the lemma of each kind
 use Rattle.std.proofs.Common.{refl, ap, ◌∙◌}
-use Rattle.osek_standard.specs.declared.block.{Block.{Block}}
-use Rattle.flow_model.specs.Runners.{runner_point}
-use Rattle.flow_model.specs.Effects.{AreCasesOf}
+use Rattle.osek_standard.specs.declared.block.Block.{Block}
+use Rattle.flow_model.specs.{Runners.{runner_point}, Effects.{AreCasesOf}}
 use Rattle.flow_effects.specs.Moves.{onward, work_cases, choice_cases}
-use Rattle.flow_effects.proofs.Listed.{ok_list}
-use Rattle.flow_effects.proofs.MoveCases.{all_work, both_ways, loop_cases, count_cases}
-use Rattle.flow_effects.proofs.TaskEndCases.{all_task_ends}
-use Rattle.flow_effects.proofs.ReturnCases.{all_returns}
+use Rattle.flow_effects.proofs.{Listed.{ok_list}, MoveCases.{all_work, both_ways, loop_cases, count_cases}, TaskEndCases.{all_task_ends}, ReturnCases.{all_returns}}
 use Rattle.flow_effects.proofs.instruction.instruction_cases.Goals as goal
 
 pub returns-in-Work : goal.returns-in-Work

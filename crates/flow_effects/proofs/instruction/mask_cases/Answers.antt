@@ -6,8 +6,7 @@ use Rattle.flow_effects.specs.CallNames as call
 use Rattle.osek_standard.specs.declared.call.MaskService.{MaskService}
 use Rattle.flow_effects.specs.Waiting.{wait_cases}
 use Rattle.flow_effects.proofs.WaitingCases.{all_waits}
-use Rattle.flow_model.specs.Runners.{runner_point}
-use Rattle.flow_model.specs.Effects.{AreCasesOf}
+use Rattle.flow_model.specs.{Runners.{runner_point}, Effects.{AreCasesOf}}
 use Rattle.flow_effects.proofs.Listed.{ok_list}
 use Rattle.flow_effects.proofs.instruction.mask_cases.Goals as goal
 

@@ -6,8 +6,7 @@ use Rattle.flow_effects.specs.CallNames as call
 use Rattle.osek_standard.specs.declared.call.PlainService.{PlainService}
 use Rattle.flow_effects.specs.TaskEnds.{terminate_cases, schedule_cases}
 use Rattle.flow_effects.proofs.TaskEndCases.{all_terminates, all_schedules}
-use Rattle.flow_model.specs.Runners.{runner_point}
-use Rattle.flow_model.specs.Effects.{AreCasesOf}
+use Rattle.flow_model.specs.{Runners.{runner_point}, Effects.{AreCasesOf}}
 use Rattle.flow_effects.proofs.Listed.{ok_list}
 use Rattle.flow_effects.proofs.instruction.plain_cases.Goals as goal
 

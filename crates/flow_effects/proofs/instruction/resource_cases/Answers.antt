@@ -6,8 +6,7 @@ use Rattle.flow_effects.specs.CallNames as call
 use Rattle.osek_standard.specs.declared.call.ResourceService.{ResourceService}
 use Rattle.flow_effects.specs.Resources.{get_cases, release_cases}
 use Rattle.flow_effects.proofs.ResourceCases.{all_gets, all_releases}
-use Rattle.flow_model.specs.Runners.{runner_point}
-use Rattle.flow_model.specs.Effects.{AreCasesOf}
+use Rattle.flow_model.specs.{Runners.{runner_point}, Effects.{AreCasesOf}}
 use Rattle.flow_effects.proofs.Listed.{ok_list}
 use Rattle.flow_effects.proofs.instruction.resource_cases.Goals as goal
 

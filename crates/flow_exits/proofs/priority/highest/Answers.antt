@@ -1,9 +1,7 @@
 -- one more ceiling is counted
 use Rattle.std.proofs.Common.{◌≡◌, ℕ, ◌+◌, ◌<◌, max, List, length, drop, get_or, add-one, drop-cons}
-use Rattle.osek_values.specs.Numbers.{res_no}
-use Rattle.osek_values.specs.declared.numbers.ResNo.{ResNo}
-use Rattle.osek_standard.specs.declared.app.App.{App}
-use Rattle.osek_standard.specs.Priority.{ceiling, highest}
+use Rattle.osek_values.specs.{Numbers.{res_no}, declared.numbers.ResNo.{ResNo}}
+use Rattle.osek_standard.specs.{declared.app.App.{App}, Priority.{ceiling, highest}}
 use Rattle.flow_exits.proofs.priority.highest.Goals as goal
 
 counts : (app : App) (p q i : ℕ) (xs : List ResNo) (whole : ℕ) → i < length xs → highest app p (drop i xs) ≡ whole → q ≡ max p (ceiling app (get_or xs i (res_no 0)).0) → highest app q (drop (i + 1) xs) ≡ whole

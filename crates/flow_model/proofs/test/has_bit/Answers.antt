@@ -1,5 +1,4 @@
-use Rattle.std.proofs.Common.{◌≡◌, ◌∙◌, sym, arith, false, nat_lt}
-use Rattle.std.proofs.lemmas.Bool.Decides.{nat_tests}
+use Rattle.std.proofs.{Common.{◌≡◌, ◌∙◌, sym, arith, false, nat_lt}, lemmas.Bool.Decides.{nat_tests}}
 use Rattle.flow_model.proofs.BitRange.{no_such_bit}
 use Rattle.flow_model.proofs.test.has_bit.Goals as goal
 

@@ -1,6 +1,5 @@
-use Rattle.std.proofs.Common.{◌+◌, List, sym, subst}
-use Rattle.abstract_state.specs.declared.table.ValueSet.{ValueSet}
-use Rattle.abstract_state.specs.Tables.{empty_set}
+use Rattle.std.proofs.Common.{◌+◌, sym, subst}
+use Rattle.abstract_state.specs.{declared.table.ValueSet.{ValueSet}, Tables.{empty_set}}
 use Rattle.flow_rules.specs.Allowed.{may_be, IsPartOf}
 use Rattle.flow_rules.proofs.AllowedSets.{ArePartsUpTo, parts_more}
 use Rattle.flow_rules.proofs.allowing.allowed_part.Goals as goal

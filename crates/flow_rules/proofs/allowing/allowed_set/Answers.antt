@@ -1,11 +1,7 @@
 use Rattle.std.proofs.Common.{◌≡◌, ◌+◌, ◌<◌, ◌||◌, List, length, get_or, sym, ap, subst, ◌∙◌}
-use Rattle.abstract_state.specs.declared.value.PartValue.{PartValue}
-use Rattle.abstract_state.specs.declared.table.ValueSet.{ValueSet}
-use Rattle.abstract_state.specs.ValueOrder.{same_part}
-use Rattle.abstract_state.specs.Tables.{is_member}
+use Rattle.abstract_state.specs.{declared.value.PartValue.{PartValue}, ValueOrder.{same_part}, Tables.{is_member}}
 use Rattle.flow_rules.specs.Allowed.{may_be}
-use Rattle.flow_rules.proofs.AllowedSets.{IsPartUpTo, part_put, part_passed}
-use Rattle.flow_rules.proofs.allowing.allowed_set.Goals.{then-may_be+in_ok-insert, else-may_be}
+use Rattle.flow_rules.proofs.{AllowedSets.{IsPartUpTo, part_put, part_passed}, allowing.allowed_set.Goals.{then-may_be+in_ok-insert, else-may_be}}
 use Rattle.flow_rules.proofs.allowing.allowed_set.Goals as goal
 
 pub loop-value-preserved : goal.loop-value-preserved

@@ -1,14 +1,9 @@
-use Rattle.std.proofs.Common.{length, refl, sym, subst, List, ◌∙◌, arith}
-use Rattle.std.proofs.lemmas.Bool.{OnTrue_at, OnFalse_at}
+use Rattle.std.proofs.{Common.{length, refl, sym, subst, List, ◌∙◌, arith}, lemmas.Bool.{OnTrue_at, OnFalse_at}}
 use Rattle.flow_model.specs.declared.{rule.Rule.{Rule}, test.Condition.{Condition}}
-use Rattle.numbered_sets.specs.declared.numbered_entry.NumberedEntry.{NumberedEntry}
-use Rattle.numbered_sets.specs.Pools.{Values, IsLonger}
+use Rattle.numbered_sets.specs.{declared.numbered_entry.NumberedEntry.{NumberedEntry}, Pools.{Values, IsLonger}}
 use Rattle.numbered_sets.proofs.NumberingLaws.{longer_onward}
-use Rattle.flow_rules.specs.Changing.{up_to, AreAllPassed}
-use Rattle.flow_rules.specs.Sifting.{AreSifted, LeavesNone}
-use Rattle.flow_rules.proofs.NumbersPassing.{made_applies}
-use Rattle.flow_rules.proofs.SiftedSets.{all_sifted, sifted_domains, taken_of_filled, none_taken}
-use Rattle.flow_rules.proofs.ChangedSets.{stays_within, all_changes}
+use Rattle.flow_rules.specs.{Changing.{up_to, AreAllPassed}, Sifting.{AreSifted, LeavesNone}}
+use Rattle.flow_rules.proofs.{NumbersPassing.{made_applies}, SiftedSets.{all_sifted, sifted_domains, taken_of_filled, none_taken}, ChangedSets.{stays_within, all_changes}}
 use Rattle.flow_rules.proofs.applying.apply.Goals as goal
 
 pub returns-then-not-may_pass-clause-none : goal.returns-then-not-may_pass-clause-none

@@ -1,13 +1,9 @@
 use Rattle.std.proofs.Common.{◌≡◌, ◌<◌, ◌≤◌, ◌+◌, length, get_or, set, true, false, sym, ap, ap₂, subst, ℕ, ◌∙◌, List, map, arith}
 use Rattle.flow_model.specs.declared.change.Change.{Change}
-use Rattle.numbered_sets.specs.Numbers.{Numbers}
-use Rattle.numbered_sets.specs.NumberedEntries.{no_set}
-use Rattle.numbered_sets.proofs.CopiedEntries.{domains_put}
-use Rattle.numbered_sets.proofs.NumberingLaws.{longer_itself}
-use Rattle.flow_rules.specs.Applying.{IsPassedSet}
-use Rattle.flow_rules.specs.Changing.{is_named, up_to, alone, AreAllPassed}
-use Rattle.flow_rules.proofs.NumbersPassing.{alike_there, known_there}
-use Rattle.flow_rules.proofs.ChangedSets.{changed_none, changed_beyond, changed_one}
+use Rattle.numbered_sets.specs.{Numbers.{Numbers}, NumberedEntries.{no_set}}
+use Rattle.numbered_sets.proofs.{CopiedEntries.{domains_put}, NumberingLaws.{longer_itself}}
+use Rattle.flow_rules.specs.{Applying.{IsPassedSet}, Changing.{is_named, up_to, alone, AreAllPassed}}
+use Rattle.flow_rules.proofs.{NumbersPassing.{alike_there, known_there}, ChangedSets.{changed_none, changed_beyond, changed_one}}
 use Rattle.flow_rules.proofs.applying.change.Goals.{then-component-len-via-then-component-len, then-component-len-via-else-component-len+then-is_named}
 use Rattle.flow_rules.proofs.applying.change.Goals as goal
 

@@ -1,10 +1,7 @@
-use Rattle.std.proofs.Common.{◌≡◌, ℕ, ◌++◌, List, get_or, flat_map, take, sym, ap, ◌∙◌, arith}
-use Rattle.osek_standard.specs.declared.app.App.{App}
+use Rattle.std.proofs.Common.{◌≡◌, ℕ, ◌++◌, List, get_or, flat_map, sym, ap, ◌∙◌, arith}
 use Rattle.abstract_state.specs.declared.value.{Component.{Component}, ComponentNo.{ComponentNo}, PartValue.{PartValue}}
 use Rattle.abstract_state.specs.declared.value.Component.TheVariants as component
-use Rattle.abstract_state.specs.declared.table.ValueSet.{ValueSet}
-use Rattle.abstract_state.specs.Components.{component_number, component_no}
-use Rattle.abstract_state.specs.Tables.{empty_set, set_at}
+use Rattle.abstract_state.specs.{declared.table.ValueSet.{ValueSet}, Components.{component_number, component_no}, Tables.{empty_set, set_at}}
 use Rattle.abstract_state.proofs.Numbers.{number_known}
 use Rattle.flow_model.specs.declared.test.Condition.{Condition}
 use Rattle.flow_rules.proofs.KeptDomains.{size}

@@ -1,6 +1,5 @@
-use Rattle.std.proofs.Common.{◌≡◌, List, take, flat_map}
-use Rattle.abstract_state.specs.Components.{component_number, component_no}
-use Rattle.abstract_state.specs.declared.value.Component.{Component}
+use Rattle.std.proofs.Common.{◌≡◌, take, flat_map}
+use Rattle.abstract_state.specs.{Components.{component_number, component_no}, declared.value.Component.{Component}}
 use Rattle.flow_rules.specs.Ruling.{bars_at}
 use Rattle.flow_rules.proofs.barring.barred.Given as goal
 

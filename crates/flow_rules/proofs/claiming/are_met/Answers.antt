@@ -1,8 +1,7 @@
 use Rattle.std.proofs.Common.{◌≡◌, ℕ, false, not, get_or, sym, ap, subst, ◌∙◌, inl, inr, arith}
 use Rattle.std.specs.declared.option.Option.{Option}
 use Rattle.std.proofs.lemmas.Bool.{cases_eq}
-use Rattle.flow_exits.specs.Claims.{limit_of}
-use Rattle.flow_exits.specs.Needs.{is_too_low}
+use Rattle.flow_exits.specs.{Claims.{limit_of}, Needs.{is_too_low}}
 use Rattle.flow_rules.proofs.LeftLaws.{not_too_low}
 use Rattle.flow_rules.proofs.claiming.are_met.Goals as goal
 

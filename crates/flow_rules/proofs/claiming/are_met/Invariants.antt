@@ -1,6 +1,5 @@
 use Rattle.std.proofs.Common.{◌≡◌, ℕ, ◌<◌, false, get_or}
-use Rattle.flow_exits.specs.Claims.{limit_of}
-use Rattle.flow_exits.specs.Needs.{is_too_low}
+use Rattle.flow_exits.specs.{Claims.{limit_of}, Needs.{is_too_low}}
 use Rattle.flow_rules.proofs.claiming.are_met.Given as goal
 
 abbrev pub invariant-loop-task : goal.invariant-loop-task

@@ -1,6 +1,5 @@
 use Rattle.std.proofs.Common.{sym, ◌∙◌}
-use Rattle.flow_rules.proofs.LeftLaws.{unlimited_left, limited_left}
-use Rattle.flow_rules.proofs.OwnLevels.{own_known, own_levels, all_judged}
+use Rattle.flow_rules.proofs.{LeftLaws.{unlimited_left, limited_left}, OwnLevels.{own_known, own_levels, all_judged}}
 use Rattle.flow_rules.proofs.claiming.keep_under.Goals as goal
 
 pub of-requires : goal.of-requires

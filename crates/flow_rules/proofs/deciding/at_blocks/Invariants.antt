@@ -1,6 +1,5 @@
 use Rattle.std.proofs.Common.{◌-◌, ◌≤◌, ◌<◌, IsTrue}
-use Rattle.numbered_sets.specs.Numbers.{has_number}
-use Rattle.numbered_sets.specs.NumberedEntries.{numbers_at}
+use Rattle.numbered_sets.specs.{Numbers.{has_number}, NumberedEntries.{numbers_at}}
 use Rattle.flow_rules.proofs.BlockLaws.{AreBlocksBelow}
 use Rattle.flow_rules.proofs.deciding.at_blocks.Given as goal
 

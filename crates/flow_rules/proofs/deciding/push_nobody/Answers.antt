@@ -1,14 +1,10 @@
 use Rattle.std.proofs.Common.{subst, arith, IfSome, IfNone, length}
 use Rattle.std.specs.declared.option.Option.{Option}
-use Rattle.numbered_sets.specs.declared.numbered_entry.NumberedEntry.{NumberedEntry}
-use Rattle.numbered_sets.specs.NumberedEntries.{AreFilled}
+use Rattle.numbered_sets.specs.{declared.numbered_entry.NumberedEntry.{NumberedEntry}, NumberedEntries.{AreFilled}}
 use Rattle.flow_exits.specs.declared.claim.Claim.TheVariants as claim
 use Rattle.flow_exits.specs.Outcomes.{idle_decision}
-use Rattle.flow_rules.specs.Narrowing.{IsLeft, is_under_limit, NeverUnder}
-use Rattle.flow_rules.specs.Deciding.{IsIt}
-use Rattle.flow_rules.proofs.LeftLaws.{tasks_counted, as_many_left, known_left}
-use Rattle.flow_rules.proofs.ExitLaws.{adds_group}
-use Rattle.flow_rules.proofs.ClaimedGroups.{idle_known, left_sound, nobody_group, nobody_never}
+use Rattle.flow_rules.specs.{Narrowing.{IsLeft, is_under_limit, NeverUnder}, Deciding.{IsIt}}
+use Rattle.flow_rules.proofs.{LeftLaws.{tasks_counted, as_many_left, known_left}, ExitLaws.{adds_group}, ClaimedGroups.{idle_known, left_sound, nobody_group, nobody_never}}
 use Rattle.flow_rules.proofs.deciding.push_nobody.Goals as goal
 
 pub left_by-requires-clause-size : goal.left_by-requires-clause-size

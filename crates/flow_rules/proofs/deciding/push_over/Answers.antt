@@ -1,10 +1,8 @@
 use Rattle.std.proofs.Common.{◌<◌, Bool, length, sym, ap, subst, arith}
 use Rattle.std.specs.Bool.{OnTrue, OnFalse}
-use Rattle.numbered_sets.specs.declared.numbered_entry.NumberedEntry.{NumberedEntry}
-use Rattle.numbered_sets.specs.NumberedEntries.{AreFilled, HasEmptySet}
+use Rattle.numbered_sets.specs.{declared.numbered_entry.NumberedEntry.{NumberedEntry}, NumberedEntries.{AreFilled, HasEmptySet}}
 use Rattle.flow_rules.specs.Narrowing.{AreNeeds}
-use Rattle.flow_rules.proofs.LeftLaws.{tasks_counted}
-use Rattle.flow_rules.proofs.OwnLevels.{own_known}
+use Rattle.flow_rules.proofs.{LeftLaws.{tasks_counted}, OwnLevels.{own_known}}
 use Rattle.flow_rules.proofs.WholeLaws.{narrowed_live, known_live, as_many_live, all_alive, unknown_task, never_runs, running_adds, over_it}
 use Rattle.flow_rules.proofs.deciding.push_over.Goals as goal
 

@@ -2,8 +2,7 @@ use Rattle.std.proofs.Common.{subst}
 use Rattle.flow_model.specs.declared.case.Decision.TheVariants as decision
 use Rattle.numbered_sets.specs.declared.numbered_entry.NumberedEntry.{NumberedEntry}
 use Rattle.flow_rules.specs.Deciding.{IsAny, AddsOne}
-use Rattle.flow_rules.proofs.ExitLaws.{adds_group}
-use Rattle.flow_rules.proofs.WholeLaws.{unasked_group}
+use Rattle.flow_rules.proofs.{ExitLaws.{adds_group}, WholeLaws.{unasked_group}}
 use Rattle.flow_rules.proofs.deciding.push_unasked.Goals as goal
 
 pub returns : goal.returns

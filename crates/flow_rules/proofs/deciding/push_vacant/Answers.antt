@@ -1,7 +1,6 @@
 use Rattle.std.proofs.Common.{length, sym, subst, arith}
 use Rattle.flow_rules.specs.Narrowing.{AreNeeds}
-use Rattle.flow_rules.proofs.LeftLaws.{tasks_counted}
-use Rattle.flow_rules.proofs.WholeLaws.{over_vacant, vacant_adds}
+use Rattle.flow_rules.proofs.{LeftLaws.{tasks_counted}, WholeLaws.{over_vacant, vacant_adds}}
 use Rattle.flow_rules.proofs.deciding.push_vacant.Goals as goal
 
 pub needs-requires-clause-size : goal.needs-requires-clause-size

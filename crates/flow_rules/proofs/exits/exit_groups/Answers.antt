@@ -1,7 +1,6 @@
 use Rattle.std.proofs.Common.{List, subst}
 use Rattle.numbered_sets.specs.Views.{plain_entry}
-use Rattle.flow_rules.specs.declared.group.ExitGroup.{ExitGroup}
-use Rattle.flow_rules.specs.Leaving.{AddsArrivals}
+use Rattle.flow_rules.specs.{declared.group.ExitGroup.{ExitGroup}, Leaving.{AddsArrivals}}
 use Rattle.flow_rules.proofs.LeavingPoints.{passive_exits, executing_exits}
 use Rattle.flow_rules.proofs.exits.exit_groups.Goals as goal
 

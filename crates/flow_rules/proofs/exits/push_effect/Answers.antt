@@ -1,15 +1,9 @@
 use Rattle.std.proofs.Common.{◌≡◌, ◌∙◌, sym, subst}
-use Rattle.std.specs.Prelude.{IfSome, IfNone}
-use Rattle.std.specs.declared.option.Option.{Option}
+use Rattle.std.specs.{Prelude.{IfSome, IfNone}, declared.option.Option.{Option}}
 use Rattle.std.proofs.lemmas.Result.{on_ok_weaker}
-use Rattle.flow_model.specs.declared.rule.Rule.{Rule}
-use Rattle.flow_model.specs.Rules.{Applies, HasNone}
-use Rattle.numbered_sets.specs.declared.numbered_entry.NumberedEntry.{NumberedEntry}
-use Rattle.numbered_sets.specs.NumberedEntries.{number_domains}
-use Rattle.numbered_sets.specs.Views.{plain_entry, AreNumbersOf}
-use Rattle.flow_rules.proofs.LevelLaws.{levels_longer}
-use Rattle.flow_rules.proofs.LeavingPoints.{sets_counted, pool_has_tasks, applied_filled}
-use Rattle.flow_rules.proofs.AddingEffects.{effect_added, effect_skipped}
+use Rattle.flow_model.specs.{declared.rule.Rule.{Rule}, Rules.{Applies, HasNone}}
+use Rattle.numbered_sets.specs.{declared.numbered_entry.NumberedEntry.{NumberedEntry}, NumberedEntries.{number_domains}, Views.{plain_entry, AreNumbersOf}}
+use Rattle.flow_rules.proofs.{LevelLaws.{levels_longer}, LeavingPoints.{sets_counted, pool_has_tasks, applied_filled}, AddingEffects.{effect_added, effect_skipped}}
 use Rattle.flow_rules.proofs.exits.push_effect.Goals as goal
 
 pub returns-in_default-clause-levels : goal.returns-in_default-clause-levels

@@ -3,10 +3,8 @@ use Rattle.abstract_state.specs.declared.table.PlainEntry.{PlainEntry}
 use Rattle.numbered_sets.specs.Views.{plain_entry}
 use Rattle.numbered_sets.proofs.ViewLaws.{same_view, same_domains}
 use Rattle.flow_exits.specs.Leaving.{effect_rule}
-use Rattle.flow_rules.specs.Applying.{KeepsDomains}
-use Rattle.flow_rules.specs.Leaving.{AddsEffects}
-use Rattle.flow_rules.proofs.AddingEffects.{effects_on}
-use Rattle.flow_rules.proofs.EffectDomains.{effect_keeps_domains}
+use Rattle.flow_rules.specs.{Applying.{KeepsDomains}, Leaving.{AddsEffects}}
+use Rattle.flow_rules.proofs.{AddingEffects.{effects_on}, EffectDomains.{effect_keeps_domains}}
 use Rattle.flow_rules.proofs.exits.push_effects.Goals as goal
 
 pub push_effect-requires-clause-kept : goal.push_effect-requires-clause-kept

@@ -1,8 +1,7 @@
 use Rattle.std.proofs.Common.{◌≡◌, ◌≤◌, ℕ, length, get_or, take}
 use Rattle.flow_model.specs.declared.case.EffectCase.{EffectCase}
 use Rattle.numbered_sets.specs.Views.{plain_entry}
-use Rattle.flow_rules.specs.Levels.{AreLevels}
-use Rattle.flow_rules.specs.Leaving.{AddsEffects}
+use Rattle.flow_rules.specs.{Levels.{AreLevels}, Leaving.{AddsEffects}}
 use Rattle.flow_rules.proofs.exits.push_effects.Given as goal
 
 abbrev pub invariant-loop-place : goal.invariant-loop-place

@@ -1,5 +1,4 @@
-use Rattle.std.proofs.Common.{◌∙◌}
-use Rattle.std.proofs.lemmas.Result.{on_ok_weaker}
+use Rattle.std.proofs.{Common.{◌∙◌}, lemmas.Result.{on_ok_weaker}}
 use Rattle.numbered_sets.specs.Views.{plain_entry}
 use Rattle.numbered_sets.proofs.ViewLaws.{same_domains}
 use Rattle.flow_rules.proofs.exits.push_instructions.Goals as goal

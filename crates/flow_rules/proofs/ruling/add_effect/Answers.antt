@@ -1,19 +1,12 @@
 use Rattle.std.proofs.Common.{◌≡◌, ◌∷◌, ◌++◌, [], ◌∙◌, List, map, flat_map, sym, ap, subst}
 use Rattle.std.specs.Prelude.{Contains}
 use Rattle.std.proofs.lemmas.Result.{on_ok_weaker}
-use Rattle.abstract_state.specs.declared.table.PlainEntry.{PlainEntry}
-use Rattle.abstract_state.specs.Domains.{domains}
+use Rattle.abstract_state.specs.{declared.table.PlainEntry.{PlainEntry}, Domains.{domains}}
 use Rattle.flow_model.specs.declared.{case.{EffectCase.{EffectCase}, OutcomeCase.{OutcomeCase}}, change.Change.{Change}}
 use Rattle.numbered_sets.specs.Views.{plain_entry}
 use Rattle.numbered_sets.proofs.ViewLaws.{same_domains}
-use Rattle.numbered_sets.proofs.NumberingLaws.{longer_itself}
 use Rattle.flow_exits.specs.Leaving.{effect_rule}
-use Rattle.flow_rules.specs.Assembly.{rule_of}
-use Rattle.flow_rules.specs.Applying.{KeepsDomains}
-use Rattle.flow_rules.specs.declared.group.ExitGroup.{ExitGroup}
-use Rattle.flow_rules.specs.Groups.{all_exits}
-use Rattle.flow_rules.specs.Leaving.{AddsEffects}
-use Rattle.flow_rules.specs.Ruling.{outcomes_by}
+use Rattle.flow_rules.specs.{Assembly.{rule_of}, Applying.{KeepsDomains}, declared.group.ExitGroup.{ExitGroup}, Groups.{all_exits}, Leaving.{AddsEffects}, Ruling.{outcomes_by}}
 use Rattle.flow_rules.proofs.RuledExits.{exits_ruled}
 use Rattle.flow_rules.proofs.ruling.add_effect.Goals as goal
 

@@ -1,25 +1,15 @@
-use Rattle.std.proofs.Common.{◌≡◌, ◌∙◌, ℕ, List, All, get_or, take, sym, ap, subst, arith, refl}
+use Rattle.std.proofs.Common.{◌≡◌, ◌∙◌, ℕ, List, sym, ap, subst, arith}
 use Rattle.std.specs.Prelude.{Contains}
 use Rattle.std.proofs.lemmas.List.{take_all}
-use Rattle.abstract_state.specs.declared.value.PartValue.{PartValue}
-use Rattle.abstract_state.specs.declared.table.PlainEntry.{PlainEntry}
-use Rattle.abstract_state.specs.Concrete.{AreAllowed}
-use Rattle.abstract_state.specs.Domains.{IsSound, domains, domains_of}
-use Rattle.flow_model.specs.declared.case.EffectCase.{EffectCase}
-use Rattle.flow_model.specs.Effects.{AreAllAllowed}
-use Rattle.numbered_sets.specs.NumberedEntries.{number_domains}
-use Rattle.numbered_sets.specs.Pools.{Values, pool_domains, IsLonger}
-use Rattle.numbered_sets.specs.Views.{plain_entry, AreNumbersOf}
-use Rattle.numbered_sets.proofs.ViewLaws.{same_view, still_known, same_domains}
-use Rattle.numbered_sets.proofs.NumberingLaws.{longer_itself, longer_onward}
+use Rattle.abstract_state.specs.{declared.table.PlainEntry.{PlainEntry}, Domains.{domains, domains_of}}
+use Rattle.flow_model.specs.{declared.case.EffectCase.{EffectCase}, Effects.{AreAllAllowed}}
+use Rattle.numbered_sets.specs.{NumberedEntries.{number_domains}, Pools.{pool_domains}, Views.{plain_entry}}
+use Rattle.numbered_sets.proofs.{ViewLaws.{same_view, still_known, same_domains}, NumberingLaws.{longer_itself, longer_onward}}
 use Rattle.flow_exits.specs.Leaving.{effect_rule}
 use Rattle.flow_rules.specs.Assembly.{AreAllAdded}
 use Rattle.flow_rules.proofs.PointRules.{none_added, added_on}
-use Rattle.flow_rules.specs.Applying.{KeepsDomains}
-use Rattle.flow_rules.specs.Allowed.{IsAllowedPart}
-use Rattle.flow_rules.proofs.EffectDomains.{effect_keeps_domains}
-use Rattle.flow_rules.proofs.LeavingPoints.{numbers_counted, pool_counted, pool_has_tasks}
-use Rattle.flow_rules.proofs.RuledExits.{rules_added}
+use Rattle.flow_rules.specs.{Applying.{KeepsDomains}, Allowed.{IsAllowedPart}}
+use Rattle.flow_rules.proofs.{EffectDomains.{effect_keeps_domains}, LeavingPoints.{numbers_counted, pool_counted, pool_has_tasks}, RuledExits.{rules_added}}
 use Rattle.flow_rules.proofs.RuledPoints.{all_allowed, allowed_there, from_domains, from_sound}
 use Rattle.flow_rules.proofs.ruling.add_instructions.Goals as goal
 

@@ -1,8 +1,6 @@
 use Rattle.std.proofs.Common.{take}
-use Rattle.numbered_sets.specs.Pools.{IsLonger}
-use Rattle.numbered_sets.specs.Views.{plain_entry}
-use Rattle.flow_rules.specs.Levels.{AreLevels}
-use Rattle.flow_rules.specs.Assembly.{AreAllAdded}
+use Rattle.numbered_sets.specs.{Pools.{IsLonger}, Views.{plain_entry}}
+use Rattle.flow_rules.specs.{Levels.{AreLevels}, Assembly.{AreAllAdded}}
 use Rattle.flow_rules.proofs.ruling.add_instructions.Given as goal
 
 abbrev pub invariant-loop-effect : goal.invariant-loop-effect

@@ -1,6 +1,5 @@
 use Rattle.std.proofs.Common.{◌≡◌, ◌++◌, map, take}
-use Rattle.flow_rules.specs.declared.group.NumberEnd.{NumberEnd}
-use Rattle.flow_rules.specs.Groups.{exit_at, holding}
+use Rattle.flow_rules.specs.{declared.group.NumberEnd.{NumberEnd}, Groups.{exit_at, holding}}
 use Rattle.flow_rules.proofs.ruling.push_exits.Given as goal
 
 abbrev pub invariant-loop-point : goal.invariant-loop-point

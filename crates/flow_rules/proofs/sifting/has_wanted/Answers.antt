@@ -1,9 +1,6 @@
-use Rattle.std.proofs.Common.{◌≡◌, ◌<◌, ◌∙◌, ◌∷◌, [], ℕ, length, ap, sym, arith}
-use Rattle.std.proofs.lemmas.Bool.{OnFalse_from}
+use Rattle.std.proofs.{Common.{◌≡◌, ◌<◌, ◌∙◌, ◌∷◌, [], ℕ, length, ap, sym, arith}, lemmas.Bool.{OnFalse_from}}
 use Rattle.abstract_state.specs.Tables.{is_member}
-use Rattle.numbered_sets.specs.NumberedEntries.{numbers_at}
-use Rattle.numbered_sets.specs.Pools.{values_at}
-use Rattle.numbered_sets.specs.Views.{plain_set}
+use Rattle.numbered_sets.specs.{NumberedEntries.{numbers_at}, Pools.{values_at}, Views.{plain_set}}
 use Rattle.flow_rules.specs.Sifting.{LeavesNone}
 use Rattle.flow_rules.proofs.SiftedSets.{wants_missing}
 use Rattle.flow_rules.proofs.sifting.has_wanted.Goals as goal

@@ -1,6 +1,5 @@
 use Rattle.std.proofs.Common.{List, map, ap, ◌∙◌, arith}
-use Rattle.numbered_sets.specs.Numbers.{Numbers}
-use Rattle.numbered_sets.specs.NumberedEntries.{numbers_at, number_domains}
+use Rattle.numbered_sets.specs.{Numbers.{Numbers}, NumberedEntries.{numbers_at, number_domains}}
 use Rattle.numbered_sets.proofs.CopiedEntries.{domains_put}
 use Rattle.flow_rules.proofs.sifting.keep_passing.Goals as goal
 

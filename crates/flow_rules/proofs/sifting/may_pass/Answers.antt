@@ -1,5 +1,4 @@
-use Rattle.std.proofs.Common.{sym}
-use Rattle.std.proofs.lemmas.Bool.{OnFalse_at}
+use Rattle.std.proofs.{Common.{sym}, lemmas.Bool.{OnFalse_at}}
 use Rattle.flow_rules.proofs.SiftedSets.{leaves_among}
 use Rattle.flow_rules.proofs.sifting.may_pass.Goals as goal
 

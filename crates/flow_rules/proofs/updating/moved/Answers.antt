@@ -1,14 +1,9 @@
 use Rattle.std.proofs.Common.{◌≡◌, ◌<◌, ◌+◌, List, [], length, take, sym, ap, subst, ◌∙◌, arith}
-use Rattle.abstract_state.specs.declared.value.{Domain.{Domain}, PartValue.{PartValue}}
-use Rattle.abstract_state.specs.Domains.{IsWithin}
+use Rattle.abstract_state.specs.{declared.value.{Domain.{Domain}, PartValue.{PartValue}}, Domains.{IsWithin}}
 use Rattle.flow_model.specs.Tests.{updated}
-use Rattle.numbered_sets.specs.Numbers.{numbers, has_number}
-use Rattle.numbered_sets.specs.Pools.{values_at}
-use Rattle.numbered_sets.specs.Views.{values_with}
-use Rattle.numbered_sets.proofs.NumberingLaws.{same_domain}
-use Rattle.numbered_sets.proofs.PlainLaws.{member_of_plain, value_with_number}
-use Rattle.flow_rules.specs.Applying.{IsPassedSoFar}
-use Rattle.flow_rules.specs.Changing.{alone}
+use Rattle.numbered_sets.specs.{Numbers.{numbers, has_number}, Pools.{values_at}, Views.{values_with}}
+use Rattle.numbered_sets.proofs.{NumberingLaws.{same_domain}, PlainLaws.{member_of_plain, value_with_number}}
+use Rattle.flow_rules.specs.{Applying.{IsPassedSoFar}, Changing.{alone}}
 use Rattle.flow_rules.proofs.NumbersPassing.{next_value, values_skip_to, passed_begun, passed_whole, number_on, number_there, one_value}
 use Rattle.flow_rules.proofs.updating.moved.Goals as goal
 

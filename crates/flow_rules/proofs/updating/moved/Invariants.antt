@@ -1,9 +1,6 @@
 use Rattle.std.proofs.Common.{take, ◌-◌, ◌≤◌, ◌<◌, IsTrue}
-use Rattle.numbered_sets.specs.Numbers.{has_number}
-use Rattle.numbered_sets.specs.Pools.{values_at}
-use Rattle.numbered_sets.specs.Views.{values_with}
-use Rattle.flow_rules.specs.Applying.{IsPassedSoFar}
-use Rattle.flow_rules.specs.Changing.{alone}
+use Rattle.numbered_sets.specs.{Numbers.{has_number}, Pools.{values_at}, Views.{values_with}}
+use Rattle.flow_rules.specs.{Applying.{IsPassedSoFar}, Changing.{alone}}
 use Rattle.flow_rules.proofs.updating.moved.Given as goal
 
 abbrev pub decreases-loop-number : goal.decreases-loop-number

@@ -1,13 +1,10 @@
 use Rattle.std.proofs.Common.{◌≡◌, ◌++◌, ◌∷◌, [], set, refl, sym, ap, subst, ◌∙◌}
 use Rattle.abstract_state.specs.declared.value.PartValue.{PartValue}
 use Rattle.flow_model.specs.Tests.{updated, value_after}
-use Rattle.numbered_sets.specs.Numbers.{Numbers}
-use Rattle.numbered_sets.specs.Pools.{values_at, seen_at, value_seen, IsNumberOf, IsLonger}
+use Rattle.numbered_sets.specs.{Numbers.{Numbers}, Pools.{values_at, seen_at, value_seen, IsNumberOf, IsLonger}}
 use Rattle.numbered_sets.proofs.ViewLaws.{longer_with}
-use Rattle.flow_rules.specs.Applying.{IsPassedSoFar}
-use Rattle.flow_rules.specs.Changing.{alone}
-use Rattle.flow_rules.proofs.NumbersPassing.{passed_more, one_value}
-use Rattle.flow_rules.proofs.ChangedSets.{after_one}
+use Rattle.flow_rules.specs.{Applying.{IsPassedSoFar}, Changing.{alone}}
+use Rattle.flow_rules.proofs.{NumbersPassing.{passed_more, one_value}, ChangedSets.{after_one}}
 use Rattle.flow_rules.proofs.updating.put_updated.Goals as goal
 
 pub returns-in_err-insert-clause-pool : goal.returns-in_err-insert-clause-pool

@@ -1,17 +1,10 @@
-use Rattle.std.proofs.Common.{◌≡◌, ◌∷◌, [], sym, ap, subst, ◌∙◌}
-use Rattle.std.proofs.lemmas.Bool.{eqb-true}
-use Rattle.abstract_state.specs.declared.value.{Domain.{Domain}, PartValue.{PartValue}}
-use Rattle.abstract_state.specs.Domains.{IsWithin}
-use Rattle.flow_model.specs.declared.change.Update.{Update}
-use Rattle.flow_model.specs.Tests.{updated, value_after}
-use Rattle.numbered_sets.specs.Numbers.{Numbers, numbers, with_number}
-use Rattle.numbered_sets.specs.Pools.{values_at, domain_at, IsLonger}
-use Rattle.numbered_sets.proofs.SiftLaws.{some_value}
-use Rattle.numbered_sets.proofs.ViewLaws.{longer_with}
-use Rattle.flow_rules.specs.Applying.{IsPassedSet}
-use Rattle.flow_rules.specs.Changing.{alone}
-use Rattle.flow_rules.proofs.ChangedSets.{after_one}
-use Rattle.flow_rules.proofs.SetValues.{none_passed, set_passed, some_left}
+use Rattle.std.proofs.{Common.{◌≡◌, ◌∷◌, [], sym, ap, subst, ◌∙◌}, lemmas.Bool.{eqb-true}}
+use Rattle.abstract_state.specs.{declared.value.{Domain.{Domain}, PartValue.{PartValue}}, Domains.{IsWithin}}
+use Rattle.flow_model.specs.{declared.change.Update.{Update}, Tests.{updated, value_after}}
+use Rattle.numbered_sets.specs.{Numbers.{Numbers, numbers, with_number}, Pools.{values_at, domain_at, IsLonger}}
+use Rattle.numbered_sets.proofs.{SiftLaws.{some_value}, ViewLaws.{longer_with}}
+use Rattle.flow_rules.specs.{Applying.{IsPassedSet}, Changing.{alone}}
+use Rattle.flow_rules.proofs.{ChangedSets.{after_one}, SetValues.{none_passed, set_passed, some_left}}
 use Rattle.flow_rules.proofs.updating.replaced.Goals as goal
 
 pub returns-then-is_empty-clause-passed : goal.returns-then-is_empty-clause-passed

@@ -1,10 +1,7 @@
 use Rattle.std.proofs.Common.{List, Some, length, sym, ap, subst, ◌∙◌, arith}
 use Rattle.flow_model.specs.declared.case.Decision.TheVariants as decision
-use Rattle.flow_rules.specs.declared.task_levels.Level.{Level}
-use Rattle.flow_rules.specs.Deciding.{AddsFor, IsAtFirst}
-use Rattle.flow_rules.proofs.OwnLevels.{own_known, level_of_own, level_listed}
-use Rattle.flow_rules.proofs.AddingLaws.{no_level, one_level_more, all_levels}
-use Rattle.flow_rules.proofs.ClaimedGroups.{winner_live, no_running_winner}
+use Rattle.flow_rules.specs.{declared.task_levels.Level.{Level}, Deciding.{AddsFor, IsAtFirst}}
+use Rattle.flow_rules.proofs.{OwnLevels.{own_known, level_of_own, level_listed}, AddingLaws.{no_level, one_level_more, all_levels}, ClaimedGroups.{winner_live, no_running_winner}}
 use Rattle.flow_rules.proofs.winning.push_winner.Goals as goal
 
 pub returns-then-is_running : goal.returns-then-is_running

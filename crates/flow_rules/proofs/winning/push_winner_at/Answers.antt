@@ -3,11 +3,8 @@ use Rattle.std.specs.declared.option.Option.{Option}
 use Rattle.flow_model.specs.declared.case.Decision.TheVariants as decision
 use Rattle.numbered_sets.specs.declared.numbered_entry.NumberedEntry.{NumberedEntry}
 use Rattle.flow_exits.specs.declared.claim.Claim.TheVariants as claim
-use Rattle.flow_rules.specs.Narrowing.{NeverUnder}
-use Rattle.flow_rules.specs.Deciding.{IsAtLevel}
-use Rattle.flow_rules.proofs.LeftLaws.{tasks_counted}
-use Rattle.flow_rules.proofs.ExitLaws.{adds_group}
-use Rattle.flow_rules.proofs.ClaimedGroups.{met_at, left_there, cut, gets_free, winner_group, no_winner_met, no_winner_under}
+use Rattle.flow_rules.specs.{Narrowing.{NeverUnder}, Deciding.{IsAtLevel}}
+use Rattle.flow_rules.proofs.{LeftLaws.{tasks_counted}, ExitLaws.{adds_group}, ClaimedGroups.{met_at, left_there, cut, gets_free, winner_group, no_winner_met, no_winner_under}}
 use Rattle.flow_rules.proofs.winning.push_winner_at.Goals as goal
 
 pub meets-requires : goal.meets-requires

@@ -2,19 +2,14 @@
 use Rattle.std.proofs.Common.{◌≡◌, ℕ, Bool, true, false, List, [], ◌∷◌, ◌++◌, map, sym, ap, subst, ◌∙◌, Some}
 use Rattle.osek_values.specs.declared.numbers.BlockNo.{BlockNo}
 use Rattle.oil_system.specs.declared.objects.{Action.{Action}, Alarm.{Alarm}}
-use Rattle.osek_standard.specs.declared.app.App.{App}
-use Rattle.osek_standard.specs.Apps.{the_alarm}
-use Rattle.abstract_state.specs.declared.value.PartValue.TheVariants.{OfAlarm}
-use Rattle.abstract_state.specs.Components.{component_no}
+use Rattle.osek_standard.specs.{declared.app.App.{App}, Apps.{the_alarm}}
+use Rattle.abstract_state.specs.{declared.value.PartValue.TheVariants.{OfAlarm}, Components.{component_no}}
 use Rattle.flow_model.specs.declared.test.Condition.{Condition}
 use Rattle.flow_model.specs.declared.test.Test.TheVariants as test
 use Rattle.flow_model.specs.declared.case.EffectCase.{EffectCase}
 use Rattle.flow_model.specs.declared.case.Asked.TheVariants as asked
-use Rattle.flow_model.specs.declared.runner.Runner.{Runner}
-use Rattle.flow_model.specs.Cases.{condition}
-use Rattle.flow_services.specs.declared.occasion.Occasion.{Occasion}
-use Rattle.flow_services.specs.Occasions.{case_at, unnoted_case}
-use Rattle.flow_services.specs.Services.{actions, alarm_is, looking, expiring}
+use Rattle.flow_model.specs.{declared.runner.Runner.{Runner}, Cases.{condition}}
+use Rattle.flow_services.specs.{declared.occasion.Occasion.{Occasion}, Occasions.{case_at, unnoted_case}, Services.{actions, alarm_is, looking, expiring}}
 use Rattle.flow_services.proofs.alarms.expiries.Goals as goal
 
 abbrev expiring_at : Runner → BlockNo → Bool → ℕ → Occasion

@@ -3,16 +3,12 @@ use Rattle.std.specs.Prelude.{◌==◌, if◌then◌else◌, bit_and}
 use Rattle.std.proofs.lemmas.Result.{on_ok_weaker}
 use Rattle.osek_values.specs.declared.numbers.BlockNo.{BlockNo}
 use Rattle.osek_values.specs.declared.status.Status.TheVariants as status
-use Rattle.osek_standard.specs.declared.objects.Task.{Task}
-use Rattle.osek_standard.specs.Apps.{the_task, is_extended}
-use Rattle.flow_model.specs.declared.case.EffectCase.{EffectCase}
-use Rattle.flow_model.specs.declared.test.Condition.{Condition}
+use Rattle.osek_standard.specs.{declared.objects.Task.{Task}, Apps.{the_task, is_extended}}
+use Rattle.flow_model.specs.declared.{case.EffectCase.{EffectCase}, test.Condition.{Condition}}
 use Rattle.flow_model.specs.declared.test.Test.TheVariants as test
 use Rattle.flow_model.specs.Cases.{condition}
-use Rattle.flow_services.specs.Occasions.{ServiceCase, case_at, refused_case}
-use Rattle.flow_services.specs.Services.{awaiting_blocks, always, not_awaiting, settings, waking}
-use Rattle.flow_services.proofs.ListLaws.{two_and_mapped}
-use Rattle.flow_services.proofs.NamedEvents.{named, named_own}
+use Rattle.flow_services.specs.{Occasions.{ServiceCase, case_at, refused_case}, Services.{awaiting_blocks, always, not_awaiting, settings, waking}}
+use Rattle.flow_services.proofs.{ListLaws.{two_and_mapped}, NamedEvents.{named, named_own}}
 use Rattle.flow_services.proofs.events.add_event_settings.Goals as goal
 
 pub not_awaiting-requires-clause-own : goal.not_awaiting-requires-clause-own

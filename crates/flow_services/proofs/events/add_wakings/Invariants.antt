@@ -1,7 +1,6 @@
 use Rattle.std.proofs.Common.{◌≡◌, ◌++◌, take, map}
 use Rattle.osek_values.specs.declared.numbers.BlockNo.{BlockNo}
-use Rattle.flow_services.specs.Occasions.{case_at}
-use Rattle.flow_services.specs.Services.{waking}
+use Rattle.flow_services.specs.{Occasions.{case_at}, Services.{waking}}
 use Rattle.flow_services.proofs.events.add_wakings.Given as goal
 
 abbrev pub invariant-loop-block : goal.invariant-loop-block

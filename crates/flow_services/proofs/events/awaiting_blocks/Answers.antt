@@ -1,8 +1,6 @@
-use Rattle.std.proofs.Common.{◌≡◌, ◌<◌, ℕ, ◌+◌, length, map, All, filter, sym, ap, subst, ◌∙◌, arith}
-use Rattle.std.proofs.lemmas.List.Elements.{All-push}
+use Rattle.std.proofs.{Common.{◌≡◌, ◌<◌, ℕ, ◌+◌, length, map, All, filter, sym, ap, subst, ◌∙◌, arith}, lemmas.List.Elements.{All-push}}
 use Rattle.std.specs.List.{range_with_len}
-use Rattle.osek_values.specs.Numbers.{block_no}
-use Rattle.osek_values.specs.declared.numbers.BlockNo.{BlockNo}
+use Rattle.osek_values.specs.{Numbers.{block_no}, declared.numbers.BlockNo.{BlockNo}}
 use Rattle.osek_standard.specs.declared.objects.Task.{Task}
 use Rattle.osek_standard.proofs.WellLaws.{owner_of}
 use Rattle.abstract_state.proofs.RangeLaws.{passed_more, failed_more}

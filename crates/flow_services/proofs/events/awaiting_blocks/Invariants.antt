@@ -1,7 +1,6 @@
 use Rattle.std.proofs.Common.{◌≡◌, ◌<◌, ℕ, ◌+◌, length, map, filter, All}
 use Rattle.std.specs.List.{range_with_len}
-use Rattle.osek_values.specs.Numbers.{block_no}
-use Rattle.osek_values.specs.declared.numbers.BlockNo.{BlockNo}
+use Rattle.osek_values.specs.{Numbers.{block_no}, declared.numbers.BlockNo.{BlockNo}}
 use Rattle.flow_services.specs.Services.{awaits}
 use Rattle.flow_services.proofs.events.awaiting_blocks.Given as goal
 

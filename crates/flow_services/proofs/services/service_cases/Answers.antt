@@ -1,6 +1,5 @@
 use Rattle.std.proofs.lemmas.Result.{IfOk-weaker}
-use Rattle.flow_model.specs.Effects.{AreCasesOf}
-use Rattle.flow_model.specs.Runners.{runner_point}
+use Rattle.flow_model.specs.{Effects.{AreCasesOf}, Runners.{runner_point}}
 use Rattle.flow_services.proofs.ServiceListing.{call_listed, expiry_listed}
 use Rattle.flow_services.proofs.services.service_cases.Goals as goal
 

@@ -3,8 +3,7 @@ use Rattle.std.specs.List.{range_with_len}
 use Rattle.osek_values.specs.Bits.{has_bit, bits_of}
 use Rattle.abstract_state.specs.declared.value.PartValue.TheVariants.{OfEvent}
 use Rattle.flow_model.specs.declared.change.Update.TheVariants as update
-use Rattle.flow_model.specs.Runners.{change}
-use Rattle.flow_model.specs.Changes.{event_change}
+use Rattle.flow_model.specs.{Runners.{change}, Changes.{event_change}}
 use Rattle.flow_services.proofs.ListLaws.{passed_after, failed_after}
 use Rattle.flow_services.proofs.tasks.add_event_changes.Goals as goal
 use Rattle.flow_services.proofs.tasks.add_event_changes.Goals.{then-has+in_ok-push, else-has}

@@ -5,14 +5,12 @@ use Rattle.osek_values.specs.declared.refusal.Rule.TheVariants as rule
 use Rattle.osek_values.specs.declared.refusal.TextFile.TheVariants as file
 use Rattle.osek_standard.specs.declared.app.App.{App}
 use Rattle.oil_system.specs.declared.system.System.{System}
-use Rattle.oil_lexer.specs.declared.token.Token.{Token}
-use Rattle.oil_lexer.specs.Text.{AreTokens}
+use Rattle.oil_lexer.specs.{declared.token.Token.{Token}, Text.{AreTokens}}
 use Rattle.task_code.specs.Faults.{IsFirstFault}
 use Rattle.osek_values.specs.declared.refused.Refused.{Refused}
 use Rattle.osek_values.specs.declared.refused.Refused.TheVariants as errors
 use Rattle.osek_values.specs.Answers.{IsRight}
-use Rattle.front_end.specs.Answers.{IsCodeAnswer}
-use Rattle.front_end.specs.Texts.{IsCodeFault}
+use Rattle.front_end.specs.{Answers.{IsCodeAnswer}, Texts.{IsCodeFault}}
 use Rattle.front_end.proofs.code_text.read.Goals as goal
 
 refuses : (s : System) (text : List ℕ) (e : Refused Refusal) (line : ℕ) (q : Rule) → e ≡ errors.Fault (record { file = file.Code; line = line; rule = q }) → IsCodeFault s text q line →

@@ -1,5 +1,4 @@
-use Rattle.front_end.proofs.OneAnswer.{one_oil, one_code}
-use Rattle.front_end.proofs.SomeAnswer.{some_oil, declared_is_linkable, some_code}
+use Rattle.front_end.proofs.{OneAnswer.{one_oil, one_code}, SomeAnswer.{some_oil, declared_is_linkable, some_code}}
 use Rattle.front_end.proofs.laws.one_answer.Goals as goal
 
 pub returns-clause-some_system : goal.returns-clause-some_system

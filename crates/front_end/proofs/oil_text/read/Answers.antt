@@ -7,8 +7,7 @@ use Rattle.oil_system.specs.declared.system.System.{System}
 use Rattle.osek_values.specs.declared.refused.Refused.{Refused}
 use Rattle.osek_values.specs.declared.refused.Refused.TheVariants as errors
 use Rattle.osek_values.specs.Answers.{IsRight}
-use Rattle.front_end.specs.Answers.{IsOilAnswer}
-use Rattle.front_end.specs.Texts.{IsOilFault}
+use Rattle.front_end.specs.{Answers.{IsOilAnswer}, Texts.{IsOilFault}}
 use Rattle.front_end.proofs.oil_text.read.Goals as goal
 
 refuses : (text : List ℕ) (e : Refused Refusal) (line : ℕ) (q : Rule) → e ≡ errors.Fault (record { file = file.Oil; line = line; rule = q }) → IsOilFault text q line →

@@ -1,11 +1,8 @@
 -- the lowest latched source is the first flag that is set
 use Rattle.std.proofs.Common.{◌≡◌, ℕ, ◌∙◌, Bool, false, cond, List, Some, None, sym, ap}
-use Rattle.std.specs.Prelude.{option_map, position}
-use Rattle.std.specs.declared.option.Option.{Option}
+use Rattle.std.specs.{Prelude.{option_map, position}, declared.option.Option.{Option}}
 use Rattle.osek_values.specs.Numbers.{source_no}
-use Rattle.osek_standard.specs.declared.app.App.{App}
-use Rattle.osek_standard.specs.declared.state.State.{State}
-use Rattle.osek_standard.specs.Arrivals.{arrival, takes_none}
+use Rattle.osek_standard.specs.{declared.{app.App.{App}, state.State.{State}}, Arrivals.{arrival, takes_none}}
 use Rattle.osek_standard.proofs.ArrivalLaws.{arrival_by_flags}
 use Rattle.generic_kernel.proofs.arrivals.arrival.Goals as goal
 

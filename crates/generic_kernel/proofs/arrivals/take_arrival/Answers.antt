@@ -1,8 +1,7 @@
 -- the source is in the table, and its arrival keeps the state well-formed
 use Rattle.std.proofs.Common.{sym, subst, arith}
 use Rattle.osek_standard.specs.Well.{Well}
-use Rattle.osek_standard.proofs.ArrivalLaws.{arrival_is, latched_known}
-use Rattle.osek_standard.proofs.RoutineKeeps.{arrival_keeps}
+use Rattle.osek_standard.proofs.{ArrivalLaws.{arrival_is, latched_known}, RoutineKeeps.{arrival_keeps}}
 use Rattle.generic_kernel.proofs.arrivals.take_arrival.Goals as goal
 
 pub enter-requires-clause-known : goal.enter-requires-clause-known

@@ -2,8 +2,7 @@
 use Rattle.std.proofs.Common.{◌∙◌, sym, ap, subst}
 use Rattle.std.specs.declared.option.Option.{Option}
 use Rattle.osek_values.specs.declared.numbers.TaskNo.{TaskNo}
-use Rattle.osek_standard.specs.Effects.{Effect}
-use Rattle.osek_standard.specs.States.{is_that_task}
+use Rattle.osek_standard.specs.{Effects.{Effect}, States.{is_that_task}}
 use Rattle.generic_kernel.specs.Changes.{ChangesOwn}
 use Rattle.generic_kernel.proofs.TaskLaws.{effect_changes_own}
 use Rattle.generic_kernel.proofs.effects.effect.Goals as goal

@@ -1,10 +1,8 @@
 -- the effect is that of the instruction where the caller stands; it keeps the state well-formed, and asks for the
 -- processor only where no routine runs
 use Rattle.std.proofs.Common.{◌∙◌, ap, subst}
-use Rattle.osek_standard.specs.Effects.{Effect}
-use Rattle.osek_standard.specs.Well.{Well}
-use Rattle.osek_standard.proofs.EffectKeeps.{effect_keeps}
-use Rattle.osek_standard.proofs.AskLaws.{MayDispatch, effect_may}
+use Rattle.osek_standard.specs.{Effects.{Effect}, Well.{Well}}
+use Rattle.osek_standard.proofs.{EffectKeeps.{effect_keeps}, AskLaws.{MayDispatch, effect_may}}
 use Rattle.generic_kernel.proofs.EffectLaws.{effect_here, may_dispatch_as}
 use Rattle.generic_kernel.proofs.effects.perform.Goals as goal
 

@@ -1,9 +1,7 @@
 -- over a non-preemptive task nothing is asked
 use Rattle.std.proofs.Common.{◌≡◌, None, rules}
 use Rattle.osek_values.specs.declared.status.Ask.TheVariants.{No}
-use Rattle.osek_standard.specs.declared.state.{State.{State}, Processor.TheVariants.{Running}}
-use Rattle.osek_standard.specs.Services.{answer}
-use Rattle.osek_standard.specs.Effects.{returned}
+use Rattle.osek_standard.specs.{declared.state.{State.{State}, Processor.TheVariants.{Running}}, Services.{answer}, Effects.{returned}}
 use Rattle.generic_kernel.proofs.effects.return_from_routine.Goals as goal
 
 pub returns-in-Non : goal.returns-in-Non

@@ -1,7 +1,6 @@
 -- a tick leaves each task as high as it was
 use Rattle.std.proofs.Common.{◌≡◌, ◌∙◌, sym, ap}
-use Rattle.osek_standard.specs.declared.state.State.{State}
-use Rattle.osek_standard.specs.Effects.{place_at}
+use Rattle.osek_standard.specs.{declared.state.State.{State}, Effects.{place_at}}
 use Rattle.generic_kernel.specs.Levels.{level}
 use Rattle.generic_kernel.proofs.SilentLaws.{moved_levels, counted_levels}
 use Rattle.generic_kernel.proofs.effects.silent_at.Goals as goal

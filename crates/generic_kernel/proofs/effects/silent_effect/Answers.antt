@@ -3,12 +3,8 @@
 use Rattle.std.proofs.Common.{◌≡◌, ◌∙◌, Some, None, IfSome, IfNone, ap, subst, sym}
 use Rattle.std.specs.declared.option.Option.{Option}
 use Rattle.osek_values.specs.declared.status.Ask.{Ask}
-use Rattle.osek_standard.specs.declared.state.State.{State}
-use Rattle.osek_standard.specs.Dispatch.{nothing_noted}
-use Rattle.osek_standard.specs.Effects.{Effect, effect, effected}
-use Rattle.osek_standard.specs.Well.{Well}
-use Rattle.osek_standard.proofs.EffectKeeps.{effect_keeps}
-use Rattle.osek_standard.proofs.AskLaws.{MayDispatch as MayAsk, effect_may}
+use Rattle.osek_standard.specs.{declared.state.State.{State}, Dispatch.{nothing_noted}, Effects.{Effect, effect, effected}, Well.{Well}}
+use Rattle.osek_standard.proofs.{EffectKeeps.{effect_keeps}, AskLaws.{MayDispatch as MayAsk, effect_may}}
 use Rattle.generic_kernel.proofs.EffectLaws.{effect_here, may_dispatch_as}
 use Rattle.generic_kernel.proofs.effects.silent_effect.Goals as goal
 

@@ -4,10 +4,7 @@ use denote.Enum.Bare.{sameb}
 use Rattle.osek_values.specs.declared.status.Ask.{Ask}
 use Rattle.osek_values.specs.declared.status.Ask.TheVariants as ask
 use Rattle.osek_values.specs.contracts.status.Ask.{the_type}
-use Rattle.osek_standard.specs.declared.state.State.{State}
-use Rattle.osek_standard.specs.States.{caller}
-use Rattle.osek_standard.specs.Services.{Answer}
-use Rattle.osek_standard.specs.Well.{InOwner}
+use Rattle.osek_standard.specs.{declared.state.State.{State}, States.{caller}, Services.{Answer}, Well.{InOwner}}
 use Rattle.generic_kernel.proofs.EffectLaws.{waits_or_stays}
 use Rattle.generic_kernel.proofs.effects.wait_or_go.Goals as goal
 

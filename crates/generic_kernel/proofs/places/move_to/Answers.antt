@@ -1,9 +1,6 @@
 -- a move within the owner's blocks keeps a state well-formed
 use Rattle.std.proofs.Common.{◌≡◌, sym, subst, rules}
-use Rattle.osek_standard.specs.declared.task_state.Activity.TheVariants.{Live}
-use Rattle.osek_standard.specs.States.{with_task}
-use Rattle.osek_standard.specs.Effects.{moved}
-use Rattle.osek_standard.specs.Well.{Well}
+use Rattle.osek_standard.specs.{declared.task_state.Activity.TheVariants.{Live}, States.{with_task}, Effects.{moved}, Well.{Well}}
 use Rattle.osek_standard.proofs.Keeps.{moved_keeps}
 use Rattle.generic_kernel.proofs.places.move_to.Goals as goal
 

@@ -1,12 +1,8 @@
 -- the start is well-formed
 use Rattle.std.proofs.Common.{◌≡◌, ap, subst}
-use Rattle.std.specs.Prelude.{IfOk, Ok, Err}
-use Rattle.std.specs.declared.result.Result.{Result}
+use Rattle.std.specs.{Prelude.{IfOk, Ok, Err}, declared.result.Result.{Result}}
 use Rattle.osek_values.specs.declared.notes.Notes.{Notes}
-use Rattle.osek_standard.specs.declared.state.State.{State}
-use Rattle.osek_standard.specs.Dispatch.{Stepped, stepped}
-use Rattle.osek_standard.specs.Kernel.{start}
-use Rattle.osek_standard.specs.Well.{Well}
+use Rattle.osek_standard.specs.{declared.state.State.{State}, Dispatch.{Stepped, stepped}, Kernel.{start}, Well.{Well}}
 use Rattle.osek_standard.proofs.StepKeeps.{start_is_well}
 use Rattle.generic_kernel.proofs.startup.start.Goals as goal
 

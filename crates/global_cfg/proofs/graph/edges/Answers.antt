@@ -1,15 +1,10 @@
-use Rattle.std.proofs.Common.{◌<◌, ◌≤◌, ◌∙◌, ◌++◌, List, length, map, take, sym, ap, subst, arith}
-use Rattle.std.proofs.lemmas.List.{take_all}
+use Rattle.std.proofs.{Common.{◌<◌, ◌≤◌, ◌∙◌, ◌++◌, List, length, map, take, sym, ap, subst, arith}, lemmas.List.{take_all}}
 use Rattle.osek_standard.specs.declared.point.Point.{Point}
-use Rattle.abstract_state.specs.declared.table.TableRow.{TableRow}
-use Rattle.abstract_state.specs.Edges.{flow_edge}
+use Rattle.abstract_state.specs.{declared.table.TableRow.{TableRow}, Edges.{flow_edge}}
 use Rattle.numbered_sets.proofs.NumberingLaws.{longer_onward}
 use Rattle.numbered_sets.specs.PlainTables.{plain_row, AreRowsFor}
-use Rattle.numbered_sets.proofs.RowsByNumber.{as_many, row_known, row_is, row_listed}
-use Rattle.numbered_sets.proofs.WrittenRows.{row_there, row_allowed, row_filled, pool_has_tasks}
-use Rattle.global_cfg.proofs.ListTurns.{turn_done}
-use Rattle.global_cfg.proofs.TableRows.{earlier_row}
-use Rattle.global_cfg.proofs.EdgeLists.{AreOfRows, of_more_rows, of_all_rows}
+use Rattle.numbered_sets.proofs.{RowsByNumber.{as_many, row_known, row_is, row_listed}, WrittenRows.{row_there, row_allowed, row_filled, pool_has_tasks}}
+use Rattle.global_cfg.proofs.{ListTurns.{turn_done}, TableRows.{earlier_row}, EdgeLists.{AreOfRows, of_more_rows, of_all_rows}}
 use Rattle.global_cfg.proofs.graph.edges.Goals as goal
 
 pub new-requires : goal.new-requires

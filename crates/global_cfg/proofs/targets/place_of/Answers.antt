@@ -1,8 +1,5 @@
-use Rattle.std.proofs.Common.{rules, ◌∙◌, ltb, sym, ap, arith}
-use Rattle.std.proofs.lemmas.List.{get_or_default}
-use Rattle.std.proofs.lemmas.List.Sorted.{IsPartitionPoint-from_clause}
-use Rattle.osek_standard.specs.declared.point.Point.{Point}
-use Rattle.osek_standard.specs.Points.{point_number}
+use Rattle.std.proofs.{Common.{rules, ◌∙◌, ltb, sym, ap, arith}, lemmas.List.{get_or_default, Sorted.{IsPartitionPoint-from_clause}}}
+use Rattle.osek_standard.specs.{declared.point.Point.{Point}, Points.{point_number}}
 use Rattle.global_cfg.proofs.PointPlaces.{parted, gap_found}
 use Rattle.global_cfg.proofs.targets.place_of.Goals.{else-place-points-via-then-place-points+else-number, else-place-points-via-else-place-points}
 use Rattle.global_cfg.proofs.targets.place_of.Goals as goal

@@ -1,5 +1,4 @@
-use Rattle.std.proofs.Common.{◌∷◌, [], List, map, subst, take}
-use Rattle.std.proofs.lemmas.List.{take_all}
+use Rattle.std.proofs.{Common.{◌∷◌, [], List, map, subst, take}, lemmas.List.{take_all}}
 use Rattle.osek_standard.specs.declared.point.Point.{Point}
 use Rattle.flow_rules.specs.declared.group.NumberEnd.{NumberEnd}
 use Rattle.global_cfg.specs.Targets.{end_target, ArePutAfter}

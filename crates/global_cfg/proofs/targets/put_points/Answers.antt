@@ -1,5 +1,4 @@
-use Rattle.std.proofs.Common.{◌∷◌, [], List, sym, subst, take}
-use Rattle.std.proofs.lemmas.List.{take_all, take_more}
+use Rattle.std.proofs.{Common.{◌∷◌, [], List, sym, subst, take}, lemmas.List.{take_all, take_more}}
 use Rattle.osek_standard.specs.declared.point.Point.{Point}
 use Rattle.global_cfg.specs.Targets.{ArePutAfter}
 use Rattle.global_cfg.proofs.PuttingIn.{no_targets, targets_then}

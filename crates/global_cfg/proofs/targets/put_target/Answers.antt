@@ -1,8 +1,7 @@
 use Rattle.std.proofs.Common.{◌∙◌, ◌∷◌, [], sym, subst}
 use Rattle.std.specs.List.{insert}
 use Rattle.global_cfg.specs.Targets.{ArePutAfter}
-use Rattle.global_cfg.proofs.PointPlaces.{number_there, put_new}
-use Rattle.global_cfg.proofs.PuttingIn.{not_on, one_there, one_put}
+use Rattle.global_cfg.proofs.{PointPlaces.{number_there, put_new}, PuttingIn.{not_on, one_there, one_put}}
 use Rattle.global_cfg.proofs.targets.put_target.Goals as goal
 
 pub returns-then-not-leads_on : goal.returns-then-not-leads_on

@@ -1,15 +1,11 @@
-use Rattle.std.proofs.Common.{rules, [], ◌∙◌, List, subst, take}
-use Rattle.std.proofs.lemmas.List.{take_all}
+use Rattle.std.proofs.{Common.{rules, [], ◌∙◌, List, subst, take}, lemmas.List.{take_all}}
 use Rattle.flow_exits.specs.declared.exit.Exit.{Exit}
-use Rattle.flow_rules.specs.declared.group.ExitGroup.{ExitGroup}
-use Rattle.flow_rules.specs.Groups.{exits_of, all_exits}
+use Rattle.flow_rules.specs.{declared.group.ExitGroup.{ExitGroup}, Groups.{exits_of, all_exits}}
 use Rattle.flow_rules.proofs.LeavingPoints.{filled_numbers}
 use Rattle.numbered_sets.specs.PlainTables.{plain_row}
 use Rattle.numbered_sets.proofs.WrittenRows.{number_domains_of}
 use Rattle.global_cfg.specs.Targets.{AreEndsPut}
-use Rattle.global_cfg.proofs.PointPlaces.{order_none}
-use Rattle.global_cfg.proofs.PuttingIn.{no_exits, exits_then, more_groups}
-use Rattle.global_cfg.proofs.ExitTargets.{ends_are_targets}
+use Rattle.global_cfg.proofs.{PointPlaces.{order_none}, PuttingIn.{no_exits, exits_then, more_groups}, ExitTargets.{ends_are_targets}}
 use Rattle.global_cfg.proofs.targets.targets.Goals as goal
 
 pub exit_groups-requires-clause-domains : goal.exit_groups-requires-clause-domains

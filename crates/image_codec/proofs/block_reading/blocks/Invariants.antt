@@ -1,7 +1,6 @@
 use Rattle.std.proofs.Common.{◌≡◌, ◌-◌}
 use Rattle.std.specs.List.{zip}
-use Rattle.image_codec.specs.Reading.{entries_at}
-use Rattle.image_codec.specs.BlockReading.{blocks_at}
+use Rattle.image_codec.specs.{Reading.{entries_at}, BlockReading.{blocks_at}}
 use Rattle.image_codec.proofs.BlockLoop.{AreFirst, read_block}
 use Rattle.image_codec.proofs.block_reading.blocks.Given as goal
 

@@ -1,10 +1,7 @@
 -- nothing is left after the parts
 use Rattle.std.proofs.Common.{◌≡◌, ◌∙◌, ℕ, List, length, Ok, ap, arith}
 use Rattle.std.specs.Prelude.{◌==◌}
-use Rattle.image_codec.specs.declared.parts.Parts.{Parts}
-use Rattle.image_codec.specs.declared.fault.ImageRule.TheVariants.{I6}
-use Rattle.image_codec.specs.Reading.{Read, ◌>>=◌, kept}
-use Rattle.image_codec.specs.BlockReading.{parts_at, all_at}
+use Rattle.image_codec.specs.{declared.{parts.Parts.{Parts}, fault.ImageRule.TheVariants.{I6}}, Reading.{Read, ◌>>=◌, kept}, BlockReading.{parts_at, all_at}}
 use Rattle.image_codec.proofs.Spells.{kept_again}
 use Rattle.image_codec.proofs.decoding.all.Goals as goal
 

@@ -1,6 +1,5 @@
 -- the fields of a task in order
-use Rattle.std.proofs.Common.{arith}
-use Rattle.std.proofs.lemmas.Grind.{common_steps}
+use Rattle.std.proofs.{Common.{arith}, lemmas.Grind.{common_steps}}
 use Rattle.image_codec.proofs.encoding.put_task.Goals as goal
 
 pub returns : goal.returns

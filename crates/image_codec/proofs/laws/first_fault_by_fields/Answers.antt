@@ -1,5 +1,4 @@
-use Rattle.image_codec.proofs.EntryFaults.{header_faults, entry_faults}
-use Rattle.image_codec.proofs.BlockFaults.{blocks_faults, image_faults}
+use Rattle.image_codec.proofs.{EntryFaults.{header_faults, entry_faults}, BlockFaults.{blocks_faults, image_faults}}
 use Rattle.image_codec.proofs.laws.first_fault_by_fields.Goals as goal
 
 pub returns-clause-header : goal.returns-clause-header

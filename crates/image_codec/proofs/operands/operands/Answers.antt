@@ -1,8 +1,7 @@
 -- a call's operands are those of its kind
 use Rattle.std.proofs.Common.{sym, subst}
 use Rattle.osek_standard.specs.declared.block.Kind.{Kind}
-use Rattle.image_codec.specs.Reading.{Gives}
-use Rattle.image_codec.specs.BlockReading.{operands_at}
+use Rattle.image_codec.specs.{Reading.{Gives}, BlockReading.{operands_at}}
 use Rattle.image_codec.proofs.operands.operands.Goals as goal
 
 pub returns-in-Call : goal.returns-in-Call

@@ -1,5 +1,4 @@
-use Rattle.std.proofs.Common.{◌≡◌, ◌∙◌, ◌<◌, ◌+◌, ℕ, eqb, drop, get_or, sym, ap, arith}
-use Rattle.std.proofs.lemmas.Bool.{ne_eqb}
+use Rattle.std.proofs.{Common.{◌≡◌, ◌∙◌, ◌<◌, ◌+◌, ℕ, eqb, drop, get_or, sym, ap, arith}, lemmas.Bool.{ne_eqb}}
 use Rattle.osek_standard.specs.Validity.{due_of}
 use Rattle.image_codec.proofs.Due.{due_from, due_found, due_passed, due_missing}
 use Rattle.image_codec.proofs.placing.is_alarm_at.Goals as goal

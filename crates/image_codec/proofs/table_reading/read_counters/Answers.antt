@@ -1,8 +1,5 @@
-use Rattle.std.proofs.Common.{◌∙◌, ◌+◌, ap, length, []}
-use Rattle.std.proofs.lemmas.List.{length_push}
-use Rattle.std.proofs.lemmas.Result.{err_from_is_err_and}
-use Rattle.image_codec.specs.Reading.{entries_at}
-use Rattle.image_codec.specs.TableReading.{counter_at}
+use Rattle.std.proofs.{Common.{◌∙◌, ◌+◌, ap, length, []}, lemmas.{List.{length_push}, Result.{err_from_is_err_and}}}
+use Rattle.image_codec.specs.{Reading.{entries_at}, TableReading.{counter_at}}
 use Rattle.image_codec.proofs.Loop.{goes_on, ends, is_done}
 use Rattle.image_codec.proofs.table_reading.read_counters.Goals as goal
 

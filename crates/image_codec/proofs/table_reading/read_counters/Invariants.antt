@@ -1,6 +1,5 @@
 use Rattle.std.proofs.Common.{◌≡◌, ◌-◌, [], length}
-use Rattle.image_codec.specs.Reading.{entries_at}
-use Rattle.image_codec.specs.TableReading.{counter_at}
+use Rattle.image_codec.specs.{Reading.{entries_at}, TableReading.{counter_at}}
 use Rattle.image_codec.proofs.table_reading.read_counters.Given as goal
 
 abbrev pub invariant-loop : goal.invariant-loop

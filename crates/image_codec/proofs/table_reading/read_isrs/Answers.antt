@@ -1,7 +1,5 @@
-use Rattle.std.proofs.Common.{[]}
-use Rattle.std.proofs.lemmas.Result.{err_from_is_err_and}
-use Rattle.image_codec.specs.Reading.{entries_at}
-use Rattle.image_codec.specs.TableReading.{isr_at}
+use Rattle.std.proofs.{Common.{[]}, lemmas.Result.{err_from_is_err_and}}
+use Rattle.image_codec.specs.{Reading.{entries_at}, TableReading.{isr_at}}
 use Rattle.image_codec.proofs.Loop.{goes_on, ends, is_done}
 use Rattle.image_codec.proofs.table_reading.read_isrs.Goals as goal
 

@@ -1,8 +1,6 @@
-use Rattle.std.proofs.Common.{◌∙◌, ℕ, List, [], sym, ap, subst}
-use Rattle.std.proofs.lemmas.Result.{err_from_is_err_and}
+use Rattle.std.proofs.{Common.{◌∙◌, ℕ, List, [], sym, ap, subst}, lemmas.Result.{err_from_is_err_and}}
 use Rattle.image_codec.specs.Reading.{Fails, name_at, entries_at}
-use Rattle.image_codec.proofs.OwnerTests.{map_same}
-use Rattle.image_codec.proofs.Loop.{goes_on, ends, is_done}
+use Rattle.image_codec.proofs.{OwnerTests.{map_same}, Loop.{goes_on, ends, is_done}}
 use Rattle.image_codec.proofs.table_reading.read_modes.Goals as goal
 
 pub returns-in_err-mode : goal.returns-in_err-mode

@@ -1,6 +1,5 @@
 use Rattle.std.proofs.Common.{◌≡◌, ◌-◌, []}
-use Rattle.image_codec.specs.Reading.{entries_at}
-use Rattle.image_codec.specs.TableReading.{task_at}
+use Rattle.image_codec.specs.{Reading.{entries_at}, TableReading.{task_at}}
 use Rattle.image_codec.proofs.table_reading.read_tasks.Given as goal
 
 abbrev pub invariant-loop : goal.invariant-loop

@@ -1,19 +1,10 @@
 -- after the effect of a site no routine runs, and elsewhere nothing is asked; so the form gives the outcome
 use Rattle.std.proofs.Common.{◌≡◌, ◌∙◌, true, sym, ap, subst, IfSome}
-use Rattle.std.specs.Prelude.{option_map}
-use Rattle.std.specs.declared.option.Option.{Option}
-use Rattle.osek_standard.specs.Apps.{is_site}
-use Rattle.osek_standard.specs.States.{here}
-use Rattle.osek_standard.specs.Effects.{Effect, effected}
-use Rattle.osek_standard.specs.Well.{AreOut}
-use Rattle.osek_standard.specs.Dispatch.{concluded}
-use Rattle.osek_standard.proofs.WellLaws.{in_owner_known}
-use Rattle.osek_standard.proofs.Keeps.{here_own}
-use Rattle.image_model.specs.declared.site.Site.{Site}
-use Rattle.image_model.specs.ImageStep.{site_at, formed_at, instructed}
-use Rattle.image_run.proofs.SiteEffects.{out_after_site}
-use Rattle.image_run.proofs.OtherEffects.{asks_none_elsewhere}
-use Rattle.image_run.proofs.SiteForms.{is_of_site, no_site_there, if_some_onward}
+use Rattle.std.specs.{Prelude.{option_map}, declared.option.Option.{Option}}
+use Rattle.osek_standard.specs.{Apps.{is_site}, States.{here}, Effects.{Effect, effected}, Well.{AreOut}, Dispatch.{concluded}}
+use Rattle.osek_standard.proofs.{WellLaws.{in_owner_known}, Keeps.{here_own}}
+use Rattle.image_model.specs.{declared.site.Site.{Site}, ImageStep.{site_at, formed_at, instructed}}
+use Rattle.image_run.proofs.{SiteEffects.{out_after_site}, OtherEffects.{asks_none_elsewhere}, SiteForms.{is_of_site, no_site_there, if_some_onward}}
 use Rattle.image_run.proofs.instruction.attempt.Goals as goal
 
 pub conclude_by-requires-clause-site : goal.conclude_by-requires-clause-site

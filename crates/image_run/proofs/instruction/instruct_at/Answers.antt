@@ -1,17 +1,11 @@
 -- a trap's effect is undone
 use Rattle.std.proofs.Common.{◌≡◌, ◌≢◌, refl, ◌∙◌, true, sym, ap, Some, None, IfSome, subst}
 use Rattle.std.specs.declared.option.Option.{Option}
-use Rattle.osek_standard.specs.declared.task_state.Place.{Place}
-use Rattle.osek_standard.specs.Apps.{is_site}
-use Rattle.osek_standard.specs.States.{here}
-use Rattle.osek_standard.proofs.WellLaws.{in_owner_known}
-use Rattle.osek_standard.proofs.Keeps.{here_own}
-use Rattle.image_model.specs.declared.site.Site.{Site}
-use Rattle.image_model.specs.ImageStep.{site_at}
-use Rattle.image_run.specs.declared.before.Before.{Before}
-use Rattle.image_run.specs.Befores.{before, put_back}
-use Rattle.image_run.proofs.SiteForms.{is_of_site}
-use Rattle.image_run.proofs.UndoLaws.{undone}
+use Rattle.osek_standard.specs.{Apps.{is_site}, States.{here}}
+use Rattle.osek_standard.proofs.{WellLaws.{in_owner_known}, Keeps.{here_own}}
+use Rattle.image_model.specs.{declared.site.Site.{Site}, ImageStep.{site_at}}
+use Rattle.image_run.specs.{declared.before.Before.{Before}, Befores.{before, put_back}}
+use Rattle.image_run.proofs.{SiteForms.{is_of_site}, UndoLaws.{undone}}
 use Rattle.image_run.proofs.instruction.instruct_at.Goals as goal
 
 where_some : (P : Type 0) (o : Option Site) → IfSome o (λ (x : Site). P) → o ≢ None → P

@@ -1,24 +1,15 @@
 -- what notes nothing meets each known status, and where the form is the general one or there is no site the outcome is the
 -- kernel's
 use Rattle.std.proofs.Common.{◌≡◌, refl, ◌∙◌, Bool, true, sym, ap, Some, None, IfSome}
-use Rattle.std.specs.Prelude.{option_map, if◌then◌else◌}
-use Rattle.std.specs.declared.option.Option.{Option}
+use Rattle.std.specs.{Prelude.{option_map, if◌then◌else◌}, declared.option.Option.{Option}}
 use Rattle.osek_values.specs.declared.status.Ask.{Ask}
-use Rattle.osek_standard.specs.declared.app.App.{App}
-use Rattle.osek_standard.specs.declared.state.State.{State}
-use Rattle.osek_standard.specs.declared.task_state.Place.{Place}
-use Rattle.osek_standard.specs.States.{here}
-use Rattle.osek_standard.specs.Effects.{Effect, effected}
+use Rattle.osek_standard.specs.{declared.{app.App.{App}, state.State.{State}, task_state.Place.{Place}}, States.{here}, Effects.{Effect, effected}}
 use Rattle.osek_standard.specs.Dispatch.{Outcome, concluded, nothing_noted, outcome_by}
-use Rattle.osek_standard.proofs.WellLaws.{in_owner_known}
-use Rattle.osek_standard.proofs.Keeps.{here_own}
+use Rattle.osek_standard.proofs.{WellLaws.{in_owner_known}, Keeps.{here_own}}
 use Rattle.image_model.specs.declared.site.{Form.{Form}, Known.{Known}, Site.{Site}}
 use Rattle.image_model.specs.declared.site.Form.TheVariants as form
-use Rattle.image_model.specs.declared.site.Known.TheVariants.{Any, Always}
-use Rattle.image_model.specs.Statuses.{allows_status}
-use Rattle.image_model.specs.ImageStep.{site_at, formed_at, formed_by, instructed}
-use Rattle.image_run.proofs.OtherEffects.{asks_none_elsewhere}
-use Rattle.image_run.proofs.SiteForms.{no_site_there}
+use Rattle.image_model.specs.{declared.site.Known.TheVariants.{Any, Always}, Statuses.{allows_status}, ImageStep.{site_at, formed_at, formed_by, instructed}}
+use Rattle.image_run.proofs.{OtherEffects.{asks_none_elsewhere}, SiteForms.{no_site_there}}
 use Rattle.image_run.proofs.instruction.instruct_silently.Goals as goal
 
 allows_none : (k : Known) → allows_status k None ≡ true

@@ -2,14 +2,11 @@
 use Rattle.std.proofs.Common.{◌≡◌, refl, ◌∙◌, sym, ap, subst, Some, None}
 use Rattle.std.specs.declared.option.Option.{Option}
 use Rattle.osek_values.specs.declared.numbers.TaskNo.{TaskNo}
-use Rattle.osek_standard.specs.declared.state.State.{State}
-use Rattle.osek_standard.specs.States.{is_that_task, task_of}
-use Rattle.osek_standard.specs.Well.{Well}
+use Rattle.osek_standard.specs.{declared.state.State.{State}, States.{is_that_task, task_of}, Well.{Well}}
 use Rattle.generic_kernel.specs.Changes.{ChangesOnly, ChangesOwn, named_here}
 use Rattle.generic_kernel.proofs.TaskLaws.{effect_changes_own}
 use Rattle.image_model.specs.declared.image.Image.{Image}
-use Rattle.image_run.specs.declared.before.{Before.{Before}}
-use Rattle.image_run.specs.Befores.{IsAfter, before, old_task, put_back, task_in}
+use Rattle.image_run.specs.{declared.before.Before.{Before}, Befores.{IsAfter, before, old_task, put_back, task_in}}
 use Rattle.image_run.proofs.UndoLaws.{undone}
 use Rattle.image_run.proofs.instruction.undo.Goals as goal
 

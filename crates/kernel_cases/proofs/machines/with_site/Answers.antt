@@ -1,9 +1,6 @@
 -- another site in place of one
 use Rattle.std.proofs.Common.{Some, slice_set, sym, subst, ◌∙◌}
-use Rattle.image_model.specs.declared.image.Version.{Version}
-use Rattle.image_model.specs.declared.site.Site.{Site}
-use Rattle.image_model.specs.Sites.{AreSites}
-use Rattle.image_model.specs.Versions.{FitsAlone}
+use Rattle.image_model.specs.{declared.{image.Version.{Version}, site.Site.{Site}}, Sites.{AreSites}, Versions.{FitsAlone}}
 use Rattle.image_run.proofs.SiteForms.{with_site}
 use Rattle.kernel_cases.proofs.machines.with_site.Goals as goal
 

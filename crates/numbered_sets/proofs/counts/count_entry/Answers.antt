@@ -1,8 +1,5 @@
-use Rattle.std.proofs.Common.{rules, ◌<◌, ◌+◌, ◌^◌, length, get_or, arith}
-use Rattle.std.proofs.lemmas.List.{get_or_default}
-use Rattle.std.proofs.lemmas.List.Sums.{sum_by-take-le}
-use Rattle.numbered_sets.specs.Numbers.{number_count}
-use Rattle.numbered_sets.specs.NumberedEntries.{no_set}
+use Rattle.std.proofs.{Common.{rules, ◌<◌, ◌+◌, ◌^◌, length, get_or, arith}, lemmas.List.{get_or_default, Sums.{sum_by-take-le}}}
+use Rattle.numbered_sets.specs.{Numbers.{number_count}, NumberedEntries.{no_set}}
 use Rattle.numbered_sets.proofs.CountedNumbers.{counted_more}
 use Rattle.numbered_sets.proofs.counts.count_entry.Goals as goal
 

@@ -1,8 +1,7 @@
 use Rattle.std.proofs.Common.{rules, ◌≡◌, ◌+◌, ◌≤◌, ◌∙◌, sym, ap, arith}
 use Rattle.bit_words.proofs.Counting.{passing_most}
 use Rattle.osek_values.specs.Bits.{passing_below}
-use Rattle.numbered_sets.specs.Numbers.{has_number}
-use Rattle.numbered_sets.specs.SetLists.{set_of}
+use Rattle.numbered_sets.specs.{Numbers.{has_number}, SetLists.{set_of}}
 use Rattle.numbered_sets.proofs.CountedNumbers.{numbers_counted, none_between, one_there}
 use Rattle.numbered_sets.proofs.counts.count_set.Goals as goal
 

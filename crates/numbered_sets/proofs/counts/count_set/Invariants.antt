@@ -1,7 +1,6 @@
 use Rattle.std.proofs.Common.{◌≡◌, ◌-◌, ◌≤◌, ◌<◌, IsTrue}
 use Rattle.osek_values.specs.Bits.{passing_below}
-use Rattle.numbered_sets.specs.Numbers.{has_number}
-use Rattle.numbered_sets.specs.SetLists.{set_of}
+use Rattle.numbered_sets.specs.{Numbers.{has_number}, SetLists.{set_of}}
 use Rattle.numbered_sets.proofs.counts.count_set.Given as goal
 
 abbrev pub decreases-loop-number : goal.decreases-loop-number

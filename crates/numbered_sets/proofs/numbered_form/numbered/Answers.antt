@@ -1,11 +1,8 @@
-use Rattle.std.proofs.Common.{◌+◌, ◌<◌, List, length, get_or, map, sym, ap, subst, ◌∙◌, arith}
-use Rattle.std.proofs.Math.ListN.{get_or-map}
+use Rattle.std.proofs.{Common.{◌+◌, ◌<◌, List, length, get_or, map, sym, ap, subst, ◌∙◌, arith}, Math.ListN.{get_or-map}}
 use Rattle.abstract_state.specs.declared.value.Domain.{Domain}
 use Rattle.abstract_state.specs.declared.value.Domain.TheVariants as domain
-use Rattle.abstract_state.specs.declared.table.ValueSet.{ValueSet}
-use Rattle.abstract_state.specs.Tables.{empty_set}
-use Rattle.numbered_sets.specs.Pools.{Values, no_values}
-use Rattle.numbered_sets.specs.Numbers.{numbers}
+use Rattle.abstract_state.specs.{declared.table.ValueSet.{ValueSet}, Tables.{empty_set}}
+use Rattle.numbered_sets.specs.{Pools.{Values, no_values}, Numbers.{numbers}}
 use Rattle.numbered_sets.proofs.NumberingLaws.{AreNumberedUpTo, none_numbered_yet, as_many_sets, domain_there, numbered_next, longer_onward, numbered_known, numbered_plain, same_domain}
 use Rattle.numbered_sets.proofs.numbered_form.numbered.Goals as goal
 

@@ -1,6 +1,5 @@
 use Rattle.std.proofs.Common.{◌-◌, ◌≤◌, ◌<◌, IsTrue}
-use Rattle.numbered_sets.specs.Numbers.{has_number}
-use Rattle.numbered_sets.specs.Pools.{values_at}
+use Rattle.numbered_sets.specs.{Numbers.{has_number}, Pools.{values_at}}
 use Rattle.numbered_sets.proofs.PlainLaws.{IsPlainUpTo}
 use Rattle.numbered_sets.proofs.plain_form.plain_set.Given as goal
 

@@ -1,7 +1,6 @@
 use Rattle.std.proofs.Common.{◌+◌, ◌≤◌, List, length}
 use Rattle.osek_values.specs.declared.limits.TheConstants.{MAX_FILE}
-use Rattle.oil_lexer.specs.declared.token.Token.{Token}
-use Rattle.oil_lexer.specs.Text.{Parts}
+use Rattle.oil_lexer.specs.{declared.token.Token.{Token}, Text.{Parts}}
 use Rattle.oil_lexer.proofs.lexer.judge.Given as goal
 
 abbrev pub invariant-loop-rest : goal.invariant-loop-rest

@@ -1,5 +1,4 @@
-use Rattle.oil_lexer.proofs.EachText.{some_answer}
-use Rattle.oil_lexer.proofs.Unique.{one_answer}
+use Rattle.oil_lexer.proofs.{EachText.{some_answer}, Unique.{one_answer}}
 use Rattle.oil_lexer.proofs.lexer.one_answer.Goals as goal
 
 pub returns-clause-some : goal.returns-clause-some

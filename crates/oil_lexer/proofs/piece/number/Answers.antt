@@ -1,7 +1,5 @@
 use Rattle.std.proofs.Common.{take}
-use Rattle.oil_lexer.specs.declared.classes.ByteSet.TheVariants.{HexDigits}
-use Rattle.oil_lexer.specs.Numbers.{value_of}
-use Rattle.oil_lexer.specs.Pieces.{part}
+use Rattle.oil_lexer.specs.{declared.classes.ByteSet.TheVariants.{HexDigits}, Numbers.{value_of}, Pieces.{part}}
 use Rattle.oil_lexer.proofs.Longest.{part_all, hex_longest, decimal_digits, decimal_longest}
 use Rattle.oil_lexer.proofs.piece.number.Goals as goal
 

@@ -1,5 +1,4 @@
-use Rattle.std.proofs.Common.{take, arith, sym}
-use Rattle.std.proofs.lemmas.List.{length-take-le}
+use Rattle.std.proofs.{Common.{take, arith, sym}, lemmas.List.{length-take-le}}
 use Rattle.oil_lexer.proofs.Longest.{is_name-take, name_longest}
 use Rattle.oil_lexer.proofs.piece.piece.Goals as goal
 

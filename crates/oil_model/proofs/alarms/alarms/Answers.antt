@@ -3,11 +3,8 @@ use Rattle.std.specs.Prelude.{codes, filter}
 use Rattle.oil_tree.specs.declared.tree.Object.{Object}
 use Rattle.oil_system.specs.declared.objects.Alarm.{Alarm}
 use Rattle.oil_tree.specs.AttrLists.{attr_list}
-use Rattle.oil_model.specs.LookUp.{word}
-use Rattle.oil_model.specs.Objects.{is_kind, objects_of, cycle_time, start}
-use Rattle.oil_model.specs.Rules.{counter_of}
-use Rattle.oil_model.proofs.Clean.{at_passing}
-use Rattle.oil_model.proofs.Facts.{IsInTime, maxima, times, maximum_named, cycle_small}
+use Rattle.oil_model.specs.{LookUp.{word}, Objects.{is_kind, objects_of, cycle_time, start}, Rules.{counter_of}}
+use Rattle.oil_model.proofs.{Clean.{at_passing}, Facts.{IsInTime, maxima, times, maximum_named, cycle_small}}
 use Rattle.oil_model.specs.Systems.{names_of, alarm}
 use Rattle.oil_model.proofs.Collected.{collects, passes_over, collected}
 use Rattle.oil_model.proofs.alarms.alarms.Goals as goal

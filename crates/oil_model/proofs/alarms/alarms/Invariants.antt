@@ -1,7 +1,6 @@
 use Rattle.std.proofs.Common.{◌≡◌, drop, ◌++◌}
 use Rattle.std.specs.Prelude.{codes, map}
-use Rattle.oil_model.specs.Objects.{objects_of}
-use Rattle.oil_model.specs.Systems.{names_of, alarm}
+use Rattle.oil_model.specs.{Objects.{objects_of}, Systems.{names_of, alarm}}
 use Rattle.oil_model.proofs.alarms.alarms.Given as goal
 
 abbrev pub invariant-loop-object : goal.invariant-loop-object

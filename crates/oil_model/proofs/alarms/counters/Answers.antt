@@ -4,8 +4,7 @@ use Rattle.oil_tree.specs.declared.tree.Object.{Object}
 use Rattle.oil_system.specs.declared.system.CounterObject.{CounterObject}
 use Rattle.oil_tree.specs.AttrLists.{attr_list}
 use Rattle.oil_model.specs.Objects.{is_kind, maximum, minimum}
-use Rattle.oil_model.proofs.Clean.{at_passing}
-use Rattle.oil_model.proofs.Facts.{IsMaximum, maxima, minima}
+use Rattle.oil_model.proofs.{Clean.{at_passing}, Facts.{IsMaximum, maxima, minima}}
 use Rattle.oil_model.specs.Systems.{counter}
 use Rattle.oil_model.proofs.Collected.{collects, passes_over, collected}
 use Rattle.oil_model.proofs.alarms.counters.Goals as goal

@@ -1,7 +1,6 @@
 use Rattle.std.proofs.Common.{◌≡◌, drop}
 use Rattle.std.specs.Prelude.{map, if◌then◌else◌}
-use Rattle.oil_model.specs.Lines.{sooner, least}
-use Rattle.oil_model.specs.LookUp.{named, attr_line}
+use Rattle.oil_model.specs.{Lines.{sooner, least}, LookUp.{named, attr_line}}
 use Rattle.oil_model.proofs.attribute_rules.double.Given as goal
 
 abbrev pub invariant-loop-attr : goal.invariant-loop-attr

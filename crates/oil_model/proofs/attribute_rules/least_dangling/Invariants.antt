@@ -1,8 +1,6 @@
 use Rattle.std.proofs.Common.{◌≡◌, drop}
 use Rattle.std.specs.Prelude.{map, filter}
-use Rattle.oil_model.specs.Lines.{sooner, least}
-use Rattle.oil_model.specs.LookUp.{attr_line}
-use Rattle.oil_model.specs.Rules.{is_dangling}
+use Rattle.oil_model.specs.{Lines.{sooner, least}, LookUp.{attr_line}, Rules.{is_dangling}}
 use Rattle.oil_model.proofs.attribute_rules.least_dangling.Given as goal
 
 abbrev pub invariant-loop-attr : goal.invariant-loop-attr

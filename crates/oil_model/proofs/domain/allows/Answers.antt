@@ -1,6 +1,6 @@
 -- a sign is in no domain
 use Rattle.std.proofs.Common.{◌≡◌, ℕ, false, refl, sym, ap, ◌∙◌, inl, inr}
-use Rattle.oil_tree.specs.declared.tree.{Sign.{Sign}, Sign.TheVariants.{Plus, Minus}, Value.TheVariants.{Numeric}}
+use Rattle.oil_tree.specs.declared.tree.{Sign.{Sign, TheVariants.{Plus, Minus}}, Value.TheVariants.{Numeric}}
 use Rattle.oil_model.specs.declared.domain.Domain.{Domain}
 use Rattle.oil_model.specs.declared.domain.Domain.TheVariants as domain
 use Rattle.oil_model.specs.Table.{allows}

@@ -1,11 +1,9 @@
 -- the events to come, from the bits of explicit masks on
-use Rattle.std.proofs.Common.{◌≡◌, ℕ, ◌+◌, List, ◌++◌, ◌∷◌, [], drop, append_assoc, sym, ap, ◌∙◌}
-use Rattle.std.proofs.lemmas.List.{append-nil, at_drop_all}
+use Rattle.std.proofs.{Common.{◌≡◌, ℕ, ◌+◌, List, ◌++◌, ◌∷◌, [], drop, append_assoc, sym, ap, ◌∙◌}, lemmas.List.{append-nil, at_drop_all}}
 use Rattle.std.specs.Prelude.{codes, bit_or}
 use Rattle.oil_tree.specs.declared.tree.Object.{Object}
 use Rattle.oil_system.specs.declared.system.EventObject.{EventObject}
-use Rattle.oil_model.specs.Objects.{is_kind, objects_of, mask_of}
-use Rattle.oil_model.specs.Systems.{event, events_from}
+use Rattle.oil_model.specs.{Objects.{is_kind, objects_of, mask_of}, Systems.{event, events_from}}
 use Rattle.oil_model.proofs.Repeats.{filter_yes, filter_not}
 use Rattle.oil_model.proofs.events.events.Goals as goal
 use Rattle.oil_model.proofs.events.events.Goals.{then-is_kind+in_ok-name+in_ok-push, else-is_kind}

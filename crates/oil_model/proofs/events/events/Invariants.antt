@@ -1,7 +1,6 @@
 use Rattle.std.proofs.Common.{◌≡◌, drop, ◌++◌}
 use Rattle.std.specs.Prelude.{codes}
-use Rattle.oil_model.specs.Objects.{objects_of}
-use Rattle.oil_model.specs.Systems.{events_from, events}
+use Rattle.oil_model.specs.{Objects.{objects_of}, Systems.{events_from, events}}
 use Rattle.oil_model.proofs.events.events.Given as goal
 
 abbrev pub invariant-loop-object : goal.invariant-loop-object

@@ -1,8 +1,6 @@
 use Rattle.std.proofs.Common.{sym, ◌∙◌}
 use Rattle.std.specs.Prelude.{Some}
-use Rattle.oil_model.specs.Lines.{sooner}
-use Rattle.oil_model.specs.Objects.{is_kind, line_at}
-use Rattle.oil_model.specs.KindRules.{is_violated}
+use Rattle.oil_model.specs.{Lines.{sooner}, Objects.{is_kind, line_at}, KindRules.{is_violated}}
 use Rattle.oil_model.proofs.Marked.{marks, leaves, passes_over, all_marked}
 use Rattle.oil_model.proofs.kind_rules.least_marked.Goals as goal
 use Rattle.oil_model.proofs.kind_rules.least_marked.Goals.{then-is_kind+then-is_violated, else-is_kind, else-is_kind-via-then-is_kind+else-is_violated, else-is_kind-via-else-is_kind}

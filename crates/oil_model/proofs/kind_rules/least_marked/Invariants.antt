@@ -1,8 +1,6 @@
 use Rattle.std.proofs.Common.{◌≡◌, drop}
 use Rattle.std.specs.Prelude.{map, filter}
-use Rattle.oil_model.specs.KindRules.{is_violated}
-use Rattle.oil_model.specs.Lines.{sooner, least}
-use Rattle.oil_model.specs.Objects.{line_at, objects_of}
+use Rattle.oil_model.specs.{KindRules.{is_violated}, Lines.{sooner, least}, Objects.{line_at, objects_of}}
 use Rattle.oil_model.proofs.kind_rules.least_marked.Given as goal
 
 abbrev pub invariant-loop-object : goal.invariant-loop-object

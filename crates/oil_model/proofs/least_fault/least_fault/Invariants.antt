@@ -1,7 +1,6 @@
 use Rattle.std.proofs.Common.{◌≡◌, ℕ, ◌<◌, get_or}
 use Rattle.std.specs.Prelude.{None}
-use Rattle.osek_values.specs.declared.refusal.OilRule.TheVariants.{O1}
-use Rattle.osek_values.specs.Lines.{least}
+use Rattle.osek_values.specs.{declared.refusal.OilRule.TheVariants.{O1}, Lines.{least}}
 use Rattle.oil_model.specs.Rules.{lines}
 use Rattle.oil_model.proofs.least_fault.least_fault.Given as goal
 

@@ -1,8 +1,6 @@
 use Rattle.std.proofs.Common.{◌≡◌, drop}
 use Rattle.std.specs.Prelude.{filter}
-use Rattle.oil_model.specs.Counted.{is_counted}
-use Rattle.oil_model.specs.Lines.{least}
-use Rattle.oil_model.specs.Rules.{first_beyond}
+use Rattle.oil_model.specs.{Counted.{is_counted}, Lines.{least}, Rules.{first_beyond}}
 use Rattle.oil_model.proofs.limits.beyond.Given as goal
 
 abbrev pub invariant-loop-object : goal.invariant-loop-object

@@ -2,9 +2,7 @@
 use Rattle.std.proofs.Common.{◌≡◌, ℕ, List, ◌++◌, filter, sym, ap, ◌∙◌}
 use Rattle.std.specs.Prelude.{codes}
 use Rattle.oil_tree.specs.declared.tree.Object.{Object}
-use Rattle.oil_model.specs.declared.objects.Category.TheVariants.{Two}
-use Rattle.oil_model.specs.Lines.{sooner, least}
-use Rattle.oil_model.specs.Objects.{objects_of, has_scheduler, is_isr, is_other_mode, is_ordinary}
+use Rattle.oil_model.specs.{declared.objects.Category.TheVariants.{Two}, Lines.{sooner, least}, Objects.{objects_of, has_scheduler, is_isr, is_other_mode, is_ordinary}}
 use Rattle.oil_model.specs.Rules.{first_beyond, resource_limit}
 use Rattle.oil_model.proofs.Leasts.{least_append}
 use Rattle.oil_model.proofs.limits.beyond_limit.Goals as goal

@@ -1,7 +1,6 @@
 use Rattle.std.proofs.Common.{◌≡◌, drop}
 use Rattle.std.specs.List.{flat_map}
-use Rattle.oil_model.specs.Lines.{sooner, least}
-use Rattle.oil_model.specs.Lists.{found_of}
+use Rattle.oil_model.specs.{Lines.{sooner, least}, Lists.{found_of}}
 use Rattle.oil_model.proofs.lists.least_in.Given as goal
 
 abbrev pub invariant-loop-object : goal.invariant-loop-object

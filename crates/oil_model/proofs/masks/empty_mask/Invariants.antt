@@ -1,8 +1,6 @@
 use Rattle.std.proofs.Common.{◌≡◌, drop}
 use Rattle.std.specs.Prelude.{codes}
-use Rattle.oil_model.specs.Lines.{sooner, least}
-use Rattle.oil_model.specs.Objects.{objects_of}
-use Rattle.oil_model.specs.Rules.{empty_masks_from, empty_masks}
+use Rattle.oil_model.specs.{Lines.{sooner, least}, Objects.{objects_of}, Rules.{empty_masks_from, empty_masks}}
 use Rattle.oil_model.proofs.masks.empty_mask.Given as goal
 
 abbrev pub invariant-loop-object : goal.invariant-loop-object

@@ -1,7 +1,6 @@
 use Rattle.std.proofs.Common.{◌≡◌, drop}
 use Rattle.std.specs.Prelude.{codes}
-use Rattle.oil_model.specs.Objects.{explicit, explicit_at}
-use Rattle.oil_model.specs.LookUp.{first_named}
+use Rattle.oil_model.specs.{Objects.{explicit, explicit_at}, LookUp.{first_named}}
 use Rattle.oil_model.proofs.masks.explicit.Given as goal
 
 abbrev pub invariant-loop-attr : goal.invariant-loop-attr

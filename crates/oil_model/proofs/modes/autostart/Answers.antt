@@ -1,9 +1,7 @@
 -- every mode, where none is named
 use Rattle.std.proofs.Common.{◌≡◌, ◌-◌, ◌^◌, length, true, false, sym, ap, ◌∙◌}
 use Rattle.std.specs.Prelude.{codes, if◌then◌else◌}
-use Rattle.oil_model.specs.LookUp.{has}
-use Rattle.oil_model.specs.Objects.{is_started, start}
-use Rattle.oil_model.specs.Systems.{mode_bits}
+use Rattle.oil_model.specs.{LookUp.{has}, Objects.{is_started, start}, Systems.{mode_bits}}
 use Rattle.oil_model.proofs.modes.autostart.Goals as goal
 
 pub returns-else-has : goal.returns-else-has

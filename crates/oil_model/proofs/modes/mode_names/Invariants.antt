@@ -1,7 +1,6 @@
 use Rattle.std.proofs.Common.{◌≡◌, drop, ◌++◌}
 use Rattle.std.specs.Prelude.{map, filter}
-use Rattle.oil_model.specs.Objects.{is_other_mode, name_of}
-use Rattle.oil_model.specs.Systems.{modes}
+use Rattle.oil_model.specs.{Objects.{is_other_mode, name_of}, Systems.{modes}}
 use Rattle.oil_model.proofs.modes.mode_names.Given as goal
 
 abbrev pub invariant-loop-object : goal.invariant-loop-object

@@ -1,8 +1,6 @@
 use Rattle.std.proofs.Common.{◌≡◌, false, drop}
 use Rattle.std.specs.Prelude.{codes, map, if◌then◌else◌, None}
-use Rattle.oil_model.specs.Lines.{sooner, least}
-use Rattle.oil_model.specs.Objects.{object_line, objects_of}
-use Rattle.oil_model.specs.Rules.{os_lines}
+use Rattle.oil_model.specs.{Lines.{sooner, least}, Objects.{object_line, objects_of}, Rules.{os_lines}}
 use Rattle.oil_model.proofs.object_rules.os_fault.Given as goal
 
 abbrev pub invariant-loop-object : goal.invariant-loop-object

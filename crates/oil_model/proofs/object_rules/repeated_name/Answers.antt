@@ -1,7 +1,6 @@
 use Rattle.std.proofs.Common.{◌∙◌, sym}
 use Rattle.std.specs.Prelude.{codes}
-use Rattle.oil_model.specs.Lines.{sooner}
-use Rattle.oil_model.specs.Rules.{repeated_names}
+use Rattle.oil_model.specs.{Lines.{sooner}, Rules.{repeated_names}}
 use Rattle.oil_model.proofs.Leasts.{least_eight}
 use Rattle.oil_model.proofs.object_rules.repeated_name.Goals as goal
 

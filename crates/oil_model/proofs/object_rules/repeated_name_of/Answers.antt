@@ -1,12 +1,7 @@
 use Rattle.std.proofs.Common.{ℕ, ◌+◌, List, [], ◌∷◌, ◌++◌, map, drop, ◌||◌, ◌∙◌, sym, ap}
-use Rattle.std.specs.Prelude.{Option}
-use Rattle.std.specs.List.{list_any}
-use Rattle.std.specs.Str.{bytes_eq}
+use Rattle.std.specs.{Prelude.{Option}, List.{list_any}, Str.{bytes_eq}}
 use Rattle.oil_tree.specs.declared.tree.Object.{Object}
-use Rattle.oil_model.specs.NameSets.{has_name}
-use Rattle.oil_model.specs.Objects.{is_kind, is_called, objects_of, object_line}
-use Rattle.oil_model.specs.Lines.{sooner, least}
-use Rattle.oil_model.specs.Rules.{repeated, has_same_name, repeated_names}
+use Rattle.oil_model.specs.{NameSets.{has_name}, Objects.{is_kind, is_called, objects_of, object_line}, Lines.{sooner, least}, Rules.{repeated, has_same_name, repeated_names}}
 use Rattle.oil_model.proofs.Repeats.{filter_yes, filter_not, repeated_step, any_push, not_not}
 use Rattle.oil_model.proofs.object_rules.repeated_name_of.Goals as goal
 use Rattle.oil_model.proofs.object_rules.repeated_name_of.Goals.{then-is_kind+in_ok-new, else-is_kind}

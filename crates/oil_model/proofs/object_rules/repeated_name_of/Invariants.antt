@@ -1,11 +1,7 @@
 use Rattle.std.proofs.Common.{◌≡◌, ℕ, List, drop}
-use Rattle.std.specs.Prelude.{map}
-use Rattle.std.specs.List.{list_any}
+use Rattle.std.specs.{Prelude.{map}, List.{list_any}}
 use Rattle.oil_tree.specs.declared.tree.Object.{Object}
-use Rattle.oil_model.specs.Lines.{sooner, least}
-use Rattle.oil_model.specs.NameSets.{has_name}
-use Rattle.oil_model.specs.Objects.{is_called, object_line, objects_of}
-use Rattle.oil_model.specs.Rules.{repeated, has_same_name, repeated_names}
+use Rattle.oil_model.specs.{Lines.{sooner, least}, NameSets.{has_name}, Objects.{is_called, object_line, objects_of}, Rules.{repeated, has_same_name, repeated_names}}
 use Rattle.oil_model.proofs.object_rules.repeated_name_of.Given as goal
 
 abbrev pub invariant-loop-object : goal.invariant-loop-object

@@ -1,13 +1,9 @@
 use Rattle.std.proofs.Common.{ℕ, ◌+◌, List, [], ◌∷◌, ◌++◌, map, drop, true, ◌∙◌, sym, ap, nat_cmp}
-use Rattle.std.specs.Prelude.{Option, cond, not, if◌then◌else◌, codes, ◌==◌}
-use Rattle.std.specs.List.{list_any}
+use Rattle.std.specs.{Prelude.{Option, cond, not, if◌then◌else◌, codes, ◌==◌}, List.{list_any}}
 use Rattle.oil_tree.specs.declared.tree.Object.{Object}
 use Rattle.std.specs.BTreeSet as tree
-use Rattle.oil_model.specs.Objects.{is_kind, objects_of, priority, line_at}
-use Rattle.oil_model.specs.Lines.{sooner, least}
-use Rattle.oil_model.specs.Rules.{repeated, has_priority, has_same_priority, shared_priorities}
-use Rattle.oil_model.proofs.NameSets.{cond_or, at_number}
-use Rattle.oil_model.proofs.Repeats.{filter_yes, filter_not, repeated_step, any_push, not_not}
+use Rattle.oil_model.specs.{Objects.{is_kind, objects_of, priority, line_at}, Lines.{sooner, least}, Rules.{repeated, has_priority, has_same_priority, shared_priorities}}
+use Rattle.oil_model.proofs.{NameSets.{cond_or, at_number}, Repeats.{filter_yes, filter_not, repeated_step, any_push, not_not}}
 use Rattle.oil_model.proofs.object_rules.shared_priority.Goals as goal
 use Rattle.oil_model.proofs.object_rules.shared_priority.Goals.{then-is_kind+in_ok-new, else-is_kind}
 

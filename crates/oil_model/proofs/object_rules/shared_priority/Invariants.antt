@@ -1,11 +1,8 @@
 use Rattle.std.proofs.Common.{◌≡◌, ℕ, List, drop, nat_cmp}
-use Rattle.std.specs.Prelude.{codes, map}
-use Rattle.std.specs.List.{list_any}
+use Rattle.std.specs.{Prelude.{codes, map}, List.{list_any}}
 use Rattle.oil_tree.specs.declared.tree.Object.{Object}
 use Rattle.std.specs.BTreeSet as tree
-use Rattle.oil_model.specs.Lines.{sooner, least}
-use Rattle.oil_model.specs.Objects.{line_at, objects_of}
-use Rattle.oil_model.specs.Rules.{repeated, has_priority, has_same_priority, shared_priorities}
+use Rattle.oil_model.specs.{Lines.{sooner, least}, Objects.{line_at, objects_of}, Rules.{repeated, has_priority, has_same_priority, shared_priorities}}
 use Rattle.oil_model.proofs.object_rules.shared_priority.Given as goal
 
 abbrev pub invariant-loop-object : goal.invariant-loop-object

@@ -1,6 +1,5 @@
 use Rattle.std.proofs.Common.{◌≡◌, drop}
-use Rattle.oil_model.specs.Lines.{sooner, least}
-use Rattle.oil_model.specs.Rules.{unknown_kinds}
+use Rattle.oil_model.specs.{Lines.{sooner, least}, Rules.{unknown_kinds}}
 use Rattle.oil_model.proofs.object_rules.unknown_kind.Given as goal
 
 abbrev pub invariant-loop-object : goal.invariant-loop-object

@@ -1,6 +1,5 @@
 use Rattle.std.proofs.Common.{◌≡◌, ℕ, List, drop, ◌||◌}
-use Rattle.oil_model.specs.NameSets.{has_name}
-use Rattle.oil_model.specs.Objects.{declares}
+use Rattle.oil_model.specs.{NameSets.{has_name}, Objects.{declares}}
 use Rattle.oil_model.proofs.references.names_of.Given as goal
 
 abbrev pub invariant-loop-object : goal.invariant-loop-object

@@ -2,8 +2,7 @@
 use Rattle.std.proofs.Common.{◌≡◌, ℕ, List, map, length, ◌≤◌, sym, subst, ◌∙◌}
 use Rattle.std.specs.Prelude.{codes}
 use Rattle.oil_tree.specs.declared.tree.Object.{Object}
-use Rattle.oil_model.specs.Objects.{objects_of}
-use Rattle.oil_model.specs.Systems.{modes, events, task, alarm, names_of}
+use Rattle.oil_model.specs.{Objects.{objects_of}, Systems.{modes, events, task, alarm, names_of}}
 use Rattle.oil_model.proofs.resolver.build.Goals as goal
 
 pub tasks-requires : goal.tasks-requires

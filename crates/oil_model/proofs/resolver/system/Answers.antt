@@ -5,10 +5,8 @@ use Rattle.oil_model.specs.Systems.{system_of}
 use Rattle.osek_values.specs.declared.refusal.OilRule.TheVariants.{O6, O13, O14}
 use Rattle.oil_model.specs.Linkable.{IsLinkable}
 use Rattle.oil_tree.specs.declared.tree.Object.{Object}
-use Rattle.oil_model.specs.Lists.{found_in}
-use Rattle.oil_model.specs.Rules.{wrong_in, late_times, beyond_limits}
-use Rattle.oil_model.proofs.Clean.{no_line}
-use Rattle.oil_model.proofs.Linking.{linkable}
+use Rattle.oil_model.specs.{Lists.{found_in}, Rules.{wrong_in, late_times, beyond_limits}}
+use Rattle.oil_model.proofs.{Clean.{no_line}, Linking.{linkable}}
 use Rattle.oil_model.proofs.resolver.system.Goals as goal
 
 pub build-requires-clause-allowed : goal.build-requires-clause-allowed

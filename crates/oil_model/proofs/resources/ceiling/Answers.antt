@@ -1,11 +1,8 @@
 use Rattle.std.proofs.Common.{◌≡◌, ℕ, List, ◌+◌, ◌*◌, ◌≤◌, ◌∷◌, drop, max, true, false, ◌∙◌, sym, ap, subst, rules, arith}
 use Rattle.std.specs.Prelude.{codes, filter, if◌then◌else◌}
 use Rattle.oil_tree.specs.declared.tree.Object.{Object}
-use Rattle.oil_model.specs.Objects.{is_kind, objects_of, priority}
-use Rattle.oil_model.specs.Systems.{names_resource, above_all}
-use Rattle.oil_model.proofs.Clean.{at_passing}
-use Rattle.oil_model.proofs.Facts.{priorities}
-use Rattle.oil_model.proofs.Repeats.{filter_yes, filter_not}
+use Rattle.oil_model.specs.{Objects.{is_kind, objects_of, priority}, Systems.{names_resource, above_all}}
+use Rattle.oil_model.proofs.{Clean.{at_passing}, Facts.{priorities}, Repeats.{filter_yes, filter_not}}
 use Rattle.oil_model.proofs.resources.ceiling.Goals as goal
 use Rattle.oil_model.proofs.resources.ceiling.Goals.{then-is_kind+then-names_resource, then-is_kind+else-names_resource, else-is_kind}
 

@@ -1,7 +1,6 @@
 use Rattle.std.proofs.Common.{◌≡◌, drop, max}
 use Rattle.std.specs.Prelude.{codes, filter}
-use Rattle.oil_model.specs.Objects.{objects_of}
-use Rattle.oil_model.specs.Systems.{names_resource, above_all, ceiling}
+use Rattle.oil_model.specs.{Objects.{objects_of}, Systems.{names_resource, above_all, ceiling}}
 use Rattle.oil_model.proofs.resources.ceiling.Given as goal
 
 abbrev pub invariant-loop-object : goal.invariant-loop-object

@@ -1,8 +1,7 @@
 use Rattle.std.proofs.Common.{ℕ, List, ◌++◌, ◌∷◌, [], map, sym, ap, ◌∙◌}
 use Rattle.std.specs.Prelude.{codes, filter}
 use Rattle.oil_system.specs.declared.objects.Resource.{Resource}
-use Rattle.oil_model.specs.Objects.{is_ordinary, objects_of}
-use Rattle.oil_model.specs.Systems.{resource, ceiling}
+use Rattle.oil_model.specs.{Objects.{is_ordinary, objects_of}, Systems.{resource, ceiling}}
 use Rattle.oil_model.proofs.Collected.{collects, passes_over, collected}
 use Rattle.oil_model.proofs.resources.ordinary.Goals as goal
 use Rattle.oil_model.proofs.resources.ordinary.Goals.{then-is_ordinary+in_ok-name+in_ok-push, else-is_ordinary}

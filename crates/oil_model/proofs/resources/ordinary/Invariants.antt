@@ -1,7 +1,6 @@
 use Rattle.std.proofs.Common.{◌≡◌, drop, ◌++◌}
 use Rattle.std.specs.Prelude.{codes, map, filter}
-use Rattle.oil_model.specs.Objects.{objects_of, is_ordinary}
-use Rattle.oil_model.specs.Systems.{resource}
+use Rattle.oil_model.specs.{Objects.{objects_of, is_ordinary}, Systems.{resource}}
 use Rattle.oil_model.proofs.resources.ordinary.Given as goal
 
 abbrev pub invariant-loop-object : goal.invariant-loop-object

@@ -2,8 +2,7 @@ use Rattle.std.proofs.Common.{ℕ, ◌≤◌, ◌∙◌, sym, subst}
 use Rattle.std.specs.Prelude.{codes}
 use Rattle.oil_tree.specs.declared.tree.Object.{Object}
 use Rattle.oil_model.specs.Objects.{is_kind, priority}
-use Rattle.oil_model.proofs.Clean.{at_passing}
-use Rattle.oil_model.proofs.Facts.{priorities}
+use Rattle.oil_model.proofs.{Clean.{at_passing}, Facts.{priorities}}
 use Rattle.oil_model.proofs.resources.top_ceiling.Goals as goal
 
 pub narrow-requires : goal.narrow-requires

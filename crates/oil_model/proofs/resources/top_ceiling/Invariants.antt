@@ -1,7 +1,6 @@
 use Rattle.std.proofs.Common.{◌≡◌, drop, max}
 use Rattle.std.specs.Prelude.{codes}
-use Rattle.oil_model.specs.Objects.{objects_of}
-use Rattle.oil_model.specs.Systems.{above_all, top_ceiling}
+use Rattle.oil_model.specs.{Objects.{objects_of}, Systems.{above_all, top_ceiling}}
 use Rattle.oil_model.proofs.resources.top_ceiling.Given as goal
 
 abbrev pub invariant-loop-object : goal.invariant-loop-object

@@ -2,11 +2,8 @@ use Rattle.std.proofs.Common.{◌≤◌, List, ◌++◌, ◌∷◌, [], Bool, sy
 use Rattle.std.specs.Prelude.{codes}
 use Rattle.oil_tree.specs.declared.tree.Object.{Object}
 use Rattle.oil_system.specs.declared.system.TaskObject.{TaskObject}
-use Rattle.oil_model.specs.Objects.{is_kind, priority}
-use Rattle.oil_model.specs.Systems.{task}
-use Rattle.oil_model.proofs.Clean.{at_passing}
-use Rattle.oil_model.proofs.Collected.{collects, passes_over, collected}
-use Rattle.oil_model.proofs.Facts.{priorities}
+use Rattle.oil_model.specs.{Objects.{is_kind, priority}, Systems.{task}}
+use Rattle.oil_model.proofs.{Clean.{at_passing}, Collected.{collects, passes_over, collected}, Facts.{priorities}}
 use Rattle.oil_model.proofs.tasks.tasks.Goals as goal
 use Rattle.oil_model.proofs.tasks.tasks.Goals.{then-is_kind+in_ok-task+in_ok-push, else-is_kind}
 

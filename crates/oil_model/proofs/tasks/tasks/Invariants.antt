@@ -1,7 +1,6 @@
 use Rattle.std.proofs.Common.{◌≡◌, drop, ◌++◌}
 use Rattle.std.specs.Prelude.{codes, map}
-use Rattle.oil_model.specs.Objects.{objects_of}
-use Rattle.oil_model.specs.Systems.{task}
+use Rattle.oil_model.specs.{Objects.{objects_of}, Systems.{task}}
 use Rattle.oil_model.proofs.tasks.tasks.Given as goal
 
 abbrev pub invariant-loop-object : goal.invariant-loop-object

@@ -1,13 +1,9 @@
 use Rattle.std.proofs.Common.{ℕ, ◌+◌, List, drop, sym, ap, ◌∙◌}
-use Rattle.std.specs.Prelude.{codes, Option}
-use Rattle.std.specs.List.{flat_map}
+use Rattle.std.specs.{Prelude.{codes, Option}, List.{flat_map}}
 use Rattle.std.proofs.lemmas.List.{at_drop_all}
 use Rattle.oil_tree.specs.declared.tree.Object.{Object}
-use Rattle.oil_model.specs.Lines.{sooner, least}
-use Rattle.oil_model.specs.Objects.{is_kind, objects_of}
-use Rattle.oil_model.specs.Rules.{late_times_of}
-use Rattle.oil_model.proofs.Leasts.{sooner_assoc, sooner_none, least_append}
-use Rattle.oil_model.proofs.Repeats.{filter_yes, filter_not}
+use Rattle.oil_model.specs.{Lines.{sooner, least}, Objects.{is_kind, objects_of}, Rules.{late_times_of}}
+use Rattle.oil_model.proofs.{Leasts.{sooner_assoc, sooner_none, least_append}, Repeats.{filter_yes, filter_not}}
 use Rattle.oil_model.proofs.times.late_alarm.Goals as goal
 use Rattle.oil_model.proofs.times.late_alarm.Goals.{then-is_kind, else-is_kind}
 

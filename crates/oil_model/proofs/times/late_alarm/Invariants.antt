@@ -1,9 +1,6 @@
 use Rattle.std.proofs.Common.{◌≡◌, drop}
-use Rattle.std.specs.Prelude.{codes}
-use Rattle.std.specs.List.{flat_map}
-use Rattle.oil_model.specs.Lines.{sooner, least}
-use Rattle.oil_model.specs.Objects.{objects_of}
-use Rattle.oil_model.specs.Rules.{late_times_of}
+use Rattle.std.specs.{Prelude.{codes}, List.{flat_map}}
+use Rattle.oil_model.specs.{Lines.{sooner, least}, Objects.{objects_of}, Rules.{late_times_of}}
 use Rattle.oil_model.proofs.times.late_alarm.Given as goal
 
 abbrev pub invariant-loop-object : goal.invariant-loop-object

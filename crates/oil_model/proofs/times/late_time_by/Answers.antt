@@ -1,10 +1,7 @@
 -- the lines of a time and of a cycle
 use Rattle.std.proofs.Common.{◌≡◌, ℕ, List, [], ◌∷◌, sym, ◌∙◌}
 use Rattle.std.specs.Prelude.{codes, nat_lt, if◌then◌else◌}
-use Rattle.oil_model.specs.Lines.{sooner, least}
-use Rattle.oil_model.specs.LookUp.{line}
-use Rattle.oil_model.specs.Objects.{maximum, alarm_time, cycle_time}
-use Rattle.oil_model.specs.Rules.{is_off_cycle}
+use Rattle.oil_model.specs.{Lines.{sooner, least}, LookUp.{line}, Objects.{maximum, alarm_time, cycle_time}, Rules.{is_off_cycle}}
 use Rattle.oil_model.proofs.Leasts.{least_append}
 use Rattle.oil_model.proofs.times.late_time_by.Goals as goal
 

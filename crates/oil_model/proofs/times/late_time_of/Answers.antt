@@ -1,9 +1,6 @@
 use Rattle.std.proofs.Common.{◌≡◌, ℕ, List, ◌∙◌, ap}
 use Rattle.std.specs.Prelude.{codes}
-use Rattle.oil_model.specs.LookUp.{word}
-use Rattle.oil_model.specs.Objects.{attrs_named, objects_of, start}
-use Rattle.oil_model.specs.Lines.{least}
-use Rattle.oil_model.specs.Rules.{late_times_by, counter_of}
+use Rattle.oil_model.specs.{LookUp.{word}, Objects.{attrs_named, objects_of, start}, Lines.{least}, Rules.{late_times_by, counter_of}}
 use Rattle.oil_tree.specs.AttrLists.{attr_list}
 use Rattle.oil_model.proofs.times.late_time_of.Goals as goal
 

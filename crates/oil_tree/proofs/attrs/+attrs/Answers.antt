@@ -1,7 +1,5 @@
-use Rattle.std.proofs.Common.{◌∷◌, sym, ◌∙◌, arith}
-use Rattle.std.proofs.lemmas.Result.{err_from_is_err_and}
-use Rattle.oil_tree.specs.Attrs.{attr_then}
-use Rattle.oil_tree.specs.Expect.{an_end, some_attrs}
+use Rattle.std.proofs.{Common.{◌∷◌, sym, ◌∙◌, arith}, lemmas.Result.{err_from_is_err_and}}
+use Rattle.oil_tree.specs.{Attrs.{attr_then}, Expect.{an_end, some_attrs}}
 use Rattle.osek_values.proofs.Refusals.{refuses_map}
 use Rattle.oil_tree.proofs.AttrsRead.{reads_attr, reads_close, reads_bare, reads_nested, not_close, not_open, stops_within, stops_behind_attrs, list_before-push}
 use Rattle.oil_tree.proofs.attrs.+attrs.Goals as goal

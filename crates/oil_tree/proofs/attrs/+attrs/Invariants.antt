@@ -1,10 +1,7 @@
 use Rattle.std.proofs.Common.{◌≡◌, ◌+◌, ◌-◌, ◌*◌, List, ◌∷◌, length}
 use Rattle.osek_values.specs.declared.limits.TheConstants.{MAX_OIL_DEPTH}
 use Rattle.oil_lexer.specs.declared.token.Token.{Token}
-use Rattle.oil_tree.specs.Attrs.{Attrs}
-use Rattle.oil_tree.specs.AttrLists.{list_before}
-use Rattle.oil_tree.specs.Grammar.{IsAttrs}
-use Rattle.oil_tree.specs.Expect.{some_attrs, Stack, scan}
+use Rattle.oil_tree.specs.{Attrs.{Attrs}, AttrLists.{list_before}, Grammar.{IsAttrs}, Expect.{some_attrs, Stack, scan}}
 use Rattle.oil_tree.proofs.attrs.+attrs.Given as goal
 
 abbrev pub decreases-attr : goal.decreases-attr

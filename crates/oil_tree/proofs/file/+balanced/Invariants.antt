@@ -1,8 +1,7 @@
 use Rattle.std.proofs.Common.{◌≡◌, ◌+◌, ◌-◌, List, ◌∷◌, length}
 use Rattle.osek_values.specs.declared.limits.TheConstants.{MAX_OIL_DEPTH}
 use Rattle.oil_lexer.specs.declared.token.Token.{Token}
-use Rattle.oil_tree.specs.Grammar.{IsBalanced}
-use Rattle.oil_tree.specs.Expect.{some_balanced, Stack, scan}
+use Rattle.oil_tree.specs.{Grammar.{IsBalanced}, Expect.{some_balanced, Stack, scan}}
 use Rattle.oil_tree.proofs.file.+balanced.Given as goal
 
 abbrev pub decreases-balanced : goal.decreases-balanced

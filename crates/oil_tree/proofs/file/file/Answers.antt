@@ -1,5 +1,4 @@
-use Rattle.std.proofs.Common.{◌∙◌}
-use Rattle.std.proofs.lemmas.Result.{err_from_is_err_and}
+use Rattle.std.proofs.{Common.{◌∙◌}, lemmas.Result.{err_from_is_err_and}}
 use Rattle.osek_values.proofs.Refusals.{refuses_map}
 use Rattle.oil_tree.proofs.file.file.Goals as goal
 

@@ -1,5 +1,4 @@
-use Rattle.std.proofs.Common.{◌∷◌, sym, ◌∙◌, append_assoc}
-use Rattle.std.proofs.lemmas.Result.{err_from_is_err_and}
+use Rattle.std.proofs.{Common.{◌∷◌, sym, ◌∙◌, append_assoc}, lemmas.Result.{err_from_is_err_and}}
 use Rattle.oil_tree.specs.Expect.{some_objects}
 use Rattle.osek_values.proofs.Refusals.{refuses_map}
 use Rattle.oil_tree.proofs.ObjectsRead.{reads_objects, one_object_more}

@@ -1,6 +1,5 @@
 use Rattle.std.proofs.Common.{⊎_elim, Ok, Err}
-use Rattle.oil_tree.proofs.OneAnswer.{one_answer}
-use Rattle.oil_tree.proofs.Prefixes.{some_answer}
+use Rattle.oil_tree.proofs.{OneAnswer.{one_answer}, Prefixes.{some_answer}}
 use Rattle.oil_tree.proofs.parser.one_answer.Goals as goal
 
 pub returns-clause-some : goal.returns-clause-some

@@ -1,5 +1,4 @@
-use Rattle.std.proofs.Common.{◌∷◌}
-use Rattle.std.proofs.lemmas.Result.{err_from_is_err_and}
+use Rattle.std.proofs.{Common.{◌∷◌}, lemmas.Result.{err_from_is_err_and}}
 use Rattle.oil_lexer.specs.declared.token.Mark.TheVariants.{Colon}
 use Rattle.oil_tree.specs.Expect.{a_semicolon}
 use Rattle.oil_tree.proofs.ShortPhrases.{mark_head, end_plain, end_described}

@@ -1,7 +1,5 @@
 -- whether the next number is in the list
-use Rattle.std.proofs.Common.{rules}
-use Rattle.std.proofs.lemmas.Iterator.{YieldsList-from_slice}
-use Rattle.std.proofs.lemmas.Iterator.Search.{any_from_yields_List}
+use Rattle.std.proofs.{Common.{rules}, lemmas.Iterator.{YieldsList-from_slice, Search.{any_from_yields_List}}}
 use Rattle.osek_io.proofs.counts.is_listed.Goals as goal
 
 pub returns : goal.returns

@@ -1,12 +1,8 @@
 use Rattle.std.proofs.Common.{◌≡◌, ◌≢◌, ℕ, ◌+◌, ◌-◌, ◌<◌, ◌≤◌, ◌⊎◌, max, List, [], ◌∷◌, ◌++◌, ◌∙◌, arith, refl, ap, subst, length, take, drop, Option, Result, Ok, Err, IsErr, inl, inr, sym}
 use Rattle.std.specs.Result.{IsErrAnd, IsErrOf}
-use Rattle.std.proofs.lemmas.List.{length-append, length-drop, length-take-le}
-use Rattle.std.proofs.lemmas.Result.{err_from_is_err_and}
-use Rattle.osek_io.specs.Counts.{ReadFaults, Rose, RoseSomewhere, Same, NeverFall}
-use Rattle.osek_io.specs.Files.{Files, Holds, IsMissing}
-use Rattle.osek_io.specs.Pieces.{ReadsPiece}
-use Rattle.osek_io.specs.declared.failed.Failed.{Failed}
-use Rattle.osek_io.specs.declared.loading.{LoadError.{LoadError}, LoadError.TheVariants.{Memory, Read, TooLong}}
+use Rattle.std.proofs.lemmas.{List.{length-append, length-drop, length-take-le}, Result.{err_from_is_err_and}}
+use Rattle.osek_io.specs.{Counts.{ReadFaults, Rose, RoseSomewhere, Same, NeverFall}, Files.{Files, Holds, IsMissing}, Pieces.{ReadsPiece}, declared.failed.Failed.{Failed}}
+use Rattle.osek_io.specs.declared.loading.LoadError.{LoadError, TheVariants.{Memory, Read, TooLong}}
 use Rattle.osek_io.proofs.Turns.{reads_on, taken, length-taken}
 use Rattle.osek_io.proofs.loading.load.Goals as goal
 

@@ -1,6 +1,5 @@
 use Rattle.std.proofs.Common.{◌≡◌, ◌≤◌, ◌-◌, ◌+◌, ℕ, List, length, take, max}
-use Rattle.osek_io.specs.Counts.{Same}
-use Rattle.osek_io.specs.Files.{Holds}
+use Rattle.osek_io.specs.{Counts.{Same}, Files.{Holds}}
 use Rattle.osek_io.proofs.loading.load.Given as goal
 
 -- What was taken is a prefix of the file, and within the limit.

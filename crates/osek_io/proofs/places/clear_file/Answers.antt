@@ -1,7 +1,6 @@
 use Rattle.std.proofs.Common.{◌≡◌, ◌∙◌, sym, ap, Some, None}
 use Rattle.std.specs.List.{position}
-use Rattle.osek_io.specs.Place.{PlaceState, is_named, files_of}
-use Rattle.osek_io.specs.Files.{with_or_without}
+use Rattle.osek_io.specs.{Place.{PlaceState, is_named, files_of}, Files.{with_or_without}}
 use Rattle.osek_io.proofs.PlaceMaps.{files_refilled, rooms_same, no_room}
 use Rattle.osek_io.proofs.places.clear_file.Goals as goal
 

@@ -1,5 +1,4 @@
-use Rattle.std.proofs.Common.{◌∙◌, refl, sym, ap, arith}
-use Rattle.std.proofs.lemmas.List.{take_all}
+use Rattle.std.proofs.{Common.{◌∙◌, refl, sym, ap, arith}, lemmas.List.{take_all}}
 use Rattle.osek_io.specs.Pieces.{grown}
 use Rattle.osek_io.proofs.Turns.{grows, grown-nil, length-rest}
 use Rattle.osek_io.proofs.storing.put_all.Goals as goal

@@ -1,8 +1,6 @@
-use Rattle.std.proofs.Common.{◌∙◌, ap, arith, inr}
-use Rattle.std.proofs.lemmas.List.{take_all}
+use Rattle.std.proofs.{Common.{◌∙◌, ap, arith, inr}, lemmas.List.{take_all}}
 use Rattle.osek_io.specs.Files.{with_file}
-use Rattle.osek_io.proofs.FileChanges.{stored-others}
-use Rattle.osek_io.proofs.Turns.{grows_file, rises_there, length-rest}
+use Rattle.osek_io.proofs.{FileChanges.{stored-others}, Turns.{grows_file, rises_there, length-rest}}
 use Rattle.osek_io.proofs.storing.store.Goals as goal
 
 pub loop-added-preserved : goal.loop-added-preserved

@@ -1,6 +1,5 @@
 use Rattle.std.proofs.Common.{◌≡◌, ◌≤◌, ◌-◌, length, take}
-use Rattle.osek_io.specs.Counts.{Same}
-use Rattle.osek_io.specs.Files.{with_file}
+use Rattle.osek_io.specs.{Counts.{Same}, Files.{with_file}}
 use Rattle.osek_io.proofs.storing.store.Given as goal
 
 abbrev pub invariant-loop-added : goal.invariant-loop-added

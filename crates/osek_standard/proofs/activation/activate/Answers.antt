@@ -2,10 +2,7 @@
 use Rattle.std.proofs.Common.{◌≡◌, ℕ, true, false, None, Some, refl, sym, ap, subst, rules}
 use Rattle.osek_values.specs.declared.status.Ask.TheVariants as ask
 use Rattle.osek_values.specs.declared.status.Status.TheVariants as status
-use Rattle.osek_standard.specs.declared.app.App.{App}
-use Rattle.osek_standard.specs.declared.state.State.{State}
-use Rattle.osek_standard.specs.Services.{Answer, activate_task, activated, answer, is_full}
-use Rattle.osek_standard.specs.Well.{Well}
+use Rattle.osek_standard.specs.{declared.{app.App.{App}, state.State.{State}}, Services.{Answer, activate_task, activated, answer, is_full}, Well.{Well}}
 use Rattle.osek_standard.proofs.Keeps.{activate_keeps}
 use Rattle.osek_standard.proofs.activation.activate.Goals as goal
 

@@ -1,5 +1,4 @@
-use Rattle.osek_standard.proofs.EffectKeeps.{effect_keeps}
-use Rattle.osek_standard.proofs.StepKeeps.{start_is_well, step_keeps}
+use Rattle.osek_standard.proofs.{EffectKeeps.{effect_keeps}, StepKeeps.{start_is_well, step_keeps}}
 use Rattle.osek_standard.proofs.laws.states_stay_well_formed.Goals as goal
 
 pub returns : goal.returns

@@ -1,5 +1,4 @@
-use Rattle.std.proofs.Common.{length, ◌∙◌, sym, ap, arith, ◌<◌}
-use Rattle.std.proofs.Math.ListN.{length-set}
+use Rattle.std.proofs.{Common.{length, ◌∙◌, sym, ap, arith, ◌<◌}, Math.ListN.{length-set}}
 use Rattle.osek_standard.specs.TaskStates.{suspended}
 use Rattle.osek_standard.proofs.CopyLaws.{copied_more}
 use Rattle.osek_standard.proofs.state.copy_tasks.Goals as goal

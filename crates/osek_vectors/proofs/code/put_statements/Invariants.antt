@@ -1,7 +1,6 @@
 -- what is written, and the statements that are left, are the whole
 use Rattle.std.proofs.Common.{◌≡◌, ◌-◌}
-use Rattle.osek_vectors.specs.Writing.{onto, each_from}
-use Rattle.osek_vectors.specs.CodeTexts.{statement, statements}
+use Rattle.osek_vectors.specs.{Writing.{onto, each_from}, CodeTexts.{statement, statements}}
 use Rattle.osek_vectors.proofs.code.put_statements.Given as goal
 
 abbrev pub invariant-loop-statement : goal.invariant-loop-statement

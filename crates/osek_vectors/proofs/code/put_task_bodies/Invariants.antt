@@ -1,7 +1,6 @@
 -- what is written, and the bodies that are left, are the whole
 use Rattle.std.proofs.Common.{◌≡◌, ◌-◌}
-use Rattle.osek_vectors.specs.Writing.{onto, each_from}
-use Rattle.osek_vectors.specs.CodeTexts.{task_body}
+use Rattle.osek_vectors.specs.{Writing.{onto, each_from}, CodeTexts.{task_body}}
 use Rattle.osek_vectors.proofs.code.put_task_bodies.Given as goal
 
 abbrev pub invariant-loop-task : goal.invariant-loop-task

@@ -1,7 +1,6 @@
 -- what is written, and the lines that are left, are the whole
 use Rattle.std.proofs.Common.{◌≡◌, ◌-◌, ◌*◌}
-use Rattle.osek_vectors.specs.Writing.{onto, each_from}
-use Rattle.osek_vectors.specs.EventLines.{event_line, event_text}
+use Rattle.osek_vectors.specs.{Writing.{onto, each_from}, EventLines.{event_line, event_text}}
 use Rattle.osek_vectors.proofs.events.put_events.Given as goal
 
 abbrev pub invariant-loop-line : goal.invariant-loop-line

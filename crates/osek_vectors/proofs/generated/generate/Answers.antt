@@ -1,7 +1,5 @@
 use Rattle.std.proofs.Common.{◌∙◌, ap}
-use Rattle.osek_vectors.specs.Writing.{Written, onto}
-use Rattle.osek_vectors.specs.CodeTexts.{code_text}
-use Rattle.osek_vectors.specs.EventLines.{event_text}
+use Rattle.osek_vectors.specs.{Writing.{Written, onto}, CodeTexts.{code_text}, EventLines.{event_text}}
 use Rattle.osek_vectors.proofs.InTurn.{taken-in_turn}
 use Rattle.osek_vectors.proofs.generated.generate.Goals as goal
 

@@ -1,6 +1,4 @@
-use Rattle.osek_vectors.specs.Draws.{first_state}
-use Rattle.osek_vectors.specs.OilTexts.{oil_text}
-use Rattle.osek_vectors.specs.CodeTexts.{code_text}
+use Rattle.osek_vectors.specs.{Draws.{first_state}, OilTexts.{oil_text}, CodeTexts.{code_text}}
 use Rattle.osek_vectors.proofs.TextLines.{HasLines-oil, HasLines-code, HasLines-events}
 use Rattle.osek_vectors.proofs.laws.a_seed_gives_no_other_number_of_lines.Goals as goal
 

@@ -1,7 +1,6 @@
 -- what is written, and the lines that are left, are the whole
 use Rattle.std.proofs.Common.{◌≡◌, ◌-◌}
-use Rattle.osek_vectors.specs.Writing.{onto, each_from}
-use Rattle.osek_vectors.specs.OilTexts.{task_line}
+use Rattle.osek_vectors.specs.{Writing.{onto, each_from}, OilTexts.{task_line}}
 use Rattle.osek_vectors.proofs.oil.put_tasks.Given as goal
 
 abbrev pub invariant-loop-task : goal.invariant-loop-task

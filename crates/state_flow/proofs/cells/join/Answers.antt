@@ -1,7 +1,5 @@
-use Rattle.std.proofs.Common.{refl, subst}
-use Rattle.std.proofs.lemmas.List.{get_or_read}
-use Rattle.state_flow.specs.declared.cells.Cell.{Cell}
-use Rattle.state_flow.specs.Cells.{IsRaised}
+use Rattle.std.proofs.{Common.{refl, subst}, lemmas.List.{get_or_read}}
+use Rattle.state_flow.specs.{declared.cells.Cell.{Cell}, Cells.{IsRaised}}
 use Rattle.state_flow.proofs.CellLists.{joined_there, joined_new}
 use Rattle.state_flow.proofs.cells.join.Goals as goal
 

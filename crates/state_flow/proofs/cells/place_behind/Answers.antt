@@ -1,8 +1,6 @@
-use Rattle.std.proofs.Common.{rules, leb}
-use Rattle.std.proofs.lemmas.List.Sorted.{IsPartitionPoint-from_clause}
+use Rattle.std.proofs.{Common.{rules, leb}, lemmas.List.Sorted.{IsPartitionPoint-from_clause}}
 use Rattle.osek_standard.specs.Points.{point_number}
-use Rattle.state_flow.specs.declared.cells.Cell.{Cell}
-use Rattle.state_flow.specs.Cells.{cell_number}
+use Rattle.state_flow.specs.{declared.cells.Cell.{Cell}, Cells.{cell_number}}
 use Rattle.state_flow.proofs.CellLists.{parted_behind, behind_found}
 use Rattle.state_flow.proofs.cells.place_behind.Goals as goal
 

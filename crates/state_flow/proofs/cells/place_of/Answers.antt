@@ -1,11 +1,7 @@
-use Rattle.std.proofs.Common.{rules, ◌∙◌, ltb, sym, ap, arith}
-use Rattle.std.proofs.lemmas.List.{get_or_default}
-use Rattle.std.proofs.lemmas.List.Sorted.{IsPartitionPoint-from_clause}
+use Rattle.std.proofs.{Common.{rules, ◌∙◌, ltb, sym, ap, arith}, lemmas.List.{get_or_default, Sorted.{IsPartitionPoint-from_clause}}}
 use Rattle.osek_standard.specs.Points.{point_number}
-use Rattle.state_flow.specs.declared.cells.Cell.{Cell}
-use Rattle.state_flow.specs.Cells.{cell_number}
-use Rattle.state_flow.proofs.CellLists.{parted, gap_found}
-use Rattle.state_flow.proofs.cells.place_of.Goals.{else-place-cells-via-then-place-cells+else-number, else-place-cells-via-else-place-cells}
+use Rattle.state_flow.specs.{declared.cells.Cell.{Cell}, Cells.{cell_number}}
+use Rattle.state_flow.proofs.{CellLists.{parted, gap_found}, cells.place_of.Goals.{else-place-cells-via-then-place-cells+else-number, else-place-cells-via-else-place-cells}}
 use Rattle.state_flow.proofs.cells.place_of.Goals as goal
 
 pub returns-else-place-cells-clause-gap : goal.returns-else-place-cells-clause-gap

@@ -2,14 +2,9 @@ use Rattle.std.proofs.Common.{List, sym, subst}
 use Rattle.std.specs.Prelude.{OnOk}
 use Rattle.std.proofs.lemmas.Result.{on_ok_weaker}
 use Rattle.abstract_state.specs.declared.table.PlainEntry.{PlainEntry}
-use Rattle.flow_rules.specs.declared.group.ExitGroup.{ExitGroup}
-use Rattle.flow_rules.specs.Groups.{AreKnownGroups}
-use Rattle.state_flow.specs.declared.cells.Cell.{Cell}
-use Rattle.state_flow.specs.Progress.{AreJoined}
-use Rattle.state_flow.specs.PlainCells.{plain_cells}
-use Rattle.state_flow.specs.ExitRows.{all_rows, AreProperRows, AreRowsJoined}
-use Rattle.state_flow.proofs.NumberedCells.{cells_on, cells_same}
-use Rattle.state_flow.proofs.EvaluatedExits.{its_domains, numbers_filled, rows_lead, rows_proper}
+use Rattle.flow_rules.specs.{declared.group.ExitGroup.{ExitGroup}, Groups.{AreKnownGroups}}
+use Rattle.state_flow.specs.{declared.cells.Cell.{Cell}, Progress.{AreJoined}, PlainCells.{plain_cells}, ExitRows.{all_rows, AreProperRows, AreRowsJoined}}
+use Rattle.state_flow.proofs.{NumberedCells.{cells_on, cells_same}, EvaluatedExits.{its_domains, numbers_filled, rows_lead, rows_proper}}
 use Rattle.state_flow.proofs.evaluation.evaluate.Goals as goal
 
 pub exit_groups-requires-clause-domains : goal.exit_groups-requires-clause-domains

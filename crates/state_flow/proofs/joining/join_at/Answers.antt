@@ -1,5 +1,4 @@
-use Rattle.std.proofs.Common.{◌∷◌, [], get_or, take, List, subst}
-use Rattle.std.proofs.lemmas.List.{take_all, get_or_default}
+use Rattle.std.proofs.{Common.{◌∷◌, [], get_or, take, List, subst}, lemmas.List.{take_all, get_or_default}}
 use Rattle.osek_standard.specs.declared.point.Point.{Point}
 use Rattle.osek_standard.specs.declared.point.Point.TheVariants as point
 use Rattle.abstract_state.specs.declared.table.TableRow.{TableRow}

@@ -1,7 +1,6 @@
 use Rattle.std.proofs.Common.{◌∷◌, [], ◌++◌, ◌∙◌, List, take, sym, ap, subst}
 use Rattle.std.specs.Prelude.{Contains}
-use Rattle.std.proofs.lemmas.List.{take_more, take_all}
-use Rattle.std.proofs.lemmas.List.Elements.{Contains-get_or}
+use Rattle.std.proofs.lemmas.List.{take_more, take_all, Elements.{Contains-get_or}}
 use Rattle.abstract_state.specs.declared.table.TableRow.{TableRow}
 use Rattle.flow_rules.specs.declared.group.ExitGroup.{ExitGroup}
 use Rattle.state_flow.specs.ExitRows.{all_rows, AreRowsJoined}

@@ -1,21 +1,11 @@
 use Rattle.std.proofs.Common.{◌∙◌, ◌+◌, ◌*◌, ◌<◌, ◌≤◌, List, length, sym, ap, subst, arith}
 use Rattle.osek_standard.specs.Counts.{points, height}
-use Rattle.abstract_state.specs.Domains.{domains_of}
-use Rattle.abstract_state.specs.declared.{table.{PlainTable.{PlainTable}}}
-use Rattle.abstract_state.specs.Tables.{Least, sets_of, value_count}
-use Rattle.abstract_state.specs.Written.{IsWritten}
-use Rattle.numbered_sets.specs.declared.numbered_entry.NumberedEntry.{NumberedEntry}
-use Rattle.numbered_sets.specs.Pools.{pool_domains}
-use Rattle.state_flow.specs.declared.cells.Cell.{Cell}
-use Rattle.state_flow.specs.Cells.{AreInOrder, IsWaitingAt, IsNextWaiting, NoneWaitsFrom}
-use Rattle.state_flow.specs.Rows.{table_of}
-use Rattle.state_flow.proofs.CellLists.{next_waits}
-use Rattle.state_flow.proofs.RowLaws.{written}
-use Rattle.state_flow.proofs.Closing.{least_at_end}
-use Rattle.state_flow.proofs.Bounds.{room, values_few, rows_evaluated, evaluations_few}
+use Rattle.abstract_state.specs.{Domains.{domains_of}, declared.table.PlainTable.{PlainTable}, Tables.{Least, sets_of, value_count}, Written.{IsWritten}}
+use Rattle.numbered_sets.specs.{declared.numbered_entry.NumberedEntry.{NumberedEntry}, Pools.{pool_domains}}
+use Rattle.state_flow.specs.{declared.cells.Cell.{Cell}, Cells.{AreInOrder, IsWaitingAt, IsNextWaiting, NoneWaitsFrom}, Rows.{table_of}}
+use Rattle.state_flow.proofs.{CellLists.{next_waits}, RowLaws.{written}, Closing.{least_at_end}, Bounds.{room, values_few, rows_evaluated, evaluations_few}}
 use Rattle.state_flow.specs.PlainCells.{plain_cells}
-use Rattle.state_flow.proofs.NumberedCells.{numbered_order, waits_plain, none_waits_plain, domains_kept, tasks_few}
-use Rattle.state_flow.proofs.CellRows.{rows_known, table_alike}
+use Rattle.state_flow.proofs.{NumberedCells.{numbered_order, waits_plain, none_waits_plain, domains_kept, tasks_few}, CellRows.{rows_known, table_alike}}
 use Rattle.state_flow.proofs.least_table.solve.Goals as goal
 
 pub started-requires : goal.started-requires

@@ -1,10 +1,10 @@
 use Rattle.std.proofs.Common.{List, [], ◌∷◌, refl, sym, subst, arith}
 use Rattle.osek_values.specs.Numbers.{mode_no}
-use Rattle.abstract_state.specs.declared.table.{PlainEntry.{PlainEntry}}
+use Rattle.abstract_state.specs.declared.table.PlainEntry.{PlainEntry}
 use Rattle.numbered_sets.proofs.NumberingLaws.{longer_onward}
 use Rattle.numbered_sets.specs.PlainTables.{row_at}
 use Rattle.state_flow.specs.declared.cells.Cell.{Cell}
-use Rattle.state_flow.specs.Rows.{IsProperRow}
+use Rattle.flow_rules.specs.Rows.{IsProperRow}
 use Rattle.state_flow.specs.Progress.{AreJoined}
 use Rattle.state_flow.proofs.Closing.{started_more, started_all}
 use Rattle.state_flow.specs.PlainCells.{plain_cells}

@@ -1,6 +1,5 @@
 use Rattle.numbered_sets.specs.Pools.{IsLonger}
-use Rattle.state_flow.specs.Progress.{AreStarted}
-use Rattle.state_flow.specs.PlainCells.{plain_cells, AreCellsOf}
+use Rattle.state_flow.specs.{Progress.{AreStarted}, PlainCells.{plain_cells, AreCellsOf}}
 use Rattle.state_flow.proofs.least_table.started.Given as goal
 
 abbrev pub invariant-loop-mode : goal.invariant-loop-mode

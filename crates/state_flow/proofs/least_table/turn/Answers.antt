@@ -1,10 +1,7 @@
 use Rattle.std.proofs.Common.{set, sym, subst}
-use Rattle.numbered_sets.specs.declared.numbered_entry.NumberedEntry.{NumberedEntry}
-use Rattle.numbered_sets.specs.Views.{plain_entry, AreNumbersOf}
-use Rattle.numbered_sets.specs.PlainTables.{row_at}
-use Rattle.state_flow.specs.Rows.{IsProperRow}
-use Rattle.state_flow.specs.PlainCells.{plain_cells}
-use Rattle.state_flow.specs.Numbering.{IsEvaluated}
+use Rattle.numbered_sets.specs.{declared.numbered_entry.NumberedEntry.{NumberedEntry}, Views.{plain_entry, AreNumbersOf}, PlainTables.{row_at}}
+use Rattle.flow_rules.specs.Rows.{IsProperRow}
+use Rattle.state_flow.specs.{PlainCells.{plain_cells}, Numbering.{IsEvaluated}}
 use Rattle.state_flow.proofs.NumberedCells.{asked, numbers_there, proper_there, asked_cells, progress_on}
 use Rattle.state_flow.proofs.least_table.turn.Goals as goal
 

@@ -1,8 +1,6 @@
 use Rattle.std.proofs.Common.{◌≡◌, ◌<◌, [], length}
 use Rattle.std.specs.Prelude.{All}
-use Rattle.task_code.specs.declared.tree.Body.{Body}
-use Rattle.task_code.specs.Fit.{depth}
-use Rattle.task_code.specs.Expect.{scan}
+use Rattle.task_code.specs.{declared.tree.Body.{Body}, Fit.{depth}, Expect.{scan}}
 use Rattle.task_code.proofs.BodiesRead.{BodiesJoin}
 use Rattle.task_code.proofs.bodies.bodies.Given as goal
 

@@ -1,5 +1,4 @@
-use Rattle.std.proofs.Common.{◌∷◌, ◌∙◌}
-use Rattle.std.proofs.lemmas.Result.{err_from_is_err_and}
+use Rattle.std.proofs.{Common.{◌∷◌, ◌∙◌}, lemmas.Result.{err_from_is_err_and}}
 use Rattle.task_code.specs.Expect.{mask_rest}
 use Rattle.osek_values.proofs.Refusals.{refuses_map}
 use Rattle.task_code.proofs.Operands.{mask_ends, mask_joins, mask_takes}

@@ -1,5 +1,4 @@
-use Rattle.task_code.proofs.OneAnswer.{one_answer}
-use Rattle.task_code.proofs.Viable.{some_answer}
+use Rattle.task_code.proofs.{OneAnswer.{one_answer}, Viable.{some_answer}}
 use Rattle.task_code.proofs.parser.one_answer.Goals as goal
 
 pub returns-clause-some : goal.returns-clause-some

@@ -1,10 +1,6 @@
 use Rattle.std.proofs.Common.{List, ap, ◌∙◌}
-use Rattle.task_code.specs.declared.tree.Body.{Body}
-use Rattle.task_code.specs.Faults.{wrong_works_in}
-use Rattle.task_code.specs.FirstLines.{first_line}
-use Rattle.task_code.proofs.Viable.{has_tree, stop_fault}
-use Rattle.task_code.proofs.FirstOfLines.{has_first, has_none}
-use Rattle.task_code.proofs.FitLaws.{are_fit}
+use Rattle.task_code.specs.{declared.tree.Body.{Body}, Faults.{wrong_works_in}, FirstLines.{first_line}}
+use Rattle.task_code.proofs.{Viable.{has_tree, stop_fault}, FirstOfLines.{has_first, has_none}, FitLaws.{are_fit}}
 use Rattle.task_code.proofs.parser.read.Goals as goal
 
 pub returns-in-Err-Fault-clause-right : goal.returns-in-Err-Fault-clause-right

@@ -1,10 +1,6 @@
 use Rattle.std.proofs.Common.{◌≡◌, ◌+◌, ◌-◌, ◌*◌, ◌≤◌, List, ◌∷◌, length}
 use Rattle.oil_lexer.specs.declared.token.Token.{Token}
-use Rattle.task_code.specs.Statements.{Statements}
-use Rattle.task_code.specs.StatementLists.{list_before}
-use Rattle.task_code.specs.Fit.{depth}
-use Rattle.task_code.specs.Grammar.{IsStatements}
-use Rattle.task_code.specs.Expect.{some_statements, Stack, scan}
+use Rattle.task_code.specs.{Statements.{Statements}, StatementLists.{list_before}, Fit.{depth}, Grammar.{IsStatements}, Expect.{some_statements, Stack, scan}}
 use Rattle.task_code.proofs.statements.+statements.Given as goal
 
 abbrev pub decreases-conditional : goal.decreases-conditional

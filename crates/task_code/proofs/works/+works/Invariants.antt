@@ -1,8 +1,5 @@
 use Rattle.std.proofs.Common.{◌≡◌, ◌+◌, ◌*◌, ◌≤◌, drop}
-use Rattle.task_code.specs.Faults.{wrong_works}
-use Rattle.task_code.specs.FirstLines.{first_line}
-use Rattle.task_code.specs.Statements.{closed, closing_line, nodes}
-use Rattle.task_code.specs.StatementLists.{statement_before, list_of}
+use Rattle.task_code.specs.{Faults.{wrong_works}, FirstLines.{first_line}, Statements.{closed, closing_line, nodes}, StatementLists.{statement_before, list_of}}
 use Rattle.task_code.proofs.works.+works.Given as goal
 
 abbrev pub decreases-wrong_work : goal.decreases-wrong_work

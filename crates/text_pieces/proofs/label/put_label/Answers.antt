@@ -1,6 +1,5 @@
 -- a label is a front of each copy
-use Rattle.std.proofs.Common.{ℕ, List, ◌++◌, take, ap, ◌∙◌}
-use Rattle.std.proofs.lemmas.List.{take-take}
+use Rattle.std.proofs.{Common.{ℕ, List, ◌++◌, take, ap, ◌∙◌}, lemmas.List.{take-take}}
 use Rattle.text_pieces.proofs.label.put_label.Goals as goal
 
 pub returns-then-size-le-SHORT-clause-text : goal.returns-then-size-le-SHORT-clause-text

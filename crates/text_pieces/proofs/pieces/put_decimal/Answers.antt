@@ -1,6 +1,5 @@
 -- a number has at most 20 digits
-use Rattle.std.proofs.Common.{rules}
-use Rattle.std.proofs.lemmas.Fmt.{length-decimal-le}
+use Rattle.std.proofs.{Common.{rules}, lemmas.Fmt.{length-decimal-le}}
 use Rattle.text_pieces.proofs.pieces.put_decimal.Goals as goal
 
 pub write_digits-first-requires : goal.write_digits-first-requires

@@ -1,7 +1,5 @@
-use Rattle.std.proofs.Common.{◌≡◌, ℕ, false, List, [], ◌∷◌, ◌<◌, ◌+◌, ◌-◌, ◌/◌, ◌%◌, ◌^◌, refl, sym, ◌∙◌, ap, subst, arith, ◌++◌, take, length}
-use Rattle.std.proofs.Math.ListN.{length-set}
-use Rattle.std.proofs.Math.Seq.{take-set-lt}
-use Rattle.std.proofs.lemmas.List.{length-take-le}
+use Rattle.std.proofs.{Common.{◌≡◌, ℕ, false, List, [], ◌∷◌, ◌<◌, ◌+◌, ◌-◌, ◌/◌, ◌%◌, ◌^◌, refl, sym, ◌∙◌, ap, subst, arith, ◌++◌, take, length}, Math.ListN.{length-set}}
+use Rattle.std.proofs.{Math.Seq.{take-set-lt}, lemmas.List.{length-take-le}}
 use Rattle.std.specs.Fmt.{digits, digit_glyph}
 use Rattle.osek_values.specs.Numbers.{hexadecimal}
 use Rattle.text_pieces.proofs.HexadecimalLaws.{digit_first, fewer, turn, written_front, some_place}

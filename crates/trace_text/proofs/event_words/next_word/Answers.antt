@@ -1,7 +1,6 @@
 use Rattle.std.proofs.Common.{length, take, drop, ◌-◌, refl, sym, ◌∙◌, ap, arith}
 use Rattle.trace_text.specs.EventWords.{is_blank}
-use Rattle.trace_text.proofs.Parts.{position-le}
-use Rattle.trace_text.proofs.WordLaws.{no_word, first_word}
+use Rattle.trace_text.proofs.{Parts.{position-le}, WordLaws.{no_word, first_word}}
 use Rattle.trace_text.proofs.event_words.next_word.Goals as goal
 
 pub returns-in-None : goal.returns-in-None

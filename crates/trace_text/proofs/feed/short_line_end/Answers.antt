@@ -2,8 +2,7 @@
 use Rattle.std.proofs.Common.{◌∙◌, ap, take}
 use Rattle.std.specs.List.{position}
 use Rattle.std.proofs.lemmas.List.{take_min}
-use Rattle.trace_text.proofs.FirstLines.{place_within}
-use Rattle.trace_text.proofs.LineLaws.{is_lf}
+use Rattle.trace_text.proofs.{FirstLines.{place_within}, LineLaws.{is_lf}}
 use Rattle.trace_text.proofs.feed.short_line_end.Goals as goal
 
 pub returns-clause-place : goal.returns-clause-place

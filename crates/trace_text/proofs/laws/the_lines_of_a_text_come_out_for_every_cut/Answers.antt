@@ -1,5 +1,4 @@
-use Rattle.trace_text.proofs.FedLines.{one_list_of_lines}
-use Rattle.trace_text.proofs.FeedLaws.{same_lines, read_as_text}
+use Rattle.trace_text.proofs.{FedLines.{one_list_of_lines}, FeedLaws.{same_lines, read_as_text}}
 use Rattle.trace_text.proofs.laws.the_lines_of_a_text_come_out_for_every_cut.Goals as goal
 
 pub returns-clause-same : goal.returns-clause-same

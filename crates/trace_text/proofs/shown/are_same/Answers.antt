@@ -1,10 +1,8 @@
 -- where `==` says so, the resources are the same
 use Rattle.std.proofs.Common.{◌≡◌, eqb, ap}
 use Rattle.std.specs.Bool.{Decides}
-use Rattle.std.proofs.lemmas.Bool.Decides.{Decides-eqb}
-use Rattle.std.proofs.lemmas.Slice.Eq.{slice_eq-Decides}
-use Rattle.osek_values.specs.Numbers.{res_no}
-use Rattle.osek_values.specs.declared.numbers.ResNo.{ResNo}
+use Rattle.std.proofs.lemmas.{Bool.Decides.{Decides-eqb}, Slice.Eq.{slice_eq-Decides}}
+use Rattle.osek_values.specs.{Numbers.{res_no}, declared.numbers.ResNo.{ResNo}}
 use Rattle.trace_text.proofs.shown.are_same.Goals as goal
 
 by_number : (a b : ResNo) → Decides (eqb a.0 b.0) (a ≡ b)

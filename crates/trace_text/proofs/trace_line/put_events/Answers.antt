@@ -1,6 +1,5 @@
 -- the events of a task
-use Rattle.std.proofs.Common.{arith}
-use Rattle.std.proofs.lemmas.Grind.{common_steps}
+use Rattle.std.proofs.{Common.{arith}, lemmas.Grind.{common_steps}}
 use Rattle.trace_text.proofs.trace_line.put_events.Goals as goal
 
 pub returns-clause-text : goal.returns-clause-text

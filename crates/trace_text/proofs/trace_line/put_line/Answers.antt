@@ -1,9 +1,7 @@
 -- the parts of a line in their order
 use Rattle.std.proofs.Common.{◌≡◌, ℕ, List, [], ◌∷◌, ◌++◌, take, refl, ◌∙◌, ap, append_assoc}
-use Rattle.std.specs.Fmt.{decimal}
-use Rattle.std.specs.List.{flat_map, enumerate_from}
-use Rattle.osek_standard.specs.Dispatch.{stepped}
-use Rattle.osek_standard.specs.TraceText.{who, task_text, notes_text, line_text}
+use Rattle.std.specs.{Fmt.{decimal}, List.{flat_map, enumerate_from}}
+use Rattle.osek_standard.specs.{Dispatch.{stepped}, TraceText.{who, task_text, notes_text, line_text}}
 use Rattle.trace_text.proofs.trace_line.put_line.Goals as goal
 
 in_a_row : (t a b d e end line v w x y all : List ℕ) → line ≡ a ++ (32 ∷ []) ++ b ++ d ++ e → v ≡ t ++ a → w ≡ v ++ 32 ∷ b → x ≡ w ++ d → y ≡ x ++ e → all ≡ y ++ end → all ≡ t ++ line ++ end

@@ -1,6 +1,5 @@
 use Rattle.std.proofs.Common.{subst}
-use Rattle.osek_standard.specs.Well.{IsStack}
-use Rattle.osek_standard.specs.TaskStates.{held}
+use Rattle.osek_standard.specs.{Well.{IsStack}, TaskStates.{held}}
 use Rattle.osek_standard.proofs.StackLaws.{held_stack}
 use Rattle.trace_text.proofs.trace_line.put_task.Goals as goal
 

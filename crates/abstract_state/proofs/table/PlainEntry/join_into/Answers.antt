@@ -1,5 +1,4 @@
-use Rattle.std.proofs.Common.{rules, ◌<◌, ◌+◌, ◌^◌, length, ap, arith}
-use Rattle.std.proofs.lemmas.List.Sums.{sum_by_more, sum_by_more_le}
+use Rattle.std.proofs.{Common.{rules, ◌<◌, ◌+◌, ◌^◌, length, ap, arith}, lemmas.List.Sums.{sum_by_more, sum_by_more_le}}
 use Rattle.abstract_state.specs.Tables.{empty_set, IsPartOfJoin, IsSetBySet}
 use Rattle.abstract_state.proofs.EntryJoins.{size, joined_on, stopped, all_joined}
 use Rattle.abstract_state.proofs.table.PlainEntry.join_into.Goals as goal

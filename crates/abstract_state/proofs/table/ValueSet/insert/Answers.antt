@@ -1,11 +1,7 @@
-use Rattle.std.proofs.Common.{◌∙◌, sym, ap, subst}
-use Rattle.std.proofs.Math.Bool.{or_comm}
-use Rattle.std.specs.Prelude.{not}
-use Rattle.std.specs.List.{list_any}
-use Rattle.abstract_state.specs.ValueOrder.{same_part, IsAscending}
-use Rattle.abstract_state.specs.Tables.{is_member}
-use Rattle.abstract_state.proofs.OrderLaws.{part_itself, absent, ascending_with, any_with}
-use Rattle.abstract_state.proofs.JoinLaws.{place_there, there_too}
+use Rattle.std.proofs.{Common.{◌∙◌, sym, ap, subst}, Math.Bool.{or_comm}}
+use Rattle.std.specs.{Prelude.{not}, List.{list_any}}
+use Rattle.abstract_state.specs.{ValueOrder.{same_part, IsAscending}, Tables.{is_member}}
+use Rattle.abstract_state.proofs.{OrderLaws.{part_itself, absent, ascending_with, any_with}, JoinLaws.{place_there, there_too}}
 use Rattle.abstract_state.proofs.table.ValueSet.insert.Goals as goal
 
 pub returns-in-Ok-clause-is_new : goal.returns-in-Ok-clause-is_new

@@ -1,10 +1,7 @@
 use Rattle.std.proofs.Common.{rules, ◌∙◌, List, sym, ap, subst}
 use Rattle.std.specs.List.{insert}
-use Rattle.abstract_state.specs.declared.value.PartValue.{PartValue}
-use Rattle.abstract_state.specs.ValueOrder.{ArePassed, IsAscending}
-use Rattle.abstract_state.specs.Tables.{IsPartOfJoin}
-use Rattle.abstract_state.proofs.JoinLaws.{IsJoinSoFar, join_found, join_put, join_stopped}
-use Rattle.abstract_state.proofs.table.ValueSet.join_into.Goals.{in-Ok, in-Err+in_ok-put_in-in-Err}
+use Rattle.abstract_state.specs.{declared.value.PartValue.{PartValue}, ValueOrder.{ArePassed, IsAscending}, Tables.{IsPartOfJoin}}
+use Rattle.abstract_state.proofs.{JoinLaws.{IsJoinSoFar, join_found, join_put, join_stopped}, table.ValueSet.join_into.Goals.{in-Ok, in-Err+in_ok-put_in-in-Err}}
 use Rattle.abstract_state.proofs.table.ValueSet.join_into.Goals as goal
 
 pub search-requires : goal.search-requires

@@ -1,4 +1,4 @@
-use Rattle.std.proofs.Common.{rules, ◌≡◌, ◌<◌, ◌-◌, ◌∙◌, length, get_or, subst, sym, ap, arith}
+use Rattle.std.proofs.Common.{rules, ◌≡◌, ◌<◌, ◌-◌, ◌∙◌, length, get_or, subst, sym}
 use Rattle.abstract_state.specs.ValueOrder.{ArePassed}
 use Rattle.abstract_state.proofs.OrderLaws.{all_passed}
 use Rattle.abstract_state.proofs.table.ValueSet.passed.Goals as goal

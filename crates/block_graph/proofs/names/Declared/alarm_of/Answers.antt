@@ -1,6 +1,5 @@
 use Rattle.std.proofs.Common.{ap, ◌∙◌}
-use Rattle.oil_system.specs.declared.objects.Alarm.{Alarm}
-use Rattle.oil_system.specs.declared.system.System.{System}
+use Rattle.oil_system.specs.declared.{objects.Alarm.{Alarm}, system.System.{System}}
 use Rattle.block_graph.specs.Names.{alarm_of}
 use Rattle.block_graph.proofs.Numbered.{found}
 use Rattle.block_graph.proofs.names.Declared.alarm_of.Goals as goal

@@ -1,6 +1,5 @@
 use Rattle.std.proofs.Common.{ap, ◌∙◌}
-use Rattle.oil_system.specs.declared.objects.Resource.{Resource}
-use Rattle.oil_system.specs.declared.system.System.{System}
+use Rattle.oil_system.specs.declared.{objects.Resource.{Resource}, system.System.{System}}
 use Rattle.block_graph.specs.Names.{resource_of}
 use Rattle.block_graph.proofs.Numbered.{found}
 use Rattle.block_graph.proofs.names.Declared.resource_of.Goals as goal

@@ -1,7 +1,6 @@
 use Rattle.std.proofs.Common.{◌<◌, length, set, refl, subst, arith}
 use Rattle.numbered_sets.specs.Pools.{values_at}
-use Rattle.flow_rules.specs.declared.levels.Levels.{Levels}
-use Rattle.flow_rules.specs.Levels.{AreTaskLevels}
+use Rattle.flow_rules.specs.{declared.levels.Levels.{Levels}, Levels.{AreTaskLevels}}
 use Rattle.flow_rules.proofs.LevelLaws.{levels_with, judged_with}
 use Rattle.flow_rules.proofs.levels.Levels.renew.Goals as goal
 

@@ -1,7 +1,6 @@
 use Rattle.std.proofs.Common.{◌≡◌, ℕ, ◌<◌, length, get_or}
 use Rattle.numbered_sets.specs.Pools.{values_at}
-use Rattle.flow_rules.specs.declared.task_levels.TaskLevels.{TaskLevels}
-use Rattle.flow_rules.specs.Levels.{AreLevels}
+use Rattle.flow_rules.specs.{declared.task_levels.TaskLevels.{TaskLevels}, Levels.{AreLevels}}
 use Rattle.flow_rules.proofs.levels.Levels.renew.Given as goal
 
 abbrev pub invariant-loop-task : goal.invariant-loop-task

@@ -1,8 +1,6 @@
 use Rattle.std.proofs.Common.{ℕ, ◌+◌, sym, subst}
-use Rattle.flow_rules.specs.declared.task_levels.TaskLevels.{TaskLevels}
-use Rattle.flow_rules.specs.Levels.{AreTaskLevels}
-use Rattle.flow_rules.proofs.JudgedValues.{dead_judged, is_dead, is_live_at}
-use Rattle.flow_rules.proofs.task_levels.TaskLevels.judge.Goals.{in-None+in_ok-insert-in-None, in-Some+in_ok-put-in-Some}
+use Rattle.flow_rules.specs.{declared.task_levels.TaskLevels.{TaskLevels}, Levels.{AreTaskLevels}}
+use Rattle.flow_rules.proofs.{JudgedValues.{dead_judged, is_dead, is_live_at}, task_levels.TaskLevels.judge.Goals.{in-None+in_ok-insert-in-None, in-Some+in_ok-put-in-Some}}
 use Rattle.flow_rules.proofs.task_levels.TaskLevels.judge.Goals as goal
 
 pub returns-clause-levels : goal.returns-clause-levels

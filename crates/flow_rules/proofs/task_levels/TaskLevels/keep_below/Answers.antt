@@ -1,9 +1,7 @@
 use Rattle.std.proofs.Common.{◌≡◌, ℕ, ◌+◌, List, set, length, sym, ap, subst, arith}
-use Rattle.numbered_sets.specs.Numbers.{other_numbers}
-use Rattle.numbered_sets.specs.NumberedEntries.{numbers_at}
+use Rattle.numbered_sets.specs.{Numbers.{other_numbers}, NumberedEntries.{numbers_at}}
 use Rattle.flow_rules.specs.declared.task_levels.Level.{Level}
-use Rattle.flow_rules.proofs.NarrowingLaws.{AreCutUpTo, level_kept, level_cut, narrowed_below}
-use Rattle.flow_rules.proofs.task_levels.TaskLevels.keep_below.Goals.{then-level-limit, else-level-limit}
+use Rattle.flow_rules.proofs.{NarrowingLaws.{AreCutUpTo, level_kept, level_cut, narrowed_below}, task_levels.TaskLevels.keep_below.Goals.{then-level-limit, else-level-limit}}
 use Rattle.flow_rules.proofs.task_levels.TaskLevels.keep_below.Goals as goal
 
 pub leave_out-requires : goal.leave_out-requires

@@ -1,6 +1,5 @@
 use Rattle.std.proofs.Common.{◌≡◌, ℕ, set, subst}
-use Rattle.numbered_sets.specs.Numbers.{other_numbers}
-use Rattle.numbered_sets.specs.NumberedEntries.{numbers_at}
+use Rattle.numbered_sets.specs.{Numbers.{other_numbers}, NumberedEntries.{numbers_at}}
 use Rattle.flow_rules.proofs.NarrowingLaws.{narrowed_to_live}
 use Rattle.flow_rules.proofs.task_levels.TaskLevels.keep_live.Goals as goal
 

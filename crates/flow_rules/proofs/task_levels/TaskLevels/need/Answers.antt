@@ -1,6 +1,5 @@
 use Rattle.std.proofs.Common.{ℕ, sym, ap, ◌∙◌}
-use Rattle.numbered_sets.specs.Numbers.{meets}
-use Rattle.numbered_sets.specs.NumberedEntries.{numbers_at}
+use Rattle.numbered_sets.specs.{Numbers.{meets}, NumberedEntries.{numbers_at}}
 use Rattle.flow_rules.proofs.NarrowingLaws.{least_of_dead, least_of_live, nothing_met}
 use Rattle.flow_rules.proofs.task_levels.TaskLevels.need.Goals as goal
 

@@ -1,6 +1,5 @@
 use Rattle.std.proofs.Common.{◌≡◌, ℕ, ◌+◌, min, sym, ap, subst, ◌∙◌}
-use Rattle.numbered_sets.specs.Numbers.{meets}
-use Rattle.numbered_sets.specs.NumberedEntries.{numbers_at}
+use Rattle.numbered_sets.specs.{Numbers.{meets}, NumberedEntries.{numbers_at}}
 use Rattle.flow_rules.proofs.NarrowingLaws.{IsNeedUpTo, no_need, need_with, need_without, least_of_all, enough_of_all, need_of_none}
 use Rattle.flow_rules.proofs.task_levels.TaskLevels.need_of_live.Goals.{then-meets, else-meets}
 use Rattle.flow_rules.proofs.task_levels.TaskLevels.need_of_live.Goals as goal

@@ -1,8 +1,6 @@
 use Rattle.std.proofs.Common.{◌≡◌, ℕ, set, sym, ap, subst, ◌∙◌}
-use Rattle.numbered_sets.specs.Numbers.{Numbers, with_number}
-use Rattle.numbered_sets.specs.Pools.{IsNumberOf}
-use Rattle.flow_rules.specs.declared.task_levels.Level.{Level}
-use Rattle.flow_rules.specs.Levels.{IsLiveAt, AreTaskLevels, with_next}
+use Rattle.numbered_sets.specs.{Numbers.{Numbers, with_number}, Pools.{IsNumberOf}}
+use Rattle.flow_rules.specs.{declared.task_levels.Level.{Level}, Levels.{IsLiveAt, AreTaskLevels, with_next}}
 use Rattle.flow_rules.proofs.JudgedValues.{level_judged}
 use Rattle.flow_rules.proofs.task_levels.TaskLevels.put.Goals as goal
 

@@ -1,20 +1,12 @@
 -- the best of all tasks is the best, after one scan fewer than there are Live tasks
-use Rattle.std.proofs.Common.{◌≡◌, ℕ, ◌+◌, ◌≤◌, false, length, take, refl, sym, ap, arith, Some, None, inl, inr, IfNone, IfSome}
-use Rattle.std.proofs.lemmas.Bool.{cases_Bool, cases_lt}
-use Rattle.std.proofs.lemmas.List.{take_all}
-use Rattle.std.proofs.lemmas.List.Sums.{count_by_more_yes, count_by_more_no, count_by-le-length}
-use Rattle.std.specs.List.{count_by}
-use Rattle.std.specs.declared.option.Option.{Option}
+use Rattle.std.proofs.{Common.{◌≡◌, ℕ, ◌+◌, ◌≤◌, false, length, take, refl, sym, ap, arith, Some, None, inl, inr, IfNone, IfSome}, lemmas.Bool.{cases_Bool, cases_lt}}
+use Rattle.std.proofs.lemmas.List.{take_all, Sums.{count_by_more_yes, count_by_more_no, count_by-le-length}}
+use Rattle.std.specs.{List.{count_by}, declared.option.Option.{Option}}
 use Rattle.osek_values.specs.declared.numbers.TaskNo.{TaskNo}
-use Rattle.osek_standard.specs.declared.app.App.{App}
-use Rattle.osek_standard.specs.declared.state.State.{State}
-use Rattle.osek_standard.specs.TaskStates.{is_live, suspended}
-use Rattle.osek_standard.specs.States.{task_state}
-use Rattle.osek_standard.specs.Priority.{best, current_priority}
+use Rattle.osek_standard.specs.{declared.{app.App.{App}, state.State.{State}}, TaskStates.{is_live, suspended}, States.{task_state}, Priority.{best, current_priority}}
 use Rattle.osek_standard.specs.Well.{Well, HasProcessor}
 use Rattle.osek_standard.proofs.PriorityLaws.{best_found, best_none, live_known, none_live}
-use Rattle.generic_kernel.specs.BestBelow.{IsBestBelow}
-use Rattle.generic_kernel.specs.Levels.{count_of, level, level_if}
+use Rattle.generic_kernel.specs.{BestBelow.{IsBestBelow}, Levels.{count_of, level, level_if}}
 use Rattle.generic_kernel.proofs.ready.Ready.best.Goals as goal
 
 best_of_all : (app : App) (s : State) (n : ℕ) → length s.tasks ≤ n → (found : Option TaskNo) → IsBestBelow app s n found → found ≡ best app s

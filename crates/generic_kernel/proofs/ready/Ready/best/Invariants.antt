@@ -2,11 +2,8 @@
 use Rattle.std.proofs.Common.{◌≡◌, ◌+◌, ◌<◌, take, IfSome}
 use Rattle.std.specs.List.{count_by}
 use Rattle.osek_values.specs.declared.numbers.TaskNo.{TaskNo}
-use Rattle.osek_standard.specs.declared.app.App.{App}
-use Rattle.osek_standard.specs.declared.state.State.{State}
-use Rattle.osek_standard.specs.TaskStates.{is_live}
-use Rattle.generic_kernel.specs.BestBelow.{IsBestBelow, some_of}
-use Rattle.generic_kernel.specs.Levels.{IsReady}
+use Rattle.osek_standard.specs.{declared.{app.App.{App}, state.State.{State}}, TaskStates.{is_live}}
+use Rattle.generic_kernel.specs.{BestBelow.{IsBestBelow, some_of}, Levels.{IsReady}}
 use Rattle.generic_kernel.proofs.ready.Ready.best.Given as goal
 
 abbrev pub invariant-loop-task : goal.invariant-loop-task

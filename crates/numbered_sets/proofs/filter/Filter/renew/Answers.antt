@@ -1,12 +1,8 @@
-use Rattle.std.proofs.Common.{◌≡◌, ◌+◌, ◌<◌, length, get_or, refl, sym, ap, ◌∙◌, arith}
-use Rattle.std.proofs.Math.ListN.{get_or-map}
-use Rattle.std.proofs.lemmas.List.{length-map}
-use Rattle.numbered_sets.specs.declared.{seen.Seen.{Seen}, filter.Filter.{Filter}}
-use Rattle.numbered_sets.specs.Filters.{seen_values}
+use Rattle.std.proofs.{Common.{◌≡◌, ◌+◌, ◌<◌, length, get_or, refl, sym, ap, ◌∙◌, arith}, Math.ListN.{get_or-map}, lemmas.List.{length-map}}
+use Rattle.numbered_sets.specs.{declared.{seen.Seen.{Seen}, filter.Filter.{Filter}}, Filters.{seen_values}}
 use Rattle.flow_model.specs.Tests.{passes}
 use Rattle.numbered_sets.specs.Numbers.{with_number}
-use Rattle.numbered_sets.proofs.SiftLaws.{filter_taken, filter_passed_over}
-use Rattle.numbered_sets.proofs.filter.Filter.renew.Goals.{then-passes+in_ok-insert, else-passes}
+use Rattle.numbered_sets.proofs.{SiftLaws.{filter_taken, filter_passed_over}, filter.Filter.renew.Goals.{then-passes+in_ok-insert, else-passes}}
 use Rattle.numbered_sets.proofs.filter.Filter.renew.Goals as goal
 
 pub loop-number-preserved : goal.loop-number-preserved

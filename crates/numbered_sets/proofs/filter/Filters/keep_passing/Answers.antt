@@ -1,9 +1,5 @@
-use Rattle.std.proofs.Common.{◌≡◌, ◌<◌, ◌≤◌, length, get_or, set, sym, ap, subst, ◌∙◌, arith}
-use Rattle.std.proofs.lemmas.List.{length-map}
-use Rattle.std.proofs.lemmas.List.Elements.{All-get_or}
-use Rattle.numbered_sets.specs.declared.{seen.Seen.{Seen}, filter.Filter.{Filter}}
-use Rattle.numbered_sets.specs.Filters.{seen_values, IsFilter, IsSifted}
-use Rattle.numbered_sets.specs.Numbers.{kept_numbers}
+use Rattle.std.proofs.{Common.{◌≡◌, ◌<◌, ◌≤◌, length, get_or, set, sym, ap, subst, ◌∙◌, arith}, lemmas.List.{length-map, Elements.{All-get_or}}}
+use Rattle.numbered_sets.specs.{declared.{seen.Seen.{Seen}, filter.Filter.{Filter}}, Filters.{seen_values, IsFilter, IsSifted}, Numbers.{kept_numbers}}
 use Rattle.numbered_sets.specs.NumberedEntries.{numbers_at}
 use Rattle.numbered_sets.proofs.SiftLaws.{put_at, sifted}
 use Rattle.numbered_sets.proofs.filter.Filters.keep_passing.Goals as goal

@@ -1,8 +1,6 @@
-use Rattle.std.proofs.Common.{[], ◌∷◌, List, subst, sym}
-use Rattle.std.proofs.lemmas.List.Elements.{All-nil, All-cons, All-append}
+use Rattle.std.proofs.{Common.{[], ◌∷◌, List, subst, sym}, lemmas.List.Elements.{All-nil, All-cons, All-append}}
 use Rattle.std.specs.Prelude.{All}
-use Rattle.numbered_sets.specs.declared.filter.Filter.{Filter}
-use Rattle.numbered_sets.specs.Filters.{IsFilter}
+use Rattle.numbered_sets.specs.{declared.filter.Filter.{Filter}, Filters.{IsFilter}}
 use Rattle.numbered_sets.proofs.filter.Filters.place_for.Goals as goal
 
 pub returns-clause-filters : goal.returns-clause-filters

@@ -1,5 +1,4 @@
-use Rattle.std.proofs.Common.{subst}
-use Rattle.std.proofs.lemmas.List.Elements.{All-set, All-get_or}
+use Rattle.std.proofs.{Common.{subst}, lemmas.List.Elements.{All-set, All-get_or}}
 use Rattle.numbered_sets.specs.Filters.{seen_values, IsFilter}
 use Rattle.numbered_sets.proofs.filter.Filters.renew.Goals as goal
 

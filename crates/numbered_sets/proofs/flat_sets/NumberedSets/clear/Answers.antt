@@ -1,7 +1,6 @@
 use Rattle.std.proofs.Common.{◌≡◌, ◌∷◌, set, refl, ap, arith}
 use Rattle.std.specs.Vec.{with_items}
-use Rattle.bit_words.specs.Words.{bits_of_words}
-use Rattle.bit_words.specs.Further.{further_at}
+use Rattle.bit_words.specs.{Words.{bits_of_words}, Further.{further_at}}
 use Rattle.bit_words.proofs.FirstWords.{none_first}
 use Rattle.numbered_sets.proofs.FlatLaws.{flat_put, written, still_long}
 use Rattle.numbered_sets.proofs.flat_sets.NumberedSets.clear.Goals as goal

@@ -1,8 +1,6 @@
-use Rattle.std.proofs.Common.{rules, ◌≡◌, List, length, set, ap, ◌∙◌, arith, get_or-set_same}
-use Rattle.std.proofs.lemmas.List.{length-set, set-set}
+use Rattle.std.proofs.{Common.{rules, ◌≡◌, List, length, set, ap, ◌∙◌, arith, get_or-set_same}, lemmas.List.{length-set, set-set}}
 use Rattle.abstract_state.specs.declared.value.Domain.TheVariants as domain
-use Rattle.numbered_sets.specs.Numbers.{Numbers, numbers, with_number}
-use Rattle.numbered_sets.specs.SetLists.{set_of}
+use Rattle.numbered_sets.specs.{Numbers.{Numbers, numbers, with_number}, SetLists.{set_of}}
 use Rattle.numbered_sets.proofs.flat_sets.NumberedSets.hold_only.Goals as goal
 
 pub put_number-requires : goal.put_number-requires

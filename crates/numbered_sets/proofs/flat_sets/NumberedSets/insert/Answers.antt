@@ -1,8 +1,6 @@
-use Rattle.std.proofs.Common.{set, sym, ap, ◌∙◌}
-use Rattle.std.proofs.lemmas.List.{set-get_or}
+use Rattle.std.proofs.{Common.{set, sym, ap, ◌∙◌}, lemmas.List.{set-get_or}}
 use Rattle.abstract_state.specs.declared.value.Domain.TheVariants as domain
-use Rattle.numbered_sets.specs.Numbers.{numbers}
-use Rattle.numbered_sets.specs.SetLists.{set_of}
+use Rattle.numbered_sets.specs.{Numbers.{numbers}, SetLists.{set_of}}
 use Rattle.numbered_sets.proofs.NumberLattice.{had_number}
 use Rattle.numbered_sets.proofs.flat_sets.NumberedSets.insert.Goals as goal
 

@@ -1,5 +1,4 @@
-use Rattle.std.proofs.Common.{◌≡◌, ◌≢◌, ◌<◌, ℕ, length, get_or, inl, inr, refl, sym, ap, subst, ◌∙◌, arith}
-use Rattle.std.proofs.lemmas.Bool.{eq-eqb, cases_lt, eqb-true, OnTrue_at}
+use Rattle.std.proofs.{Common.{◌≡◌, ◌≢◌, ◌<◌, ℕ, length, get_or, inl, inr, refl, sym, ap, subst, ◌∙◌, arith}, lemmas.Bool.{eq-eqb, cases_lt, eqb-true, OnTrue_at}}
 use Rattle.bit_words.specs.Further.{further_at}
 use Rattle.numbered_sets.specs.SetLists.{set_of}
 use Rattle.numbered_sets.proofs.FlatLaws.{as_many, read_is, some_words}

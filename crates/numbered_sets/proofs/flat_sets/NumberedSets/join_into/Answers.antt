@@ -1,11 +1,8 @@
 use Rattle.std.proofs.Common.{rules, ◌≡◌, ◌<◌, ◌+◌, ◌^◌, ℕ, List, length, get_or, ap, ap₂, subst, ◌∙◌, arith}
-use Rattle.std.specs.Prelude.{bit_or, count_ones}
-use Rattle.std.specs.Vec.{with_items}
+use Rattle.std.specs.{Prelude.{bit_or, count_ones}, Vec.{with_items}}
 use Rattle.std.proofs.lemmas.List.{with_items_is}
-use Rattle.bit_words.specs.Words.{AreWords, bits_of_words}
-use Rattle.bit_words.specs.Further.{further_bits}
-use Rattle.numbered_sets.specs.SetLists.{all_numbers}
-use Rattle.numbered_sets.specs.FlatSets.{flat_sets}
+use Rattle.bit_words.specs.{Words.{AreWords, bits_of_words}, Further.{further_bits}}
+use Rattle.numbered_sets.specs.{SetLists.{all_numbers}, FlatSets.{flat_sets}}
 use Rattle.numbered_sets.proofs.FlatLaws.{flat_count, flat_same_further, as_many, flat_joined, AreWordsJoined, words_joined, further_as_many}
 use Rattle.numbered_sets.proofs.flat_sets.NumberedSets.join_into.Goals as goal
 

@@ -1,11 +1,8 @@
 use Rattle.std.proofs.Common.{◌≡◌, ◌∷◌, ℕ, List, set, refl, ap, ap₂, ◌∙◌, arith}
-use Rattle.std.specs.Prelude.{bit_and, bit_xor}
-use Rattle.std.specs.Vec.{with_items}
-use Rattle.bit_words.specs.Words.{bits_of_words}
-use Rattle.bit_words.specs.Further.{further_at, further_bits}
+use Rattle.std.specs.{Prelude.{bit_and, bit_xor}, Vec.{with_items}}
+use Rattle.bit_words.specs.{Words.{bits_of_words}, Further.{further_at, further_bits}}
 use Rattle.bit_words.proofs.OtherWords.{alone_two}
-use Rattle.numbered_sets.specs.Numbers.{Numbers}
-use Rattle.numbered_sets.specs.SetLists.{set_of}
+use Rattle.numbered_sets.specs.{Numbers.{Numbers}, SetLists.{set_of}}
 use Rattle.numbered_sets.proofs.FlatLaws.{read_is, flat_put, written, still_long}
 use Rattle.numbered_sets.proofs.flat_sets.NumberedSets.leave_out.Goals as goal
 

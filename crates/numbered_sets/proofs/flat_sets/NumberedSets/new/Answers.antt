@@ -1,5 +1,4 @@
-use Rattle.std.proofs.Common.{◌≡◌, length, ap, ◌∙◌, arith}
-use Rattle.std.proofs.lemmas.List.{length-replicate}
+use Rattle.std.proofs.{Common.{◌≡◌, length, ap, ◌∙◌, arith}, lemmas.List.{length-replicate}}
 use Rattle.numbered_sets.proofs.FlatLaws.{flat_made}
 use Rattle.numbered_sets.proofs.flat_sets.NumberedSets.new.Goals as goal
 

@@ -1,12 +1,10 @@
 use Rattle.std.proofs.Common.{rules, ◌≡◌, length, set, inl, inr, sym, ap, ◌∙◌, arith}
 use Rattle.std.specs.Vec.{with_items}
 use Rattle.std.proofs.lemmas.Bool.{cases_eq}
-use Rattle.bit_words.specs.Words.{bits_of_words}
-use Rattle.bit_words.specs.Further.{further_at, further_bits}
+use Rattle.bit_words.specs.{Words.{bits_of_words}, Further.{further_at, further_bits}}
 use Rattle.bit_words.proofs.FirstWords.{same_further}
 use Rattle.abstract_state.specs.declared.value.Domain.{Domain}
-use Rattle.numbered_sets.specs.Numbers.{Numbers, numbers}
-use Rattle.numbered_sets.specs.FlatSets.{flat_sets}
+use Rattle.numbered_sets.specs.{Numbers.{Numbers, numbers}, FlatSets.{flat_sets}}
 use Rattle.numbered_sets.proofs.FlatLaws.{flat_same_further, as_many, flat_put, written, still_long}
 use Rattle.numbered_sets.proofs.flat_sets.NumberedSets.put.Goals as goal
 

@@ -3,8 +3,7 @@ use Rattle.std.specs.Prelude.{bit_or}
 use Rattle.std.proofs.lemmas.Bool.{cases_eq}
 use Rattle.bit_words.specs.Further.{further_at, further_bits}
 use Rattle.bit_words.proofs.FirstWords.{put_further}
-use Rattle.numbered_sets.specs.SetLists.{set_of}
-use Rattle.numbered_sets.specs.FlatSets.{flat_sets}
+use Rattle.numbered_sets.specs.{SetLists.{set_of}, FlatSets.{flat_sets}}
 use Rattle.numbered_sets.proofs.FlatLaws.{flat_same_further, as_many, read_is, flat_put, kept_word}
 use Rattle.numbered_sets.proofs.flat_sets.NumberedSets.put_further.Goals as goal
 

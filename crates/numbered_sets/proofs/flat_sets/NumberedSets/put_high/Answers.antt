@@ -1,8 +1,6 @@
 use Rattle.std.proofs.Common.{◌≡◌, ◌∷◌, ◌^◌, ℕ, set, refl, ap, ◌∙◌, arith}
-use Rattle.std.specs.Prelude.{bit_or}
-use Rattle.std.specs.Vec.{with_items}
-use Rattle.bit_words.specs.Words.{bits_of_words}
-use Rattle.bit_words.specs.Further.{further_at}
+use Rattle.std.specs.{Prelude.{bit_or}, Vec.{with_items}}
+use Rattle.bit_words.specs.{Words.{bits_of_words}, Further.{further_at}}
 use Rattle.bit_words.proofs.FirstWords.{put_high}
 use Rattle.numbered_sets.specs.SetLists.{set_of}
 use Rattle.numbered_sets.proofs.FlatLaws.{read_is, flat_put, written, still_long, kept_word}

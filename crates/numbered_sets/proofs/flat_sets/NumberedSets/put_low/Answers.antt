@@ -1,9 +1,7 @@
 use Rattle.std.proofs.Common.{◌≡◌, ◌∷◌, ◌^◌, ℕ, get_or, set, refl, sym, ap, ◌∙◌, arith}
-use Rattle.std.specs.Prelude.{bit_or}
-use Rattle.std.specs.Vec.{with_items}
+use Rattle.std.specs.{Prelude.{bit_or}, Vec.{with_items}}
 use Rattle.std.proofs.lemmas.List.{set-get_or}
-use Rattle.bit_words.specs.Words.{bits_of_words}
-use Rattle.bit_words.specs.Further.{further_at}
+use Rattle.bit_words.specs.{Words.{bits_of_words}, Further.{further_at}}
 use Rattle.bit_words.proofs.FirstWords.{put_first}
 use Rattle.numbered_sets.specs.SetLists.{set_of}
 use Rattle.numbered_sets.proofs.FlatLaws.{read_is, flat_put, written, still_long}

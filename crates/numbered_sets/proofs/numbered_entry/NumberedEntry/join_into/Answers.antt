@@ -1,6 +1,5 @@
 use Rattle.std.proofs.Common.{rules, List, length, get_or, ap, inr}
-use Rattle.numbered_sets.specs.Numbers.{Numbers}
-use Rattle.numbered_sets.specs.NumberedEntries.{no_set, IsPartOfNumberJoin}
+use Rattle.numbered_sets.specs.{Numbers.{Numbers}, NumberedEntries.{no_set, IsPartOfNumberJoin}}
 use Rattle.numbered_sets.proofs.numbered_entry.NumberedEntry.join_into.Goals as goal
 
 pub returns-in_err-added-clause-err : goal.returns-in_err-added-clause-err

@@ -1,6 +1,5 @@
 use Rattle.std.proofs.Common.{rules, ◌≡◌, ◌-◌, ◌^◌, ◌∷◌, length, ap, ◌∙◌, arith}
-use Rattle.std.specs.Prelude.{bit_or}
-use Rattle.std.specs.Vec.{with_items}
+use Rattle.std.specs.{Prelude.{bit_or}, Vec.{with_items}}
 use Rattle.std.proofs.lemmas.List.{with_items_is}
 use Rattle.bit_words.specs.Words.{bits_of_words}
 use Rattle.bit_words.proofs.FirstWords.{put_first, put_high, put_further, same_further}

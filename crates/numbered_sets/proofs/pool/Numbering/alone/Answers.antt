@@ -1,9 +1,7 @@
 use Rattle.std.proofs.Common.{sym, ap, subst, ◌∙◌}
 use Rattle.std.specs.List.{IsDistinct}
 use Rattle.abstract_state.specs.ValueOrder.{same_part}
-use Rattle.numbered_sets.specs.Filters.{IsNumberAlone}
-use Rattle.numbered_sets.specs.Numbers.{Numbers, with_number}
-use Rattle.numbered_sets.specs.Pools.{Values}
+use Rattle.numbered_sets.specs.{Filters.{IsNumberAlone}, Numbers.{Numbers, with_number}, Pools.{Values}}
 use Rattle.numbered_sets.proofs.AloneLaws.{number_alone, none_alone}
 use Rattle.numbered_sets.proofs.pool.Numbering.alone.Goals as goal
 

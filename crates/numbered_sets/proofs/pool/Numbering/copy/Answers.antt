@@ -1,8 +1,5 @@
-use Rattle.std.proofs.Common.{◌≡◌, ◌<◌, List, length, get_or, sym, ap, subst, ◌∙◌, arith}
-use Rattle.std.proofs.lemmas.List.{take_all}
-use Rattle.std.proofs.lemmas.List.Elements.{All-get_or}
-use Rattle.abstract_state.specs.declared.value.{Domain.{Domain}, PartValue.{PartValue}}
-use Rattle.abstract_state.specs.Domains.{IsWithin}
+use Rattle.std.proofs.{Common.{◌≡◌, ◌<◌, List, length, get_or, sym, ap, subst, ◌∙◌, arith}, lemmas.List.{take_all, Elements.{All-get_or}}}
+use Rattle.abstract_state.specs.{declared.value.{Domain.{Domain}, PartValue.{PartValue}}, Domains.{IsWithin}}
 use Rattle.numbered_sets.specs.Pools.{Values, with_value}
 use Rattle.numbered_sets.proofs.CopiedPools.{next_value}
 use Rattle.numbered_sets.proofs.pool.Numbering.copy.Goals as goal

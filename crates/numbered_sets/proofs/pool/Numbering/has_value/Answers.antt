@@ -1,8 +1,6 @@
 use Rattle.std.proofs.Common.{sym, ◌∙◌}
-use Rattle.numbered_sets.specs.Numbers.{has_number}
-use Rattle.numbered_sets.specs.NumberedEntries.{numbers_at}
-use Rattle.numbered_sets.proofs.AloneLaws.{number_tells, absent_tells}
-use Rattle.numbered_sets.proofs.PlainLaws.{member_of_plain}
+use Rattle.numbered_sets.specs.{Numbers.{has_number}, NumberedEntries.{numbers_at}}
+use Rattle.numbered_sets.proofs.{AloneLaws.{number_tells, absent_tells}, PlainLaws.{member_of_plain}}
 use Rattle.numbered_sets.proofs.pool.Numbering.has_value.Goals as goal
 
 pub returns-in-None : goal.returns-in-None

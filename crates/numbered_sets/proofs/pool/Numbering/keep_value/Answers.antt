@@ -1,8 +1,6 @@
 use Rattle.std.proofs.Common.{set, sym, ap, subst, ◌∙◌}
 use Rattle.flow_model.specs.declared.test.Test.TheVariants as test
-use Rattle.numbered_sets.specs.Filters.{IsSifted}
-use Rattle.numbered_sets.specs.Numbers.{kept_numbers}
-use Rattle.numbered_sets.specs.NumberedEntries.{numbers_at}
+use Rattle.numbered_sets.specs.{Filters.{IsSifted}, Numbers.{kept_numbers}, NumberedEntries.{numbers_at}}
 use Rattle.numbered_sets.proofs.SiftLaws.{put_at, kept_by}
 use Rattle.numbered_sets.proofs.pool.Numbering.keep_value.Goals as goal
 

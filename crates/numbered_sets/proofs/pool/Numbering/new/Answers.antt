@@ -1,9 +1,6 @@
 use Rattle.std.proofs.Common.{subst, sym, List}
-use Rattle.numbered_sets.specs.declared.seen.Seen.{Seen}
-use Rattle.numbered_sets.specs.Filters.{seen_values}
-use Rattle.numbered_sets.specs.Pools.{AreNumbered}
-use Rattle.numbered_sets.proofs.PoolLaws.{none_numbered}
-use Rattle.numbered_sets.proofs.SiftLaws.{no_filters}
+use Rattle.numbered_sets.specs.{declared.seen.Seen.{Seen}, Filters.{seen_values}, Pools.{AreNumbered}}
+use Rattle.numbered_sets.proofs.{PoolLaws.{none_numbered}, SiftLaws.{no_filters}}
 use Rattle.numbered_sets.proofs.pool.Numbering.new.Goals as goal
 
 pub invariant_of-result : goal.invariant_of-result

@@ -1,10 +1,7 @@
 use Rattle.std.proofs.Common.{◌≡◌, true, ℕ, List, sym, ap, subst, ◌∙◌, arith}
-use Rattle.abstract_state.specs.declared.value.PartValue.{PartValue}
-use Rattle.abstract_state.specs.ValueOrder.{same_part}
-use Rattle.abstract_state.specs.Domains.{domain_size}
+use Rattle.abstract_state.specs.{declared.value.PartValue.{PartValue}, ValueOrder.{same_part}, Domains.{domain_size}}
 use Rattle.abstract_state.proofs.OrderLaws.{part_right}
-use Rattle.numbered_sets.specs.Filters.{seen_values}
-use Rattle.numbered_sets.specs.Pools.{Values, IsNumberOf}
+use Rattle.numbered_sets.specs.{Filters.{seen_values}, Pools.{Values, IsNumberOf}}
 use Rattle.numbered_sets.proofs.PoolLaws.{seen_already, few_values}
 use Rattle.numbered_sets.proofs.pool.Numbering.number.Goals as goal
 

@@ -1,10 +1,7 @@
 use Rattle.std.proofs.Common.{List, sym, ap, subst, ◌∙◌, arith}
-use Rattle.abstract_state.specs.declared.value.{Domain.{Domain}, PartValue.{PartValue}}
-use Rattle.abstract_state.specs.Domains.{IsWithin, domain_size}
-use Rattle.numbered_sets.specs.Pools.{Values, AreNumbered, IsNumberOf, with_value}
-use Rattle.numbered_sets.specs.Filters.{seen_values, AreFilters}
-use Rattle.numbered_sets.proofs.PoolLaws.{values_with_seen, numbered_with, few_values, number_of_seen}
-use Rattle.numbered_sets.proofs.SiftLaws.{filters_with}
+use Rattle.abstract_state.specs.{declared.value.{Domain.{Domain}, PartValue.{PartValue}}, Domains.{IsWithin, domain_size}}
+use Rattle.numbered_sets.specs.{Pools.{Values, AreNumbered, IsNumberOf, with_value}, Filters.{seen_values, AreFilters}}
+use Rattle.numbered_sets.proofs.{PoolLaws.{values_with_seen, numbered_with, few_values, number_of_seen}, SiftLaws.{filters_with}}
 use Rattle.numbered_sets.proofs.pool.Numbering.number_by_search.Goals as goal
 
 numbered : (c : goal.In_ok-number) → AreNumbered c.self.inside.domain (seen_values c.insert_full.new.self.keys)

@@ -1,10 +1,7 @@
 use Rattle.std.proofs.Common.{◌≡◌, false, subst}
-use Rattle.std.specs.Prelude.{IfSome, IfNone}
-use Rattle.std.specs.List.{list_any}
-use Rattle.abstract_state.specs.declared.value.PartValue.{PartValue}
-use Rattle.abstract_state.specs.ValueOrder.{same_part}
-use Rattle.numbered_sets.specs.Filters.{seen_values}
-use Rattle.numbered_sets.specs.Pools.{Values, IsNumberOf}
+use Rattle.std.specs.{Prelude.{IfSome, IfNone}, List.{list_any}}
+use Rattle.abstract_state.specs.{declared.value.PartValue.{PartValue}, ValueOrder.{same_part}}
+use Rattle.numbered_sets.specs.{Filters.{seen_values}, Pools.{Values, IsNumberOf}}
 use Rattle.numbered_sets.proofs.AloneLaws.{found_number, absent_number}
 use Rattle.numbered_sets.proofs.pool.Numbering.number_of.Goals as goal
 

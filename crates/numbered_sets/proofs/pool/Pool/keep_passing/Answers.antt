@@ -1,5 +1,4 @@
-use Rattle.std.proofs.Common.{set, sym, ap, ◌∙◌}
-use Rattle.std.proofs.lemmas.List.{set-get_or}
+use Rattle.std.proofs.{Common.{set, sym, ap, ◌∙◌}, lemmas.List.{set-get_or}}
 use Rattle.abstract_state.specs.declared.value.Domain.TheVariants as domain
 use Rattle.numbered_sets.specs.Pools.{no_values}
 use Rattle.numbered_sets.proofs.pool.Pool.keep_passing.Goals as goal

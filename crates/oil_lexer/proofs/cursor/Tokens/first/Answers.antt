@@ -1,5 +1,4 @@
-use Rattle.std.proofs.Common.{◌≡◌, ◌+◌, take, arith}
-use Rattle.std.proofs.lemmas.Grind.{common_steps}
+use Rattle.std.proofs.{Common.{◌≡◌, ◌+◌, take, arith}, lemmas.Grind.{common_steps}}
 use Rattle.oil_lexer.specs.Text.{line_ends}
 use Rattle.oil_lexer.proofs.AheadSteps.{no_break, none_ahead, behind, with_first, past_gap}
 use Rattle.oil_lexer.proofs.cursor.Tokens.first.Goals as goal

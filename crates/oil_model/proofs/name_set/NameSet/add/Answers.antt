@@ -1,6 +1,5 @@
 use Rattle.std.proofs.Common.{true, ◌∙◌, sym, ap}
-use Rattle.std.specs.Prelude.{not, cond}
-use Rattle.std.specs.Str.{bytes_eq}
+use Rattle.std.specs.{Prelude.{not, cond}, Str.{bytes_eq}}
 use Rattle.std.proofs.lemmas.Map.Text.{is_eq-slice_cmp}
 use Rattle.oil_model.specs.NameSets.{has_name}
 use Rattle.oil_model.proofs.NameSets.{any_key, cond_or}

@@ -1,7 +1,6 @@
 -- a read that fails counts one fault
 use Rattle.std.proofs.Common.{◌≡◌, ℕ, ◌⊎◌, Result, Ok, Err, OnErr, inl, arith}
-use Rattle.osek_io.specs.Counts.{one_more, Rose}
-use Rattle.osek_io.specs.declared.failed.Failed.{Failed}
+use Rattle.osek_io.specs.{Counts.{one_more, Rose}, declared.failed.Failed.{Failed}}
 use Rattle.osek_io.proofs.file_shelf.FileShelfShelf.read.Goals as goal
 
 rose : (r : Result ℕ Failed) (a b : ℕ) → b ≡ one_more a → OnErr r (Rose a b ⊎ ⊥)

@@ -1,6 +1,5 @@
 -- what fits is added
-use Rattle.std.proofs.Common.{◌≡◌, ◌-◌, length, min, arith}
-use Rattle.std.proofs.lemmas.Grind.{common_steps}
+use Rattle.std.proofs.{Common.{◌≡◌, ◌-◌, length, min, arith}, lemmas.Grind.{common_steps}}
 use Rattle.osek_io.proofs.mem_shelf.MemShelf.append_piece.Goals as goal
 
 pub add_to_file-requires : goal.add_to_file-requires

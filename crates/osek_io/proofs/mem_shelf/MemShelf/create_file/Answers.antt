@@ -1,8 +1,7 @@
 -- what a file that was created leaves
 use Rattle.std.proofs.Common.{◌≡◌, ℕ, true, false, List, [], Option, Some, None, is_some, refl, sym, subst}
 use Rattle.std.specs.FinMap.{get, insert}
-use Rattle.osek_io.specs.Counts.{one_more, is_listed}
-use Rattle.osek_io.specs.MemShelf.{ShelfState, after_create}
+use Rattle.osek_io.specs.{Counts.{one_more, is_listed}, MemShelf.{ShelfState, after_create}}
 use Rattle.osek_io.proofs.mem_shelf.MemShelf.create_file.Goals as goal
 
 made : (t s : ShelfState) (name : List ℕ) (room : Option ℕ) → is_some room ≡ true → is_listed s.fails s.calls ≡ false → t.fails ≡ s.fails → t.files ≡ insert s.files name [] → t.rooms ≡ s.rooms → t.most ≡ s.most → t.calls ≡ one_more s.calls

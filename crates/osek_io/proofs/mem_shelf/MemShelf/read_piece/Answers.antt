@@ -1,8 +1,7 @@
 -- what a listed read leaves
 use Rattle.std.proofs.Common.{◌≡◌, ℕ, true, List, Option, Some, None, sym, subst}
 use Rattle.std.specs.FinMap.{get}
-use Rattle.osek_io.specs.Counts.{one_more, is_listed}
-use Rattle.osek_io.specs.MemShelf.{ShelfState, after_read}
+use Rattle.osek_io.specs.{Counts.{one_more, is_listed}, MemShelf.{ShelfState, after_read}}
 use Rattle.osek_io.proofs.mem_shelf.MemShelf.read_piece.Goals as goal
 
 left : (s : ShelfState) (bytes : List ℕ) (file : Option (List ℕ)) (calls faults : ℕ) → Some bytes ≡ file → is_listed s.fails s.calls ≡ true → calls ≡ one_more s.calls → faults ≡ one_more s.read_faults

@@ -1,6 +1,5 @@
 use Rattle.std.proofs.Common.{◌≡◌, ℕ, sym, length, Result, Ok, Err, OnOk}
-use Rattle.osek_io.specs.Counts.{Same}
-use Rattle.osek_io.specs.declared.failed.Failed.{Failed}
+use Rattle.osek_io.specs.{Counts.{Same}, declared.failed.Failed.{Failed}}
 use Rattle.std.specs.FinMap.{get}
 use Rattle.osek_io.proofs.MeetsShelf.{read_cause, read_pieces}
 use Rattle.osek_io.proofs.mem_shelf.MemShelfShelf.read.Goals as goal

@@ -1,8 +1,6 @@
 -- a put that fails counts one fault
-use Rattle.std.proofs.Common.{◌≡◌, ℕ, true, List, subst, arith}
-use Rattle.std.proofs.lemmas.Grind.{common_steps}
-use Rattle.osek_io.specs.Counts.{one_more}
-use Rattle.osek_io.specs.MemSink.{SinkState, is_refused, after_put}
+use Rattle.std.proofs.{Common.{◌≡◌, ℕ, true, List, subst, arith}, lemmas.Grind.{common_steps}}
+use Rattle.osek_io.specs.{Counts.{one_more}, MemSink.{SinkState, is_refused, after_put}}
 use Rattle.osek_io.proofs.mem_sink.MemSinkSink.put.Goals as goal
 
 refused : (s v : SinkState) (piece : List ℕ) (calls faults : ℕ) → v ≡ s → calls ≡ one_more v.calls → is_refused v piece ≡ true → faults ≡ one_more v.faults → record v { calls = calls; faults = faults } ≡ after_put s piece

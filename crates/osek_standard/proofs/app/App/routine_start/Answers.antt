@@ -1,8 +1,6 @@
 -- where a counter's routine starts
-use Rattle.std.proofs.Common.{◌≡◌, ℕ, List, length, slice_index_or, sym, ◌∙◌, ap, arith}
-use Rattle.std.proofs.lemmas.Bool.{lt-ltb}
-use Rattle.osek_standard.specs.Apps.{no_counter}
-use Rattle.osek_standard.specs.declared.objects.Counter.{Counter}
+use Rattle.std.proofs.{Common.{◌≡◌, ℕ, List, length, slice_index_or, sym, ◌∙◌, ap, arith}, lemmas.Bool.{lt-ltb}}
+use Rattle.osek_standard.specs.{Apps.{no_counter}, declared.objects.Counter.{Counter}}
 use Rattle.osek_standard.proofs.app.App.routine_start.Goals as goal
 
 start_at : (counters : List Counter) (i k : ℕ) (found : Counter) → slice_index_or counters i no_counter ≡ found → i ≡ k → found.first ≡ (slice_index_or counters k no_counter).first

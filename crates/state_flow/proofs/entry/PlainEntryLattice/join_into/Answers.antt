@@ -1,6 +1,5 @@
 use Rattle.std.proofs.Common.{arith}
-use Rattle.abstract_state.proofs.DomainValues.{domain_counted}
-use Rattle.abstract_state.proofs.LatticeLaws.{on_the_way, join_done, join_of_none, most_values, sound_ascends}
+use Rattle.abstract_state.proofs.{DomainValues.{domain_counted}, LatticeLaws.{on_the_way, join_done, join_of_none, most_values, sound_ascends}}
 use Rattle.state_flow.proofs.entry.PlainEntryLattice.join_into.Goals as goal
 
 pub join_into-requires-clause-few : goal.join_into-requires-clause-few

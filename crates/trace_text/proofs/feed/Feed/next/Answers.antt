@@ -1,8 +1,7 @@
 -- no line comes out
 use Rattle.std.proofs.Common.{◌≡◌, ◌-◌, None, length, take, drop, refl, sym, ◌∙◌, ap}
 use Rattle.trace_text.specs.Feeds.{peeled}
-use Rattle.trace_text.proofs.KeptAhead.{none_comes_out, empty_range}
-use Rattle.trace_text.proofs.Parts.{whole_tail}
+use Rattle.trace_text.proofs.{KeptAhead.{none_comes_out, empty_range}, Parts.{whole_tail}}
 use Rattle.trace_text.proofs.feed.Feed.next.Goals as goal
 
 pub returns-after-self-clause-after : goal.returns-after-self-clause-after

@@ -1,6 +1,5 @@
 -- the text is a front of each copy
-use Rattle.std.proofs.Common.{ℕ, List, ◌++◌, take, ap, ◌∙◌}
-use Rattle.std.proofs.lemmas.List.{take-take}
+use Rattle.std.proofs.{Common.{ℕ, List, ◌++◌, take, ap, ◌∙◌}, lemmas.List.{take-take}}
 use Rattle.trace_text.specs.LineParts.{LineTexts}
 use Rattle.trace_text.proofs.line_parts.LineParts.put_shown.Goals as goal
 

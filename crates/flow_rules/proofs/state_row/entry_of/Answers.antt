@@ -1,6 +1,6 @@
 use Rattle.std.proofs.Common.{◌∙◌}
-use Rattle.state_flow.proofs.StartEntry.{listed_component, part_there}
-use Rattle.state_flow.proofs.state_row.entry_of.Goals as goal
+use Rattle.flow_rules.proofs.StartEntry.{listed_component, part_there}
+use Rattle.flow_rules.proofs.state_row.entry_of.Goals as goal
 
 pub domain_of-domain-requires : goal.domain_of-domain-requires
 domain_of-domain-requires c = listed_component c.args.app.now c.as_slice-component-items.result.now c.loop-component.component-index _ (c.as_slice-component-items.ensures ∙ c.in_ok-components.ensures) c.loop-component-test.true

@@ -1,12 +1,9 @@
 //! The row of one state.
 ghost use Rattle.std.specs.Prelude.{◌≡◌, ◌<◌, [], ◌∷◌, length, map, IfOk};
-ghost use Rattle.osek_standard.specs.Points.{point_of as point_of_state};
-ghost use Rattle.osek_standard.specs.Well.{Well};
-ghost use Rattle.abstract_state.specs.Components.{IsComponent, value_in as value_of_activity, is_armed as is_armed_state, part_of};
-ghost use Rattle.abstract_state.specs.Domains.{domain_of as domain_of_component};
+ghost use Rattle.osek_standard.specs.{Points.{point_of as point_of_state}, Well.{Well}};
+ghost use Rattle.abstract_state.specs.{Components.{IsComponent, value_in as value_of_activity, is_armed as is_armed_state, part_of}, Domains.{domain_of as domain_of_component}};
 ghost use Rattle.numbered_sets.specs.PlainTables.{row_at};
-ghost use Rattle.state_flow.specs.Rows.{IsProperRow};
-ghost use Rattle.state_flow.specs.Starts.{HasPart, single as single_set, entry_of as entry_of_state};
+ghost use Rattle.flow_rules.specs.{Rows.{IsProperRow}, Starts.{HasPart, single as single_set, entry_of as entry_of_state}};
 
 use abstract_state::{
     Component, Domain, LiveVal, PartValue, PlainEntry, TableRow, Val, ValueSet, components,

@@ -1,7 +1,7 @@
 use Rattle.std.proofs.Common.{ap}
 use Rattle.osek_standard.specs.Dispatch.{Stepped}
-use Rattle.state_flow.proofs.StartEntry.{start_row_told, start_row_same}
-use Rattle.state_flow.proofs.starts.start_row.Goals as goal
+use Rattle.flow_rules.proofs.StartEntry.{start_row_told, start_row_same}
+use Rattle.flow_rules.proofs.starts.start_row.Goals as goal
 
 pub returns-clause-start : goal.returns-clause-start
 returns-clause-start c =

@@ -1,18 +1,13 @@
 -- The entry of one state, and the rows of the starts.
 use Rattle.std.specs.Prelude.{◌≡◌, ◌<◌, [], ◌∷◌, length, map}
 use Rattle.osek_values.specs.declared.numbers.ModeNo.{ModeNo}
-use Rattle.osek_standard.specs.declared.app.App.{App}
-use Rattle.osek_standard.specs.declared.state.State.{State}
-use Rattle.osek_standard.specs.Kernel.{start}
-use Rattle.osek_standard.specs.Points.{point_of}
+use Rattle.osek_standard.specs.{declared.{app.App.{App}, state.State.{State}}, Kernel.{start}, Points.{point_of}}
 use Rattle.abstract_state.specs.declared.value.{Component.{Component}, Domain.{Domain}, PartValue.{PartValue}}
 use Rattle.abstract_state.specs.declared.value.Component.TheVariants as component
-use Rattle.abstract_state.specs.declared.table.{ValueSet.{ValueSet}, PlainEntry.{PlainEntry}, TableRow.{TableRow}}
-use Rattle.abstract_state.specs.Components.{components, part_of, abstract_of}
-use Rattle.abstract_state.specs.Domains.{domain_of}
-use Rattle.abstract_state.specs.Tables.{Sets, Inductive}
+use Rattle.abstract_state.specs.{declared.table.{ValueSet.{ValueSet}, PlainEntry.{PlainEntry}, TableRow.{TableRow}}, Components.{components, part_of, abstract_of}}
+use Rattle.abstract_state.specs.{Domains.{domain_of}, Tables.{Sets, Inductive}}
 use Rattle.flow_model.specs.Effects.{AreIn}
-use Rattle.state_flow.specs.Rows.{IsProperRow, IsRowIn}
+use Rattle.flow_rules.specs.Rows.{IsProperRow, IsRowIn}
 
 -- the state's tables have the component
 abbrev pub HasPart : State → Component → Type 0

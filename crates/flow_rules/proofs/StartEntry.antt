@@ -1,33 +1,19 @@
 -- The row of a start: the start is in it, and each inductive table has it.
-use Rattle.std.proofs.Common.{◌≡◌, ℕ, ◌+◌, ◌<◌, true, List, [], ◌∷◌, ◌++◌, length, map, get_or, take, IsTrue, refl, sym, ap, ap₂, subst, ◌∙◌, inl, inr, arith, Result, Ok, Err}
-use Rattle.std.proofs.lemmas.Bool.{or_cases, or_left}
-use Rattle.std.proofs.lemmas.List.{get_or-map, get_or_default, map_more}
-use Rattle.std.proofs.lemmas.List.Elements.{All-map}
+use Rattle.std.proofs.Common.{◌≡◌, ℕ, ◌+◌, ◌<◌, true, List, [], ◌∷◌, ◌++◌, length, map, get_or, IsTrue, refl, sym, ap, subst, ◌∙◌, inl, inr, arith, Result, Ok, Err}
+use Rattle.std.proofs.lemmas.{Bool.{or_cases, or_left}, List.{get_or-map, get_or_default, Elements.{All-map}}}
 use Rattle.std.specs.Prelude.{IfOk}
-use Rattle.osek_values.specs.Numbers.{alarm_no}
-use Rattle.osek_values.specs.declared.memory.Memory.{Memory}
-use Rattle.osek_values.specs.declared.numbers.ModeNo.{ModeNo}
-use Rattle.osek_standard.specs.declared.app.App.{App}
-use Rattle.osek_standard.specs.declared.state.State.{State}
-use Rattle.osek_standard.specs.Kernel.{start}
-use Rattle.osek_standard.specs.Points.{point_of}
-use Rattle.osek_standard.specs.Well.{Well}
+use Rattle.osek_values.specs.{Numbers.{alarm_no}, declared.{memory.Memory.{Memory}, numbers.ModeNo.{ModeNo}}}
+use Rattle.osek_standard.specs.{declared.{app.App.{App}, state.State.{State}}, Kernel.{start}, Points.{point_of}, Well.{Well}}
 use Rattle.abstract_state.specs.declared.value.{Component.{Component}, Domain.{Domain}, PartValue.{PartValue}}
 use Rattle.abstract_state.specs.declared.value.Component.TheVariants as component
 use Rattle.abstract_state.specs.declared.table.{ValueSet.{ValueSet}, TableRow.{TableRow}}
-use Rattle.abstract_state.specs.Components.{components, component_at, component_count, part_of, abstract_of, IsAllowed, IsComponent}
-use Rattle.abstract_state.specs.ValueOrder.{same_part, IsAscending}
-use Rattle.abstract_state.specs.Domains.{domain_of, domains, domains_of, HasMasks}
-use Rattle.abstract_state.specs.Tables.{Sets, Inductive, set_at, is_member, empty_set, AreAscending}
-use Rattle.abstract_state.proofs.OrderLaws.{part_itself, part_right, ascending_one}
-use Rattle.abstract_state.proofs.AllowedLaws.{well_point, well_part}
-use Rattle.abstract_state.proofs.ComponentLaws.{component_known}
+use Rattle.abstract_state.specs.{Components.{components, component_at, component_count, part_of, abstract_of, IsAllowed, IsComponent}, ValueOrder.{same_part, IsAscending}}
+use Rattle.abstract_state.specs.{Domains.{domain_of, domains, domains_of, HasMasks}, Tables.{Sets, Inductive, set_at, is_member, empty_set, AreAscending}}
+use Rattle.abstract_state.proofs.{OrderLaws.{part_itself, part_right, ascending_one}, AllowedLaws.{well_point, well_part}, ComponentLaws.{component_known}}
 use Rattle.flow_model.specs.Effects.{AreIn}
 use Rattle.numbered_sets.specs.PlainTables.{row_at}
-use Rattle.state_flow.specs.Rows.{IsProperRow, IsRowIn}
-use Rattle.state_flow.specs.Starts.{HasPart, single, entry_of, IsStartRow}
-use Rattle.state_flow.proofs.RowLaws.{set_known}
-use Rattle.state_flow.proofs.ReachedRows.{proper_row}
+use Rattle.flow_rules.specs.{Rows.{IsProperRow, IsRowIn}, Starts.{HasPart, single, entry_of, IsStartRow}}
+use Rattle.flow_rules.proofs.ProperRows.{set_known, proper_row}
 
 -- the one value of a set
 has_only : (d : Domain) (v : PartValue) → is_member (single d v) v ≡ true

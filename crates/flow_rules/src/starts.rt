@@ -1,9 +1,8 @@
 //! The rows of the starts.
 ghost use Rattle.std.specs.Prelude.{◌≡◌, ◌<◌, length, IfOk};
-ghost use Rattle.osek_standard.specs.Points.{point_of};
-ghost use Rattle.osek_standard.specs.Kernel.{start as start_of};
+ghost use Rattle.osek_standard.specs.{Points.{point_of}, Kernel.{start as start_of}};
 ghost use Rattle.numbered_sets.specs.PlainTables.{row_at};
-ghost use Rattle.state_flow.specs.Starts.{entry_of, IsStartRow};
+ghost use Rattle.flow_rules.specs.Starts.{entry_of, IsStartRow};
 
 use crate::state_row::row_of;
 use abstract_state::TableRow;

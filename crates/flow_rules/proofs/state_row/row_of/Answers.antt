@@ -1,8 +1,8 @@
 use Rattle.std.proofs.Common.{sym, ap₂, subst}
 use Rattle.numbered_sets.specs.PlainTables.{row_at}
-use Rattle.state_flow.specs.Rows.{IsProperRow}
-use Rattle.state_flow.proofs.StartEntry.{row_proper}
-use Rattle.state_flow.proofs.state_row.row_of.Goals as goal
+use Rattle.flow_rules.specs.Rows.{IsProperRow}
+use Rattle.flow_rules.proofs.StartEntry.{row_proper}
+use Rattle.flow_rules.proofs.state_row.row_of.Goals as goal
 
 pub returns-clause-proper : goal.returns-clause-proper
 returns-clause-proper c =

@@ -1,0 +1,21 @@
+-- Rows of a table, as each state has one.
+use Rattle.std.specs.Prelude.{ℕ, ◌<◌, IsTrue}
+use Rattle.osek_standard.specs.declared.app.App.{App}
+use Rattle.abstract_state.specs.{declared.{value.PartValue.{PartValue}, table.{PlainEntry.{PlainEntry}, TableRow.{TableRow}}}, Components.{component_count}}
+use Rattle.abstract_state.specs.{Tables.{Sets, set_at, is_member}, Written.{IsRow}}
+use Rattle.flow_model.specs.Effects.{AreAllAllowed}
+
+-- each component has a value
+abbrev pub IsFilled : App → PlainEntry → Type 0
+IsFilled app entry = (c : ℕ) → c < component_count app → (v : PartValue) × IsTrue (is_member (set_at entry c) v)
+
+-- A row of a proper table: its values are allowed at its point, and no set is empty.
+pub record IsProperRow (app : App) (x : TableRow) : Type 0 where
+  pub row : IsRow app x
+  pub allowed : AreAllAllowed app x.point x.entry
+  pub filled : IsFilled app x.entry
+
+-- The table has an entry at the row's point, with all the row's values.
+pub record IsRowIn (table : Sets) (row : TableRow) : Type 0 where
+  pub entry : IsTrue (table.entry row.point)
+  pub has : (c : ℕ) (v : PartValue) → IsTrue (is_member (set_at row.entry c) v) → IsTrue (table.has row.point c v)
