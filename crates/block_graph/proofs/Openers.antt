@@ -12,8 +12,6 @@ different [] (y ∷ b) h = refl
 different (x ∷ a) [] h = refl
 different (x ∷ a) (y ∷ b) h = let shorter : length a ≢ length b = λ e. h (omega (arith, e)) in and_false (is_opener x y) (are_same a b) (different a b shorter)
 
-module _ (a b : List Opener) (i : ℕ) (x y : Opener) (in_a : i < length a) (in_b : i < length b) where
-
 is_same : (x y : Opener) → is_opener x y ≡ true → x ≡ y
 is_same SuspendAll SuspendAll e = refl
 is_same SuspendOs SuspendOs e = refl

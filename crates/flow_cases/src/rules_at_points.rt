@@ -6,7 +6,7 @@ ghost use Rattle.flow_rules.specs.Rows.{IsProperRow};
 
 use abstract_state::{Domain, PlainEntry, TableRow};
 use flow_model::{Decision, Rule};
-use flow_rules::{apply, rules, row_of};
+use flow_rules::{apply, row_of, rules};
 use front_end::{TextError, read_app, read_system};
 use generic_kernel::{Ready, start, step};
 use numbered_sets::{Pool, numbered};

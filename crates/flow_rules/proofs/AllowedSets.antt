@@ -32,7 +32,6 @@ pub record IsPartUpTo (passes : PartValue → Bool) (set : ValueSet) (k : ℕ) (
   pub members : (w : PartValue) → is_member part w ≡ (list_any (same_part w) (take k set.members) && passes w)
 
 module _ (passes : PartValue → Bool) (set : ValueSet) where
-
   module _ (k : ℕ) (part : ValueSet) (v : PartValue) (lt : k < length set.members) (is : get_or set.members k v ≡ v) (h : IsPartUpTo passes set k part) where
     more : (w : PartValue) → list_any (same_part w) (take (k + 1) set.members) ≡ (list_any (same_part w) (take k set.members) || same_part w v)
     more w = ap (list_any (same_part w)) (take_more set.members k v lt ∙ ap (λ (y : PartValue). take k set.members ++ y ∷ []) is) ∙ any_end (same_part w) (take k set.members) v
@@ -61,7 +60,6 @@ pub record ArePartsUpTo (app : App) (p : Point) (entry : PlainEntry) (k : ℕ) (
   pub each : (c : ℕ) → c < k → IsPartOf (may_be app p c) (set_at entry c) (get_or sets c empty_set)
 
 module _ (app : App) (p : Point) (entry : PlainEntry) where
-
   pub parts_more : (k : ℕ) (sets : List ValueSet) (new : ValueSet) → ArePartsUpTo app p entry k sets → IsPartOf (may_be app p k) (set_at entry k) new → ArePartsUpTo app p entry (k + 1) (sets ++ new ∷ [])
   parts_more k sets new h last = record {
     size = (let long = length-append sets (new ∷ []) in omega (arith, long, h.size));

@@ -4,7 +4,6 @@ pub mod LevelLaws
 pub mod Passing
 pub mod Assembling
 pub mod PointRules
-pub mod Leading
 pub mod NumbersPassing
 pub mod KeptDomains
 pub mod SiftedSets

@@ -2,11 +2,8 @@
 use Rattle.std.proofs.{Common.{◌≡◌, ℕ, ◌<◌, ◌-◌, length, ◌∙◌, inl, inr, arith, nat_lt}, lemmas.Bool.{cases_Bool, Decides.{nat_tests}}}
 use Rattle.osek_standard.specs.declared.{app.App.{App}, state.{State.{State}, Processor.{Processor}}}
 use Rattle.osek_standard.specs.declared.state.Processor.TheVariants as processor
-use Rattle.osek_standard.specs.declared.task_state.TaskState.{TaskState}
 use Rattle.osek_standard.specs.{Apps.{tables, the_task, the_block, source_count, routine_start, routine_count, no_task, no_block, no_counter, no_isr}, Validity.{IsBlock, IsOwner}}
-use Rattle.osek_standard.specs.{States.{task_state}, Well.{Well, IsOwn, IsOfRoutine, IsProcessor, InOwner}}
-
-module _ (app : App) (s : State) (w : Well app s) (t : ℕ) (known : t < length app.tasks) (x : TaskState) (is : task_state s t ≡ x) where
+use Rattle.osek_standard.specs.Well.{IsOwn, IsOfRoutine, IsProcessor, InOwner}
 
 -- the blocks of a task
 pub owner_of : (app : App) (t : ℕ) → t < length app.tasks → IsOwner (tables app) (the_task app t).first.0 (the_task app t).count
