@@ -1,5 +1,5 @@
 -- Each statement goes by each choice to one place.
-use Rattle.std.proofs.Common.{◌≡◌, Bool, true, false, sym, ◌∙◌}
+use Rattle.std.proofs.Common.{◌≡◌, Bool, true, false, refl, sym, ◌∙◌}
 use Rattle.task_code.specs.{declared.tree.Condition.TheVariants.{Choice, Always}, Statements.{Statements, closed, work_then, if_then, if_else_then, while_then, call_then}}
 use Rattle.block_graph.specs.Follows.{Rest, behind_work, behind_if, behind_if_else, behind_while, behind_call, Branch, only, first, other, Way, start, past, into_branch, into_loop, Place, statement, brace, Enters, a_statement, no_more, Ends, of_body, of_branch, of_loop, of_rest, GoesTo, a_work, a_call, a_branch, no_else, a_loop, one_more, enough}
 
@@ -55,6 +55,29 @@ goes_somewhere (behind_while {condition = Choice}) w false = let q = at_end (pas
 goes_somewhere behind_call w choice = let q = at_end (past behind_call w) in (q.0, a_call q.1)
 
 -- ---- and no other
+
+entered_rest : {body xs next : Statements} (r : Rest xs next) (w : Way body xs) → (at_end w).0 ≡ statement w
+entered_rest behind_work w = refl
+entered_rest behind_if w = refl
+entered_rest behind_if_else w = refl
+entered_rest behind_while w = refl
+entered_rest behind_call w = refl
+
+branch_ended : {body xs branch next : Statements} {choice : Bool} (b : Branch choice xs branch) (r : Rest xs next) (w : Way body xs) → (ended (into_branch b w)).0 ≡ (at_end (past r w)).0
+branch_ended only behind_if w = refl
+branch_ended first behind_if_else w = refl
+branch_ended other behind_if_else w = refl
+
+mutual
+  enters_only : {body xs : Statements} {w : Way body xs} {q : Place body} → Enters xs w q → (at_end w).0 ≡ q
+  enters_only (a_statement {w = w} r) = entered_rest r w
+  enters_only (no_more e) = ends_only e
+
+  ends_only : {body xs : Statements} {w : Way body xs} {q : Place body} → Ends xs w q → (ended w).0 ≡ q
+  ends_only of_body = refl
+  ends_only (of_branch {b = b} {r = r} {w = w} e) = branch_ended b r w ∙ enters_only e
+  ends_only of_loop = refl
+  ends_only (of_rest e) = ends_only e
 
 -- the place; of an empty list any
 abbrev goal_of : {body : Statements} (xs : Statements) → Way body xs → Bool → Place body
