@@ -7,7 +7,7 @@ use Rattle.oil_lexer.specs.declared.token.Mark.TheVariants.{OpenBrace, CloseBrac
 use Rattle.osek_vectors.specs.Writing.{Text, fixed, ◌⨾◌, each_from}
 use Rattle.osek_vectors.specs.CodeTexts.{activation, event_setting, alarm_setting, statement_of_kind, statement, statements, task_body, isr_body, code_text}
 use Rattle.generated_texts.proofs.Lexemes.{Lexeme, a_word, a_number, a_mark, a_space, a_line_end, spelled, are_right}
-use Rattle.generated_texts.proofs.Drawing.{each_of, AllFrom, Spells, Spells-fixed, Spells-draw, Spells-either, Spells-then, Spells-front, Spells-behind, Spells-each, Spells-as}
+use Rattle.generated_texts.proofs.Drawing.{each_of, AllFrom, Spells, Spells-fixed, Spells-draw, Spells-either, Spells-then, Spells-front, Spells-behind, Spells-each, Spells-by}
 use Rattle.generated_texts.proofs.TaskNames.{task_name, task_name_right, decimal_numeral}
 
 abbrev Lexemes : Type 0
@@ -130,7 +130,7 @@ module _ (n : ℕ) (positive : 0 < n) where
 
   Spells-statements : Spells spelled steps_lexemes (AreFour n) (statements n)
   Spells-statements =
-      Spells-as spelled (each_of (λ _. step_lexemes) 0) (AreFour n) steps_lexemes (AreFour n) (λ steps. steps) (λ _ h. h) (each_step 0) (statements n)
+      Spells-by spelled (each_of (λ _. step_lexemes) 0) (AreFour n) steps_lexemes (AreFour n) (λ steps. steps) (λ _ h. h) (each_step 0) (statements n)
       (Spells-each spelled (λ _. step_lexemes) (λ _. IsAmong n) (λ _. statement n) 4 0 (λ _ _. Spells-statement))
 
   Spells-body : (i : ℕ) → Spells spelled (body_lexemes i) (AreSteps n) (task_body n i)

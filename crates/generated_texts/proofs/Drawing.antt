@@ -67,8 +67,8 @@ module _ {L : Type 0} (spell : L → List ℕ) where
       (a ∷ those, (ap suc size, (is, are)), e)
 
   -- the same, by another value
-  pub Spells-those : {A B : Type 0} (before : A → L → L) (P : A → Type 0) (other : B → L → L) (Q : B → Type 0) (to : A → B) → ((a : A) → P a → Q (to a)) → ((a : A) (rest : L) → before a rest ≡ other (to a) rest) →
+  pub Spells-by : {A B : Type 0} (before : A → L → L) (P : A → Type 0) (other : B → L → L) (Q : B → Type 0) (to : A → B) → ((a : A) → P a → Q (to a)) → ((a : A) (rest : L) → before a rest ≡ other (to a) rest) →
       (text : Text) → Spells before P text → Spells other Q text
-  Spells-those before P other Q to keeps same text f x =
+  Spells-by before P other Q to keeps same text f x =
       let (a, is, e) = f x in
       (to a, keeps a is, λ rest. e rest ∙ ap spell (same a rest))
