@@ -1,0 +1,233 @@
+-- A generated task code text, word by word: all that is drawn in it is which statements stand in each task.
+use Rattle.std.proofs.Common.{◌≡◌, ℕ, ◌+◌, ◌<◌, ◌≤◌, ◌^◌, ◌==◌, Bool, true, false, zero, suc, List, [], ◌∷◌, ◌++◌, length, codes, decimal, refl, sym, ap, ◌∙◌, append_assoc, arith}
+use Rattle.std.specs.Prelude.{⊤, if◌then◌else◌}
+use Rattle.std.proofs.lemmas.Fmt.{length-decimal-le}
+use Rattle.std.proofs.lemmas.List.{append-nil, length-append}
+use Rattle.oil_lexer.specs.declared.token.Mark.TheVariants.{OpenBrace, CloseBrace, OpenParen, CloseParen, Comma, Semicolon, Question}
+use Rattle.osek_vectors.specs.Writing.{Text, fixed, ◌⨾◌, each_from}
+use Rattle.osek_vectors.specs.CodeTexts.{activation, event_setting, alarm_setting, statement_of_kind, statement, statements, task_body, isr_body, code_text}
+use Rattle.generated_texts.proofs.Lexemes.{Lexeme, a_word, a_number, a_mark, a_space, a_line_end, spelled, are_right}
+use Rattle.generated_texts.proofs.Drawing.{each_of, AllFrom, Spells, Spells-fixed, Spells-draw, Spells-either, Spells-then, Spells-front, Spells-behind, Spells-each, Spells-by}
+use Rattle.generated_texts.proofs.TaskNames.{task_name, task_name_right, decimal_numeral}
+
+abbrev Lexemes : Type 0
+Lexemes = List Lexeme
+
+-- a statement, with the number of the task that it names or the offset of the alarm
+pub data Step : Type 0 where
+  works clears takes gives schedules waits asks : Step
+  activates sets : (task : ℕ) → Step
+  arms : (offset : ℕ) → Step
+
+-- of n tasks
+abbrev pub IsAmong : ℕ → Step → Type 0
+IsAmong n (activates task) = task < n
+IsAmong n (sets task) = task < n
+IsAmong n (arms offset) = offset ≤ 12
+IsAmong n _ = ⊤
+
+abbrev call_end : Lexemes → Lexemes
+call_end rest = a_mark CloseParen ∷ a_mark Semicolon ∷ a_line_end ∷ rest
+
+abbrev call_of : List ℕ → List ℕ → Lexemes → Lexemes
+call_of service object rest = a_word service ∷ a_mark OpenParen ∷ a_word object ∷ rest
+
+abbrev pub step_lexemes : Step → Lexemes → Lexemes
+step_lexemes works rest = a_word (codes "work") ∷ a_space ∷ a_number (codes "3") ∷ a_mark Semicolon ∷ a_line_end ∷ rest
+step_lexemes (activates task) rest = call_of (codes "ActivateTask") (task_name task) (call_end rest)
+step_lexemes (sets task) rest = call_of (codes "SetEvent") (task_name task) (a_mark Comma ∷ a_space ∷ a_word (codes "E") ∷ call_end rest)
+step_lexemes clears rest = call_of (codes "ClearEvent") (codes "E") (call_end rest)
+step_lexemes takes rest = call_of (codes "GetResource") (codes "R") (call_end rest)
+step_lexemes gives rest = call_of (codes "ReleaseResource") (codes "R") (call_end rest)
+step_lexemes schedules rest = a_word (codes "Schedule") ∷ a_mark OpenParen ∷ call_end rest
+step_lexemes waits rest = call_of (codes "WaitEvent") (codes "E") (call_end rest)
+step_lexemes asks rest = call_of (codes "GetAlarm") (codes "A") (call_end rest)
+step_lexemes (arms offset) rest =
+    call_of (codes "SetRelAlarm") (codes "A") (a_mark Comma ∷ a_space ∷ a_number (decimal offset) ∷ a_mark Comma ∷ a_space ∷ a_number (codes "0") ∷ call_end rest)
+
+abbrev pub steps_lexemes : List Step → Lexemes → Lexemes
+steps_lexemes [] rest = rest
+steps_lexemes (s ∷ steps) rest = step_lexemes s (steps_lexemes steps rest)
+
+-- the steps in the loop of a task, and those behind it
+abbrev pub Steps : Type 0
+Steps = List Step × List Step
+
+abbrev body_front : List ℕ → List ℕ → Lexemes → Lexemes
+body_front word owner rest = a_word word ∷ a_mark OpenParen ∷ a_word owner ∷ a_mark CloseParen ∷ a_space ∷ a_mark OpenBrace ∷ rest
+
+abbrev block_end : Lexemes → Lexemes
+block_end rest = a_mark CloseBrace ∷ a_line_end ∷ rest
+
+abbrev loop_front : Lexemes → Lexemes
+loop_front rest = a_word (codes "while") ∷ a_space ∷ a_mark OpenParen ∷ a_mark Question ∷ a_mark CloseParen ∷ a_space ∷ a_mark OpenBrace ∷ a_line_end ∷ rest
+
+abbrev pub body_lexemes : ℕ → Steps → Lexemes → Lexemes
+body_lexemes i steps rest =
+    body_front (codes "TASK") (task_name i) (a_line_end ∷ loop_front (steps_lexemes steps.0 (block_end (steps_lexemes steps.1 (block_end rest)))))
+
+-- the ISR activates a task
+abbrev pub isr_lexemes : ℕ → Lexemes → Lexemes
+isr_lexemes task rest =
+    body_front (codes "ISR") (codes "I") (a_space ∷ call_of (codes "ActivateTask") (task_name task)
+    (a_mark CloseParen ∷ a_mark Semicolon ∷ a_space ∷ block_end rest))
+
+abbrev pub code_lexemes : List Steps → ℕ → Lexemes
+code_lexemes bodies task = each_of body_lexemes 0 bodies (isr_lexemes task [])
+
+-- four steps, each among n tasks
+abbrev pub AreFour : ℕ → List Step → Type 0
+AreFour n steps = (length steps ≡ 4) × AllFrom (λ _. IsAmong n) 0 steps
+
+-- four in the loop, and four behind it
+abbrev pub AreSteps : ℕ → Steps → Type 0
+AreSteps n steps = AreFour n steps.0 × AreFour n steps.1
+
+-- the generator's pieces, one behind the other
+three_pieces : (a b c rest : List ℕ) → (a ++ b ++ c) ++ rest ≡ a ++ (b ++ (c ++ rest))
+three_pieces a b c rest = simp append_assoc refl
+
+module _ (n : ℕ) (positive : 0 < n) where
+  abbrev Spells-step : Text → Type 0
+  Spells-step text = Spells spelled step_lexemes (IsAmong n) text
+
+  plain : (s : Step) (bytes : List ℕ) → IsAmong n s → ((rest : Lexemes) → bytes ++ spelled rest ≡ spelled (step_lexemes s rest)) → Spells-step (fixed bytes)
+  plain s bytes is e = Spells-fixed spelled step_lexemes (IsAmong n) bytes s is e
+
+  Spells-activation : Spells-step (activation n)
+  Spells-activation =
+      Spells-draw spelled step_lexemes (IsAmong n) n _ positive (λ k h. plain (activates k) _ h (λ rest. three_pieces (codes "ActivateTask(T") (decimal k) (codes ");\n") (spelled rest)))
+
+  Spells-event_setting : Spells-step (event_setting n)
+  Spells-event_setting =
+      Spells-draw spelled step_lexemes (IsAmong n) n _ positive (λ k h. plain (sets k) _ h (λ rest. three_pieces (codes "SetEvent(T") (decimal k) (codes ", E);\n") (spelled rest)))
+
+  Spells-alarm_setting : Spells-step alarm_setting
+  Spells-alarm_setting =
+      Spells-draw spelled step_lexemes (IsAmong n) 12 _ (omega arith) (λ v h. plain (arms (1 + v)) _ (omega (arith, h)) (λ rest. three_pieces (codes "SetRelAlarm(A, ") (decimal (1 + v)) (codes ", 0);\n") (spelled rest)))
+
+  either : (b : Bool) (first second : Text) → Spells-step first → Spells-step second → Spells-step (if b then first else second)
+  either b first second f s = Spells-either spelled step_lexemes (IsAmong n) b first second f s
+
+  Spells-kind : (kind : ℕ) → Spells-step (statement_of_kind n kind)
+  Spells-kind kind =
+      either (kind == 0) _ _ (plain works (codes "work 3;\n") tt (λ _. refl))
+      (either (kind == 1) _ _ Spells-activation
+      (either (kind == 2) _ _ Spells-event_setting
+      (either (kind == 3) _ _ (plain clears (codes "ClearEvent(E);\n") tt (λ _. refl))
+      (either (kind == 4) _ _ (plain takes (codes "GetResource(R);\n") tt (λ _. refl))
+      (either (kind == 5) _ _ (plain gives (codes "ReleaseResource(R);\n") tt (λ _. refl))
+      (either (kind == 6) _ _ (plain schedules (codes "Schedule();\n") tt (λ _. refl))
+      (either (kind == 7) _ _ (plain waits (codes "WaitEvent(E);\n") tt (λ _. refl))
+      (either (kind == 8) _ _ (plain asks (codes "GetAlarm(A);\n") tt (λ _. refl)) Spells-alarm_setting))))))))
+
+  Spells-statement : Spells-step (statement n)
+  Spells-statement = Spells-draw spelled step_lexemes (IsAmong n) 10 (statement_of_kind n) (omega arith) (λ kind _. Spells-kind kind)
+
+  each_step : (i : ℕ) (steps : List Step) (rest : Lexemes) → each_of (λ _. step_lexemes) i steps rest ≡ steps_lexemes steps rest
+  each_step i [] rest = refl
+  each_step i (s ∷ steps) rest = ap (step_lexemes s) (each_step (i + 1) steps rest)
+
+  Spells-statements : Spells spelled steps_lexemes (AreFour n) (statements n)
+  Spells-statements =
+      Spells-by spelled (each_of (λ _. step_lexemes) 0) (AreFour n) steps_lexemes (AreFour n) (λ steps. steps) (λ _ h. h) (each_step 0) (statements n)
+      (Spells-each spelled (λ _. step_lexemes) (λ _. IsAmong n) (λ _. statement n) 4 0 (λ _ _. Spells-statement))
+
+  Spells-body : (i : ℕ) → Spells spelled (body_lexemes i) (AreSteps n) (task_body n i)
+  Spells-body i =
+      let head = codes "TASK(T" ++ decimal i ++ codes ") {\nwhile (?) {\n" in
+      let front = λ (rest : Lexemes). body_front (codes "TASK") (task_name i) (a_line_end ∷ loop_front rest) in
+      let begun = Spells-front spelled steps_lexemes (AreFour n) head front (statements n) (λ rest. three_pieces (codes "TASK(T") (decimal i) (codes ") {\nwhile (?) {\n") (spelled rest)) Spells-statements in
+      let inner = Spells-behind spelled (λ (inner : List Step) (rest : Lexemes). front (steps_lexemes inner rest)) (AreFour n) (codes "}\n") block_end (fixed head ⨾ statements n) (λ rest. refl) begun in
+      let both = Spells-then spelled (λ (inner : List Step) (rest : Lexemes). front (steps_lexemes inner (block_end rest))) (AreFour n) steps_lexemes (AreFour n) (fixed head ⨾ statements n ⨾ fixed (codes "}\n")) (statements n) inner Spells-statements in
+      Spells-behind spelled (λ (steps : Steps) (rest : Lexemes). front (steps_lexemes steps.0 (block_end (steps_lexemes steps.1 rest)))) (AreSteps n) (codes "}\n") block_end (fixed head ⨾ statements n ⨾ fixed (codes "}\n") ⨾ statements n) (λ rest. refl) both
+
+  Spells-isr : Spells spelled isr_lexemes (λ (task : ℕ). task < n) (isr_body n)
+  Spells-isr = Spells-draw spelled isr_lexemes (λ (task : ℕ). task < n) n _ positive
+      (λ k h. Spells-fixed spelled isr_lexemes (λ (task : ℕ). task < n) _ k h (λ rest. three_pieces (codes "ISR(I) { ActivateTask(T") (decimal k) (codes "); }\n") (spelled rest)))
+
+  Spells-code : Spells spelled (λ (p : List Steps × ℕ) (rest : Lexemes). each_of body_lexemes 0 p.0 (isr_lexemes p.1 rest)) (λ (p : List Steps × ℕ). ((length p.0 ≡ n) × AllFrom (λ _. (AreSteps n)) 0 p.0) × (p.1 < n)) (code_text n)
+  Spells-code =
+      Spells-then spelled (each_of body_lexemes 0) (λ (bodies : List Steps). (length bodies ≡ n) × AllFrom (λ _. AreSteps n) 0 bodies) isr_lexemes (λ (task : ℕ). task < n) (each_from 0 n (task_body n)) (isr_body n)
+      (Spells-each spelled body_lexemes (λ _. (AreSteps n)) (task_body n) n 0 (λ i _. Spells-body i)) Spells-isr
+
+-- the generator's task code text is spelled so
+pub record IsCodeText (n : ℕ) (bytes : List ℕ) : Type 0 where
+  pub bodies : List Steps
+  pub task : ℕ
+  pub tasks : length bodies ≡ n
+  pub among : AllFrom (λ _. AreSteps n) 0 bodies
+  pub named : task < n
+  pub is : bytes ≡ spelled (code_lexemes bodies task)
+
+pub code_is : (n x : ℕ) → 0 < n → IsCodeText n (code_text n x).text
+code_is n x positive =
+    let (p, good, e) = Spells-code n positive x in
+    record { bodies = p.0; task = p.1; tasks = good.0.0; among = good.0.1; named = good.1; is = sym (append-nil (code_text n x).text) ∙ e [] }
+
+-- it is spelled right
+step_right : (n : ℕ) (s : Step) (rest : Lexemes) → n ≤ 16 → IsAmong n s → are_right (step_lexemes s rest) ≡ are_right rest
+step_right n works rest few among = refl
+step_right n (activates task) rest few among = rw (task_name_right task (omega (arith, few, among))) refl
+step_right n (sets task) rest few among = rw (task_name_right task (omega (arith, few, among))) refl
+step_right n clears rest few among = refl
+step_right n takes rest few among = refl
+step_right n gives rest few among = refl
+step_right n schedules rest few among = refl
+step_right n waits rest few among = refl
+step_right n asks rest few among = refl
+step_right n (arms offset) rest few among = rw (decimal_numeral offset (omega (arith, among))) refl
+
+steps_right : (n i : ℕ) (steps : List Step) (rest : Lexemes) → n ≤ 16 → AllFrom (λ _. IsAmong n) i steps → are_right (steps_lexemes steps rest) ≡ are_right rest
+steps_right n i [] rest few among = refl
+steps_right n i (s ∷ steps) rest few among = step_right n s (steps_lexemes steps rest) few among.0 ∙ steps_right n (i + 1) steps rest few among.1
+
+body_right : (n i : ℕ) (steps : Steps) (rest : Lexemes) → n ≤ 16 → i < 16 → AreSteps n steps → are_right (body_lexemes i steps rest) ≡ are_right rest
+body_right n i steps rest few low are =
+    let behind = block_end (steps_lexemes steps.1 (block_end rest)) in
+    rw (task_name_right i (omega (arith, low))) (steps_right n 0 steps.0 behind few are.0.1 ∙ steps_right n 0 steps.1 (block_end rest) few are.1.1)
+
+bodies_right : (n i : ℕ) (bodies : List Steps) (rest : Lexemes) → n ≤ 16 → i + length bodies ≤ 16 → AllFrom (λ _. AreSteps n) i bodies → are_right (each_of body_lexemes i bodies rest) ≡ are_right rest
+bodies_right n i [] rest few inside are = refl
+bodies_right n i (steps ∷ bodies) rest few inside are =
+    body_right n i steps (each_of body_lexemes (i + 1) bodies rest) few (omega (arith, inside)) are.0 ∙ bodies_right n (i + 1) bodies rest few (omega (arith, inside)) are.1
+
+pub code_right : (n : ℕ) (bodies : List Steps) (task : ℕ) → n ≤ 16 → length bodies ≡ n → AllFrom (λ _. AreSteps n) 0 bodies → task < n → are_right (code_lexemes bodies task) ≡ true
+code_right n bodies task few same are named =
+    bodies_right n 0 bodies (isr_lexemes task []) few (omega (arith, few, same)) are ∙ (rw (task_name_right task (omega (arith, few, named))) refl)
+
+-- and short
+step_size : (n : ℕ) (s : Step) (rest : Lexemes) → n ≤ 16 → IsAmong n s → length (spelled (step_lexemes s rest)) ≤ 40 + length (spelled rest)
+step_size n works rest few among = omega arith
+step_size n (activates task) rest few among = omega (arith, length-append {A = ℕ}, length-decimal-le 2 task (omega arith) (omega (arith, few, among)) (omega (arith, few, among)))
+step_size n (sets task) rest few among = omega (arith, length-append {A = ℕ}, length-decimal-le 2 task (omega arith) (omega (arith, few, among)) (omega (arith, few, among)))
+step_size n clears rest few among = omega arith
+step_size n takes rest few among = omega arith
+step_size n gives rest few among = omega arith
+step_size n schedules rest few among = omega arith
+step_size n waits rest few among = omega arith
+step_size n asks rest few among = omega arith
+step_size n (arms offset) rest few among = omega (arith, length-append {A = ℕ}, length-decimal-le 2 offset (omega arith) (omega (arith, among)) (omega (arith, among)))
+
+steps_size : (n i : ℕ) (steps : List Step) (rest : Lexemes) → n ≤ 16 → AllFrom (λ _. IsAmong n) i steps → length (spelled (steps_lexemes steps rest)) ≤ 40 * length steps + length (spelled rest)
+steps_size n i [] rest few among = omega arith
+steps_size n i (s ∷ steps) rest few among =
+    omega (arith, step_size n s (steps_lexemes steps rest) few among.0, steps_size n (i + 1) steps rest few among.1)
+
+body_size : (n i : ℕ) (steps : Steps) (rest : Lexemes) → n ≤ 16 → i < 16 → AreSteps n steps → length (spelled (body_lexemes i steps rest)) ≤ 400 + length (spelled rest)
+body_size n i steps rest few low are =
+    let behind = block_end (steps_lexemes steps.1 (block_end rest)) in
+    omega (arith, length-append {A = ℕ}, length-decimal-le 2 i (omega arith) (omega (arith, low)) (omega (arith, low)),
+    steps_size n 0 steps.0 behind few are.0.1, steps_size n 0 steps.1 (block_end rest) few are.1.1, are.0.0, are.1.0)
+
+bodies_size : (n i : ℕ) (bodies : List Steps) (rest : Lexemes) → n ≤ 16 → i + length bodies ≤ 16 → AllFrom (λ _. AreSteps n) i bodies → length (spelled (each_of body_lexemes i bodies rest)) ≤ 400 * length bodies + length (spelled rest)
+bodies_size n i [] rest few inside are = omega arith
+bodies_size n i (steps ∷ bodies) rest few inside are =
+    omega (arith, body_size n i steps (each_of body_lexemes (i + 1) bodies rest) few (omega (arith, inside)) are.0, bodies_size n (i + 1) bodies rest few (omega (arith, inside)) are.1)
+
+isr_size : (task : ℕ) → task < 16 → length (spelled (isr_lexemes task [])) ≤ 100
+isr_size task low = omega (arith, length-append {A = ℕ}, length-decimal-le 2 task (omega arith) (omega (arith, low)) (omega (arith, low)))
+
+pub code_size : (n : ℕ) (bodies : List Steps) (task : ℕ) → n ≤ 16 → length bodies ≡ n → AllFrom (λ _. AreSteps n) 0 bodies → task < n → length (spelled (code_lexemes bodies task)) ≤ 1048576
+code_size n bodies task few same are named =
+    omega (arith, bodies_size n 0 bodies (isr_lexemes task []) few (omega (arith, few, same)) are, isr_size task (omega (arith, few, named)), same, few)
