@@ -1,5 +1,5 @@
 -- A generated task code text, word by word: all that is drawn in it is which statements stand in each task.
-use Rattle.std.proofs.Common.{◌≡◌, ℕ, ◌+◌, ◌<◌, ◌≤◌, ◌^◌, ◌==◌, Bool, true, false, zero, suc, List, [], ◌∷◌, ◌++◌, length, codes, decimal, refl, sym, ap, ◌∙◌, append_assoc, arith}
+use Rattle.std.proofs.Common.{◌≡◌, ℕ, ◌+◌, ◌*◌, ◌<◌, ◌≤◌, ◌^◌, ◌==◌, Bool, true, false, zero, suc, List, [], ◌∷◌, ◌++◌, length, codes, decimal, refl, sym, ap, ◌∙◌, append_assoc, arith}
 use Rattle.std.specs.Prelude.{⊤, if◌then◌else◌}
 use Rattle.std.proofs.lemmas.Fmt.{length-decimal-le}
 use Rattle.std.proofs.lemmas.List.{append-nil, length-append}
@@ -197,17 +197,31 @@ code_right n bodies task few same are named =
     bodies_right n 0 bodies (isr_lexemes task []) few (omega (arith, few, same)) are ∙ (rw (task_name_right task (omega (arith, few, named))) refl)
 
 -- and short
+one_number : (a d rest : List ℕ) → length (a ++ (d ++ rest)) ≡ length a + length d + length rest
+one_number a d rest = omega (arith, length-append a (d ++ rest), length-append d rest)
+
+few_digits : (k : ℕ) → k < 100 → length (decimal k) ≤ 2
+few_digits k h = length-decimal-le 2 k (omega arith) h (omega (arith, h))
+
 step_size : (n : ℕ) (s : Step) (rest : Lexemes) → n ≤ 16 → IsAmong n s → length (spelled (step_lexemes s rest)) ≤ 40 + length (spelled rest)
 step_size n works rest few among = omega arith
-step_size n (activates task) rest few among = omega (arith, length-append {A = ℕ}, length-decimal-le 2 task (omega arith) (omega (arith, few, among)) (omega (arith, few, among)))
-step_size n (sets task) rest few among = omega (arith, length-append {A = ℕ}, length-decimal-le 2 task (omega arith) (omega (arith, few, among)) (omega (arith, few, among)))
+step_size n (activates task) rest few among =
+    let size : length (spelled (step_lexemes (activates task) rest)) ≡ length (codes "ActivateTask(T") + length (decimal task) + length (spelled (call_end rest)) = one_number (codes "ActivateTask(T") (decimal task) (spelled (call_end rest)) in
+    omega (arith, size, few_digits task (omega (arith, few, among)))
+step_size n (sets task) rest few among =
+    let tail = a_mark Comma ∷ a_space ∷ a_word (codes "E") ∷ call_end rest in
+    let size : length (spelled (step_lexemes (sets task) rest)) ≡ length (codes "SetEvent(T") + length (decimal task) + length (spelled tail) = one_number (codes "SetEvent(T") (decimal task) (spelled tail) in
+    omega (arith, size, few_digits task (omega (arith, few, among)))
 step_size n clears rest few among = omega arith
 step_size n takes rest few among = omega arith
 step_size n gives rest few among = omega arith
 step_size n schedules rest few among = omega arith
 step_size n waits rest few among = omega arith
 step_size n asks rest few among = omega arith
-step_size n (arms offset) rest few among = omega (arith, length-append {A = ℕ}, length-decimal-le 2 offset (omega arith) (omega (arith, among)) (omega (arith, among)))
+step_size n (arms offset) rest few among =
+    let tail = a_mark Comma ∷ a_space ∷ a_number (codes "0") ∷ call_end rest in
+    let size : length (spelled (step_lexemes (arms offset) rest)) ≡ length (codes "SetRelAlarm(A, ") + length (decimal offset) + length (spelled tail) = one_number (codes "SetRelAlarm(A, ") (decimal offset) (spelled tail) in
+    omega (arith, size, few_digits offset (omega (arith, among)))
 
 steps_size : (n i : ℕ) (steps : List Step) (rest : Lexemes) → n ≤ 16 → AllFrom (λ _. IsAmong n) i steps → length (spelled (steps_lexemes steps rest)) ≤ 40 * length steps + length (spelled rest)
 steps_size n i [] rest few among = omega arith
@@ -217,8 +231,11 @@ steps_size n i (s ∷ steps) rest few among =
 body_size : (n i : ℕ) (steps : Steps) (rest : Lexemes) → n ≤ 16 → i < 16 → AreSteps n steps → length (spelled (body_lexemes i steps rest)) ≤ 400 + length (spelled rest)
 body_size n i steps rest few low are =
     let behind = block_end (steps_lexemes steps.1 (block_end rest)) in
-    omega (arith, length-append {A = ℕ}, length-decimal-le 2 i (omega arith) (omega (arith, low)) (omega (arith, low)),
-    steps_size n 0 steps.0 behind few are.0.1, steps_size n 0 steps.1 (block_end rest) few are.1.1, are.0.0, are.1.0)
+    let tail = a_mark CloseParen ∷ a_space ∷ a_mark OpenBrace ∷ a_line_end ∷ loop_front (steps_lexemes steps.0 behind) in
+    let size : length (spelled (body_lexemes i steps rest)) ≡ length (codes "TASK(T") + length (decimal i) + length (spelled tail) = one_number (codes "TASK(T") (decimal i) (spelled tail) in
+    let inner : length (spelled (steps_lexemes steps.0 behind)) ≤ 160 + length (spelled behind) = omega (arith, steps_size n 0 steps.0 behind few are.0.1, are.0.0) in
+    let outer : length (spelled (steps_lexemes steps.1 (block_end rest))) ≤ 160 + length (spelled (block_end rest)) = omega (arith, steps_size n 0 steps.1 (block_end rest) few are.1.1, are.1.0) in
+    omega (arith, size, few_digits i (omega (arith, low)), inner, outer)
 
 bodies_size : (n i : ℕ) (bodies : List Steps) (rest : Lexemes) → n ≤ 16 → i + length bodies ≤ 16 → AllFrom (λ _. AreSteps n) i bodies → length (spelled (each_of body_lexemes i bodies rest)) ≤ 400 * length bodies + length (spelled rest)
 bodies_size n i [] rest few inside are = omega arith
@@ -226,7 +243,10 @@ bodies_size n i (steps ∷ bodies) rest few inside are =
     omega (arith, body_size n i steps (each_of body_lexemes (i + 1) bodies rest) few (omega (arith, inside)) are.0, bodies_size n (i + 1) bodies rest few (omega (arith, inside)) are.1)
 
 isr_size : (task : ℕ) → task < 16 → length (spelled (isr_lexemes task [])) ≤ 100
-isr_size task low = omega (arith, length-append {A = ℕ}, length-decimal-le 2 task (omega arith) (omega (arith, low)) (omega (arith, low)))
+isr_size task low =
+    let tail = a_mark CloseParen ∷ a_mark Semicolon ∷ a_space ∷ block_end [] in
+    let size : length (spelled (isr_lexemes task [])) ≡ length (codes "ISR(I) { ActivateTask(T") + length (decimal task) + length (spelled tail) = one_number (codes "ISR(I) { ActivateTask(T") (decimal task) (spelled tail) in
+    omega (arith, size, few_digits task (omega (arith, low)))
 
 pub code_size : (n : ℕ) (bodies : List Steps) (task : ℕ) → n ≤ 16 → length bodies ≡ n → AllFrom (λ _. AreSteps n) 0 bodies → task < n → length (spelled (code_lexemes bodies task)) ≤ 1048576
 code_size n bodies task few same are named =

@@ -60,7 +60,7 @@ module _ {L : Type 0} (spell : L → List ℕ) where
   pub Spells-each : {A : Type 0} (before : ℕ → A → L → L) (P : ℕ → A → Type 0) (text : ℕ → Text) (n i : ℕ) → ((j : ℕ) → j < i + n → Spells (before j) (P j) (text j)) →
       Spells (each_of before i) (λ (those : List A). (length those ≡ n) × AllFrom P i those) (each_from i n text)
   unfolding each_from
-  Spells-each {A} before P text zero i each = Spells-fixed (each_of before i) (λ (those : List A). (length those ≡ 0) × AllFrom P i those) [] [] (refl, tt) (λ rest. refl)
+  Spells-each {A} before P text zero i each x = Spells-fixed (each_of before i) (λ (those : List A). (length those ≡ 0) × AllFrom P i those) [] [] (refl, tt) (λ rest. refl) x
   Spells-each {A} before P text (suc n) i each x =
       let more = Spells-each before P text n (i + 1) (λ j h. each j (omega (arith, h))) in
       let ((a, those), (is, (size, are)), e) = Spells-then (before i) (P i) (each_of before (i + 1)) (λ (those : List A). (length those ≡ n) × AllFrom P (i + 1) those) (text i) (each_from (i + 1) n text) (each i (omega arith)) more x in

@@ -86,6 +86,9 @@ unfolding free_from
 masks_right = refl
 
 module _ (nons : List Bool) (few : length nons ≤ 16) (some : 0 < length nons) where
+  few_from : 0 + length nons ≤ 16
+  few_from = omega (arith, few)
+
   abbrev objects : List Object
   objects = oil_objects nons
 
@@ -134,7 +137,7 @@ module _ (nons : List Bool) (few : length nons ≤ 16) (some : 0 < length nons) 
   names_once =
       each_nothing (λ (kind : List ℕ). repeated_names kind objects) kinds (
       once (codes "OS") _ os_only refl, (once (codes "APPMODE") _ modes_none refl,
-      (once (codes "TASK") _ tasks_only (none_repeated has_same_name other_name 0 6 nons [] few (λ _ _ _ _ _. refl)),
+      (once (codes "TASK") _ tasks_only (none_repeated has_same_name other_name 0 6 nons [] few_from (λ _ _ _ _ _. refl)),
       (once (codes "ISR") _ isr_only refl, (once (codes "COUNTER") _ counter_only refl, (once (codes "ALARM") _ alarm_only refl,
       (once (codes "EVENT") _ event_only refl, (once (codes "RESOURCE") _ resource_only refl, tt))))))))
 
@@ -155,12 +158,12 @@ module _ (nons : List Bool) (few : length nons ≤ 16) (some : 0 < length nons) 
   no_lines O1 = ap (map object_line) (past_tasks is_unknown (λ _ _ _. refl) 0 6 nons foot)
   no_lines O2 = names_once
   no_lines O3 = ap (os_lines 1) os_only
-  no_lines O4 = nothing_of_tasks (found_of missing_in) (λ _ _ _ _. refl) 0 6 nons foot few
-  no_lines O5 = nothing_of_tasks (found_of doubles_in) (λ _ _ _ _. refl) 0 6 nons foot few
-  no_lines O6 = nothing_of_tasks (found_of wrong_in) (λ i line non h. wrong_task (task_name i) (value_of 10 (decimal i)) line non (omega (arith, decimal_value i (omega (arith, h)), h))) 0 6 nons foot few
-  no_lines O7 = nothing_of_tasks (found_of (dangling_in objects)) (λ _ _ _ _. refl) 0 6 nons foot few ∙ foot_declared
+  no_lines O4 = nothing_of_tasks (found_of missing_in) (λ _ _ _ _. refl) 0 6 nons foot few_from
+  no_lines O5 = nothing_of_tasks (found_of doubles_in) (λ _ _ _ _. refl) 0 6 nons foot few_from
+  no_lines O6 = nothing_of_tasks (found_of wrong_in) (λ i line non h. wrong_task (task_name i) (value_of 10 (decimal i)) line non (omega (arith, decimal_value i (omega (arith, h)), h))) 0 6 nons foot few_from
+  no_lines O7 = nothing_of_tasks (found_of (dangling_in objects)) (λ _ _ _ _. refl) 0 6 nons foot few_from ∙ foot_declared
   no_lines O8 = ap (λ (os : List Object). map (line_at (codes "PRIORITY")) (repeated has_same_priority [] os)) tasks_only
-      ∙ ap (map (line_at (codes "PRIORITY"))) (none_repeated has_same_priority other_priority 0 6 nons [] few (λ _ _ _ _ _. refl))
+      ∙ ap (map (line_at (codes "PRIORITY"))) (none_repeated has_same_priority other_priority 0 6 nons [] few_from (λ _ _ _ _ _. refl))
   no_lines O9 = ap (λ (os : List Object). map (line_at (codes "ACTIVATION")) (filter is_activated_often os)) tasks_only
       ∙ ap (map (line_at (codes "ACTIVATION"))) (no_tasks is_activated_often (λ _ _ _. refl) 0 6 nons)
   no_lines O10 = ap (λ (os : List Object). map (line_at (codes "RESOURCEPROPERTY")) (filter is_special_resource os)) resource_only

@@ -34,15 +34,15 @@ abbrev bare_object : List ℕ → List ℕ → Lexemes → Lexemes
 bare_object kind n rest = a_word kind ∷ a_space ∷ a_word n ∷ a_mark Semicolon ∷ a_line_end ∷ rest
 
 -- task i
-abbrev pub task_lexemes : ℕ → Bool → Lexemes → Lexemes
-task_lexemes i non rest =
-    object_front (codes "TASK") (task_name i)
-    (attribute (codes "PRIORITY") (a_number (decimal i)) (attribute_end
-    (attribute (codes "SCHEDULE") (a_word (schedule_word non)) (attribute_end
+abbrev behind_priority : Bool → Lexemes → Lexemes
+behind_priority non rest =
+    attribute_end (attribute (codes "SCHEDULE") (a_word (schedule_word non)) (attribute_end
     (attribute (codes "AUTOSTART") (a_word (codes "TRUE")) (attribute_end
     (attribute (codes "EVENT") (a_word (codes "E")) (attribute_end
-    (attribute (codes "RESOURCE") (a_word (codes "R")) (attribute_end
-    (object_end rest)))))))))))
+    (attribute (codes "RESOURCE") (a_word (codes "R")) (attribute_end (object_end rest))))))))
+
+abbrev pub task_lexemes : ℕ → Bool → Lexemes → Lexemes
+task_lexemes i non rest = object_front (codes "TASK") (task_name i) (attribute (codes "PRIORITY") (a_number (decimal i)) (behind_priority non rest))
 
 abbrev pub head_lexemes : Lexemes → Lexemes
 head_lexemes rest =
@@ -123,9 +123,19 @@ pub oil_right : (nons : List Bool) → length nons ≤ 16 → are_right (oil_lex
 oil_right nons few = tasks_right 0 nons (foot_lexemes []) (omega (arith, few))
 
 -- and short
+two_numbers : (a d b rest : List ℕ) → length (a ++ (d ++ (b ++ (d ++ rest)))) ≡ length a + length d + length b + length d + length rest
+two_numbers a d b rest = omega (arith, length-append a (d ++ (b ++ (d ++ rest))), length-append d (b ++ (d ++ rest)), length-append b (d ++ rest), length-append d rest)
+
+tail_size : (non : Bool) (rest : Lexemes) → length (spelled (behind_priority non rest)) ≤ 70 + length (spelled rest)
+tail_size true rest = omega arith
+tail_size false rest = omega arith
+
 task_size : (i : ℕ) (non : Bool) (rest : Lexemes) → i < 16 → length (spelled (task_lexemes i non rest)) ≤ 100 + length (spelled rest)
-task_size i true rest h = omega (arith, length-append {A = ℕ}, length-decimal-le 2 i (omega arith) (omega (arith, h)) (omega (arith, h)))
-task_size i false rest h = omega (arith, length-append {A = ℕ}, length-decimal-le 2 i (omega arith) (omega (arith, h)) (omega (arith, h)))
+task_size i non rest h =
+    let size : length (spelled (task_lexemes i non rest)) ≡ length (codes "TASK T") + length (decimal i) + length (codes " { PRIORITY = ") + length (decimal i) + length (spelled (behind_priority non rest)) =
+        two_numbers (codes "TASK T") (decimal i) (codes " { PRIORITY = ") (spelled (behind_priority non rest)) in
+    let digits : length (decimal i) ≤ 2 = length-decimal-le 2 i (omega arith) (omega (arith, h)) (omega (arith, h)) in
+    omega (arith, size, digits, tail_size non rest)
 
 tasks_size : (i : ℕ) (nons : List Bool) (rest : Lexemes) → i + length nons ≤ 16 → length (spelled (each_of task_lexemes i nons rest)) ≤ 100 * length nons + length (spelled rest)
 tasks_size i [] rest h = omega arith
@@ -138,4 +148,4 @@ head_size rest = omega arith
 pub oil_size : (nons : List Bool) → length nons ≤ 16 → length (spelled (oil_lexemes nons)) ≤ 1048576
 oil_size nons few =
     let foot : length (spelled (foot_lexemes [])) ≤ 200 = omega arith in
-    omega (arith, head_size (each_of task_lexemes 0 nons (foot_lexemes [])), tasks_size 0 nons (foot_lexemes []) few, foot, few)
+    omega (arith, head_size (each_of task_lexemes 0 nons (foot_lexemes [])), tasks_size 0 nons (foot_lexemes []) (omega (arith, few)), foot, few)
