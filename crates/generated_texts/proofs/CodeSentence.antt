@@ -17,9 +17,9 @@ use Rattle.task_code.specs.Statements.{Statements, closed, work_then, while_then
 use Rattle.task_code.specs.Words.{body_kind, plain_service, object_service, service_of, statement_word}
 use Rattle.task_code.proofs.Viable.{has_tree}
 use Rattle.generated_texts.proofs.Lexemes.{Lexeme, a_mark, a_line_end, tokens_from}
-use Rattle.generated_texts.proofs.Drawing.{each_of}
+use Rattle.generated_texts.proofs.Rows.{each_of}
 use Rattle.generated_texts.proofs.TaskNames.{task_name}
-use Rattle.generated_texts.proofs.CodeShape.{Step, works, clears, takes, gives, schedules, waits, asks, activates, sets, arms, Steps, step_lexemes, steps_lexemes, body_lexemes, isr_lexemes, code_lexemes}
+use Rattle.generated_texts.proofs.CodeLexemes.{Step, works, clears, takes, gives, schedules, waits, asks, activates, sets, arms, Steps, step_lexemes, steps_lexemes, body_lexemes, isr_lexemes, code_lexemes}
 
 -- a statement in front of others
 abbrev pub step_then : ℕ → Step → Statements → Statements

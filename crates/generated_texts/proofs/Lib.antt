@@ -1,8 +1,8 @@
+pub mod CodeLexemes
 pub mod CodeSentence
-pub mod CodeShape
-pub mod Drawing
 pub mod Lexemes
+pub mod OilLexemes
 pub mod OilRules
 pub mod OilSentence
-pub mod OilShape
+pub mod Rows
 pub mod TaskNames

@@ -136,10 +136,24 @@ module _ (nons : List Bool) (few : length nons ≤ 16) (some : 0 < length nons) 
   names_once : all_repeated_names objects ≡ []
   names_once =
       each_nothing (λ (kind : List ℕ). repeated_names kind objects) kinds (
-      once (codes "OS") _ os_only refl, (once (codes "APPMODE") _ modes_none refl,
-      (once (codes "TASK") _ tasks_only (none_repeated has_same_name other_name 0 6 nons [] few_from (λ _ _ _ _ _. refl)),
-      (once (codes "ISR") _ isr_only refl, (once (codes "COUNTER") _ counter_only refl, (once (codes "ALARM") _ alarm_only refl,
-      (once (codes "EVENT") _ event_only refl, (once (codes "RESOURCE") _ resource_only refl, tt))))))))
+        once (codes "OS") _ os_only refl,
+        (
+          once (codes "APPMODE") _ modes_none refl,
+          (
+            once (codes "TASK") _ tasks_only (none_repeated has_same_name other_name 0 6 nons [] few_from (λ _ _ _ _ _. refl)),
+            (
+              once (codes "ISR") _ isr_only refl,
+              (
+                once (codes "COUNTER") _ counter_only refl,
+                (
+                  once (codes "ALARM") _ alarm_only refl,
+                  (once (codes "EVENT") _ event_only refl, (once (codes "RESOURCE") _ resource_only refl, tt)),
+                ),
+              ),
+            ),
+          ),
+        ),
+      )
 
   -- references
   pub first_declared : declares (codes "TASK") (codes "T0") objects ≡ true

@@ -11,9 +11,9 @@ use Rattle.oil_tree.specs.Faults.{HasTree}
 use Rattle.oil_tree.specs.Grammar.{is_name, is_number, plain, no_more, one_more, bare, nested, IsObjects, no_objects, one_object, cpu, no_impl, no_version, IsSentence}
 use Rattle.oil_tree.proofs.Prefixes.{has_tree}
 use Rattle.generated_texts.proofs.Lexemes.{tokens_from}
-use Rattle.generated_texts.proofs.Drawing.{each_of}
+use Rattle.generated_texts.proofs.Rows.{each_of}
 use Rattle.generated_texts.proofs.TaskNames.{task_name}
-use Rattle.generated_texts.proofs.OilShape.{schedule_word, task_lexemes, foot_lexemes, oil_lexemes}
+use Rattle.generated_texts.proofs.OilLexemes.{schedule_word, task_lexemes, foot_lexemes, oil_lexemes}
 
 -- the object of a task with its name, its priority and its schedule
 abbrev pub task_with : List ℕ → ℕ → ℕ → Bool → Object

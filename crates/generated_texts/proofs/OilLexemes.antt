@@ -1,16 +1,14 @@
 -- A generated OIL text, word by word: all that is drawn in it is which tasks are non-preemptive.
-use Rattle.std.proofs.Common.{◌≡◌, ℕ, ◌+◌, ◌*◌, ◌<◌, ◌≤◌, ◌^◌, ◌==◌, Bool, true, false, zero, suc, List, [], ◌∷◌, ◌++◌, length, codes, decimal, refl, sym, ap, ◌∙◌, append_assoc, arith}
-use Rattle.std.specs.Prelude.{⊤, if◌then◌else◌}
-use Rattle.std.proofs.lemmas.List.{append-nil, length-append}
+use Rattle.std.proofs.Common.{◌≡◌, ℕ, ◌+◌, ◌*◌, ◌<◌, ◌≤◌, ◌^◌, Bool, true, false, List, [], ◌∷◌, ◌++◌, length, codes, decimal, refl, ◌∙◌, arith}
+use Rattle.std.specs.Prelude.{if◌then◌else◌}
+use Rattle.std.proofs.lemmas.List.{length-append}
 use Rattle.std.proofs.lemmas.Fmt.{length-decimal-le}
 use Rattle.oil_lexer.specs.declared.token.Mark.TheVariants.{OpenBrace, CloseBrace, Equals, Semicolon}
-use Rattle.osek_vectors.specs.Writing.{fixed, ◌⨾◌, each_from}
-use Rattle.osek_vectors.specs.OilTexts.{oil_head, oil_foot, schedule, task_line, oil_text}
 use Rattle.generated_texts.proofs.Lexemes.{Lexeme, a_word, a_number, a_mark, a_space, a_line_end, spelled, are_right}
-use Rattle.generated_texts.proofs.Drawing.{each_of, AllFrom, Spells, Spells-fixed, Spells-draw, Spells-front, Spells-behind, Spells-each}
+use Rattle.generated_texts.proofs.Rows.{each_of}
 use Rattle.generated_texts.proofs.TaskNames.{task_name, task_name_right, decimal_numeral}
 
-abbrev Lexemes : Type 0
+abbrev pub Lexemes : Type 0
 Lexemes = List Lexeme
 
 abbrev pub schedule_word : Bool → List ℕ
@@ -39,7 +37,7 @@ behind_priority non rest =
     attribute_end (attribute (codes "SCHEDULE") (a_word (schedule_word non)) (attribute_end
     (attribute (codes "AUTOSTART") (a_word (codes "TRUE")) (attribute_end
     (attribute (codes "EVENT") (a_word (codes "E")) (attribute_end
-    (attribute (codes "RESOURCE") (a_word (codes "R")) (attribute_end (object_end rest))))))))
+    (attribute (codes "RESOURCE") (a_word (codes "R")) (attribute_end (object_end rest)))))))))
 
 abbrev pub task_lexemes : ℕ → Bool → Lexemes → Lexemes
 task_lexemes i non rest = object_front (codes "TASK") (task_name i) (attribute (codes "PRIORITY") (a_number (decimal i)) (behind_priority non rest))
@@ -72,43 +70,6 @@ foot_lexemes rest =
 abbrev pub oil_lexemes : List Bool → Lexemes
 oil_lexemes nons = head_lexemes (each_of task_lexemes 0 nons (foot_lexemes []))
 
--- the generator's pieces, one behind the other
-seven_pieces : (a b c d e f g rest : List ℕ) → (a ++ b ++ c ++ d ++ e ++ f ++ g) ++ rest ≡ a ++ (b ++ (c ++ (d ++ (e ++ (f ++ (g ++ rest))))))
-seven_pieces a b c d e f g rest = simp append_assoc refl
-
-task_spelled : (i : ℕ) (non : Bool) (rest : Lexemes) →
-    (codes "TASK T" ++ decimal i ++ codes " { PRIORITY = " ++ decimal i ++ codes "; SCHEDULE = " ++ schedule_word non ++ codes "; AUTOSTART = TRUE; EVENT = E; RESOURCE = R; };\n") ++ spelled rest
-    ≡ spelled (task_lexemes i non rest)
-task_spelled i non rest = seven_pieces (codes "TASK T") (decimal i) (codes " { PRIORITY = ") (decimal i) (codes "; SCHEDULE = ") (schedule_word non) (codes "; AUTOSTART = TRUE; EVENT = E; RESOURCE = R; };\n") (spelled rest)
-
-Spells-task_line : (i : ℕ) → Spells spelled (task_lexemes i) (λ (_ : Bool). ⊤) (task_line i)
-Spells-task_line i =
-    Spells-draw spelled (task_lexemes i) (λ (_ : Bool). ⊤) 4 _ (omega arith)
-    (λ number h. Spells-fixed spelled (task_lexemes i) (λ (_ : Bool). ⊤) _ (number == 0) tt (task_spelled i (number == 0)))
-
-
-
-
-abbrev AreTasks : ℕ → List Bool → Type 0
-AreTasks n nons = (length nons ≡ n) × AllFrom (λ (_ : ℕ) (_ : Bool). ⊤) 0 nons
-
-Spells-oil : (n : ℕ) → Spells spelled (λ (nons : List Bool) (rest : Lexemes). head_lexemes (each_of task_lexemes 0 nons (foot_lexemes rest))) (AreTasks n) (oil_text n)
-Spells-oil n =
-    let tasks = Spells-each spelled task_lexemes (λ (_ : ℕ) (_ : Bool). ⊤) task_line n 0 (λ j h. Spells-task_line j) in
-    let begun = Spells-front spelled (each_of task_lexemes 0) (AreTasks n) oil_head head_lexemes (each_from 0 n task_line) (λ rest. refl) tasks in
-    Spells-behind spelled (λ (nons : List Bool) (rest : Lexemes). head_lexemes (each_of task_lexemes 0 nons rest)) (AreTasks n) oil_foot foot_lexemes (fixed oil_head ⨾ each_from 0 n task_line) (λ rest. refl) begun
-
--- the generator's OIL text is spelled so
-pub record IsOilText (n : ℕ) (bytes : List ℕ) : Type 0 where
-  pub nons : List Bool
-  pub tasks : length nons ≡ n
-  pub is : bytes ≡ spelled (oil_lexemes nons)
-
-pub oil_is : (n x : ℕ) → IsOilText n (oil_text n x).text
-oil_is n x =
-    let (nons, good, e) = Spells-oil n x in
-    record { nons = nons; tasks = good.0; is = sym (append-nil (oil_text n x).text) ∙ e [] }
-
 -- it is spelled right
 task_right : (i : ℕ) (non : Bool) (rest : Lexemes) → i < 2 ^ 64 → are_right (task_lexemes i non rest) ≡ are_right rest
 task_right i true rest h = rw (task_name_right i h, decimal_numeral i h) refl
@@ -133,7 +94,7 @@ tail_size false rest = omega arith
 task_size : (i : ℕ) (non : Bool) (rest : Lexemes) → i < 16 → length (spelled (task_lexemes i non rest)) ≤ 100 + length (spelled rest)
 task_size i non rest h =
     let size : length (spelled (task_lexemes i non rest)) ≡ length (codes "TASK T") + length (decimal i) + length (codes " { PRIORITY = ") + length (decimal i) + length (spelled (behind_priority non rest)) =
-        two_numbers (codes "TASK T") (decimal i) (codes " { PRIORITY = ") (spelled (behind_priority non rest)) in
+    two_numbers (codes "TASK T") (decimal i) (codes " { PRIORITY = ") (spelled (behind_priority non rest)) in
     let digits : length (decimal i) ≤ 2 = length-decimal-le 2 i (omega arith) (omega (arith, h)) (omega (arith, h)) in
     omega (arith, size, digits, tail_size non rest)
 
