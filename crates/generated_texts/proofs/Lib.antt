@@ -1,5 +1,7 @@
 pub mod CodeLexemes
+pub mod CodeRules
 pub mod CodeSentence
+pub mod EventTexts
 pub mod Lexemes
 pub mod OilLexemes
 pub mod OilRules
