@@ -187,7 +187,7 @@ module _ (nons : List Bool) (bodies : List Steps) (task_named : ℕ) (few : leng
   tasks_are : s.tasks ≡ map object_of (tasks_from 0 6 nons)
   tasks_are = ap (map object_of) (tasks_only nons few some)
 
-  isrs_are : s.isrs ≡ codes "I" ∷ []
+  pub isrs_are : s.isrs ≡ codes "I" ∷ []
   isrs_are = ap (map name_of) (isr_counted nons few some)
 
   knows : Knows s (length nons)

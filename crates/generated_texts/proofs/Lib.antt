@@ -1,8 +1,13 @@
+pub mod CodeDrawn
 pub mod CodeLexemes
 pub mod CodeRules
 pub mod CodeSentence
+pub mod Drawing
+pub mod EventDrawn
 pub mod EventTexts
+pub mod Faultless
 pub mod Lexemes
+pub mod OilDrawn
 pub mod OilLexemes
 pub mod OilRules
 pub mod OilSentence
