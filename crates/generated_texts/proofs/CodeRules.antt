@@ -1,9 +1,9 @@
 -- A generated task code text breaks no rule beside the system of its OIL text.
-use Rattle.std.proofs.Common.{◌≡◌, ℕ, ◌+◌, ◌*◌, ◌<◌, ◌≤◌, ◌^◌, ◌⊎◌, inl, inr, ⊎_elim, Bool, true, false, cond, not, suc, ◌&&◌, ◌||◌, List, [], ◌∷◌, ◌++◌, length, map, codes, decimal, Option, Some, None, Ok, refl, sym, ap, subst, ◌∙◌, arith}
+use Rattle.std.proofs.Common.{◌≡◌, ℕ, ◌+◌, ◌*◌, ◌<◌, ◌≤◌, ⊎_elim, Bool, true, false, not, suc, ◌||◌, List, [], ◌∷◌, ◌++◌, length, map, codes, Option, Some, None, Ok, refl, sym, ap, subst, ◌∙◌, arith}
 use Rattle.std.specs.Prelude.{is_some, filter, if◌then◌else◌}
-use Rattle.std.specs.List.{list_any, flat_map, position, position_or_len, prefix_len}
+use Rattle.std.specs.List.{list_any, flat_map, position, position_or_len}
 use Rattle.std.specs.Str.{bytes_eq}
-use Rattle.std.proofs.lemmas.Bool.{or_from, or_left, or_right, or_cases, lt-ltb, cases_eq}
+use Rattle.std.proofs.lemmas.Bool.{or_from, or_left, or_right, lt-ltb, cases_eq}
 use Rattle.std.proofs.lemmas.List.{length-append}
 use Rattle.std.proofs.lemmas.List.Folds.{list_any-append}
 use Rattle.std.proofs.lemmas.Slice.Eq.{bytes_eq-Decides}
@@ -17,7 +17,6 @@ use Rattle.oil_model.specs.Objects.{name_of}
 use Rattle.oil_model.specs.Rules.{repeated}
 use Rattle.oil_model.specs.Systems.{modes, events, names_of, task, alarm as alarm_of_object, system_of}
 use Rattle.task_code.specs.declared.tree.{Body.{Body}, BodyKind.TheVariants.{Task, Isr}, Code.{Code}}
-use Rattle.task_code.specs.declared.call.Call.{Call}
 use Rattle.task_code.specs.Statements.{Statements, closed, closing_line}
 use Rattle.block_graph.specs.Faults.{HasNoFault}
 use Rattle.block_graph.specs.Locks.{walked, unpaired}
@@ -28,7 +27,7 @@ use Rattle.generated_texts.proofs.TaskNames.{task_name}
 use Rattle.generated_texts.proofs.OilSentence.{tasks_from, alarm_object, isr_object, oil_objects}
 use Rattle.generated_texts.proofs.OilSentence as oil
 use Rattle.generated_texts.proofs.OilRules.{names_apart, tasks_only, alarm_only, isr_counted}
-use Rattle.generated_texts.proofs.CodeLexemes.{Step, works, clears, takes, gives, schedules, waits, asks, activates, sets, arms, IsAmong, Steps, AreFour, AreSteps}
+use Rattle.generated_texts.proofs.CodeLexemes.{Step, works, clears, takes, gives, schedules, waits, asks, activates, sets, arms, IsAmong, Steps, AreSteps}
 use Rattle.generated_texts.proofs.CodeSentence.{step_then, steps_then, loop_end, body_end, body_statements, task_body, isr_body, bodies_from, the_code}
 
 -- where an element passes a test, one is found

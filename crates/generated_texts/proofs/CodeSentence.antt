@@ -1,5 +1,5 @@
 -- The tree of a generated task code text: its tokens are a sentence, with a body for each task and one for the ISR.
-use Rattle.std.proofs.Common.{◌≡◌, ℕ, ◌+◌, List, [], ◌∷◌, ◌++◌, codes, decimal, refl, ap, ◌∙◌}
+use Rattle.std.proofs.Common.{◌≡◌, ℕ, ◌+◌, List, [], ◌∷◌, codes, decimal, refl, ◌∙◌}
 use Rattle.std.specs.Prelude.{None}
 use Rattle.oil_lexer.specs.declared.token.{Mark.TheVariants.{CloseBrace}, Token.{Token}}
 use Rattle.oil_lexer.specs.Numbers.{value_of}

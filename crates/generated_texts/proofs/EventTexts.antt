@@ -1,10 +1,10 @@
 -- Events on short lines: a text of them has no fault.
-use Rattle.std.proofs.Common.{◌≡◌, ℕ, ◌+◌, ◌*◌, ◌<◌, ◌≤◌, true, false, List, [], ◌∷◌, ◌++◌, length, codes, None, refl, ap, ◌∙◌, arith}
+use Rattle.std.proofs.Common.{◌≡◌, ℕ, ◌+◌, ◌*◌, ◌<◌, ◌≤◌, List, [], ◌∷◌, ◌++◌, length, codes, None, ap, arith}
 use Rattle.std.specs.List.{AllByRecursion}
 use Rattle.std.proofs.lemmas.List.{length-append}
 use Rattle.std.proofs.lemmas.List.Elements.{All-from_recursion}
 use Rattle.osek_values.specs.Numbers.{isr_no, counter_no}
-use Rattle.osek_values.specs.declared.event.{Event.{Event}, Event.TheVariants.{Run, Irq, Tick}}
+use Rattle.osek_values.specs.declared.event.{Event.{Event}, Event.TheVariants.{Irq, Tick}}
 use Rattle.osek_standard.specs.declared.app.App.{App}
 use Rattle.osek_standard.specs.Apps.{the_isr, the_counter, IsDeclared}
 use Rattle.trace_text.specs.EventGrammar.{event_line, event_text}

@@ -1,5 +1,5 @@
 -- The texts of a seed and a number of tasks have no fault.
-use Rattle.std.proofs.Common.{◌≡◌, ℕ, ◌+◌, ◌<◌, ◌≤◌, Bool, List, [], ◌∷◌, length, map, get_or, codes, true, None, Ok, Err, refl, sym, ap, subst, ◌∙◌, arith}
+use Rattle.std.proofs.Common.{◌≡◌, ℕ, ◌<◌, ◌≤◌, Bool, List, [], ◌∷◌, length, map, get_or, codes, true, None, Ok, Err, refl, sym, ap, subst, ◌∙◌, arith}
 use Rattle.std.specs.Prelude.{Result}
 use Rattle.osek_values.specs.declared.refused.LineFault.{LineFault}
 use Rattle.osek_values.specs.declared.refusal.CodeRule.{CodeRule}
@@ -14,12 +14,11 @@ use Rattle.osek_vectors.specs.GeneratedTexts.{generated_texts}
 use Rattle.osek_vectors.specs.OilTexts.{oil_text}
 use Rattle.oil_lexer.specs.Text.{AreTokens}
 use Rattle.oil_system.specs.declared.system.{CounterObject.{CounterObject}, System.{System}}
-use Rattle.oil_tree.specs.declared.tree.Object.{Object}
 use Rattle.oil_model.specs.Systems.{counter, system_of}
 use Rattle.task_code.specs.declared.tree.Code.{Code}
 use Rattle.task_code.proofs.Depths.{has_fit}
 use Rattle.block_graph.specs.Answers.{IsAnswer}
-use Rattle.block_graph.specs.Apps.{isr_with, extent, counters_from, counters_of, HasApp}
+use Rattle.block_graph.specs.Apps.{isr_with, extent, counters_from, HasApp}
 use Rattle.block_graph.specs.Blocks.{source_size}
 use Rattle.block_graph.proofs.SomeAnswer as graph_law
 use Rattle.task_code.specs.declared.tree.BodyKind.TheVariants as body_kind
@@ -32,7 +31,7 @@ use Rattle.generated_texts.proofs.Lexemes.{Lexeme, spelled, tokens_from, are_rig
 use Rattle.generated_texts.proofs.OilDrawn.{IsOilText, oil_is}
 use Rattle.generated_texts.proofs.OilLexemes.{oil_lexemes, oil_right, oil_size}
 use Rattle.generated_texts.proofs.OilSentence.{counter_object, oil_objects, oil_tree, oil_has_tree}
-use Rattle.generated_texts.proofs.OilRules.{counter_only, isr_counted, oil_has_no_fault}
+use Rattle.generated_texts.proofs.OilRules.{counter_only, oil_has_no_fault}
 use Rattle.generated_texts.proofs.CodeDrawn.{IsCodeText, code_is}
 use Rattle.generated_texts.proofs.CodeLexemes.{Steps, AreSteps, code_lexemes, code_right, code_size}
 use Rattle.generated_texts.proofs.CodeSentence.{the_code, code_has_tree}

@@ -1,9 +1,9 @@
 -- The generator's OIL text is spelled word by word.
-use Rattle.std.proofs.Common.{◌≡◌, ℕ, ◌+◌, ◌<◌, ◌==◌, Bool, List, [], ◌∷◌, ◌++◌, length, codes, decimal, refl, sym, ◌∙◌, append_assoc, arith}
+use Rattle.std.proofs.Common.{◌≡◌, ℕ, ◌==◌, Bool, List, [], ◌++◌, length, codes, decimal, refl, sym, ◌∙◌, append_assoc, arith}
 use Rattle.std.specs.Prelude.{⊤}
 use Rattle.std.proofs.lemmas.List.{append-nil}
 use Rattle.osek_vectors.specs.Writing.{fixed, ◌⨾◌, each_from}
-use Rattle.osek_vectors.specs.OilTexts.{oil_head, oil_foot, schedule, task_line, oil_text}
+use Rattle.osek_vectors.specs.OilTexts.{oil_head, oil_foot, task_line, oil_text}
 use Rattle.generated_texts.proofs.Drawing.{Spells, Spells-fixed, Spells-draw, Spells-front, Spells-behind, Spells-each}
 use Rattle.generated_texts.proofs.Lexemes.{spelled}
 use Rattle.generated_texts.proofs.OilLexemes.{Lexemes, schedule_word, task_lexemes, head_lexemes, foot_lexemes, oil_lexemes}

@@ -1,12 +1,12 @@
 -- The tree of a generated OIL text: its tokens are a sentence, with the tasks in turn.
-use Rattle.std.proofs.Common.{◌≡◌, ℕ, ◌+◌, Bool, true, false, List, [], ◌∷◌, ◌++◌, codes, decimal, refl}
+use Rattle.std.proofs.Common.{◌≡◌, ℕ, ◌+◌, Bool, List, [], ◌∷◌, ◌++◌, codes, decimal, refl}
 use Rattle.std.specs.Prelude.{None}
-use Rattle.oil_lexer.specs.declared.token.{Mark.TheVariants.{Semicolon}, Token.{Token}}
+use Rattle.oil_lexer.specs.declared.token.{Mark.TheVariants.{Semicolon}}
 use Rattle.oil_lexer.specs.Numbers.{value_of}
 use Rattle.oil_lexer.specs.Tokens.{mark}
 use Rattle.oil_tree.specs.declared.tree.{Object.{Object}, Tree.{Tree}, Value.TheVariants.{Word, Numeric}, Sign.TheVariants.{Bare}}
-use Rattle.oil_tree.specs.Attrs.{Attrs, no_attrs, attr_then}
-use Rattle.oil_tree.specs.Expect.{scan, a_file, some_objects, an_end}
+use Rattle.oil_tree.specs.Attrs.{no_attrs, attr_then}
+use Rattle.oil_tree.specs.Expect.{scan, some_objects, an_end}
 use Rattle.oil_tree.specs.Faults.{HasTree}
 use Rattle.oil_tree.specs.Grammar.{is_name, is_number, plain, no_more, one_more, bare, nested, IsObjects, no_objects, one_object, cpu, no_impl, no_version, IsSentence}
 use Rattle.oil_tree.proofs.Prefixes.{has_tree}
