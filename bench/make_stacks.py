@@ -6,9 +6,13 @@ nearly each of its blocks with any of its resources, taken in any order: the tex
 
     bench/make_stacks.py --resources 5 --tasks 4 --activations 3 DIR        writes DIR/app.oil, DIR/app.code
 """
-import argparse
 import os
+import sys
 from collections import namedtuple
+
+sys.path.insert(0, os.path.join(os.path.dirname(os.path.dirname(os.path.abspath(__file__))), 'tools'))
+
+import given
 
 Size = namedtuple('Size', 'resources tasks activations')
 """How many resources there are, which each task names, how many tasks, and how many activations each has in its loop."""
@@ -49,7 +53,7 @@ def write_app(size, folder):
 
 
 def main():
-    parser = argparse.ArgumentParser(description=__doc__, formatter_class=argparse.RawDescriptionHelpFormatter)
+    parser = given.Parser(__doc__)
     parser.add_argument('folder', metavar='DIR', help='where the two texts are written')
     for name, usual in zip(Size._fields, (5, 1, 0)):
         parser.add_argument('--' + name, type=int, default=usual, metavar='N', help='at most %d' % getattr(LIMITS, name))
@@ -58,4 +62,4 @@ def main():
 
 
 if __name__ == '__main__':
-    main()
+    given.run(main)

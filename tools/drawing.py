@@ -66,11 +66,11 @@ class Drawing:
     def style(self, text):
         self.elements.append('<style>%s</style>' % text)
 
-    def svg(self, width, height):
-        """The whole file, on a ground of its own colour."""
-        head = ('<svg xmlns="http://www.w3.org/2000/svg" width="%s" height="%s" viewBox="0 0 %s %s">'
-                % ((number(width), number(height)) * 2))
-        ground = '<rect x="0" y="0" width="100%%" height="100%%" fill="%s"/>' % PAPER
+    def svg(self, width, height, top=0):
+        """The whole file from this line down, on a ground of its own colour."""
+        shown = tuple(map(number, (width, height - top)))
+        head = '<svg xmlns="http://www.w3.org/2000/svg" width="%s" height="%s" viewBox="0 %s %s %s">' % (shown + (number(top),) + shown)
+        ground = '<rect x="0" y="%s" width="100%%" height="100%%" fill="%s"/>' % (number(top), PAPER)
         return '\n'.join([head, ground] + self.elements + ['</svg>', ''])
 
 

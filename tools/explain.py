@@ -11,13 +11,8 @@ import re
 import subprocess
 import sys
 
-import application
-import lint_oil
-import oil
-import task_code
+import causes
 from given import Wrong, contents, run
-from task_code import Owner
-from tokens import HINT
 
 DOCS = os.path.join(os.path.dirname(os.path.dirname(os.path.abspath(__file__))), 'docs')
 
@@ -67,7 +62,8 @@ def explained(refusal, words, rules):
     lines = ['%s:%s: error: %s: %s' % (match['file'], max(1, int(match['place'])), match['rule'], meaning)]
     before = 1 if match['rule'] == 'S1' else 0
     lines += ['    %s' % text for text in source_lines(match['file'], int(match['place']), before)]
-    lines += ['    ' + text for text in named(match, words)]
+    texts = causes.Texts(match['file'], int(match['place']), words)
+    lines += ['    ' + text for text in causes.told(match['rule'], texts, guide())]
     return lines + (['    look first: ' + first] if first else [])
 
 
@@ -76,42 +72,6 @@ def source_lines(name, number, before):
     lines = contents(name).splitlines()
     first = max(1, number - before)
     return ['%4d  %s' % (k, lines[k - 1][:MOST_SHOWN]) for k in range(first, number + 1)] if 0 < number <= len(lines) else []
-
-
-def named(match, words):
-    """What a rule leaves open and the texts tell: what is missing, or isn't declared. Nothing where they can't be read."""
-    try:
-        if match['rule'] == 'C1':
-            return ['without code: ' + name for name in without_code(words)]
-        if match['rule'][0] == 'S':
-            return ['here: ' + text for text in wanted(match['file'], int(match['place']), words[2:3] == [match['file']])]
-        if match['rule'] in ('O4', 'O7'):
-            objects, line = oil.objects_of(contents(match['file'])), int(match['place'])
-            if match['rule'] == 'O4':
-                return ['missing: ' + text for text in lint_oil.missing(objects, line)]
-            return ['not declared: ' + text for text in lint_oil.undeclared(objects, line)]
-    except (Wrong, OSError, IndexError):
-        pass
-    return []
-
-
-def wanted(name, line, is_code):
-    """What the readers of these tools want on the line of a fault of the grammar."""
-    try:
-        blocks = task_code.blocks_of(contents(name), name) if is_code else oil.objects_of(contents(name), name) and []
-    except Wrong as wrong:
-        place, _, text = str(wrong)[len(name) + 1:].partition(': ')
-        return [text.replace(HINT, '')] if place == str(line) else []
-    return [fault for block in blocks if block.line == line for fault in [application.misshapen(block)] if fault][:1]
-
-
-def without_code(words):
-    """The tasks and routines of an OIL text that the task code has no body for."""
-    system = oil.system_of(contents(words[1]), words[1])
-    there = {block.owner for block in task_code.blocks_of(contents(words[2]), words[2])}
-    declared = [Owner('TASK', name) for name in system.tasks]
-    declared += [Owner('ISR', isr.name) for isr in system.isrs.values() if isr.category == 2]
-    return ['%s %s' % owner for owner in declared if owner not in there]
 
 
 def main():

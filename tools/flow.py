@@ -10,13 +10,22 @@ REFUSED_WHILE_HELD = ENDS | {'Schedule', 'WaitEvent'}
 def leads_to(app, number, held):
     """The blocks that a block leads to, each with what is held there."""
     block = app.blocks[number]
-    if block.word == 'ShutdownOS' or block.word == 'end' or (block.word in ENDS and not held):
+    is_end = block.word in ENDS and block.owner.kind == 'TASK' and not held
+    if block.word == 'ShutdownOS' or block.word == 'end' or is_end:
         return []
-    if block.word == 'GetResource' and block.arguments[0][0] not in held:
+    if block.word == 'GetResource' and block.arguments[0][0] not in held and not is_above(app, block):
         held = held + (block.arguments[0][0],)
     if block.word == 'ReleaseResource' and held[-1:] == (block.arguments[0][0],):
         held = held[:-1]
     return [(to, held) for to in (block.next, block.other) if to is not None]
+
+
+def is_above(app, block):
+    """Whether the task of a resource's call is above the resource's ceiling by its own priority: then the call is refused."""
+    if block.owner.name not in app.task_number:
+        return False
+    resource = app.resources[app.resource_number[block.arguments[0][0]]]
+    return 2 * app.tasks[app.task_number[block.owner.name]].priority > resource.ceiling
 
 
 def ways(app, first):

@@ -196,10 +196,11 @@ class Chart:
             for r in range(len(column.rows)):
                 self.paint_row(c, column, r)
         self.paint_trunks()
-        self.drawing.text(16, 30, title, size=17, font_weight='600')
+        if title:
+            self.drawing.text(16, 30, title, size=17, font_weight='600')
         y = self.floor + 34 + step_of(self.channel) * len(self.channel)
         height = self.paint_legend(y)
-        return self.drawing.svg(max(self.width, LEAST_WIDTH), height)
+        return self.drawing.svg(max(self.width, LEAST_WIDTH), height, 0 if title else 36)
 
     def paint_frame(self, column):
         d = self.drawing

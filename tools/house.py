@@ -1,14 +1,17 @@
 #!/usr/bin/env python3
 """Prints the house in numbers: crates, lines of code, of definitions and of proofs, files, must-fail edits.
 
-With --gate it runs the gate beside and adds the processor minutes that its proofs, tests and edits took, by crate: once a second it looks at
-the processes of the run, so what ends within a second may be missed. The gate's output goes to the file that --log names.
+With --gate it runs the gate and adds the minutes of a processor by crate: of its proofs, of its tests and what is run, and of its edits.
+Processes are looked at four times a second, so their last moment isn't seen by crate. The last lines have the minutes of a processor of
+all processes of the run, as the system counts them, whatever else the machine does, and those by the clock. The gate's output goes to
+the file that --log names.
 
     tools/house.py
     tools/house.py --crates                      a line for each crate
     tools/house.py --gate --log gate.log
 """
 import os
+import resource
 import subprocess
 import sys
 import time
@@ -22,11 +25,16 @@ CRATES = os.path.join(ROOT, 'crates')
 
 Sizes = namedtuple('Sizes', 'code definitions proofs files edits')
 
+Stat = namedtuple('Stat', 'parent begun seconds')
+
 PARTS = {'src': 'code', 'specs': 'definitions', 'proofs': 'proofs'}
 
 KINDS = ('proofs', 'tests', 'edits')
 
 TICKS = os.sysconf('SC_CLK_TCK')
+
+LOOKS = 0.25
+"""How many seconds lie between two looks at the processes."""
 
 
 def files_of(folder, ending):
@@ -49,60 +57,82 @@ def sizes_of(crate):
 
 
 class Gate:
-    """A run of the gate, and the seconds that its processes took so far."""
+    """A run of the gate, and the seconds of a processor that its processes took so far."""
 
     def __init__(self, log):
-        self.seconds, self.begin = {}, time.monotonic()
+        self.seconds, self.begin, self.before = {}, time.monotonic(), seconds_of_ended()
         self.process = subprocess.Popen([os.path.join(ROOT, '.ci', 'run')], cwd=ROOT, stdin=subprocess.DEVNULL, stdout=log, stderr=log)
 
     def watch(self):
-        """Waits for the end, and answers the minutes of each crate by kind."""
+        """Waits for the end, and answers the minutes of each crate by kind, and those of all processes."""
         while self.process.poll() is None:
             self.look()
-            time.sleep(1)
+            time.sleep(LOOKS)
         minutes = {}
         for crate, kind, seconds in self.seconds.values():
             minutes.setdefault(crate, Counter())[kind] += seconds / 60
-        return minutes
+        return minutes, (seconds_of_ended() - self.before) / 60
 
     def look(self):
-        parents = {pid: stat for pid, stat in ((pid, stat_of(pid)) for pid in os.listdir('/proc') if pid.isdigit()) if stat}
-        for pid, (parent, begun, seconds) in parents.items():
-            if self.is_ours(pid, parents):
-                known = self.seconds.get((pid, begun)) or work_of(pid)
-                if known:
-                    self.seconds[pid, begun] = (known[0], known[1], seconds)
+        """Notes how long each check, test and program has taken, with all that it started."""
+        stats = {pid: stat for pid, stat in ((pid, stat_of(pid)) for pid in os.listdir('/proc') if pid.isdigit()) if stat}
+        children = {}
+        for pid, stat in stats.items():
+            children.setdefault(stat.parent, []).append(pid)
+        left = [str(self.process.pid)]
+        while left:
+            pid = left.pop()
+            work = pid in stats and work_of(pid)
+            if work:
+                key = pid, stats[pid].begun
+                known = self.seconds.get(key, work + (0,))
+                self.seconds[key] = known[:2] + (max(known[2], seconds_with_all_below(pid, stats, children)),)
+            else:
+                left += children.get(pid, [])
 
-    def is_ours(self, pid, parents):
-        while pid in parents:
-            if pid == str(self.process.pid):
-                return True
-            pid = parents[pid][0]
-        return False
+
+def seconds_of_ended():
+    """The seconds of all processes that this one started, with those that they started, as far as they ended."""
+    usage = resource.getrusage(resource.RUSAGE_CHILDREN)
+    return usage.ru_utime + usage.ru_stime
+
+
+def seconds_with_all_below(pid, stats, children):
+    return stats[pid].seconds + sum(seconds_with_all_below(child, stats, children) for child in children.get(pid, []))
 
 
 def stat_of(pid):
-    """The parent, the time of birth and the seconds of a process; None where it has ended."""
+    """The parent, the time of birth and the seconds of a process, with those of its children that ended; None where it has ended."""
     try:
         with open('/proc/%s/stat' % pid, encoding='latin-1') as file:
             words = file.read().rpartition(')')[2].split()
     except OSError:
         return None
-    return words[1], words[19], (int(words[11]) + int(words[12])) / TICKS
+    return Stat(words[1], words[19], sum(map(int, words[11:15])) / TICKS)
 
 
 def work_of(pid):
-    """Which crate a process works on, and at what; None where it isn't a check or a build."""
+    """Which crate a process works on, and at what; None where that isn't told by its words and its folder."""
     try:
         with open('/proc/%s/cmdline' % pid, encoding='utf-8', errors='replace') as file:
             words = file.read().split('\0')
         folder = os.readlink('/proc/%s/cwd' % pid)
     except OSError:
         return None
-    if '--crate-name' not in words[:-1]:
-        return None
-    kind = 'edits' if os.path.basename(folder).startswith('rt-edit') else 'tests' if '--test' in words else 'proofs'
-    return words[words.index('--crate-name') + 1], kind, 0
+    return work_told(words, folder)
+
+
+def work_told(words, folder):
+    """What the words of a process and its folder tell: a check of a crate, of its tests or of an edit, a link, or a run of what was built."""
+    run_ones = [os.path.basename(word) for word in words if '/rt-run-' in word]
+    if '--crate-name' in words[:-1]:
+        kind = 'edits' if '/rt-edit' in folder else 'tests' if '--test' in words else 'proofs'
+        return words[words.index('--crate-name') + 1], kind
+    if run_ones:
+        return run_ones[0].partition('_tests')[0], 'tests'
+    if os.path.basename(os.path.dirname(folder)) == 'crates':
+        return os.path.basename(folder), 'tests' if any('_tests' in word for word in words) else 'proofs'
+    return None
 
 
 def printed(rows):
@@ -118,10 +148,12 @@ def table(sizes, minutes, each):
     head = ['crate'] + list(Sizes._fields) + (['%s min' % kind for kind in KINDS] if minutes is not None else [])
     rows = [head]
     for name, one in sizes.items() if each or minutes is not None else []:
-        rows.append(row(name, one, minutes and minutes.get(name, Counter())))
+        rows.append(row(name, one, None if minutes is None else minutes.get(name, Counter())))
     tests = {name: one for name, one in sizes.items() if name.endswith('_cases')}
     for name, some in (('%d crates' % len(sizes), sizes), ('of these %d of tests' % len(tests), tests)):
         total = None if minutes is None else sum((minutes.get(crate, Counter()) for crate in some), Counter())
+        if not some:
+            break
         rows.append(row(name, Sizes(*map(sum, zip(*some.values()))), total))
     return rows
 
@@ -148,9 +180,11 @@ def main():
         raise Wrong('--gate wants --log')
     with open(words.log, 'wb') as log:
         gate = Gate(log)
-        minutes = gate.watch()
+        minutes, whole = gate.watch()
     printed(table(sizes, minutes, True))
-    sys.stdout.write('%.1f minutes, status %d; %s\n' % ((time.monotonic() - gate.begin) / 60, gate.process.returncode, words.log))
+    seen = sum(sum(some.values()) for some in minutes.values())
+    sys.stdout.write('%.1f minutes of a processor, %.1f of them of rt itself and of what ended unseen\n' % (whole, whole - seen))
+    sys.stdout.write('%.1f minutes in all, status %d; %s\n' % ((time.monotonic() - gate.begin) / 60, gate.process.returncode, words.log))
     return 0 if gate.process.returncode == 0 else 1
 
 

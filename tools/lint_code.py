@@ -1,6 +1,6 @@
 """What lint.py finds in task code, read with its OIL text: calls that are refused each time, ends that are reached by accident, and
 objects that no call uses."""
-from flow import REFUSED_WHILE_HELD, held_at, leads_to, ways
+from flow import REFUSED_WHILE_HELD, held_at, is_above, leads_to, ways
 
 FOR_TASKS_ALONE = {'TerminateTask', 'ChainTask', 'Schedule', 'WaitEvent', 'ClearEvent'}
 
@@ -72,7 +72,8 @@ def unnamed_resources(code):
     for block in code.calls('GetResource'):
         task = code.tasks.get(block.owner.name)
         if task and block.arguments[0][0] not in task.resources + ['RES_SCHEDULER']:
-            yield block.line, '%s: task %s does not name this resource, so its ceiling may be too low' % (block.text, task.name)
+            low = 'is too low, and this is refused (E_OS_ACCESS)' if is_above(code.app, block) else 'may be too low'
+            yield block.line, '%s: task %s does not name this resource, so its ceiling %s' % (block.text, task.name, low)
 
 
 def own_activations(code):

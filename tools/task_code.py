@@ -18,6 +18,9 @@ LOCKS = ['SuspendAllInterrupts', 'ResumeAllInterrupts', 'SuspendOSInterrupts', '
 
 OPENERS, CLOSERS = LOCKS[::2], LOCKS[1::2]
 
+C_WORDS = ('for', 'switch', 'return')
+"""Words of C before a parenthesis that are no service."""
+
 
 class Statement:
     """A statement as it is read: its block's number, and the statements inside it."""
@@ -45,6 +48,8 @@ class CodeReader(Cursor):
 
     def read_body(self):
         self.bodies.append(self.line())
+        if self.ahead() == '}':
+            self.stop('a } too many, here or above')
         kind = self.want('TASK', 'ISR')
         self.want('(')
         self.owner, self.locks = Owner(kind, self.take_name()), 0
@@ -68,8 +73,14 @@ class CodeReader(Cursor):
             return self.read_choice(word, line)
         if word == 'work':
             number = self.take()
+            if number_of(number) is None:
+                self.stop('a number is wanted, not %s' % number, line)
             self.want(';')
             return Statement(self.push(line, 'work ' + number, 'work', [number_of(number) or 1]))
+        if word in ('TASK', 'ISR'):
+            self.stop('%s begins a body: a } is missing above' % word, line)
+        if self.ahead() != '(' or word in C_WORDS:
+            self.stop('%s begins no statement: these are work, if, while and calls of services' % word, line)
         arguments, text = self.read_arguments()
         number = self.push(line, word + text, word, arguments)
         self.locks += (word in OPENERS) - (word in CLOSERS)

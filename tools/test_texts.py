@@ -1,5 +1,6 @@
 """Tests of the tools that read OIL, task code, events and refusals, and of the model; `python3 tools/test_tools.py` runs them too."""
 import os
+import re
 import subprocess
 import sys
 import tempfile
@@ -9,6 +10,7 @@ HERE = os.path.dirname(os.path.abspath(__file__))
 sys.path.insert(0, HERE)
 
 import annotate
+import causes
 import check_documents
 import covered
 import events
@@ -18,8 +20,10 @@ import image
 import least_table
 import lint
 import lint_oil
+import locks
 import model
 import oil
+import prove
 import reached
 import regress
 from application import application_of
@@ -115,7 +119,7 @@ class Models(unittest.TestCase):
 
 FAULTY_OIL = """CPU c { OS os; EVENT A { MASK = 1; }; EVENT B { MASK = 3; }; EVENT U; RESOURCE R; RESOURCE S;
  COUNTER C { MAXALLOWEDVALUE = 9; }; COUNTER D { MAXALLOWEDVALUE = 9; }; APPMODE M;
- TASK T1 { PRIORITY = 3; SCHEDUEL = NON; AUTOSTART = TRUE { APPMOD = x; APPMODE = OSDEFAULTAPPMODE; }; EVENT = A; };
+ TASK T1 { PRIORITY = 3; SCHEDUEL = NON; AUTOSTART = TRUE { APPMOD = x; APPMODE = OSDEFAULTAPPMODE; }; EVENT = A; RESOURCE = S; };
  TASK T2 { PRIORITY = 2; AUTOSTART = TRUE { APPMODE = OSDEFAULTAPPMODE; }; RESOURCE = R; };
  TASK T3 { PRIORITY = 1; };
  ALARM Z { COUNTER = C; ACTION = SETEVENT { TASK = T2; EVENT = A; }; };
@@ -173,6 +177,12 @@ class Lint(unittest.TestCase):
         oil_text = 'CPU c { OS os; %s ISR I { CATEGORY = 2; }; };' % T1
         self.assertEqual(self.found(oil_text, 'TASK(T1) { TerminateTask(); }\nISR(I) {\nwhile (1) { work 1; }\n}'), [('c', 3, 'endless')])
         self.assertEqual(self.found(oil_text, 'TASK(T1) { TerminateTask(); }\nISR(I) {\nwhile (?) { work 1; }\n}'), [])
+
+    def test_what_is_refused_neither_ends_nor_takes(self):
+        oil_text = ('CPU c { OS os; RESOURCE R; TASK T1 { PRIORITY = 2; AUTOSTART = TRUE; }; TASK T2 { PRIORITY = 1; AUTOSTART = TRUE; RESOURCE = R; };'
+                    ' ISR I { CATEGORY = 2; }; };')
+        code = 'TASK(T1) {\nGetResource(R);\nTerminateTask();\n}\nTASK(T2) { TerminateTask(); }\nISR(I) {\nTerminateTask();\nActivateTask(T2);\n}'
+        self.assertEqual([row for row in self.found(oil_text, code) if row[0] == 'c'], [('c', 2, 'resource'), ('c', 7, 'routine')])
 
     def test_a_resource_that_stays_held_in_a_loop(self):
         oil_text = 'CPU c { OS os; RESOURCE R; TASK T1 { PRIORITY = 1; AUTOSTART = TRUE; RESOURCE = R; }; };'
@@ -269,6 +279,45 @@ class Explanations(unittest.TestCase):
         self.assertEqual(list(lint_oil.missing(objects, 5)), ['CYCLETIME within AUTOSTART of ALARM A'])
         self.assertEqual(list(lint_oil.undeclared(objects, 2)), ['EVENT E of TASK T', 'APPMODE M of TASK T'])
 
+    def test_what_the_texts_tell_of_a_refusal(self):
+        objects = ('EVENT Go; COUNTER C { MAXALLOWEDVALUE = 9; };\nTASK Door { PRIORITY = -1; };\nTASK Motor { PRIORITY = 7; SCHEDULE = ON; };\n'
+                   'TASK Motor { PRIORITY = 7; };\nALARM A { COUNTER = C; AUTOSTART = TRUE { CYCLETIME = 10; }; };\nISR Tooth { CATEGORY = 2; }; '
+                   'ISR J { CATEGORY = 1; };')
+        code = 'TASK(Door) {\nint x;\n}\n'
+        named = 'TASK(Door) {\nSetEvent(Moter, Goo); SetRelAlarm(C, 1, 0);\n}\nTASK(Tooth) { }\nISR(J) { }\n'
+        for rule, line, text, told in (
+                ('O6', 2, code, ['here: PRIORITY of TASK Door takes 0 to 65,535, larger is higher, not -1']),
+                ('O6', 3, code, ['here: SCHEDULE of TASK Motor takes NON, FULL, not ON']),
+                ('O2', 4, code, ['first: TASK Motor on line 3']), ('O8', 4, code, ['first: TASK Motor has 7 too']),
+                ('O14', 5, code, ['here: COUNTER C has MINCYCLE 1 and MAXALLOWEDVALUE 9']),
+                ('S1', 2, code, ['here: int begins no statement: these are work, if, while and calls of services']),
+                ('S1', 2, code.replace('int x', 'work'), ['here: a number is wanted, not ;']),
+                ('S1', 3, 'TASK(Door) {\n\nTASK(Motor) { }', ['here: TASK begins a body: a } is missing above']),
+                ('S1', 3, 'TASK(Door) {\n}\n}', ['here: a } too many, here or above']),
+                ('L1', 2, 'TASK(Door) {\nif (x > 1) { } // é', ['here: >']), ('L1', 1, '\ufeffTASK', ['here: a byte order mark']),
+                ('C4', 2, named, ['not declared: the task Moter; Motor is', 'not declared: the event Goo; Go is', 'not declared: the alarm C']),
+                ('C1', 0, named, ['without code: TASK Motor', 'without code: ISR Tooth', 'of category 1, which has no code: ISR J',
+                                  'not declared: TASK Tooth; ISR Tooth is'])):
+            with self.subTest(rule=rule, line=line), tempfile.TemporaryDirectory() as folder:
+                at = [os.path.join(folder, name) for name in ('a.oil', 'a.code')]
+                for name, content in zip(at, ('CPU c { OS os; %s };' % objects, text)):
+                    with open(name, 'w', encoding='utf-8') as file:
+                        file.write(content)
+                texts = causes.Texts(at[rule[0] != 'O'], line, ['build'] + at)
+                self.assertEqual(causes.told(rule, texts, explain.guide()), told)
+
+    def test_locks_that_do_not_pair(self):
+        for body, told in (('SuspendAllInterrupts();\nResumeOSInterrupts();', [(3, 'ResumeOSInterrupts meets SuspendAllInterrupts of line 2 open')]),
+                           ('ResumeAllInterrupts();', [(2, 'ResumeAllInterrupts meets no lock open')]),
+                           ('DisableAllInterrupts();\nDisableAllInterrupts();', [(3, 'twice, since DisableAllInterrupts of line 2 open')]),
+                           ('SuspendOSInterrupts();\nSchedule();', [(3, 'Schedule within SuspendOSInterrupts of line 2 open')]),
+                           ('SuspendOSInterrupts();\n' * 9, [(10, 'a ninth lock')]),
+                           ('if (?) { SuspendOSInterrupts();\n}', [(3, 'one branch ends with SuspendOSInterrupts of line 2 open, and the other way has no lock open')]),
+                           ('while (?) { SuspendOSInterrupts();\n}', [(3, 'the loop goes round with SuspendOSInterrupts of line 2 open, and the other way has no lock open')]),
+                           ('SuspendOSInterrupts();', [(3, 'the body ends with SuspendOSInterrupts of line 2 open')]),
+                           ('if (?) { SuspendOSInterrupts(); work 1; } else { SuspendOSInterrupts(); }\nResumeOSInterrupts();', [])):
+            self.assertEqual(locks.faults_of('TASK(T) {\n%s\n}\nTASK(U) { }' % body, 'c'), told)
+
 
 class Regressions(unittest.TestCase):
     def test_differences_are_told(self):
@@ -304,9 +353,48 @@ class Documents(unittest.TestCase):
         texts = reached.definitions_of('use Rattle.a.specs.F.{x}\n-- of a\nabbrev pub one : A\none = x\n\npub record Two : B where\n  pub f : C\n')
         self.assertEqual(texts, {'one': '-- of a\nabbrev pub one : A\none = x\n', 'Two': 'pub record Two : B where\n  pub f : C\n'})
 
+    def test_confidence_names_what_is_there(self):
+        crates = os.path.join(check_documents.ROOT, 'crates')
+        code, words = {}, ''
+        for crate in os.listdir(crates):
+            code[crate] = ''.join(contents(file) for file in house.files_of(os.path.join(crates, crate, 'src'), '.rt'))
+            words += code[crate] + ''.join(file + contents(file) for file in house.files_of(os.path.join(crates, crate, 'specs'), '.antt'))
+        matrix = contents(os.path.join(check_documents.ROOT, 'docs', 'CONFIDENCE.md')).partition('## From ISO 17356-3')[2]
+        for service, definitions, functions, runs in list(causes.rows_of(matrix, 4))[2:]:
+            for name in re.findall(r'`([^`]+)`', definitions):
+                self.assertRegex(words, r'\b%s\b' % name.rpartition('/')[2], service)
+            crate = None
+            for name in re.findall(r'`([^`]+)`', functions):
+                crate, function = name.split('::') if '::' in name else (name, '') if name in code else (crate, name)
+                self.assertIn('fn %s' % function if function else '', code[crate], service)
+            for run in runs.split('; ') if runs != 'all' else []:
+                self.assertIn('"%s"' % run, code['command_cases'], service)
+
     def test_the_house_is_counted(self):
         sizes = house.sizes_of('osek_values')
         self.assertTrue(sizes.code > 0 and sizes.definitions > 0 and sizes.files > 2)
+
+    def test_what_a_process_of_the_gate_works_on(self):
+        for words, folder, told in (
+                ('rattle check --crate-name a src/lib.rt', '/x/crates/a', ('a', 'proofs')), ('rattle build --crate-name a --test', '/x/crates/a', ('a', 'tests')),
+                ('rattle check --crate-name a src/lib.rt', '/tmp/rt-edit-7-x', ('a', 'edits')), ('rattle-test --seconds 60 /tmp/rt-run-7-x/bin/a_tests', '/tmp/y', ('a', 'tests')),
+                ('/tmp/rt-run-7-x/bin/a', '/tmp/y', ('a', 'tests')), ('rattle-link out/a.o', '/x/crates/a', ('a', 'proofs')), ('sh -c read', '/x', None)):
+            self.assertEqual(house.work_told(words.split(' '), folder), told)
+
+    def test_crates_from_which_the_longest_way_leads_up_go_first(self):
+        order = prove.Order.__new__(prove.Order)
+        order.below = {'base': set(), 'side': {'base'}, 'low': {'base'}, 'high': {'base', 'low'}}
+        order.seconds = {'base': 5, 'side': 20, 'low': 10, 'high': 15}
+        order.way = order.ways()
+        self.assertEqual(order.way, {'base': 30, 'side': 20, 'low': 25, 'high': 15})
+        self.assertEqual((order.next(['side', 'low'], {'base'}), order.next(['high'], {'base'})), ('low', None))
+        self.assertEqual((order.whole(1), order.whole(2)), (50, 30))
+
+    def test_crates_are_read_with_all_that_they_stand_on(self):
+        crates = prove.Crates(prove.ROOT)
+        self.assertTrue({'osek_values', 'commands'} <= set(crates.libraries(['osekfit'])))
+        self.assertEqual(crates.libraries(['osek_values']), ['osek_values'])
+        self.assertRaises(Wrong, crates.libraries, ['nobody'])
 
 
 TOOLS = ['annotate.py', 'check_documents.py', 'compare_model.py', 'events.py', 'explain.py', 'graph.py', 'lint.py', 'model.py', 'regress.py', 'timeline.py']
@@ -340,6 +428,8 @@ class Ends(unittest.TestCase):
         self.assertIn('→ '.encode() if b'direct' in done.stdout else 'é'.encode(), done.stdout)
 
     def test_scripts_can_be_run(self):
-        for name in sorted(os.listdir(HERE)):
-            if name.endswith('.py') and "__name__ == '__main__'" in contents(os.path.join(HERE, name)) and not name.startswith('test_texts'):
-                self.assertTrue(os.access(os.path.join(HERE, name), os.X_OK), name)
+        for folder in (HERE, os.path.join(check_documents.ROOT, 'bench')):
+            for name in sorted(os.listdir(folder)):
+                file = os.path.join(folder, name)
+                if name.endswith('.py') and "__name__ == '__main__'" in contents(file) and not name.startswith('test_texts'):
+                    self.assertTrue(os.access(file, os.X_OK), name)

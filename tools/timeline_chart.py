@@ -50,7 +50,7 @@ class Chart:
         self.tasks = list(self.lines[0].tasks)
         self.resources = sorted({r for line in self.lines for task in line.tasks.values() for r in task.held})
         self.drawing = Drawing()
-        self.gutter = 30 + 7.2 * max(len(name) for name in self.tasks + self.routines + ['PostTask'])
+        self.gutter = 30 + 7.8 * max(len(name) for name in self.tasks + self.routines + ['PostTask'])
         self.step = max(3, min(20, 1400 / len(self.lines)))
         self.rows = self.row_places()
 
@@ -94,7 +94,8 @@ class Chart:
 
     def paint(self, title):
         d = self.drawing
-        d.text(16, 30, title, size=17, font_weight='600')
+        if title:
+            d.text(16, 30, title, size=17, font_weight='600')
         self.paint_ground()
         self.paint_axis()
         for name in self.routines:
@@ -106,7 +107,7 @@ class Chart:
         self.paint_switches()
         self.paint_notes()
         self.paint_trap()
-        return d.svg(self.width(), self.paint_legend(self.floor + 26))
+        return d.svg(self.width(), self.paint_legend(self.floor + 26), 0 if title else TOP - 36)
 
     def paint_ground(self):
         d, right = self.drawing, self.x(len(self.lines))
@@ -209,11 +210,13 @@ class Chart:
             part = self.lines[begin:begin + here]
             noted = [line for line in part if has_note(line, name)]
             bad = [line for line in noted if name == 'Error' or (name == 'status' and line.status != 'E_OK')]
-            for lines, colour, height in ((noted, GOOD if name == 'status' else '#57606a', NOTE_ROW - 8), (bad, BAD, (NOTE_ROW - 8) / 2)):
-                if lines:
-                    title = '%d of %s from %d to %d' % (len(lines), name, part[0].number, part[-1].number)
-                    self.drawing.rect(self.x(begin), self.rows[NOTE, name] + 4, self.step * len(part), height, colour,
-                                      fill_opacity=0.25 + 0.75 * len(lines) / len(part), title=title)
+            shown = [(bad, BAD), ([line for line in noted if line not in bad], GOOD if name == 'status' else '#57606a')]
+            shown = [pair for pair in shown if pair[0]]
+            for k, (lines, colour) in enumerate(shown):
+                title = '%d of %s from %d to %d' % (len(lines), name, part[0].number, part[-1].number)
+                height = (NOTE_ROW - 8) / len(shown)
+                self.drawing.rect(self.x(begin), self.rows[NOTE, name] + 4 + k * height, self.step * len(part), height, colour,
+                                  fill_opacity=0.25 + 0.75 * len(lines) / len(part), title=title)
 
     def paint_status(self, place, line):
         x, y = self.x(place) + self.step / 2, self.rows[NOTE, 'status'] + NOTE_ROW / 2
@@ -247,7 +250,7 @@ class Chart:
             d.text(16, y + 4, 'A number in a bar: the events that are set from here on, in hexadecimal.', size=11)
         if self.is_dense():
             y += 20
-            d.text(16, y + 4, 'Notes are drawn as how many there are: the darker the more.', size=11)
+            d.text(16, y + 4, 'Notes are drawn as how many there are: the darker the more, and errors above the rest.', size=11)
         return y + 22
 
     def keys(self):

@@ -73,5 +73,5 @@ class Cursor:
         self.place += found
         return found
 
-    def stop(self, what):
-        raise Wrong('%s:%d: %s%s' % (self.name, self.line(), what, HINT))
+    def stop(self, what, line=None):
+        raise Wrong('%s:%d: %s%s' % (self.name, line or self.line(), what, HINT))

@@ -5,7 +5,7 @@ use Rattle.std.specs.List.{range_with_len, sum_by}
 use Rattle.std.proofs.lemmas.List.FromFn.{length-range_with_len}
 use Rattle.std.proofs.lemmas.List.Sums.{sum_by-cons, sum_by-append, sum_by-le}
 use Rattle.std.proofs.lemmas.Nat.{ones-le}
-use lib.Count.{ones_step}
+use Rattle.osek_values.proofs.BitCounts.{bits_counted}
 use Rattle.osek_values.specs.Numbers.{task_no, event_no, alarm_no}
 use Rattle.osek_values.specs.Bits.{has_bit}
 use Rattle.osek_standard.specs.declared.app.App.{App}

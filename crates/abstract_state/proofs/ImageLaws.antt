@@ -29,7 +29,7 @@ use Rattle.image_model.specs.ImageStep.{stays, kept_by, formed_at, formed_by, si
 use Rattle.image_model.specs.Laws.{IsKernelsRun}
 use Rattle.image_model.proofs.KernelRuns.{runs_as_kernel as runs_inside, same_step as step_inside}
 use Rattle.abstract_state.specs.Tables.{Sets, In, Inductive}
-use Rattle.abstract_state.specs.Forms.{Occurs, FormOf, Noted, KnownOf, HasDictatedForms, HasDictatedStatuses, KnowsAtMost}
+use Rattle.abstract_state.specs.Forms.{Occurs, FormOf, Noted, KnownOf, FormFits, KnownFits, Fits, HasDictatedForms, HasDictatedStatuses, KnowsAtMost}
 
 keep_or_some : (b : Bool) (t : TaskNo) → (if b then To (Some t) else Keep) ≡ To None → ⊥
 keep_or_some true t e = cc
@@ -133,27 +133,46 @@ module _ (i : Image) (table : Sets) (s : State) (choice : Bool) (inside : In i.a
       let is : (effect i.app s choice).notes.status ≡ x = h.alone (effect i.app s choice).notes.status noted_here in
       subst (λ (y : Option Status). allows_status (known.Always x) y ≡ true) (sym is) (allows_itself x)
 
-  formed_at_right : HasDictatedForms table i → KnowsAtMost table i → (x : Option Site) → site_at i (here s).block.0 ≡ x → formed_at i.app (effect i.app s choice) x ≡ Some (outcome i.app s choice)
-  formed_at_right forms known None is = refl
-  formed_at_right forms known (Some x) is =
-      let e = effect i.app s choice in
-      let allows = allowed x.known (known (here s).block.0 x.known (ap (option_map (λ (y : Site). y.known)) is)) in
-      ap (λ (b : Bool). if b then formed_by i.app e x.form else None) allows
-      ∙ formed_right x.form (forms (here s).block.0 x.form (ap (option_map (λ (y : Site). y.form)) is))
+  formed_fits : (f : Form) → FormFits i.app table (here s).block.0 f → formed_by i.app (effect i.app s choice) f ≡ Some (outcome i.app s choice)
+  formed_fits f (inl none) = absurd (none (outcome i.app s choice) occurs_here)
+  formed_fits f (inr (inl general)) = ap (formed_by i.app (effect i.app s choice)) general
+  formed_fits f (inr (inr dictated)) = formed_right f dictated
 
-  same_instruction : HasDictatedForms table i → KnowsAtMost table i → instructed i s choice ≡ Some (instruction i.app s choice)
+  known_fits : (k : Known) → KnownFits i.app table (here s).block.0 k → allows_status k (effect i.app s choice).notes.status ≡ true
+  known_fits k (inl none) = absurd (none (outcome i.app s choice) occurs_here)
+  known_fits k (inr most) = allowed k most
+
+  formed_at_fits : Fits table i → (x : Option Site) → site_at i (here s).block.0 ≡ x → formed_at i.app (effect i.app s choice) x ≡ Some (outcome i.app s choice)
+  formed_at_fits fits None is = refl
+  formed_at_fits fits (Some x) is =
+      let e = effect i.app s choice in
+      let allows = known_fits x.known (fits.statuses (here s).block.0 x.known (ap (option_map (λ (y : Site). y.known)) is)) in
+      ap (λ (b : Bool). if b then formed_by i.app e x.form else None) allows
+      ∙ formed_fits x.form (fits.forms (here s).block.0 x.form (ap (option_map (λ (y : Site). y.form)) is))
+
+  same_instruction : Fits table i → instructed i s choice ≡ Some (instruction i.app s choice)
   unfolding instructed instruction
-  same_instruction forms known = ap (option_map (concluded i.app (effect i.app s choice))) (formed_at_right forms known (site_at i (here s).block.0) refl)
+  same_instruction fits = ap (option_map (concluded i.app (effect i.app s choice))) (formed_at_fits fits (site_at i (here s).block.0) refl)
 
 module _ (i : Image) (table : Sets) where
-  -- from a state in the table, a step of the image is the kernel's
-  pub same_step : (s : State) (e : Event) → HasDictatedForms table i → KnowsAtMost table i → In i.app table s → image_step i s e ≡ Some (step i.app s e)
-  same_step s e forms known h = step_inside i (In i.app table) (λ s choice h active. same_instruction i table s choice h active forms known) s e h
+  -- from a state in the table, a step of an image that fits is the kernel's
+  pub fitting_step : Fits table i → (s : State) (e : Event) → In i.app table s → image_step i s e ≡ Some (step i.app s e)
+  fitting_step fits s e h = step_inside i (In i.app table) (λ s choice h active. same_instruction i table s choice h active fits) s e h
 
-  -- in each mode over each list of events, the image's trace is the kernel's
+  -- in each mode over each list of events, its trace is the kernel's
+  pub fitting_run : Fits table i → Inductive i.app table → (mode : ModeNo) (es : List Event) → mode.0 < length i.app.modes → IsKernelsRun i mode es
+  fitting_run fits ind mode es there =
+      runs_inside i (In i.app table) (λ s choice h active. same_instruction i table s choice h active fits) ind.step mode es (ind.start mode there)
+
+  -- an image with dictated forms fits
+  pub dictated_fit : HasDictatedForms table i → KnowsAtMost table i → Fits table i
+  dictated_fit forms known = record { forms = λ b f is. inr (inr (forms b f is)); statuses = λ b k is. inr (known b k is) }
+
+  pub same_step : (s : State) (e : Event) → HasDictatedForms table i → KnowsAtMost table i → In i.app table s → image_step i s e ≡ Some (step i.app s e)
+  same_step s e forms known = fitting_step (dictated_fit forms known) s e
+
   pub runs_as_kernel : (mode : ModeNo) (es : List Event) → Inductive i.app table → HasDictatedForms table i → KnowsAtMost table i → mode.0 < length i.app.modes → IsKernelsRun i mode es
-  runs_as_kernel mode es ind forms known there =
-      runs_inside i (In i.app table) (λ s choice h active. same_instruction i table s choice h active forms known) ind.step mode es (ind.start mode there)
+  runs_as_kernel mode es ind forms known = fitting_run (dictated_fit forms known) ind mode es
 
   -- statuses that a table dictates are known at most
   pub dictated_statuses : HasDictatedStatuses table i → KnowsAtMost table i

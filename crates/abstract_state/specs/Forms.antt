@@ -89,6 +89,23 @@ HasDictatedStatuses table i = (b : ℕ) (k : Known) → known_at i b ≡ Some k 
 abbrev pub KnowsAtMost : Sets → Image → Type 0
 KnowsAtMost table i = (b : ℕ) (k : Known) → known_at i b ≡ Some k → (k ≡ known.Any) ⊎ KnownOf i.app table b k
 
+-- no state in the table stands at the block
+abbrev pub IsUnreached : App → Sets → ℕ → Type 0
+IsUnreached app table b = FormOf app table b form.Never
+
+-- the form is the general one, or the one that the table dictates; any is, where no state stands
+abbrev pub FormFits : App → Sets → ℕ → Form → Type 0
+FormFits app table b f = IsUnreached app table b ⊎ (f ≡ form.General) ⊎ FormOf app table b f
+
+-- nothing is known of the status, or what the table says; whatever it is, where no state stands
+abbrev pub KnownFits : App → Sets → ℕ → Known → Type 0
+KnownFits app table b k = IsUnreached app table b ⊎ (k ≡ known.Any) ⊎ KnownOf app table b k
+
+-- An image fits a table of its application: each site has a form that fits, and knows of its status what fits.
+pub record Fits (table : Sets) (i : Image) : Type 0 where
+  pub forms : (b : ℕ) (f : Form) → form_at i b ≡ Some f → FormFits i.app table b f
+  pub statuses : (b : ℕ) (k : Known) → known_at i b ≡ Some k → KnownFits i.app table b k
+
 -- the step dispatches the task that runs anew
 pub record IsAnew (app : App) (s : State) (e : Event) : Type 0 where
   pub task : TaskNo

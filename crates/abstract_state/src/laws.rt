@@ -34,7 +34,7 @@ ghost use Rattle.abstract_state.specs.Tables.{Sets, In, Inductive, IsContained, 
 ghost use Rattle.abstract_state.specs.ValueOrder.{same_part, part_order, IsAscending};
 ghost use Rattle.abstract_state.specs.Domains.{domains, IsSound, IsSoundEntry, IsBelow};
 ghost use Rattle.osek_standard.specs.Outcomes.{Silent, Arrived, Did, shows, IsInstruction, IsArrivalStep};
-ghost use Rattle.abstract_state.specs.Forms.{FormOf, KnownOf, HasDictatedForms, HasDictatedStatuses, KnowsAtMost, Edge};
+ghost use Rattle.abstract_state.specs.Forms.{FormOf, KnownOf, HasDictatedForms, HasDictatedStatuses, KnowsAtMost, Edge, Fits};
 
 /// Containment is a partial order.
 pub fn containment_is_a_partial_order()
@@ -141,10 +141,17 @@ pub fn edges_lead_from_entry_to_entry()
     ensures ends { (app : App) (table : Sets) (p q : Point) → Inductive app table → Edge app table p q → IsTrue (table.entry q) }
 {}
 
-/// An image whose sites have the forms that a table dictates, and know of their statuses what it says or nothing, does the
-/// kernel's steps, and doesn't trap, from each state in the table; and where the table is inductive, its trace is the
-/// kernel's in every mode over every list of events.
+/// An image that fits a table does the kernel's steps, and doesn't trap, from each state in the table; and where the table is
+/// inductive, its trace is the kernel's in every mode over every list of events.
+pub fn fitting_images_are_the_kernel()
+    ensures step { (i : Image) (table : Sets) (s : State) (e : Event) → Fits table i → In i.app table s → image_step i s e ≡ Some (step i.app s e) }
+    ensures run { (i : Image) (table : Sets) (mode : ModeNo) (es : List Event) → Inductive i.app table → Fits table i → mode.0 < length i.app.modes → IsKernelsRun i mode es }
+{}
+
+/// So does an image whose sites have the forms that a table dictates, and know of their statuses what it says or nothing: it
+/// fits.
 pub fn dictated_forms_are_the_kernel()
+    ensures fit { (i : Image) (table : Sets) → HasDictatedForms table i → KnowsAtMost table i → Fits table i }
     ensures step { (i : Image) (table : Sets) (s : State) (e : Event) → HasDictatedForms table i → KnowsAtMost table i → In i.app table s → image_step i s e ≡ Some (step i.app s e) }
     ensures run { (i : Image) (table : Sets) (mode : ModeNo) (es : List Event) → Inductive i.app table → HasDictatedForms table i → KnowsAtMost table i → mode.0 < length i.app.modes → IsKernelsRun i mode es }
 {}

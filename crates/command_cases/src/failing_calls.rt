@@ -1,5 +1,5 @@
 //! Commands whose calls on the shelf, on out and on err fail: each stops with the status and the text of the call that
-//! failed, and leaves a front of what it would have written.
+//! failed, and leaves a prefix of what it would have written.
 use crate::gen_rows::GEN_ONE;
 use crate::rows::ACTIVATION_IMAGE;
 use crate::stored::{CODE, EVENTS, IMAGE, INFO, OIL, SHOW, TRACE, UPGRADED_IMAGE};
@@ -235,17 +235,17 @@ fn first_on_err(faults: &[Fault]) -> Option<u64> {
     first
 }
 
-/// Whether a text stands on err with its status, or a front of it with status 6 where a call on err is to fail.
+/// Whether a text stands on err with its status, or a prefix of it with status 6 where a call on err is to fail.
 fn is_told(seen: &Seen, status: u8, told: &str, faults: &[Fault]) -> bool {
     let whole = seen.status == status && seen.err == told.as_bytes();
-    let front = seen.status == 6
+    let prefix = seen.status == 6
         && seen.err.len() < told.len()
         && told.as_bytes().starts_with(seen.err);
     match first_on_err(faults) {
         None => whole,
-        Some(1) => front && seen.err.is_empty(),
+        Some(1) => prefix && seen.err.is_empty(),
         // A text may come in a single call.
-        Some(_) => whole || front,
+        Some(_) => whole || prefix,
     }
 }
 
@@ -260,7 +260,7 @@ fn stopped(case: &Case, faults: &[Fault], by_bytes: bool, seen: &Seen) -> Option
     found
 }
 
-/// Whether `x` is as it was, or holds a front of the image.
+/// Whether `x` is as it was, or holds a prefix of the image.
 fn is_left(case: &Case, before: Option<&[u8]>, image: Option<&[u8]>) -> bool {
     let begun = match (case.stored, image) {
         (Some(stored), Some(bytes)) => stored.starts_with(bytes),

@@ -3,7 +3,7 @@
 /// A text of repeated parts.
 #[derive(Clone, Copy)]
 pub struct Repeated {
-    pub front: &'static str,
+    pub prefix: &'static str,
     pub part: &'static str,
     pub times: usize,
     pub back: &'static str,
@@ -20,14 +20,14 @@ pub struct LongRow {
 }
 
 const ONE_TASK: Repeated = Repeated {
-    front: "CPU c { OS os; TASK T1 { PRIORITY = 1; AUTOSTART = TRUE; }; };",
+    prefix: "CPU c { OS os; TASK T1 { PRIORITY = 1; AUTOSTART = TRUE; }; };",
     part: "",
     times: 0,
     back: "",
 };
 
 const ENDS: Repeated = Repeated {
-    front: "TASK(T1) { TerminateTask(); }\n",
+    prefix: "TASK(T1) { TerminateTask(); }\n",
     part: "",
     times: 0,
     back: "",
@@ -39,7 +39,7 @@ pub const LONG_ROWS: [LongRow; 6] = [
         name: "blocks at their limit",
         oil: ONE_TASK,
         code: Repeated {
-            front: "TASK(T1) {\n",
+            prefix: "TASK(T1) {\n",
             part: "work 1;\n",
             times: 1_023,
             back: "}\n",
@@ -51,7 +51,7 @@ pub const LONG_ROWS: [LongRow; 6] = [
         name: "blocks beyond their limit",
         oil: ONE_TASK,
         code: Repeated {
-            front: "TASK(T1) {\n",
+            prefix: "TASK(T1) {\n",
             part: "work 1;\n",
             times: 1_024,
             back: "}\n",
@@ -62,7 +62,7 @@ pub const LONG_ROWS: [LongRow; 6] = [
     LongRow {
         name: "a megabyte of spaces",
         oil: Repeated {
-            front: "",
+            prefix: "",
             part: " ",
             times: 1_048_576,
             back: "",
@@ -74,7 +74,7 @@ pub const LONG_ROWS: [LongRow; 6] = [
     LongRow {
         name: "a megabyte and one",
         oil: Repeated {
-            front: "",
+            prefix: "",
             part: " ",
             times: 1_048_577,
             back: "",
@@ -86,7 +86,7 @@ pub const LONG_ROWS: [LongRow; 6] = [
     LongRow {
         name: "an unclosed comment of a megabyte",
         oil: Repeated {
-            front: "/*",
+            prefix: "/*",
             part: "\n",
             times: 1_048_574,
             back: "",
@@ -98,7 +98,7 @@ pub const LONG_ROWS: [LongRow; 6] = [
     LongRow {
         name: "400,000 nines",
         oil: Repeated {
-            front: "",
+            prefix: "",
             part: "9",
             times: 400_000,
             back: "",

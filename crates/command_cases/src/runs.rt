@@ -81,8 +81,8 @@ fn has_each(text: &[u8], lines: &[&str]) -> bool {
 }
 
 /// Whether a line is this one with what is known of a status behind it.
-fn is_known(line: &[u8], front: &[u8]) -> bool {
-    match line.strip_prefix(front) {
+fn is_known(line: &[u8], prefix: &[u8]) -> bool {
+    match line.strip_prefix(prefix) {
         Some(rest) => rest.starts_with(b" known "),
         None => false,
     }
@@ -456,7 +456,7 @@ fn the_rows_of_kinds(rt: HostRuntime) {
 }
 
 fn text_of(alloc: Global, text: &Repeated) -> Result<Vec<u8>, Memory> {
-    let mut bytes = Vec::from_slice(alloc, text.front.as_bytes())?;
+    let mut bytes = Vec::from_slice(alloc, text.prefix.as_bytes())?;
     for _ in 0..text.times {
         bytes.extend_from_slice(text.part.as_bytes())?;
     }
@@ -509,7 +509,7 @@ const LOOP: [(&str, &str); 2] = [
 
 /// The events of a thousand runs.
 const RUNS: Repeated = Repeated {
-    front: "",
+    prefix: "",
     part: "run 0\n",
     times: 1_000,
     back: "",

@@ -1,4 +1,4 @@
-//! What is told on err, and how much of it where a write there fails: with each refusal, status 6 and a front of its text.
+//! What is told on err, and how much of it where a write there fails: with each refusal, status 6 and a prefix of its text.
 ghost use Rattle.std.specs.Prelude.{◌≡◌, Option, Err, codes};
 ghost use Rattle.command_runs.specs.declared.stop.Stop.TheVariants as stop;
 ghost use Rattle.commands.specs.Statuses.{status_of, text_due};

@@ -19,7 +19,7 @@ pub ended_behind : (a b : List ℕ) → HaveEnded a → HaveEnded b → HaveEnde
 ended_behind a b h (inl none) = subst HaveEnded (sym (ap (λ (xs : List ℕ). a ++ xs) none ∙ append-nil a)) h
 ended_behind a b h (inr (before, is)) = inr (a ++ before, ap (λ (xs : List ℕ). a ++ xs) is ∙ sym (append_assoc a before (10 ∷ [])))
 
--- a line went from the front of the bytes ahead with the LF that ends it
+-- a line went from the start of the bytes ahead with the LF that ends it
 pub record EndsLine (ahead line ahead_after : List ℕ) : Type 0 where
   pub lines : List ℕ
   pub parts : ahead ≡ lines ++ ahead_after

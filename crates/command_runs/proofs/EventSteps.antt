@@ -11,7 +11,7 @@ use Rattle.image_model.specs.declared.image.Image.{Image}
 use Rattle.image_model.specs.ImageStep.{image_step}
 use Rattle.image_run.specs.Machines.{AtWork, Turn, turned, turned_by, turn}
 use Rattle.image_model.specs.ImageTrace.{trap_line}
-use Rattle.command_runs.specs.Playing.{Given, Puts, PutsFront, line_of, AnswersEvent}
+use Rattle.command_runs.specs.Playing.{Given, Puts, PutsPrefix, line_of, AnswersEvent}
 use Rattle.command_runs.specs.declared.stop.Stop.{Stop}
 use Rattle.command_runs.specs.declared.stop.Stop.TheVariants as stop
 
@@ -40,13 +40,13 @@ event_printed old new i j n s o notes is same prints =
     (inl (refl, refl, subst (λ (k : Image). Puts old new (line_of k n (stepped s notes))) same prints))
 
 pub event_unprinted : (old new : Given) (i j : Image) (n : ℕ) (s : State) (o : Option Stepped) (notes : Notes) (end : Stop) →
-    o ≡ Some (stepped s notes) → j ≡ i → ◌≡◌ {A = Result (Unit {0}) Stop} (Err end) (Err stop.Unprinted) → PutsFront old new (line_of j n (stepped s notes)) →
+    o ≡ Some (stepped s notes) → j ≡ i → ◌≡◌ {A = Result (Unit {0}) Stop} (Err end) (Err stop.Unprinted) → PutsPrefix old new (line_of j n (stepped s notes)) →
     AnswersEvent old new i n s o (Err end)
-event_unprinted old new i j n s o notes end is same unprinted front =
+event_unprinted old new i j n s o notes end is same unprinted prefix =
     subst (λ (x : Option Stepped). AnswersEvent old new i n s x (Err end)) (sym is)
-    (inr (unprinted, subst (λ (k : Image). PutsFront old new (line_of k n (stepped s notes))) same front))
+    (inr (unprinted, subst (λ (k : Image). PutsPrefix old new (line_of k n (stepped s notes))) same prefix))
 
 pub trap_unprinted : (old new : Given) (i : Image) (n : ℕ) (s : State) (o : Option Stepped) (end : Stop) →
-    o ≡ None → ◌≡◌ {A = Result (Unit {0}) Stop} (Err end) (Err stop.Unprinted) → PutsFront old new (trap_line n) → AnswersEvent old new i n s o (Err end)
-trap_unprinted old new i n s o end is unprinted front =
-    subst (λ (x : Option Stepped). AnswersEvent old new i n s x (Err end)) (sym is) (inr (unprinted, front))
+    o ≡ None → ◌≡◌ {A = Result (Unit {0}) Stop} (Err end) (Err stop.Unprinted) → PutsPrefix old new (trap_line n) → AnswersEvent old new i n s o (Err end)
+trap_unprinted old new i n s o end is unprinted prefix =
+    subst (λ (x : Option Stepped). AnswersEvent old new i n s x (Err end)) (sym is) (inr (unprinted, prefix))

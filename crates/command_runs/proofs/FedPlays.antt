@@ -218,7 +218,7 @@ module _ (files : Option Files) (name : List ℕ) (first now next : Given) (i : 
         unread = subst (λ (m : ℕ). Rose (reads m) (reads_after m)) (sym h.size ∙ ap length t.parts) rose;
         prints = subst (Puts first now) (sym due) h.prints;
         back = (plays_fed i f rest k n s).text;
-        front = ap (λ (p : Played). p.text) (h.goes_on rest may) ∙ ap (λ (xs : List ℕ). xs ++ (plays_fed i f rest k n s).text) (sym due);
+        prefix = ap (λ (p : Played). p.text) (h.goes_on rest may) ∙ ap (λ (xs : List ℕ). xs ++ (plays_fed i f rest k n s).text) (sym due);
       })
 
   -- the text is at its end, and nothing is ahead
@@ -252,5 +252,5 @@ read_behind files events reads reads_after first now next text p r e (inr h) =
       unread = s.unread;
       prints = puts_both first now next text (p s.lines).text e s.prints;
       back = s.back;
-      front = ap (λ (xs : List ℕ). text ++ xs) s.front ∙ sym (append_assoc text (p s.lines).text s.back);
+      prefix = ap (λ (xs : List ℕ). text ++ xs) s.prefix ∙ sym (append_assoc text (p s.lines).text s.back);
     }

@@ -3,11 +3,11 @@ use Rattle.std.proofs.Common.{◌≡◌, ℕ, List, [], ◌++◌, Option, Some, 
 use Rattle.std.proofs.lemmas.List.{append-nil}
 use Rattle.osek_io.specs.Counts.{Rose}
 use Rattle.osek_io.specs.Pieces.{grown}
-use Rattle.osek_io.specs.Stored.{WritesPart}
+use Rattle.osek_io.specs.Stored.{WritesProperPrefix}
 use Rattle.osek_io.specs.Sunk.{Sunk, Writes}
-use Rattle.command_runs.specs.Playing.{Given, given, Puts, PutsFront}
-use Rattle.command_runs.specs.Telling.{Breaks, WritesFront}
-use Rattle.command_runs.proofs.Fronts.{grown-grown, front_of_part, front_of_first, front_behind}
+use Rattle.command_runs.specs.Playing.{Given, given, Puts, PutsPrefix}
+use Rattle.command_runs.specs.Telling.{Breaks, WritesPrefix}
+use Rattle.command_runs.proofs.Prefixes.{grown-grown, prefix_of_proper, prefix_of_first, prefix_behind}
 
 pub grown-nil : (old : Option (List ℕ)) → old ≡ grown old []
 grown-nil None = refl
@@ -25,15 +25,15 @@ pub puts_both : (p q r : Given) (a b : List ℕ) → Puts p q a → Puts q r b �
 puts_both p q r a b (n, (f, e, w)) (o, (h, k, v)) =
     (o ∙ n, (f ++ h, parted p.held a b f h r.held q.held e k, v ∙ ap (λ (x : Option (List ℕ)). grown x h) w ∙ grown-grown p.out.written f h))
 
--- a front of the first of two texts is one of both
-pub puts_front_of_first : (p q : Given) (a b : List ℕ) → PutsFront p q a → PutsFront p q (a ++ b)
-puts_front_of_first p q a b ((rose, (front, back, e, w)), none) =
-    ((rose, (front, back ++ b, sym (append_assoc p.held a b) ∙ ap (λ (xs : List ℕ). xs ++ b) e ∙ append_assoc front back b, w)), none)
+-- a prefix of the first of two texts is one of both
+pub puts_prefix_of_first : (p q : Given) (a b : List ℕ) → PutsPrefix p q a → PutsPrefix p q (a ++ b)
+puts_prefix_of_first p q a b ((rose, (prefix, back, e, w)), none) =
+    ((rose, (prefix, back ++ b, sym (append_assoc p.held a b) ∙ ap (λ (xs : List ℕ). xs ++ b) e ∙ append_assoc prefix back b, w)), none)
 
--- a front of the second, behind all of the first
-pub puts_front_behind : (p q r : Given) (a b : List ℕ) → Puts p q a → PutsFront q r b → PutsFront p r (a ++ b)
-puts_front_behind p q r a b (n, (f, e, w)) ((rose, (front, back, k, v)), none) = (
-  (subst (λ (m : ℕ). Rose m r.out.faults) n rose, (f ++ front, back, parted p.held a b f front back q.held e k, v ∙ ap (λ (x : Option (List ℕ)). grown x front) w ∙ grown-grown p.out.written f front)),
+-- a prefix of the second, behind all of the first
+pub puts_prefix_behind : (p q r : Given) (a b : List ℕ) → Puts p q a → PutsPrefix q r b → PutsPrefix p r (a ++ b)
+puts_prefix_behind p q r a b (n, (f, e, w)) ((rose, (prefix, back, k, v)), none) = (
+  (subst (λ (m : ℕ). Rose m r.out.faults) n rose, (f ++ prefix, back, parted p.held a b f prefix back q.held e k, v ∙ ap (λ (x : Option (List ℕ)). grown x prefix) w ∙ grown-grown p.out.written f prefix)),
   none,
 )
 
@@ -41,8 +41,8 @@ puts_front_behind p q r a b (n, (f, e, w)) ((rose, (front, back, k, v)), none) =
 pub puts_held : (p q : Given) → q.out.faults ≡ p.out.faults → q.out.written ≡ grown p.out.written p.held → q.held ≡ [] → Puts p q []
 puts_held p q n w none = (n, (p.held, ap (λ (xs : List ℕ). p.held ++ xs) (sym none), w))
 
-pub part_of_held : (p q : Given) → Rose p.out.faults q.out.faults → WritesPart p.out.written q.out.written p.held → q.held ≡ [] → PutsFront p q []
-part_of_held p q rose part none = ((rose, front_of_first p.out.written q.out.written p.held [] (front_of_part p.out.written q.out.written p.held part)), none)
+pub prefix_of_held : (p q : Given) → Rose p.out.faults q.out.faults → WritesProperPrefix p.out.written q.out.written p.held → q.held ≡ [] → PutsPrefix p q []
+prefix_of_held p q rose part none = ((rose, prefix_of_first p.out.written q.out.written p.held [] (prefix_of_proper p.out.written q.out.written p.held part)), none)
 
 -- what was held back was written, and a text behind it
 pub puts_past : (p q : Given) (mid : Sunk) (text : List ℕ) → Writes p.out mid p.held → Writes mid q.out text → q.held ≡ [] → Puts p q text
@@ -55,17 +55,17 @@ puts_past p q mid text (n, m) (o, w) none = (
   ),
 )
 
-pub front_past : (p q : Given) (mid : Sunk) (text : List ℕ) → Writes p.out mid p.held → Breaks mid q.out text → q.held ≡ [] → PutsFront p q text
-front_past p q mid text (n, m) (rose, front) none = ((subst (λ (k : ℕ). Rose k q.out.faults) n rose, front_behind p.out.written mid.written q.out.written p.held text m front), none)
+pub prefix_past : (p q : Given) (mid : Sunk) (text : List ℕ) → Writes p.out mid p.held → Breaks mid q.out text → q.held ≡ [] → PutsPrefix p q text
+prefix_past p q mid text (n, m) (rose, prefix) none = ((subst (λ (k : ℕ). Rose k q.out.faults) n rose, prefix_behind p.out.written mid.written q.out.written p.held text m prefix), none)
 
 -- a text was put where nothing was held back, and then what was held back of it was written
 pub puts_flushed : (first : Sunk) (mid : Given) (last : Sunk) (text : List ℕ) → Puts (given first []) mid text → Writes mid.out last mid.held → Writes first last text
 puts_flushed first mid last text (n, (f, parts, w)) (o, e) =
     (o ∙ n, e ∙ ap (λ (x : Option (List ℕ)). grown x mid.held) w ∙ grown-grown first.written f mid.held ∙ ap (grown first.written) (sym parts))
 
--- or a front of what was held back
-pub flush_breaks : (first : Sunk) (mid : Given) (last : Sunk) (text : List ℕ) → Puts (given first []) mid text → Rose mid.out.faults last.faults → WritesPart mid.out.written last.written mid.held → Breaks first last text
+-- or a prefix of what was held back
+pub flush_breaks : (first : Sunk) (mid : Given) (last : Sunk) (text : List ℕ) → Puts (given first []) mid text → Rose mid.out.faults last.faults → WritesProperPrefix mid.out.written last.written mid.held → Breaks first last text
 flush_breaks first mid last text (n, (f, parts, w)) rose part = (
   subst (λ (m : ℕ). Rose m last.faults) n rose,
-  subst (WritesFront first.written last.written) (sym parts) (front_behind first.written mid.out.written last.written f mid.held w (front_of_part mid.out.written last.written mid.held part)),
+  subst (WritesPrefix first.written last.written) (sym parts) (prefix_behind first.written mid.out.written last.written f mid.held w (prefix_of_proper mid.out.written last.written mid.held part)),
 )

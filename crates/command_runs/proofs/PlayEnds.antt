@@ -4,7 +4,7 @@ use Rattle.std.specs.declared.result.Result.{Result}
 use Rattle.osek_io.specs.Counts.{Rose}
 use Rattle.osek_io.specs.Files.{Files}
 use Rattle.osek_io.specs.Pieces.{grown}
-use Rattle.osek_io.specs.Stored.{WritesPart}
+use Rattle.osek_io.specs.Stored.{WritesProperPrefix}
 use Rattle.osek_io.specs.Sunk.{Sunk, Writes}
 use Rattle.command_runs.specs.Playing.{Given, given, Puts, Played, StopsBehind, HeldAnswers, PlayAnswers, HeldReadAnswers, ReadAnswers}
 use Rattle.command_runs.specs.Telling.{Breaks}
@@ -13,9 +13,9 @@ use Rattle.command_runs.specs.declared.stop.Stop.TheVariants as stop
 use Rattle.command_runs.proofs.GivenTexts.{grown-nil, puts_flushed, flush_breaks}
 use Rattle.command_runs.proofs.InputFiles.{of_map}
 
--- nothing is no front of which more was to come
-no_part : (old new : Option (List ℕ)) (held : List ℕ) → held ≡ [] → WritesPart old new held → ⊥
-no_part old new held none part = let few = part.1 in omega (arith, few, ap length none)
+-- nothing is no prefix of which more was to come
+no_proper_prefix : (old new : Option (List ℕ)) (held : List ℕ) → held ≡ [] → WritesProperPrefix old new held → ⊥
+no_proper_prefix old new held none part = let few = part.1 in omega (arith, few, ap length none)
 
 module _ (files : Option Files) (events : List ℕ) (reads reads_after : ℕ → ℕ) (first : Sunk) (mid : Given) (last : Sunk) where
   module _ (all : Writes mid.out last mid.held) where
@@ -38,7 +38,7 @@ module _ (files : Option Files) (events : List ℕ) (reads reads_after : ℕ →
       unread = s.unread;
       prints = puts_flushed first mid last (play s.lines).text s.prints all;
       back = s.back;
-      front = s.front;
+      prefix = s.prefix;
     }
 
     -- all that was held back was printed
@@ -46,12 +46,12 @@ module _ (files : Option Files) (events : List ℕ) (reads reads_after : ℕ →
     all_printed play r (inl h) = inl (h.0, of_map files events _ _ (λ t x. (x.0, ended (play t) r x.1)) h.1)
     all_printed play r (inr h) = inr (h.0, of_map files events _ _ (λ t x. (x.0, stopped play t x.1)) h.2)
 
-  module _ (rose : Rose mid.out.faults last.faults) (part : WritesPart mid.out.written last.written mid.held) where
+  module _ (rose : Rose mid.out.faults last.faults) (part : WritesProperPrefix mid.out.written last.written mid.held) where
     unprinted : (p : Played) (r : Result (Unit {0}) Stop) → HeldAnswers (given first []) mid p r → PlayAnswers first last p (Err stop.Unprinted)
     unprinted p r (inl (is, prints)) = inr (refl, flush_breaks first mid last p.text prints rose part)
-    unprinted p r (inr (is, (breaks, none))) = absurd (no_part mid.out.written last.written mid.held none part)
+    unprinted p r (inr (is, (breaks, none))) = absurd (no_proper_prefix mid.out.written last.written mid.held none part)
 
-    -- a front of it was printed
-    pub front_printed : (play : List ℕ → Played) (r : Result (Unit {0}) Stop) → HeldReadAnswers files events reads reads_after (given first []) mid play r → ReadAnswers files events reads reads_after first last play (Err stop.Unprinted)
-    front_printed play r (inl h) = inl (h.0, of_map files events _ _ (λ t x. (x.0, unprinted (play t) r x.1)) h.1)
-    front_printed play r (inr h) = absurd (no_part mid.out.written last.written mid.held h.1 part)
+    -- a prefix of it was printed
+    pub prefix_printed : (play : List ℕ → Played) (r : Result (Unit {0}) Stop) → HeldReadAnswers files events reads reads_after (given first []) mid play r → ReadAnswers files events reads reads_after first last play (Err stop.Unprinted)
+    prefix_printed play r (inl h) = inl (h.0, of_map files events _ _ (λ t x. (x.0, unprinted (play t) r x.1)) h.1)
+    prefix_printed play r (inr h) = absurd (no_proper_prefix mid.out.written last.written mid.held h.1 part)

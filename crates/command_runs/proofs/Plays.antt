@@ -9,16 +9,16 @@ use Rattle.image_model.specs.declared.image.Image.{Image}
 use Rattle.image_model.specs.ImageStep.{image_step}
 use Rattle.trace_text.specs.declared.fault.EventFault.{EventFault}
 use Rattle.osek_io.specs.Counts.{Rose}
-use Rattle.command_runs.specs.Playing.{Played, played, printing, plays, played_line, played_after, line_of, Given, Puts, PutsFront, AnswersEvent, GoesOn, HeldAnswers}
+use Rattle.command_runs.specs.Playing.{Played, played, printing, plays, played_line, played_after, line_of, Given, Puts, PutsPrefix, AnswersEvent, GoesOn, HeldAnswers}
 use Rattle.command_runs.specs.declared.stop.Stop.{Stop}
 use Rattle.command_runs.specs.declared.stop.Stop.TheVariants as stop
 use Rattle.osek_values.specs.declared.notes.Notes.{Notes}
 use Rattle.osek_standard.specs.declared.app.App.{App}
 use Rattle.osek_standard.specs.Dispatch.{stepped}
 use Rattle.osek_standard.specs.TraceText.{line_text}
-use Rattle.osek_io.specs.Stored.{WritesPart}
-use Rattle.command_runs.proofs.Fronts.{front_of_part}
-use Rattle.command_runs.proofs.GivenTexts.{puts_nothing, puts_both, puts_front_of_first, puts_front_behind}
+use Rattle.osek_io.specs.Stored.{WritesProperPrefix}
+use Rattle.command_runs.proofs.Prefixes.{prefix_of_proper}
+use Rattle.command_runs.proofs.GivenTexts.{puts_nothing, puts_both, puts_prefix_of_first, puts_prefix_behind}
 
 pub printing-printing : (a b : List ℕ) (p : Played) → printing a (printing b p) ≡ printing (a ++ b) p
 printing-printing a b p = ap (λ (l : List ℕ). played l p.end) (sym (append_assoc a b p.text))
@@ -56,7 +56,7 @@ line_ends old new i n s t number r e None end is step (inr h) more =
 line_ends old new i n s t number r e (Some x) end is step (inl h) more = absurd (cc (h.0))
 line_ends old new i n s t number r e (Some x) end is step (inr h) more =
     subst (λ (p : Played). HeldAnswers old new p (Err end)) (sym (ap (played_line i n s number more) is ∙ ap (played_after i n (more (n + 1))) step))
-    (inr (h.0, puts_front_of_first old new (line_of i n x) (more (n + 1) x.state).text h.1))
+    (inr (h.0, puts_prefix_of_first old new (line_of i n x) (more (n + 1) x.state).text h.1))
 
 -- how far a play has come: what was printed, and the lines that are ahead
 pub record Came (first now : Given) (play : Played) (i : Image) (lines : List (ℕ × List ℕ)) (n : ℕ) (s : State) : Type 0 where
@@ -70,7 +70,7 @@ pub came_to_end : (first now next : Given) (play : Played) (i : Image) (lines : 
 came_to_end first now next play i lines n s r (inl h) c =
     inl (h.0 ∙ sym (ap (λ (p : Played). p.end) c.rest), subst (Puts first next) (sym (ap (λ (p : Played). p.text) c.rest)) (puts_both first now next c.text (plays i lines n s).text c.prints h.1))
 came_to_end first now next play i lines n s r (inr h) c =
-    inr (h.0, subst (PutsFront first next) (sym (ap (λ (p : Played). p.text) c.rest)) (puts_front_behind first now next c.text (plays i lines n s).text c.prints h.1))
+    inr (h.0, subst (PutsPrefix first next) (sym (ap (λ (p : Played). p.text) c.rest)) (puts_prefix_behind first now next c.text (plays i lines n s).text c.prints h.1))
 
 -- what is put is the line
 line_is : (app seen : App) (n : ℕ) (s t : State) (notes : Notes) (text : List ℕ) → text ≡ line_text seen n (stepped t notes) ++ 10 ∷ [] → seen ≡ app → t ≡ s → text ≡ line_text app n (stepped s notes) ++ 10 ∷ []
@@ -80,10 +80,10 @@ pub line_put : (old new : Given) (app seen : App) (n : ℕ) (s t : State) (notes
     text ≡ line_text seen n (stepped t notes) ++ 10 ∷ [] → seen ≡ app → t ≡ s → Puts old new text → Puts old new (line_text app n (stepped s notes) ++ 10 ∷ [])
 line_put old new app seen n s t notes text e a b p = subst (Puts old new) (line_is app seen n s t notes text e a b) p
 
-pub line_front : (old new : Given) (app seen : App) (n : ℕ) (s t : State) (notes : Notes) (text : List ℕ) →
-    text ≡ line_text seen n (stepped t notes) ++ 10 ∷ [] → seen ≡ app → t ≡ s → Rose old.out.faults new.out.faults → WritesPart old.out.written new.out.written (old.held ++ text) → new.held ≡ [] → PutsFront old new (line_text app n (stepped s notes) ++ 10 ∷ [])
-line_front old new app seen n s t notes text e a b rose p none =
-    subst (PutsFront old new) (line_is app seen n s t notes text e a b) ((rose, front_of_part old.out.written new.out.written (old.held ++ text) p), none)
+pub line_prefix : (old new : Given) (app seen : App) (n : ℕ) (s t : State) (notes : Notes) (text : List ℕ) →
+    text ≡ line_text seen n (stepped t notes) ++ 10 ∷ [] → seen ≡ app → t ≡ s → Rose old.out.faults new.out.faults → WritesProperPrefix old.out.written new.out.written (old.held ++ text) → new.held ≡ [] → PutsPrefix old new (line_text app n (stepped s notes) ++ 10 ∷ [])
+line_prefix old new app seen n s t notes text e a b rose p none =
+    subst (PutsPrefix old new) (line_is app seen n s t notes text e a b) ((rose, prefix_of_proper old.out.written new.out.written (old.held ++ text) p), none)
 
 -- a text, and then a play
 pub printed_first : (first now next : Given) (text : List ℕ) (p : Played) (r : Result (Unit {0}) Stop) →
@@ -91,8 +91,8 @@ pub printed_first : (first now next : Given) (text : List ℕ) (p : Played) (r :
 printed_first first now next text p r e (inl h) =
     inl (h.0, puts_both first now next text p.text e h.1)
 printed_first first now next text p r e (inr h) =
-    inr (h.0, puts_front_behind first now next text p.text e h.1)
+    inr (h.0, puts_prefix_behind first now next text p.text e h.1)
 
 pub first_fails : (first next : Given) (text : List ℕ) (p : Played) (end : Stop) → end ≡ stop.Unprinted →
-    PutsFront first next text → HeldAnswers first next (printing text p) (Err end)
-first_fails first next text p end is h = inr (ap (λ (e : Stop). Err e) is, puts_front_of_first first next text p.text h)
+    PutsPrefix first next text → HeldAnswers first next (printing text p) (Err end)
+first_fails first next text p end is h = inr (ap (λ (e : Stop). Err e) is, puts_prefix_of_first first next text p.text h)

@@ -36,7 +36,7 @@ stops_as reads reads_after Prints p q same text short s =
       unread = s.unread;
       prints = subst Prints due s.prints;
       back = s.back;
-      front = sym (ap (λ (x : Played). x.text) (same text short)) ∙ s.front ∙ ap (λ (xs : List ℕ). xs ++ s.back) due;
+      prefix = sym (ap (λ (x : Played). x.text) (same text short)) ∙ s.prefix ∙ ap (λ (xs : List ℕ). xs ++ s.back) due;
     }
 
 -- the run of the image under the text that was read

@@ -33,13 +33,13 @@ pub record Given : Type 0 where
 abbrev pub given : Sunk → List ℕ → Given
 given out held = record { out = out; held = held }
 
--- The text was put behind what was held back: a front of both was written, no write failed, and the rest is held back.
+-- The text was put behind what was held back: a prefix of both was written, no write failed, and the rest is held back.
 abbrev pub Puts : Given → Given → (text : List ℕ) → Type 0
 Puts old new text = (new.out.faults ≡ old.out.faults) × PassesOn old.out.written new.out.written (old.held ++ text) new.held
 
--- A write failed: a front of both was written, and nothing is held back.
-abbrev pub PutsFront : Given → Given → (text : List ℕ) → Type 0
-PutsFront old new text = Breaks old.out new.out (old.held ++ text) × (new.held ≡ [])
+-- A write failed: a prefix of both was written, and nothing is held back.
+abbrev pub PutsPrefix : Given → Given → (text : List ℕ) → Type 0
+PutsPrefix old new text = Breaks old.out new.out (old.held ++ text) × (new.held ≡ [])
 
 -- what is printed, and at a stop why
 pub record Played : Type 0 where
@@ -70,15 +70,15 @@ abbrev pub plays : Image → List (ℕ × List ℕ) → ℕ → State → Played
 plays i [] n s = played [] (Ok tt)
 plays i (line ∷ more) n s = played_line i n s line.0 (plays i more) (read_line i.app line.1)
 
--- What playing event n answers and leaves: the line of the step, or of a trap, was printed; or a front of it, where a
+-- What playing event n answers and leaves: the line of the step, or of a trap, was printed; or a prefix of it, where a
 -- write failed.
 abbrev pub AnswersEvent : Given → Given → Image → ℕ → State → Option Stepped → Result (Unit {0}) Stop → Type 0
 AnswersEvent printed printed_after i n s None r =
     ((r ≡ Err stop.Trapped) × Puts printed printed_after (trap_line n))
-    ⊎ ((r ≡ Err stop.Unprinted) × PutsFront printed printed_after (trap_line n))
+    ⊎ ((r ≡ Err stop.Unprinted) × PutsPrefix printed printed_after (trap_line n))
 AnswersEvent printed printed_after i n s (Some x) r =
     ((r ≡ Ok tt) × (s ≡ x.state) × Puts printed printed_after (line_of i n x))
-    ⊎ ((r ≡ Err stop.Unprinted) × PutsFront printed printed_after (line_of i n x))
+    ⊎ ((r ≡ Err stop.Unprinted) × PutsPrefix printed printed_after (line_of i n x))
 
 -- What playing a line answers and leaves, whatever comes after it: how many events there were next, in which state, what
 -- was printed; or an end of the play.
@@ -97,7 +97,7 @@ PlayAnswers out out_after p r =
 abbrev pub HeldAnswers : Given → Given → Played → Result (Unit {0}) Stop → Type 0
 HeldAnswers printed printed_after p r =
     ((r ≡ p.end) × Puts printed printed_after p.text)
-    ⊎ ((r ≡ Err stop.Unprinted) × PutsFront printed printed_after p.text)
+    ⊎ ((r ≡ Err stop.Unprinted) × PutsPrefix printed printed_after p.text)
 
 abbrev pub AnswersLine : Given → Given → ((ℕ → State → Played) → Played) → State → Result ℕ Stop → Type 0
 AnswersLine printed printed_after line s (Ok next) = GoesOn printed printed_after line next s
@@ -119,7 +119,7 @@ HaveEnded lines = (lines ≡ []) ⊎ ((before : List ℕ) × (lines ≡ before +
 abbrev pub HasNoEnd : List ℕ → Type 0
 HasNoEnd begun = position (λ c. c == 10) begun ≡ None
 
--- Lines went from the front of the bytes ahead: they have ended, and what the play of them prints needs nothing behind them.
+-- Lines went from the start of the bytes ahead: they have ended, and what the play of them prints needs nothing behind them.
 pub record TakesLines (ahead ahead_after : List ℕ) (i : Image) (k n : ℕ) (s : State) (l m : ℕ) (t : State) (text : List ℕ) : Type 0 where
   pub lines : List ℕ
   pub parts : ahead ≡ lines ++ ahead_after
@@ -134,7 +134,7 @@ pub record PlaysOn (printed printed_after : Given) (i : Image) (f g : FeedState)
   pub takes : f.finished ≡ false → TakesLines f.ahead g.ahead i k n s l m t text
 
 -- A read of a text failed behind its lines that have ended and a line that has begun. All that the play of those lines prints
--- was printed: it is the front of what the play of the whole text prints.
+-- was printed: it is the prefix of what the play of the whole text prints.
 pub record StopsBehind (reads reads_after : ℕ → ℕ) (Prints : List ℕ → Type 0) (play : List ℕ → Played) (text : List ℕ) : Type 0 where
   pub lines : List ℕ
   pub begun : List ℕ
@@ -145,7 +145,7 @@ pub record StopsBehind (reads reads_after : ℕ → ℕ) (Prints : List ℕ → 
   pub unread : Rose (reads (length (lines ++ begun))) (reads_after (length (lines ++ begun)))
   pub prints : Prints (play lines).text
   pub back : List ℕ
-  pub front : (play text).text ≡ (play lines).text ++ back
+  pub prefix : (play text).text ≡ (play lines).text ++ back
 
 -- What is left of a play of an event text that is read as it goes, in which at most one read or write fails. It was played
 -- to its end, and no read failed; or a read failed and no write, so that all that was due of the text so far had been

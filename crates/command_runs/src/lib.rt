@@ -13,7 +13,7 @@ mod upgrading;
 
 pub use inputs::load_input;
 pub use replaying::{load_image, replay};
-pub use running::{front, line_room, run};
+pub use running::{prefix, line_room, run};
 pub use stop::{Input, Stop};
 pub use tell::{put_two, tell_fault};
 pub use upgrading::upgrade;

@@ -5,12 +5,12 @@ ghost use Rattle.osek_standard.specs.Dispatch.{stepped};
 ghost use Rattle.osek_standard.specs.TraceText.{line_text};
 ghost use Rattle.osek_io.specs.Counts.{Rose};
 ghost use Rattle.osek_io.specs.Reads.{OnlyReads};
-ghost use Rattle.osek_io.specs.Stored.{WritesPart};
+ghost use Rattle.osek_io.specs.Stored.{WritesProperPrefix};
 ghost use Rattle.osek_io.specs.Sunk.{sunk, Writes};
 ghost use Rattle.image_model.specs.ImageStep.{image_step};
 ghost use Rattle.image_model.specs.ImageTrace.{trap_line};
 ghost use Rattle.command_runs.specs.Inputs.{OfFile};
-ghost use Rattle.command_runs.specs.Playing.{plays, plays_fed, played_line, given, Puts, PutsFront, MayFollow, HasNoEnd, PlaysOn, HeldAnswers, HeldReadAnswers, AnswersEvent, AnswersLine};
+ghost use Rattle.command_runs.specs.Playing.{plays, plays_fed, played_line, given, Puts, PutsPrefix, MayFollow, HasNoEnd, PlaysOn, HeldAnswers, HeldReadAnswers, AnswersEvent, AnswersLine};
 ghost use Rattle.trace_text.specs.EventWords.{read_line};
 ghost use Rattle.trace_text.specs.EventText.{numbered_lines};
 ghost use Rattle.trace_text.specs.Feeds.{no_bytes};
@@ -42,7 +42,7 @@ pub fn print_line<O: Sink>(
     requires { ArePartsOf machine.now.image.app parts.old }
     ensures parts { ArePartsOf machine.now.image.app parts.new }
     ensures ok { OnOk result (Puts (given (sunk O.Sink out.old) buffer.old) (given (sunk O.Sink out.new) buffer.new) (line_text machine.now.image.app number (stepped machine.now.state notes.now) ++ 10 ∷ [])) }
-    ensures front { OnErr result (PutsFront (given (sunk O.Sink out.old) buffer.old) (given (sunk O.Sink out.new) buffer.new) (line_text machine.now.image.app number (stepped machine.now.state notes.now) ++ 10 ∷ [])) }
+    ensures prefix { OnErr result (PutsPrefix (given (sunk O.Sink out.old) buffer.old) (given (sunk O.Sink out.new) buffer.new) (line_text machine.now.image.app number (stepped machine.now.state notes.now) ++ 10 ∷ [])) }
     ensures error { OnErr result (result ≡ Err Unprinted) }
 {
     parts.show(machine.app(), machine.state());
@@ -62,7 +62,7 @@ pub fn print_line<O: Sink>(
 /// Prints what is held back.
 pub fn print_held<O: Sink>(out: &mut O, buffer: &mut PutBuffer) -> Result<(), Stop>
     ensures ok { OnOk result (Writes (sunk O.Sink out.old) (sunk O.Sink out.new) buffer.old) }
-    ensures part { OnErr result (WritesPart (O.written out.old) (O.written out.new) buffer.old) }
+    ensures prefix { OnErr result (WritesProperPrefix (O.written out.old) (O.written out.new) buffer.old) }
     ensures nothing_held { buffer.new ≡ [] }
     ensures cause { OnErr result (Rose (O.faults out.old) (O.faults out.new)) }
     ensures error { OnErr result (result ≡ Err Unprinted) }
@@ -76,7 +76,7 @@ pub fn print_held<O: Sink>(out: &mut O, buffer: &mut PutBuffer) -> Result<(), St
 /// Prints the line of a trap at event n, behind what is held back.
 fn print_trap<O: Sink>(out: &mut O, buffer: &mut PutBuffer, number: u64) -> Result<(), Stop>
     ensures ok { OnOk result (Puts (given (sunk O.Sink out.old) buffer.old) (given (sunk O.Sink out.new) buffer.new) (trap_line number)) }
-    ensures front { OnErr result (PutsFront (given (sunk O.Sink out.old) buffer.old) (given (sunk O.Sink out.new) buffer.new) (trap_line number)) }
+    ensures prefix { OnErr result (PutsPrefix (given (sunk O.Sink out.old) buffer.old) (given (sunk O.Sink out.new) buffer.new) (trap_line number)) }
     ensures error { OnErr result (result ≡ Err Unprinted) }
 {
     match print_held(out, buffer) {

@@ -166,8 +166,8 @@ pub fn line_room(alloc: Global) -> Result<Vec<u8>, Memory>
     Ok(vec![in alloc; 0u8; LINE_MAX]?)
 }
 
-/// The front of a buffer.
-pub fn front(buffer: &[u8], size: usize) -> &[u8]
+/// The prefix of a buffer.
+pub fn prefix(buffer: &[u8], size: usize) -> &[u8]
     requires { size ≤ length buffer.now }
     ensures { result.now ≡ take size buffer.now }
 {

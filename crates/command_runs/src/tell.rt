@@ -3,7 +3,7 @@ ghost use Rattle.std.specs.Prelude.{◌≡◌, ◌≤◌, ◌++◌, OnOk, OnErr,
 ghost use Rattle.std.specs.Fmt.{decimal};
 ghost use Rattle.osek_io.specs.Counts.{Rose};
 ghost use Rattle.osek_io.specs.Pieces.{grown};
-ghost use Rattle.command_runs.specs.Telling.{WritesFront, fault_text};
+ghost use Rattle.command_runs.specs.Telling.{WritesPrefix, fault_text};
 
 use itoa::Buffer;
 use osek_io::{PutError, Sink, put_all};
@@ -11,7 +11,7 @@ use osek_io::{PutError, Sink, put_all};
 /// Tells a word and what is said of it.
 pub fn put_two<E: Sink>(err: &mut E, first: &[u8], second: &[u8]) -> Result<(), PutError>
     ensures ok { OnOk result (E.written err.new ≡ grown (E.written err.old) (first.now ++ second.now)) }
-    ensures front { OnErr result (WritesFront (E.written err.old) (E.written err.new) (first.now ++ second.now)) }
+    ensures prefix { OnErr result (WritesPrefix (E.written err.old) (E.written err.new) (first.now ++ second.now)) }
     ensures cause { OnErr result (Rose (E.faults err.old) (E.faults err.new)) }
     ensures no_fault { OnOk result (E.faults err.new ≡ E.faults err.old) }
     ensures never_falls { E.faults err.old ≤ E.faults err.new }
@@ -29,7 +29,7 @@ pub fn put_three<E: Sink>(
     third: &[u8],
 ) -> Result<(), PutError>
     ensures ok { OnOk result (E.written err.new ≡ grown (E.written err.old) (first.now ++ second.now ++ third.now)) }
-    ensures front { OnErr result (WritesFront (E.written err.old) (E.written err.new) (first.now ++ second.now ++ third.now)) }
+    ensures prefix { OnErr result (WritesPrefix (E.written err.old) (E.written err.new) (first.now ++ second.now ++ third.now)) }
     ensures cause { OnErr result (Rose (E.faults err.old) (E.faults err.new)) }
     ensures no_fault { OnOk result (E.faults err.new ≡ E.faults err.old) }
     ensures never_falls { E.faults err.old ≤ E.faults err.new }
@@ -42,7 +42,7 @@ pub fn put_three<E: Sink>(
 /// Tells `FILE:PLACE`.
 fn put_place<E: Sink>(err: &mut E, file: &[u8], place: u64) -> Result<(), PutError>
     ensures ok { OnOk result (E.written err.new ≡ grown (E.written err.old) (file.now ++ codes ":" ++ decimal place)) }
-    ensures front { OnErr result (WritesFront (E.written err.old) (E.written err.new) (file.now ++ codes ":" ++ decimal place)) }
+    ensures prefix { OnErr result (WritesPrefix (E.written err.old) (E.written err.new) (file.now ++ codes ":" ++ decimal place)) }
     ensures cause { OnErr result (Rose (E.faults err.old) (E.faults err.new)) }
     ensures no_fault { OnOk result (E.faults err.new ≡ E.faults err.old) }
     ensures never_falls { E.faults err.old ≤ E.faults err.new }
@@ -60,7 +60,7 @@ pub fn tell_fault<E: Sink>(
     rule: &[u8],
 ) -> Result<(), PutError>
     ensures ok { OnOk result (E.written err.new ≡ grown (E.written err.old) (fault_text file.now place rule.now)) }
-    ensures front { OnErr result (WritesFront (E.written err.old) (E.written err.new) (fault_text file.now place rule.now)) }
+    ensures prefix { OnErr result (WritesPrefix (E.written err.old) (E.written err.new) (fault_text file.now place rule.now)) }
     ensures cause { OnErr result (Rose (E.faults err.old) (E.faults err.new)) }
     ensures no_fault { OnOk result (E.faults err.new ≡ E.faults err.old) }
     ensures never_falls { E.faults err.old ≤ E.faults err.new }

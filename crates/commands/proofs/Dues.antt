@@ -63,7 +63,7 @@ module _ (files : Files) (after : Outside) (reads : ReadFaults) (writes : ℕ) (
         inr (subst (RunDue files app traps mode events) (over_ends app traps m text (starts m) over) (ends m text named holds))
     run_due app trace traps mode events starts _ (running.stops m s named no_memory same) = inl refl
     run_due app trace traps mode events starts _ (running.plays m r named same (text, holds, (within, inl (is, prints)))) = inr (subst (RunDue files app traps mode events) (sym is) (ends m text named holds))
-    run_due app trace traps mode events starts _ (running.plays m r named same (text, holds, (within, inr (is, (rose, front))))) = absurd (calm.out rose)
+    run_due app trace traps mode events starts _ (running.plays m r named same (text, holds, (within, inr (is, (rose, prefix))))) = absurd (calm.out rose)
     run_due app trace traps mode events starts _ (running.unread_on m named (text, holds, (within, behind))) = absurd (calm.reads events (length (behind.lines ++ behind.begun)) behind.unread)
 
     image_starts : (i : Image) (m : ModeNo) → has_trap i m [] ≡ false

@@ -108,7 +108,7 @@ module _ (app : App) (i : Image) (kernel : IsKernelImage app i) where
             × PlayAnswers before.out after.out (running.whole_run app (image_trace i) (has_trap i) m text) r) → RunStops files r
         played r m named (text, holds, (within, inl (is, prints))) =
             subst (RunStops files) (sym is) (by_end files (has_trap i m (read_text app text).events) (read_text app text).fault (never_due files _ (ends m text named holds)))
-        played r m named (text, holds, (within, inr (is, (rose, front)))) = subst (RunStops files) (sym is) (inl refl)
+        played r m named (text, holds, (within, inr (is, (rose, prefix)))) = subst (RunStops files) (sym is) (inl refl)
 
   -- what was printed by a run in memory that was done
   module _ (before after : Outside) (trace : List ℕ) (empty : before.out.written ≡ Some []) (kept : after.out.written ≡ Some trace) where
@@ -133,7 +133,7 @@ module _ (app : App) (i : Image) (kernel : IsKernelImage app i) where
     run_tells _ (running.unread_on m named text) = tt
     run_tells _ (running.plays m r named same (text, holds, (within, inl (is, prints)))) =
         subst RunTells (sym is) (ended m text named (text, holds, refl) (printed_trace _ prints.1) (has_trap i m (read_text app text).events) (read_text app text).fault refl)
-    run_tells _ (running.plays m r named same (text, holds, (within, inr (is, (rose, front))))) = subst RunTells (sym is) tt
+    run_tells _ (running.plays m r named same (text, holds, (within, inr (is, (rose, prefix))))) = subst RunTells (sym is) tt
 
 -- an application whose run in memory stops
 pub own_due : (told : Option Files) (files : Files) (app : App) → told ≡ Some files → OfApp told oil_name code_name (λ a. a ≡ app) → (s : Stop) →

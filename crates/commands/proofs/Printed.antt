@@ -3,8 +3,8 @@ use Rattle.std.proofs.Common.{◌≡◌, ℕ, suc, ◌<◌, List, [], ◌∷◌,
 use Rattle.std.specs.List.{flat_map}
 use Rattle.std.proofs.lemmas.List.{take-append-drop}
 use Rattle.std.proofs.lemmas.Grind.{flat_map-append}
-use Rattle.command_runs.specs.Playing.{Given, Puts, PutsFront}
-use Rattle.command_runs.proofs.GivenTexts.{puts_both, puts_front_of_first, puts_front_behind}
+use Rattle.command_runs.specs.Playing.{Given, Puts, PutsPrefix}
+use Rattle.command_runs.proofs.GivenTexts.{puts_both, puts_prefix_of_first, puts_prefix_behind}
 
 module _ {X : Type 0} (line : X → List ℕ) (xs : List X) where
   one_line : (x : X) → flat_map line (x ∷ []) ≡ line x
@@ -24,9 +24,9 @@ module _ {X : Type 0} (line : X → List ℕ) (xs : List X) where
   lines_rest : (k : ℕ) → flat_map line xs ≡ flat_map line (take k xs) ++ flat_map line (drop k xs)
   lines_rest k = ap (flat_map line) (sym (take-append-drop k xs)) ∙ flat_map-append line (take k xs) (drop k xs)
 
-  -- a front of the next line, behind the lines before it
-  pub front_of_lines : (old now new : Given) (k : ℕ) (d : X) (text : List ℕ) → k < length xs → text ≡ line (get_or xs k d) → Puts old now (flat_map line (take k xs)) → PutsFront now new text → PutsFront old new (flat_map line xs)
-  front_of_lines old now new k d text lt is before h =
-      let so_far : PutsFront old new (flat_map line (take k xs) ++ text) = puts_front_behind old now new (flat_map line (take k xs)) text before h in
+  -- a prefix of the next line, behind the lines before it
+  pub prefix_of_lines : (old now new : Given) (k : ℕ) (d : X) (text : List ℕ) → k < length xs → text ≡ line (get_or xs k d) → Puts old now (flat_map line (take k xs)) → PutsPrefix now new text → PutsPrefix old new (flat_map line xs)
+  prefix_of_lines old now new k d text lt is before h =
+      let so_far : PutsPrefix old new (flat_map line (take k xs) ++ text) = puts_prefix_behind old now new (flat_map line (take k xs)) text before h in
       let with_line : flat_map line (take k xs) ++ text ≡ flat_map line (take (suc k) xs) = ap (λ (l : List ℕ). flat_map line (take k xs) ++ l) is ∙ sym (lines_next k d lt) in
-      subst (PutsFront old new) (sym (lines_rest (suc k))) (puts_front_of_first old new (flat_map line (take (suc k) xs)) (flat_map line (drop (suc k) xs)) (subst (PutsFront old new) with_line so_far))
+      subst (PutsPrefix old new) (sym (lines_rest (suc k))) (puts_prefix_of_first old new (flat_map line (take (suc k) xs)) (flat_map line (drop (suc k) xs)) (subst (PutsPrefix old new) with_line so_far))

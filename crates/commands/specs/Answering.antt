@@ -1,9 +1,10 @@
 -- What the top call does: a command's answer, and how it is told.
 use Rattle.std.specs.Prelude.{◌≡◌, ◌⊎◌, ℕ, List, Option, Some, None, Result, Err}
-use Rattle.osek_io.specs.Sunk.{Sunk, Writes}
+use Rattle.osek_io.specs.{Counts.{Rose}, Files.{Files}, Sunk.{Sunk, Writes}}
 use Rattle.command_runs.specs.declared.stop.Stop.{Stop}
 use Rattle.command_runs.specs.declared.stop.Stop.TheVariants as stop
 use Rattle.commands.specs.Building.{BuildAnswers}
+use Rattle.commands.specs.Due.{IsCalm, IsDue}
 use Rattle.commands.specs.Generating.{GenAnswers}
 use Rattle.commands.specs.Informing.{InfoAnswers}
 use Rattle.command_runs.specs.Outside.{Outside, SameFiles}
@@ -15,7 +16,7 @@ use Rattle.command_runs.specs.Upgrading.{UpgradeAnswers}
 use Rattle.commands.specs.Tracing.{TraceAnswers}
 use Rattle.commands.specs.Words.{Command, Build, Replay, Trace, Show, Info, Gen, Upgrade}
 
--- err gained the text, no write on it failed, and the status is as given; or one failed: it gained a front, and the status is 6
+-- err gained the text, no write on it failed, and the status is as given; or one failed: it gained a prefix, and the status is 6
 abbrev pub Tells : (err err_after : Sunk) → (text : List ℕ) → (status answered : ℕ) → Type 0
 Tells err err_after text status answered =
     ((answered ≡ status) × Writes err err_after text)
@@ -38,3 +39,13 @@ pub record Does (command : Option Command) (answers : Result (Unit {0}) Stop →
   pub answer : Result (Unit {0}) Stop
   pub does : answers answer
   pub told : tells (text_due command answer) (status_of answer)
+
+-- What the top call does and tells: the command's answer, of which err has the text, and the status.
+abbrev pub Carries : (before after : Outside) (err err_after : Sunk) → Option Command → (status : ℕ) → Type 0
+Carries before after err err_after command status = Does command (CommandAnswers before after command) (λ text due. Tells err err_after text due status)
+
+-- Over files that are told, where no count of faults rose, the status is that of the answer which is due, or memory ran out.
+abbrev pub IsExact : (before after : Outside) (err err_after : Sunk) → Option Command → (status : ℕ) → Type 0
+IsExact before after err err_after command status =
+    (files : Files) (due : Result (Unit {0}) Stop) → before.shelf.files ≡ Some files → IsCalm before after → (Rose err.faults err_after.faults → ⊥) → IsDue files command due
+    → (status ≡ status_of due) ⊎ (status ≡ 7)

@@ -6,7 +6,7 @@ ghost use Rattle.commands.specs.Informing.{InfoAnswers};
 ghost use Rattle.command_runs.specs.Outside.{outside};
 ghost use Rattle.commands.specs.Printing.{PrintsWhole};
 ghost use Rattle.osek_io.specs.Sunk.{sunk};
-ghost use Rattle.command_runs.specs.Playing.{given, Puts, PutsFront};
+ghost use Rattle.command_runs.specs.Playing.{given, Puts, PutsPrefix};
 
 use crate::printing::{print_info, print_sites};
 use command_runs::{Stop, line_room, load_image};
@@ -24,7 +24,7 @@ fn print_image<O: Sink>(
 ) -> Result<(), PutError>
     requires room { LINE_MAX ≤ length line.old }
     ensures ok { OnOk result (Puts (given (sunk O.Sink out.old) buffer.old) (given (sunk O.Sink out.new) buffer.new) (info_text image.now)) }
-    ensures front { OnErr result (PutsFront (given (sunk O.Sink out.old) buffer.old) (given (sunk O.Sink out.new) buffer.new) (info_text image.now)) }
+    ensures prefix { OnErr result (PutsPrefix (given (sunk O.Sink out.old) buffer.old) (given (sunk O.Sink out.new) buffer.new) (info_text image.now)) }
 {
     print_info(out, buffer, image, line)?;
     print_sites(out, buffer, image, image.version, line)?;

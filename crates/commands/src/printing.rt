@@ -5,9 +5,9 @@ ghost use Rattle.global_cfg.specs.declared.graph.FlowEdge.{FlowEdge as AnEdge};
 ghost use Rattle.flow_text.specs.{FlowLines.{edge_line, counts_line, info_line}, Texts.{site_text, sites_text, edges_text}};
 ghost use Rattle.image_model.specs.ImageStep.{site_at as site_of};
 ghost use Rattle.osek_io.specs.Sunk.{sunk};
-ghost use Rattle.command_runs.specs.Playing.{given, Puts, PutsFront};
+ghost use Rattle.command_runs.specs.Playing.{given, Puts, PutsPrefix};
 
-use command_runs::front;
+use command_runs::prefix;
 use flow_text::{write_counts_line, write_edge_line, write_info_line, write_site_line};
 use global_cfg::FlowEdge;
 use image_model::{Image, Version, site_at};
@@ -19,7 +19,7 @@ use osek_values::limits::LINE_MAX;
 /// Prints a line, or holds it back.
 fn put_line<O: Sink>(out: &mut O, buffer: &mut PutBuffer, line: &[u8]) -> Result<(), PutError>
     ensures ok { OnOk result (Puts (given (sunk O.Sink out.old) buffer.old) (given (sunk O.Sink out.new) buffer.new) line.now) }
-    ensures front { OnErr result (PutsFront (given (sunk O.Sink out.old) buffer.old) (given (sunk O.Sink out.new) buffer.new) line.now) }
+    ensures prefix { OnErr result (PutsPrefix (given (sunk O.Sink out.old) buffer.old) (given (sunk O.Sink out.new) buffer.new) line.now) }
 {
     match buffer.put(out, line) {
         Ok(()) => Ok(()),
@@ -39,14 +39,14 @@ fn print_site<O: Sink>(
     requires known { block.0 < length image.now.app.blocks }
     requires room { LINE_MAX ≤ length line.old }
     ensures ok { OnOk result (Puts (given (sunk O.Sink out.old) buffer.old) (given (sunk O.Sink out.new) buffer.new) (site_text image.now.app version block.0 (site_of image.now block.0))) }
-    ensures front { OnErr result (PutsFront (given (sunk O.Sink out.old) buffer.old) (given (sunk O.Sink out.new) buffer.new) (site_text image.now.app version block.0 (site_of image.now block.0))) }
+    ensures prefix { OnErr result (PutsPrefix (given (sunk O.Sink out.old) buffer.old) (given (sunk O.Sink out.new) buffer.new) (site_text image.now.app version block.0 (site_of image.now block.0))) }
     ensures room { length line.new ≡ length line.old }
 {
     match site_at(image, block) {
         None => Ok(()),
         Some(site) => {
             let size = write_site_line(&image.app, version, block, site, line);
-            put_line(out, buffer, front(line, size))
+            put_line(out, buffer, prefix(line, size))
         }
     }
 }
@@ -61,7 +61,7 @@ pub fn print_sites<O: Sink>(
 ) -> Result<(), PutError>
     requires room { LINE_MAX ≤ length line.old }
     ensures ok { OnOk result (Puts (given (sunk O.Sink out.old) buffer.old) (given (sunk O.Sink out.new) buffer.new) (sites_text image.now.app version image.now.sites)) }
-    ensures front { OnErr result (PutsFront (given (sunk O.Sink out.old) buffer.old) (given (sunk O.Sink out.new) buffer.new) (sites_text image.now.app version image.now.sites)) }
+    ensures prefix { OnErr result (PutsPrefix (given (sunk O.Sink out.old) buffer.old) (given (sunk O.Sink out.new) buffer.new) (sites_text image.now.app version image.now.sites)) }
     ensures room { length line.new ≡ length line.old }
 {
     for block in 0..image.app.blocks.len() {
@@ -82,11 +82,11 @@ fn print_edge<O: Sink>(
     requires ends { IsPoint app.now edge.to }
     requires room { LINE_MAX ≤ length line.old }
     ensures ok { OnOk result (Puts (given (sunk O.Sink out.old) buffer.old) (given (sunk O.Sink out.new) buffer.new) (edge_line app.now edge)) }
-    ensures front { OnErr result (PutsFront (given (sunk O.Sink out.old) buffer.old) (given (sunk O.Sink out.new) buffer.new) (edge_line app.now edge)) }
+    ensures prefix { OnErr result (PutsPrefix (given (sunk O.Sink out.old) buffer.old) (given (sunk O.Sink out.new) buffer.new) (edge_line app.now edge)) }
     ensures room { length line.new ≡ length line.old }
 {
     let size = write_edge_line(app, edge, line);
-    put_line(out, buffer, front(line, size))
+    put_line(out, buffer, prefix(line, size))
 }
 
 /// Prints the lines of edges.
@@ -101,7 +101,7 @@ pub fn print_edges<O: Sink>(
     requires end { All (λ (e : AnEdge). IsPoint app.now e.to) edges.now }
     requires room { LINE_MAX ≤ length line.old }
     ensures ok { OnOk result (Puts (given (sunk O.Sink out.old) buffer.old) (given (sunk O.Sink out.new) buffer.new) (edges_text app.now edges.now)) }
-    ensures front { OnErr result (PutsFront (given (sunk O.Sink out.old) buffer.old) (given (sunk O.Sink out.new) buffer.new) (edges_text app.now edges.now)) }
+    ensures prefix { OnErr result (PutsPrefix (given (sunk O.Sink out.old) buffer.old) (given (sunk O.Sink out.new) buffer.new) (edges_text app.now edges.now)) }
     ensures room { length line.new ≡ length line.old }
 {
     for edge in edges {
@@ -121,10 +121,10 @@ pub fn print_counts<O: Sink>(
 ) -> Result<(), PutError>
     requires room { LINE_MAX ≤ length line.old }
     ensures ok { OnOk result (Puts (given (sunk O.Sink out.old) buffer.old) (given (sunk O.Sink out.new) buffer.new) (counts_line app.now values edges)) }
-    ensures front { OnErr result (PutsFront (given (sunk O.Sink out.old) buffer.old) (given (sunk O.Sink out.new) buffer.new) (counts_line app.now values edges)) }
+    ensures prefix { OnErr result (PutsPrefix (given (sunk O.Sink out.old) buffer.old) (given (sunk O.Sink out.new) buffer.new) (counts_line app.now values edges)) }
 {
     let size = write_counts_line(app, values, edges as u64, line);
-    put_line(out, buffer, front(line, size))
+    put_line(out, buffer, prefix(line, size))
 }
 
 /// Prints the line of an image's version, its size and its forms.
@@ -136,9 +136,9 @@ pub fn print_info<O: Sink>(
 ) -> Result<(), PutError>
     requires room { LINE_MAX ≤ length line.old }
     ensures ok { OnOk result (Puts (given (sunk O.Sink out.old) buffer.old) (given (sunk O.Sink out.new) buffer.new) (info_line image.now)) }
-    ensures front { OnErr result (PutsFront (given (sunk O.Sink out.old) buffer.old) (given (sunk O.Sink out.new) buffer.new) (info_line image.now)) }
+    ensures prefix { OnErr result (PutsPrefix (given (sunk O.Sink out.old) buffer.old) (given (sunk O.Sink out.new) buffer.new) (info_line image.now)) }
     ensures room { length line.new ≡ length line.old }
 {
     let size = write_info_line(image, line);
-    put_line(out, buffer, front(line, size))
+    put_line(out, buffer, prefix(line, size))
 }

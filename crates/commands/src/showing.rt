@@ -8,7 +8,7 @@ ghost use Rattle.flow_text.specs.Texts.{show_text};
 ghost use Rattle.commands.specs.Fitting.{IsLeastTable};
 ghost use Rattle.command_runs.specs.Outside.{outside};
 ghost use Rattle.osek_io.specs.Sunk.{sunk};
-ghost use Rattle.command_runs.specs.Playing.{given, Puts, PutsFront};
+ghost use Rattle.command_runs.specs.Playing.{given, Puts, PutsPrefix};
 ghost use Rattle.commands.specs.Printing.{PrintsWhole};
 ghost use Rattle.commands.specs.Showing.{IsDictated, ShowAnswers};
 
@@ -74,7 +74,7 @@ fn print_dictated<O: Sink>(
     requires end { All (λ (e : AnEdge). IsPoint dictated.now.image.app e.to) dictated.now.edges }
     requires room { LINE_MAX ≤ length line.old }
     ensures ok { OnOk result (Puts (given (sunk O.Sink out.old) buffer.old) (given (sunk O.Sink out.new) buffer.new) (show_text dictated.now.image.app dictated.now.image.sites dictated.now.edges dictated.now.values)) }
-    ensures front { OnErr result (PutsFront (given (sunk O.Sink out.old) buffer.old) (given (sunk O.Sink out.new) buffer.new) (show_text dictated.now.image.app dictated.now.image.sites dictated.now.edges dictated.now.values)) }
+    ensures prefix { OnErr result (PutsPrefix (given (sunk O.Sink out.old) buffer.old) (given (sunk O.Sink out.new) buffer.new) (show_text dictated.now.image.app dictated.now.image.sites dictated.now.edges dictated.now.values)) }
 {
     let app = &dictated.image.app;
     let edges = dictated.edges.as_slice();

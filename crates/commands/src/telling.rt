@@ -6,7 +6,7 @@ ghost use Rattle.osek_io.specs.Sunk.{sunk};
 ghost use Rattle.commands.specs.Answering.{Tells};
 ghost use Rattle.commands.specs.Seen.{seen};
 ghost use Rattle.commands.specs.Statuses.{stop_status, stop_text, names_of, output_of, mode_of, text_input as the_text_input};
-ghost use Rattle.command_runs.specs.Telling.{WritesFront, fault_text};
+ghost use Rattle.command_runs.specs.Telling.{WritesPrefix, fault_text};
 
 use crate::words::{Command, input_name, mode_name, output_name};
 use command_runs::{Input, Stop, put_two, tell_fault};
@@ -78,7 +78,7 @@ fn mode_word<'a>(command: &Option<Command<'a>>) -> &'a str
 /// Tells that the file that is written can't be.
 fn tell_output<E: Sink>(err: &mut E, command: &Option<Command<'_>>) -> Result<(), PutError>
     ensures ok { OnOk result (E.written err.new ≡ grown (E.written err.old) (output_of (option_map seen command.now) ++ codes ": write\n")) }
-    ensures front { OnErr result (WritesFront (E.written err.old) (E.written err.new) (output_of (option_map seen command.now) ++ codes ": write\n")) }
+    ensures prefix { OnErr result (WritesPrefix (E.written err.old) (E.written err.new) (output_of (option_map seen command.now) ++ codes ": write\n")) }
     ensures cause { OnErr result (Rose (E.faults err.old) (E.faults err.new)) }
     ensures no_fault { OnOk result (E.faults err.new ≡ E.faults err.old) }
 {
@@ -90,7 +90,7 @@ fn tell_output<E: Sink>(err: &mut E, command: &Option<Command<'_>>) -> Result<()
 /// Tells that there is no mode of the name.
 fn tell_mode<E: Sink>(err: &mut E, command: &Option<Command<'_>>) -> Result<(), PutError>
     ensures ok { OnOk result (E.written err.new ≡ grown (E.written err.old) (mode_of (option_map seen command.now) ++ codes ": no such mode\n")) }
-    ensures front { OnErr result (WritesFront (E.written err.old) (E.written err.new) (mode_of (option_map seen command.now) ++ codes ": no such mode\n")) }
+    ensures prefix { OnErr result (WritesPrefix (E.written err.old) (E.written err.new) (mode_of (option_map seen command.now) ++ codes ": no such mode\n")) }
     ensures cause { OnErr result (Rose (E.faults err.old) (E.faults err.new)) }
     ensures no_fault { OnOk result (E.faults err.new ≡ E.faults err.old) }
 {
@@ -108,7 +108,7 @@ fn tell_fault_in<E: Sink>(
     rule: &[u8],
 ) -> Result<(), PutError>
     ensures ok { OnOk result (E.written err.new ≡ grown (E.written err.old) (fault_text (names_of (option_map seen command.now) input) place rule.now)) }
-    ensures front { OnErr result (WritesFront (E.written err.old) (E.written err.new) (fault_text (names_of (option_map seen command.now) input) place rule.now)) }
+    ensures prefix { OnErr result (WritesPrefix (E.written err.old) (E.written err.new) (fault_text (names_of (option_map seen command.now) input) place rule.now)) }
     ensures cause { OnErr result (Rose (E.faults err.old) (E.faults err.new)) }
     ensures no_fault { OnOk result (E.faults err.new ≡ E.faults err.old) }
 {
@@ -123,7 +123,7 @@ fn tell_of<E: Sink>(
     said: &[u8],
 ) -> Result<(), PutError>
     ensures ok { OnOk result (E.written err.new ≡ grown (E.written err.old) (names_of (option_map seen command.now) input ++ said.now)) }
-    ensures front { OnErr result (WritesFront (E.written err.old) (E.written err.new) (names_of (option_map seen command.now) input ++ said.now)) }
+    ensures prefix { OnErr result (WritesPrefix (E.written err.old) (E.written err.new) (names_of (option_map seen command.now) input ++ said.now)) }
     ensures cause { OnErr result (Rose (E.faults err.old) (E.faults err.new)) }
     ensures no_fault { OnOk result (E.faults err.new ≡ E.faults err.old) }
 {
@@ -137,7 +137,7 @@ fn tell_stop<E: Sink>(
     stop: &Stop,
 ) -> Result<(), PutError>
     ensures ok { OnOk result (E.written err.new ≡ grown (E.written err.old) (stop_text (names_of (option_map seen command.now)) (output_of (option_map seen command.now)) (mode_of (option_map seen command.now)) stop.now)) }
-    ensures front { OnErr result (WritesFront (E.written err.old) (E.written err.new) (stop_text (names_of (option_map seen command.now)) (output_of (option_map seen command.now)) (mode_of (option_map seen command.now)) stop.now)) }
+    ensures prefix { OnErr result (WritesPrefix (E.written err.old) (E.written err.new) (stop_text (names_of (option_map seen command.now)) (output_of (option_map seen command.now)) (mode_of (option_map seen command.now)) stop.now)) }
     ensures cause { OnErr result (Rose (E.faults err.old) (E.faults err.new)) }
     ensures no_fault { OnOk result (E.faults err.new ≡ E.faults err.old) }
 {

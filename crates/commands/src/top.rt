@@ -1,13 +1,8 @@
 //! The top call: the words of the command line, carried out over a shelf and two sinks.
-ghost use Rattle.std.specs.Prelude.{◌≡◌, ◌⊎◌, map, option_map, Result, Some};
+ghost use Rattle.std.specs.Prelude.{map, option_map, Some};
 ghost use Rattle.std.specs.String.{string_bytes};
-ghost use Rattle.osek_io.specs.Counts.{Rose};
-ghost use Rattle.osek_io.specs.Files.{Files};
 ghost use Rattle.osek_io.specs.Sunk.{sunk};
-ghost use Rattle.command_runs.specs.declared.stop.Stop.{Stop};
-ghost use Rattle.commands.specs.Due.{IsCalm, IsDue};
-ghost use Rattle.commands.specs.Statuses.{status_of};
-ghost use Rattle.commands.specs.Answering.{CommandAnswers, Does, Tells};
+ghost use Rattle.commands.specs.Answering.{Carries, CommandAnswers, IsExact};
 ghost use Rattle.command_runs.specs.Outside.{outside};
 ghost use Rattle.commands.specs.Seen.{seen};
 ghost use Rattle.commands.specs.Words.{command_of};
@@ -75,15 +70,8 @@ fn run_command<F: Shelf, O: Sink, E: Sink>(
     out: &mut O,
     err: &mut E,
 ) -> u8
-    ensures does { Does (option_map seen command.now)
-        (CommandAnswers (outside F.Shelf O.Sink shelf.old out.old) (outside F.Shelf O.Sink shelf.new out.new) (option_map seen command.now))
-        (λ text status. Tells (sunk E.Sink err.old) (sunk E.Sink err.new) text status result) }
-
-    // Over files that are told, where no count of faults rose, the answer is the one that is due, or memory ran out.
-    ensures exact { (files : Files) (due : Result (Unit {0}) Stop) → F.contents shelf.old ≡ Some files
-        → IsCalm (outside F.Shelf O.Sink shelf.old out.old) (outside F.Shelf O.Sink shelf.new out.new) → (Rose (E.faults err.old) (E.faults err.new) → ⊥)
-        → IsDue files (option_map seen command.now) due
-        → (result ≡ status_of due) ⊎ (result ≡ 7) }
+    ensures does { Carries (outside F.Shelf O.Sink shelf.old out.old) (outside F.Shelf O.Sink shelf.new out.new) (sunk E.Sink err.old) (sunk E.Sink err.new) (option_map seen command.now) result }
+    ensures exact { IsExact (outside F.Shelf O.Sink shelf.old out.old) (outside F.Shelf O.Sink shelf.new out.new) (sunk E.Sink err.old) (sunk E.Sink err.new) (option_map seen command.now) result }
 {
     match carry_out_words(alloc, command, shelf, out) {
         Ok(()) => 0,
@@ -107,15 +95,8 @@ pub fn osekfit<F: Shelf, O: Sink, E: Sink>(
     out: &mut O,
     err: &mut E,
 ) -> u8
-    ensures does { Does (command_of (map string_bytes words.now))
-        (CommandAnswers (outside F.Shelf O.Sink shelf.old out.old) (outside F.Shelf O.Sink shelf.new out.new) (command_of (map string_bytes words.now)))
-        (λ text status. Tells (sunk E.Sink err.old) (sunk E.Sink err.new) text status result) }
-
-    // Over files that are told, where no count of faults rose, the answer is the one that is due, or memory ran out.
-    ensures exact { (files : Files) (due : Result (Unit {0}) Stop) → F.contents shelf.old ≡ Some files
-        → IsCalm (outside F.Shelf O.Sink shelf.old out.old) (outside F.Shelf O.Sink shelf.new out.new) → (Rose (E.faults err.old) (E.faults err.new) → ⊥)
-        → IsDue files (command_of (map string_bytes words.now)) due
-        → (result ≡ status_of due) ⊎ (result ≡ 7) }
+    ensures does { Carries (outside F.Shelf O.Sink shelf.old out.old) (outside F.Shelf O.Sink shelf.new out.new) (sunk E.Sink err.old) (sunk E.Sink err.new) (command_of (map string_bytes words.now)) result }
+    ensures exact { IsExact (outside F.Shelf O.Sink shelf.old out.old) (outside F.Shelf O.Sink shelf.new out.new) (sunk E.Sink err.old) (sunk E.Sink err.new) (command_of (map string_bytes words.now)) result }
 {
     match command_from(alloc, words) {
         Ok(command) => run_command(alloc, &command, shelf, out, err),

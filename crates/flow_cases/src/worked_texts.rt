@@ -5,7 +5,8 @@ ghost use Rattle.osek_standard.specs.declared.app.App.{App};
 ghost use Rattle.osek_standard.specs.declared.point.Point.TheVariants as point;
 ghost use Rattle.osek_standard.specs.Apps.{the_task};
 ghost use Rattle.image_model.specs.declared.site.Form.TheVariants as form;
-ghost use Rattle.flow_text.specs.FlowLines.{form_text, point_text};
+ghost use Rattle.trace_text.specs.PointTexts.{point_text};
+ghost use Rattle.flow_text.specs.FlowLines.{form_text};
 
 /// Points and forms, as they are shown of an application whose second task is T2.
 pub fn points_and_forms()

@@ -1,8 +1,6 @@
 pub mod ListLaws
 pub mod Listed
 pub mod TaskValues
-pub mod ValueCases
-pub mod ReadingLaws
 pub mod MoveCases
 pub mod TaskEndCases
 pub mod ReturnCases

@@ -7,38 +7,39 @@ use Rattle.osek_values.specs.declared.numbers.BlockNo.{BlockNo}
 use Rattle.osek_standard.specs.declared.app.App.{App}
 use Rattle.osek_standard.specs.declared.state.State.{State}
 use Rattle.osek_standard.proofs.Members.{Among, among_cases, among_left, among_right, contained_among, among_contained}
-use Rattle.abstract_state.specs.declared.table.Entry.{Entry}
 use Rattle.abstract_state.specs.Components.{abstract_of}
 use Rattle.flow_model.specs.declared.case.EffectCase.{EffectCase}
 use Rattle.flow_model.specs.declared.runner.Runner.{Runner}
 use Rattle.flow_model.specs.Runners.{Stands, OwnsBlock, runner_point}
 use Rattle.flow_model.specs.Tests.{PassesAll}
-use Rattle.flow_model.specs.Effects.{AreIn, HasEffect}
+use Rattle.flow_model.specs.Effects.{HasEffect, IsKnownStay, AreCasesOf}
 use Rattle.flow_model.proofs.Listing.{AreEffects, covers, exact}
-use Rattle.flow_effects.specs.Lists.{AreCasesOf}
 
-module _ (app : App) (r : Runner) (b : BlockNo) (entry : Entry) where
-  -- the case is the effect of each state of the entry that passes its conditions
+module _ (app : App) (r : Runner) (b : BlockNo) where
+  -- the case is the effect of each state that passes its conditions
   abbrev pub IsEffect : EffectCase → Type 0
-  IsEffect x = (s : State) (choice : Bool) → Stands app s r b → AreIn app entry (abstract_of app s) → PassesAll app x.conditions (abstract_of app s) → HasEffect app x s choice
+  IsEffect x = (s : State) (choice : Bool) → Stands app s r b → PassesAll app x.conditions (abstract_of app s) → HasEffect app x s choice
+
+  abbrev pub IsCase : EffectCase → Type 0
+  IsCase x = IsKnownStay app x.leaving.stay × IsEffect x
 
   abbrev pub AreListed : List EffectCase → Type 0
-  AreListed xs = (x : EffectCase) → Among x xs → IsEffect x
+  AreListed xs = (x : EffectCase) → Among x xs → IsCase x
 
-  pub none_listed : AreListed []
+  none_listed : AreListed []
   none_listed x m = absurd m
 
-  pub more_listed : (x : EffectCase) (xs : List EffectCase) → IsEffect x → AreListed xs → AreListed (x ∷ xs)
-  more_listed x xs h more y (inl e) = subst IsEffect (sym e) h
+  pub more_listed : (x : EffectCase) (xs : List EffectCase) → IsCase x → AreListed xs → AreListed (x ∷ xs)
+  more_listed x xs h more y (inl e) = subst IsCase (sym e) h
   more_listed x xs h more y (inr m) = more y m
 
-  pub one_listed : (x : EffectCase) → IsEffect x → AreListed (x ∷ [])
+  pub one_listed : (x : EffectCase) → IsCase x → AreListed (x ∷ [])
   one_listed x h = more_listed x [] h none_listed
 
   pub both_listed : (xs ys : List EffectCase) → AreListed xs → AreListed ys → AreListed (xs ++ ys)
   both_listed xs ys h k x m = elim (among_cases x xs ys m) [ inl a ↦ h x a | inr c ↦ k x c ]
 
-  -- a state of the entry that passes a case of the list
+  -- a state that passes a case of the list
   pub record IsTaken (s : State) (xs : List EffectCase) : Type 0 where
     pub case : EffectCase
     pub among : Among case xs
@@ -51,14 +52,15 @@ module _ (app : App) (r : Runner) (b : BlockNo) (entry : Entry) where
   taken_then s xs ys x = record { case = x.case; among = among_right x.case xs ys x.among; passes = x.passes }
 
   module _ (owns : OwnsBlock app r b) (cases : List EffectCase) (each : AreListed cases) where
-    effects : AreEffects app r b entry owns cases
-    effects x s choice m h within passing = each x (contained_among cases x m) s choice h within passing
+    effects : AreEffects app r b owns cases
+    effects x s choice m h passing = (each x (contained_among cases x m)).1 s choice h passing
 
     -- cases that are effects, one of which each state takes
-    pub are_cases : ((s : State) → Stands app s r b → AreIn app entry (abstract_of app s) → IsTaken s cases) → AreCasesOf app (runner_point r b) entry cases
+    pub are_cases : ((s : State) → Stands app s r b → IsTaken s cases) → AreCasesOf app (runner_point r b) cases
     are_cases some = record {
-      covering = covers app r b entry owns cases effects (λ s h within. let x = some s h within in (x.case, among_contained cases x.case x.among, x.passes));
-      exact = λ all. exact app r b entry owns cases all effects;
+      covering = covers app r b owns cases effects (λ s h. let x = some s h in (x.case, among_contained cases x.case x.among, x.passes));
+      exact = exact app r b owns cases effects;
+      stays = λ x m. (each x (contained_among cases x m)).0;
     }
 
 -- an answer that is a list by an equation, if memory sufficed

@@ -34,9 +34,10 @@ use Rattle.flow_model.specs.declared.case.Asked.TheVariants as asked
 use Rattle.flow_model.specs.declared.change.Update.TheVariants as update
 use Rattle.flow_model.specs.declared.runner.Runner.{Runner}
 use Rattle.flow_model.specs.declared.runner.Runner.TheVariants as runner
-use Rattle.flow_model.specs.Tests.{PassesAll, value_after, part_at_block}
+use Rattle.flow_model.specs.Tests.{on_task, PassesAll, value_after}
 use Rattle.flow_model.specs.Runners.{Stands, OwnsBlock, runner_point, moving}
-use Rattle.flow_model.specs.Effects.{AreIn, AreAllAllowed, HasEffect, ShowsEffect}
+use Rattle.flow_model.specs.Values.{at_block}
+use Rattle.flow_model.specs.Effects.{AreIn, AreAllAllowed, HasEffect, ShowsEffect, IsKnownStay, HaveKnownStays, AreCasesOf}
 use Rattle.flow_model.specs.Cases.{goes_on}
 use Rattle.flow_model.proofs.ChangeLaws.{passes_none}
 use Rattle.flow_model.proofs.Standing.{is_active, next_owned, other_owned, owned_here, owned_point, point_there, stands_here}
@@ -45,16 +46,26 @@ use Rattle.flow_model.proofs.Moves.{change_here, change_there, moved_has, moved_
 use Rattle.flow_model.proofs.Calls.{IsCall, asked_none, call_goes_on, call_has, has_effect}
 use Rattle.flow_model.proofs.Listing.{covers_by, exact_by, values_allowed}
 use Rattle.flow_services.proofs.ServiceListing.{operands_of}
-use Rattle.flow_effects.specs.Lists.{AreCasesOf}
 use Rattle.flow_effects.specs.Moves.{stays, passes_by, onward, work_cases, choice_cases, halts}
-use Rattle.flow_effects.proofs.Listed.{IsEffect, are_cases, one_listed}
+use Rattle.flow_effects.proofs.Listed.{IsCase, are_cases, one_listed}
 use Rattle.flow_services.proofs.Seeing.{task_value}
 use Rattle.flow_effects.proofs.TaskValues.{stands_value}
 
+-- of one case and of two
+one_stays : (app : App) (x : EffectCase) → IsKnownStay app x.leaving.stay → (y : EffectCase) → Among y (x ∷ []) → IsKnownStay app y.leaving.stay
+one_stays app x h y (inl e) = subst (λ (z : EffectCase). IsKnownStay app z.leaving.stay) (sym e) h
+one_stays app x h y (inr none) = absurd none
+
+two_stay : (app : App) (x y : EffectCase) → IsKnownStay app x.leaving.stay → IsKnownStay app y.leaving.stay → HaveKnownStays app (x ∷ y ∷ [])
+two_stay app x y h k z m = elim (contained_among (x ∷ y ∷ []) z m) [
+  | inl e ↦ one_stays app x h z (inl e)
+  | inr n ↦ one_stays app y k z n
+]
+
 -- one case without conditions is each state's
-module _ (app : App) (r : Runner) (b : BlockNo) (entry : Entry) (owns : OwnsBlock app r b) where
-  pub one_case : (x : EffectCase) → x.conditions ≡ [] → IsEffect app r b entry x → AreCasesOf app (runner_point r b) entry (x ∷ [])
-  one_case x e h = are_cases app r b entry owns (x ∷ []) (one_listed app r b entry x h) (λ s stands within. record {
+module _ (app : App) (r : Runner) (b : BlockNo) (owns : OwnsBlock app r b) where
+  pub one_case : (x : EffectCase) → x.conditions ≡ [] → IsCase app r b x → AreCasesOf app (runner_point r b) (x ∷ [])
+  one_case x e h = are_cases app r b owns (x ∷ []) (one_listed app r b x h) (λ s stands. record {
     case = x;
     among = inl refl;
     passes = subst (λ xs. PassesAll app xs (abstract_of app s)) (sym e) (passes_none app (abstract_of app s));
@@ -63,9 +74,9 @@ module _ (app : App) (r : Runner) (b : BlockNo) (entry : Entry) (owns : OwnsBloc
   -- a call that is refused whatever the values are, or that does nothing to the components
   pub goes_on_cases : (k : Kind) (status : Option Status) → IsCall app k → (the_block app b.0).kind ≡ k →
       ((s : State) → Stands app s r b → called app (moved_to s (the_block app b.0).next) (caller s.processor) k ≡ answer (moved_to s (the_block app b.0).next) status None ask.No) →
-      AreCasesOf app (runner_point r b) entry (goes_on r (the_block app b.0).next [] asked.No status ∷ [])
+      AreCasesOf app (runner_point r b) (goes_on r (the_block app b.0).next [] asked.No status ∷ [])
   goes_on_cases k status call is answers = one_case (goes_on r (the_block app b.0).next [] asked.No status) refl
-      (λ s choice h within passing. call_goes_on app s choice r b k [] asked.No status None ask.No call h is (answers s h) (asked_none app r k) passing)
+      (tt, λ s choice h passing. call_goes_on app s choice r b k [] asked.No status None ask.No call h is (answers s h) (asked_none app r k) passing)
 
 -- what a tick's count does to the components
 count_part : (app : App) (s : State) (c : ℕ) (k : Component) → part_of (count_up app s c) k ≡ part_of s k
@@ -115,17 +126,17 @@ stays_put : (app : App) (s : State) (r : Runner) (b : BlockNo) → Stands app s 
 stays_put app s (runner.Task t) b h c = elim (cases_eq c t.0) [
   | inl same ↦
       (let is : abstract_of app s c ≡ OfTask (Live (live_val b _)) = ap (abstract_of app s) same ∙ task_value app s t.0 h.runs.has.0 ∙ ap OfTask (stands_value app s t b h) in
-      change_here t.0 (update.Block b) c (abstract_of app s c) same ∙ ap (part_at_block b) is ∙ sym is)
+      change_here t.0 (update.Block b) c (abstract_of app s c) same ∙ ap (on_task (at_block b)) is ∙ sym is)
   | inr other ↦ change_there t.0 (update.Block b) c (abstract_of app s c) other
 ]
 stays_put app s (runner.Routine over) b h c = refl
 
-module _ (app : App) (r : Runner) (b : BlockNo) (entry : Entry) (owns : OwnsBlock app r b) where
+module _ (app : App) (r : Runner) (b : BlockNo) (owns : OwnsBlock app r b) where
   abbrev next : BlockNo
   next = (the_block app b.0).next
 
   abbrev AreCases : List EffectCase → Type 0
-  AreCases cases = AreCasesOf app (runner_point r b) entry cases
+  AreCases cases = AreCasesOf app (runner_point r b) cases
 
   -- the runner goes on to a block
   on_to : (s : State) (choice : Bool) (n : BlockNo) → Stands app s r b → InOwner app s.processor n.0 → effect app s choice ≡ noted app (unnoted (moved_to s n) ask.No) → HasEffect app (passes_by r n) s choice
@@ -140,31 +151,40 @@ module _ (app : App) (r : Runner) (b : BlockNo) (entry : Entry) (owns : OwnsBloc
 
   -- nothing is done at all
   pub idle_cases : ((s : State) (choice : Bool) → Stands app s r b → effect app s choice ≡ noted app (unnoted s ask.No)) → AreCases (stays r b ∷ [])
-  idle_cases nothing = one_case app r b entry owns (stays r b) refl (λ s choice h within passing.
-      has_effect app (stays r b) s choice (noted app (unnoted s ask.No)) (nothing s choice h) passing (point_there app s r b h) (λ c lt. refl) refl refl)
+  idle_cases nothing = one_case app r b owns (stays r b) refl (
+    tt,
+    λ s choice h passing.
+        has_effect app (stays r b) s choice (noted app (unnoted s ask.No)) (nothing s choice h) passing (point_there app s r b h) (λ c lt. refl) refl refl,
+  )
 
   pub loop_cases : (the_block app b.0).kind ≡ kind.Loop → AreCases (onward r next)
-  loop_cases is = goes_on_cases app r b entry owns kind.Loop None (λ s choice p x. refl) is (λ s h. refl)
+  loop_cases is = goes_on_cases app r b owns kind.Loop None (λ s choice p x. refl) is (λ s h. refl)
 
   pub count_cases : (the_block app b.0).kind ≡ kind.CountUp → AreCases (onward r next)
-  count_cases is = one_case app r b entry owns (passes_by r next) refl (λ s choice h within passing.
-      let after : State = moved_to s next in
-      let by : Caller = caller s.processor in
-      call_has app (passes_by r next) s choice r b kind.CountUp (unnoted (counted_by app after by) ask.No) (λ s choice p x. refl) h is refl passing (record {
-        point = counted_point app after by ∙ point_there app after r next (went_on app s r b next h (next_owned app s r b h));
-        parts = λ c lt. counted_parts app after by (component_at app c) ∙ moved_parts app s next 0 r b h c lt;
-        asked = asked_none app r kind.CountUp;
-        kept = λ _. counted_kept app after by ∙ moved_has app s h.well (place_at next 0);
-        status = refl;
-      }))
+  count_cases is = one_case app r b owns (passes_by r next) refl (
+    tt,
+    λ s choice h passing.
+        let after : State = moved_to s next in
+        let by : Caller = caller s.processor in
+        call_has app (passes_by r next) s choice r b kind.CountUp (unnoted (counted_by app after by) ask.No) (λ s choice p x. refl) h is refl passing (record {
+          point = counted_point app after by ∙ point_there app after r next (went_on app s r b next h (next_owned app s r b h));
+          parts = λ c lt. counted_parts app after by (component_at app c) ∙ moved_parts app s next 0 r b h c lt;
+          asked = asked_none app r kind.CountUp;
+          kept = λ _. counted_kept app after by ∙ moved_has app s h.well (place_at next 0);
+          status = refl;
+        }),
+  )
 
   pub halt_cases : (the_block app b.0).kind ≡ kind.Call call.ShutdownOs → AreCases (halts r next)
-  halt_cases is = one_case app r b entry owns _ refl (λ s choice h within passing.
-      let after : State = moved_to s next in
-      let on = went_on app s r b next h (next_owned app s r b h) in
-      has_effect app _ s choice (shut_down app after) (effect_there app s r b (kind.Call call.ShutdownOs) choice h is) passing
-      (halted_point after after.processor (is_active app after r next on))
-      (λ c lt. halted_parts after after.processor (component_at app c) ∙ moved_parts app s next 0 r b h c lt) refl refl)
+  halt_cases is = one_case app r b owns _ refl (
+    tt,
+    λ s choice h passing.
+        let after : State = moved_to s next in
+        let on = went_on app s r b next h (next_owned app s r b h) in
+        has_effect app _ s choice (shut_down app after) (effect_there app s r b (kind.Call call.ShutdownOs) choice h is) passing
+        (halted_point after after.processor (is_active app after r next on))
+        (λ c lt. halted_parts after after.processor (component_at app c) ∙ moved_parts app s next 0 r b h c lt) refl refl,
+  )
 
   module _ (other : BlockNo) (is : (the_block app b.0).kind ≡ kind.Choice other) where
     chosen : (s : State) (choice : Bool) → Stands app s r b → HasEffect app (passes_by r (if choice then next else other)) s choice
@@ -177,16 +197,17 @@ module _ (app : App) (r : Runner) (b : BlockNo) (entry : Entry) (owns : OwnsBloc
 
     pub both_ways : AreCases (choice_cases r next other)
     both_ways = record {
-      covering = covers_by app r b entry owns (choice_cases r next other) (λ s choice h within. record {
+      covering = covers_by app r b owns (choice_cases r next other) (λ s choice h. record {
         case = passes_by r (if choice then next else other);
         listed = among_contained (choice_cases r next other) _ (either choice);
         effect = chosen s choice h;
       });
-      exact = λ all. exact_by app r b entry owns (choice_cases r next other) all (λ x m. elim (contained_among (choice_cases r next other) x m) [
-        | inl e ↦ (true, λ s h within passing. subst (λ (y : EffectCase). HasEffect app y s true) (sym e) (chosen s true h))
-        | inr (inl e) ↦ (false, λ s h within passing. subst (λ (y : EffectCase). HasEffect app y s false) (sym e) (chosen s false h))
+      exact = exact_by app r b owns (choice_cases r next other) (λ x m. elim (contained_among (choice_cases r next other) x m) [
+        | inl e ↦ (true, λ s h passing. subst (λ (y : EffectCase). HasEffect app y s true) (sym e) (chosen s true h))
+        | inr (inl e) ↦ (false, λ s h passing. subst (λ (y : EffectCase). HasEffect app y s false) (sym e) (chosen s false h))
         | inr (inr n) ↦ absurd n
       ]);
+      stays = two_stay app (passes_by r next) (passes_by r other) tt tt;
     }
 
   stands_point : (q : Runner) → StandsAt (runner_point q b) b
@@ -214,8 +235,8 @@ module _ (app : App) (r : Runner) (b : BlockNo) (entry : Entry) (owns : OwnsBloc
         (work_effect s choice h ∙ ap (λ (t : Bool). noted app (if t then unnoted (moved s (place_at (here s).block ((here s).offset + 1))) ask.No else unnoted (moved_to s next) ask.No)) past_it)
 
     -- a state whose offset is chosen shows the case
-    shown_at : (x : EffectCase) (value : ℕ → PartValue) (o : ℕ) → o < count → AreIn app entry value → AreAllAllowed app (runner_point r b) entry → ((s : State) → Stands app s r b → (here s).offset ≡ o → HasEffect app x s true) → ShowsEffect app (runner_point r b) x value
-    shown_at x value o lt within all shows =
+    shown_at : (x : EffectCase) (value : ℕ → PartValue) (o : ℕ) → o < count → (entry : Entry) → AreIn app entry value → AreAllAllowed app (runner_point r b) entry → ((s : State) → Stands app s r b → (here s).offset ≡ o → HasEffect app x s true) → ShowsEffect app (runner_point r b) x value
+    shown_at x value o lt entry within all shows =
         let q = some_quiet_at app (runner_point r b) value (owned_point app r b owns) (values_allowed app (runner_point r b) entry value all within) b o (stands_point r) (offset_at o lt) in
         record {
           from = q.0;
@@ -228,39 +249,41 @@ module _ (app : App) (r : Runner) (b : BlockNo) (entry : Entry) (owns : OwnsBloc
     some_work : 0 < count
     some_work = subst (NamesEntries (tables app)) is (operands_of app r b owns)
 
-    shows_last : (value : ℕ → PartValue) → AreIn app entry value → AreAllAllowed app (runner_point r b) entry → ShowsEffect app (runner_point r b) (passes_by r next) value
-    shows_last value within all =
+    shows_last : (value : ℕ → PartValue) → (entry : Entry) → AreIn app entry value → AreAllAllowed app (runner_point r b) entry → ShowsEffect app (runner_point r b) (passes_by r next) value
+    shows_last value entry within all =
         let some = some_work in
         let last : count - 1 < count = omega (arith, some) in
-        shown_at (passes_by r next) value (count - 1) last within all (λ s h e. does_last s true h (omega (arith, e)))
+        shown_at (passes_by r next) value (count - 1) last entry within all (λ s h e. does_last s true h (omega (arith, e)))
 
-    shows_one : 1 < count → (value : ℕ → PartValue) → AreIn app entry value → AreAllAllowed app (runner_point r b) entry → ShowsEffect app (runner_point r b) (stays r b) value
-    shows_one more value within all =
+    shows_one : 1 < count → (value : ℕ → PartValue) → (entry : Entry) → AreIn app entry value → AreAllAllowed app (runner_point r b) entry → ShowsEffect app (runner_point r b) (stays r b) value
+    shows_one more value entry within all =
         let first : 0 < count = omega (arith, more) in
-        shown_at (stays r b) value 0 first within all (λ s h e. does_one s true h (omega (arith, e, more)))
+        shown_at (stays r b) value 0 first entry within all (λ s h e. does_one s true h (omega (arith, e, more)))
 
     several : 1 < count → AreCases (stays r b ∷ onward r next)
     several more =
         let cases : List EffectCase = stays r b ∷ onward r next in
         record {
-          covering = covers_by app r b entry owns cases (λ s choice h within. elim (cases_lt ((here s).offset + 1) count) [
+          covering = covers_by app r b owns cases (λ s choice h. elim (cases_lt ((here s).offset + 1) count) [
             | inl below ↦ record { case = stays r b; listed = among_contained cases (stays r b) (inl refl); effect = does_one s choice h below }
             | inr above ↦ record { case = passes_by r next; listed = among_contained cases (passes_by r next) (inr (inl refl)); effect = does_last s choice h above }
           ]);
-          exact = λ all x value m within passing. elim (contained_among cases x m) [
-            | inl e ↦ subst (λ (y : EffectCase). ShowsEffect app (runner_point r b) y value) (sym e) (shows_one more value within all)
-            | inr (inl e) ↦ subst (λ (y : EffectCase). ShowsEffect app (runner_point r b) y value) (sym e) (shows_last value within all)
+          exact = λ entry all x value m within passing. elim (contained_among cases x m) [
+            | inl e ↦ subst (λ (y : EffectCase). ShowsEffect app (runner_point r b) y value) (sym e) (shows_one more value entry within all)
+            | inr (inl e) ↦ subst (λ (y : EffectCase). ShowsEffect app (runner_point r b) y value) (sym e) (shows_last value entry within all)
             | inr (inr n) ↦ absurd n
           ];
+          stays = two_stay app (stays r b) (passes_by r next) tt tt;
         }
 
     single : count ≤ 1 → AreCases (onward r next)
     single one = record {
-      covering = covers_by app r b entry owns (onward r next) (λ s choice h within. record { case = passes_by r next; listed = among_contained (onward r next) (passes_by r next) (inl refl); effect = does_last s choice h (omega (arith, one)) });
-      exact = λ all x value m within passing. elim (contained_among (onward r next) x m) [
-        | inl e ↦ subst (λ (y : EffectCase). ShowsEffect app (runner_point r b) y value) (sym e) (shows_last value within all)
+      covering = covers_by app r b owns (onward r next) (λ s choice h. record { case = passes_by r next; listed = among_contained (onward r next) (passes_by r next) (inl refl); effect = does_last s choice h (omega (arith, one)) });
+      exact = λ entry all x value m within passing. elim (contained_among (onward r next) x m) [
+        | inl e ↦ subst (λ (y : EffectCase). ShowsEffect app (runner_point r b) y value) (sym e) (shows_last value entry within all)
         | inr n ↦ absurd n
       ];
+      stays = λ x m. one_stays app (passes_by r next) tt x (contained_among (onward r next) x m);
     }
 
     pub all_work : AreCases (work_cases r b next count)

@@ -21,7 +21,6 @@ use Rattle.osek_standard.specs.Effects.{noted, end_task, place_at, moved_to, cal
 use Rattle.osek_standard.specs.Well.{Well}
 use Rattle.abstract_state.specs.declared.value.{Component.{Component}, PartValue.{PartValue}, Val.TheVariants.{Suspended}, PartValue.TheVariants.{OfTask}}
 use Rattle.abstract_state.specs.declared.value.Component.TheVariants as component
-use Rattle.abstract_state.specs.declared.table.Entry.{Entry}
 use Rattle.abstract_state.specs.Components.{component_count, component_at, abstract_of, part_of}
 use Rattle.flow_model.specs.declared.case.EffectCase.{EffectCase}
 use Rattle.flow_model.specs.declared.case.Asked.TheVariants as asked
@@ -31,14 +30,15 @@ use Rattle.flow_model.specs.declared.change.Update.{Update}
 use Rattle.flow_model.specs.declared.change.Update.TheVariants as update
 use Rattle.flow_model.specs.declared.runner.Runner.{Runner}
 use Rattle.flow_model.specs.declared.runner.Runner.TheVariants as runner
-use Rattle.flow_model.specs.Tests.{passes, PassesAll, value_after}
+use Rattle.flow_model.specs.Tests.{passes, updated, PassesAll, value_after}
 use Rattle.flow_model.specs.Runners.{Stands, OwnsBlock, change, runner_point}
 use Rattle.flow_model.specs.Cases.{goes_on, asked_for, asked_when}
 use Rattle.flow_model.proofs.Standing.{next_owned, task_calls, routine_calls}
 use Rattle.flow_model.proofs.Instructions.{effect_there}
 use Rattle.flow_model.proofs.Moves.{activity_parts, change_here, change_there, moved_held, moved_parts, went_on}
 use Rattle.flow_model.proofs.Calls.{IsCall, asked_none, call_goes_on, call_has, has_effect}
-use Rattle.flow_effects.specs.Lists.{of_task, AreCasesOf}
+use Rattle.flow_model.specs.Effects.{AreCasesOf}
+use Rattle.flow_effects.specs.Conditions.{of_task}
 use Rattle.flow_effects.specs.TaskEnds.{ends, task_end_cases, refused_holding, terminate_cases, schedule_cases}
 use Rattle.flow_effects.proofs.Listed.{IsEffect, IsTaken, are_cases, more_listed, one_listed}
 use Rattle.flow_effects.proofs.TaskValues.{task_passes, passes_task, some_is, holds_none, none_holds}
@@ -50,11 +50,11 @@ left_parts s (component.Task t) = refl
 left_parts s (component.Event t j) = refl
 left_parts s (component.Alarm a) = refl
 
--- a task that becomes something after another change of it
-pub set_over : (t : ℕ) (u : Update) (w : PartValue) (c : ℕ) (v : PartValue) → value_after (change t (update.Set w) ∷ []) c (value_after (change t u ∷ []) c v) ≡ value_after (change t (update.Set w) ∷ []) c v
-set_over t u w c v = elim (cases_eq c t) [
-  | inl same ↦ change_here t (update.Set w) c (value_after (change t u ∷ []) c v) same ∙ sym (change_here t (update.Set w) c v same)
-  | inr other ↦ change_there t (update.Set w) c (value_after (change t u ∷ []) c v) other ∙ change_there t u c v other ∙ sym (change_there t (update.Set w) c v other)
+-- a task that becomes something whatever another change made of it
+pub changed_over : (t : ℕ) (u v : Update) → ((w : PartValue) → updated u (updated v w) ≡ updated u w) → (c : ℕ) (w : PartValue) → value_after (change t u ∷ []) c (value_after (change t v ∷ []) c w) ≡ value_after (change t u ∷ []) c w
+changed_over t u v over c w = elim (cases_eq c t) [
+  | inl same ↦ change_here t u c (value_after (change t v ∷ []) c w) same ∙ ap (updated u) (change_here t v c w same) ∙ over w ∙ sym (change_here t u c w same)
+  | inr other ↦ change_there t u c (value_after (change t v ∷ []) c w) other ∙ change_there t v c w other ∙ sym (change_there t u c w other)
 ]
 
 module _ (app : App) (s : State) (w : Well app s) (t : TaskNo) (known : t.0 < length app.tasks) where
@@ -74,7 +74,7 @@ asked_at_schedule t Non = refl
 always_asked : (app : App) (t : TaskNo) → asked_for app (runner.Task t) (kind.Call (call.Plain call.Schedule)) ask.Maybe ≡ asked.Maybe t
 always_asked app t = asked_at_schedule t (the_task app t.0).schedule
 
-module _ (app : App) (t : TaskNo) (b : BlockNo) (entry : Entry) (owns : OwnsBlock app (runner.Task t) b) where
+module _ (app : App) (t : TaskNo) (b : BlockNo) (owns : OwnsBlock app (runner.Task t) b) where
   abbrev r : Runner
   r = runner.Task t
 
@@ -85,19 +85,22 @@ module _ (app : App) (t : TaskNo) (b : BlockNo) (entry : Entry) (owns : OwnsBloc
   after s = moved_to s next
 
   -- the end of a task
-  pub task_end : (the_block app b.0).kind ≡ kind.TaskEnd → AreCasesOf app (runner_point r b) entry (task_end_cases r b)
-  task_end is = one_case app r b entry owns (ends t []) refl (λ s choice h within passing.
-      has_effect app (ends t []) s choice (noted app (unnoted (left (ended app s t.0)) ask.Left))
-      (effect_there app s r b kind.TaskEnd choice h is ∙ ap (λ (c : Caller). noted app (end_task app s c)) (task_calls app s t b h))
-      passing refl (ended_parts app s h.well t owns.0) refl refl)
+  pub task_end : (the_block app b.0).kind ≡ kind.TaskEnd → AreCasesOf app (runner_point r b) (task_end_cases r b)
+  task_end is = one_case app r b owns (ends t []) refl (
+    tt,
+    λ s choice h passing.
+        has_effect app (ends t []) s choice (noted app (unnoted (left (ended app s t.0)) ask.Left))
+        (effect_there app s r b kind.TaskEnd choice h is ∙ ap (λ (c : Caller). noted app (end_task app s c)) (task_calls app s t b h))
+        passing refl (ended_parts app s h.well t owns.0) refl refl,
+  )
 
   -- what the caller holds is as before the move
   pub same_holds : (s : State) → Stands app s r b → holds_some (after s) t.0 ≡ holds_some s t.0
   same_holds s h = ap (λ (g : List ResNo). not (length g == 0)) (moved_held app s h.well (place_at next 0) t.0)
 
   -- RESOURCE, by a call whose row says so
-  pub refused_is : (k : Kind) → IsCall app k → (the_block app b.0).kind ≡ k → ((s : State) → holds_some s t.0 ≡ true → called app s (Task t) k ≡ refused s status.Resource) → IsEffect app r b entry (refused_holding t next)
-  refused_is k call is row s choice h within passing =
+  pub refused_is : (k : Kind) → IsCall app k → (the_block app b.0).kind ≡ k → ((s : State) → holds_some s t.0 ≡ true → called app s (Task t) k ≡ refused s status.Resource) → IsEffect app r b (refused_holding t next)
+  refused_is k call is row s choice h passing =
       let holds : holds_some s t.0 ≡ true = sym (some_is app s t owns.0) ∙ task_passes app s t owns.0 test.HoldsSome passing in
       call_goes_on app s choice r b k _ asked.No (Some status.Resource) None ask.No call h is
       (ap (λ (c : Caller). called app (after s) c k) (task_calls app s t b h) ∙ row (after s) (same_holds s h ∙ holds))
@@ -113,10 +116,10 @@ module _ (app : App) (t : TaskNo) (b : BlockNo) (entry : Entry) (owns : OwnsBloc
       let on = went_on app s r b next h (next_owned app s r b h) in
       ended_parts app (after s) on.well t owns.0 c lt
       ∙ ap (value_after (change t.0 (update.Set (OfTask Suspended)) ∷ []) c) (moved_parts app s next 0 r b h c lt)
-      ∙ set_over t.0 (update.Block next) (OfTask Suspended) c (abstract_of app s c)
+      ∙ changed_over t.0 (update.Set (OfTask Suspended)) (update.Block next) (λ v. refl) c (abstract_of app s c)
 
   -- a state that holds resources takes the first case, and one that holds none the second
-  either_held : (y : EffectCase) → y.conditions ≡ of_task t test.HoldsNothing ∷ [] → (s : State) → IsTaken app r b entry s (refused_holding t next ∷ y ∷ [])
+  either_held : (y : EffectCase) → y.conditions ≡ of_task t test.HoldsNothing ∷ [] → (s : State) → IsTaken app r b s (refused_holding t next ∷ y ∷ [])
   either_held y e s = elim (cases_Bool (holds_some s t.0)) [
     | inl some ↦ record { case = refused_holding t next; among = inl refl; passes = passes_task app s t owns.0 test.HoldsSome (some_is app s t owns.0 ∙ some) }
     | inr none ↦ record {
@@ -139,17 +142,17 @@ module _ (app : App) (t : TaskNo) (b : BlockNo) (entry : Entry) (owns : OwnsBloc
     unfolding terminate_task
     terminate_ends s e = rw e refl
 
-    terminates : IsEffect app r b entry (ends t (of_task t test.HoldsNothing ∷ []))
-    terminates s choice h within passing =
+    terminates : IsEffect app r b (ends t (of_task t test.HoldsNothing ∷ []))
+    terminates s choice h passing =
         let none = nothing_held s h (task_passes app s t owns.0 test.HoldsNothing passing) in
         call_has app (ends t (of_task t test.HoldsNothing ∷ [])) s choice r b terminate (unnoted (left (ended app (after s) t.0)) ask.Left) (λ u ch p x. refl) h is
         (ap (λ (c : Caller). terminate_task app (after s) c) (task_calls app s t b h) ∙ terminate_ends (after s) none) passing
         (record { point = refl; parts = ended_after s h; asked = refl; kept = λ e. absurd (cc); status = refl })
 
-    pub terminate_task_cases : AreCasesOf app (runner_point r b) entry (terminate_cases r next)
-    terminate_task_cases = are_cases app r b entry owns (terminate_cases r next)
-        (more_listed app r b entry (refused_holding t next) (ends t (of_task t test.HoldsNothing ∷ []) ∷ []) (refused_is terminate (λ u ch p x. refl) is terminate_refused) (one_listed app r b entry (ends t (of_task t test.HoldsNothing ∷ [])) terminates))
-        (λ s h within. either_held (ends t (of_task t test.HoldsNothing ∷ [])) refl s)
+    pub terminate_task_cases : AreCasesOf app (runner_point r b) (terminate_cases r next)
+    terminate_task_cases = are_cases app r b owns (terminate_cases r next)
+        (more_listed app r b (refused_holding t next) (ends t (of_task t test.HoldsNothing ∷ []) ∷ []) (tt, refused_is terminate (λ u ch p x. refl) is terminate_refused) (one_listed app r b (ends t (of_task t test.HoldsNothing ∷ [])) (tt, terminates)))
+        (λ s h. either_held (ends t (of_task t test.HoldsNothing ∷ [])) refl s)
 
   -- Schedule
   module _ (is : (the_block app b.0).kind ≡ kind.Call (call.Plain call.Schedule)) where
@@ -167,20 +170,20 @@ module _ (app : App) (t : TaskNo) (b : BlockNo) (entry : Entry) (owns : OwnsBloc
     abbrev rescheduled : EffectCase
     rescheduled = goes_on r next (of_task t test.HoldsNothing ∷ []) (asked.Maybe t) (Some status.Ok)
 
-    schedules : IsEffect app r b entry rescheduled
-    schedules s choice h within passing =
+    schedules : IsEffect app r b rescheduled
+    schedules s choice h passing =
         let none = nothing_held s h (task_passes app s t owns.0 test.HoldsNothing passing) in
         call_goes_on app s choice r b scheduling _ (asked.Maybe t) (Some status.Ok) None ask.Maybe (λ u ch p x. refl) h is
         (ap (λ (c : Caller). schedule (after s) c) (task_calls app s t b h) ∙ schedule_asks (after s) none)
         (always_asked app t) passing
 
-    pub schedule_task_cases : AreCasesOf app (runner_point r b) entry (schedule_cases r next)
-    schedule_task_cases = are_cases app r b entry owns (schedule_cases r next)
-        (more_listed app r b entry (refused_holding t next) (rescheduled ∷ []) (refused_is scheduling (λ u ch p x. refl) is schedule_refused) (one_listed app r b entry rescheduled schedules))
-        (λ s h within. either_held rescheduled refl s)
+    pub schedule_task_cases : AreCasesOf app (runner_point r b) (schedule_cases r next)
+    schedule_task_cases = are_cases app r b owns (schedule_cases r next)
+        (more_listed app r b (refused_holding t next) (rescheduled ∷ []) (tt, refused_is scheduling (λ u ch p x. refl) is schedule_refused) (one_listed app r b rescheduled (tt, schedules)))
+        (λ s h. either_held rescheduled refl s)
 
 -- a routine's calls of these are refused, and it has no task's end
-module _ (app : App) (over : Option TaskNo) (b : BlockNo) (entry : Entry) (owns : OwnsBlock app (runner.Routine over) b) where
+module _ (app : App) (over : Option TaskNo) (b : BlockNo) (owns : OwnsBlock app (runner.Routine over) b) where
   abbrev q : Runner
   q = runner.Routine over
 
@@ -195,30 +198,30 @@ module _ (app : App) (over : Option TaskNo) (b : BlockNo) (entry : Entry) (owns 
   unfolding schedule
   schedule_at_interrupt s c k e = ap (schedule s) e
 
-  pub terminate_routine_cases : (the_block app b.0).kind ≡ kind.Call (call.Plain call.TerminateTask) → AreCasesOf app (runner_point q b) entry (terminate_cases q onto)
-  terminate_routine_cases is = goes_on_cases app q b entry owns (kind.Call (call.Plain call.TerminateTask)) (Some status.CallLevel) (λ u ch p x. refl) is
+  pub terminate_routine_cases : (the_block app b.0).kind ≡ kind.Call (call.Plain call.TerminateTask) → AreCasesOf app (runner_point q b) (terminate_cases q onto)
+  terminate_routine_cases is = goes_on_cases app q b owns (kind.Call (call.Plain call.TerminateTask)) (Some status.CallLevel) (λ u ch p x. refl) is
       (λ s h. terminate_at_interrupt (moved_to s onto) (caller s.processor) h.runs.source (routine_calls app s over b h))
 
-  pub schedule_routine_cases : (the_block app b.0).kind ≡ kind.Call (call.Plain call.Schedule) → AreCasesOf app (runner_point q b) entry (schedule_cases q onto)
-  schedule_routine_cases is = goes_on_cases app q b entry owns (kind.Call (call.Plain call.Schedule)) (Some status.CallLevel) (λ u ch p x. refl) is
+  pub schedule_routine_cases : (the_block app b.0).kind ≡ kind.Call (call.Plain call.Schedule) → AreCasesOf app (runner_point q b) (schedule_cases q onto)
+  schedule_routine_cases is = goes_on_cases app q b owns (kind.Call (call.Plain call.Schedule)) (Some status.CallLevel) (λ u ch p x. refl) is
       (λ s h. schedule_at_interrupt (moved_to s onto) (caller s.processor) h.runs.source (routine_calls app s over b h))
 
   end_at_interrupt : (s : State) (c : Caller) (k : SourceNo) → c ≡ Routine k → end_task app s c ≡ unnoted s ask.No
   end_at_interrupt s c k e = ap (end_task app s) e
 
-  pub routine_task_end : (the_block app b.0).kind ≡ kind.TaskEnd → AreCasesOf app (runner_point q b) entry (task_end_cases q b)
-  routine_task_end is = idle_cases app q b entry owns (λ s choice h.
+  pub routine_task_end : (the_block app b.0).kind ≡ kind.TaskEnd → AreCasesOf app (runner_point q b) (task_end_cases q b)
+  routine_task_end is = idle_cases app q b owns (λ s choice h.
       effect_there app s q b kind.TaskEnd choice h is ∙ ap (noted app) (end_at_interrupt s (caller s.processor) h.runs.source (routine_calls app s over b h)))
 
-module _ (app : App) (b : BlockNo) (entry : Entry) where
-  pub all_task_ends : (r : Runner) → OwnsBlock app r b → (the_block app b.0).kind ≡ kind.TaskEnd → AreCasesOf app (runner_point r b) entry (task_end_cases r b)
-  all_task_ends (runner.Task t) owns is = task_end app t b entry owns is
-  all_task_ends (runner.Routine over) owns is = routine_task_end app over b entry owns is
+module _ (app : App) (b : BlockNo) where
+  pub all_task_ends : (r : Runner) → OwnsBlock app r b → (the_block app b.0).kind ≡ kind.TaskEnd → AreCasesOf app (runner_point r b) (task_end_cases r b)
+  all_task_ends (runner.Task t) owns is = task_end app t b owns is
+  all_task_ends (runner.Routine over) owns is = routine_task_end app over b owns is
 
-  pub all_terminates : (r : Runner) → OwnsBlock app r b → (the_block app b.0).kind ≡ kind.Call (call.Plain call.TerminateTask) → AreCasesOf app (runner_point r b) entry (terminate_cases r (the_block app b.0).next)
-  all_terminates (runner.Task t) owns is = terminate_task_cases app t b entry owns is
-  all_terminates (runner.Routine over) owns is = terminate_routine_cases app over b entry owns is
+  pub all_terminates : (r : Runner) → OwnsBlock app r b → (the_block app b.0).kind ≡ kind.Call (call.Plain call.TerminateTask) → AreCasesOf app (runner_point r b) (terminate_cases r (the_block app b.0).next)
+  all_terminates (runner.Task t) owns is = terminate_task_cases app t b owns is
+  all_terminates (runner.Routine over) owns is = terminate_routine_cases app over b owns is
 
-  pub all_schedules : (r : Runner) → OwnsBlock app r b → (the_block app b.0).kind ≡ kind.Call (call.Plain call.Schedule) → AreCasesOf app (runner_point r b) entry (schedule_cases r (the_block app b.0).next)
-  all_schedules (runner.Task t) owns is = schedule_task_cases app t b entry owns is
-  all_schedules (runner.Routine over) owns is = schedule_routine_cases app over b entry owns is
+  pub all_schedules : (r : Runner) → OwnsBlock app r b → (the_block app b.0).kind ≡ kind.Call (call.Plain call.Schedule) → AreCasesOf app (runner_point r b) (schedule_cases r (the_block app b.0).next)
+  all_schedules (runner.Task t) owns is = schedule_task_cases app t b owns is
+  all_schedules (runner.Routine over) owns is = schedule_routine_cases app over b owns is

@@ -10,10 +10,9 @@ use Rattle.osek_standard.specs.declared.task_state.Activity.TheVariants as activ
 use Rattle.osek_standard.specs.TaskStates.{held, held_in, is_live_activity}
 use Rattle.osek_standard.specs.States.{task_state, place_by, place_in}
 use Rattle.osek_standard.specs.Services.{holds_some}
-use Rattle.abstract_state.specs.declared.value.{Val.{Val}, Val.TheVariants.{Live}, PartValue.TheVariants.{OfTask}}
+use Rattle.abstract_state.specs.declared.value.{Val.TheVariants.{Live}, PartValue.TheVariants.{OfTask}}
 use Rattle.abstract_state.specs.Components.{component_count, abstract_of, value_in, live_val}
 use Rattle.abstract_state.proofs.ComponentLaws.{task_counted}
-use Rattle.abstract_state.proofs.OrderLaws.{part_right, part_itself}
 use Rattle.flow_model.specs.declared.test.Test.{Test}
 use Rattle.flow_model.specs.declared.test.Test.TheVariants as test
 use Rattle.flow_model.specs.declared.runner.Runner.TheVariants as runner
@@ -22,7 +21,7 @@ use Rattle.flow_model.specs.Tests.{passes, PassesAll}
 use Rattle.flow_model.specs.Runners.{Stands}
 use Rattle.flow_model.proofs.ChangeLaws.{one_passes, passes_one}
 use Rattle.flow_services.proofs.Seeing.{task_value}
-use Rattle.flow_effects.specs.Lists.{of_task}
+use Rattle.flow_effects.specs.Conditions.{of_task}
 
 pub held_value : (a : Activity) → held_of (value_in a) ≡ held_in a
 held_value activity.Suspended = refl
@@ -64,13 +63,6 @@ module _ (app : App) (s : State) (t : TaskNo) (known : t.0 < length app.tasks) w
 
   pub none_holds : holds_some s t.0 ≡ false → IsTrue (passes test.HoldsNothing (abstract_of app s t.0))
   none_holds e = nothing_is ∙ not-false (length (held (task_state s t.0)) == 0) e
-
-  -- which value it has
-  pub value_is : (v : Val) → IsTrue (passes (test.Is (OfTask v)) (abstract_of app s t.0)) → value_in (task_state s t.0).activity ≡ v
-  value_is v h = let e : OfTask (value_in (task_state s t.0).activity) ≡ OfTask v = sym value ∙ part_right (abstract_of app s t.0) (OfTask v) h in cc
-
-  pub is_value : (v : Val) → value_in (task_state s t.0).activity ≡ v → IsTrue (passes (test.Is (OfTask v)) (abstract_of app s t.0))
-  is_value v e = test_value (test.Is (OfTask v)) ∙ ap (λ (w : Val). passes (test.Is (OfTask v)) (OfTask w)) e ∙ part_itself (OfTask v)
 
 -- the running task stands at the block
 pub stands_block : (app : App) (s : State) (t : TaskNo) (b : BlockNo) → Stands app s (runner.Task t) b → (place_in (task_state s t.0).activity).block ≡ b

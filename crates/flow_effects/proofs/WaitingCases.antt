@@ -25,7 +25,6 @@ use Rattle.osek_standard.specs.Effects.{effect, noted, goes_on_unless_left, move
 use Rattle.osek_standard.proofs.Members.{Among, among_map, map_among}
 use Rattle.abstract_state.specs.declared.value.{Val.TheVariants.{Waiting}, PartValue.TheVariants.{OfTask, OfEvent}}
 use Rattle.abstract_state.specs.declared.value.Component.TheVariants as component
-use Rattle.abstract_state.specs.declared.table.Entry.{Entry}
 use Rattle.abstract_state.specs.Components.{component_at, component_count, component_number, abstract_of, part_of}
 use Rattle.abstract_state.specs.Domains.{HasMasks}
 use Rattle.abstract_state.proofs.Numbers.{component_here, number_known}
@@ -47,11 +46,12 @@ use Rattle.flow_model.proofs.Standing.{next_owned, point_there, task_calls, rout
 use Rattle.flow_model.proofs.Instructions.{effect_there}
 use Rattle.flow_model.proofs.Moves.{activity_parts, moved_parts, went_on}
 use Rattle.flow_model.proofs.Calls.{has_effect}
-use Rattle.flow_effects.specs.Lists.{of_task, AreCasesOf}
+use Rattle.flow_model.specs.Effects.{AreCasesOf}
+use Rattle.flow_effects.specs.Conditions.{of_task}
 use Rattle.flow_effects.specs.Moves.{refuses}
 use Rattle.flow_effects.specs.TaskEnds.{refused_holding}
 use Rattle.flow_effects.specs.Waiting.{of_event, awaited_events, goes_on_by, waits, extended_cases, wait_cases}
-use Rattle.flow_effects.proofs.Listed.{IsEffect, AreListed, IsTaken, are_cases, more_listed}
+use Rattle.flow_effects.proofs.Listed.{IsEffect, IsCase, AreListed, IsTaken, are_cases, more_listed}
 use Rattle.flow_effects.proofs.TaskValues.{counted, task_passes, passes_task, some_is, holds_none, none_holds}
 use Rattle.flow_effects.proofs.TaskEndCases.{left_parts}
 use Rattle.flow_effects.proofs.MoveCases.{one_case}
@@ -104,7 +104,7 @@ some_or_none p (x ∷ xs) = elim (cases_Bool (p x)) [
   ]
 ]
 
-module _ (app : App) (t : TaskNo) (b : BlockNo) (entry : Entry) (owns : OwnsBlock app (runner.Task t) b) (m : Mask) (is : (the_block app b.0).kind ≡ kind.Call (call.Mask call.WaitEvent m)) where
+module _ (app : App) (t : TaskNo) (b : BlockNo) (owns : OwnsBlock app (runner.Task t) b) (m : Mask) (is : (the_block app b.0).kind ≡ kind.Call (call.Mask call.WaitEvent m)) where
   abbrev r : Runner
   r = runner.Task t
 
@@ -145,8 +145,8 @@ module _ (app : App) (t : TaskNo) (b : BlockNo) (entry : Entry) (owns : OwnsBloc
   wait_waits s e f g = rw (e, f, g) refl
 
   -- a basic task
-  basic : not (is_extended app t.0) ≡ true → AreCasesOf app (runner_point r b) entry (refuses r next status.Access)
-  basic e = one_case app r b entry owns (goes_on r next [] asked.No (Some status.Access)) refl (λ s choice h within passing. noted_on s choice [] status.Access h (wait_basic s e) passing)
+  basic : not (is_extended app t.0) ≡ true → AreCasesOf app (runner_point r b) (refuses r next status.Access)
+  basic e = one_case app r b owns (goes_on r next [] asked.No (Some status.Access)) refl (tt, λ s choice h passing. noted_on s choice [] status.Access h (wait_basic s e) passing)
 
   -- an event's component
   abbrev event : ℕ → ℕ
@@ -183,26 +183,26 @@ module _ (app : App) (t : TaskNo) (b : BlockNo) (entry : Entry) (owns : OwnsBloc
     free_of s more passing = holds_none app s t owns.0 (each_passes app (abstract_of app s) (nothing ∷ more) passing nothing (inl refl) (counted app s t owns.0))
 
     -- RESOURCE
-    refused_is : IsEffect app r b entry (refused_holding t next)
-    refused_is s choice h within passing =
+    refused_is : IsEffect app r b (refused_holding t next)
+    refused_is s choice h passing =
         let holds : holds_some s t.0 ≡ true = sym (some_is app s t owns.0) ∙ task_passes app s t owns.0 test.HoldsSome passing in
         noted_on s choice (of_task t test.HoldsSome ∷ []) status.Resource h (wait_refused s extended holds) passing
 
     -- an event is set
-    goes_is : (k : ℕ) → Among k events → IsEffect app r b entry (goes_on_by app t next k)
-    goes_is k among s choice h within passing =
+    goes_is : (k : ℕ) → Among k events → IsEffect app r b (goes_on_by app t next k)
+    goes_is k among s choice h passing =
         let conditions : List Condition = nothing ∷ of_event app t true k ∷ [] in
         let set : has_bit (task_state s t.0).events.0 k ≡ true
         = event_is s k true among (each_passes app (abstract_of app s) (nothing ∷ of_event app t true k ∷ []) passing (of_event app t true k) (inr (inl refl)) (event_counted k among)) in
         noted_on s choice (nothing ∷ of_event app t true k ∷ []) status.Ok h
         (wait_accepted s extended (free_of s (of_event app t true k ∷ []) passing) (shares (task_state s t.0).events.0 m.0 k set (mask_at k among))) passing
 
-    goes_listed : AreListed app r b entry (map (goes_on_by app t next) events)
-    goes_listed y n = let back = map_among (goes_on_by app t next) y events n in subst (IsEffect app r b entry) (sym back.2) (goes_is back.0 back.1)
+    goes_listed : AreListed app r b (map (goes_on_by app t next) events)
+    goes_listed y n = let back = map_among (goes_on_by app t next) y events n in subst (IsCase app r b) (sym back.2) (tt, goes_is back.0 back.1)
 
     -- none is
-    waits_is : IsEffect app r b entry (waits app t b events)
-    waits_is s choice h within passing =
+    waits_is : IsEffect app r b (waits app t b events)
+    waits_is s choice h passing =
         let unset : (k : ℕ) → Among k events → has_bit (task_state s t.0).events.0 k ≡ false
         = λ k among. event_is s k false among (each_passes app (abstract_of app s) (nothing ∷ map (of_event app t false) events) passing (of_event app t false k) (inr (among_map (of_event app t false) k events among)) (event_counted k among)) in
         let none : share (task_state s t.0).events.0 m.0 ≡ false = no_share (task_state s t.0).events.0 m.0 (the_task app t.0).own.0 (h.well.tasks t.0 owns.0).events (few t.0 no_task owns.0) unset in
@@ -214,7 +214,7 @@ module _ (app : App) (t : TaskNo) (b : BlockNo) (entry : Entry) (owns : OwnsBloc
         ∙ activity_parts app s t.0 (record (task_state s t.0) { activity = activity.Waiting (here s).block }) there refl (update.Set (OfTask (Waiting b))) owns.0 (ap (λ (d : BlockNo). OfTask (Waiting d)) (sym h.block)) c lt)
         refl refl
 
-    extended_taken : (s : State) → Stands app s r b → IsTaken app r b entry s (extended_cases app t b next m)
+    extended_taken : (s : State) → Stands app s r b → IsTaken app r b s (extended_cases app t b next m)
     extended_taken s h = elim (cases_Bool (holds_some s t.0)) [
       | inl some ↦ record { case = refused_holding t next; among = inl refl; passes = passes_task app s t owns.0 test.HoldsSome (some_is app s t owns.0 ∙ some) }
       | inr free ↦ elim (some_or_none (has_bit (task_state s t.0).events.0) events) [
@@ -240,20 +240,20 @@ module _ (app : App) (t : TaskNo) (b : BlockNo) (entry : Entry) (owns : OwnsBloc
       ]
     ]
 
-    all_extended : AreCasesOf app (runner_point r b) entry (extended_cases app t b next m)
-    all_extended = are_cases app r b entry owns (extended_cases app t b next m)
-        (more_listed app r b entry (refused_holding t next) (waits app t b events ∷ map (goes_on_by app t next) events) refused_is
-        (more_listed app r b entry (waits app t b events) (map (goes_on_by app t next) events) waits_is goes_listed))
-        (λ s h within. extended_taken s h)
+    all_extended : AreCasesOf app (runner_point r b) (extended_cases app t b next m)
+    all_extended = are_cases app r b owns (extended_cases app t b next m)
+        (more_listed app r b (refused_holding t next) (waits app t b events ∷ map (goes_on_by app t next) events) (tt, refused_is)
+        (more_listed app r b (waits app t b events) (map (goes_on_by app t next) events) (tt, waits_is) goes_listed))
+        (λ s h. extended_taken s h)
 
-  pub wait_task_cases : HasMasks app → AreCasesOf app (runner_point r b) entry (wait_cases app r b next m)
+  pub wait_task_cases : HasMasks app → AreCasesOf app (runner_point r b) (wait_cases app r b next m)
   wait_task_cases few = elim (cases_Bool (is_extended app t.0)) [
     | inl e ↦ (rw e (all_extended few (ap (λ (a : Bool). not a) e)))
     | inr e ↦ (rw e (basic (ap (λ (a : Bool). not a) e)))
   ]
 
 -- a routine's call is refused
-module _ (app : App) (b : BlockNo) (entry : Entry) (m : Mask) (is : (the_block app b.0).kind ≡ kind.Call (call.Mask call.WaitEvent m)) where
+module _ (app : App) (b : BlockNo) (m : Mask) (is : (the_block app b.0).kind ≡ kind.Call (call.Mask call.WaitEvent m)) where
   module _ (over : Option TaskNo) (owns : OwnsBlock app (runner.Routine over) b) where
     abbrev onto : BlockNo
     onto = (the_block app b.0).next
@@ -262,14 +262,17 @@ module _ (app : App) (b : BlockNo) (entry : Entry) (m : Mask) (is : (the_block a
     unfolding wait_event
     at_interrupt s c k e = ap (λ (d : Caller). wait_event app s d m.0) e
 
-    wait_routine_cases : AreCasesOf app (runner_point (runner.Routine over) b) entry (refuses (runner.Routine over) onto status.CallLevel)
-    wait_routine_cases = one_case app (runner.Routine over) b entry owns (goes_on (runner.Routine over) onto [] asked.No (Some status.CallLevel)) refl (λ s choice h within passing.
-        has_effect app (goes_on (runner.Routine over) onto [] asked.No (Some status.CallLevel)) s choice (noted app (answer (moved_to s onto) (Some status.CallLevel) None ask.No))
-        (effect_there app s (runner.Routine over) b (kind.Call (call.Mask call.WaitEvent m)) choice h is
-        ∙ ap (λ (y : Answer). noted app (goes_on_unless_left onto y)) (at_interrupt s (caller s.processor) h.runs.source (routine_calls app s over b h)))
-        passing (point_there app (moved_to s onto) (runner.Routine over) onto (went_on app s (runner.Routine over) b onto h (next_owned app s (runner.Routine over) b h)))
-        (λ c lt. moved_parts app s onto 0 (runner.Routine over) b h c lt) refl refl)
+    wait_routine_cases : AreCasesOf app (runner_point (runner.Routine over) b) (refuses (runner.Routine over) onto status.CallLevel)
+    wait_routine_cases = one_case app (runner.Routine over) b owns (goes_on (runner.Routine over) onto [] asked.No (Some status.CallLevel)) refl (
+      tt,
+      λ s choice h passing.
+          has_effect app (goes_on (runner.Routine over) onto [] asked.No (Some status.CallLevel)) s choice (noted app (answer (moved_to s onto) (Some status.CallLevel) None ask.No))
+          (effect_there app s (runner.Routine over) b (kind.Call (call.Mask call.WaitEvent m)) choice h is
+          ∙ ap (λ (y : Answer). noted app (goes_on_unless_left onto y)) (at_interrupt s (caller s.processor) h.runs.source (routine_calls app s over b h)))
+          passing (point_there app (moved_to s onto) (runner.Routine over) onto (went_on app s (runner.Routine over) b onto h (next_owned app s (runner.Routine over) b h)))
+          (λ c lt. moved_parts app s onto 0 (runner.Routine over) b h c lt) refl refl,
+    )
 
-  pub all_waits : (r : Runner) → HasMasks app → OwnsBlock app r b → AreCasesOf app (runner_point r b) entry (wait_cases app r b (the_block app b.0).next m)
-  all_waits (runner.Task t) few owns = wait_task_cases app t b entry owns m is few
+  pub all_waits : (r : Runner) → HasMasks app → OwnsBlock app r b → AreCasesOf app (runner_point r b) (wait_cases app r b (the_block app b.0).next m)
+  all_waits (runner.Task t) few owns = wait_task_cases app t b owns m is few
   all_waits (runner.Routine over) few owns = wait_routine_cases over owns

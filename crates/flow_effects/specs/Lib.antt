@@ -1,8 +1,7 @@
 pub mod CallNames
-pub mod Lists
+pub mod Conditions
 pub mod Moves
 pub mod TaskEnds
 pub mod Resources
 pub mod Waiting
 pub mod Returns
-pub mod Reading

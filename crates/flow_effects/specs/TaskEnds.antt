@@ -17,7 +17,7 @@ use Rattle.flow_model.specs.declared.runner.Runner.TheVariants as runner
 use Rattle.flow_model.specs.Changes.{activating}
 use Rattle.flow_model.specs.Runners.{change}
 use Rattle.flow_model.specs.Cases.{effect_case, goes_on}
-use Rattle.flow_effects.specs.Lists.{of_task}
+use Rattle.flow_effects.specs.Conditions.{of_task}
 use Rattle.flow_effects.specs.Moves.{stays, refuses}
 
 -- the task becomes suspended

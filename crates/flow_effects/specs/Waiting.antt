@@ -20,7 +20,7 @@ use Rattle.flow_model.specs.declared.runner.Runner.{Runner}
 use Rattle.flow_model.specs.declared.runner.Runner.TheVariants as runner
 use Rattle.flow_model.specs.Runners.{change}
 use Rattle.flow_model.specs.Cases.{condition, effect_case, goes_on}
-use Rattle.flow_effects.specs.Lists.{of_task}
+use Rattle.flow_effects.specs.Conditions.{of_task}
 use Rattle.flow_effects.specs.Moves.{refuses}
 use Rattle.flow_effects.specs.TaskEnds.{refused_holding}
 

@@ -5,19 +5,17 @@ ghost use Rattle.osek_standard.specs.Apps.{the_block};
 ghost use Rattle.osek_standard.specs.Points.{IsPoint};
 ghost use Rattle.abstract_state.specs.declared.table.Entry.{Entry};
 ghost use Rattle.abstract_state.specs.Domains.{domains, domains_of};
-ghost use Rattle.flow_model.specs.Effects.{AreAllAllowed, CoverEffects, AreExactEffects};
+ghost use Rattle.flow_model.specs.Effects.{AreAllAllowed, CoverEffects, AreExactEffects, HaveKnownStays, AreCasesOf};
 ghost use Rattle.flow_model.specs.Runners.{runner_point, OwnsBlock};
 ghost use Rattle.flow_services.specs.Services.{is_service, is_service_call};
 ghost use Rattle.flow_effects.specs.CallNames as call;
-ghost use Rattle.flow_effects.specs.Lists.{AreCasesOfAny};
-ghost use Rattle.flow_effects.specs.Reading.{AreReadAt, AreCasesOver};
 
 use crate::moves::{choice_cases, halts, onward, work_cases};
 use crate::resources::{get_cases, release_cases};
 use crate::returns::return_cases;
 use crate::task_ends::{chain_cases, schedule_cases, task_end_cases, terminate_cases};
 use crate::waiting::wait_cases;
-use abstract_state::{PartValue, Point, masks_are_few};
+use abstract_state::{Point, masks_are_few};
 use flow_model::{EffectCase, Runner, task_of};
 use flow_services::{is_service, service_cases};
 use osek_standard::{App, Call, Kind, MaskService, PlainService, ResourceService, TaskService};
@@ -35,7 +33,7 @@ fn plain_cases(
     requires owns { OwnsBlock app.now runner block }
     requires kind { (the_block app.now block.0).kind ≡ kind.Call (call.Plain service) }
     requires unserved { is_service_call (call.Plain service) ≡ false }
-    ensures { IfOk result (AreCasesOfAny app.now (runner_point runner block)) }
+    ensures { IfOk result (AreCasesOf app.now (runner_point runner block)) }
 {
     let next = app.block(block).next;
     match service {
@@ -57,7 +55,7 @@ fn task_cases(
     requires owns { OwnsBlock app.now runner block }
     requires kind { (the_block app.now block.0).kind ≡ kind.Call (call.Task service task) }
     requires unserved { is_service_call (call.Task service task) ≡ false }
-    ensures { IfOk result (AreCasesOfAny app.now (runner_point runner block)) }
+    ensures { IfOk result (AreCasesOf app.now (runner_point runner block)) }
 {
     let next = app.block(block).next;
     match service {
@@ -75,18 +73,15 @@ fn resource_cases(
     block: BlockNo,
     service: ResourceService,
     resource: ResNo,
-    values: &[PartValue],
 ) -> Result<Seq<EffectCase>, Memory>
     requires owns { OwnsBlock app.now runner block }
     requires kind { (the_block app.now block.0).kind ≡ kind.Call (call.Resource service resource) }
-    ensures { IfOk result (AreCasesOver app.now (runner_point runner block) values.now) }
+    ensures { IfOk result (AreCasesOf app.now (runner_point runner block)) }
 {
     let next = app.block(block).next;
     match service {
-        ResourceService::GetResource => get_cases(alloc, app, runner, next, resource, values),
-        ResourceService::ReleaseResource => {
-            release_cases(alloc, app, runner, next, resource, values)
-        }
+        ResourceService::GetResource => get_cases(alloc, app, runner, next, resource),
+        ResourceService::ReleaseResource => release_cases(alloc, app, runner, next, resource),
     }
 }
 
@@ -102,7 +97,7 @@ fn mask_cases(
     requires owns { OwnsBlock app.now runner block }
     requires kind { (the_block app.now block.0).kind ≡ kind.Call (call.Mask service mask) }
     requires unserved { is_service_call (call.Mask service mask) ≡ false }
-    ensures { IfOk result (AreCasesOfAny app.now (runner_point runner block)) }
+    ensures { IfOk result (AreCasesOf app.now (runner_point runner block)) }
 {
     let next = app.block(block).next;
     match service {
@@ -121,18 +116,17 @@ fn call_cases(
     runner: Runner,
     block: BlockNo,
     call: Call,
-    values: &[PartValue],
 ) -> Result<Seq<EffectCase>, Memory>
     requires owns { OwnsBlock app.now runner block }
     requires kind { (the_block app.now block.0).kind ≡ kind.Call call }
     requires unserved { is_service_call call ≡ false }
-    ensures { IfOk result (AreCasesOver app.now (runner_point runner block) values.now) }
+    ensures { IfOk result (AreCasesOf app.now (runner_point runner block)) }
 {
     match call {
         Call::Plain(service) => plain_cases(alloc, app, runner, block, service),
         Call::Task(service, task) => task_cases(alloc, app, runner, block, service, task),
         Call::Resource(service, resource) => {
-            resource_cases(alloc, app, runner, block, service, resource, values)
+            resource_cases(alloc, app, runner, block, service, resource)
         }
         Call::Mask(service, mask) => mask_cases(alloc, app, runner, block, service, mask),
         Call::SetEvent(_, _) | Call::Alarm(_, _) => Ok(Seq::new(alloc)),
@@ -147,20 +141,19 @@ fn instruction_cases(
     app: &App,
     runner: Runner,
     block: BlockNo,
-    values: &[PartValue],
 ) -> Result<Seq<EffectCase>, Memory>
     requires owns { OwnsBlock app.now runner block }
     requires unserved { is_service (the_block app.now block.0).kind ≡ false }
-    ensures { IfOk result (AreCasesOver app.now (runner_point runner block) values.now) }
+    ensures { IfOk result (AreCasesOf app.now (runner_point runner block)) }
 {
     let next = app.block(block).next;
     match app.block(block).kind {
         Kind::Work(count) => work_cases(alloc, runner, block, next, count),
         Kind::Choice(other) => choice_cases(alloc, runner, next, other),
         Kind::Loop => onward(alloc, runner, next),
-        Kind::Call(call) => call_cases(alloc, app, runner, block, call, values),
+        Kind::Call(call) => call_cases(alloc, app, runner, block, call),
         Kind::TaskEnd => task_end_cases(alloc, runner, block),
-        Kind::IsrEnd => return_cases(alloc, app, runner, block, values),
+        Kind::IsrEnd => return_cases(alloc, app, runner, block),
         Kind::CountUp => onward(alloc, runner, next),
         Kind::Expire(_) => Ok(Seq::new(alloc)),
     }
@@ -172,38 +165,29 @@ fn block_cases(
     app: &App,
     runner: Runner,
     block: BlockNo,
-    values: &[PartValue],
 ) -> Result<Seq<EffectCase>, Memory>
     requires { OwnsBlock app.now runner block }
-    ensures { IfOk result (AreCasesOver app.now (runner_point runner block) values.now) }
+    ensures { IfOk result (AreCasesOf app.now (runner_point runner block)) }
 {
     if is_service(app.block(block).kind) {
-        let cases = service_cases(alloc, app, runner, block, values)?;
-        return Ok(cases);
+        return service_cases(alloc, app, runner, block);
     }
-    instruction_cases(alloc, app, runner, block, values)
+    instruction_cases(alloc, app, runner, block)
 }
 
-/// The cases of the effect of the instruction at a point: which values it takes, and what it makes of them. `values` are those
-/// of the task that is read there (`read_task`); where none is read they are of no account. Where nobody executes there is no
-/// case.
-pub fn effect_cases(
-    alloc: Global,
-    app: &App,
-    point: Point,
-    values: &[PartValue],
-) -> Result<Seq<EffectCase>, Memory>
+/// The cases of the effect of the instruction at a point: which values of the components it takes, and what it makes of
+/// them. Where nobody executes there is no case.
+pub fn effect_cases(alloc: Global, app: &App, point: Point) -> Result<Seq<EffectCase>, Memory>
     requires point { IsPoint app.now point }
-    ensures covering { IfOk result (λ cases. (entry : Entry) → domains entry ≡ domains_of app.now → AreReadAt app.now point entry values.now → CoverEffects app.now point entry cases) }
-    ensures exact { IfOk result (λ cases. (entry : Entry) → domains entry ≡ domains_of app.now → AreReadAt app.now point entry values.now → AreAllAllowed app.now point entry → AreExactEffects app.now point entry cases) }
+    ensures covering { IfOk result (λ cases. (entry : Entry) → domains entry ≡ domains_of app.now → CoverEffects app.now point entry cases) }
+    ensures exact { IfOk result (λ cases. (entry : Entry) → domains entry ≡ domains_of app.now → AreAllAllowed app.now point entry → AreExactEffects app.now point entry cases) }
+    ensures stays { IfOk result (HaveKnownStays app.now) }
 {
     match point {
         Point::Halted | Point::Idle => Ok(Seq::new(alloc)),
-        Point::Task(block) => {
-            block_cases(alloc, app, Runner::Task(task_of(app, block)), block, values)
-        }
+        Point::Task(block) => block_cases(alloc, app, Runner::Task(task_of(app, block)), block),
         Point::Routine { block, over } => {
-            block_cases(alloc, app, Runner::Routine { over }, block, values)
+            block_cases(alloc, app, Runner::Routine { over }, block)
         }
     }
 }

@@ -4,11 +4,9 @@
 mod conditions;
 mod instruction;
 mod moves;
-mod reading;
 mod resources;
 mod returns;
 mod task_ends;
 mod waiting;
 
 pub use instruction::effect_cases;
-pub use reading::read_task;

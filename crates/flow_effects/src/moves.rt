@@ -4,7 +4,7 @@ ghost use Rattle.flow_effects.specs.Moves.{stays, passes_by, onward, refuses, wo
 
 use crate::conditions::one;
 use abstract_state::Point;
-use flow_model::{Asked, EffectCase, Runner};
+use flow_model::{Asked, EffectCase, Leaving, Runner};
 use osek_values::{BlockNo, Memory, Seq, Status};
 use std::alloc::Global;
 
@@ -15,9 +15,7 @@ pub fn stays(alloc: Global, runner: Runner, block: BlockNo) -> EffectCase
     EffectCase {
         conditions: Seq::new(alloc),
         changes: Seq::new(alloc),
-        asked: Asked::No,
-        status: None,
-        point: runner.at(block),
+        leaving: Leaving::at(runner.at(block), Asked::No, None),
     }
 }
 
@@ -91,9 +89,7 @@ pub fn halts(alloc: Global, runner: Runner, next: BlockNo) -> Result<Seq<EffectC
         EffectCase {
             conditions: Seq::new(alloc),
             changes: runner.moving(alloc, next)?,
-            asked: Asked::No,
-            status: None,
-            point: Point::Halted,
+            leaving: Leaving::at(Point::Halted, Asked::No, None),
         },
     )
 }

@@ -1,40 +1,38 @@
 //! GetResource and ReleaseResource.
-ghost use Rattle.std.specs.Prelude.{◌≡◌, ◌<◌, ◌≤◌, ◌++◌, length, OnOk, IfOk};
+ghost use Rattle.std.specs.Prelude.{◌≡◌, ◌<◌, ◌≤◌, [], ◌∷◌, ◌++◌, length, OnOk, IfOk};
 ghost use Rattle.flow_model.specs.Runners.{IsKnown};
-ghost use Rattle.flow_effects.specs.Lists.{cases_over};
-ghost use Rattle.flow_effects.specs.Resources.{with_stack_at, only, nobody_holds, taken_cases, may_take, takes, gives_back, is_barred, get_cases, release_cases};
+ghost use Rattle.flow_effects.specs.Resources.{restacks, only, nobody_holds, taken_cases, takes, gives_back, isnt_on_top, is_barred, get_cases, release_cases};
 
-use crate::conditions::{if_live, if_task, of_task, value_of};
+use crate::conditions::{if_task, of_task, one};
 use crate::moves::{onward, refuses};
-use abstract_state::{ComponentNo, LiveVal, PartValue, Val};
-use flow_model::{Asked, Change, Condition, EffectCase, Runner, Test, Update};
+use abstract_state::ComponentNo;
+use flow_model::{Asked, Change, Condition, EffectCase, Leaving, Runner, Test, Update};
 use osek_standard::App;
-use osek_values::limits::{MAX_RESOURCES, MAX_TASKS};
-use osek_values::{BlockNo, Held, Mask, Memory, ResNo, Seq, Status, TaskNo};
+use osek_values::limits::MAX_TASKS;
+use osek_values::{BlockNo, Mask, Memory, ResNo, Seq, Status, TaskNo};
 use std::alloc::Global;
 
-/// The case in which a task has a value, and this stack at its next block.
-fn with_stack_at(
+/// The case in which a task goes on to its next block, where it takes or gives back a resource.
+fn restacks(
     alloc: Global,
     task: TaskNo,
     next: BlockNo,
     conditions: Seq<Condition>,
-    held: Held,
+    update: Update,
     asked: Asked,
 ) -> Result<EffectCase, Memory>
-    ensures { IfOk result (λ case. case ≡ with_stack_at task next conditions held asked) }
+    ensures { IfOk result (λ case. case ≡ restacks task next conditions update asked) }
 {
     let mut changes = Seq::new(alloc);
     changes.push(Change {
         component: ComponentNo(task.0 as u16),
-        update: Update::Set(value_of(&LiveVal { block: next, held })),
+        update,
     })?;
+    let point = Runner::Task(task).at(next);
     Ok(EffectCase {
         conditions,
         changes,
-        asked,
-        status: Some(Status::Ok),
-        point: Runner::Task(task).at(next),
+        leaving: Leaving::at(point, asked, Some(Status::Ok)),
     })
 }
 
@@ -83,36 +81,25 @@ fn taken_cases(
     Ok(cases)
 }
 
-/// Whether a value has room for the resource, and doesn't hold it.
-fn may_take(resource: ResNo, live: &LiveVal) -> bool
-    ensures { result ≡ may_take resource live.now }
-{
-    !live.held.has(resource) && live.held.as_slice().len() < MAX_RESOURCES
-}
-
-/// Adds the case in which a task of this value takes the resource, if it may.
-fn add_takes(
+/// The case in which no task has the resource, and the caller takes it.
+fn takes(
     alloc: Global,
-    cases: &mut Seq<EffectCase>,
     task: TaskNo,
     next: BlockNo,
     resource: ResNo,
     tasks: usize,
-    live: &LiveVal,
-) -> Result<(), Memory>
+) -> Result<EffectCase, Memory>
     requires known { resource.0 < 64 }
     requires few { tasks ≤ MAX_TASKS }
-    ensures { OnOk result (cases.new ≡ cases.old ++ takes task next resource tasks live.now) }
+    ensures { IfOk result (λ case. case ≡ takes task next resource tasks) }
 {
-    if !may_take(resource, live) {
-        return Ok(());
-    }
-    let mut conditions = if_live(alloc, task, live)?;
+    let mut conditions = Seq::new(alloc);
     add_nobody_holds(&mut conditions, resource, tasks)?;
-    let mut held = live.held.copy();
-    held.push(resource);
-    cases.push(with_stack_at(alloc, task, next, conditions, held, Asked::No)?)?;
-    Ok(())
+    let update = Update::Take {
+        resource,
+        block: next,
+    };
+    restacks(alloc, task, next, conditions, update, Asked::No)
 }
 
 /// Whether the ceiling of a resource is below the task's own priority.
@@ -124,119 +111,97 @@ fn is_barred(app: &App, task: TaskNo, resource: ResNo) -> bool
     app.resource(resource).ceiling < 2 * app.task(task).priority as u32
 }
 
-/// GetResource of a task of these values that isn't barred from the resource.
+/// GetResource of a task that isn't barred from the resource.
 fn free_cases(
     alloc: Global,
     app: &App,
     task: TaskNo,
     next: BlockNo,
     resource: ResNo,
-    values: &[PartValue],
 ) -> Result<Seq<EffectCase>, Memory>
     requires task { task.0 < length app.now.tasks }
     requires resource { resource.0 < length app.now.resources }
-    ensures { IfOk result (λ cases. cases ≡ taken_cases task next resource (length app.now.tasks) ++ cases_over (takes task next resource (length app.now.tasks)) values.now) }
+    ensures { IfOk result (λ cases. cases ≡ taken_cases task next resource (length app.now.tasks) ++ takes task next resource (length app.now.tasks) ∷ []) }
 {
     let tasks = app.tasks.len();
     let mut cases = taken_cases(alloc, task, next, resource, tasks)?;
-    for value in values {
-        if let PartValue::OfTask(Val::Live(live)) = value {
-            add_takes(alloc, &mut cases, task, next, resource, tasks, live)?;
-        }
-    }
+    cases.push(takes(alloc, task, next, resource, tasks)?)?;
     Ok(cases)
 }
 
-/// GetResource, where these are the caller's values.
+/// GetResource.
 pub fn get_cases(
     alloc: Global,
     app: &App,
     runner: Runner,
     next: BlockNo,
     resource: ResNo,
-    values: &[PartValue],
 ) -> Result<Seq<EffectCase>, Memory>
     requires known { IsKnown app.now runner }
     requires resource { resource.0 < length app.now.resources }
-    ensures { IfOk result (λ cases. cases ≡ get_cases app.now runner next resource values.now) }
+    ensures { IfOk result (λ cases. cases ≡ get_cases app.now runner next resource) }
 {
     match runner {
         Runner::Task(task) => {
             if is_barred(app, task, resource) {
                 return refuses(alloc, runner, next, Status::Access);
             }
-            free_cases(alloc, app, task, next, resource, values)
+            free_cases(alloc, app, task, next, resource)
         }
         Runner::Routine { over: _ } => onward(alloc, runner, next),
     }
 }
 
-/// Adds the case in which a task of this value gives the resource back, or is refused since it isn't on top.
-fn add_gives_back(
+/// The case in which the resource is on top of the caller's stack, and is given back.
+fn gives_back(
     alloc: Global,
     app: &App,
-    cases: &mut Seq<EffectCase>,
     task: TaskNo,
     next: BlockNo,
     resource: ResNo,
-    live: &LiveVal,
-) -> Result<(), Memory>
+) -> Result<EffectCase, Memory>
     requires { task.0 < length app.now.tasks }
-    ensures { OnOk result (cases.new ≡ cases.old ++ gives_back app.now task next resource live.now) }
+    ensures { IfOk result (λ case. case ≡ gives_back app.now task next resource) }
 {
-    let runner = Runner::Task(task);
-    let conditions = if_live(alloc, task, live)?;
-    let case = if live.held.last() == Some(resource) {
-        let mut held = live.held.copy();
-        held.pop();
-        with_stack_at(alloc, task, next, conditions, held, runner.asked(app))?
-    } else {
-        runner.goes_on(alloc, next, conditions, Asked::No, Some(Status::NoFunc))?
-    };
-    cases.push(case)?;
-    Ok(())
+    let conditions = if_task(alloc, task, Test::OnTop(resource))?;
+    let update = Update::Give { block: next };
+    let asked = Runner::Task(task).asked(app);
+    restacks(alloc, task, next, conditions, update, asked)
 }
 
-/// ReleaseResource of a task of these values that isn't barred from the resource.
-fn given_cases(
+/// The case in which it isn't on top, and the call is refused.
+fn isnt_on_top(
     alloc: Global,
-    app: &App,
     task: TaskNo,
     next: BlockNo,
     resource: ResNo,
-    values: &[PartValue],
-) -> Result<Seq<EffectCase>, Memory>
-    requires task { task.0 < length app.now.tasks }
-    ensures { IfOk result (λ cases. cases ≡ cases_over (gives_back app.now task next resource) values.now) }
+) -> Result<EffectCase, Memory>
+    ensures { IfOk result (λ case. case ≡ isnt_on_top task next resource) }
 {
-    let mut cases = Seq::new(alloc);
-    for value in values {
-        if let PartValue::OfTask(Val::Live(live)) = value {
-            add_gives_back(alloc, app, &mut cases, task, next, resource, live)?;
-        }
-    }
-    Ok(cases)
+    let conditions = if_task(alloc, task, Test::NotOnTop(resource))?;
+    Runner::Task(task).goes_on(alloc, next, conditions, Asked::No, Some(Status::NoFunc))
 }
 
-/// ReleaseResource, where these are the caller's values.
+/// ReleaseResource.
 pub fn release_cases(
     alloc: Global,
     app: &App,
     runner: Runner,
     next: BlockNo,
     resource: ResNo,
-    values: &[PartValue],
 ) -> Result<Seq<EffectCase>, Memory>
     requires known { IsKnown app.now runner }
     requires resource { resource.0 < length app.now.resources }
-    ensures { IfOk result (λ cases. cases ≡ release_cases app.now runner next resource values.now) }
+    ensures { IfOk result (λ cases. cases ≡ release_cases app.now runner next resource) }
 {
     match runner {
         Runner::Task(task) => {
             if is_barred(app, task, resource) {
                 return refuses(alloc, runner, next, Status::Access);
             }
-            given_cases(alloc, app, task, next, resource, values)
+            let mut cases = one(alloc, gives_back(alloc, app, task, next, resource)?)?;
+            cases.push(isnt_on_top(alloc, task, next, resource)?)?;
+            Ok(cases)
         }
         Runner::Routine { over: _ } => onward(alloc, runner, next),
     }

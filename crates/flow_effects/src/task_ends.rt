@@ -1,12 +1,12 @@
 //! The end of a task, and TerminateTask, ChainTask and Schedule.
 ghost use Rattle.std.specs.Prelude.{◌≡◌, ◌<◌, [], ◌∷◌, ◌++◌, length, IfOk};
-ghost use Rattle.flow_effects.specs.Lists.{of_task as condition_of};
+ghost use Rattle.flow_effects.specs.Conditions.{of_task as condition_of};
 ghost use Rattle.flow_effects.specs.TaskEnds.{suspends, ends, task_end_cases, refused_holding, terminate_cases, chains, holding_nothing, chain_to_itself, chain_to_another, chain_cases, schedule_cases};
 
 use crate::conditions::{if_task, of_task, one};
 use crate::moves::{refuses, stays};
 use abstract_state::{ComponentNo, PartValue, Point, Val};
-use flow_model::{Asked, Change, Condition, EffectCase, Runner, Test, Update};
+use flow_model::{Asked, Change, Condition, EffectCase, Leaving, Runner, Test, Update};
 use flow_services::activating;
 use osek_standard::App;
 use osek_values::{BlockNo, Memory, Seq, Status, TaskNo};
@@ -31,9 +31,7 @@ fn ends(alloc: Global, task: TaskNo, conditions: Seq<Condition>) -> Result<Effec
     Ok(EffectCase {
         conditions,
         changes,
-        asked: Asked::Left,
-        status: None,
-        point: Point::Idle,
+        leaving: Leaving::at(Point::Idle, Asked::Left, None),
     })
 }
 
@@ -93,9 +91,7 @@ fn chains(
     Ok(EffectCase {
         conditions,
         changes,
-        asked: Asked::Left,
-        status: None,
-        point: Point::Idle,
+        leaving: Leaving::at(Point::Idle, Asked::Left, None),
     })
 }
 

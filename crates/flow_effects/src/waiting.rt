@@ -9,17 +9,10 @@ use crate::conditions::if_task;
 use crate::moves::refuses;
 use crate::task_ends::refused_holding;
 use abstract_state::{Component, ComponentNo, PartValue, Point, Val, component_number};
-use flow_model::{Asked, Change, Condition, EffectCase, Runner, Test, Update};
+use flow_model::{Asked, Change, Condition, EffectCase, Leaving, Runner, Test, Update};
 use osek_standard::App;
 use osek_values::{BlockNo, EventNo, Mask, Memory, Seq, Status, TaskNo};
 use std::alloc::Global;
-
-fn has_bit(mask: Mask, bit: u8) -> bool
-    requires { bit < 64 }
-    ensures { result ≡ has_bit mask.0 bit }
-{
-    (mask.0 >> bit) & 1 == 1
-}
 
 /// Whether an event of a task is set, or isn't.
 fn of_event(app: &App, task: TaskNo, set: bool, bit: u8) -> Condition
@@ -78,7 +71,7 @@ fn add_goes_on(
 {
     let events = awaited(app, task, mask);
     for bit in 0..64 {
-        if has_bit(events, bit) {
+        if events.has(bit) {
             cases.push(goes_on_by(alloc, app, task, next, bit)?)?;
         }
     }
@@ -97,7 +90,7 @@ fn add_unset(
 {
     let events = awaited(app, task, mask);
     for bit in 0..64 {
-        if has_bit(events, bit) {
+        if events.has(bit) {
             conditions.push(of_event(app, task, false, bit))?;
         }
     }
@@ -125,9 +118,7 @@ fn waits(
     Ok(EffectCase {
         conditions,
         changes,
-        asked: Asked::Left,
-        status: Some(Status::Ok),
-        point: Point::Idle,
+        leaving: Leaving::at(Point::Idle, Asked::Left, Some(Status::Ok)),
     })
 }
 

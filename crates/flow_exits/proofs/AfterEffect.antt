@@ -11,7 +11,6 @@ use Rattle.flow_model.specs.declared.case.EffectCase.{EffectCase}
 use Rattle.flow_model.specs.Effects.{AreIn}
 use Rattle.flow_model.specs.Rules.{Applies, HasNone}
 use Rattle.flow_model.specs.Tests.{PassesAt, value_after, values_after}
-use Rattle.flow_exits.specs.declared.stay.Stay.TheVariants as stay
 use Rattle.flow_exits.specs.declared.exit.Exit.{Exit}
 use Rattle.flow_exits.specs.Leaving.{IsOfEffects, HasExitsFor, IsDecided, AddsDecided, effect_rule}
 
@@ -44,7 +43,7 @@ module _ (app : App) (effect : EffectCase) (entry after : Entry) (size : length 
 
 -- what is decided with values after an effect is an exit of the effect
 pub decided_comes : (app : App) (effects : List EffectCase) (effect : EffectCase) (entry after : Entry) (x : Exit) → Contains effects effect → length entry.sets ≡ component_count app →
-    Applies (effect_rule effect) entry after → IsDecided app effect.asked (stay.At effect.point) effect.status after x → IsOfEffects app effects entry x
+    Applies (effect_rule effect) entry after → IsDecided app effect.leaving after x → IsOfEffects app effects entry x
 decided_comes app effects effect entry after x listed size made h = record {
   decision = h.decision;
   decides = h.decides;
@@ -60,16 +59,15 @@ decided_comes app effects effect entry after x listed size made h = record {
         becomes = λ c lt. (before c).becomes lt;
         decides = h.each value within;
         target = h.target value within;
-        status = h.status_is;
+        status = h.status;
       });
 }
 
 -- and all that may be decided with them has an exit
 pub decisions_covered : (app : App) (effect : EffectCase) (entry after : Entry) (before now : List Exit) → length entry.sets ≡ component_count app →
-    Applies (effect_rule effect) entry after → AddsDecided app effect.asked (stay.At effect.point) effect.status after before now → HasExitsFor app effect entry now
+    Applies (effect_rule effect) entry after → AddsDecided app effect.leaving after before now → HasExitsFor app effect entry now
 decisions_covered app effect entry after before now size made h value d within passes decides =
-    let x = h.whole (values_after effect.changes value) d (all_after app effect entry after size made value within passes) decides in
-    record { exit = x.exit; listed = x.listed; decision = x.decision; status = x.status_is; within = x.within; target = x.target }
+    h.whole (values_after effect.changes value) d (all_after app effect entry after size made value within passes) decides
 
 -- where the effect takes no values nothing is decided
 pub nothing_taken : (app : App) (effect : EffectCase) (entry : Entry) (exits : List Exit) → HasNone (effect_rule effect) entry → length entry.sets ≡ component_count app → HasExitsFor app effect entry exits

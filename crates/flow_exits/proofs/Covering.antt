@@ -25,7 +25,7 @@ use Rattle.abstract_state.specs.Tables.{set_at, is_member}
 use Rattle.abstract_state.proofs.MarkLaws.{shown_instruction, shown_arrival}
 use Rattle.flow_model.specs.declared.case.{Decision.{Decision}, EffectCase.{EffectCase}}
 use Rattle.flow_model.specs.declared.rule.Rule.{Rule}
-use Rattle.flow_model.specs.Effects.{AreIn, AreAllAllowed, IsAt, HasEffect}
+use Rattle.flow_model.specs.Effects.{AreIn, AreAllAllowed, IsAt, IsKnownStay, HasEffect}
 use Rattle.flow_model.specs.Scheduling.{Decides}
 use Rattle.flow_model.specs.Rules.{Matches, mark_by}
 use Rattle.flow_model.specs.Runners.{IsNobodys}
@@ -37,7 +37,7 @@ use Rattle.flow_rules.specs.Arrivals.{arrival_rule, MayBegin, AreArrivals}
 use Rattle.flow_rules.proofs.Arriving.{all_arrivals, none_alone, task_alone, arrival_covered, arrival_shown}
 use Rattle.flow_exits.specs.declared.exit.Exit.{Exit}
 use Rattle.flow_exits.specs.Exits.{exit_mark, IsBySome, CoverSteps, CoverInstructions, IsFilled, IsExact, AreExact}
-use Rattle.flow_exits.specs.Leaving.{IsOfEffects, HasExitFor, arrival_exit, AreExits}
+use Rattle.flow_exits.specs.Leaving.{HasDecided, IsOfEffects, arrival_exit, AreExits}
 use Rattle.flow_exits.proofs.Steps.{changed, some_decision, decided, instruction_ends}
 
 exit_marks : (x : Exit) (d : Decision) (status : Option Status) → x.decision ≡ Some d → x.status ≡ status → exit_mark x ≡ mark_by (Some d) status
@@ -98,16 +98,17 @@ module _ (app : App) (p : Point) (entry : Entry) (exits : List Exit) (is : IsPoi
   -- the effect of an instruction, what is decided after it, and the exit for that
   record HasExit (s : State) (choice : Bool) : Type 0 where
     case : EffectCase
+    stays : IsKnownStay app case.leaving.stay
     has : HasEffect app case s choice
     decision : Decision
-    decides : Decides app (values_after case.changes (abstract_of app s)) case.asked decision
-    found : HasExitFor app case exits decision (values_after case.changes (abstract_of app s))
+    decides : Decides app (values_after case.changes (abstract_of app s)) case.leaving.asked decision
+    found : HasDecided app case.leaving exits decision (values_after case.changes (abstract_of app s))
 
   has_exit : (s : State) (choice : Bool) → IsAt app p entry s → IsActive s.processor → HasExit s choice
   has_exit s choice at active =
       let x = h.covering s choice at active in
       let d = some_decision app s choice at.well x.case x.effect in
-      record { case = x.case; has = x.effect; decision = d.0; decides = d.1; found = h.decisions x.case x.listed (abstract_of app s) d.0 at.within x.effect.passes d.1 }
+      record { case = x.case; stays = h.stays x.case x.listed; has = x.effect; decision = d.0; decides = d.1; found = h.decisions x.case x.listed (abstract_of app s) d.0 at.within x.effect.passes d.1 }
 
   instruction_taken : (s : State) (e : Event) (o : Outcome) (x : Option Status) → IsAt app p entry s → IsInstruction app s e o x → shows app s e ≡ Did o x → IsBySome app exits s e
   instruction_taken s e o x at i shown =
@@ -115,7 +116,7 @@ module _ (app : App) (p : Point) (entry : Entry) (exits : List Exit) (is : IsPoi
       let value : ℕ → PartValue = values_after k.case.changes (abstract_of app s) in
       let same = changed app s i.choice at.well k.case k.has in
       let exit : Exit = k.found.exit in
-      let r = instruction_ends app s i.choice at.well k.case k.has value same k.decision k.decides e i.steps
+      let r = instruction_ends app s i.choice at.well k.case k.has value same k.decision k.decides k.stays e i.steps
       (shown ∙ ap (λ (d : Outcome). Did d x) (sym i.does) ∙ ap (Did (outcome app s i.choice)) (sym i.status)) in
       record {
         exit = exit;
@@ -123,7 +124,7 @@ module _ (app : App) (p : Point) (entry : Entry) (exits : List Exit) (is : IsPoi
         by = record {
           target = r.target ∙ sym k.found.target;
           within = λ c lt. subst (λ (v : PartValue). IsTrue (is_member (set_at exit.entry c) v)) (sym (r.parts c lt)) (k.found.within c lt);
-          shows = r.shows ∙ sym (exit_marks exit k.decision k.case.status k.found.decision k.found.status);
+          shows = r.shows ∙ sym (exit_marks exit k.decision k.case.leaving.status k.found.decision k.found.status);
           status = r.status ∙ sym k.found.status;
         };
       }
@@ -194,7 +195,7 @@ module _ (app : App) (p : Point) (entry : Entry) (exits : List Exit) (is : IsPoi
           let s : State = y.from in
           let active : IsActive s.processor = active_at p (h.active k.effect k.listed) s y.has.well y.has.point in
           let same : HasValues app (effect app s y.choice).state value = λ c lt. sym (y.effect.parts c lt ∙ ap (value_after k.effect.changes c) (y.has.parts c lt) ∙ k.becomes c lt) in
-          let r = instruction_ends app s y.choice y.has.well k.effect y.effect value same o.decision k.decides (Run y.choice)
+          let r = instruction_ends app s y.choice y.has.well k.effect y.effect value same o.decision k.decides (h.stays k.effect k.listed) (Run y.choice)
           (instruction_by app s y.choice active y.alone) (shown_so app s y.choice active y.alone) in
           record {
             from = s;
@@ -202,7 +203,7 @@ module _ (app : App) (p : Point) (entry : Entry) (exits : List Exit) (is : IsPoi
             at = at_values s k.before y.has k.within;
             target = r.target ∙ sym k.target;
             parts = r.parts;
-            shows = r.shows ∙ sym (exit_marks x o.decision k.effect.status o.decides k.status);
+            shows = r.shows ∙ sym (exit_marks x o.decision k.effect.leaving.status o.decides k.status);
             status = r.status ∙ sym k.status;
           });
     }

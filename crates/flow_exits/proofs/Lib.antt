@@ -1,4 +1,3 @@
 pub mod Steps
 pub mod Covering
 pub mod AfterEffect
-pub mod Returning

@@ -3,7 +3,5 @@
 
 mod exit;
 pub mod laws;
-mod stay;
 
 pub use exit::Exit;
-pub use stay::Stay;

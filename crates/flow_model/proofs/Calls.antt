@@ -24,7 +24,7 @@ use Rattle.flow_model.specs.declared.runner.Runner.{Runner}
 use Rattle.flow_model.specs.declared.runner.Runner.TheVariants as runner
 use Rattle.flow_model.specs.Runners.{Stands, Runs}
 use Rattle.flow_model.specs.Tests.{PassesAll, value_after}
-use Rattle.flow_model.specs.Effects.{Asks, HasEffect}
+use Rattle.flow_model.specs.Effects.{Asks, HasEffect, stay_point}
 use Rattle.flow_model.specs.declared.test.Condition.{Condition}
 use Rattle.flow_model.specs.Cases.{asked_when, asked_for, asked_after, asked_under as asked_of_task, goes_on}
 use Rattle.flow_model.proofs.Standing.{next_owned, point_there}
@@ -59,24 +59,24 @@ asks_there app s after (runner.Routine over) b k n a h kept =
     subst (λ (p : Processor). Asks asked.No (asking after n (asked_by app (caller p) k a))) (sym h.runs) refl
 
 -- an effect that is known is the case's, where it leaves, asks and notes what the case says
-pub has_effect : (app : App) (x : EffectCase) (s : State) (choice : Bool) (e : Effect) → effect app s choice ≡ e → PassesAll app x.conditions (abstract_of app s) → point_of e.state ≡ x.point →
-    ((c : ℕ) → c < component_count app → abstract_of app e.state c ≡ value_after x.changes c (abstract_of app s c)) → Asks x.asked e → e.notes.status ≡ x.status → HasEffect app x s choice
+pub has_effect : (app : App) (x : EffectCase) (s : State) (choice : Bool) (e : Effect) → effect app s choice ≡ e → PassesAll app x.conditions (abstract_of app s) → point_of e.state ≡ stay_point x.leaving.stay (abstract_of app e.state) →
+    ((c : ℕ) → c < component_count app → abstract_of app e.state c ≡ value_after x.changes c (abstract_of app s c)) → Asks x.leaving.asked e → e.notes.status ≡ x.leaving.status → HasEffect app x s choice
 has_effect app x s choice e is passing point parts asks status = record {
   passes = passing;
-  point = ap (λ (f : Effect). point_of f.state) is ∙ point;
+  point = subst (λ (f : Effect). point_of f.state ≡ stay_point x.leaving.stay (abstract_of app f.state)) (sym is) point;
   parts = λ c lt. ap (λ (f : Effect). abstract_of app f.state c) is ∙ parts c lt;
-  asks = subst (Asks x.asked) (sym is) asks;
+  asks = subst (Asks x.leaving.asked) (sym is) asks;
   status = ap (λ (f : Effect). f.notes.status) is ∙ status;
 }
 
 -- what an answer says of the effect, where the case is this
 pub record HasAnswer (app : App) (x : EffectCase) (s : State) (r : Runner) (k : Kind) (a : Answer) : Type 0 where
-  pub point : point_of a.state ≡ x.point
+  pub point : point_of a.state ≡ stay_point x.leaving.stay (abstract_of app a.state)
   pub parts : (c : ℕ) → c < component_count app → abstract_of app a.state c ≡ value_after x.changes c (abstract_of app s c)
-  pub asked : asked_for app r k a.ask ≡ x.asked
+  pub asked : asked_for app r k a.ask ≡ x.leaving.asked
   -- the caller still has the processor where a dispatch is asked
   pub kept : a.ask ≡ ask.Maybe → a.state.processor ≡ s.processor
-  pub status : a.status ≡ x.status
+  pub status : a.status ≡ x.leaving.status
 
 -- The effect of a call is the case's, where its answer is.
 pub call_has : (app : App) (x : EffectCase) (s : State) (choice : Bool) (r : Runner) (b : BlockNo) (k : Kind) (a : Answer) → IsCall app k → Stands app s r b → (the_block app b.0).kind ≡ k →

@@ -1,5 +1,5 @@
 -- Lists of cases at a point, by what holds in each state that stands there.
-use Rattle.std.proofs.Common.{ℕ, Bool, true, List, sym, subst, IsTrue}
+use Rattle.std.proofs.Common.{ℕ, Bool, true, List, sym, subst}
 use Rattle.std.specs.Prelude.{Contains}
 use Rattle.osek_values.specs.declared.numbers.BlockNo.{BlockNo}
 use Rattle.osek_standard.specs.declared.app.App.{App}
@@ -9,7 +9,6 @@ use Rattle.abstract_state.specs.declared.value.PartValue.{PartValue}
 use Rattle.abstract_state.specs.declared.table.Entry.{Entry}
 use Rattle.abstract_state.specs.Components.{abstract_of}
 use Rattle.abstract_state.specs.Concrete.{AreAllowed, HasParts}
-use Rattle.abstract_state.specs.Tables.{set_at, is_member}
 use Rattle.abstract_state.proofs.Concretes.{some_quiet}
 use Rattle.flow_model.specs.declared.case.EffectCase.{EffectCase}
 use Rattle.flow_model.specs.declared.test.Condition.{Condition}
@@ -28,30 +27,27 @@ module _ (app : App) (p : Point) (value : ℕ → PartValue) (s : State) (has : 
   pub made_passes : (xs : List Condition) → PassesAll app xs value → PassesAll app xs (abstract_of app s)
   made_passes xs h c lt = subst (PassesAt xs c) (sym (has.parts c lt)) (h c lt)
 
-  pub made_within : (entry : Entry) → AreIn app entry value → AreIn app entry (abstract_of app s)
-  made_within entry h c lt = subst (λ (v : PartValue). IsTrue (is_member (set_at entry c) v)) (sym (has.parts c lt)) (h c lt)
-
-module _ (app : App) (r : Runner) (b : BlockNo) (entry : Entry) (owns : OwnsBlock app r b) (cases : List EffectCase) where
-  -- a listed case whose conditions a state of the entry passes is its effect, by whatever choice
+module _ (app : App) (r : Runner) (b : BlockNo) (owns : OwnsBlock app r b) (cases : List EffectCase) where
+  -- a listed case whose conditions a state passes is its effect, by whatever choice
   abbrev pub AreEffects : Type 0
-  AreEffects = (x : EffectCase) (s : State) (choice : Bool) → Contains cases x → Stands app s r b → AreIn app entry (abstract_of app s) → PassesAll app x.conditions (abstract_of app s) → HasEffect app x s choice
+  AreEffects = (x : EffectCase) (s : State) (choice : Bool) → Contains cases x → Stands app s r b → PassesAll app x.conditions (abstract_of app s) → HasEffect app x s choice
 
-  -- and each state of the entry passes those of one
+  -- and each state passes those of one
   abbrev pub AreEnough : Type 0
-  AreEnough = (s : State) → Stands app s r b → AreIn app entry (abstract_of app s) → (x : EffectCase) × Contains cases x × PassesAll app x.conditions (abstract_of app s)
+  AreEnough = (s : State) → Stands app s r b → (x : EffectCase) × Contains cases x × PassesAll app x.conditions (abstract_of app s)
 
-  pub covers_by : ((s : State) (choice : Bool) → Stands app s r b → AreIn app entry (abstract_of app s) → HasSomeEffect app cases s choice) → CoverEffects app (runner_point r b) entry cases
-  covers_by some s choice at active = some s choice (stands_here app s r b owns at.well at.point) at.within
+  pub covers_by : ((s : State) (choice : Bool) → Stands app s r b → HasSomeEffect app cases s choice) → (entry : Entry) → CoverEffects app (runner_point r b) entry cases
+  covers_by some entry s choice at active = some s choice (stands_here app s r b owns at.well at.point)
 
-  pub covers : AreEffects → AreEnough → CoverEffects app (runner_point r b) entry cases
-  covers each some = covers_by (λ s choice h within. let x = some s h within in record { case = x.0; listed = x.1; effect = each x.0 s choice x.1 h within x.2 })
+  pub covers : AreEffects → AreEnough → (entry : Entry) → CoverEffects app (runner_point r b) entry cases
+  covers each some = covers_by (λ s choice h. let x = some s h in record { case = x.0; listed = x.1; effect = each x.0 s choice x.1 h x.2 })
 
-  -- an effect of the case by some choice, in each state of the entry that passes its conditions
+  -- an effect of the case by some choice, in each state that passes its conditions
   abbrev pub IsEffectBy : EffectCase → Bool → Type 0
-  IsEffectBy x choice = (s : State) → Stands app s r b → AreIn app entry (abstract_of app s) → PassesAll app x.conditions (abstract_of app s) → HasEffect app x s choice
+  IsEffectBy x choice = (s : State) → Stands app s r b → PassesAll app x.conditions (abstract_of app s) → HasEffect app x s choice
 
-  pub exact_by : AreAllAllowed app (runner_point r b) entry → ((x : EffectCase) → Contains cases x → (choice : Bool) × IsEffectBy x choice) → AreExactEffects app (runner_point r b) entry cases
-  exact_by all each x value listed within passing =
+  pub exact_by : ((x : EffectCase) → Contains cases x → (choice : Bool) × IsEffectBy x choice) → (entry : Entry) → AreAllAllowed app (runner_point r b) entry → AreExactEffects app (runner_point r b) entry cases
+  exact_by each entry all x value listed within passing =
       let q = some_quiet app (runner_point r b) value (owned_point app r b owns) (values_allowed app (runner_point r b) entry value all within) in
       let has : HasParts app (runner_point r b) value q.0 = q.1.has in
       let shown = each x listed in
@@ -60,8 +56,8 @@ module _ (app : App) (r : Runner) (b : BlockNo) (entry : Entry) (owns : OwnsBloc
         choice = shown.0;
         has = has;
         alone = q.1.quiet;
-        effect = shown.1 q.0 (stands_here app q.0 r b owns has.well has.point) (made_within app (runner_point r b) value q.0 has entry within) (made_passes app (runner_point r b) value q.0 has x.conditions passing);
+        effect = shown.1 q.0 (stands_here app q.0 r b owns has.well has.point) (made_passes app (runner_point r b) value q.0 has x.conditions passing);
       }
 
-  pub exact : AreAllAllowed app (runner_point r b) entry → AreEffects → AreExactEffects app (runner_point r b) entry cases
-  exact all each = exact_by all (λ x listed. (true, λ s h within passing. each x s true listed h within passing))
+  pub exact : AreEffects → (entry : Entry) → AreAllAllowed app (runner_point r b) entry → AreExactEffects app (runner_point r b) entry cases
+  exact each = exact_by (λ x listed. (true, λ s h passing. each x s true listed h passing))

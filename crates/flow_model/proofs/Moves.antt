@@ -15,7 +15,7 @@ use Rattle.osek_standard.specs.declared.task_state.{TaskState.{TaskState}, Activ
 use Rattle.osek_standard.specs.declared.task_state.Activity.TheVariants as activity
 use Rattle.osek_standard.specs.Apps.{the_block}
 use Rattle.osek_standard.specs.TaskStates.{suspended, is_live, is_live_activity, is_suspended, held, held_in}
-use Rattle.osek_standard.specs.States.{task_state, with_task, source_state, with_source, place_by, place_in, place_of_source, here, caller}
+use Rattle.osek_standard.specs.States.{task_state, with_task, source_state, with_source, place_by, place_in, place_of_source, here}
 use Rattle.osek_standard.specs.Effects.{place_at, standing_at, task_at, source_at, moved_by, moved, moved_to}
 use Rattle.osek_standard.specs.Well.{Well, InOwner, IsOffsetAt, IsProcessor, IsRunningAt}
 use Rattle.osek_standard.proofs.Callers.{enters, moved_processor}

@@ -1,5 +1,5 @@
 -- Who executes at a point, and what is known of the block there.
-use Rattle.std.proofs.Common.{◌≡◌, ◌<◌, length, refl, sym, ap, subst, ◌∙◌}
+use Rattle.std.proofs.Common.{◌≡◌, refl, sym, ap, subst, ◌∙◌}
 use Rattle.std.specs.declared.option.Option.{Option}
 use Rattle.osek_values.specs.Numbers.{task_no}
 use Rattle.osek_values.specs.declared.numbers.{TaskNo.{TaskNo}, BlockNo.{BlockNo}, SourceNo.{SourceNo}}
@@ -15,7 +15,6 @@ use Rattle.osek_standard.specs.Well.{Well, InOwner, IsActive, IsOfRoutine, IsOwn
 use Rattle.osek_standard.proofs.Callers.{BlockHere, block_here}
 use Rattle.osek_standard.proofs.Keeps.{here_own}
 use Rattle.osek_standard.proofs.OwnerLaws.{own_once}
-use Rattle.osek_standard.proofs.WellLaws.{in_owner_known}
 use Rattle.flow_model.specs.declared.runner.Runner.{Runner}
 use Rattle.flow_model.specs.declared.runner.Runner.TheVariants as runner
 use Rattle.flow_model.specs.Runners.{Stands, Runs, OwnsBlock, runner_point}

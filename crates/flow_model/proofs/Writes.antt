@@ -3,7 +3,6 @@ use Rattle.std.proofs.Common.{◌≡◌, ◌≢◌, ℕ, ◌<◌, Bool, true, fa
 use Rattle.std.specs.Prelude.{if◌then◌else◌}
 use Rattle.std.proofs.lemmas.Bool.{cases_Bool, cases_eq}
 use Rattle.osek_values.specs.Numbers.{task_no, event_no, alarm_no}
-use Rattle.osek_values.specs.declared.mask.Mask.{Mask}
 use Rattle.osek_values.specs.Bits.{has_bit, bits_of}
 use Rattle.osek_standard.specs.declared.app.App.{App}
 use Rattle.osek_standard.specs.declared.state.{State.{State}, AlarmState.{AlarmState}}
@@ -22,7 +21,7 @@ use Rattle.flow_model.specs.declared.change.Change.{Change}
 use Rattle.flow_model.specs.Tests.{updated, value_after}
 use Rattle.flow_model.specs.Changes.{task_change, alarm_change, event_change, event_changes}
 use Rattle.flow_model.proofs.ChangeLaws.{change_here, change_there, elsewhere, made, AreSets}
-use Rattle.flow_model.proofs.BitsOf.{bits_among, among_bits, no_bit}
+use Rattle.flow_model.proofs.BitsOf.{bits_among, among_bits}
 
 -- the task of an event
 abbrev event_task : Component → ℕ

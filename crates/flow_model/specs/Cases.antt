@@ -14,8 +14,9 @@ use Rattle.osek_standard.specs.Effects.{asked_by}
 use Rattle.abstract_state.specs.Components.{component_no}
 use Rattle.flow_model.specs.declared.test.{Test.{Test}, Condition.{Condition}}
 use Rattle.flow_model.specs.declared.change.Change.{Change}
-use Rattle.flow_model.specs.declared.case.{Asked.{Asked}, EffectCase.{EffectCase}}
+use Rattle.flow_model.specs.declared.case.{Asked.{Asked}, Leaving.{Leaving}, EffectCase.{EffectCase}}
 use Rattle.flow_model.specs.declared.case.Asked.TheVariants as asked
+use Rattle.flow_model.specs.declared.case.Stay.TheVariants as stay
 use Rattle.flow_model.specs.declared.runner.Runner.{Runner}
 use Rattle.flow_model.specs.declared.runner.Runner.TheVariants as runner
 use Rattle.flow_model.specs.Runners.{runner_point, moving}
@@ -23,8 +24,15 @@ use Rattle.flow_model.specs.Runners.{runner_point, moving}
 abbrev pub condition : ℕ → Test → Condition
 condition c t = record { component = component_no c; test = t }
 
+abbrev pub effect_by : List Condition → List Change → Leaving → EffectCase
+effect_by conditions changes leaving = record { conditions = conditions; changes = changes; leaving = leaving }
+
+-- the processor stays at this point
+abbrev pub leaving_at : Point → Asked → Option Status → Leaving
+leaving_at point asked status = record { asked = asked; stay = stay.At point; status = status }
+
 abbrev pub effect_case : List Condition → List Change → Asked → Option Status → Point → EffectCase
-effect_case conditions changes asked status point = record { conditions = conditions; changes = changes; asked = asked; status = status; point = point }
+effect_case conditions changes asked status point = effect_by conditions changes (leaving_at point asked status)
 
 -- what an ask of a task's instruction asks of the scheduler
 abbrev pub asked_when : TaskNo → Ask → Asked

@@ -1,10 +1,11 @@
 -- What the cases of an effect say of the states at a point.
-use Rattle.std.specs.Prelude.{◌≡◌, ℕ, ◌<◌, Bool, List, IsTrue, None, Contains}
+use Rattle.std.specs.Prelude.{◌≡◌, ⊤, ℕ, ◌<◌, Bool, List, length, IsTrue, None, Contains}
 use Rattle.osek_values.specs.declared.status.Ask.TheVariants as ask
 use Rattle.osek_standard.specs.declared.app.App.{App}
 use Rattle.osek_standard.specs.declared.state.State.{State}
 use Rattle.osek_standard.specs.declared.state.Processor.TheVariants as processor
 use Rattle.osek_standard.specs.declared.point.Point.{Point}
+use Rattle.osek_standard.specs.declared.point.Point.TheVariants as point
 use Rattle.osek_standard.specs.Points.{point_of}
 use Rattle.osek_standard.specs.Effects.{Effect, effect}
 use Rattle.osek_standard.specs.Arrivals.{arrival}
@@ -12,10 +13,12 @@ use Rattle.osek_standard.specs.Well.{Well, IsActive}
 use Rattle.abstract_state.specs.declared.value.PartValue.{PartValue}
 use Rattle.abstract_state.specs.declared.table.Entry.{Entry}
 use Rattle.abstract_state.specs.Components.{component_count, abstract_of, IsAllowed}
-use Rattle.abstract_state.specs.Concrete.{HasParts}
+use Rattle.abstract_state.specs.Concrete.{HasParts, val_of}
 use Rattle.abstract_state.specs.Tables.{set_at, is_member}
-use Rattle.flow_model.specs.declared.case.{Asked.{Asked}, EffectCase.{EffectCase}}
+use Rattle.flow_model.specs.declared.case.{Asked.{Asked}, Stay.{Stay}, EffectCase.{EffectCase}}
 use Rattle.flow_model.specs.declared.case.Asked.TheVariants as asked
+use Rattle.flow_model.specs.declared.case.Stay.TheVariants as stay
+use Rattle.flow_model.specs.Values.{block_of}
 use Rattle.flow_model.specs.Tests.{PassesAll, value_after}
 
 -- a value for each component, out of its set
@@ -38,14 +41,28 @@ Asks (asked.Maybe t) e = (e.ask ≡ ask.Maybe) × (e.state.processor ≡ process
 Asks asked.Left e = e.ask ≡ ask.Left
 Asks asked.Free e = e.ask ≡ ask.Free
 
--- The effect of the instruction is the case's: the state passes its conditions, and the effect leaves its point and its
--- changes of the components, asks what it asks, and notes its status.
+-- where the processor stands if it stays, with these values after the effect
+abbrev pub stay_point : Stay → (ℕ → PartValue) → Point
+stay_point (stay.At p) value = p
+stay_point (stay.AtBlockOf t) value = point.Task (block_of (val_of (value t.0)))
+
+-- a task at whose block it stays is one of the application's
+abbrev pub IsKnownStay : App → Stay → Type 0
+IsKnownStay app (stay.At p) = ⊤
+IsKnownStay app (stay.AtBlockOf t) = t.0 < length app.tasks
+
+-- each case stays at a point or at the block of a task of the application
+abbrev pub HaveKnownStays : App → List EffectCase → Type 0
+HaveKnownStays app cases = (x : EffectCase) → Contains cases x → IsKnownStay app x.leaving.stay
+
+-- The effect of the instruction is the case's: the state passes its conditions, and the effect makes its changes of the
+-- components, leaves the processor where it stays, asks what it asks, and notes its status.
 pub record HasEffect (app : App) (x : EffectCase) (s : State) (choice : Bool) : Type 0 where
   pub passes : PassesAll app x.conditions (abstract_of app s)
-  pub point : point_of (effect app s choice).state ≡ x.point
+  pub point : point_of (effect app s choice).state ≡ stay_point x.leaving.stay (abstract_of app (effect app s choice).state)
   pub parts : (c : ℕ) → c < component_count app → abstract_of app (effect app s choice).state c ≡ value_after x.changes c (abstract_of app s c)
-  pub asks : Asks x.asked (effect app s choice)
-  pub status : (effect app s choice).notes.status ≡ x.status
+  pub asks : Asks x.leaving.asked (effect app s choice)
+  pub status : (effect app s choice).notes.status ≡ x.leaving.status
 
 pub record HasSomeEffect (app : App) (cases : List EffectCase) (s : State) (choice : Bool) : Type 0 where
   pub case : EffectCase
@@ -69,3 +86,9 @@ pub record ShowsEffect (app : App) (p : Point) (x : EffectCase) (value : ℕ →
 abbrev pub AreExactEffects : App → Point → Entry → List EffectCase → Type 0
 AreExactEffects app p entry cases =
     (x : EffectCase) (value : ℕ → PartValue) → Contains cases x → AreIn app entry value → PassesAll app x.conditions value → ShowsEffect app p x value
+
+-- These are the cases of the instructions at the point, whatever the entry there.
+pub record AreCasesOf (app : App) (p : Point) (cases : List EffectCase) : Type 0 where
+  pub covering : (entry : Entry) → CoverEffects app p entry cases
+  pub exact : (entry : Entry) → AreAllAllowed app p entry → AreExactEffects app p entry cases
+  pub stays : HaveKnownStays app cases

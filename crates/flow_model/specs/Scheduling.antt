@@ -12,7 +12,7 @@ use Rattle.flow_model.specs.declared.case.Asked.TheVariants as asked
 use Rattle.flow_model.specs.declared.case.Decision.TheVariants as decision
 use Rattle.flow_model.specs.Values.{is_live_value, block_of, value_priority}
 use Rattle.flow_model.specs.Tests.{PassesAll, values_after}
-use Rattle.flow_model.specs.Effects.{AreIn}
+use Rattle.flow_model.specs.Effects.{AreIn, stay_point}
 
 abbrev pub outcome_of_decision : Decision → Outcome
 outcome_of_decision decision.Keep = Keep
@@ -81,8 +81,8 @@ pub record AreValuesOf (app : App) (p : Point) (entry : Entry) (value : ℕ → 
 -- The scheduler decides as the case says, where the effect is this case's and these were the values before it.
 pub record HasOutcome (app : App) (effect : EffectCase) (x : OutcomeCase) (value : ℕ → PartValue) : Type 0 where
   pub passes : PassesAll app x.conditions value
-  pub decides : Decides app (values_after effect.changes value) effect.asked x.decision
-  pub target : x.target ≡ end_point app (values_after effect.changes value) effect.point x.decision
+  pub decides : Decides app (values_after effect.changes value) effect.leaving.asked x.decision
+  pub target : x.target ≡ end_point app (values_after effect.changes value) (stay_point effect.leaving.stay (values_after effect.changes value)) x.decision
 
 pub record HasSomeOutcome (app : App) (effect : EffectCase) (cases : List OutcomeCase) (d : Decision) (value : ℕ → PartValue) : Type 0 where
   pub case : OutcomeCase
@@ -93,7 +93,7 @@ pub record HasSomeOutcome (app : App) (effect : EffectCase) (cases : List Outcom
 -- What the scheduler does, with values of the entry that the effect takes, is some case's.
 abbrev pub CoverOutcomes : App → Point → Entry → EffectCase → List OutcomeCase → Type 0
 CoverOutcomes app p entry effect cases =
-    (value : ℕ → PartValue) (d : Decision) → AreValuesOf app p entry value → PassesAll app effect.conditions value → Decides app (values_after effect.changes value) effect.asked d → HasSomeOutcome app effect cases d value
+    (value : ℕ → PartValue) (d : Decision) → AreValuesOf app p entry value → PassesAll app effect.conditions value → Decides app (values_after effect.changes value) effect.leaving.asked d → HasSomeOutcome app effect cases d value
 
 -- With values of the entry that the effect and a case take the scheduler does what the case says.
 abbrev pub AreExactOutcomes : App → Point → Entry → EffectCase → List OutcomeCase → Type 0

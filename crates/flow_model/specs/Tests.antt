@@ -1,10 +1,11 @@
 -- Which values pass a test, and what changes make of them.
 use Rattle.std.specs.Prelude.{◌≡◌, ℕ, ◌<◌, Bool, true, ◌==◌, ◌&&◌, not, List, [], ◌∷◌, length, IsTrue, if◌then◌else◌, Contains}
 use Rattle.std.specs.List.{list_any}
-use Rattle.osek_values.specs.declared.numbers.{BlockNo.{BlockNo}, ResNo.{ResNo}}
-use Rattle.osek_values.specs.Bits.{has_bit}
+use Rattle.osek_values.specs.declared.numbers.{ResNo.{ResNo}}
 use Rattle.osek_standard.specs.declared.app.App.{App}
 use Rattle.osek_standard.specs.TaskStates.{holds}
+use Rattle.osek_values.specs.Bits.{has_bit}
+use Rattle.osek_standard.specs.Services.{is_on_top}
 use Rattle.abstract_state.specs.declared.value.{Val.{Val}, PartValue.{PartValue}, PartValue.TheVariants.{OfTask, OfEvent, OfAlarm}}
 use Rattle.abstract_state.specs.ValueOrder.{same_part}
 use Rattle.abstract_state.specs.Components.{component_count}
@@ -12,7 +13,7 @@ use Rattle.flow_model.specs.declared.test.{Test.{Test}, Condition.{Condition}}
 use Rattle.flow_model.specs.declared.test.Test.TheVariants as test
 use Rattle.flow_model.specs.declared.change.{Update.{Update}, Change.{Change}}
 use Rattle.flow_model.specs.declared.change.Update.TheVariants as update
-use Rattle.flow_model.specs.Values.{is_suspended_value, is_live_value, held_of, at_block}
+use Rattle.flow_model.specs.Values.{is_suspended_value, is_live_value, held_of, at_block, restacked, with_top, without_top}
 
 -- a test of a task's value; what is no task's passes
 abbrev pub of_task : (Val → Bool) → PartValue → Bool
@@ -37,15 +38,20 @@ passes (test.Holds r) v = of_task (λ x. holds (held_of x) r.0) v
 passes (test.HoldsNoneOf m) v = of_task (holds_none_of m.0) v
 passes test.HoldsSome v = of_task (λ x. not (holds_nothing x)) v
 passes test.HoldsNothing v = of_task holds_nothing v
+passes (test.OnTop r) v = of_task (λ x. is_on_top r.0 (held_of x)) v
+passes (test.NotOnTop r) v = of_task (λ x. not (is_on_top r.0 (held_of x))) v
 
-abbrev pub part_at_block : BlockNo → PartValue → PartValue
-part_at_block b (OfTask v) = OfTask (at_block b v)
-part_at_block b (OfEvent x) = OfEvent x
-part_at_block b (OfAlarm x) = OfAlarm x
+-- what becomes of a task's value; what is no task's stays
+abbrev pub on_task : (Val → Val) → PartValue → PartValue
+on_task f (OfTask v) = OfTask (f v)
+on_task f (OfEvent x) = OfEvent x
+on_task f (OfAlarm x) = OfAlarm x
 
 abbrev pub updated : Update → PartValue → PartValue
 updated (update.Set w) v = w
-updated (update.Block b) v = part_at_block b v
+updated (update.Block b) v = on_task (at_block b) v
+updated (update.Take r b) v = on_task (restacked (λ h. with_top h r) b) v
+updated (update.Give b) v = on_task (restacked without_top b) v
 
 -- What becomes of a value of component c: what the first change that names it says, or else it stays.
 abbrev pub value_after : List Change → ℕ → PartValue → PartValue

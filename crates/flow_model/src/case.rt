@@ -18,6 +18,40 @@ pub enum Asked {
     Free,
 }
 
+/// Where the processor stands after an effect, if the scheduler leaves it where it is.
+#[derive(Clone, Copy, PartialEq, Eq, Debug)]
+pub enum Stay {
+    /// At this point.
+    At(Point),
+    /// At the block of the task to which a routine gives it back.
+    AtBlockOf(TaskNo),
+}
+
+/// What an effect leaves to the scheduler: what it asks, and where the processor stands if it stays.
+#[derive(Clone, Copy, PartialEq, Eq, Debug)]
+pub struct Leaving {
+    pub asked: Asked,
+    pub stay: Stay,
+    /// The status that is noted, if one is.
+    pub status: Option<Status>,
+}
+
+impl Leaving {
+    ghost use Rattle.std.specs.Prelude.{◌≡◌};
+    ghost use Rattle.flow_model.specs.Cases.{leaving_at};
+
+    /// The processor stays at a point.
+    pub fn at(point: Point, asked: Asked, status: Option<Status>) -> Leaving
+        ensures { result ≡ leaving_at point asked status }
+    {
+        Leaving {
+            asked,
+            stay: Stay::At(point),
+            status,
+        }
+    }
+}
+
 /// A case of the effect of an instruction: the values of components that it takes, and what it does then. A component
 /// passes where it passes each condition on it; the first change that names it says what becomes of it, and where none
 /// does it stays as it is.
@@ -25,11 +59,7 @@ pub enum Asked {
 pub struct EffectCase {
     pub conditions: Seq<Condition>,
     pub changes: Seq<Change>,
-    pub asked: Asked,
-    /// The status that is noted, if one is.
-    pub status: Option<Status>,
-    /// The point after the effect, before the scheduler.
-    pub point: Point,
+    pub leaving: Leaving,
 }
 
 /// What the scheduler does: who had the processor keeps it, or it goes to a task or to none.

@@ -1,10 +1,14 @@
 //! What becomes of the values of components.
 ghost use Rattle.std.specs.Prelude.{◌≡◌};
-ghost use Rattle.flow_model.specs.Values.{at_block as at_block_of};
-ghost use Rattle.flow_model.specs.Tests.{part_at_block as part_at_block_of, value_after as value_after_of};
+ghost use Rattle.abstract_state.specs.declared.value.PartValue.TheVariants as part;
+ghost use Rattle.abstract_state.specs.declared.value.Val.TheVariants as val;
+ghost use Rattle.abstract_state.specs.Components.{live_val};
+ghost use Rattle.flow_model.specs.Values.{with_top as with_top_of, without_top as without_top_of};
+ghost use Rattle.flow_model.specs.Tests.{value_after as value_after_of};
 
 use abstract_state::{ComponentNo, LiveVal, PartValue, Val};
-use osek_values::BlockNo;
+use osek_values::limits::MAX_RESOURCES;
+use osek_values::{BlockNo, Held, ResNo};
 
 /// What becomes of a component's value.
 #[derive(Drop)]
@@ -13,6 +17,10 @@ pub enum Update {
     Set(PartValue),
     /// A Live task stands at this block, and holds what it held.
     Block(BlockNo),
+    /// A Live task stands at the block, and holds the resource on top besides, unless it holds as many as there may be.
+    Take { resource: ResNo, block: BlockNo },
+    /// A Live task stands at the block, and has given back what was on top.
+    Give { block: BlockNo },
 }
 
 /// What becomes of one component.
@@ -30,9 +38,18 @@ impl Update {
     pub fn of(&self, value: &PartValue) -> PartValue
         ensures { result ≡ updated self.now value.now }
     {
-        match self {
-            Update::Set(to) => to.copy(),
-            Update::Block(block) => part_at_block(*block, value),
+        match (self, value) {
+            (Update::Set(to), _) => to.copy(),
+            (Update::Block(block), PartValue::OfTask(Val::Live(live))) => {
+                standing(*block, live.held.copy())
+            }
+            (Update::Take { resource, block }, PartValue::OfTask(Val::Live(live))) => {
+                standing(*block, with_top(&live.held, *resource))
+            }
+            (Update::Give { block }, PartValue::OfTask(Val::Live(live))) => {
+                standing(*block, without_top(&live.held))
+            }
+            _ => value.copy(),
         }
     }
 
@@ -43,6 +60,11 @@ impl Update {
         match self {
             Update::Set(to) => Update::Set(to.copy()),
             Update::Block(block) => Update::Block(*block),
+            Update::Take { resource, block } => Update::Take {
+                resource: *resource,
+                block: *block,
+            },
+            Update::Give { block } => Update::Give { block: *block },
         }
     }
 }
@@ -61,25 +83,29 @@ impl Change {
     }
 }
 
-fn at_block(block: BlockNo, val: &Val) -> Val
-    ensures { result ≡ at_block_of block val.now }
+// a Live task at a block, with a stack
+fn standing(block: BlockNo, held: Held) -> PartValue
+    ensures { result ≡ part.OfTask (val.Live (live_val block held)) }
 {
-    match val {
-        Val::Live(live) => Val::Live(LiveVal {
-            block,
-            held: live.held.copy(),
-        }),
-        Val::Suspended | Val::Waiting(_) => val.copy(),
-    }
+    PartValue::OfTask(Val::Live(LiveVal { block, held }))
 }
 
-fn part_at_block(block: BlockNo, value: &PartValue) -> PartValue
-    ensures { result ≡ part_at_block_of block value.now }
+fn with_top(held: &Held, resource: ResNo) -> Held
+    ensures { result ≡ with_top_of held.now resource }
 {
-    match value {
-        PartValue::OfTask(val) => PartValue::OfTask(at_block(block, val)),
-        PartValue::OfEvent(_) | PartValue::OfAlarm(_) => value.copy(),
+    let mut stack = held.copy();
+    if stack.as_slice().len() < MAX_RESOURCES {
+        stack.push(resource);
     }
+    stack
+}
+
+fn without_top(held: &Held) -> Held
+    ensures { result ≡ without_top_of held.now }
+{
+    let mut stack = held.copy();
+    stack.pop();
+    stack
 }
 
 /// What becomes of a component's value: what the first change that names it says, or else it stays. It takes no memory.

@@ -8,7 +8,7 @@ mod rule;
 mod runner;
 mod test;
 
-pub use case::{Asked, Decision, EffectCase, OutcomeCase};
+pub use case::{Asked, Decision, EffectCase, Leaving, OutcomeCase, Stay};
 pub use change::{Change, Update, value_after};
 pub use rule::Rule;
 pub use runner::{Runner, task_of};

@@ -3,7 +3,7 @@ ghost use Rattle.std.specs.Prelude.{◌≡◌, ◌<◌, length};
 ghost use Rattle.osek_standard.specs.Points.{IsTaskBlock};
 ghost use Rattle.osek_standard.specs.Well.{IsOwn};
 
-use crate::case::{Asked, EffectCase};
+use crate::case::{Asked, EffectCase, Leaving};
 use crate::change::{Change, Update};
 use crate::test::Condition;
 use abstract_state::{ComponentNo, Point};
@@ -105,9 +105,7 @@ impl Runner {
         Ok(EffectCase {
             conditions,
             changes: self.moving(alloc, block)?,
-            asked,
-            status,
-            point: self.at(block),
+            leaving: Leaving::at(self.at(block), asked, status),
         })
     }
 }

@@ -3,9 +3,10 @@ ghost use Rattle.std.specs.Prelude.{◌≡◌};
 ghost use Rattle.std.specs.List.{list_any};
 ghost use Rattle.osek_values.specs.declared.numbers.ResNo.{ResNo};
 ghost use Rattle.osek_values.specs.Bits.{has_bit};
+ghost use Rattle.osek_standard.specs.Services.{is_on_top as is_on_top_of};
 
 use abstract_state::{ComponentNo, PartValue, Val};
-use osek_values::{Mask, ResNo};
+use osek_values::{Held, Mask, ResNo};
 
 /// A test of a component's value. The tests of tasks pass for every event and alarm.
 #[derive(Drop)]
@@ -25,6 +26,9 @@ pub enum Test {
     HoldsSome,
     /// The task holds no resource.
     HoldsNothing,
+    /// The task took this resource last of those that it holds.
+    OnTop(ResNo),
+    NotOnTop(ResNo),
 }
 
 /// A test of one component.
@@ -57,6 +61,13 @@ impl Test {
             (Test::HoldsSome, PartValue::OfTask(Val::Live(live))) => !live.held.is_empty(),
             (Test::HoldsSome, PartValue::OfTask(_)) => false,
             (Test::HoldsNothing, PartValue::OfTask(Val::Live(live))) => live.held.is_empty(),
+            (Test::OnTop(resource), PartValue::OfTask(Val::Live(live))) => {
+                is_on_top(&live.held, *resource)
+            }
+            (Test::OnTop(_), PartValue::OfTask(_)) => false,
+            (Test::NotOnTop(resource), PartValue::OfTask(Val::Live(live))) => {
+                !is_on_top(&live.held, *resource)
+            }
             _ => true,
         }
     }
@@ -75,6 +86,8 @@ impl Test {
             Test::HoldsNoneOf(resources) => Test::HoldsNoneOf(*resources),
             Test::HoldsSome => Test::HoldsSome,
             Test::HoldsNothing => Test::HoldsNothing,
+            Test::OnTop(resource) => Test::OnTop(*resource),
+            Test::NotOnTop(resource) => Test::NotOnTop(*resource),
         }
     }
 }
@@ -103,4 +116,13 @@ fn holds_one_of(held: &[ResNo], resources: Mask) -> bool
     ensures { result ≡ list_any (λ (r : ResNo). has_bit resources.0 r.0) held.now }
 {
     held.iter().any(|resource| has_bit(resources.0, resource.0))
+}
+
+fn is_on_top(held: &Held, resource: ResNo) -> bool
+    ensures { result ≡ is_on_top_of resource.0 held.now }
+{
+    match held.last() {
+        Some(top) => top.0 == resource.0,
+        None => false,
+    }
 }

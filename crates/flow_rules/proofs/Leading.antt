@@ -12,9 +12,9 @@ use Rattle.abstract_state.specs.declared.table.Entry.{Entry}
 use Rattle.abstract_state.specs.Components.{component_count, abstract_of}
 use Rattle.abstract_state.specs.Tables.{Sets, In, Inductive, set_at, is_member}
 use Rattle.flow_model.specs.declared.rule.Rule.{Rule}
-use Rattle.flow_model.specs.Tests.{PassesAt, PassesAll, value_after}
+use Rattle.flow_model.specs.Tests.{PassesAt, value_after}
 use Rattle.flow_model.specs.Effects.{AreIn, IsAt}
-use Rattle.flow_model.specs.Rules.{Matches, Exact, Shown, Applies, HasNone, IsMadeBy}
+use Rattle.flow_model.specs.Rules.{Matches, Exact, Shown, Applies, IsMadeBy}
 use Rattle.flow_rules.specs.Passing.{AreTaken}
 
 -- a rule that takes a value of each set

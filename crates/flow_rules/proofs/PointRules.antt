@@ -143,7 +143,7 @@ module _ (app : App) (p : Point) (entry : Entry) (arrivals : List Rule) (a : Are
         let k = shown_arrival app s (Run choice) e in
         let m = arrival_covered app s at.well p arrivals (Run choice) a at.point k.source k.arrives choice refl in
         record { rule = m.rule; listed = i.added.kept m.rule m.listed; matches = m.matches }
-    by_mark s choice at loud (Did o x) e = instruction_covered app p entry i.effects arrivals rules i.added i.covering s (Run choice) o x at (shown_instruction app s (Run choice) o x e) e
+    by_mark s choice at loud (Did o x) e = instruction_covered app p entry i.effects arrivals rules i.added i.stays i.covering s (Run choice) o x at (shown_instruction app s (Run choice) o x e) e
 
     pub executing_covering : Covering app p entry rules
     executing_covering s (Run choice) at loud = by_mark s choice at loud (shows app s (Run choice)) refl
@@ -156,5 +156,5 @@ module _ (app : App) (p : Point) (entry : Entry) (arrivals : List Rule) (a : Are
     pub executing_exact : IsPoint app p → IsExecuting p → AreAllAllowed app p entry → Exact app p entry rules
     executing_exact is h allowed rule value m within passes = elim (i.added.each rule m) [
       | inl old ↦ arrival_shown app p rule value is (allowed_values allowed value within) (a.each rule old)
-      | inr new ↦ instruction_shown app p entry i.effects arrivals rules i.added allowed (λ s w e. active_by s s.processor p e h) (i.exact allowed) rule value new within passes
+      | inr new ↦ instruction_shown app p entry i.effects arrivals rules i.added i.stays allowed (λ s w e. active_by s s.processor p e h) (i.exact allowed) rule value new within passes
     ]

@@ -11,7 +11,7 @@ use Rattle.flow_model.specs.Scheduling.{AreValuesOf, Decides, HasOutcome}
 
 -- the effect, more conditions, and what the scheduler does under them
 abbrev pub rule_by : EffectCase → List Condition → Decision → Point → Rule
-rule_by effect more decision target = record { conditions = effect.conditions ++ more; changes = effect.changes; target = target; decision = Some decision; status = effect.status }
+rule_by effect more decision target = record { conditions = effect.conditions ++ more; changes = effect.changes; target = target; decision = Some decision; status = effect.leaving.status }
 
 -- the effect and then this outcome
 abbrev pub rule_of : EffectCase → OutcomeCase → Rule
@@ -33,7 +33,7 @@ pub record HasRuleFor (app : App) (effect : EffectCase) (rules : List Rule) (d :
 -- what the scheduler decides after the effect has a rule
 abbrev pub HasRulesFor : App → Point → Entry → EffectCase → List Rule → Type 0
 HasRulesFor app p entry effect rules =
-    (value : ℕ → PartValue) (d : Decision) → AreValuesOf app p entry value → PassesAll app effect.conditions value → Decides app (values_after effect.changes value) effect.asked d → HasRuleFor app effect rules d value
+    (value : ℕ → PartValue) (d : Decision) → AreValuesOf app p entry value → PassesAll app effect.conditions value → Decides app (values_after effect.changes value) effect.leaving.asked d → HasRuleFor app effect rules d value
 
 -- the rules of an effect come to these
 pub record AreAdded (app : App) (p : Point) (entry : Entry) (effect : EffectCase) (before after : List Rule) : Type 0 where

@@ -1,5 +1,5 @@
 -- What a rule makes of the values of one component.
-use Rattle.std.specs.Prelude.{◌≡◌, ◌<◌, ◌==◌, ◌||◌, ℕ, Bool, not, List, length, nat_le, IsTrue}
+use Rattle.std.specs.Prelude.{◌≡◌, ◌<◌, ℕ, List, length, IsTrue}
 use Rattle.std.specs.List.{list_any}
 use Rattle.osek_standard.specs.declared.app.App.{App}
 use Rattle.abstract_state.specs.declared.value.{PartValue.{PartValue}, Domain.{Domain}}
@@ -7,11 +7,10 @@ use Rattle.abstract_state.specs.declared.table.{ValueSet.{ValueSet}, Entry.{Entr
 use Rattle.abstract_state.specs.ValueOrder.{same_part, IsAscending}
 use Rattle.abstract_state.specs.Components.{component_at, component_count}
 use Rattle.abstract_state.specs.Domains.{IsWithin, domain_of}
-use Rattle.abstract_state.specs.Tables.{set_at, is_member}
-use Rattle.flow_model.specs.declared.test.Condition.{Condition}
+use Rattle.abstract_state.specs.Tables.{is_member}
 use Rattle.flow_model.specs.declared.rule.Rule.{Rule}
 use Rattle.flow_model.specs.Effects.{AreIn}
-use Rattle.flow_model.specs.Tests.{is_failed, PassesAt, PassesAll, value_after}
+use Rattle.flow_model.specs.Tests.{PassesAt, PassesAll, value_after}
 use Rattle.flow_model.specs.Rules.{Taken}
 
 -- a value of a list that the rule takes, and what it makes of it

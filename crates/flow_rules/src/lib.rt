@@ -2,7 +2,6 @@
 #![tactic(auto)]
 
 mod beginning;
-pub mod laws;
 mod ruling;
 
 pub use beginning::arrivals;

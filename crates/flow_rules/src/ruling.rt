@@ -31,7 +31,7 @@ fn rule_of(alloc: Global, effect: &EffectCase, outcome: &OutcomeCase) -> Result<
         changes: copied_changes(alloc, effect.changes.as_slice())?,
         target: outcome.target,
         decision: Some(outcome.decision),
-        status: effect.status,
+        status: effect.leaving.status,
     })
 }
 
@@ -42,9 +42,7 @@ pub fn copied_effect(alloc: Global, effect: &EffectCase) -> Result<EffectCase, M
     Ok(EffectCase {
         conditions: copied_conditions(alloc, effect.conditions.as_slice())?,
         changes: copied_changes(alloc, effect.changes.as_slice())?,
-        asked: effect.asked,
-        status: effect.status,
-        point: effect.point,
+        leaving: effect.leaving,
     })
 }
 

@@ -16,9 +16,7 @@ use Rattle.osek_standard.specs.States.{caller, alarm_state}
 use Rattle.osek_standard.specs.Services.{Answer, clear_event}
 use Rattle.osek_standard.specs.Effects.{is_schedule, moved_to, place_at, row}
 use Rattle.osek_standard.proofs.Members.{map_among, among_map, contained_among, among_contained}
-use Rattle.abstract_state.specs.declared.table.Entry.{Entry}
 use Rattle.abstract_state.specs.Components.{component_count, abstract_of, is_armed}
-use Rattle.abstract_state.proofs.ComponentLaws.{task_counted}
 use Rattle.flow_model.specs.declared.change.Change.{Change}
 use Rattle.flow_model.specs.declared.case.{EffectCase.{EffectCase}}
 use Rattle.flow_model.specs.declared.case.Asked.TheVariants as asked
@@ -27,7 +25,7 @@ use Rattle.flow_model.specs.declared.runner.Runner.TheVariants as runner
 use Rattle.flow_model.specs.Cases.{asked_for, asked_after}
 use Rattle.flow_model.specs.Runners.{Stands, OwnsBlock, runner_point, moving}
 use Rattle.flow_model.specs.Tests.{PassesAll, value_after}
-use Rattle.flow_model.specs.Effects.{AreIn, HasEffect, CoverEffects, AreAllAllowed, AreExactEffects}
+use Rattle.flow_model.specs.Effects.{HasEffect, AreCasesOf}
 use Rattle.flow_model.proofs.ChangeLaws.{AreSets, sets_first, passes_left, passes_both, passes_none}
 use Rattle.flow_model.proofs.Moves.{moved_parts, went_on, moved_has, moved_alarms}
 use Rattle.flow_model.proofs.Standing.{point_there, next_owned, known_here, task_calls, routine_calls}
@@ -36,7 +34,7 @@ use Rattle.flow_model.proofs.Listing.{AreEffects, covers, exact}
 use Rattle.flow_services.specs.Occasions.{ServiceCase, case_at, accepted_case, unnoted_case}
 use Rattle.flow_services.specs.Services.{is_service_call, call_cases, calling, event_clearings}
 use Rattle.flow_services.proofs.Seeing.{Sees, moved_sees}
-use Rattle.flow_services.proofs.Serving.{Serves, IsServed, point_stays, keeps_serves, always_served}
+use Rattle.flow_services.proofs.Serving.{Serves, IsServed, point_stays, keeps_serves, always_served, stay_there}
 use Rattle.flow_services.proofs.ActivationLaws.{activation_served}
 use Rattle.flow_services.proofs.SettingEvents.{setting_served}
 use Rattle.flow_services.proofs.CallerEvents.{task_clearing_served, routine_clearing_served, reading_served}
@@ -124,58 +122,58 @@ module _ (app : App) (s : State) (r : Runner) (b : BlockNo) (h : Stands app s r 
   clearing_served e (runner.Routine over) stands =
       subst (λ (c : Caller). IsServed app s moved (event_clearings app (runner.Routine over) e) (clear_event app moved c e)) (sym (routine_calls app s over b stands)) (routine_clearing_served app s moved over stands.runs.source e)
 
-  module _ (entry : Entry) (within : AreIn app entry (abstract_of app s)) where
-    -- each call is served by its cases
-    call_served : (c : Call) → is_service_call c ≡ true → HasOperands (tables app) c → IsServed app s moved (call_cases app entry r c) (row app moved (caller s.processor) c)
-    call_served (call.Task call.ActivateTask t) e known = activation_served app s moved t.0 known sees_moved
-    call_served (call.Task call.ChainTask t) e known = absurd (cc)
-    call_served (call.Task call.GetEvent t) e known = reading_served app s moved t.0 known sees_moved
-    call_served (call.Task call.GetTaskState t) e known = always_served app s moved (accepted_case [] [] false) _ (passes_none app (abstract_of app s)) (keeps_serves app moved _ _ _)
-    call_served (call.Plain call.TerminateTask) e known = absurd (cc)
-    call_served (call.Plain call.Schedule) e known = absurd (cc)
-    call_served (call.Plain call.GetTaskId) e known = always_served app s moved (accepted_case [] [] false) _ (passes_none app (abstract_of app s)) (keeps_serves app moved _ _ _)
-    call_served (call.Plain call.GetActiveApplicationMode) e known = always_served app s moved (unnoted_case []) _ (passes_none app (abstract_of app s)) (keeps_serves app moved _ _ _)
-    call_served (call.Resource k q) e known = absurd (cc)
-    call_served (call.SetEvent t m) e known = setting_served app s moved entry t.0 m.0 known.0 sees_moved (within t.0 (task_counted app t.0 known.0))
-    call_served (call.Mask call.ClearEvent m) e known = clearing_served m.0 r h
-    call_served (call.Mask call.WaitEvent m) e known = absurd (cc)
-    call_served (call.Arm call.SetRelAlarm a x cycle) e known = rel_arming_served app s moved a.0 known (alarm_here a.0 known) (armed_moved a.0) x cycle
-    call_served (call.Arm call.SetAbsAlarm a x cycle) e known = abs_arming_served app s moved a.0 known (alarm_here a.0 known) (armed_moved a.0) x cycle
-    call_served (call.Alarm call.CancelAlarm a) e known = cancelling_served app s moved a.0 known (alarm_here a.0 known) (armed_moved a.0)
-    call_served (call.Alarm call.GetAlarm a) e known = alarm_reading_served app s moved a.0 known (alarm_here a.0 known) (armed_moved a.0)
-    call_served (call.Lock l) e known = always_served app s moved (unnoted_case []) _ (passes_none app (abstract_of app s)) (keeps_serves app moved _ _ _)
-    call_served call.ShutdownOs e known = absurd (cc)
+  -- each call is served by its cases
+  call_served : (c : Call) → is_service_call c ≡ true → HasOperands (tables app) c → IsServed app s moved (call_cases app r c) (row app moved (caller s.processor) c)
+  call_served (call.Task call.ActivateTask t) e known = activation_served app s moved t.0 known sees_moved
+  call_served (call.Task call.ChainTask t) e known = absurd (cc)
+  call_served (call.Task call.GetEvent t) e known = reading_served app s moved t.0 known sees_moved
+  call_served (call.Task call.GetTaskState t) e known = always_served app s moved (accepted_case [] [] false) _ (passes_none app (abstract_of app s)) (keeps_serves app moved _ _ _)
+  call_served (call.Plain call.TerminateTask) e known = absurd (cc)
+  call_served (call.Plain call.Schedule) e known = absurd (cc)
+  call_served (call.Plain call.GetTaskId) e known = always_served app s moved (accepted_case [] [] false) _ (passes_none app (abstract_of app s)) (keeps_serves app moved _ _ _)
+  call_served (call.Plain call.GetActiveApplicationMode) e known = always_served app s moved (unnoted_case []) _ (passes_none app (abstract_of app s)) (keeps_serves app moved _ _ _)
+  call_served (call.Resource k q) e known = absurd (cc)
+  call_served (call.SetEvent t m) e known = setting_served app s moved h.well t.0 m.0 known.0 sees_moved
+  call_served (call.Mask call.ClearEvent m) e known = clearing_served m.0 r h
+  call_served (call.Mask call.WaitEvent m) e known = absurd (cc)
+  call_served (call.Arm call.SetRelAlarm a x cycle) e known = rel_arming_served app s moved a.0 known (alarm_here a.0 known) (armed_moved a.0) x cycle
+  call_served (call.Arm call.SetAbsAlarm a x cycle) e known = abs_arming_served app s moved a.0 known (alarm_here a.0 known) (armed_moved a.0) x cycle
+  call_served (call.Alarm call.CancelAlarm a) e known = cancelling_served app s moved a.0 known (alarm_here a.0 known) (armed_moved a.0)
+  call_served (call.Alarm call.GetAlarm a) e known = alarm_reading_served app s moved a.0 known (alarm_here a.0 known) (armed_moved a.0)
+  call_served (call.Lock l) e known = always_served app s moved (unnoted_case []) _ (passes_none app (abstract_of app s)) (keeps_serves app moved _ _ _)
+  call_served call.ShutdownOs e known = absurd (cc)
 
-    module _ (c : Call) (service : is_service_call c ≡ true) (is : (the_block app b.0).kind ≡ kind.Call c) where
-      operands : HasOperands (tables app) c
-      operands = let h : NamesEntries (tables app) (kind.Call c) = subst (NamesEntries (tables app)) is (known_here app s r b h).operands in h
+  module _ (c : Call) (service : is_service_call c ≡ true) (is : (the_block app b.0).kind ≡ kind.Call c) where
+    operands : HasOperands (tables app) c
+    operands = let h : NamesEntries (tables app) (kind.Call c) = subst (NamesEntries (tables app)) is (known_here app s r b h).operands in h
 
-      pub call_has_effect : (x : EffectCase) (choice : Bool) → Contains (map (case_at (calling app r next)) (call_cases app entry r c)) x → PassesAll app x.conditions (abstract_of app s) → HasEffect app x s choice
-      call_has_effect x choice listed passing =
-          let m = map_among (case_at (calling app r next)) x (call_cases app entry r c) (contained_among _ x listed) in
-          let pass : PassesAll app m.0.conditions (abstract_of app s) = passes_left app (abstract_of app s) m.0.conditions [] (subst (λ (y : EffectCase). PassesAll app y.conditions (abstract_of app s)) m.2 passing) in
-          call_has app x s choice r b (kind.Call c) (row app moved (caller s.processor) c) (is_call c service) h is refl passing
-          (subst (λ (y : EffectCase). HasAnswer app y s r (kind.Call c) (row app moved (caller s.processor) c)) (sym m.2)
-          (serves_case (kind.Call c) m.0 (row app moved (caller s.processor) c) (no_schedule c service) ((call_served c service operands).each m.0 m.1 pass)))
+    pub call_has_effect : (x : EffectCase) (choice : Bool) → Contains (map (case_at (calling app r next)) (call_cases app r c)) x → PassesAll app x.conditions (abstract_of app s) → HasEffect app x s choice
+    call_has_effect x choice listed passing =
+        let m = map_among (case_at (calling app r next)) x (call_cases app r c) (contained_among _ x listed) in
+        let pass : PassesAll app m.0.conditions (abstract_of app s) = passes_left app (abstract_of app s) m.0.conditions [] (subst (λ (y : EffectCase). PassesAll app y.conditions (abstract_of app s)) m.2 passing) in
+        call_has app x s choice r b (kind.Call c) (row app moved (caller s.processor) c) (is_call c service) h is refl passing
+        (subst (λ (y : EffectCase). HasAnswer app y s r (kind.Call c) (row app moved (caller s.processor) c)) (sym m.2)
+        (serves_case (kind.Call c) m.0 (row app moved (caller s.processor) c) (no_schedule c service) ((call_served c service operands).each m.0 m.1 pass)))
 
-      pub call_has_some : (x : EffectCase) × Contains (map (case_at (calling app r next)) (call_cases app entry r c)) x × PassesAll app x.conditions (abstract_of app s)
-      call_has_some =
-          let some = (call_served c service operands).some in (
-            case_at (calling app r next) some.0,
-            among_contained (map (case_at (calling app r next)) (call_cases app entry r c)) (case_at (calling app r next) some.0) (among_map (case_at (calling app r next)) some.0 (call_cases app entry r c) some.1),
-            passes_both app (abstract_of app s) some.0.conditions [] some.2 (passes_none app (abstract_of app s)),
-          )
+    pub call_has_some : (x : EffectCase) × Contains (map (case_at (calling app r next)) (call_cases app r c)) x × PassesAll app x.conditions (abstract_of app s)
+    call_has_some =
+        let some = (call_served c service operands).some in (
+          case_at (calling app r next) some.0,
+          among_contained (map (case_at (calling app r next)) (call_cases app r c)) (case_at (calling app r next) some.0) (among_map (case_at (calling app r next)) some.0 (call_cases app r c) some.1),
+          passes_both app (abstract_of app s) some.0.conditions [] some.2 (passes_none app (abstract_of app s)),
+        )
 
--- The cases of a call cover and are exact.
-module _ (app : App) (r : Runner) (b : BlockNo) (entry : Entry) (owns : OwnsBlock app r b) (c : Call) (service : is_service_call c ≡ true) (is : (the_block app b.0).kind ≡ kind.Call c) where
+-- The cases of a call are those of the block.
+module _ (app : App) (r : Runner) (b : BlockNo) (owns : OwnsBlock app r b) (c : Call) (service : is_service_call c ≡ true) (is : (the_block app b.0).kind ≡ kind.Call c) where
   abbrev cases : List EffectCase
-  cases = map (case_at (calling app r (the_block app b.0).next)) (call_cases app entry r c)
+  cases = map (case_at (calling app r (the_block app b.0).next)) (call_cases app r c)
 
-  are_effects : AreEffects app r b entry owns cases
-  are_effects x s choice listed h within passing = call_has_effect app s r b h entry within c service is x choice listed passing
+  are_effects : AreEffects app r b owns cases
+  are_effects x s choice listed h passing = call_has_effect app s r b h c service is x choice listed passing
 
-  pub calls_cover : CoverEffects app (runner_point r b) entry cases
-  calls_cover = covers app r b entry owns cases are_effects (λ s h within. call_has_some app s r b h entry within c service is)
-
-  pub calls_exact : AreAllAllowed app (runner_point r b) entry → AreExactEffects app (runner_point r b) entry cases
-  calls_exact all = exact app r b entry owns cases all are_effects
+  pub calls_are_cases : AreCasesOf app (runner_point r b) cases
+  calls_are_cases = record {
+    covering = covers app r b owns cases are_effects (λ s h. call_has_some app s r b h c service is);
+    exact = exact app r b owns cases are_effects;
+    stays = λ x listed. stay_there app (calling app r (the_block app b.0).next) (call_cases app r c) x (contained_among cases x listed);
+  }

@@ -25,7 +25,6 @@ use Rattle.abstract_state.specs.declared.table.Entry.{Entry}
 use Rattle.abstract_state.specs.Choices.{IsQuietWith}
 use Rattle.abstract_state.specs.Components.{component_count, component_number, abstract_of, is_armed}
 use Rattle.abstract_state.specs.Concrete.{HasParts, AreAllowed}
-use Rattle.abstract_state.proofs.ComponentLaws.{task_counted}
 use Rattle.abstract_state.proofs.Concretes.{some_quiet, some_armed, some_ticks, armed_once, armed_again}
 use Rattle.abstract_state.proofs.Numbers.{number_known}
 use Rattle.abstract_state.proofs.OrderLaws.{part_right}
@@ -35,18 +34,18 @@ use Rattle.flow_model.specs.declared.case.Asked.TheVariants as asked
 use Rattle.flow_model.specs.declared.runner.Runner.{Runner}
 use Rattle.flow_model.specs.Runners.{Stands, OwnsBlock, runner_point}
 use Rattle.flow_model.specs.Tests.{PassesAll, value_after}
-use Rattle.flow_model.specs.Effects.{AreIn, HasEffect, HasSomeEffect, ShowsEffect, CoverEffects, AreAllAllowed, AreExactEffects}
+use Rattle.flow_model.specs.Effects.{AreIn, HasEffect, HasSomeEffect, ShowsEffect, AreAllAllowed, AreCasesOf, IsKnownStay}
 use Rattle.flow_model.specs.Changes.{alarm_change}
 use Rattle.flow_model.proofs.ChangeLaws.{sets_first, sets_both, passes_left, passes_right, passes_both, passes_one, one_passes}
 use Rattle.flow_model.proofs.Writes.{alarm_written, alarm_changes_set}
 use Rattle.flow_model.proofs.Moves.{moved_alarms}
 use Rattle.flow_model.proofs.Standing.{point_there, stands_here, owned_point}
 use Rattle.flow_model.proofs.Calls.{IsCall, HasAnswer, call_has, asked_none}
-use Rattle.flow_model.proofs.Listing.{covers_by, values_allowed, made_passes, made_within}
+use Rattle.flow_model.proofs.Listing.{covers_by, values_allowed, made_passes}
 use Rattle.flow_services.specs.Occasions.{ServiceCase, case_at, unnoted_case}
 use Rattle.flow_services.specs.Services.{actions, alarm_is, looking, expiring, expiries}
 use Rattle.flow_services.proofs.Seeing.{Sees, tests_alarm, alarm_tested}
-use Rattle.flow_services.proofs.Serving.{Serves, IsServed, Stays, point_stays}
+use Rattle.flow_services.proofs.Serving.{Serves, IsServed, Stays, point_stays, stay_there}
 use Rattle.flow_services.proofs.ActivationLaws.{activation_served}
 use Rattle.flow_services.proofs.SettingEvents.{setting_served}
 use Rattle.flow_services.proofs.Calling.{moved_well, parts_after, sees_moved}
@@ -113,92 +112,88 @@ module _ (app : App) (s : State) (r : Runner) (b : BlockNo) (h : Stands app s r 
       nothing true = refl
       nothing false = refl
 
-  module _ (entry : Entry) (within : AreIn app entry (abstract_of app s)) where
-    fired_sees : (y : AlarmState) → Sees app s (fired y)
-    fired_sees y = let sees = sees_moved app s r b h in record { size = sees.size; suspended = sees.suspended; waiting = sees.waiting }
+  fired_sees : (y : AlarmState) → Sees app s (fired y)
+  fired_sees y = let sees = sees_moved app s r b h in record { size = sees.size; suspended = sees.suspended; waiting = sees.waiting }
 
-    acted_served : (y : AlarmState) (x : Action) → IsAction (tables app) x → IsServed app s (fired y) (actions app entry x) (acted app (fired y) x)
-    acted_served y (action.ActivateTask t) is = activation_served app s (fired y) t.0 is (fired_sees y)
-    acted_served y (action.SetEvent t m) is = setting_served app s (fired y) entry t.0 m.0 is.0 (fired_sees y) (within t.0 (task_counted app t.0 is.0))
+  acted_served : (y : AlarmState) (x : Action) → IsAction (tables app) x → IsServed app s (fired y) (actions app x) (acted app (fired y) x)
+  acted_served y (action.ActivateTask t) is = activation_served app s (fired y) t.0 is (fired_sees y)
+  acted_served y (action.SetEvent t m) is = setting_served app s (fired y) h.well t.0 m.0 is.0 (fired_sees y)
 
-    action_served : (y : AlarmState) → IsServed app s (fired y) (actions app entry (the_alarm app a).action) (acted app (fired y) (the_alarm app a).action)
-    action_served y = acted_served y (the_alarm app a).action (app.valid.each_alarm a no_alarm known).action
+  action_served : (y : AlarmState) → IsServed app s (fired y) (actions app (the_alarm app a).action) (acted app (fired y) (the_alarm app a).action)
+  action_served y = acted_served y (the_alarm app a).action (app.valid.each_alarm a no_alarm known).action
 
-    module _ (is : (the_block app b.0).kind ≡ kind.Expire (alarm_no a)) where
-      call : IsCall app (kind.Expire (alarm_no a))
-      call = λ s choice p b. refl
+  module _ (is : (the_block app b.0).kind ≡ kind.Expire (alarm_no a)) where
+    call : IsCall app (kind.Expire (alarm_no a))
+    call = λ s choice p b. refl
 
-      not_due : is_due app s a ≡ false → expire app moved a ≡ unnoted moved ask.No
-      unfolding expire
-      not_due e = ap (λ (f : Bool). if f then asks_no (acted app (fired (rearmed app a (alarm_state moved a))) (the_alarm app a).action) else unnoted moved ask.No) (due_kept ∙ e)
+    not_due : is_due app s a ≡ false → expire app moved a ≡ unnoted moved ask.No
+    unfolding expire
+    not_due e = ap (λ (f : Bool). if f then asks_no (acted app (fired (rearmed app a (alarm_state moved a))) (the_alarm app a).action) else unnoted moved ask.No) (due_kept ∙ e)
 
-      fires : is_due app s a ≡ true → expire app moved a ≡ asks_no (acted app (fired (rearmed app a (alarm_state s a))) (the_alarm app a).action)
-      unfolding expire
-      fires e =
-          ap (λ (f : Bool). if f then asks_no (acted app (fired (rearmed app a (alarm_state moved a))) (the_alarm app a).action) else unnoted moved ask.No) (due_kept ∙ e)
-          ∙ ap (λ (y : AlarmState). asks_no (acted app (fired (rearmed app a y)) (the_alarm app a).action)) alarm_kept
+    fires : is_due app s a ≡ true → expire app moved a ≡ asks_no (acted app (fired (rearmed app a (alarm_state s a))) (the_alarm app a).action)
+    unfolding expire
+    fires e =
+        ap (λ (f : Bool). if f then asks_no (acted app (fired (rearmed app a (alarm_state moved a))) (the_alarm app a).action) else unnoted moved ask.No) (due_kept ∙ e)
+        ∙ ap (λ (y : AlarmState). asks_no (acted app (fired (rearmed app a y)) (the_alarm app a).action)) alarm_kept
 
-      -- the effect where the alarm isn't due
-      pub quiet_effect : (conditions : List Condition) (choice : Bool) → is_due app s a ≡ false → PassesAll app (conditions ++ []) (abstract_of app s) → HasEffect app (case_at (looking app r next) (unnoted_case conditions)) s choice
-      quiet_effect conditions choice e passing = call_has app (case_at (looking app r next) (unnoted_case conditions)) s choice r b (kind.Expire (alarm_no a)) (unnoted moved ask.No) call h is (not_due e) passing (quiet_case conditions)
+    -- the effect where the alarm isn't due
+    pub quiet_effect : (conditions : List Condition) (choice : Bool) → is_due app s a ≡ false → PassesAll app (conditions ++ []) (abstract_of app s) → HasEffect app (case_at (looking app r next) (unnoted_case conditions)) s choice
+    quiet_effect conditions choice e passing = call_has app (case_at (looking app r next) (unnoted_case conditions)) s choice r b (kind.Expire (alarm_no a)) (unnoted moved ask.No) call h is (not_due e) passing (quiet_case conditions)
 
-      -- and where it is
-      pub due_effect : (again : Bool) (x : ServiceCase) (choice : Bool) → is_due app s a ≡ true → is_armed (rearmed app a (alarm_state s a)) ≡ again → Among x (actions app entry (the_alarm app a).action) →
-          PassesAll app (case_at (expiring app r next a again) x).conditions (abstract_of app s) → HasEffect app (case_at (expiring app r next a again) x) s choice
-      due_effect again x choice e armed among passing =
-          let y = rearmed app a (alarm_state s a) in
-          let z = acted app (fired y) (the_alarm app a).action in
-          let pass : PassesAll app x.conditions (abstract_of app s) = passes_left app (abstract_of app s) x.conditions (alarm_is app a true ∷ []) passing in
-          call_has app (case_at (expiring app r next a again) x) s choice r b (kind.Expire (alarm_no a)) (asks_no z) call h is (fires e) passing
-          (subst (λ (f : Bool). HasAnswer app (case_at (expiring app r next a f) x) s r (kind.Expire (alarm_no a)) (asks_no z)) armed
-          (due_case y x z ((action_served y).each x among pass)))
+    -- and where it is
+    pub due_effect : (again : Bool) (x : ServiceCase) (choice : Bool) → is_due app s a ≡ true → is_armed (rearmed app a (alarm_state s a)) ≡ again → Among x (actions app (the_alarm app a).action) →
+        PassesAll app (case_at (expiring app r next a again) x).conditions (abstract_of app s) → HasEffect app (case_at (expiring app r next a again) x) s choice
+    due_effect again x choice e armed among passing =
+        let y = rearmed app a (alarm_state s a) in
+        let z = acted app (fired y) (the_alarm app a).action in
+        let pass : PassesAll app x.conditions (abstract_of app s) = passes_left app (abstract_of app s) x.conditions (alarm_is app a true ∷ []) passing in
+        call_has app (case_at (expiring app r next a again) x) s choice r b (kind.Expire (alarm_no a)) (asks_no z) call h is (fires e) passing
+        (subst (λ (f : Bool). HasAnswer app (case_at (expiring app r next a f) x) s r (kind.Expire (alarm_no a)) (asks_no z)) armed
+        (due_case y x z ((action_served y).each x among pass)))
 
-      abbrev all : List EffectCase
-      all = expiries app entry r next a
+    abbrev all : List EffectCase
+    all = expiries app r next a
 
-      abbrev listed_actions : Bool → List EffectCase
-      listed_actions again = map (case_at (expiring app r next a again)) (actions app entry (the_alarm app a).action)
+    abbrev listed_actions : Bool → List EffectCase
+    listed_actions again = map (case_at (expiring app r next a again)) (actions app (the_alarm app a).action)
 
-      listed_due : (again : Bool) (x : EffectCase) → Among x (listed_actions again) → Among x all
-      listed_due false x m = inr (inr (among_left x (listed_actions false) (listed_actions true) m))
-      listed_due true x m = inr (inr (among_right x (listed_actions false) (listed_actions true) m))
+    listed_due : (again : Bool) (x : EffectCase) → Among x (listed_actions again) → Among x all
+    listed_due false x m = inr (inr (among_left x (listed_actions false) (listed_actions true) m))
+    listed_due true x m = inr (inr (among_right x (listed_actions false) (listed_actions true) m))
 
-      some_due : (again : Bool) (choice : Bool) → is_due app s a ≡ true → is_armed (alarm_state s a) ≡ true → is_armed (rearmed app a (alarm_state s a)) ≡ again → HasSomeEffect app all s choice
-      some_due again choice e on armed =
-          let some = (action_served (rearmed app a (alarm_state s a))).some in
-          let x = case_at (expiring app r next a again) some.0 in
-          let passing : PassesAll app x.conditions (abstract_of app s) = passes_both app (abstract_of app s) some.0.conditions (alarm_is app a true ∷ []) some.2 (passes_one app (abstract_of app s) (alarm_is app a true) (tests_alarm app s a known true on)) in
-          record {
-            case = x;
-            listed = among_contained all x (listed_due again x (among_map (case_at (expiring app r next a again)) some.0 (actions app entry (the_alarm app a).action) some.1));
-            effect = due_effect again some.0 choice e armed some.1 passing;
-          }
-
-      pub some_effect : (choice : Bool) → HasSomeEffect app all s choice
-      some_effect choice = elim (cases_Bool (is_armed (alarm_state s a))) [
-        | inr off ↦ record {
-          case = case_at (looking app r next) (unnoted_case (alarm_is app a false ∷ []));
-          listed = among_contained all _ (inl refl);
-          effect = quiet_effect (alarm_is app a false ∷ []) choice (idle_is_not_due (alarm_state s a) (value_of app s a) off) (passes_one app (abstract_of app s) (alarm_is app a false) (tests_alarm app s a known false off));
+    some_due : (again : Bool) (choice : Bool) → is_due app s a ≡ true → is_armed (alarm_state s a) ≡ true → is_armed (rearmed app a (alarm_state s a)) ≡ again → HasSomeEffect app all s choice
+    some_due again choice e on armed =
+        let some = (action_served (rearmed app a (alarm_state s a))).some in
+        let x = case_at (expiring app r next a again) some.0 in
+        let passing : PassesAll app x.conditions (abstract_of app s) = passes_both app (abstract_of app s) some.0.conditions (alarm_is app a true ∷ []) some.2 (passes_one app (abstract_of app s) (alarm_is app a true) (tests_alarm app s a known true on)) in
+        record {
+          case = x;
+          listed = among_contained all x (listed_due again x (among_map (case_at (expiring app r next a again)) some.0 (actions app (the_alarm app a).action) some.1));
+          effect = due_effect again some.0 choice e armed some.1 passing;
         }
-        | inl on ↦ elim (cases_Bool (is_due app s a)) [
-          | inr doesnt ↦ record {
-            case = case_at (looking app r next) (unnoted_case (alarm_is app a true ∷ []));
-            listed = among_contained all _ (inr (inl refl));
-            effect = quiet_effect (alarm_is app a true ∷ []) choice doesnt (passes_one app (abstract_of app s) (alarm_is app a true) (tests_alarm app s a known true on));
-          }
-          | inl does ↦ some_due (is_armed (rearmed app a (alarm_state s a))) choice does on refl
-        ]
+
+    pub some_effect : (choice : Bool) → HasSomeEffect app all s choice
+    some_effect choice = elim (cases_Bool (is_armed (alarm_state s a))) [
+      | inr off ↦ record {
+        case = case_at (looking app r next) (unnoted_case (alarm_is app a false ∷ []));
+        listed = among_contained all _ (inl refl);
+        effect = quiet_effect (alarm_is app a false ∷ []) choice (idle_is_not_due (alarm_state s a) (value_of app s a) off) (passes_one app (abstract_of app s) (alarm_is app a false) (tests_alarm app s a known false off));
+      }
+      | inl on ↦ elim (cases_Bool (is_due app s a)) [
+        | inr doesnt ↦ record {
+          case = case_at (looking app r next) (unnoted_case (alarm_is app a true ∷ []));
+          listed = among_contained all _ (inr (inl refl));
+          effect = quiet_effect (alarm_is app a true ∷ []) choice doesnt (passes_one app (abstract_of app s) (alarm_is app a true) (tests_alarm app s a known true on));
+        }
+        | inl does ↦ some_due (is_armed (rearmed app a (alarm_state s a))) choice does on refl
       ]
+    ]
 
-module _ (app : App) (r : Runner) (b : BlockNo) (entry : Entry) (owns : OwnsBlock app r b) (a : ℕ) (known : a < length app.alarms) (is : (the_block app b.0).kind ≡ kind.Expire (alarm_no a)) where
+module _ (app : App) (r : Runner) (b : BlockNo) (owns : OwnsBlock app r b) (a : ℕ) (known : a < length app.alarms) (is : (the_block app b.0).kind ≡ kind.Expire (alarm_no a)) where
   abbrev cases : List EffectCase
-  cases = expiries app entry r (the_block app b.0).next a
+  cases = expiries app r (the_block app b.0).next a
 
-  pub expiries_cover : CoverEffects app (runner_point r b) entry cases
-  expiries_cover = covers_by app r b entry owns cases (λ s choice h within. some_effect app s r b h a known entry within is choice)
-
-  module _ (all : AreAllAllowed app (runner_point r b) entry) (value : ℕ → PartValue) (within : AreIn app entry value) where
+  module _ (entry : Entry) (all : AreAllAllowed app (runner_point r b) entry) (value : ℕ → PartValue) (within : AreIn app entry value) where
     abbrev next_block : BlockNo
     next_block = (the_block app b.0).next
 
@@ -220,8 +215,8 @@ module _ (app : App) (r : Runner) (b : BlockNo) (entry : Entry) (owns : OwnsBloc
 
     -- a state with these values is one that executes the block, and is of the entry
     module _ (s : State) (has : HasParts app p value s) (quiet : arrival app s ≡ None) where
-      shows_by : (x : EffectCase) → (Stands app s r b → AreIn app entry (abstract_of app s) → HasEffect app x s true) → ShowsEffect app p x value
-      shows_by x effect = record { from = s; choice = true; has = has; alone = quiet; effect = effect (stands_here app s r b owns has.well has.point) (made_within app p value s has entry within) }
+      shows_by : (x : EffectCase) → (Stands app s r b → HasEffect app x s true) → ShowsEffect app p x value
+      shows_by x effect = record { from = s; choice = true; has = has; alone = quiet; effect = effect (stands_here app s r b owns has.well has.point) }
 
     shows_idle : PassesAll app (alarm_is app a false ∷ []) value → ShowsEffect app p (case_at (looking app r next_block) (unnoted_case (alarm_is app a false ∷ []))) value
     shows_idle passing =
@@ -229,7 +224,7 @@ module _ (app : App) (r : Runner) (b : BlockNo) (entry : Entry) (owns : OwnsBloc
         let here : PassesAll app (alarm_is app a false ∷ []) (abstract_of app q.0) = made_passes app p value q.0 q.1.has (alarm_is app a false ∷ []) passing in
         let off : is_armed (alarm_state q.0 a) ≡ false = alarm_tested app q.0 a known false (one_passes app (abstract_of app q.0) (alarm_is app a false) here counted) in
         shows_by q.0 q.1.has q.1.quiet (case_at (looking app r next_block) (unnoted_case (alarm_is app a false ∷ [])))
-        (λ h inside. quiet_effect app q.0 r b h a known entry inside is (alarm_is app a false ∷ []) true (idle_is_not_due (alarm_state q.0 a) (value_of app q.0 a) off) here)
+        (λ h. quiet_effect app q.0 r b h a known is (alarm_is app a false ∷ []) true (idle_is_not_due (alarm_state q.0 a) (value_of app q.0 a) off) here)
 
     -- with this time and cycle, at this value of the counter
     due_with : (s : State) (at cycle now : ℕ) → alarm_state s a ≡ Armed at cycle → counter_value s (the_alarm app a).counter.0 ≡ now → is_due app s a ≡ (at == now)
@@ -241,9 +236,9 @@ module _ (app : App) (r : Runner) (b : BlockNo) (entry : Entry) (owns : OwnsBloc
         let q = some_armed app p value (owned_point app r b owns) allowed a 1 0 0 known (armed_once app a known 1 most) (omega arith) in
         let not_yet : is_due app q.0 a ≡ false = due_with q.0 1 0 0 (q.1.armed (armed_value passing)) q.1.counter in
         shows_by q.0 q.1.has q.1.quiet (case_at (looking app r next_block) (unnoted_case (alarm_is app a true ∷ [])))
-        (λ h inside. quiet_effect app q.0 r b h a known entry inside is (alarm_is app a true ∷ []) true not_yet (made_passes app p value q.0 q.1.has (alarm_is app a true ∷ []) passing))
+        (λ h. quiet_effect app q.0 r b h a known is (alarm_is app a true ∷ []) true not_yet (made_passes app p value q.0 q.1.has (alarm_is app a true ∷ []) passing))
 
-    module _ (x : ServiceCase) (among : Among x (actions app entry (the_alarm app a).action)) where
+    module _ (x : ServiceCase) (among : Among x (actions app (the_alarm app a).action)) where
       alarm_passes : (again : Bool) → PassesAll app (case_at (expiring app r next_block a again) x).conditions value → PassesAll app (alarm_is app a true ∷ []) value
       alarm_passes again passing = passes_right app value x.conditions (alarm_is app a true ∷ []) passing
 
@@ -251,7 +246,7 @@ module _ (app : App) (r : Runner) (b : BlockNo) (entry : Entry) (owns : OwnsBloc
       shows_with again cycle s q passing armed =
           let at : alarm_state s a ≡ Armed 0 cycle = q.armed (armed_value (alarm_passes again passing)) in
           shows_by s q.has q.quiet (case_at (expiring app r next_block a again) x)
-          (λ h inside. due_effect app s r b h a known entry inside is again x true (due_with s 0 cycle 0 at q.counter) (ap (λ (y : AlarmState). is_armed (rearmed app a y)) at ∙ armed) among
+          (λ h. due_effect app s r b h a known is again x true (due_with s 0 cycle 0 at q.counter) (ap (λ (y : AlarmState). is_armed (rearmed app a y)) at ∙ armed) among
           (made_passes app p value s q.has (case_at (expiring app r next_block a again) x).conditions passing))
 
       shows_due : (again : Bool) → PassesAll app (case_at (expiring app r next_block a again) x).conditions value → ShowsEffect app p (case_at (expiring app r next_block a again) x) value
@@ -269,10 +264,22 @@ module _ (app : App) (r : Runner) (b : BlockNo) (entry : Entry) (owns : OwnsBloc
     shows_listed x (inr (inl e)) passing = subst (λ (y : EffectCase). ShowsEffect app p y value) (sym e) (shows_armed (subst (λ (y : EffectCase). PassesAll app y.conditions value) e passing))
     shows_listed x (inr (inr m)) passing = ⊎_elim (of_action false) (of_action true) (among_cases x _ _ m)
       where
-        of_action : (again : Bool) → Among x (map (case_at (expiring app r next_block a again)) (actions app entry (the_alarm app a).action)) → ShowsEffect app p x value
+        of_action : (again : Bool) → Among x (map (case_at (expiring app r next_block a again)) (actions app (the_alarm app a).action)) → ShowsEffect app p x value
         of_action again n =
-            let g = map_among (case_at (expiring app r next_block a again)) x (actions app entry (the_alarm app a).action) n in
+            let g = map_among (case_at (expiring app r next_block a again)) x (actions app (the_alarm app a).action) n in
             subst (λ (y : EffectCase). ShowsEffect app p y value) (sym g.2) (shows_due g.0 g.1 again (subst (λ (y : EffectCase). PassesAll app y.conditions value) g.2 passing))
 
-  pub expiries_exact : AreAllAllowed app (runner_point r b) entry → AreExactEffects app (runner_point r b) entry cases
-  expiries_exact all x value listed within passing = shows_listed all value within x (contained_among cases x listed) passing
+  acts_stay : (again : Bool) (x : EffectCase) → Among x (map (case_at (expiring app r (the_block app b.0).next a again)) (actions app (the_alarm app a).action)) → IsKnownStay app x.leaving.stay
+  acts_stay again x m = stay_there app (expiring app r (the_block app b.0).next a again) (actions app (the_alarm app a).action) x m
+
+  each_stays : (x : EffectCase) → Among x cases → IsKnownStay app x.leaving.stay
+  each_stays x (inl e) = subst (λ (y : EffectCase). IsKnownStay app y.leaving.stay) (sym e) tt
+  each_stays x (inr (inl e)) = subst (λ (y : EffectCase). IsKnownStay app y.leaving.stay) (sym e) tt
+  each_stays x (inr (inr m)) = ⊎_elim (acts_stay false x) (acts_stay true x) (among_cases x _ _ m)
+
+  pub expiries_are_cases : AreCasesOf app (runner_point r b) cases
+  expiries_are_cases = record {
+    covering = covers_by app r b owns cases (λ s choice h. some_effect app s r b h a known is choice);
+    exact = λ entry all x value listed within passing. shows_listed entry all value within x (contained_among cases x listed) passing;
+    stays = λ x listed. each_stays x (contained_among cases x listed);
+  }

@@ -1,9 +1,7 @@
 -- Lists that loops make, one element longer.
-use Rattle.std.proofs.Common.{◌≡◌, ℕ, ◌+◌, ◌<◌, Bool, true, false, List, [], ◌∷◌, ◌++◌, length, map, take, filter, flat_map, get_or, refl, sym, ap, ◌∙◌, append_assoc}
+use Rattle.std.proofs.Common.{◌≡◌, ℕ, ◌+◌, Bool, true, false, List, [], ◌∷◌, ◌++◌, map, filter, refl, sym, ap, ◌∙◌, append_assoc}
 use Rattle.std.specs.List.{range_with_len}
-use Rattle.std.proofs.lemmas.List.{append-nil, take_more, map_more}
 use Rattle.std.proofs.lemmas.Simd.{map-map}
-use Rattle.std.proofs.lemmas.Grind.{flat_map-append}
 use Rattle.abstract_state.proofs.RangeLaws.{passed_more, failed_more}
 
 module _ {X : Type 0} (xs all : List X) where
@@ -17,16 +15,6 @@ module _ {X : Type 0} (xs all : List X) where
 
     pub failed_after : p n ≡ false → all ≡ xs ++ map f (filter p (range_with_len 0 (n + 1)))
     failed_after fails = e ∙ ap (λ (ys : List X). xs ++ ys) (failed_more p f (map f (filter p (range_with_len 0 n))) n refl fails)
-
-module _ {X Y : Type 0} (ys all : List Y) where
-  pub mapped_after : (f : X → Y) (xs : List X) (i : ℕ) (d : X) → i < length xs → all ≡ ys ++ map f (take i xs) → all ++ f (get_or xs i d) ∷ [] ≡ ys ++ map f (take (i + 1) xs)
-  mapped_after f xs i d lt e = pushed ys all (map f (take i xs)) (f (get_or xs i d)) e ∙ ap (λ (zs : List Y). ys ++ zs) (sym (map_more f xs i d lt))
-
-pub flat_more : {X Y : Type 0} (f : X → List Y) (xs : List X) (i : ℕ) (d : X) → i < length xs → flat_map f (take (i + 1) xs) ≡ flat_map f (take i xs) ++ f (get_or xs i d)
-flat_more f xs i d lt =
-    ap (flat_map f) (take_more xs i d lt)
-    ∙ flat_map-append f (take i xs) (get_or xs i d ∷ [])
-    ∙ ap (λ ys. flat_map f (take i xs) ++ ys) (append-nil (f (get_or xs i d)))
 
 -- two, and then those that a list gives
 pub two_and_mapped : {X Y Z : Type 0} (f : X → Y) (g : Z → X) (old one two all : List Y) (a b : X) (zs : List Z) → one ≡ old ++ f a ∷ [] → two ≡ one ++ f b ∷ [] → all ≡ two ++ map (λ (z : Z). f (g z)) zs → all ≡ old ++ map f (a ∷ b ∷ map g zs)

@@ -48,7 +48,7 @@ waiting_value activity.Suspended b e = absurd (cc)
 waiting_value (activity.Live x) b e = absurd (cc)
 waiting_value (activity.Waiting c) b e = ap (λ (d : BlockNo). Some d) (cc)
 
-pub value_waiting : (a : Activity) (b : BlockNo) → waiting_block a ≡ Some b → value_in a ≡ Waiting b
+value_waiting : (a : Activity) (b : BlockNo) → waiting_block a ≡ Some b → value_in a ≡ Waiting b
 value_waiting a b e = ap value_in (waits_there a b e)
 
 still_waiting : (a : Activity) (p : Place) → waiting_block (standing_at a p) ≡ waiting_block a

@@ -1,5 +1,5 @@
 -- What the answer of a service says of the state in which it is called, and of the effect of its instruction.
-use Rattle.std.proofs.Common.{◌≡◌, ℕ, ◌<◌, true, false, List, [], ◌∷◌, length, refl, sym, ap, subst, ◌∙◌, inl, inr, get_or-set_same, get_or-set_other, ◌⊎◌, ⊎_elim}
+use Rattle.std.proofs.Common.{◌≡◌, ℕ, ◌<◌, true, false, List, [], ◌∷◌, length, map, refl, sym, ap, subst, ◌∙◌, inl, inr, get_or-set_same, get_or-set_other, ◌⊎◌, ⊎_elim}
 use Rattle.std.specs.Prelude.{if◌then◌else◌, slice_index_or}
 use Rattle.std.proofs.lemmas.Bool.{cases_eq}
 use Rattle.std.specs.declared.option.Option.{Option}
@@ -16,12 +16,15 @@ use Rattle.osek_standard.specs.States.{task_state, with_task, place_by, place_in
 use Rattle.osek_standard.specs.Points.{point_at, point_of}
 use Rattle.osek_standard.specs.Services.{Answer, answer}
 use Rattle.osek_standard.specs.Well.{Well, IsProcessor}
-use Rattle.osek_standard.proofs.Members.{Among}
+use Rattle.osek_standard.proofs.Members.{Among, map_among}
 use Rattle.abstract_state.specs.Components.{component_count, abstract_of}
 use Rattle.flow_model.specs.declared.test.Condition.{Condition}
+use Rattle.flow_model.specs.declared.case.EffectCase.{EffectCase}
+use Rattle.flow_model.specs.Effects.{IsKnownStay}
 use Rattle.flow_model.specs.Tests.{PassesAll, value_after}
 use Rattle.flow_model.proofs.ChangeLaws.{AreSets, sets_none}
-use Rattle.flow_services.specs.Occasions.{ServiceCase, service_case}
+use Rattle.flow_services.specs.declared.occasion.Occasion.{Occasion}
+use Rattle.flow_services.specs.Occasions.{ServiceCase, service_case, case_at}
 
 -- who has the processor keeps it, and stands where it stood
 pub record Stays (m n : State) : Type 0 where
@@ -97,3 +100,7 @@ two_served app s m x y a of_x of_y either = record {
     each_serves z (inl e) passing = subst (λ (w : ServiceCase). Serves app m w a) (sym e) (of_x (subst (λ (w : ServiceCase). PassesAll app w.conditions (abstract_of app s)) e passing))
     each_serves z (inr (inl e)) passing = subst (λ (w : ServiceCase). Serves app m w a) (sym e) (of_y (subst (λ (w : ServiceCase). PassesAll app w.conditions (abstract_of app s)) e passing))
     each_serves z (inr (inr none)) passing = absurd none
+
+-- cases of services stay at the point where the caller goes on
+pub stay_there : (app : App) (o : Occasion) (xs : List ServiceCase) (x : EffectCase) → Among x (map (case_at o) xs) → IsKnownStay app x.leaving.stay
+stay_there app o xs x m = let h = map_among (case_at o) x xs m in subst (λ (y : EffectCase). IsKnownStay app y.leaving.stay) (sym h.2) tt

@@ -1,9 +1,8 @@
 -- SetEvent is served by its cases.
-use Rattle.std.proofs.Common.{map, ◌≡◌, ℕ, ◌<◌, Bool, true, false, not, List, [], ◌∷◌, length, refl, sym, ap, subst, ◌∙◌, inl, inr, ⊎_elim, arith, Some, IsTrue}
-use Rattle.std.specs.Prelude.{if◌then◌else◌}
+use Rattle.std.specs.List.{range_with_len}
+use Rattle.std.proofs.Common.{map, filter, ◌≡◌, ℕ, ◌<◌, ◌-◌, Bool, true, false, not, List, [], ◌∷◌, length, refl, sym, ap, subst, ◌∙◌, inl, inr, arith, Some, IsTrue}
 use Rattle.std.proofs.lemmas.Bool.{cases_Bool}
-use Rattle.std.proofs.lemmas.Map.Views.{Contains-from_any}
-use Rattle.osek_values.specs.Numbers.{mask}
+use Rattle.osek_values.specs.Numbers.{mask, block_no}
 use Rattle.osek_values.specs.declared.numbers.BlockNo.{BlockNo}
 use Rattle.osek_values.specs.declared.status.Ask.TheVariants as ask
 use Rattle.osek_values.specs.declared.status.Status.TheVariants as status
@@ -16,13 +15,12 @@ use Rattle.osek_standard.specs.Apps.{the_task, the_block, is_extended}
 use Rattle.osek_standard.specs.TaskStates.{is_suspended, is_live_activity}
 use Rattle.osek_standard.specs.States.{task_state}
 use Rattle.osek_standard.specs.Services.{set_event, refused, accepted, waits_in, waits_for, woken, with_events, events_set, released_from}
-use Rattle.osek_standard.proofs.Members.{Among, among_map, map_among, among_flat_map, flat_map_among, contained_among}
-use Rattle.abstract_state.specs.declared.value.{Val.TheVariants.{Suspended, Live, Waiting}, PartValue.{PartValue}, PartValue.TheVariants.{OfTask, OfEvent, OfAlarm}}
-use Rattle.abstract_state.specs.declared.table.Entry.{Entry}
+use Rattle.osek_values.specs.Bits.{has_bit}
+use Rattle.osek_standard.specs.Well.{Well, IsOwn, IsWaitingAt, IsActivityOf}
+use Rattle.osek_standard.proofs.Members.{Among, among_map, map_among, among_passing, passing_among}
+use Rattle.abstract_state.specs.declared.value.{Val.TheVariants.{Live, Waiting}, PartValue.TheVariants.{OfTask}}
 use Rattle.abstract_state.specs.Components.{component_count, abstract_of, value_in, live_val}
-use Rattle.abstract_state.specs.Tables.{set_at, is_member}
 use Rattle.abstract_state.proofs.ComponentLaws.{task_counted}
-use Rattle.abstract_state.proofs.OrderLaws.{part_right}
 use Rattle.flow_model.specs.declared.test.Condition.{Condition}
 use Rattle.flow_model.specs.declared.test.Test.TheVariants as test
 use Rattle.flow_model.specs.Cases.{condition}
@@ -32,8 +30,8 @@ use Rattle.flow_model.proofs.ChangeLaws.{passes_each, each_passes, passes_one, o
 use Rattle.flow_model.proofs.BitsOf.{bit_within, bit_set}
 use Rattle.flow_model.proofs.Writes.{task_written, events_written, task_changes_set, event_changes_set}
 use Rattle.flow_services.specs.Occasions.{ServiceCase, refused_case}
-use Rattle.flow_services.specs.Services.{waits_at, waits_not_at, awaits, awaiting_block, awaiting_blocks, own_among, not_awaiting, waking, settings, event_settings, members_of}
-use Rattle.flow_services.proofs.Seeing.{Sees, waiting_block, waits_there, value_waiting, tests_not_suspended, task_value, waits_passes, passes_waits, off_there, on_there, off_passes}
+use Rattle.flow_services.specs.Services.{waits_at, waits_not_at, awaits, own_block, awaiting_blocks, own_among, not_awaiting, waking, settings, event_settings}
+use Rattle.flow_services.proofs.Seeing.{Sees, waiting_block, waits_there, tests_not_suspended, waits_passes, passes_waits, off_there, on_there, off_passes}
 use Rattle.flow_services.proofs.Serving.{Serves, IsServed, keeps_serves, always_served, stays_with}
 
 -- a task waits for an event where its block awaits it
@@ -55,24 +53,21 @@ not_suspended_there x b e = by x.activity e
     by (activity.Live y) e = refl
     by (activity.Waiting c) e = refl
 
-module _ (app : App) (events : ℕ) where
-  awaited_among : (b : BlockNo) (values : List PartValue) → awaits app events b ≡ true → Among (OfTask (Waiting b)) values → Among b (awaiting_blocks app events values)
-  awaited_among b values e m = among_flat_map (awaiting_block app events) (OfTask (Waiting b)) b values m
-      (subst (λ (c : Bool). Among b (if c then b ∷ [] else [])) (sym e) (inl refl))
+module _ (app : App) (events t : ℕ) where
+  abbrev awaits_at : ℕ → Bool
+  awaits_at k = awaits app events (own_block app t k)
 
-  awaits_of : (b : BlockNo) (v : PartValue) → Among b (awaiting_block app events v) → awaits app events b ≡ true
-  awaits_of b (OfTask Suspended) m = absurd m
-  awaits_of b (OfTask (Live x)) m = absurd m
-  awaits_of b (OfTask (Waiting c)) m = elim (cases_Bool (awaits app events c)) [
-    | inl e ↦ (let n : Among b (c ∷ []) = subst (λ (f : Bool). Among b (if f then c ∷ [] else [])) e m in
-        ⊎_elim (λ same. ap (awaits app events) same ∙ e) (λ none. absurd none) n)
-    | inr e ↦ absurd (subst (λ (f : Bool). Among b (if f then c ∷ [] else [])) e m)
-  ]
-  awaits_of b (OfEvent x) m = absurd m
-  awaits_of b (OfAlarm x) m = absurd m
+  awaited_among : (b : BlockNo) → IsOwn app t b.0 → awaits app events b ≡ true → Among b (awaiting_blocks app events t)
+  awaited_among b own e =
+      let there : own_block app t (b.0 - (the_task app t).first.0) ≡ b = ap block_no (omega (arith, own.0)) in
+      subst (λ (c : BlockNo). Among c (awaiting_blocks app events t)) there
+      (among_map (own_block app t) (b.0 - (the_task app t).first.0) (filter awaits_at (range_with_len 0 (the_task app t).count))
+      (among_passing awaits_at (the_task app t).count (b.0 - (the_task app t).first.0) (omega (arith, own.0, own.1)) (ap (awaits app events) there ∙ e)))
 
-  among_awaits : (b : BlockNo) (values : List PartValue) → Among b (awaiting_blocks app events values) → awaits app events b ≡ true
-  among_awaits b values m = let h = flat_map_among (awaiting_block app events) b values m in awaits_of b h.0 h.2
+  among_awaits : (b : BlockNo) → Among b (awaiting_blocks app events t) → awaits app events b ≡ true
+  among_awaits b m =
+      let h = map_among (own_block app t) b (filter awaits_at (range_with_len 0 (the_task app t).count)) m in
+      ap (awaits app events) h.2 ∙ (passing_among awaits_at (the_task app t).count h.0 h.1).0
 
 module _ (app : App) (m : State) (t e : ℕ) (known : t < length app.tasks) (here : t < length m.tasks) where
   abbrev bits : ℕ
@@ -123,13 +118,12 @@ module _ (app : App) (m : State) (t e : ℕ) (known : t < length app.tasks) (her
         stays = stays_with m t released_state here (λ l. absurd (not_live_there (task_state m t).activity b at l));
       }
 
-module _ (app : App) (s m : State) (entry : Entry) (t e : ℕ) (known : t < length app.tasks) (sees : Sees app s m)
-    (there : IsTrue (is_member (set_at entry t) (abstract_of app s t))) where
+module _ (app : App) (s m : State) (well : Well app s) (t e : ℕ) (known : t < length app.tasks) (sees : Sees app s m) where
   abbrev own : ℕ
   own = own_among app t e
 
   abbrev blocks : List BlockNo
-  blocks = awaiting_blocks app own (members_of app entry t)
+  blocks = awaiting_blocks app own t
 
   abbrev waits : ServiceCase
   waits = not_awaiting app t own blocks
@@ -149,11 +143,11 @@ module _ (app : App) (s m : State) (entry : Entry) (t e : ℕ) (known : t < leng
   abbrev S : ServiceCase → Type 0
   S x = Serves app m x (set_event app m t e)
 
-  -- where the task waits for one of these events, by the entry it may
+  -- where the task waits for one of these events
   waits_among : (b : BlockNo) → waiting_block (task_state s t).activity ≡ Some b → awaits app own b ≡ true → Among b blocks
-  waits_among b at e = awaited_among app own b (members_of app entry t) e
-      (subst (λ (v : PartValue). Among v (members_of app entry t)) (task_value app s t known ∙ ap OfTask (value_waiting (task_state s t).activity b at))
-      (contained_among (members_of app entry t) (abstract_of app s t) (Contains-from_any part_right (abstract_of app s t) (members_of app entry t) there)))
+  waits_among b at e =
+      let waits : IsWaitingAt app t b.0 = subst (IsActivityOf app t) (waits_there (task_state s t).activity b at) (well.tasks t known).activity in
+      awaited_among app own t b waits.own e
 
   waits_of : (b : BlockNo) → waiting_block (task_state m t).activity ≡ Some b → waits_for app m t e ≡ awaits app own b
   waits_of b at = ap (λ (a : Activity). waits_in app a own) (waits_there (task_state m t).activity b at)
@@ -182,7 +176,7 @@ module _ (app : App) (s m : State) (entry : Entry) (t e : ℕ) (known : t < leng
     wakes_serve b among passing =
         let p = one_passes app (abstract_of app s) (waits_at t b) passing counted in
         let at : waiting_block (task_state m t).activity ≡ Some b = sees.waiting t ∙ passes_waits app s t known b p in
-        let waiting : waits_for app m t e ≡ true = waits_of b at ∙ among_awaits app own b (members_of app entry t) among in
+        let waiting : waits_for app m t e ≡ true = waits_of b at ∙ among_awaits app own t b among in
         subst (Serves app m (waking app t own b)) (sym (released app m t e known here extended (not_suspended_there (task_state m t) b at) waiting)) (woken_serves app m t e known here b at)
 
     each_serves : (x : ServiceCase) → Among x (settings app t own blocks) → P x → S x
@@ -203,7 +197,7 @@ module _ (app : App) (s m : State) (entry : Entry) (t e : ℕ) (known : t < leng
             | inl does ↦ absurd
                 (let at = passes_waits app s t known h.0 does in
                 let is : waits_in app (task_state s t).activity own ≡ awaits app own h.0 = ap (λ (a : Activity). waits_in app a own) (waits_there (task_state s t).activity h.0 at) in
-                let has = among_awaits app own h.0 (members_of app entry t) h.1 in
+                let has = among_awaits app own t h.0 h.1 in
                 cc)
             | inr doesnt ↦ ap not doesnt
           ]))
@@ -220,7 +214,7 @@ module _ (app : App) (s m : State) (entry : Entry) (t e : ℕ) (known : t < leng
       ]
     ]
 
-  pub setting_served : IsServed app s m (event_settings app (members_of app entry t) t e) (set_event app m t e)
+  pub setting_served : IsServed app s m (event_settings app t e) (set_event app m t e)
   setting_served = elim (cases_Bool (is_extended app t)) [
     | inl extended ↦ (rw extended (record { each = each_serves extended; some = some_serves extended }))
     | inr basic ↦ (rw basic (always_served app s m (refused_case [] status.Access) (set_event app m t e) (passes_each app (abstract_of app s) [] (λ x none. absurd none))

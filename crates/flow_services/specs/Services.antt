@@ -1,8 +1,8 @@
 -- The cases of each service, in the order of ISO 17356-3.
-use Rattle.std.specs.Prelude.{◌≡◌, ℕ, Bool, true, false, not, ◌==◌, ◌||◌, nat_lt, bit_and, List, [], ◌∷◌, ◌++◌, map, flat_map, Some, None, if◌then◌else◌}
-use Rattle.std.specs.declared.option.Option.{Option}
-use Rattle.osek_values.specs.declared.numbers.{BlockNo.{BlockNo}, TaskNo.{TaskNo}}
-use Rattle.osek_values.specs.Numbers.{alarm_no}
+use Rattle.std.specs.Prelude.{ℕ, ◌+◌, Bool, true, false, not, ◌==◌, ◌||◌, nat_lt, bit_and, List, [], ◌∷◌, ◌++◌, map, filter, Some, None, if◌then◌else◌}
+use Rattle.std.specs.List.{range_with_len}
+use Rattle.osek_values.specs.declared.numbers.{BlockNo.{BlockNo}}
+use Rattle.osek_values.specs.Numbers.{block_no, alarm_no}
 use Rattle.osek_values.specs.declared.status.Status.TheVariants as status
 use Rattle.oil_system.specs.declared.objects.Action.{Action}
 use Rattle.oil_system.specs.declared.objects.Action.TheVariants as action
@@ -13,11 +13,9 @@ use Rattle.osek_standard.specs.declared.call.Call.{Call}
 use Rattle.flow_services.specs.CallNames as call
 use Rattle.osek_standard.specs.Apps.{the_task, the_alarm, the_block, is_extended, max_of, is_cycle, awaited}
 use Rattle.osek_standard.specs.Services.{share}
-use Rattle.abstract_state.specs.declared.value.{Val.TheVariants.{Suspended, Live, Waiting}, PartValue.{PartValue}, PartValue.TheVariants.{OfTask, OfEvent, OfAlarm}}
+use Rattle.abstract_state.specs.declared.value.{Val.TheVariants.{Live, Waiting}, PartValue.TheVariants.{OfTask, OfAlarm}}
 use Rattle.abstract_state.specs.declared.value.Component.TheVariants as component
-use Rattle.abstract_state.specs.declared.table.Entry.{Entry}
 use Rattle.abstract_state.specs.Components.{component_no, component_number, live_val}
-use Rattle.abstract_state.specs.Tables.{set_at}
 use Rattle.flow_model.specs.declared.test.Condition.{Condition}
 use Rattle.flow_model.specs.declared.test.Test.TheVariants as test
 use Rattle.flow_model.specs.declared.case.Asked.TheVariants as asked
@@ -59,15 +57,6 @@ is_service kind.IsrEnd = false
 is_service kind.CountUp = false
 is_service (kind.Expire a) = true
 
--- the task whose events an alarm's action sets
-abbrev pub set_by : Action → Option TaskNo
-set_by (action.ActivateTask x) = None
-set_by (action.SetEvent x m) = Some x
-
--- these are the values that the entry has of this task, if there is one
-abbrev pub AreMembersOf : Option TaskNo → Entry → List PartValue → Type 0
-AreMembersOf x entry values = (t : TaskNo) → x ≡ Some t → (set_at entry t.0).members ≡ values
-
 -- without a condition
 abbrev pub always : ServiceCase → List ServiceCase
 always x = x ∷ []
@@ -79,16 +68,6 @@ abbrev pub waits_not_at : ℕ → BlockNo → Condition
 waits_not_at x b = condition x (test.IsNot (OfTask (Waiting b)))
 
 module _ (app : App) where
-  -- the task whose events the instruction sets, which it goes by: they may be awaited
-  abbrev pub addressee : Kind → Option TaskNo
-  addressee (kind.Call (call.SetEvent x m)) = Some x
-  addressee (kind.Expire a) = set_by (the_alarm app a.0).action
-  addressee _ = None
-
-  -- these are the values that the entry has of the task whose events the instruction sets
-  abbrev pub AreAddressed : Kind → Entry → List PartValue → Type 0
-  AreAddressed k entry values = AreMembersOf (addressee k) entry values
-
   -- ActivateTask: LIMIT where the task isn't suspended
   abbrev pub activations : ℕ → List ServiceCase
   activations x =
@@ -99,16 +78,13 @@ module _ (app : App) where
   abbrev pub awaits : ℕ → BlockNo → Bool
   awaits events b = share (awaited (the_block app b.0).kind) events
 
-  abbrev pub awaiting_block : ℕ → PartValue → List BlockNo
-  awaiting_block events (OfTask Suspended) = []
-  awaiting_block events (OfTask (Live x)) = []
-  awaiting_block events (OfTask (Waiting b)) = if awaits events b then b ∷ [] else []
-  awaiting_block events (OfEvent x) = []
-  awaiting_block events (OfAlarm x) = []
+  -- the k-th block of a task
+  abbrev pub own_block : ℕ → ℕ → BlockNo
+  own_block x k = block_no ((the_task app x).first.0 + k)
 
-  -- where, by these values, a task may wait for one of these events
-  abbrev pub awaiting_blocks : ℕ → List PartValue → List BlockNo
-  awaiting_blocks events values = flat_map (awaiting_block events) values
+  -- the blocks of a task at which it waits for one of these events
+  abbrev pub awaiting_blocks : ℕ → ℕ → List BlockNo
+  awaiting_blocks events x = map (own_block x) (filter (λ k. awaits events (own_block x k)) (range_with_len 0 (the_task app x).count))
 
   abbrev pub own_among : ℕ → ℕ → ℕ
   own_among x m = bit_and m (the_task app x).own.0
@@ -127,10 +103,10 @@ module _ (app : App) where
       ∷ not_awaiting x events blocks
       ∷ map (waking x events) blocks
 
-  -- SetEvent, where these are the values that the task may have: ACCESS of a basic task, STATE of a suspended one
-  abbrev pub event_settings : List PartValue → ℕ → ℕ → List ServiceCase
-  event_settings values x m =
-      if is_extended app x then settings x (own_among x m) (awaiting_blocks (own_among x m) values)
+  -- SetEvent: ACCESS of a basic task, STATE of a suspended one
+  abbrev pub event_settings : ℕ → ℕ → List ServiceCase
+  event_settings x m =
+      if is_extended app x then settings x (own_among x m) (awaiting_blocks (own_among x m) x)
       else always (refused_case [] status.Access)
 
   -- ClearEvent: CALLEVEL in a routine, ACCESS of a basic task
@@ -177,29 +153,26 @@ module _ (app : App) where
       refused_case (alarm_is a false ∷ []) status.NoFunc
       ∷ accepted_case (alarm_is a true ∷ []) [] false ∷ []
 
-  abbrev pub members_of : Entry → ℕ → List PartValue
-  members_of entry c = (set_at entry c).members
-
   -- what an alarm does when it expires
-  abbrev pub actions : Entry → Action → List ServiceCase
-  actions entry (action.ActivateTask x) = activations x.0
-  actions entry (action.SetEvent x m) = event_settings (members_of entry x.0) x.0 m.0
+  abbrev pub actions : Action → List ServiceCase
+  actions (action.ActivateTask x) = activations x.0
+  actions (action.SetEvent x m) = event_settings x.0 m.0
 
   -- The cases of a call.
-  abbrev pub call_cases : Entry → Runner → Call → List ServiceCase
-  call_cases entry r (call.Task call.ActivateTask x) = activations x.0
-  call_cases entry r (call.Task call.GetEvent x) = event_readings x.0
-  call_cases entry r (call.Task call.GetTaskState x) = always (accepted_case [] [] false)
-  call_cases entry r (call.SetEvent x m) = event_settings (members_of entry x.0) x.0 m.0
-  call_cases entry r (call.Mask call.ClearEvent m) = event_clearings r m.0
-  call_cases entry r (call.Arm call.SetRelAlarm a increment cycle) = armings a.0 (is_rel_refused a.0 increment cycle)
-  call_cases entry r (call.Arm call.SetAbsAlarm a start cycle) = armings a.0 (is_abs_refused a.0 start cycle)
-  call_cases entry r (call.Alarm call.CancelAlarm a) = cancellings a.0
-  call_cases entry r (call.Alarm call.GetAlarm a) = alarm_readings a.0
-  call_cases entry r (call.Plain call.GetTaskId) = always (accepted_case [] [] false)
-  call_cases entry r (call.Plain call.GetActiveApplicationMode) = always (unnoted_case [])
-  call_cases entry r (call.Lock l) = always (unnoted_case [])
-  call_cases entry r _ = []
+  abbrev pub call_cases : Runner → Call → List ServiceCase
+  call_cases r (call.Task call.ActivateTask x) = activations x.0
+  call_cases r (call.Task call.GetEvent x) = event_readings x.0
+  call_cases r (call.Task call.GetTaskState x) = always (accepted_case [] [] false)
+  call_cases r (call.SetEvent x m) = event_settings x.0 m.0
+  call_cases r (call.Mask call.ClearEvent m) = event_clearings r m.0
+  call_cases r (call.Arm call.SetRelAlarm a increment cycle) = armings a.0 (is_rel_refused a.0 increment cycle)
+  call_cases r (call.Arm call.SetAbsAlarm a start cycle) = armings a.0 (is_abs_refused a.0 start cycle)
+  call_cases r (call.Alarm call.CancelAlarm a) = cancellings a.0
+  call_cases r (call.Alarm call.GetAlarm a) = alarm_readings a.0
+  call_cases r (call.Plain call.GetTaskId) = always (accepted_case [] [] false)
+  call_cases r (call.Plain call.GetActiveApplicationMode) = always (unnoted_case [])
+  call_cases r (call.Lock l) = always (unnoted_case [])
+  call_cases r _ = []
 
   -- the call of a service
   abbrev pub calling : Runner → BlockNo → Occasion
@@ -216,9 +189,9 @@ module _ (app : App) where
   expiring r next a again = record { runner = r; next = next; asked = asked.No; expired = Some (expired_alarm a again) }
 
   -- An alarm that a tick routine looks at: idle, or armed and not due; or due, and then idle or armed anew.
-  abbrev pub expiries : Entry → Runner → BlockNo → ℕ → List EffectCase
-  expiries entry r next a =
+  abbrev pub expiries : Runner → BlockNo → ℕ → List EffectCase
+  expiries r next a =
       case_at (looking r next) (unnoted_case (alarm_is a false ∷ []))
       ∷ case_at (looking r next) (unnoted_case (alarm_is a true ∷ []))
-      ∷ map (case_at (expiring r next a false)) (actions entry (the_alarm app a).action)
-      ++ map (case_at (expiring r next a true)) (actions entry (the_alarm app a).action)
+      ∷ map (case_at (expiring r next a false)) (actions (the_alarm app a).action)
+      ++ map (case_at (expiring r next a true)) (actions (the_alarm app a).action)

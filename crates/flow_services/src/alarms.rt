@@ -2,15 +2,13 @@
 ghost use Rattle.std.specs.Prelude.{◌≡◌, ◌<◌, [], ◌∷◌, ◌++◌, length, map, IfOk, OnOk};
 ghost use Rattle.osek_standard.specs.Apps.{tables, is_cycle as is_cycle_of};
 ghost use Rattle.osek_standard.specs.Validity.{IsAction};
-ghost use Rattle.osek_standard.specs.declared.block.Kind.TheVariants as kind;
-ghost use Rattle.abstract_state.specs.declared.table.Entry.{Entry};
 ghost use Rattle.abstract_state.specs.Components.{component_number as component_number_of};
 ghost use Rattle.abstract_state.specs.declared.value.Component.TheVariants as component;
 ghost use Rattle.abstract_state.specs.declared.value.PartValue.TheVariants.{OfAlarm};
 ghost use Rattle.flow_model.specs.declared.change.Update.TheVariants as update;
 ghost use Rattle.flow_model.specs.Runners.{change};
 ghost use Rattle.flow_services.specs.Occasions.{case_at};
-ghost use Rattle.flow_services.specs.Services.{set_by, AreMembersOf, AreAddressed, armings as armings_of, cancellings as cancellings_of, alarm_readings as alarm_readings_of, actions as actions_of, expiries as expiries_of, is_rel_refused as is_rel_refused_by, is_abs_refused as is_abs_refused_by};
+ghost use Rattle.flow_services.specs.Services.{armings as armings_of, cancellings as cancellings_of, alarm_readings as alarm_readings_of, actions as actions_of, expiries as expiries_of, is_rel_refused as is_rel_refused_by, is_abs_refused as is_abs_refused_by};
 
 use crate::events::add_event_settings;
 use crate::occasion::{Occasion, one, only};
@@ -127,38 +125,35 @@ pub fn alarm_readings(
     Ok(cases)
 }
 
-/// Adds the cases of an alarm's action. `values` are those of the task whose events it sets, if it sets any.
+/// Adds the cases of an alarm's action.
 fn add_actions(
     alloc: Global,
     app: &App,
     occasion: Occasion,
-    values: &[PartValue],
     action: Action,
     cases: &mut Seq<EffectCase>,
 ) -> Result<(), Memory>
     requires { IsAction (tables app.now) action }
-    ensures { OnOk result ((entry : Entry) → AreMembersOf (set_by action) entry values.now → cases.new ≡ cases.old ++ map (case_at occasion) (actions_of app.now entry action)) }
+    ensures { OnOk result (cases.new ≡ cases.old ++ map (case_at occasion) (actions_of app.now action)) }
 {
     match action {
         Action::ActivateTask(task) => add_activations(alloc, app, occasion, task, cases),
         Action::SetEvent(task, mask) => {
-            add_event_settings(alloc, app, occasion, values, task, mask, cases)
+            add_event_settings(alloc, app, occasion, task, mask, cases)
         }
     }
 }
 
-/// The cases of an alarm that a tick routine looks at. `values` are those of the task whose events its action sets, if it
-/// sets any.
+/// The cases of an alarm that a tick routine looks at.
 pub fn expiries(
     alloc: Global,
     app: &App,
     runner: Runner,
     next: BlockNo,
-    values: &[PartValue],
     alarm: AlarmNo,
 ) -> Result<Seq<EffectCase>, Memory>
     requires { alarm.0 < length app.now.alarms }
-    ensures { IfOk result (λ cases. (entry : Entry) → AreAddressed app.now (kind.Expire alarm) entry values.now → cases ≡ expiries_of app.now entry runner next alarm.0) }
+    ensures { IfOk result (λ cases. cases ≡ expiries_of app.now runner next alarm.0) }
 {
     let component = alarm_component(app, alarm);
     let action = app.alarm(alarm).action;
@@ -176,7 +171,6 @@ pub fn expiries(
         alloc,
         app,
         looking.expiring(component, false),
-        values,
         action,
         &mut cases,
     )?;
@@ -184,7 +178,6 @@ pub fn expiries(
         alloc,
         app,
         looking.expiring(component, true),
-        values,
         action,
         &mut cases,
     )?;

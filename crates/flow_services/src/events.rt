@@ -5,7 +5,7 @@ ghost use Rattle.osek_values.specs.Bits.{has_bit as has_bit_of};
 ghost use Rattle.osek_standard.specs.Apps.{the_task, awaited as awaited_at};
 ghost use Rattle.flow_model.specs.Runners.{IsKnown};
 ghost use Rattle.flow_services.specs.Occasions.{case_at};
-ghost use Rattle.flow_services.specs.Services.{awaits as awaits_at, awaiting_blocks as awaiting_blocks_in, not_awaiting as not_awaiting_case, waking as waking_case, event_settings, event_clearings as event_clearings_of, event_readings as event_readings_of};
+ghost use Rattle.flow_services.specs.Services.{awaits as awaits_at, awaiting_blocks as awaiting_blocks_of, not_awaiting as not_awaiting_case, waking as waking_case, event_settings, event_clearings as event_clearings_of, event_readings as event_readings_of};
 
 use crate::occasion::{Occasion, one, only, task_component};
 use crate::tasks::{add_event_changes, add_live};
@@ -28,30 +28,29 @@ fn awaited(kind: Kind) -> Mask
 
 /// Whether a task that waits at a block waits for one of these events.
 fn awaits(app: &App, block: BlockNo, events: Mask) -> bool
+    requires { block.0 < length app.now.blocks }
     ensures { result ≡ awaits_at app.now events.0 block }
 {
-    if block.index() >= app.blocks.len() {
-        return false;
-    }
     !awaited(app.block(block).kind).and(events).is_empty()
 }
 
-/// The blocks among these values at which a task waits for one of these events.
+/// The blocks of a task at which it waits for one of these events.
 fn awaiting_blocks(
     alloc: Global,
     app: &App,
-    values: &[PartValue],
+    task: TaskNo,
     events: Mask,
 ) -> Result<Seq<BlockNo>, Memory>
-    ensures all { IfOk result (λ blocks. blocks ≡ awaiting_blocks_in app.now events.0 values.now) }
+    requires { task.0 < length app.now.tasks }
+    ensures all { IfOk result (λ blocks. blocks ≡ awaiting_blocks_of app.now events.0 task.0) }
     ensures there { IfOk result (λ blocks. All (λ (b : BlockNo). b.0 < length app.now.blocks) blocks) }
 {
+    let own = app.task(task);
     let mut blocks = Seq::new(alloc);
-    for value in values {
-        if let PartValue::OfTask(Val::Waiting(block)) = value {
-            if awaits(app, *block, events) {
-                blocks.push(*block)?;
-            }
+    for number in 0..own.count {
+        let block = BlockNo(own.first.0 + number);
+        if awaits(app, block, events) {
+            blocks.push(block)?;
         }
     }
     Ok(blocks)
@@ -125,25 +124,24 @@ fn add_wakings(
     Ok(())
 }
 
-/// Adds the cases of SetEvent, where these are the values that the task may have.
+/// Adds the cases of SetEvent.
 pub fn add_event_settings(
     alloc: Global,
     app: &App,
     occasion: Occasion,
-    values: &[PartValue],
     task: TaskNo,
     mask: Mask,
     cases: &mut Seq<EffectCase>,
 ) -> Result<(), Memory>
     requires { task.0 < length app.now.tasks }
-    ensures { OnOk result (cases.new ≡ cases.old ++ map (case_at occasion) (event_settings app.now values.now task.0 mask.0)) }
+    ensures { OnOk result (cases.new ≡ cases.old ++ map (case_at occasion) (event_settings app.now task.0 mask.0)) }
 {
     let own = app.task(task).own;
     if own.is_empty() {
         return cases.push(occasion.refused(alloc, Seq::new(alloc), Status::Access)?);
     }
     let events = mask.and(own);
-    let blocks = awaiting_blocks(alloc, app, values, events)?;
+    let blocks = awaiting_blocks(alloc, app, task, events)?;
     let suspended = only(alloc, task_component(task), Test::Suspended)?;
     cases.push(occasion.refused(alloc, suspended, Status::State)?)?;
     cases.push(not_awaiting(alloc, app, occasion, task, events, &blocks)?)?;

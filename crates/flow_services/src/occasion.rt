@@ -5,7 +5,7 @@ ghost use Rattle.flow_model.specs.Runners.{moving};
 ghost use Rattle.flow_services.specs.Occasions.{expired_conditions, expired_changes};
 
 use abstract_state::{ComponentNo, PartValue};
-use flow_model::{Asked, Change, Condition, EffectCase, Runner, Test, Update};
+use flow_model::{Asked, Change, Condition, EffectCase, Leaving, Runner, Test, Update};
 use osek_values::{BlockNo, Memory, Seq, Status, TaskNo};
 use std::alloc::Global;
 
@@ -100,12 +100,11 @@ impl Occasion {
         add_expired_condition(self.expired, &mut conditions)?;
         add_expired_change(self.expired, &mut changes)?;
         add_move(self.runner, self.next, &mut changes)?;
+        let asked = if may_dispatch { self.asked } else { Asked::No };
         Ok(EffectCase {
             conditions,
             changes,
-            asked: if may_dispatch { self.asked } else { Asked::No },
-            status,
-            point: self.runner.at(self.next),
+            leaving: Leaving::at(self.runner.at(self.next), asked, status),
         })
     }
 

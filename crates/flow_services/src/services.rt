@@ -1,13 +1,11 @@
 //! The cases of a service, by the kind of its block.
 ghost use Rattle.std.specs.Prelude.{◌≡◌, ◌<◌, length, map, IsTrue, IfOk};
-ghost use Rattle.osek_standard.specs.declared.block.Kind.TheVariants as kind;
 ghost use Rattle.osek_standard.specs.Apps.{tables, the_block};
 ghost use Rattle.osek_standard.specs.Validity.{HasOperands};
-ghost use Rattle.abstract_state.specs.declared.table.Entry.{Entry};
 ghost use Rattle.flow_model.specs.Runners.{runner_point, OwnsBlock, IsKnown};
-ghost use Rattle.flow_model.specs.Effects.{CoverEffects, AreAllAllowed, AreExactEffects};
+ghost use Rattle.flow_model.specs.Effects.{AreCasesOf};
 ghost use Rattle.flow_services.specs.Occasions.{case_at};
-ghost use Rattle.flow_services.specs.Services.{AreAddressed, is_service_call as is_service_call_of, is_service as is_service_of, call_cases as call_cases_of};
+ghost use Rattle.flow_services.specs.Services.{is_service_call as is_service_call_of, is_service as is_service_of, call_cases as call_cases_of};
 
 use crate::alarms::{
     alarm_readings, armings, cancellings, expiries, is_abs_refused, is_rel_refused,
@@ -15,7 +13,6 @@ use crate::alarms::{
 use crate::events::{add_event_settings, event_clearings, event_readings};
 use crate::occasion::{Occasion, one};
 use crate::tasks::add_activations;
-use abstract_state::PartValue;
 use flow_model::{EffectCase, Runner};
 use osek_standard::{
     AlarmService, App, ArmService, Call, Kind, MaskService, PlainService, TaskService,
@@ -54,17 +51,16 @@ pub fn is_service(kind: Kind) -> bool
     }
 }
 
-/// The cases of a call. `values` are those of the task whose events it sets, if it sets any.
+/// The cases of a call.
 fn call_cases(
     alloc: Global,
     app: &App,
     occasion: Occasion,
-    values: &[PartValue],
     call: Call,
 ) -> Result<Seq<EffectCase>, Memory>
     requires operands { HasOperands (tables app.now) call }
     requires runner { IsKnown app.now occasion.runner }
-    ensures { IfOk result (λ cases. (entry : Entry) → AreAddressed app.now (kind.Call call) entry values.now → cases ≡ map (case_at occasion) (call_cases_of app.now entry occasion.runner call)) }
+    ensures { IfOk result (λ cases. cases ≡ map (case_at occasion) (call_cases_of app.now occasion.runner call)) }
 {
     let mut cases = Seq::new(alloc);
     match call {
@@ -73,7 +69,7 @@ fn call_cases(
             Ok(cases)
         }
         Call::SetEvent(task, mask) => {
-            add_event_settings(alloc, app, occasion, values, task, mask, &mut cases)?;
+            add_event_settings(alloc, app, occasion, task, mask, &mut cases)?;
             Ok(cases)
         }
         Call::Task(TaskService::GetEvent, task) => event_readings(alloc, app, occasion, task),
@@ -103,19 +99,16 @@ fn call_cases(
     }
 }
 
-/// The cases of the effect at a block of one of these kinds. `values` are those of the task whose events the instruction
-/// sets; where it sets none they are of no account.
+/// The cases of the effect at a block of one of these kinds.
 pub fn service_cases(
     alloc: Global,
     app: &App,
     runner: Runner,
     block: BlockNo,
-    values: &[PartValue],
 ) -> Result<Seq<EffectCase>, Memory>
     requires owns { OwnsBlock app.now runner block }
     requires service { IsTrue (is_service_of (the_block app.now block.0).kind) }
-    ensures covering { IfOk result (λ cases. (entry : Entry) → AreAddressed app.now (the_block app.now block.0).kind entry values.now → CoverEffects app.now (runner_point runner block) entry cases) }
-    ensures exact { IfOk result (λ cases. (entry : Entry) → AreAddressed app.now (the_block app.now block.0).kind entry values.now → AreAllAllowed app.now (runner_point runner block) entry → AreExactEffects app.now (runner_point runner block) entry cases) }
+    ensures { IfOk result (AreCasesOf app.now (runner_point runner block)) }
 {
     let place = app.block(block);
     match place.kind {
@@ -126,9 +119,9 @@ pub fn service_cases(
                 asked: runner.asked(app),
                 expired: None,
             };
-            call_cases(alloc, app, occasion, values, call)
+            call_cases(alloc, app, occasion, call)
         }
-        Kind::Expire(alarm) => expiries(alloc, app, runner, place.next, values, alarm),
+        Kind::Expire(alarm) => expiries(alloc, app, runner, place.next, alarm),
         Kind::Work(_) | Kind::Choice(_) | Kind::Loop => Ok(Seq::new(alloc)),
         Kind::TaskEnd | Kind::IsrEnd | Kind::CountUp => Ok(Seq::new(alloc)),
     }

@@ -15,13 +15,6 @@ use osek_standard::App;
 use osek_values::{BlockNo, EventNo, Held, Mask, Memory, Seq, Status, TaskNo};
 use std::alloc::Global;
 
-fn has_bit(bits: u64, bit: u8) -> bool
-    requires { bit < 64 }
-    ensures { result ≡ has_bit_of bits bit }
-{
-    (bits >> bit) % 2 == 1
-}
-
 /// Adds the changes by which these events of a task become set or unset.
 pub fn add_event_changes(
     app: &App,
@@ -35,7 +28,7 @@ pub fn add_event_changes(
     ensures { OnOk result (changes.new ≡ changes.old ++ event_changes app.now task.0 events.0 set) }
 {
     for bit in 0..64 {
-        if has_bit(events.0, bit) {
+        if events.has(bit) {
             let event = Component::Event {
                 task,
                 bit: EventNo(bit),

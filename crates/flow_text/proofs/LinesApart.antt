@@ -10,10 +10,12 @@ use Rattle.image_model.specs.declared.site.{Form.{Form}, Site.{Site}}
 use Rattle.image_model.specs.Sites.{IsForm}
 use Rattle.global_cfg.specs.Edges.{flow_edge}
 use Rattle.global_cfg.specs.declared.graph.FlowEdge.{FlowEdge}
-use Rattle.flow_text.specs.FlowLines.{block_text, edge_line, form_text, known_line, known_text, point_text, site_line}
+use Rattle.trace_text.specs.PointTexts.{block_text, point_text}
+use Rattle.trace_text.proofs.Parting.{parted}
+use Rattle.trace_text.proofs.PointsApart.{block_lacks, block_once, few, point_lacks, point_once}
+use Rattle.flow_text.specs.FlowLines.{edge_line, form_text, known_line, known_text, site_line}
+use Rattle.flow_text.proofs.FormsApart.{form_first, form_once}
 use Rattle.flow_text.proofs.KnownTexts.{known_once}
-use Rattle.flow_text.proofs.Parting.{parted}
-use Rattle.flow_text.proofs.TextsApart.{block_lacks, block_once, few, form_first, form_once, point_lacks, point_once}
 
 abbrev lf : List ℕ
 lf = 10 ∷ []

@@ -1,17 +1,15 @@
 //! Laws of texts: what a text tells is told by no other.
 ghost use Rattle.std.specs.Prelude.{◌≡◌, ℕ, ◌<◌, length};
 ghost use Rattle.osek_standard.specs.declared.app.App.{App};
-ghost use Rattle.osek_standard.specs.declared.point.Point.{Point};
 ghost use Rattle.osek_standard.specs.Points.{IsPoint};
 ghost use Rattle.image_model.specs.declared.site.{Form.{Form}, Site.{Site}};
 ghost use Rattle.image_model.specs.Sites.{IsForm};
 ghost use Rattle.global_cfg.specs.declared.graph.FlowEdge.{FlowEdge};
-ghost use Rattle.flow_text.specs.FlowLines.{point_text, form_text, edge_line, site_line, known_line};
+ghost use Rattle.flow_text.specs.FlowLines.{form_text, edge_line, site_line, known_line};
 
-/// The text of a point of an application is that of no other of its points, and so with forms.
-pub fn a_text_tells_one_point_or_form()
-    ensures point { (app : App) (p q : Point) → IsPoint app p → IsPoint app q → point_text app p ≡ point_text app q → p ≡ q }
-    ensures form { (app : App) (x y : Form) → IsForm (length app.tasks) x → IsForm (length app.tasks) y → form_text app x ≡ form_text app y → x ≡ y }
+/// The text of a form of an application is that of no other of its forms.
+pub fn a_text_tells_one_form()
+    ensures { (app : App) (x y : Form) → IsForm (length app.tasks) x → IsForm (length app.tasks) y → form_text app x ≡ form_text app y → x ≡ y }
 {}
 
 /// A line of an edge tells where it begins and ends.

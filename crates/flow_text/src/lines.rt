@@ -5,13 +5,14 @@ ghost use Rattle.image_model.specs.Sites.{IsForm};
 ghost use Rattle.flow_text.specs.FlowLines.{site_words, told_line, edge_line, counts_line, forms_text, version_text, info_line};
 
 use crate::form_counts::{SiteCounts, site_counts};
-use crate::names::{MAX_BLOCK, MAX_FORM, put_block, put_form, put_known, put_point};
+use crate::names::{MAX_FORM, put_form, put_known};
 use global_cfg::FlowEdge;
 use image_model::{Form, Image, Site, Version};
 use osek_standard::App;
 use osek_values::BlockNo;
 use osek_values::limits::LINE_MAX;
 use text_pieces::{MAX_DECIMAL, put, put_decimal};
+use trace_text::{MAX_BLOCK, put_block, put_point};
 
 /// The most bytes of the counts of each form: four words and four numbers.
 pub(crate) const MAX_FORMS: usize = 29 + 4 * MAX_DECIMAL;

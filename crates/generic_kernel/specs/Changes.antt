@@ -1,5 +1,5 @@
 -- The tasks that an instruction may change: the one that has the processor, and the one that the instruction names.
-use Rattle.std.specs.Prelude.{◌≡◌, ℕ, Some, None, false}
+use Rattle.std.specs.Prelude.{◌≡◌, ℕ, Bool, Some, None, true, false}
 use Rattle.std.specs.declared.option.Option.{Option}
 use Rattle.osek_values.specs.declared.numbers.TaskNo.{TaskNo}
 use Rattle.oil_system.specs.declared.objects.Action.{Action}
@@ -51,3 +51,18 @@ ChangesOnly x y s r = (u : ℕ) → is_that_task x u ≡ false → is_that_task 
 -- an instruction changes the task that runs or is interrupted, and the one that it names, alone
 abbrev pub ChangesOwn : App → State → State → Type 0
 ChangesOwn app s r = ChangesOnly (task_of s.processor) (named_here app s) s r
+
+abbrev pub is_lock_call : Call → Bool
+is_lock_call (call.Lock l) = true
+is_lock_call _ = false
+
+-- an instruction of this kind notes nothing, and leaves each task as it is but for its place: a move, a tick, or the end of a routine
+abbrev pub is_silent : Kind → Bool
+is_silent (kind.Work n) = true
+is_silent (kind.Choice o) = true
+is_silent kind.Loop = true
+is_silent (kind.Call k) = is_lock_call k
+is_silent kind.TaskEnd = false
+is_silent kind.IsrEnd = true
+is_silent kind.CountUp = true
+is_silent (kind.Expire a) = false

@@ -1,5 +1,5 @@
 //! The effect of an instruction.
-ghost use Rattle.std.specs.Prelude.{◌≡◌, ℕ, ◌+◌, ◌<◌, nat_lt, Some, None, IfSome, IfNone, if◌then◌else◌};
+ghost use Rattle.std.specs.Prelude.{◌≡◌, ℕ, ◌+◌, ◌<◌, nat_lt, Some, None, IfSome, IfNone, is_some, if◌then◌else◌};
 ghost use Rattle.osek_standard.specs.Validity.{NamesEntries};
 ghost use Rattle.osek_standard.specs.Apps.{tables, the_block};
 ghost use Rattle.osek_standard.specs.States.{caller, here as here_of};
@@ -9,7 +9,7 @@ ghost use Rattle.osek_standard.specs.Effects.{effected, moved, moved_to, place_a
 ghost use Rattle.osek_standard.specs.Dispatch.{nothing_noted};
 ghost use Rattle.osek_standard.specs.Well.{Well, IsActive, InOwner, IsWaitEvent};
 ghost use Rattle.event_alarm.specs.Waiting.{StandsAtWaitEvent};
-ghost use Rattle.generic_kernel.specs.Changes.{ChangesOwn};
+ghost use Rattle.generic_kernel.specs.Changes.{ChangesOwn, is_silent};
 ghost use Rattle.generic_kernel.specs.Levels.{IsReady, level as level_of};
 ghost use Rattle.generic_kernel.specs.Moves.{IsKnownCaller, MayDispatch};
 
@@ -208,6 +208,7 @@ fn silent_at(app: &App, state: &mut State, choice: bool, place: Place) -> Option
     requires active { IsActive state.old.processor }
     requires here { here_of state.old ≡ place }
     ensures row { IfSome result (λ ask. effect_at_row app.now state.old choice place (the_block app.now place.block.0) (the_block app.now place.block.0).kind ≡ effected state.new nothing_noted ask) }
+    ensures which { is_some result ≡ is_silent (the_block app.now place.block.0).kind }
     ensures other { IfNone result (state.new ≡ state.old) }
     ensures levels { (t : ℕ) → level_of app.now state.new t ≡ level_of app.now state.old t }
 {
@@ -243,6 +244,7 @@ pub fn silent_effect(app: &App, state: &mut State, choice: bool, place: Place) -
     requires active { IsActive state.old.processor }
     requires here { here_of state.old ≡ place }
     ensures row { IfSome result (λ ask. effect_row app.now state.old choice ≡ effected state.new nothing_noted ask) }
+    ensures which { is_some result ≡ is_silent (the_block app.now place.block.0).kind }
     ensures other { IfNone result (state.new ≡ state.old) }
     ensures well { Well app.now state.new }
     ensures levels { (t : ℕ) → level_of app.now state.new t ≡ level_of app.now state.old t }

@@ -1,5 +1,5 @@
 //! The tasks that are ready or running, kept from step to step, and the best of them.
-ghost use Rattle.std.specs.Prelude.{◌≡◌, ◌≢◌, ◌+◌, ◌<◌, ◌≤◌, length, nat_lt, ℕ, None, IfSome, IfNone, true, false, slice_index_or};
+ghost use Rattle.std.specs.Prelude.{◌≡◌, ◌≢◌, ◌+◌, ◌<◌, ◌≤◌, length, nat_lt, ℕ, None, IfSome, IfNone, IsTrue, ◌||◌, true, false, slice_index_or};
 ghost use Rattle.std.specs.List.{count_by};
 ghost use Rattle.osek_standard.specs.declared.app.App.{App};
 ghost use Rattle.osek_standard.specs.declared.state.State.{State};
@@ -95,8 +95,8 @@ impl Ready {
         }
     }
 
-    /// Takes in what became of two tasks. Where these were the Live tasks of a state that differs in no other task, they
-    /// are those of the state now.
+    /// Takes in what became of two tasks, and leaves the others. So the Live tasks of a state that differs in no other task become
+    /// those of the state now.
     pub fn take_in(
         &mut self,
         app: &App,
@@ -107,7 +107,9 @@ impl Ready {
         requires first { IfSome first (λ t. t.0 < length app.now.tasks) }
         requires second { IfSome second (λ t. t.0 < length app.now.tasks) }
         requires well { Well app.now state.now }
-        ensures { (s : State) → IsReady app.now s self.old → ChangesOnly first second s state.now → IsReady app.now state.now self.new }
+        ensures here { (u : ℕ) → IsTrue (is_that_task first u || is_that_task second u) → slice_index_or self.new u None ≡ level_of app.now state.now u }
+        ensures others { (u : ℕ) → is_that_task first u ≡ false → is_that_task second u ≡ false → slice_index_or self.new u None ≡ slice_index_or self.old u None }
+        ensures ready { (s : State) → IsReady app.now s self.old → ChangesOnly first second s state.now → IsReady app.now state.now self.new }
     {
         self.refresh_some(app, state, first);
         self.refresh_some(app, state, second);

@@ -9,7 +9,6 @@ use Rattle.abstract_state.specs.declared.{table.Entry.{Entry}}
 use Rattle.abstract_state.specs.Components.{component_count}
 use Rattle.flow_model.specs.declared.case.{EffectCase.{EffectCase}}
 use Rattle.flow_model.specs.Rules.{Applies, HasNone}
-use Rattle.flow_exits.specs.declared.stay.Stay.TheVariants as stay
 use Rattle.flow_exits.specs.declared.exit.Exit.{Exit}
 use Rattle.flow_exits.specs.Leaving.{IsOfEffects, HasExitsFor, AddsDecided, effect_rule}
 use Rattle.flow_exits.proofs.AfterEffect.{decided_comes, decisions_covered, nothing_taken}
@@ -18,7 +17,7 @@ use Rattle.numbered_sets.specs.Pools.{Values, IsLonger}
 use Rattle.numbered_sets.specs.Views.{plain_entry}
 use Rattle.numbered_sets.proofs.NumberingLaws.{longer_itself, longer_onward}
 use Rattle.numbered_exits.specs.declared.group.ExitGroup.{ExitGroup}
-use Rattle.numbered_exits.specs.declared.deciding.Leaving.{Leaving}
+use Rattle.flow_model.specs.declared.case.Leaving.{Leaving}
 use Rattle.numbered_exits.specs.Groups.{all_exits, AreKnownGroups}
 use Rattle.numbered_exits.specs.Deciding.{AddsFor, IsAny}
 use Rattle.numbered_exits.specs.Leaving.{AddsEffects}
@@ -51,7 +50,7 @@ still_for app effect entry some more onward h value d within passes decides =
 
 -- all that is decided with the values after an effect
 pub all_decided : (app : App) (pool : List Values) (leaving : Leaving) (after : NumberedEntry) (before now : List ExitGroup) → AddsFor app pool leaving after IsAny before now →
-    AddsDecided app leaving.asked leaving.stay leaving.status (plain_entry pool after) (all_exits pool before) (all_exits pool now)
+    AddsDecided app leaving (plain_entry pool after) (all_exits pool before) (all_exits pool now)
 all_decided app pool leaving after before now h = record { kept = h.kept; each = h.each; whole = λ value d within decides. h.whole value d within decides tt }
 
 module _ (app : App) (entry : Entry) where
@@ -85,13 +84,10 @@ module _ (app : App) (entry : Entry) where
     same = exits_same pool after longer before known
 
     -- an effect that takes some values
-    pub effect_added : (leaving : Leaving) (left : NumberedEntry) → leaving.asked ≡ effect.asked → leaving.stay ≡ stay.At effect.point → leaving.status ≡ effect.status → Applies (effect_rule effect) entry (plain_entry after left) →
-        AddsFor app after leaving left IsAny before now → AddsEffects app entry (effect ∷ []) pool before after now
-    effect_added leaving left asks stays notes applies h =
-        let its : AddsDecided app effect.asked (stay.At effect.point) effect.status (plain_entry after left) (all_exits after before) (all_exits after now) =
-        subst (λ a. AddsDecided app a (stay.At effect.point) effect.status (plain_entry after left) (all_exits after before) (all_exits after now)) asks
-        (subst (λ s. AddsDecided app leaving.asked s effect.status (plain_entry after left) (all_exits after before) (all_exits after now)) stays
-        (subst (λ n. AddsDecided app leaving.asked leaving.stay n (plain_entry after left) (all_exits after before) (all_exits after now)) notes (all_decided app after leaving left before now h))) in
+    pub effect_added : (left : NumberedEntry) → Applies (effect_rule effect) entry (plain_entry after left) →
+        AddsFor app after effect.leaving left IsAny before now → AddsEffects app entry (effect ∷ []) pool before after now
+    effect_added left applies h =
+        let its : AddsDecided app effect.leaving (plain_entry after left) (all_exits after before) (all_exits after now) = all_decided app after effect.leaving left before now h in
         record {
           longer = longer;
           known = h.known (groups_known pool after longer before known);

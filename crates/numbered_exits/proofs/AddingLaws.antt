@@ -20,7 +20,7 @@ use Rattle.numbered_sets.specs.Views.{plain_entry, AreNumbersOf}
 use Rattle.numbered_levels.specs.declared.{task_levels.{Level.{Level}, TaskLevels.{TaskLevels}}, levels.Levels.{Levels}}
 use Rattle.numbered_levels.specs.Levels.{AreTaskLevels, AreAllLevels}
 use Rattle.numbered_exits.specs.declared.group.ExitGroup.{ExitGroup}
-use Rattle.numbered_exits.specs.declared.deciding.Leaving.{Leaving}
+use Rattle.flow_model.specs.declared.case.Leaving.{Leaving}
 use Rattle.numbered_exits.specs.Groups.{all_exits}
 use Rattle.numbered_exits.specs.Deciding.{DecidesSo, AddsFor, IsIt, IsOfLevel, IsAtLevel, IsAtFirst, IsWinnerBelow}
 use Rattle.numbered_exits.proofs.NumberLaws.{member_number}
@@ -29,8 +29,8 @@ use Rattle.numbered_exits.proofs.OwnLevels.{own_levels, own_judged}
 module _ (app : App) (pool : List Values) (leaving : Leaving) where
   -- an exit is still there
   still : (before now : List ExitGroup) (d : Decision) (value : ℕ → PartValue) → ((x : Exit) → Contains (all_exits pool before) x → Contains (all_exits pool now) x)
-      → HasDecided app leaving.stay leaving.status (all_exits pool before) d value → HasDecided app leaving.stay leaving.status (all_exits pool now) d value
-  still before now d value kept h = record { exit = h.exit; listed = kept h.exit h.listed; decision = h.decision; status_is = h.status_is; within = h.within; target = h.target }
+      → HasDecided app leaving (all_exits pool before) d value → HasDecided app leaving (all_exits pool now) d value
+  still before now d value kept h = record { exit = h.exit; listed = kept h.exit h.listed; decision = h.decision; status = h.status; within = h.within; target = h.target }
 
   pub nothing_more : (after : NumberedEntry) (P : (ℕ → PartValue) → Decision → Type 0) (gs : List ExitGroup)
       → ((value : ℕ → PartValue) (d : Decision) → AreIn app (plain_entry pool after) value → DecidesSo app leaving value d → P value d → ⊥) → AddsFor app pool leaving after P gs gs
@@ -66,7 +66,7 @@ module _ (app : App) (pool : List Values) (leaving : Leaving) where
       | inr new ↦ inr (record {
         decision = new.decision;
         decides = new.decides;
-        status_is = new.status_is;
+        status = new.status;
         filled = new.filled;
         within = λ value h. within value (new.within value h);
         each = new.each;

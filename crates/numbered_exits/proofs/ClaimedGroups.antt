@@ -30,7 +30,7 @@ use Rattle.numbered_sets.proofs.MeetLaws.{common_of, meets_at}
 use Rattle.numbered_levels.specs.declared.{task_levels.{Level.{Level}, TaskLevels.{TaskLevels}}, levels.Levels.{Levels}}
 use Rattle.numbered_levels.specs.Levels.{IsLiveAt, AreAllLevels}
 use Rattle.numbered_exits.specs.declared.group.ExitGroup.{ExitGroup}
-use Rattle.numbered_exits.specs.declared.deciding.Leaving.{Leaving}
+use Rattle.flow_model.specs.declared.case.Leaving.{Leaving}
 use Rattle.numbered_exits.specs.Narrowing.{IsLeft, is_under_limit, NeverUnder}
 use Rattle.numbered_exits.specs.Deciding.{DecidesSo, AddsFor, IsIt, IsOfLevel, IsAtLevel, IsLevelOf, IsAlive, IsOver, IsGroupFor}
 use Rattle.numbered_exits.proofs.ExitLaws.{IsSound, IsKnownDecision}

@@ -13,22 +13,22 @@ use Rattle.abstract_state.proofs.ComponentLaws.{task_counted}
 use Rattle.flow_model.specs.declared.case.Decision.{Decision}
 use Rattle.flow_model.specs.declared.case.Decision.TheVariants as decision
 use Rattle.flow_model.specs.Values.{block_of}
-use Rattle.flow_model.specs.Effects.{AreIn}
+use Rattle.flow_model.specs.Effects.{AreIn, stay_point, IsKnownStay}
 use Rattle.flow_model.specs.Scheduling.{end_point}
-use Rattle.flow_exits.specs.declared.stay.Stay.{Stay}
-use Rattle.flow_exits.specs.declared.stay.Stay.TheVariants as stay
+use Rattle.flow_model.specs.declared.case.Stay.{Stay}
+use Rattle.flow_model.specs.declared.case.Stay.TheVariants as stay
 use Rattle.flow_exits.specs.declared.exit.Exit.{Exit}
 use Rattle.flow_exits.specs.Exits.{IsFilled}
-use Rattle.flow_exits.specs.Leaving.{stay_point, HasDecided}
+use Rattle.flow_exits.specs.Leaving.{HasDecided}
 use Rattle.numbered_sets.specs.declared.numbered_entry.NumberedEntry.{NumberedEntry}
 use Rattle.numbered_sets.specs.NumberedEntries.{AreFilled}
 use Rattle.numbered_sets.specs.Pools.{Values, values_at, IsNumberOf}
 use Rattle.numbered_sets.specs.Views.{plain_entry, AreNumbersOf}
 use Rattle.numbered_exits.specs.declared.group.{NumberEnd.{NumberEnd}, Ends.{Ends}, ExitGroup.{ExitGroup}}
 use Rattle.numbered_exits.specs.declared.group.Ends.TheVariants as ends
-use Rattle.numbered_exits.specs.declared.deciding.Leaving.{Leaving}
+use Rattle.flow_model.specs.declared.case.Leaving.{Leaving}
 use Rattle.numbered_exits.specs.Groups.{holding, exit_at, exits_by, all_exits, AreKnownEnds}
-use Rattle.numbered_exits.specs.Deciding.{AreBlockEnds, AreBlocks, AreEndsBy, AddsOne, AddsFor, IsKnownStay, IsGroupFor}
+use Rattle.numbered_exits.specs.Deciding.{AreBlockEnds, AreBlocks, AreEndsBy, AddsOne, AddsFor, IsGroupFor}
 use Rattle.numbered_exits.proofs.GroupLaws.{old_exit, new_exit, exit_cases, known_with}
 use Rattle.numbered_exits.proofs.NumberLaws.{member_number, filled_plain}
 use Rattle.numbered_exits.proofs.HeldLaws.{held_is, held_within, held_in, held_filled}
@@ -161,7 +161,7 @@ module _ (app : App) (pool : List Values) (leaving : Leaving) (after : NumberedE
               inr (record {
                 decision = d;
                 decides = e.decision ∙ decision;
-                status_is = e.status ∙ status;
+                status = e.status ∙ status;
                 filled = e.filled;
                 within = λ value h. group.within value (e.within value h);
                 each = λ value h. group.each value (e.within value h);
@@ -171,12 +171,12 @@ module _ (app : App) (pool : List Values) (leaving : Leaving) (after : NumberedE
         whole = λ value e within decides p.
             (let its = group.whole value e within decides p in
             let x = all.whole value its.1 in
-            subst (λ (f : Decision). HasDecided app leaving.stay leaving.status (all_exits pool (before ++ g ∷ [])) f value) (sym its.0)
+            subst (λ (f : Decision). HasDecided app leaving (all_exits pool (before ++ g ∷ [])) f value) (sym its.0)
             (record {
               exit = x.exit;
               listed = new_exit pool before g x.exit x.listed;
               decision = x.decision ∙ decision;
-              status_is = x.status ∙ status;
+              status = x.status ∙ status;
               within = x.within;
               target = x.target;
             }));

@@ -1,7 +1,6 @@
 -- All exits of a point: those of arrivals, and then those of the instructions.
 use Rattle.std.proofs.Common.{◌≡◌, ◌<◌, ◌≤◌, List, [], length, sym, ap, subst, ◌∙◌, inl, inr, arith}
 use Rattle.std.proofs.lemmas.List.{length-map}
-use Rattle.osek_values.specs.declared.numbers.{TaskNo.{TaskNo}}
 use Rattle.osek_standard.specs.declared.app.App.{App}
 use Rattle.osek_standard.specs.declared.state.{State.{State}, Processor.{Processor}}
 use Rattle.osek_standard.specs.declared.state.Processor.TheVariants as processor
@@ -21,8 +20,6 @@ use Rattle.flow_model.specs.Runners.{Executes, IsNobodys}
 use Rattle.flow_model.specs.declared.rule.Rule.{Rule}
 use Rattle.flow_model.specs.Tests.{value_after}
 use Rattle.flow_model.specs.Rules.{Applies}
-use Rattle.flow_effects.specs.Reading.{IsRead, AreReadAt}
-use Rattle.flow_effects.proofs.ReadingLaws.{read_once}
 use Rattle.flow_exits.specs.Exits.{IsFilled}
 use Rattle.flow_exits.specs.Leaving.{AreExits, arrival_exit}
 use Rattle.numbered_sets.specs.declared.numbered_entry.NumberedEntry.{NumberedEntry}
@@ -60,6 +57,7 @@ module _ (app : App) (p : Point) (entry : Entry) where
   passive_exits nobody pool now a = record {
     effects = [];
     active = λ x m. absurd (contained_among [] x m);
+    stays = λ x m. absurd (contained_among [] x m);
     covering = λ s choice at active. absurd (passive_by s s.processor p at.point nobody active);
     exact = λ allowed x value m. absurd (contained_among [] x m);
     each = λ x m. elim (a.each x m) [
@@ -75,6 +73,7 @@ module _ (app : App) (p : Point) (entry : Entry) where
   executing_exits r executes pool after mid now a i = record {
     effects = i.effects;
     active = λ x m nobody. executed app p r executes nobody;
+    stays = i.stays;
     covering = i.covering;
     exact = i.exact;
     each = λ x m. elim (i.added.each x m) [
@@ -119,10 +118,3 @@ applied_filled app rule pool after entry made alike same applies = record {
       let n = member_number after made c (value_after rule.changes c t.was) (applies.to c t.was there t.there t.passes) in
       number_fills (numbers_at made c) n.number n.has_it);
 }
-
--- the values that are read at a point, of an entry
-pub none_read : (app : App) (p : Point) (entry : Entry) → ((t : TaskNo) → IsRead app p t → ⊥) → AreReadAt app p entry []
-none_read app p entry none t h = absurd (none t h)
-
-pub values_read : (app : App) (p : Point) (entry : Entry) (t : TaskNo) (values : List PartValue) → IsRead app p t → (set_at entry t.0).members ≡ values → AreReadAt app p entry values
-values_read app p entry t values read is u h = ap (λ (x : TaskNo). (set_at entry x.0).members) (read_once app p u t h read) ∙ is

@@ -13,8 +13,6 @@ pub mod GrowingPools
 pub mod AddingEffects
 pub mod ArrivingGroups
 pub mod LeavingPoints
-pub mod ReadValues
-pub mod ReturningPoints
 pub mod EffectDomains
 pub mod BarredValues
 pub mod AllowedSets

@@ -3,21 +3,17 @@ use Rattle.std.proofs.Common.{◌≡◌, ℕ, ◌<◌, Bool, List, [], ◌∷◌
 use Rattle.std.specs.Prelude.{Contains}
 use Rattle.std.specs.declared.option.Option.{Option}
 use Rattle.osek_standard.specs.declared.app.App.{App}
-use Rattle.osek_standard.specs.declared.state.State.{State}
 use Rattle.osek_standard.specs.declared.point.Point.{Point}
 use Rattle.osek_standard.proofs.Members.{Among, among_flat_map, flat_map_among, contained_among, among_contained}
 use Rattle.abstract_state.specs.declared.value.PartValue.{PartValue}
 use Rattle.abstract_state.specs.declared.table.Entry.{Entry}
-use Rattle.abstract_state.specs.Components.{abstract_of, IsAllowed}
 use Rattle.abstract_state.specs.Concrete.{AreAllowed}
-use Rattle.abstract_state.proofs.AllowedLaws.{well_part}
 use Rattle.flow_model.specs.declared.case.{Asked.{Asked}, Decision.{Decision}, EffectCase.{EffectCase}, OutcomeCase.{OutcomeCase}}
 use Rattle.flow_model.specs.declared.rule.Rule.{Rule}
-use Rattle.flow_model.specs.Effects.{AreIn, AreAllAllowed, CoverEffects, AreExactEffects}
+use Rattle.flow_model.specs.Effects.{AreIn, stay_point}
 use Rattle.flow_model.specs.Scheduling.{Decides, end_point, HasOutcome, CoverOutcomes, AreExactOutcomes}
 use Rattle.flow_model.specs.Tests.{PassesAll, values_after}
-use Rattle.flow_rules.specs.Assembly.{rule_of, AreAdded, AreAllAdded}
-use Rattle.flow_rules.specs.Instructions.{AddsInstructions}
+use Rattle.flow_rules.specs.Assembly.{rule_of, AreAdded}
 use Rattle.flow_rules.proofs.PointRules.{outcomes_added}
 use Rattle.flow_exits.specs.declared.exit.Exit.{Exit}
 use Rattle.numbered_sets.specs.Pools.{Values}
@@ -68,8 +64,8 @@ module _ (app : App) (p : Point) (entry from : Entry) (there : (value : ℕ → 
         let decided : o.decision ≡ d = cc in
         let its : HasOutcome app effect (case x d) value = record {
           passes = passing;
-          decides = subst (λ (z : EffectCase). Decides app after_it z.asked d) same (subst (Decides app after_it k.effect.asked) decided k.decides);
-          target = k.target ∙ ap (λ (z : EffectCase). end_point app after_it z.point o.decision) same ∙ ap (end_point app after_it effect.point) decided;
+          decides = subst (λ (z : EffectCase). Decides app after_it z.leaving.asked d) same (subst (Decides app after_it k.effect.leaving.asked) decided k.decides);
+          target = k.target ∙ ap (λ (z : EffectCase). end_point app after_it (stay_point z.leaving.stay after_it) o.decision) same ∙ ap (end_point app after_it (stay_point effect.leaving.stay after_it)) decided;
         } in
         subst (λ (z : OutcomeCase). HasOutcome app effect z value) (sym is) its
 
@@ -80,20 +76,6 @@ module _ (app : App) (p : Point) (entry from : Entry) (there : (value : ℕ → 
 
     pub rules_added : AreAdded app p entry effect before after
     rules_added = outcomes_added app p entry effect cases before after h.added cover exact
-
-  -- the effects of the second entry are those of the first
-  pub instructions_added : (effects : List EffectCase) (before after : List Rule) → CoverEffects app p from effects → AreExactEffects app p from effects → AreAllAdded app p entry effects before after → AddsInstructions app p entry before after
-  instructions_added effects before after covering exact added = record {
-    effects = effects;
-    covering = λ s choice at active. covering s choice (record {
-      well = at.well;
-      point = at.point;
-      within = there (abstract_of app s) at.within
-          (λ c lt. subst (λ (q : Point). IsAllowed app q c (abstract_of app s c)) at.point (well_part app s at.well c lt));
-    }) active;
-    exact = λ allowed x value listed within passes. exact x value listed (there value within (λ c lt. allowed c (value c) lt (within c lt))) passes;
-    added = added;
-  }
 
 -- the exits of the groups of an effect
 pub exits_ruled : (app : App) (from : Entry) (effect : EffectCase) (pool after : List Values) (groups : List ExitGroup) (exits : List Exit) (before rules : List Rule) → AddsEffects app from (effect ∷ []) pool [] after groups → exits ≡ all_exits after groups →

@@ -24,7 +24,7 @@ use Rattle.numbered_levels.specs.declared.{task_levels.TaskLevels.{TaskLevels}, 
 use Rattle.numbered_levels.specs.Levels.{AreTaskLevels, AreAllLevels, AreAllJudged, IsNarrowed}
 use Rattle.numbered_levels.proofs.LevelLaws.{narrowed_elsewhere, narrowed_known, narrowed_members, narrowed_beside, narrowed_size}
 use Rattle.numbered_exits.specs.declared.group.ExitGroup.{ExitGroup}
-use Rattle.numbered_exits.specs.declared.deciding.Leaving.{Leaving}
+use Rattle.flow_model.specs.declared.case.Leaving.{Leaving}
 use Rattle.numbered_exits.specs.Deciding.{DecidesSo, AddsFor, IsAny, IsIt, IsWinnerBelow, IsAlive, IsOver, IsGroupFor}
 use Rattle.numbered_exits.proofs.NumberLaws.{member_number, number_fills}
 use Rattle.numbered_exits.proofs.OwnLevels.{own_levels, all_judged}

@@ -6,14 +6,13 @@ use Rattle.osek_standard.specs.declared.app.App.{App}
 use Rattle.osek_standard.specs.declared.point.Point.TheVariants as point
 use Rattle.abstract_state.specs.declared.value.PartValue.{PartValue}
 use Rattle.abstract_state.specs.Concrete.{val_of}
-use Rattle.flow_model.specs.declared.case.{Asked.{Asked}, Decision.{Decision}}
+use Rattle.flow_model.specs.declared.case.{Asked.{Asked}, Stay.{Stay}, Leaving.{Leaving}, Decision.{Decision}}
 use Rattle.flow_model.specs.declared.case.Asked.TheVariants as asked
+use Rattle.flow_model.specs.declared.case.Stay.TheVariants as stay
 use Rattle.flow_model.specs.declared.case.Decision.TheVariants as decision
 use Rattle.flow_model.specs.Values.{is_live_value, block_of}
 use Rattle.flow_model.specs.Effects.{AreIn}
 use Rattle.flow_model.specs.Scheduling.{Decides}
-use Rattle.flow_exits.specs.declared.stay.Stay.{Stay}
-use Rattle.flow_exits.specs.declared.stay.Stay.TheVariants as stay
 use Rattle.flow_exits.specs.declared.exit.Exit.{Exit}
 use Rattle.flow_exits.specs.Leaving.{IsDecided, HasDecided}
 use Rattle.numbered_sets.specs.declared.numbered_entry.NumberedEntry.{NumberedEntry}
@@ -24,7 +23,6 @@ use Rattle.numbered_sets.specs.Views.{plain_entry}
 use Rattle.numbered_levels.specs.declared.{task_levels.{Level.{Level}, TaskLevels.{TaskLevels}}, levels.Levels.{Levels}}
 use Rattle.numbered_exits.specs.declared.group.{NumberEnd.{NumberEnd}, Ends.{Ends}, ExitGroup.{ExitGroup}}
 use Rattle.numbered_exits.specs.declared.group.Ends.TheVariants as ends
-use Rattle.numbered_exits.specs.declared.deciding.Leaving.{Leaving}
 use Rattle.numbered_exits.specs.Groups.{all_exits, AreKnownGroups}
 
 -- ---- ends
@@ -68,8 +66,8 @@ DecidesSo app leaving value d = Decides app value leaving.asked d
 pub record AddsFor (app : App) (pool : List Values) (leaving : Leaving) (after : NumberedEntry) (P : (ℕ → PartValue) → Decision → Type 0) (before now : List ExitGroup) : Type 0 where
   pub known : AreKnownGroups pool before → AreKnownGroups pool now
   pub kept : (x : Exit) → Contains (all_exits pool before) x → Contains (all_exits pool now) x
-  pub each : (x : Exit) → Contains (all_exits pool now) x → Contains (all_exits pool before) x ⊎ IsDecided app leaving.asked leaving.stay leaving.status (plain_entry pool after) x
-  pub whole : (value : ℕ → PartValue) (d : Decision) → AreIn app (plain_entry pool after) value → DecidesSo app leaving value d → P value d → HasDecided app leaving.stay leaving.status (all_exits pool now) d value
+  pub each : (x : Exit) → Contains (all_exits pool now) x → Contains (all_exits pool before) x ⊎ IsDecided app leaving (plain_entry pool after) x
+  pub whole : (value : ℕ → PartValue) (d : Decision) → AreIn app (plain_entry pool after) value → DecidesSo app leaving value d → P value d → HasDecided app leaving (all_exits pool now) d value
 
 abbrev pub IsAny : (ℕ → PartValue) → Decision → Type 0
 IsAny value d = ⊤
@@ -117,11 +115,6 @@ IsOver asked.No over = ⊥
 IsOver (asked.Maybe t) over = over ≡ Some t
 IsOver asked.Left over = over ≡ None
 IsOver asked.Free over = over ≡ None
-
--- a task of the application stays at its block
-abbrev pub IsKnownStay : App → Stay → Type 0
-IsKnownStay app (stay.At p) = ⊤
-IsKnownStay app (stay.AtBlockOf t) = t.0 < length app.tasks
 
 -- It is decided so with each choice of the entry's values, which are values after the effect, and the entry has all those with
 -- a property with which it is.

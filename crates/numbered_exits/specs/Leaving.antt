@@ -1,15 +1,13 @@
 -- The exits of the instructions at a point, one effect after another, in a pool that grows.
-use Rattle.std.specs.Prelude.{◌≡◌, ◌⊎◌, ℕ, ◌<◌, List, length, Some, Contains}
+use Rattle.std.specs.Prelude.{◌⊎◌, ℕ, ◌<◌, List, Contains}
 use Rattle.std.specs.declared.option.Option.{Option}
-use Rattle.osek_values.specs.declared.numbers.{TaskNo.{TaskNo}, BlockNo.{BlockNo}}
+use Rattle.osek_values.specs.declared.numbers.TaskNo.{TaskNo}
 use Rattle.osek_standard.specs.declared.app.App.{App}
-use Rattle.osek_standard.specs.declared.block.Kind.TheVariants as kind
 use Rattle.osek_standard.specs.declared.point.Point.{Point}
-use Rattle.osek_standard.specs.declared.point.Point.TheVariants as point
-use Rattle.osek_standard.specs.Apps.{source_count, the_block}
+use Rattle.osek_standard.specs.Apps.{source_count}
 use Rattle.abstract_state.specs.declared.table.Entry.{Entry}
 use Rattle.flow_model.specs.declared.case.EffectCase.{EffectCase}
-use Rattle.flow_model.specs.Effects.{AreAllAllowed, CoverEffects, AreExactEffects}
+use Rattle.flow_model.specs.Effects.{AreAllAllowed, HaveKnownStays, CoverEffects, AreExactEffects}
 use Rattle.flow_rules.specs.Arrivals.{MayBegin}
 use Rattle.flow_exits.specs.declared.exit.Exit.{Exit}
 use Rattle.flow_exits.specs.Leaving.{IsOfEffects, HasExitsFor, arrival_exit, IsArrivalExit}
@@ -35,13 +33,7 @@ pub record AddsEffects (app : App) (entry : Entry) (effects : List EffectCase) (
 -- so do those of the effects of the instructions at the point
 pub record AddsInstructions (app : App) (p : Point) (entry : Entry) (pool : List Values) (before : List ExitGroup) (after : List Values) (now : List ExitGroup) : Type 0 where
   pub effects : List EffectCase
+  pub stays : HaveKnownStays app effects
   pub covering : CoverEffects app p entry effects
   pub exact : AreAllAllowed app p entry → AreExactEffects app p entry effects
   pub added : AddsEffects app entry effects pool before after now
-
--- a routine ends at the point, and the processor goes back to this task
-pub record IsReturnTo (app : App) (p : Point) (t : TaskNo) : Type 0 where
-  pub block : BlockNo
-  pub is : p ≡ point.Routine block (Some t)
-  pub ends : (the_block app block.0).kind ≡ kind.IsrEnd
-  pub known : t.0 < length app.tasks

@@ -2,6 +2,7 @@
 ghost use Rattle.std.specs.Prelude.{◌≡◌, ◌<◌, ◌≤◌, ◌∷◌, [], length, List, None, IfOk, OnOk};
 ghost use Rattle.abstract_state.specs.Components.{component_count};
 ghost use Rattle.abstract_state.specs.Concrete.{val_of};
+ghost use Rattle.flow_model.specs.Effects.{IsKnownStay};
 ghost use Rattle.flow_model.specs.Values.{block_of as block_of_val};
 ghost use Rattle.flow_model.specs.declared.case.Asked.TheVariants as asked;
 ghost use Rattle.flow_model.specs.declared.case.Decision.TheVariants as decision;
@@ -12,7 +13,7 @@ ghost use Rattle.numbered_sets.specs.Views.{AreNumbersOf};
 ghost use Rattle.numbered_levels.specs.Levels.{AreAllLevels};
 ghost use Rattle.numbered_exits.specs.declared.group.Ends.TheVariants as ends;
 ghost use Rattle.numbered_exits.specs.Narrowing.{AreNeeds};
-ghost use Rattle.numbered_exits.specs.Deciding.{AreBlocks, AreStayEnds, AddsOne, AddsFor, IsAny, IsIt, IsKnownStay};
+ghost use Rattle.numbered_exits.specs.Deciding.{AreBlocks, AreStayEnds, AddsOne, AddsFor, IsAny, IsIt};
 
 use crate::claiming::{left_by, needs};
 use crate::group::{Ends, ExitGroup, NumberEnd};
@@ -20,21 +21,12 @@ use crate::keeping::push_keepers;
 use crate::winning::push_winners;
 use abstract_state::{PartValue, Point, Val};
 use flow_dispatch::Claim;
-use flow_exits::Stay;
-use flow_model::{Asked, Decision};
+use flow_model::{Asked, Decision, Leaving, Stay};
 use numbered_levels::Levels;
 use numbered_sets::{NumberedEntry, Pool};
 use osek_standard::App;
-use osek_values::{BlockNo, Memory, Seq, Status, TaskNo};
+use osek_values::{BlockNo, Memory, Seq, TaskNo};
 use std::alloc::Global;
-
-/// What is asked of the scheduler after an effect, where the processor stands if it stays, and the status that was noted.
-#[derive(Clone, Copy, PartialEq, Eq, Debug)]
-pub struct Leaving {
-    pub asked: Asked,
-    pub stay: Stay,
-    pub status: Option<Status>,
-}
 
 /// Adds the exits that come of what the scheduler decides with these values.
 pub fn push_decided(

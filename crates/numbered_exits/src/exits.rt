@@ -3,7 +3,7 @@ ghost use Rattle.std.specs.Prelude.{ℕ, ◌≡◌, ◌<◌, ◌∷◌, [], leng
 ghost use Rattle.osek_standard.specs.Points.{IsPoint};
 ghost use Rattle.abstract_state.specs.Domains.{domains_of};
 ghost use Rattle.flow_model.specs.declared.case.EffectCase.{EffectCase};
-ghost use Rattle.flow_model.specs.Effects.{AreAllAllowed, CoverEffects, AreExactEffects};
+ghost use Rattle.flow_model.specs.Effects.{AreAllAllowed, IsKnownStay, HaveKnownStays, AreExactEffects};
 ghost use Rattle.flow_exits.specs.Leaving.{AreExits, effect_rule};
 ghost use Rattle.numbered_sets.specs.NumberedEntries.{number_domains, AreFilled};
 ghost use Rattle.numbered_sets.specs.Pools.{IsLonger};
@@ -14,16 +14,14 @@ ghost use Rattle.numbered_exits.specs.Groups.{all_exits, AreKnownGroups};
 ghost use Rattle.numbered_exits.specs.Leaving.{AddsEffects, AddsInstructions};
 
 use crate::arriving::push_arrivals;
-use crate::deciding::{Leaving, push_decided};
+use crate::deciding::push_decided;
 use crate::group::ExitGroup;
-use crate::returning::{push_return, returning_to};
 use abstract_state::Point;
-use flow_effects::{effect_cases, read_task};
-use flow_exits::Stay;
-use flow_model::{Asked, EffectCase, Rule, Runner};
+use flow_effects::effect_cases;
+use flow_model::{Asked, EffectCase, Leaving, Rule, Runner, Stay};
 use numbered_levels::Levels;
-use numbered_rules::apply_into;
-use numbered_sets::{NumberedEntry, Pool, listed};
+use numbered_rules::apply;
+use numbered_sets::{NumberedEntry, Pool};
 use osek_standard::App;
 use osek_values::{Memory, Seq};
 use std::alloc::Global;
@@ -82,42 +80,8 @@ fn push_instructions(
     ensures levels { OnOk result (AreLevels app.now pool.new levels.new) }
     ensures added { OnOk result (AddsInstructions app.now point (plain_entry pool.old entry.now) pool.old groups.old.items pool.new groups.new.items) }
 {
-    match returning_to(app, point) {
-        Some(task) => {
-            levels.renew(alloc, app, pool)?;
-            push_return(alloc, app, point, task, entry, pool, levels, groups)
-        }
-        None => {
-            let effects = effects_at(alloc, app, point, pool, entry)?;
-            push_effects(alloc, app, point, effects, entry, pool, levels, groups)
-        }
-    }
-}
-
-/// The effects of the instruction, by the values of the one task that it goes by
-pub fn effects_at(
-    alloc: Global,
-    app: &App,
-    point: Point,
-    pool: &Pool,
-    entry: &NumberedEntry,
-) -> Result<Seq<EffectCase>, Memory>
-    requires point { IsPoint app.now point }
-    requires numbers { AreNumbersOf pool.now entry.now }
-    requires domains { number_domains entry.now ≡ domains_of app.now }
-    ensures covering { IfOk result (CoverEffects app.now point (plain_entry pool.now entry.now)) }
-    ensures exact { IfOk result (λ effects. AreAllAllowed app.now point (plain_entry pool.now entry.now) → AreExactEffects app.now point (plain_entry pool.now entry.now) effects) }
-{
-    let effects = match read_task(app, point) {
-        None => effect_cases(alloc, app, point, &[])?,
-        Some(task) => {
-            let component = task.index();
-            let numbers = entry.sets.set(alloc, component)?;
-            let read = listed(alloc, pool, component, &numbers)?;
-            effect_cases(alloc, app, point, read.as_slice())?
-        }
-    };
-    Ok(effects)
+    let effects = effect_cases(alloc, app, point)?;
+    push_effects(alloc, app, point, effects, entry, pool, levels, groups)
 }
 
 // adds the exits of effects
@@ -133,6 +97,7 @@ fn push_effects(
 ) -> Result<(), Memory>
     requires numbers { AreNumbersOf pool.old entry.now }
     requires domains { number_domains entry.now ≡ domains_of app.now }
+    requires stays { HaveKnownStays app.now effects }
     requires exact { AreExactEffects app.now point (plain_entry pool.old entry.now) effects }
     requires levels { AreLevels app.now pool.old levels.old }
     requires known { AreKnownGroups pool.old groups.old.items }
@@ -160,6 +125,7 @@ pub fn push_effect(
 ) -> Result<(), Memory>
     requires numbers { AreNumbersOf pool.old entry.now }
     requires domains { number_domains entry.now ≡ domains_of app.now }
+    requires stays { IsKnownStay app.now effect.leaving.stay }
     requires kept { KeepsDomains (effect_rule effect) (plain_entry pool.old entry.now) }
     requires levels { AreLevels app.now pool.old levels.old }
     requires known { AreKnownGroups pool.old groups.old.items }
@@ -167,15 +133,10 @@ pub fn push_effect(
     ensures levels { OnOk result (AreLevels app.now pool.new levels.new) }
     ensures added { OnOk result (AddsEffects app.now (plain_entry pool.old entry.now) (effect ∷ []) pool.old groups.old.items pool.new groups.new.items) }
 {
-    let leaving = Leaving {
-        asked: effect.asked,
-        stay: Stay::At(effect.point),
-        status: effect.status,
-    };
-    let mut after = entry.copy(alloc)?;
-    if !apply_into(alloc, &as_rule(effect), pool, entry, &mut after)? {
+    let leaving = effect.leaving;
+    let Some(after) = apply(alloc, &as_rule(effect), pool, entry)? else {
         return Ok(());
-    }
+    };
     levels.renew(alloc, app, pool)?;
     push_decided(alloc, app, pool, levels, leaving, &after, groups)
 }
@@ -187,9 +148,9 @@ fn as_rule(effect: EffectCase) -> Rule
     Rule {
         conditions: effect.conditions,
         changes: effect.changes,
-        target: effect.point,
+        target: Point::Halted,
         decision: None,
-        status: effect.status,
+        status: None,
     }
 }
 
@@ -203,9 +164,11 @@ fn take_effect(alloc: Global, effects: &mut Seq<EffectCase>, place: usize) -> Ef
     let nothing = EffectCase {
         conditions: Seq::new(alloc),
         changes: Seq::new(alloc),
-        asked: Asked::No,
-        status: None,
-        point: Point::Idle,
+        leaving: Leaving {
+            asked: Asked::No,
+            stay: Stay::At(Point::Idle),
+            status: None,
+        },
     };
     let at = effects.at_mut(place);
     mem::replace(at, nothing)

@@ -3,16 +3,18 @@ ghost use Rattle.std.specs.Prelude.{◌≡◌, ◌<◌, ◌≤◌, length, OnOk}
 ghost use Rattle.abstract_state.specs.Components.{component_count};
 ghost use Rattle.flow_model.specs.declared.case.Asked.TheVariants as asked;
 ghost use Rattle.flow_model.specs.declared.case.Decision.TheVariants as decision;
+ghost use Rattle.flow_model.specs.Effects.{IsKnownStay};
 ghost use Rattle.numbered_sets.specs.NumberedEntries.{AreFilled};
 ghost use Rattle.numbered_sets.specs.Views.{AreNumbersOf};
 ghost use Rattle.numbered_levels.specs.Levels.{AreAllLevels};
 ghost use Rattle.numbered_exits.specs.Narrowing.{AreNeeds};
-ghost use Rattle.numbered_exits.specs.Deciding.{AddsFor, IsIt, IsAtLevel, IsLevelOf, IsKnownStay};
+ghost use Rattle.numbered_exits.specs.Deciding.{AddsFor, IsIt, IsAtLevel, IsLevelOf};
 
 use crate::claiming::left_by;
-use crate::deciding::{Leaving, push_stay};
+use crate::deciding::push_stay;
 use crate::group::ExitGroup;
 use flow_dispatch::Claim;
+use flow_model::Leaving;
 use numbered_levels::{Level, Levels};
 use numbered_sets::{NumberedEntry, Pool};
 use osek_standard::App;

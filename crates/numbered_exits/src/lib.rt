@@ -9,7 +9,6 @@ mod deciding;
 mod exits;
 mod group;
 mod keeping;
-mod returning;
 mod ruling;
 mod winning;
 

@@ -3,7 +3,7 @@ ghost use Rattle.std.specs.Prelude.{◌≡◌, ◌≤◌, ◌++◌, length, IfOk
 ghost use Rattle.std.specs.List.{flat_map};
 ghost use Rattle.osek_standard.specs.Points.{IsPoint};
 ghost use Rattle.abstract_state.specs.Domains.{domains, domains_of};
-ghost use Rattle.flow_model.specs.Effects.{AreAllAllowed};
+ghost use Rattle.flow_model.specs.Effects.{AreAllAllowed, IsKnownStay};
 ghost use Rattle.flow_model.specs.Rules.{Covering, Exact, Foresees};
 ghost use Rattle.flow_rules.specs.Instructions.{AddsInstructions as AddsInstructionRules};
 ghost use Rattle.flow_exits.specs.Leaving.{effect_rule};
@@ -17,9 +17,10 @@ ghost use Rattle.numbered_exits.specs.Ruling.{outcomes_by, AddsRulesOf};
 
 use crate::allowing::allowed_part;
 use crate::barring::barred;
-use crate::exits::{effects_at, push_effect};
+use crate::exits::push_effect;
 use crate::group::{Ends, ExitGroup};
 use abstract_state::{Entry, Point};
+use flow_effects::effect_cases;
 use flow_exits::Exit;
 use flow_model::{Change, EffectCase, OutcomeCase, Rule, Runner};
 use flow_rules::{add_rules, arrivals, copied_effect};
@@ -76,7 +77,7 @@ fn add_instructions(
     let mut grown = pool.copy(alloc)?;
     let numbers = numbered(alloc, &mut grown, &from)?;
     let mut levels = Levels::new(alloc, app, &grown)?;
-    let effects = effects_at(alloc, app, point, &grown, &numbers)?;
+    let effects = effect_cases(alloc, app, point)?;
     for effect in effects.as_slice() {
         add_effect(
             alloc,
@@ -106,6 +107,7 @@ fn add_effect(
     requires plain { plain_entry pool.old entry.now ≡ from.now }
     requires numbers { AreNumbersOf pool.old entry.now }
     requires domains { number_domains entry.now ≡ domains_of app.now }
+    requires stays { IsKnownStay app.now effect.now.leaving.stay }
     requires kept { KeepsDomains (effect_rule effect.now) (plain_entry pool.old entry.now) }
     requires levels { AreLevels app.now pool.old levels.old }
     ensures pool { IsLonger pool.old pool.new }

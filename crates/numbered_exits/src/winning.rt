@@ -3,17 +3,18 @@ ghost use Rattle.std.specs.Prelude.{◌≡◌, ◌<◌, ◌≤◌, false, length
 ghost use Rattle.osek_standard.specs.States.{is_that_task};
 ghost use Rattle.abstract_state.specs.Components.{component_count};
 ghost use Rattle.flow_model.specs.declared.case.Decision.TheVariants as decision;
+ghost use Rattle.flow_model.specs.Effects.{IsKnownStay};
 ghost use Rattle.numbered_sets.specs.NumberedEntries.{AreFilled};
 ghost use Rattle.numbered_sets.specs.Views.{AreNumbersOf};
 ghost use Rattle.numbered_levels.specs.Levels.{AreAllLevels};
 ghost use Rattle.numbered_exits.specs.Narrowing.{AreNeeds};
-ghost use Rattle.numbered_exits.specs.Deciding.{AddsOne, AddsFor, IsAlive, IsIt, IsAtLevel, IsLevelOf, IsOver, IsWinnerBelow, IsKnownStay};
+ghost use Rattle.numbered_exits.specs.Deciding.{AddsOne, AddsFor, IsAlive, IsIt, IsAtLevel, IsLevelOf, IsOver, IsWinnerBelow};
 
 use crate::claiming::left_by;
-use crate::deciding::{Leaving, at_blocks};
+use crate::deciding::at_blocks;
 use crate::group::ExitGroup;
 use flow_dispatch::{Claim, is_running};
-use flow_model::Decision;
+use flow_model::{Decision, Leaving};
 use numbered_levels::{Level, Levels};
 use numbered_sets::{NumberedEntry, Pool};
 use osek_standard::App;

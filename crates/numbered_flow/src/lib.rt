@@ -4,7 +4,6 @@
 mod counts;
 mod evaluation;
 mod joining;
-pub mod laws;
 mod least_table;
 mod numbered_cells;
 

@@ -1,6 +1,7 @@
 -- What the levels of a task say of its values, and what is left of an entry's numbers without some of them.
 use Rattle.std.proofs.Common.{◌≡◌, ◌⊎◌, ℕ, ◌+◌, ◌-◌, ◌^◌, ◌<◌, ◌≤◌, min, Bool, true, false, ◌&&◌, not, List, length, get_or, set, refl, sym, ap, ap₂, subst, ◌∙◌, inl, inr, arith, IsTrue, get_or-set_same}
 use Rattle.std.specs.Prelude.{Contains}
+use Rattle.std.specs.Int.Bits.{and_zero_l}
 use Rattle.std.proofs.lemmas.Bool.{cases_eq, cases_lt}
 use Rattle.std.proofs.lemmas.List.{length-set, set-set, set-get_or, get_or_default}
 use Rattle.std.proofs.lemmas.List.Elements.{Contains-get_or}
@@ -95,6 +96,13 @@ no_need levels x = record {
   enough = λ i d lt. absurd (omega (arith, lt));
   begun = inl refl;
 }
+
+-- no numbers meet none
+pub nothing_met : (x y : Numbers) → x.bits ≡ 0 → IsTrue (meets x y) → ⊥
+nothing_met x y none met = absurd (let zero_and = and_zero_l y.bits in cc)
+
+pub need_of_none : (levels : List Level) (x : Numbers) (k need : ℕ) → IsNeedUpTo levels x k need → x.bits ≡ 0 → need ≡ 2 ^ 64 - 1
+need_of_none levels x k need h none = elim h.begun [ inl is ↦ is | inr low ↦ absurd (nothing_met x low.level.numbers none low.meets) ]
 
 -- so it is with each of the levels
 module _ (levels items : List Level) (x : Numbers) (k need : ℕ) (h : IsNeedUpTo items x k need) (whole : length items ≤ k) (same : items ≡ levels) (level : Level) (listed : Contains levels level) (met : IsTrue (meets x level.numbers)) where

@@ -18,7 +18,7 @@ impl Level {
 }
 
 impl TaskLevels {
-    ghost use Rattle.std.specs.Prelude.{ℕ, List, ◌≡◌, ◌<◌, ◌≤◌, ◌+◌, length, IsTrue, Contains};
+    ghost use Rattle.std.specs.Prelude.{ℕ, List, ◌≡◌, ◌<◌, ◌≤◌, ◌+◌, ◌-◌, ◌^◌, length, IsTrue, Contains};
     ghost use Rattle.osek_standard.specs.declared.app.App.{App};
     ghost use Rattle.abstract_state.specs.declared.value.PartValue.{PartValue};
     ghost use Rattle.abstract_state.specs.Concrete.{val_of};
@@ -34,7 +34,8 @@ impl TaskLevels {
     /// The least limit under which the task is with some value of an entry; past all priorities where it has none.
     pub fn need(&self, task: TaskNo, entry: &NumberedEntry) -> u64
         requires { task.0 < length entry.now.sets }
-        ensures { (app : App) (vs : List PartValue) → AreTaskLevels app task.0 vs self.now → AreAllJudged self.now (numbers_at entry.now task.0) → IsLeastLimit app task.0 vs (numbers_at entry.now task.0) result }
+        ensures least { (app : App) (vs : List PartValue) → AreTaskLevels app task.0 vs self.now → AreAllJudged self.now (numbers_at entry.now task.0) → IsLeastLimit app task.0 vs (numbers_at entry.now task.0) result }
+        ensures none { (numbers_at entry.now task.0).bits ≡ 0 → result ≡ 2 ^ 64 - 1 }
     {
         if entry.meets(task.index(), &self.dead) {
             return 0;
@@ -47,6 +48,7 @@ impl TaskLevels {
         requires { task.0 < length entry.now.sets }
         ensures least { (level : Level) → Contains self.now.levels level → IsTrue (meets (numbers_at entry.now task.0) level.numbers) → result ≤ level.priority + 1 }
         ensures enough { (level : Level) → Contains self.now.levels level → IsTrue (meets (numbers_at entry.now task.0) level.numbers) → HasLevelBelow self.now.levels (numbers_at entry.now task.0) result }
+        ensures none { (numbers_at entry.now task.0).bits ≡ 0 → result ≡ 2 ^ 64 - 1 }
     {
         let mut need = u64::MAX;
         for level in self.levels.as_slice() {

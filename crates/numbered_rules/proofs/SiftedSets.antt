@@ -5,13 +5,15 @@ use Rattle.std.specs.List.{list_any}
 use Rattle.std.proofs.Math.ListN.{get_or-eq_default}
 use Rattle.std.proofs.lemmas.Bool.{cases_eq, cases_lt, and_parts, or_left, eq-eqb, ne_eqb}
 use Rattle.std.proofs.lemmas.List.{length-set}
-use Rattle.std.proofs.lemmas.List.Folds.{list_any-append}
+use Rattle.std.proofs.lemmas.List.Folds.{list_any-append, list_any_at}
 use Rattle.osek_values.specs.Bits.{has_bit}
 use Rattle.abstract_state.specs.declared.value.PartValue.{PartValue}
 use Rattle.abstract_state.specs.declared.table.{ValueSet.{ValueSet}}
 use Rattle.abstract_state.specs.ValueOrder.{same_part}
 use Rattle.abstract_state.specs.Tables.{is_member}
-use Rattle.flow_model.specs.declared.{test.Condition.{Condition}, rule.Rule.{Rule}}
+use Rattle.abstract_state.proofs.OrderLaws.{part_right}
+use Rattle.flow_model.specs.declared.{test.{Test.{Test}, Condition.{Condition}}, rule.Rule.{Rule}}
+use Rattle.flow_model.specs.declared.test.Test.TheVariants as test
 use Rattle.flow_model.specs.Tests.{passes, is_failed, PassesAt}
 use Rattle.flow_model.specs.Rules.{HasNone}
 use Rattle.flow_rules.proofs.Passing.{none_fails, each_passes}
@@ -123,6 +125,30 @@ leaves_more pool xs ys entry h = record {
   component = h.component;
   known = h.known;
   none = λ v m. list_any-append (is_failed h.component v) xs ys ∙ or_left (list_any (is_failed h.component v) xs) (list_any (is_failed h.component v) ys) (h.none v m);
+}
+
+-- so do more conditions than one that leaves none
+pub leaves_among : (pool : List Values) (xs : List Condition) (k : ℕ) (x : Condition) (entry : NumberedEntry) → k < length xs → get_or xs k x ≡ x → LeavesNone pool (x ∷ []) entry → LeavesNone pool xs entry
+leaves_among pool xs k x entry lt is h = record {
+  component = h.component;
+  known = h.known;
+  none = λ v m. list_any_at (is_failed h.component v) xs k x lt (ap (is_failed h.component v) is ∙ sym (or_none (is_failed h.component v x)) ∙ h.none v m);
+}
+  where
+    or_none : (b : Bool) → (b || false) ≡ b
+    or_none true = refl
+    or_none false = refl
+
+-- a condition that wants a value that isn't there
+pub wants_missing : (pool : List Values) (x : Condition) (w : PartValue) (entry : NumberedEntry) → x.test ≡ test.Is w → x.component.0 < length entry.sets
+    → is_member (plain_set (values_at pool x.component.0) (numbers_at entry x.component.0)) w ≡ false → LeavesNone pool (x ∷ []) entry
+wants_missing pool x w entry is known missing = record {
+  component = x.component.0;
+  known = known;
+  none = λ v m.
+      (let other : same_part v w ≡ false =
+      false_unless (same_part v w) ⊥ (λ same. (let there = ap (is_member (plain_set (values_at pool x.component.0) (numbers_at entry x.component.0))) (sym (part_right v w same)) ∙ m in absurd (cc))) (λ no. no) in
+      ap₂ (λ (a b : Bool). (a && not b) || false) (eq-eqb x.component.0 x.component.0 refl) (ap (λ (t : Test). passes t v) is ∙ other));
 }
 
 pub none_taken : (pool : List Values) (rule : Rule) (entry : NumberedEntry) → LeavesNone pool rule.conditions entry → HasNone rule (plain_entry pool entry)

@@ -1,6 +1,5 @@
 //! What a rule makes of a numbered entry.
 ghost use Rattle.std.specs.Prelude.{◌≡◌, ◌<◌, ◌≤◌, ◌+◌, List, length, IfOk, OnOk, IfSome, IfNone};
-ghost use Rattle.std.specs.Bool.{OnTrue, OnFalse};
 ghost use Rattle.flow_model.specs.Rules.{Applies, HasNone};
 ghost use Rattle.numbered_sets.specs.declared.numbered_entry.NumberedEntry.{NumberedEntry};
 ghost use Rattle.numbered_sets.specs.NumberedEntries.{number_domains};
@@ -9,7 +8,7 @@ ghost use Rattle.numbered_sets.specs.Views.{plain_entry, AreNumbersOf};
 ghost use Rattle.numbered_rules.specs.Applying.{KeepsDomains};
 ghost use Rattle.numbered_rules.specs.Changing.{is_named as is_named_of, up_to, StaysWithin, AreAllPassed};
 
-use crate::sifting::sift;
+use crate::sifting::{may_pass, sift};
 use crate::updating::updated;
 use flow_model::{Change, Rule};
 use numbered_sets::{NumberedEntry, Pool};
@@ -31,39 +30,18 @@ pub fn apply(
     ensures some { IfOk result (λ new. IfSome new (λ new. Applies rule.now (plain_entry pool.old entry.now) (plain_entry pool.new new))) }
     ensures none { IfOk result (λ new. IfNone new (HasNone rule.now (plain_entry pool.old entry.now))) }
 {
-    let mut made = entry.copy(alloc)?;
-    if !apply_into(alloc, rule, pool, entry, &mut made)? {
+    // most rules that take nothing want a value that isn't there: no entry is made for these
+    if !may_pass(rule.conditions.as_slice(), pool, entry) {
         return Ok(None);
     }
-    Ok(Some(made))
-}
-
-/// Makes of an entry with sets of the same domains what `apply` gives, and tells whether there is such an entry. It wants
-/// memory only where a set has more than 128 numbers. Where it fails the other entry can be used for the next rule.
-pub fn apply_into(
-    alloc: Global,
-    rule: &Rule,
-    pool: &mut Pool,
-    entry: &NumberedEntry,
-    made: &mut NumberedEntry,
-) -> Result<bool, Memory>
-    requires numbers { AreNumbersOf pool.old entry.now }
-    requires alike { number_domains made.old ≡ number_domains entry.now }
-    requires domains { KeepsDomains rule.now (plain_entry pool.old entry.now) }
-    ensures pool { IsLonger pool.old pool.new }
-    ensures alike { number_domains made.new ≡ number_domains made.old }
-    ensures numbers { IfOk result (λ is_made. OnTrue is_made (AreNumbersOf pool.new made.new)) }
-    ensures applies { IfOk result (λ is_made. OnTrue is_made (Applies rule.now (plain_entry pool.old entry.now) (plain_entry pool.new made.new))) }
-    ensures none { IfOk result (λ is_made. OnFalse is_made (HasNone rule.now (plain_entry pool.old entry.now))) }
-{
-    made.assign(entry)?;
-    if !sift(alloc, rule.conditions.as_slice(), pool, made)? {
-        return Ok(false);
+    let mut made = entry.copy(alloc)?;
+    if !sift(alloc, rule.conditions.as_slice(), pool, &mut made)? {
+        return Ok(None);
     }
     for place in 0..rule.changes.len() {
-        change(alloc, rule, place, pool, made)?;
+        change(alloc, rule, place, pool, &mut made)?;
     }
-    Ok(true)
+    Ok(Some(made))
 }
 
 // does to an entry what the change at a place says, where no change before it names its component

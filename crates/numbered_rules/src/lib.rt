@@ -2,8 +2,7 @@
 #![tactic(auto)]
 
 mod applying;
-pub mod laws;
 mod sifting;
 mod updating;
 
-pub use applying::{apply, apply_into};
+pub use applying::apply;

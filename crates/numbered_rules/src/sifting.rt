@@ -4,7 +4,7 @@ ghost use Rattle.std.specs.Bool.{OnTrue, OnFalse};
 ghost use Rattle.numbered_sets.specs.NumberedEntries.{number_domains, AreFilled, HasEmptySet};
 ghost use Rattle.numbered_rules.specs.Sifting.{AreSifted, LeavesNone};
 
-use flow_model::Condition;
+use flow_model::{Condition, Test};
 use numbered_sets::{NumberedEntry, Pool};
 use osek_values::Memory;
 use std::alloc::Global;
@@ -52,4 +52,32 @@ fn keep_passing(
     pool.keep_passing(alloc, component, &condition.test, entry)?;
     let is_left = !entry.sets.is_empty(component);
     Ok(is_left)
+}
+
+/// Whether each value that a condition wants is there.
+pub fn may_pass(conditions: &[Condition], pool: &Pool, entry: &NumberedEntry) -> bool
+    requires { length entry.now.sets ≤ length pool.now }
+    ensures { OnFalse result (LeavesNone pool.now conditions.now entry.now) }
+{
+    for condition in conditions {
+        if !has_wanted(condition, pool, entry) {
+            return false;
+        }
+    }
+    true
+}
+
+// whether the value is there that a condition wants, if it wants one alone
+fn has_wanted(condition: &Condition, pool: &Pool, entry: &NumberedEntry) -> bool
+    requires { length entry.now.sets ≤ length pool.now }
+    ensures { OnFalse result (LeavesNone pool.now (condition.now ∷ []) entry.now) }
+{
+    let component = condition.component.index();
+    if component >= entry.sets.len() {
+        return true;
+    }
+    match &condition.test {
+        Test::Is(value) => pool.has_value(component, value, entry),
+        _ => true,
+    }
 }

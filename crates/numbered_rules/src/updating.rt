@@ -34,7 +34,9 @@ pub fn updated(
 {
     match &change.update {
         Update::Set(to) => replaced(alloc, change, to, pool, component, numbers),
-        Update::Block(_) => moved(alloc, change, pool, component, numbers),
+        Update::Block(_) | Update::Take { .. } | Update::Give { .. } => {
+            moved(alloc, change, pool, component, numbers)
+        }
     }
 }
 

@@ -2,7 +2,7 @@
 use Rattle.std.proofs.Common.{◌≡◌, ℕ, ◌^◌, Bool, true, false, ◌||◌, List, get_or, sym, ap, ap₂, ◌∙◌, inl, inr, arith}
 use Rattle.std.specs.Prelude.{Option, Some, None, is_some, IfSome, IfNone, position}
 use Rattle.std.specs.List.{list_any, IsDistinct}
-use Rattle.std.proofs.lemmas.Bool.{cases_eq, eq-eqb, ne_eqb}
+use Rattle.std.proofs.lemmas.Bool.{cases_Bool, cases_eq, eq-eqb, ne_eqb}
 use Rattle.std.proofs.Math.ListN.{get_or-map}
 use Rattle.std.proofs.lemmas.List.{get_or_default, length-map}
 use Rattle.std.proofs.lemmas.List.Folds.{list_any_at}
@@ -17,9 +17,10 @@ use Rattle.numbered_sets.specs.Filters.{seen_values, IsNumberAlone}
 use Rattle.numbered_sets.specs.Numbers.{numbers, with_number}
 use Rattle.numbered_sets.specs.Pools.{IsNumberOf}
 use Rattle.numbered_sets.proofs.BitCounts.{has_either, has_one}
+use Rattle.numbered_sets.proofs.PlainLaws.{has_value, value_with_number}
 use Rattle.numbered_sets.proofs.PoolLaws.{any_seen}
 use Rattle.numbered_sets.proofs.ViewLaws.{false_unless}
-use Rattle.numbered_sets.proofs.KnownNumbers.{no_bit_of_none, one_number}
+use Rattle.numbered_sets.proofs.KnownNumbers.{no_bit_of_none, one_number, found}
 
 no_bit : (n : ℕ) → has_bit 0 n ≡ false
 no_bit n = false_unless (has_bit 0 n) ⊥ (no_bit_of_none n) (λ no. no)
@@ -64,3 +65,25 @@ none_alone d vs v none = record {
       absurd (cc))
       (λ no. no));
 }
+
+-- a value is among those of some numbers where its number is
+pub number_tells : (vs : List PartValue) (has : ℕ → Bool) (v : PartValue) (n : ℕ) → IsDistinct same_part vs → IsNumberOf vs v n → has n ≡ has_value vs has v
+number_tells vs has v n distinct number = elim (cases_Bool (has n)) [
+  | inl among ↦ among ∙ sym (value_with_number vs has n v number.known (number.is v) among)
+  | inr missing ↦
+      missing
+      ∙ sym (false_unless (has_value vs has v) ⊥
+      (λ there.
+      let x = found vs has v there in
+      let at : has n ≡ true = ap has (sym (one_number vs v x.number n distinct x.known number.known (x.is v) (number.is v))) ∙ x.there in
+      absurd (cc))
+      (λ none. none))
+]
+
+pub absent_tells : (vs : List PartValue) (has : ℕ → Bool) (v : PartValue) → list_any (same_part v) vs ≡ false → has_value vs has v ≡ false
+absent_tells vs has v none = false_unless (has_value vs has v) ⊥
+    (λ there.
+    let x = found vs has v there in
+    let any : list_any (same_part v) vs ≡ true = list_any_at (same_part v) vs x.number v x.known (ap (same_part v) (x.is v) ∙ part_itself v) in
+    absurd (cc))
+    (λ no. no)

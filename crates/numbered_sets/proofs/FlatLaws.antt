@@ -12,7 +12,7 @@ use Rattle.std.proofs.lemmas.Nat.{or_lt, ones_le_self}
 use Rattle.abstract_state.specs.declared.value.Domain.{Domain}
 use Rattle.abstract_state.specs.declared.value.Domain.TheVariants as domain
 use Rattle.numbered_sets.specs.Numbers.{Numbers, numbers, bits_of_words, joined_numbers, number_count, AreWords}
-use Rattle.numbered_sets.specs.SetLists.{set_of, domains_of, all_numbers, AreJoined}
+use Rattle.numbered_sets.specs.SetLists.{set_of, all_numbers, AreJoined}
 use Rattle.numbered_sets.specs.FlatSets.{further_at, further_bits, further_count, words_at, flat_sets}
 use Rattle.numbered_sets.proofs.WordLaws.{small_at}
 use Rattle.numbered_sets.proofs.FirstWords.{word_first, same_further, ones_first, ones_of_two, either_two, none_first, bits_of_none}
@@ -239,15 +239,3 @@ module _ (ds its : List Domain) (low high low_too high_too low_new high_new : Li
               ∙ sym (ap₂ joined_numbers (get_or-eq_default xs (numbers domain.Alarm 0) (omega (arith, many, past))) (get_or-eq_default ys (numbers domain.Alarm 0) (omega (arith, many, long, past))))
         ];
       }
-
-flat_domains : (ds : List Domain) (low high : List ℕ) (more : List (Vec ℕ)) → domains_of (flat_sets ds low high more) ≡ ds
-unfolding flat_sets
-flat_domains [] low high more = refl
-flat_domains (d ∷ ds) low high more = ap (λ (es : List Domain). d ∷ es) (flat_domains ds (drop 1 low) (drop 1 high) (drop 1 more))
-
--- the same domains, and words with the same bits
-pub flat_assigned : (ds its : List Domain) (low high low_too high_too : List ℕ) (more more_too more_new : List (Vec ℕ)) (xs ys : List Numbers) → flat_sets ds low high more ≡ xs → flat_sets its low_too high_too more_too ≡ ys
-    → domains_of xs ≡ domains_of ys → ((k : ℕ) → further_bits more_new k ≡ further_bits more_too k) → flat_sets ds low_too high_too more_new ≡ ys
-flat_assigned ds its low high low_too high_too more more_too more_new xs ys is is_too alike same =
-    let domains : ds ≡ its = sym (flat_domains ds low high more) ∙ ap domains_of is ∙ alike ∙ sym (ap domains_of is_too) ∙ flat_domains its low_too high_too more_too in
-    flat_same_further ds low_too high_too more_too more_new same ∙ ap (λ (es : List Domain). flat_sets es low_too high_too more_too) domains ∙ is_too

@@ -1,5 +1,5 @@
 -- Further words of components: what a write at one of them does, and loops over all of them.
-use Rattle.std.proofs.Common.{◌≡◌, ◌≢◌, ℕ, zero, suc, ◌+◌, ◌<◌, ◌≤◌, List, [], ◌∷◌, ◌++◌, length, get_or, set, refl, sym, ap, ap₂, subst, ◌∙◌, inl, inr, arith}
+use Rattle.std.proofs.Common.{◌≡◌, ◌≢◌, ℕ, zero, suc, ◌+◌, ◌<◌, ◌≤◌, List, [], ◌∷◌, length, get_or, set, refl, sym, ap, ap₂, subst, ◌∙◌, inl, inr, arith}
 use Rattle.std.specs.Prelude.{bit_or, count_ones}
 use Rattle.std.specs.Global.{Vec}
 use Rattle.std.proofs.lemmas.Bool.{cases_eq, cases_lt}
@@ -7,7 +7,7 @@ use Rattle.std.proofs.lemmas.List.{length-set}
 use Rattle.std.proofs.lemmas.List.Sums.{sum_by-set}
 use Rattle.std.specs.Int.Bits.{or_zero_r}
 use Rattle.numbered_sets.specs.Numbers.{bits_of_words}
-use Rattle.numbered_sets.specs.FlatSets.{further_at, further_bits, further_count, IsChangedAt, HaveRoom}
+use Rattle.numbered_sets.specs.FlatSets.{further_at, further_bits, further_count, IsChangedAt}
 use Rattle.numbered_sets.proofs.FirstWords.{bits_of_none}
 
 pub further_is : (more : List (Vec ℕ)) (c : ℕ) (v : Vec ℕ) → c < length more → get_or more c v ≡ v → further_at more c ≡ v.items
@@ -87,12 +87,6 @@ all_bits_joined before other now c whole h k = elim (cases_lt k c) [
       ap bits_of_words (h.kept k le) ∙ sym (or_zero_r (further_bits before k))
       ∙ ap (bit_or (further_bits before k)) (sym (no_further other k (omega (arith, whole, le))))
 ]
-
--- the bits of components up to one are the other's
-pub record AreBitsPutUpTo (before other : List (Vec ℕ)) (c : ℕ) (now : List (Vec ℕ)) : Type 0 where
-  pub as_many : length now ≡ length before
-  pub done : (k : ℕ) → k < c → further_bits now k ≡ further_bits other k
-  pub kept : (k : ℕ) → c ≤ k → further_at now k ≡ further_at before k
 
 -- the words of components up to one stand in a copy
 pub record AreWordsCopied (more : List (Vec ℕ)) (c : ℕ) (copy : List (Vec ℕ)) : Type 0 where

@@ -1,29 +1,26 @@
 -- Numbers of values: they stay so, and the order of sets of them is that of the sets of their values.
-use Rattle.std.proofs.Common.{◌≡◌, ◌⊎◌, ℕ, zero, suc, ◌/◌, ◌^◌, ◌<◌, ◌≤◌, Bool, true, false, ◌||◌, ◌&&◌, List, [], ◌∷◌, length, get_or, set, map, refl, sym, ap, ap₂, subst, ◌∙◌, inl, inr, arith, IsTrue, get_or-set_same, get_or-set_other}
+use Rattle.std.proofs.Common.{◌≡◌, ℕ, zero, suc, ◌/◌, ◌^◌, ◌<◌, ◌≤◌, Bool, true, false, ◌&&◌, List, [], ◌∷◌, length, get_or, sym, ap, ap₂, subst, ◌∙◌, inl, inr, arith}
 use Rattle.std.specs.Prelude.{◌==◌}
 use Rattle.std.specs.Int.{bit_at}
 use Rattle.std.specs.List.{All, IsDistinct}
 use Rattle.std.proofs.Math.Nat.{pow-suc}
-use Rattle.std.proofs.Math.ListN.{get_or-map}
-use Rattle.std.proofs.lemmas.Bool.{cases_eq, cases_lt, or_cases, or_left, or_right, and_parts, eqb-true}
-use Rattle.std.proofs.lemmas.List.{map-set, set-get_or, get_or_default}
+use Rattle.std.proofs.lemmas.Bool.{cases_lt, or_cases, or_left, or_right, and_parts}
+use Rattle.std.proofs.lemmas.List.{get_or_default}
 use Rattle.std.proofs.lemmas.List.Elements.{All-from_get_or}
 use Rattle.std.proofs.lemmas.Map.Keys.{apart_from_distinct}
 use Rattle.std.proofs.lemmas.Nat.Bits.{bit_at-suc, bit_at-zero, bit_at-lt, same_from_bits}
 use Rattle.osek_values.specs.Bits.{has_bit}
-use Rattle.abstract_state.specs.declared.value.{Domain.{Domain}, PartValue.{PartValue}, PartValue.TheVariants.{OfAlarm}}
-use Rattle.abstract_state.specs.declared.value.Domain.TheVariants as domain
+use Rattle.abstract_state.specs.declared.value.{PartValue.{PartValue}, PartValue.TheVariants.{OfAlarm}}
 use Rattle.abstract_state.specs.declared.table.ValueSet.{ValueSet}
 use Rattle.abstract_state.specs.ValueOrder.{same_part}
 use Rattle.abstract_state.specs.Domains.{IsBelow, domain_size}
 use Rattle.abstract_state.specs.Tables.{set_at, is_member}
 use Rattle.abstract_state.proofs.OrderLaws.{part_itself, part_right}
 use Rattle.numbered_sets.specs.declared.numbered_entry.NumberedEntry.{NumberedEntry}
-use Rattle.numbered_sets.specs.Numbers.{Numbers, numbers, has_number, with_number, joined_numbers, AreSound}
-use Rattle.numbered_sets.specs.NumberedEntries.{no_set, numbers_at, number_domains, numbers_height, AreSoundNumbers, IsBelowNumbers, IsPartOfNumberJoin}
-use Rattle.numbered_sets.specs.Pools.{Values, values_at, domain_at, pool_domains, AreValues}
+use Rattle.numbered_sets.specs.Numbers.{has_number, AreSound}
+use Rattle.numbered_sets.specs.NumberedEntries.{no_set, numbers_at, numbers_height, AreSoundNumbers, IsBelowNumbers}
+use Rattle.numbered_sets.specs.Pools.{Values, values_at, domain_at, AreValues}
 use Rattle.numbered_sets.specs.Views.{values_with, plain_entry, AreNumbersOf}
-use Rattle.numbered_sets.proofs.BitCounts.{has_either, has_one}
 use Rattle.numbered_sets.proofs.PoolLaws.{few_values}
 use Rattle.numbered_sets.proofs.PlainLaws.{has_value, member_of_plain, any_first, value_with_number, plain_set_at}
 use Rattle.numbered_sets.proofs.ViewLaws.{values_of, its_domain}
@@ -81,13 +78,13 @@ order_onward pool a b below = record {
 }
 
 -- the number by which a value is there
-record Found (vs : List PartValue) (has : ℕ → Bool) (w : PartValue) : Type 0 where
-  number : ℕ
-  known : number < length vs
-  is : (d : PartValue) → get_or vs number d ≡ w
-  there : has number ≡ true
+pub record Found (vs : List PartValue) (has : ℕ → Bool) (w : PartValue) : Type 0 where
+  pub number : ℕ
+  pub known : number < length vs
+  pub is : (d : PartValue) → get_or vs number d ≡ w
+  pub there : has number ≡ true
 
-found : (vs : List PartValue) (has : ℕ → Bool) (w : PartValue) → has_value vs has w ≡ true → Found vs has w
+pub found : (vs : List PartValue) (has : ℕ → Bool) (w : PartValue) → has_value vs has w ≡ true → Found vs has w
 found [] has w e = absurd (cc)
 found (v ∷ vs) has w e = elim (or_cases (has 0 && same_part w v) (has_value vs (λ n. has (suc n)) w) (sym (any_first (has 0) v w (values_with vs (λ n. has (suc n)))) ∙ e)) [
   | inl here ↦ (let parts = and_parts (has 0) (same_part w v) here in record { number = 0; known = omega arith; is = λ d. sym (part_right w v parts.1); there = parts.0 })

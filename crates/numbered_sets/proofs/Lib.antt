@@ -18,5 +18,4 @@ pub mod FlatLaws
 pub mod CopiedPools
 pub mod CopiedEntries
 pub mod NextNumbers
-pub mod ListedLaws
 pub mod SkippedWords

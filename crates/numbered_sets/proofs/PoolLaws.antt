@@ -5,6 +5,7 @@ use Rattle.std.specs.List.{list_any, IsDistinct}
 use Rattle.std.proofs.Math.ListN.{get_or-map}
 use Rattle.std.proofs.lemmas.Bool.{cases_Bool}
 use Rattle.std.proofs.lemmas.List.{length-map}
+use Rattle.std.proofs.lemmas.List.Folds.{list_any_at}
 use Rattle.std.proofs.lemmas.List.Elements.{All-nil, All-cons, All-append, All-contains}
 use Rattle.std.proofs.lemmas.Map.Keys.{IsDistinct-push}
 use Rattle.std.proofs.lemmas.Map.Made.{length-le_from_is_member}
@@ -15,11 +16,11 @@ use Rattle.abstract_state.specs.declared.value.{Domain.{Domain}, PartValue.{Part
 use Rattle.abstract_state.specs.ValueOrder.{same_part}
 use Rattle.abstract_state.specs.Domains.{IsWithin, domain_size}
 use Rattle.abstract_state.proofs.DomainValues.{domain_counted}
-use Rattle.abstract_state.proofs.OrderLaws.{part_laws, part_right}
+use Rattle.abstract_state.proofs.OrderLaws.{part_itself, part_laws, part_right}
 use Rattle.numbered_sets.specs.declared.seen.Seen.{Seen}
 use Rattle.numbered_sets.specs.SeenLaws.{same_seen}
 use Rattle.numbered_sets.specs.Filters.{seen_values}
-use Rattle.numbered_sets.specs.Pools.{with_value, AreNumbered, IsNumberOf}
+use Rattle.numbered_sets.specs.Pools.{Values, value_seen, with_value, AreNumbered, IsNumberOf}
 
 pub none_numbered : (d : Domain) → AreNumbered d []
 unfolding IsDistinct
@@ -41,6 +42,15 @@ pub values_with_seen : (ks : List Seen) (k : Seen) → seen_values (insert_key s
 values_with_seen ks k =
     either_list (list_any (same_seen k) ks) ks (ks ++ k ∷ [])
     ∙ ap₂ (λ (b : Bool) (vs : List PartValue). cond b (seen_values ks) vs) (any_seen k ks) (values_pushed ks k)
+
+-- a value that has a number is no new one
+pub seen_already : (x : Values) (v : PartValue) (n : ℕ) → IsNumberOf x.values v n → value_seen x v ≡ x
+seen_already x v n number =
+    let there : list_any (same_part v) x.values ≡ true = list_any_at (same_part v) x.values n v number.known (ap (same_part v) (number.is v) ∙ part_itself v) in
+    ap (λ (b : Bool). with_values (cond b x.values (x.values ++ v ∷ []))) there
+  where
+    with_values : List PartValue → Values
+    with_values vs = record { domain = x.domain; values = vs }
 
 pub numbered_with : (d : Domain) (vs : List PartValue) (v : PartValue) → AreNumbered d vs → IsWithin d v → AreNumbered d (with_value vs v)
 numbered_with d vs v numbered within = elim (cases_Bool (list_any (same_part v) vs)) [

@@ -6,7 +6,7 @@ use Rattle.std.proofs.lemmas.Bool.{cases_eq, and_parts, eq-eqb, ne_eqb}
 use Rattle.std.proofs.lemmas.List.{length-append, get_or_append_left, get_or_default}
 use Rattle.std.proofs.lemmas.Nat.Bits.{bit_at_lowest, bit_at-suc}
 use Rattle.osek_values.specs.Bits.{has_bit}
-use Rattle.abstract_state.specs.declared.value.{Domain.{Domain}, PartValue.{PartValue}, PartValue.TheVariants.{OfAlarm}}
+use Rattle.abstract_state.specs.declared.value.{PartValue.{PartValue}, PartValue.TheVariants.{OfAlarm}}
 use Rattle.abstract_state.specs.ValueOrder.{same_part}
 use Rattle.abstract_state.specs.Tables.{is_member}
 use Rattle.abstract_state.proofs.OrderLaws.{part_right}
@@ -14,7 +14,7 @@ use Rattle.flow_model.specs.declared.test.Test.{Test}
 use Rattle.flow_model.specs.Tests.{passes}
 use Rattle.numbered_sets.specs.declared.filter.{Filter.{Filter}, Filters.{Filters}}
 use Rattle.numbered_sets.specs.Filters.{IsFilter, AreFilters, IsSifted}
-use Rattle.numbered_sets.specs.Numbers.{Numbers, numbers, has_number, with_number, kept_numbers, other_numbers}
+use Rattle.numbered_sets.specs.Numbers.{Numbers, has_number, with_number, kept_numbers, other_numbers}
 use Rattle.numbered_sets.specs.NumberedEntries.{no_set}
 use Rattle.numbered_sets.specs.Pools.{IsExtended, with_value}
 use Rattle.numbered_sets.specs.Views.{values_with, plain_set}
@@ -22,8 +22,7 @@ use Rattle.numbered_sets.proofs.BitCounts.{has_either, has_one}
 use Rattle.numbered_sets.proofs.KeptWords.{has_both}
 use Rattle.numbered_sets.proofs.OtherWords.{has_alone}
 use Rattle.numbered_sets.proofs.PlainLaws.{has_value, member_of_plain, any_first, value_with_number}
-use Rattle.numbered_sets.proofs.ViewLaws.{false_unless, extended_with, below_power}
-use Rattle.numbered_sets.proofs.KnownNumbers.{no_bit_of_none}
+use Rattle.numbered_sets.proofs.ViewLaws.{extended_with, below_power}
 
 -- ---- what is left of a set
 

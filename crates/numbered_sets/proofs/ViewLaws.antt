@@ -1,5 +1,5 @@
 -- What numbered entries mean as pools grow, as entries join and as numbers come in, and how many values they have.
-use Rattle.std.proofs.Common.{◌≡◌, ◌≢◌, ◌⊎◌, ℕ, zero, suc, ◌+◌, ◌^◌, ◌<◌, ◌≤◌, Bool, true, false, ◌||◌, List, [], ◌∷◌, ◌++◌, length, get_or, set, map, sum_by, refl, sym, ap, ap₂, subst, ◌∙◌, inl, inr, arith, lit<, get_or-set_same, get_or-set_other}
+use Rattle.std.proofs.Common.{◌≡◌, ℕ, zero, suc, ◌+◌, ◌^◌, ◌<◌, ◌≤◌, Bool, true, false, ◌||◌, List, [], ◌∷◌, ◌++◌, length, get_or, set, map, sum_by, refl, sym, ap, ap₂, subst, ◌∙◌, inl, inr, arith, lit<, get_or-set_same, get_or-set_other}
 use Rattle.std.specs.Prelude.{if◌then◌else◌, ◌==◌}
 use Rattle.std.specs.BTreeSet.{insert_key}
 use Rattle.std.specs.List.{All, AllByRecursion, list_any, IsDistinct}
@@ -13,24 +13,23 @@ use Rattle.std.proofs.lemmas.List.Elements.{All-cons, All-head, All-tail, All-ge
 use Rattle.std.proofs.lemmas.List.Sums.{sum_by-cons}
 use Rattle.std.proofs.lemmas.Map.Keys.{IsDistinct-head, IsDistinct-tail, IsDistinct-cons}
 use Rattle.std.proofs.lemmas.Map.Views.{All-insert_key}
-use Rattle.osek_values.specs.Bits.{has_bit, passing_below}
+use Rattle.osek_values.specs.Bits.{passing_below}
 use Rattle.abstract_state.specs.declared.value.{Domain.{Domain}, PartValue.{PartValue}}
 use Rattle.abstract_state.specs.declared.value.Domain.TheVariants as domain
 use Rattle.abstract_state.specs.declared.table.{ValueSet.{ValueSet}}
 use Rattle.abstract_state.specs.ValueOrder.{part_order, same_part}
 use Rattle.abstract_state.specs.Domains.{IsWithin, IsSound, IsSoundEntry, domain_size}
-use Rattle.abstract_state.specs.Tables.{empty_set, set_at, is_member, entry_values, IsJoin, IsPartOfJoin, IsSetBySet}
-use Rattle.abstract_state.proofs.JoinLaws.{join_part}
-use Rattle.abstract_state.proofs.EntryJoins.{same_sets, part_of_none}
+use Rattle.abstract_state.specs.Tables.{empty_set, entry_values}
+use Rattle.abstract_state.proofs.EntryJoins.{same_sets}
 use Rattle.numbered_sets.specs.declared.numbered_entry.NumberedEntry.{NumberedEntry}
-use Rattle.numbered_sets.specs.Numbers.{Numbers, has_number, with_number, joined_numbers, number_count}
-use Rattle.numbered_sets.specs.NumberedEntries.{no_set, numbers_at, entry_numbers, room, numbers_height, IsNumberJoin, IsPartOfNumberJoin}
-use Rattle.numbered_sets.specs.Pools.{Values, no_values, with_value, value_seen, seen_at, values_at, domain_at, pool_domains, AreValues, IsNumberOf, IsExtended, IsLonger}
+use Rattle.numbered_sets.specs.Numbers.{Numbers, has_number, number_count}
+use Rattle.numbered_sets.specs.NumberedEntries.{no_set, numbers_at, entry_numbers, room, numbers_height}
+use Rattle.numbered_sets.specs.Pools.{Values, no_values, with_value, value_seen, seen_at, values_at, domain_at, pool_domains, AreValues, IsExtended, IsLonger}
 use Rattle.numbered_sets.specs.Views.{values_with, in_order, plain_set, plain_sets, plain_entry, AreNumbersOf}
 use Rattle.numbered_sets.proofs.Counting.{flag, passing_past}
-use Rattle.numbered_sets.proofs.BitCounts.{has_either, has_one, ones_below}
+use Rattle.numbered_sets.proofs.BitCounts.{ones_below}
 use Rattle.numbered_sets.proofs.PoolLaws.{none_numbered}
-use Rattle.numbered_sets.proofs.PlainLaws.{ordered, placed, ascending_in_order, any_in_order, has_value, member_of_plain, values_longer, value_of_either, values_with_none, plain_set_at, length_plain}
+use Rattle.numbered_sets.proofs.PlainLaws.{ordered, placed, ascending_in_order, any_in_order, has_value, values_longer, values_with_none, plain_set_at, length_plain}
 
 pub false_unless : (b : Bool) (P : Type 0) → (b ≡ true → P) → (P → ⊥) → b ≡ false
 false_unless true P f g = absurd (g (f refl))

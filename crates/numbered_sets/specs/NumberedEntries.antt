@@ -55,8 +55,3 @@ pub record IsNumberJoin (entry other after : NumberedEntry) : Type 0 where
 pub record IsPartOfNumberJoin (entry other after : NumberedEntry) : Type 0 where
   pub as_many : length after.sets ≡ length entry.sets
   pub each : (c : ℕ) → (numbers_at after c ≡ joined_numbers (numbers_at entry c) (numbers_at other c)) ⊎ (numbers_at after c ≡ numbers_at entry c)
-
--- A copy that stopped: each set is the other's, or is as it was.
-pub record IsPartOfCopy (entry other after : NumberedEntry) : Type 0 where
-  pub as_many : length after.sets ≡ length entry.sets
-  pub each : (c : ℕ) → (numbers_at after c ≡ numbers_at other c) ⊎ (numbers_at after c ≡ numbers_at entry c)

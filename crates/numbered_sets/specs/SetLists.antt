@@ -1,15 +1,11 @@
 -- Lists of sets of numbers, one for each component.
-use Rattle.std.specs.Prelude.{◌≡◌, ℕ, List, length, map, slice_index_or, sum_by}
-use Rattle.abstract_state.specs.declared.value.Domain.{Domain}
+use Rattle.std.specs.Prelude.{◌≡◌, ℕ, List, length, slice_index_or, sum_by}
 use Rattle.abstract_state.specs.declared.value.Domain.TheVariants as domain
 use Rattle.numbered_sets.specs.Numbers.{Numbers, numbers, joined_numbers, number_count}
 
 -- the set of a component
 abbrev pub set_of : List Numbers → ℕ → Numbers
 set_of sets c = slice_index_or sets c (numbers domain.Alarm 0)
-
-abbrev pub domains_of : List Numbers → List Domain
-domains_of sets = map (λ (x : Numbers). x.domain) sets
 
 -- How many numbers there are in all.
 abbrev pub all_numbers : List Numbers → ℕ

@@ -169,6 +169,8 @@ fn is_test(test: &Test, other: &Test) -> bool
         (Test::HoldsNoneOf(resources), Test::HoldsNoneOf(barred)) => resources.0 == barred.0,
         (Test::HoldsSome, Test::HoldsSome) => true,
         (Test::HoldsNothing, Test::HoldsNothing) => true,
+        (Test::OnTop(resource), Test::OnTop(wanted)) => resource.0 == wanted.0,
+        (Test::NotOnTop(resource), Test::NotOnTop(barred)) => resource.0 == barred.0,
         _ => false,
     }
 }
@@ -183,7 +185,9 @@ fn slot_of(test: &Test) -> usize
         Test::NotLive => 2,
         Test::HoldsSome => 3,
         Test::HoldsNothing => 4,
-        Test::Holds(resource) => 5 + resource.0 as usize % 11,
-        Test::HoldsNoneOf(resources) => 16 + (resources.0 % 47) as usize,
+        Test::Holds(resource) => 5 + resource.0 as usize % 8,
+        Test::OnTop(resource) => 13 + resource.0 as usize % 7,
+        Test::NotOnTop(resource) => 20 + resource.0 as usize % 7,
+        Test::HoldsNoneOf(resources) => 27 + (resources.0 % 37) as usize,
     }
 }

@@ -36,7 +36,7 @@ impl NumberedSets {
     ghost use Rattle.std.specs.Prelude.{ℕ, false, IsTrue, ◌≡◌, ◌<◌, ◌≤◌, ◌+◌, ◌^◌, ◌==◌, not, length, map, slice_set, IfOk, OnOk, OnErr, EachIndex, SomeIndex};
     ghost use Rattle.std.specs.Bool.{OnTrue, OnFalse};
     ghost use Rattle.numbered_sets.specs.Numbers.{numbers, has_number, with_number, kept_numbers, other_numbers, meets};
-    ghost use Rattle.numbered_sets.specs.SetLists.{set_of, domains_of, all_numbers, AreJoined};
+    ghost use Rattle.numbered_sets.specs.SetLists.{set_of, all_numbers, AreJoined};
 
     /// The sets without a number, for a component of each domain.
     pub fn new(alloc: Global, domains: &[Domain]) -> Result<NumberedSets, Memory>
@@ -323,20 +323,6 @@ impl NumberedSets {
             high,
             more,
         })
-    }
-
-    /// Become other sets of the same domains. Where memory is wanted they stay what they were.
-    pub fn assign(&mut self, other: &NumberedSets) -> Result<(), Memory>
-        requires { domains_of self.old ≡ domains_of other.now }
-        ensures sets { OnOk result (self.new ≡ other.now) }
-        ensures err { OnErr result (self.new ≡ self.old) }
-    {
-        let alloc = *self.low.allocator();
-        further::widen(alloc, &mut self.more, &other.more)?;
-        further::put_all(&mut self.more, &other.more);
-        self.low.copy_from_slice(other.low.as_slice());
-        self.high.copy_from_slice(other.high.as_slice());
-        Ok(())
     }
 }
 

@@ -186,28 +186,6 @@ pub fn join(more: &mut Seq<Vec<u64>>, other: &Seq<Vec<u64>>) -> u64
     added
 }
 
-// makes a component's bits those of other words, of which there are no more
-fn put_at(more: &mut Seq<Vec<u64>>, component: usize, other: &[u64])
-    requires known { component < length more.old }
-    requires room { length other.now ≤ length (further_at more.old component) }
-    ensures others { IsChangedAt more.old component more.new }
-    ensures bits { further_bits more.new component ≡ bits_of_words other.now }
-{
-    let words = more.at_mut(component);
-    words::put_all(words.as_mut_slice(), other);
-}
-
-/// Makes the bits of each component those of another list's further words.
-pub fn put_all(more: &mut Seq<Vec<u64>>, other: &Seq<Vec<u64>>)
-    requires { HaveRoom more.old other.now }
-    ensures as_many { length more.new ≡ length more.old }
-    ensures bits { (k : ℕ) → further_bits more.new k ≡ further_bits other.now k }
-{
-    for component in 0..more.len() {
-        put_at(more, component, of(other, component));
-    }
-}
-
 /// The same further words again.
 pub fn copied(alloc: Global, more: &Seq<Vec<u64>>) -> Result<Seq<Vec<u64>>, Memory>
     ensures as_many { IfOk result (λ copy. length copy ≡ length more.now) }

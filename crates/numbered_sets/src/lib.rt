@@ -19,5 +19,5 @@ pub use flat_sets::NumberedSets;
 pub use numbered_entry::NumberedEntry;
 pub use numbered_form::numbered;
 pub use numbered_set::NumberedSet;
-pub use plain_form::{listed, plain, plain_set};
+pub use plain_form::plain;
 pub use pool::Pool;

@@ -17,7 +17,7 @@ impl NumberedEntry {
     ghost use Rattle.std.specs.Prelude.{ℕ, false, IsTrue, ◌≡◌, ◌<◌, ◌≤◌, ◌+◌, ◌^◌, ◌==◌, not, length, map, slice_set, IfOk, OnOk, OnErr};
     ghost use Rattle.numbered_sets.specs.Numbers.{numbers, has_number, with_number, joined_numbers, kept_numbers, other_numbers, number_count, meets};
     ghost use Rattle.std.specs.Bool.{OnTrue, OnFalse};
-    ghost use Rattle.numbered_sets.specs.NumberedEntries.{numbers_at, number_domains, entry_numbers, AreFilled, HasEmptySet, IsNumberJoin, IsPartOfNumberJoin, IsPartOfCopy};
+    ghost use Rattle.numbered_sets.specs.NumberedEntries.{numbers_at, number_domains, entry_numbers, AreFilled, HasEmptySet, IsNumberJoin, IsPartOfNumberJoin};
 
     /// The entry without a number, for a component of each domain.
     pub fn new(alloc: Global, domains: &[Domain]) -> Result<NumberedEntry, Memory>
@@ -57,17 +57,6 @@ impl NumberedEntry {
     {
         let sets = self.sets.copy(alloc)?;
         Ok(NumberedEntry { sets })
-    }
-
-    /// Becomes another entry, with sets of the same domains. Where memory is wanted each set is what it was or the other's.
-    pub fn assign(&mut self, other: &NumberedEntry) -> Result<(), Memory>
-        requires { number_domains self.old ≡ number_domains other.now }
-        ensures entry { OnOk result (self.new ≡ other.now) }
-        ensures domains { number_domains self.new ≡ number_domains self.old }
-        ensures err { OnErr result (IsPartOfCopy self.old other.now self.new) }
-    {
-        self.sets.assign(&other.sets)?;
-        Ok(())
     }
 
     /// Whether a component's set has some number of another one.

@@ -1,13 +1,12 @@
 //! The plain form of numbered entries.
 ghost use Rattle.std.specs.Prelude.{◌≡◌, ◌<◌, ◌≤◌, length, IfOk};
-ghost use Rattle.numbered_sets.specs.Numbers.{has_number};
 ghost use Rattle.numbered_sets.specs.Pools.{values_at};
-ghost use Rattle.numbered_sets.specs.Views.{plain_set as plain_set_of, plain_entry, values_with};
+ghost use Rattle.numbered_sets.specs.Views.{plain_set as plain_set_of, plain_entry};
 
 use crate::numbered_entry::NumberedEntry;
 use crate::numbered_set::NumberedSet;
 use crate::pool::Pool;
-use abstract_state::{Entry, PartValue, ValueSet};
+use abstract_state::{Entry, ValueSet};
 use osek_values::{Memory, Seq};
 use std::alloc::Global;
 
@@ -26,7 +25,7 @@ pub fn plain(alloc: Global, pool: &Pool, entry: &NumberedEntry) -> Result<Entry,
 }
 
 /// The set of a component's values that have these numbers.
-pub fn plain_set(
+fn plain_set(
     alloc: Global,
     pool: &Pool,
     component: usize,
@@ -43,24 +42,4 @@ pub fn plain_set(
         number = numbers.next(number + 1, count);
     }
     Ok(set)
-}
-
-/// A component's values that have these numbers, in the order of the numbers. Unlike a set of them it isn't sorted.
-pub fn listed(
-    alloc: Global,
-    pool: &Pool,
-    component: usize,
-    numbers: &NumberedSet,
-) -> Result<Vec<PartValue>, Memory>
-    requires { component < length pool.now }
-    ensures { IfOk result (λ values. values.items ≡ values_with (values_at pool.now component) (has_number numbers.now)) }
-{
-    let mut values = Vec::new(alloc);
-    let count = pool.len(component);
-    let mut number = numbers.next(0, count);
-    while number < count {
-        values.push(pool.value(component, number).copy())?;
-        number = numbers.next(number + 1, count);
-    }
-    Ok(values)
 }

@@ -18,6 +18,8 @@ struct Numbering {
     domain: Domain,
     seen: IndexSet<Seen>,
     filters: Filters,
+    // where the value that is asked for next stands most likely: behind the one that was asked for last
+    next: usize,
 }
 
 impl Model for Numbering {
@@ -36,10 +38,12 @@ impl Numbering {
     ghost use Rattle.std.specs.List.{list_any};
     ghost use Rattle.abstract_state.specs.Domains.{IsWithin, domain_size};
     ghost use Rattle.abstract_state.specs.ValueOrder.{same_part};
+    ghost use Rattle.abstract_state.specs.Tables.{is_member};
     ghost use Rattle.flow_model.specs.declared.test.Test.TheVariants as Test;
     ghost use Rattle.numbered_sets.specs.Filters.{IsNumberAlone, IsSifted};
     ghost use Rattle.numbered_sets.specs.NumberedEntries.{numbers_at};
     ghost use Rattle.numbered_sets.specs.Pools.{no_values, value_seen, AreValues, IsNumberOf};
+    ghost use Rattle.numbered_sets.specs.Views.{plain_set};
 
     /// No value yet.
     fn new(alloc: Global, domain: Domain) -> Numbering
@@ -49,11 +53,30 @@ impl Numbering {
             domain,
             seen: IndexSet::new(alloc),
             filters: Filters::new(alloc),
+            next: 0,
         }
     }
 
     /// The number of a value, which comes in last where it is new.
     fn number(&mut self, value: PartValue) -> Result<usize, Memory>
+        requires { IsWithin self.old.domain value }
+        ensures values { OnOk result (self.new ≡ value_seen self.old value) }
+        ensures number { IfOk result (IsNumberOf self.new.values value) }
+        ensures below { IfOk result (λ n. n < domain_size self.old.domain) }
+        ensures err { OnErr result (self.new ≡ self.old) }
+    {
+        let next = self.next;
+        if next < self.len() && self.value(next).is(&value) {
+            self.next = next + 1;
+            return Ok(next);
+        }
+        let number = self.number_by_search(value)?;
+        self.next = number.saturating_add(1);
+        Ok(number)
+    }
+
+    // the same by a search
+    fn number_by_search(&mut self, value: PartValue) -> Result<usize, Memory>
         requires { IsWithin self.old.domain value }
         ensures values { OnOk result (self.new ≡ value_seen self.old value) }
         ensures number { IfOk result (IsNumberOf self.new.values value) }
@@ -148,6 +171,17 @@ impl Numbering {
         Ok(())
     }
 
+    /// Whether a component's set has the number of a value.
+    fn has_value(&self, value: &PartValue, component: usize, entry: &NumberedEntry) -> bool
+        ensures { result ≡ is_member (plain_set self.now.values (numbers_at entry.now component)) value.now }
+    {
+        self.are_values();
+        match self.number_of(value) {
+            None => false,
+            Some(number) => entry.sets.has(component, number),
+        }
+    }
+
     // the set of a value's number; it is empty where the value has none
     fn alone(&self, alloc: Global, value: &PartValue) -> Result<NumberedSet, Memory>
         ensures { IfOk result (IsNumberAlone self.now.values value.now) }
@@ -211,9 +245,11 @@ impl Model for Pool {
 impl Pool {
     ghost use Rattle.std.specs.Prelude.{◌≡◌, ◌<◌, length, map, slice_set, IfOk, OnOk, OnErr, All};
     ghost use Rattle.abstract_state.specs.Domains.{IsWithin, domain_size};
+    ghost use Rattle.abstract_state.specs.Tables.{is_member};
     ghost use Rattle.numbered_sets.specs.Filters.{IsSifted};
     ghost use Rattle.numbered_sets.specs.NumberedEntries.{numbers_at};
     ghost use Rattle.numbered_sets.specs.Pools.{no_values, value_seen, seen_at, values_at, domain_at, AreValues, IsNumberOf};
+    ghost use Rattle.numbered_sets.specs.Views.{plain_set};
 
     /// A pool without values, for a component of each domain.
     pub fn new(alloc: Global, domains: &[Domain]) -> Result<Pool, Memory>
@@ -263,6 +299,16 @@ impl Pool {
         ensures { IsNumberOf (values_at self.now component) result.now number }
     {
         self.numberings.at(component).value(number)
+    }
+
+    /// Whether a component's set has the number of a value.
+    pub fn has_value(&self, component: usize, value: &PartValue, entry: &NumberedEntry) -> bool
+        requires { component < length self.now }
+        ensures { result ≡ is_member (plain_set (values_at self.now component) (numbers_at entry.now component)) value.now }
+    {
+        self.numberings
+            .at(component)
+            .has_value(value, component, entry)
     }
 
     /// Leaves out the numbers of a component's values that don't pass a test. It keeps what it learnt of the test.

@@ -55,8 +55,8 @@ read_cause s t (Some bytes) at len r range a f =
 
 read_meets : (s : ShelfState) (at : ℕ) (into bytes : List ℕ) (o : Option (List ℕ)) (n : ℕ) → 0 < s.most → o ≡ Some bytes → good n ≡ read_answer s o at (length into)
     → take n into ≡ take n (drop at (unwrap_or o [])) → ReadsPiece bytes at into n
-read_meets s at into bytes None n most e r front = absurd cc
-read_meets s at into bytes (Some b) n most e r front =
+read_meets s at into bytes None n most e r prefix = absurd cc
+read_meets s at into bytes (Some b) n most e r prefix =
     let same : b ≡ bytes = cc in
     elim (is_listed s.fails s.calls) as (λ t. good n ≡ cond t bad (good (min (min (length into) (length b - at)) s.most)) → ReadsPiece bytes at into n) [
       | true ↦ λ k. absurd (not_bad n k)
@@ -64,7 +64,7 @@ read_meets s at into bytes (Some b) n most e r front =
           let is : n ≡ min (min (length into) (length b - at)) s.most = same_count _ _ k in
           let len = ap length same in
           record {
-            front = front ∙ ap (λ (x : List ℕ). take n (drop at x)) same;
+            prefix = prefix ∙ ap (λ (x : List ℕ). take n (drop at x)) same;
             within = omega (arith, length-drop at bytes);
             some = λ lt none. let here : 0 < s.most = most in omega arith;
           }
@@ -73,8 +73,8 @@ read_meets s at into bytes (Some b) n most e r front =
 -- The bytes that a read gives are those of the file.
 pub read_pieces : (s : ShelfState) (o : Option (List ℕ)) (at : ℕ) (into : List ℕ) (len : ℕ) (r : Result ℕ Failed) → 0 < s.most → len ≡ length into → r ≡ read_answer s o at len
     → IfOk r (λ n. take n into ≡ take n (drop at (unwrap_or o []))) → IfOk r (λ n. (bytes : List ℕ) → o ≡ Some bytes → ReadsPiece bytes at into n)
-read_pieces s o at into len (Ok n) most same e front = λ bytes h. read_meets s at into bytes o n most h (e ∙ ap (read_answer s o at) same) front
-read_pieces s o at into len (Err f) most same e front = tt
+read_pieces s o at into len (Ok n) most same e prefix = λ bytes h. read_meets s at into bytes o n most h (e ∙ ap (read_answer s o at) same) prefix
+read_pieces s o at into len (Err f) most same e prefix = tt
 
 -- A `create` that is Ok made the file hold nothing and counted no fault, and one that isn't counted one.
 abbrev Creates : ShelfState → ShelfState → List ℕ → Result (Unit {0}) Failed → Type 0
@@ -93,7 +93,7 @@ create_meets s t name (Some room) r range a f =
           subst (λ (x : Result (Unit {0}) Failed). Creates s t name x) (sym a') (ap (λ (x : ShelfState). Some x.files) f', tt, ap (λ (x : ShelfState). x.write_faults) f')
     ] a f
 
--- An `append` that is Ok added a front of the piece.
+-- An `append` that is Ok added a prefix of the piece.
 abbrev Appends : ShelfState → ShelfState → List ℕ → List ℕ → Result ℕ Failed → Type 0
 Appends s t name piece r =
     IfOk r (λ n. Some t.files ≡ with_more (Some s.files) name (take n piece)) × CanMiss s.write_faults t.write_faults (IsMissing (Some s.files) name) r

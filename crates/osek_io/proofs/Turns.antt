@@ -44,12 +44,12 @@ pub rises_there : (before now : Option Files) (name bytes : List ℕ) (a b c : �
 rises_there before now name bytes a b c e same (inl h) = subst (λ (n : ℕ). Rose n c) same h
 rises_there before now name bytes a b c e same (inr missing) = absurd (with_file-there before name bytes (subst (λ (o : Option Files). IsMissing o name) e missing))
 
--- Another piece was read: what was read is a front of the file.
+-- Another piece was read: what was read is a prefix of the file.
 pub reads_on : (so_far piece all now : List ℕ) (at n : ℕ) → so_far ≡ take (length so_far) all → at ≡ length so_far → ReadsPiece all at piece n → now ≡ so_far ++ take n piece → now ≡ take (length now) all
-reads_on so_far piece all now at n front here read is =
-    let start : so_far ≡ take at all = front ∙ ap (λ (m : ℕ). take m all) (sym here) in
-    let same : so_far ++ take n piece ≡ take (at + n) all = ap (λ (r : List ℕ). r ++ take n piece) start ∙ ap (λ (r : List ℕ). take at all ++ r) read.front ∙ sym (take-add at n all) in
-    let bound : at + n ≤ length all = omega (arith, read.within, length-drop at all, ap length front, length-take (length so_far) all) in
+reads_on so_far piece all now at n prefix here read is =
+    let start : so_far ≡ take at all = prefix ∙ ap (λ (m : ℕ). take m all) (sym here) in
+    let same : so_far ++ take n piece ≡ take (at + n) all = ap (λ (r : List ℕ). r ++ take n piece) start ∙ ap (λ (r : List ℕ). take at all ++ r) read.prefix ∙ sym (take-add at n all) in
+    let bound : at + n ≤ length all = omega (arith, read.within, length-drop at all, ap length prefix, length-take (length so_far) all) in
     let len : length now ≡ at + n = ap length (is ∙ same) ∙ length-take-le (at + n) all bound in
     is ∙ same ∙ ap (λ (m : ℕ). take m all) (sym len)
 

@@ -15,6 +15,6 @@ held_back held bytes =
 abbrev pub held_behind : (held : List ℕ) → (room : ℕ) → (text : List ℕ) → List ℕ
 held_behind held room text = if nat_le (length held + room) PUT_ROOM then held ++ text else text
 
--- A front of the bytes was written, and the rest is held back.
+-- A prefix of the bytes was written, and the rest is held back.
 abbrev pub PassesOn : Option (List ℕ) → Option (List ℕ) → (bytes held : List ℕ) → Type 0
-PassesOn old new bytes held = (front : List ℕ) × (bytes ≡ front ++ held) × (new ≡ grown old front)
+PassesOn old new bytes held = (prefix : List ℕ) × (bytes ≡ prefix ++ held) × (new ≡ grown old prefix)

@@ -17,7 +17,7 @@ use std::marker::Model;
 /// Copies what fits of the bytes from a place on, and no more than `most`.
 fn copy_from(bytes: &[u8], at: u64, most: usize, into: &mut [u8]) -> usize
     ensures count { result ≡ min (min (length into.old) (length bytes.now - at)) most }
-    ensures front { take result into.new ≡ take result (drop at bytes.now) }
+    ensures prefix { take result into.new ≡ take result (drop at bytes.now) }
 {
     if at >= bytes.len() as u64 {
         return 0;

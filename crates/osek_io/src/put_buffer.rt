@@ -3,7 +3,7 @@ ghost use Rattle.std.specs.Prelude.{◌≡◌, ◌≤◌, ◌+◌, [], ◌++◌,
 ghost use Rattle.osek_io.specs.Counts.{Rose};
 ghost use Rattle.osek_io.specs.HeldBytes.{held_back, held_behind, PassesOn};
 ghost use Rattle.osek_io.specs.Pieces.{grown};
-ghost use Rattle.osek_io.specs.Stored.{WritesPart};
+ghost use Rattle.osek_io.specs.Stored.{WritesProperPrefix};
 
 use crate::piece::Piece;
 use crate::sink::Sink;
@@ -56,10 +56,10 @@ impl PutBuffer {
         self.held = end;
     }
 
-    /// Writes all that is held back, or a front of it where a write fails, and holds nothing then.
+    /// Writes all that is held back, or a prefix of it where a write fails, and holds nothing then.
     pub fn flush<K: Sink>(&mut self, sink: &mut K) -> Result<(), PutError>
         ensures ok { OnOk result (K.written sink.new ≡ grown (K.written sink.old) self.old) }
-        ensures part { OnErr result (WritesPart (K.written sink.old) (K.written sink.new) self.old) }
+        ensures prefix { OnErr result (WritesProperPrefix (K.written sink.old) (K.written sink.new) self.old) }
         ensures nothing_held { self.new ≡ [] }
 
         ensures cause { OnErr result (Rose (K.faults sink.old) (K.faults sink.new)) }
@@ -73,13 +73,13 @@ impl PutBuffer {
 
     /// Puts bytes behind those that are held back. It calls the sink only where there is no room for them.
     pub fn put<K: Sink>(&mut self, sink: &mut K, bytes: &[u8]) -> Result<(), PutError>
-        // A front of what was held back and of these bytes was written, and the rest is held back.
+        // A prefix of what was held back and of these bytes was written, and the rest is held back.
         ensures ok { OnOk result (PassesOn (K.written sink.old) (K.written sink.new) (self.old ++ bytes.now) self.new) }
         ensures held { OnOk result (self.new ≡ held_back self.old bytes.now) }
         ensures waits { length self.old + length bytes.now ≤ PUT_ROOM → IsOk result × (sink.new ≡ sink.old) }
 
         // Where a write fails, the rest is lost.
-        ensures part { OnErr result (WritesPart (K.written sink.old) (K.written sink.new) (self.old ++ bytes.now)) }
+        ensures prefix { OnErr result (WritesProperPrefix (K.written sink.old) (K.written sink.new) (self.old ++ bytes.now)) }
         ensures lost { OnErr result (self.new ≡ []) }
 
         ensures cause { OnErr result (Rose (K.faults sink.old) (K.faults sink.new)) }
@@ -106,13 +106,13 @@ impl PutBuffer {
     pub fn put_piece<K: Sink, P: Piece>(&mut self, sink: &mut K, piece: &P) -> Result<(), PutError>
         requires fits { P.room piece.now ≤ PUT_ROOM }
 
-        // A front of what was held back and of the text was written, and the rest is held back.
+        // A prefix of what was held back and of the text was written, and the rest is held back.
         ensures ok { OnOk result (PassesOn (K.written sink.old) (K.written sink.new) (self.old ++ P.text piece.now) self.new) }
         ensures held { OnOk result (self.new ≡ held_behind self.old (P.room piece.now) (P.text piece.now)) }
         ensures waits { length self.old + P.room piece.now ≤ PUT_ROOM → IsOk result × (sink.new ≡ sink.old) }
 
         // Where a write fails, the rest is lost.
-        ensures part { OnErr result (WritesPart (K.written sink.old) (K.written sink.new) (self.old ++ P.text piece.now)) }
+        ensures prefix { OnErr result (WritesProperPrefix (K.written sink.old) (K.written sink.new) (self.old ++ P.text piece.now)) }
         ensures lost { OnErr result (self.new ≡ []) }
 
         ensures cause { OnErr result (Rose (K.faults sink.old) (K.faults sink.new)) }

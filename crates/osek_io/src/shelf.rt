@@ -24,7 +24,7 @@ pub trait Shelf {
     /// How often `create` or `append` has failed, but for an `append` to what isn't there.
     ghost write_faults: { Self → ℕ };
 
-    /// Reads the bytes from `at` on into the front of the slice: some of them, unless the slice is empty
+    /// Reads the bytes from `at` on into the start of the slice: some of them, unless the slice is empty
     /// or the file ends there. It answers how many.
     fn read(&mut self, name: &str, at: u64, into: &mut [u8]) -> Result<usize, Failed>
         ensures bound { IfOk result (λ n. n ≤ length into.new) }
@@ -52,7 +52,7 @@ pub trait Shelf {
 
         ensures same_reads { Same (read_faults self.old) (read_faults self.new) };
 
-    /// Adds a front of the piece at the end of the file, which is empty only where the piece is.
+    /// Adds a prefix of the piece at the end of the file, which is empty only where the piece is.
     /// It answers how many bytes.
     fn append(&mut self, name: &str, piece: &[u8]) -> Result<usize, Failed>
         ensures bound { IfOk result (λ n. n ≤ length piece.now) }

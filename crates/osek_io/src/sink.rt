@@ -15,7 +15,7 @@ pub trait Sink {
     /// How often `put` has failed.
     ghost faults: { Self → ℕ };
 
-    /// Writes a front of the piece, which is empty only where the piece is. It answers how many bytes.
+    /// Writes a prefix of the piece, which is empty only where the piece is. It answers how many bytes.
     fn put(&mut self, piece: &[u8]) -> Result<usize, Failed>
         ensures bound { IfOk result (λ n. n ≤ length piece.now) }
         ensures some { IfOk result (λ n. n ≡ 0 → length piece.now ≡ 0) }

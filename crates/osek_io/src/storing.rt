@@ -3,7 +3,7 @@ ghost use Rattle.std.specs.Prelude.{◌≡◌, ◌≤◌, OnOk, OnErr};
 ghost use Rattle.osek_io.specs.Counts.{Rose, Same};
 ghost use Rattle.osek_io.specs.Files.{with_file, KeepsOthers};
 ghost use Rattle.osek_io.specs.Pieces.{grown};
-ghost use Rattle.osek_io.specs.Stored.{WritesPart, StoresPart};
+ghost use Rattle.osek_io.specs.Stored.{WritesProperPrefix, StoresProperPrefix};
 
 use crate::shelf::Shelf;
 use crate::sink::Sink;
@@ -27,10 +27,10 @@ impl fmt::Display for PutError {
 
 impl Error for PutError {}
 
-/// Writes all the bytes to a sink, or a front of them where a write fails.
+/// Writes all the bytes to a sink, or a prefix of them where a write fails.
 pub fn put_all<K: Sink>(sink: &mut K, bytes: &[u8]) -> Result<(), PutError>
     ensures ok { OnOk result (K.written sink.new ≡ grown (K.written sink.old) bytes.now) }
-    ensures part { OnErr result (WritesPart (K.written sink.old) (K.written sink.new) bytes.now) }
+    ensures prefix { OnErr result (WritesProperPrefix (K.written sink.old) (K.written sink.new) bytes.now) }
 
     ensures cause { OnErr result (Rose (K.faults sink.old) (K.faults sink.new)) }
     ensures no_fault { OnOk result (K.faults sink.new ≡ K.faults sink.old) }
@@ -47,10 +47,10 @@ pub fn put_all<K: Sink>(sink: &mut K, bytes: &[u8]) -> Result<(), PutError>
 }
 
 /// Makes the name's file hold the bytes, all of them. Where a write fails, the file is as it was or holds
-/// a front of them.
+/// a prefix of them.
 pub fn store<F: Shelf>(shelf: &mut F, name: &str, bytes: &[u8]) -> Result<(), PutError>
     ensures ok { OnOk result (F.contents shelf.new ≡ with_file (F.contents shelf.old) name.now bytes.now) }
-    ensures part { OnErr result (StoresPart (F.contents shelf.old) (F.contents shelf.new) name.now bytes.now) }
+    ensures prefix { OnErr result (StoresProperPrefix (F.contents shelf.old) (F.contents shelf.new) name.now bytes.now) }
     ensures same_others { KeepsOthers (F.contents shelf.old) (F.contents shelf.new) name.now }
 
     ensures cause { OnErr result (Rose (F.write_faults shelf.old) (F.write_faults shelf.new)) }

@@ -32,7 +32,7 @@ impl Stream for Vec<u8> {
     ghost always = { λ _. refl };
 }
 
-/// Reads a piece into the front of a slice: none only where the slice is empty or the reader at its end.
+/// Reads a piece into the start of a slice: none only where the slice is empty or the reader at its end.
 pub fn read_some<R: Read>(reader: &mut R, into: &mut [u8]) -> Result<usize, Failed>
     ensures bound { IfOk result (λ n. n ≤ length into.new) }
     ensures bytes { IfOk result (λ n. Consumes (R.remaining reader.old) (R.remaining reader.new) (take n into.new)) }
@@ -49,7 +49,7 @@ pub fn read_some<R: Read>(reader: &mut R, into: &mut [u8]) -> Result<usize, Fail
     Err(Failed)
 }
 
-/// Writes a front of a piece, which is empty only where the piece is.
+/// Writes a prefix of a piece, which is empty only where the piece is.
 pub fn write_some<W: Write>(writer: &mut W, piece: &[u8]) -> Result<usize, Failed>
     ensures bound { IfOk result (λ n. n ≤ length piece.now) }
     ensures some { IfOk result (λ n. n ≡ 0 → length piece.now ≡ 0) }

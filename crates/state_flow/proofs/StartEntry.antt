@@ -105,6 +105,10 @@ module _ (app : App) (mode : ModeNo) (known : mode.0 < length app.modes) where
   start_row_told s (Ok row) is at proper = start_row_is s row is at proper
   start_row_told s (Err e) is at proper = tt
 
+  pub start_row_same : (s : State) (r : Result TableRow Memory) → state ≡ s → IfOk r (λ row. row ≡ row_at (point_of s) (entry_of app s)) → IfOk r (λ row. row ≡ row_at (point_of state) (entry_of app state))
+  start_row_same s (Ok row) is at = at ∙ ap (λ (x : State). row_at (point_of x) (entry_of app x)) (sym is)
+  start_row_same s (Err e) is at = tt
+
 -- a component of the list is the application's
 pub listed_component : (app : App) (items : List Component) (i : ℕ) (d : Component) → items ≡ components app → i < length items → IsComponent app (get_or items i d)
 listed_component app items i d is lt =

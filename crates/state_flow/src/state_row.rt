@@ -1,6 +1,5 @@
 //! The row of one state.
 ghost use Rattle.std.specs.Prelude.{◌≡◌, ◌<◌, [], ◌∷◌, length, map, IfOk};
-ghost use Rattle.osek_values.specs.Bits.{has_bit as has_bit_of};
 ghost use Rattle.osek_standard.specs.Points.{point_of as point_of_state};
 ghost use Rattle.osek_standard.specs.Well.{Well};
 ghost use Rattle.abstract_state.specs.Components.{IsComponent, value_in as value_of_activity, is_armed as is_armed_state, part_of};
@@ -81,7 +80,7 @@ fn part(state: &State, component: Component) -> PartValue
     match component {
         Component::Task(task) => PartValue::OfTask(value_in(&state.task(task).activity)),
         Component::Event { task, bit } => {
-            PartValue::OfEvent(has_bit(state.task(task).events.0, bit.0))
+            PartValue::OfEvent(state.task(task).events.has(bit.0))
         }
         Component::Alarm(alarm) => PartValue::OfAlarm(is_armed(state.alarm(alarm))),
     }
@@ -98,13 +97,6 @@ fn value_in(activity: &Activity) -> Val
         }),
         Activity::Waiting(block) => Val::Waiting(*block),
     }
-}
-
-fn has_bit(bits: u64, bit: u8) -> bool
-    requires { bit < 64 }
-    ensures { result ≡ has_bit_of bits bit }
-{
-    (bits >> bit) % 2 == 1
 }
 
 fn is_armed(alarm: AlarmState) -> bool

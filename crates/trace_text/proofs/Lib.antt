@@ -6,7 +6,9 @@ pub mod GrammarLaws
 pub mod KeptAhead
 pub mod LineLaws
 pub mod OtherLines
+pub mod Parting
 pub mod Parts
+pub mod PointsApart
 pub mod TextLaws
 pub mod WordLaws
 pub mod ShownLaws

@@ -5,3 +5,4 @@ pub mod EventWords
 pub mod Feeds
 pub mod Labels
 pub mod LineParts
+pub mod PointTexts

@@ -1,16 +1,19 @@
-//! Laws of event texts.
+//! Laws of event texts, and of the texts of points.
 ghost use Rattle.std.specs.Prelude.{◌≡◌, ℕ, ◌≤◌, ◌↔◌, true, false, List, [], ◌∷◌, ◌++◌, length, All, Some, None, Ok, Err};
 ghost use Rattle.std.specs.List.{enumerate_from};
 ghost use Rattle.osek_values.specs.declared.limits.TheConstants.{MAX_EVENT_LINE, MAX_EVENT_TEXT};
 ghost use Rattle.osek_values.specs.declared.event.Event.{Event};
 ghost use Rattle.osek_standard.specs.declared.app.App.{App};
+ghost use Rattle.osek_standard.specs.declared.point.Point.{Point};
 ghost use Rattle.osek_standard.specs.Apps.{IsDeclared};
+ghost use Rattle.osek_standard.specs.Points.{IsPoint};
 ghost use Rattle.trace_text.specs.declared.fault.EventFault.TheVariants.{E2};
 ghost use Rattle.trace_text.specs.EventWords.{words, read_line};
 ghost use Rattle.trace_text.specs.declared.feed.FeedStep.TheVariants.{Line, End, More};
 ghost use Rattle.trace_text.specs.EventText.{text_lines, numbered_lines, read_lines, read_text};
 ghost use Rattle.trace_text.specs.Feeds.{FeedState, no_bytes, next_answer, after_next, ComesOut, lines_to_long};
 ghost use Rattle.trace_text.specs.EventGrammar.{HasWords, NamesNone, SayNothing, Says, event_text};
+ghost use Rattle.trace_text.specs.PointTexts.{point_text};
 
 /// A line has the words that it is read by, and no other ones.
 pub fn a_line_has_one_list_of_words()
@@ -54,4 +57,9 @@ pub fn the_lines_of_a_text_come_out_for_every_cut()
     ensures same { (text : List ℕ) (lines others : List (List ℕ)) → ComesOut no_bytes text lines → ComesOut no_bytes text others → lines ≡ others }
     ensures lines { (text : List ℕ) (lines : List (List ℕ)) → ComesOut no_bytes text lines → lines_to_long lines ≡ lines_to_long (text_lines text) }
     ensures reading { (app : App) (text : List ℕ) (lines : List (List ℕ)) → ComesOut no_bytes text lines → read_lines app (enumerate_from 1 lines) ≡ read_lines app (numbered_lines text) }
+{}
+
+/// The text of a point of an application is that of no other of its points.
+pub fn a_text_tells_one_point()
+    ensures { (app : App) (p q : Point) → IsPoint app p → IsPoint app q → point_text app p ≡ point_text app q → p ≡ q }
 {}

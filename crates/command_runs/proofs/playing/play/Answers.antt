@@ -12,7 +12,7 @@ use Rattle.command_runs.specs.Playing.{given, PlaysOn, HeldAnswers, plays_fed}
 use Rattle.command_runs.specs.declared.stop.{Input.TheVariants.{Events}, Stop.{Stop}}
 use Rattle.command_runs.specs.declared.stop.Stop.TheVariants as stop
 use Rattle.command_runs.proofs.FaultlessReads.{then_reads}
-use Rattle.command_runs.proofs.GivenTexts.{puts_held, part_of_held, puts_front_of_first}
+use Rattle.command_runs.proofs.GivenTexts.{puts_held, prefix_of_held, puts_prefix_of_first}
 use Rattle.command_runs.proofs.FedPlays.{held_played, more_came, more_played, ends_there, stops_there, ends_with_text}
 use Rattle.command_runs.proofs.TextReads.{rose_there, has_come}
 use Rattle.command_runs.proofs.playing.play.Goals as goal
@@ -30,7 +30,7 @@ returns-in-Err-clause-answer g c =
       inv.no_fault name,
       ends_there files name first before now c.args.machine.now.image c.args.machine.now.state c.pieces.taken c.pieces.feed
           c.pieces.place.line c.pieces.place.event c.pieces.machine.state c.requires.text inv.within (λ done. absurd (cc (inv.not_finished, done))) inv.come (Err c.in-Err.stop)
-          (λ rest may. inr (ap (λ (e : Stop). Err e) unprinted, puts_front_of_first before now [] _ (part_of_held before now c.in-Err.ensures.cause c.in-Err.ensures.part c.in-Err.ensures.nothing_held))),
+          (λ rest may. inr (ap (λ (e : Stop). Err e) unprinted, puts_prefix_of_first before now [] _ (prefix_of_held before now c.in-Err.ensures.cause c.in-Err.ensures.prefix c.in-Err.ensures.nothing_held))),
     )
 
 pub returns-in-Err-read_on-clause-answer : goal.returns-in-Err-read_on-clause-answer

@@ -1,4 +1,4 @@
--- a front of the line of the step was printed, or the line of a trap
+-- a prefix of the line of the step was printed, or the line of a trap
 use Rattle.std.proofs.Common.{◌≡◌, ◌∙◌, ℕ, Bool, refl, sym, ap, subst, inl, Some, None, Err}
 use Rattle.std.specs.declared.option.Option.{Option}
 use Rattle.osek_standard.specs.declared.state.State.{State}
@@ -19,13 +19,13 @@ returns-in-Err-clause-event g c =
     let t = turn_is c.args.machine.now c.args.event _ c.requires.running (c.step_into.ensures.step ∙ ap (λ (b : Bool). turned c.step_into.new.self (noted_if b c.step_into.new.notes)) c.if-step_into.true) in
     event_unprinted (given (sunk g.O.Sink c.args.out.now) c.args.buffer.now) (given (sunk g.O.Sink c.print_line.new.out) c.print_line.new.buffer) c.args.machine.now.image c.step_into.new.self.image c.args.number c.step_into.new.self.state _ c.step_into.new.notes c.in-Err.stop
     (stepped_on c.args.machine.now c.step_into.new.self _ c.step_into.new.notes t) (same_image c.args.machine.now c.step_into.new.self _ (Some c.step_into.new.notes) t)
-    c.in-Err.ensures.error c.in-Err.ensures.front
+    c.in-Err.ensures.error c.in-Err.ensures.prefix
 
 pub returns-in-Err-print_trap-clause-event : goal.returns-in-Err-print_trap-clause-event
 returns-in-Err-print_trap-clause-event g c =
     let t = turn_is c.args.machine.now c.args.event _ c.requires.running (c.step_into.ensures.step ∙ ap (λ (b : Bool). turned c.step_into.new.self (noted_if b c.step_into.new.notes)) c.if-step_into.false) in
     trap_unprinted (given (sunk g.O.Sink c.args.out.now) c.args.buffer.now) (given (sunk g.O.Sink c.print_trap.new.out) c.print_trap.new.buffer) c.args.machine.now.image c.args.number c.step_into.new.self.state _ c.in-Err-print_trap.stop
-    (trapped_on c.args.machine.now c.step_into.new.self _ t) c.in-Err-print_trap.ensures.error c.in-Err-print_trap.ensures.front
+    (trapped_on c.args.machine.now c.step_into.new.self _ t) c.in-Err-print_trap.ensures.error c.in-Err-print_trap.ensures.prefix
 
 event_trapped : (old new : Given) (i : Image) (n : ℕ) (s : State) (o : Option Stepped) → o ≡ None → Puts old new (trap_line n) →
     AnswersEvent old new i n s o (Err stop.Trapped)

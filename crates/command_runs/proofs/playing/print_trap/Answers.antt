@@ -1,18 +1,18 @@
--- the line of a trap behind what was held back, or a front of both
+-- the line of a trap behind what was held back, or a prefix of both
 use Rattle.std.proofs.Common.{ℕ, List, [], ◌∷◌, ◌++◌, ◌∙◌, ap}
 use Rattle.std.specs.Prelude.{codes}
 use Rattle.osek_io.specs.Pieces.{grown}
 use Rattle.image_model.specs.ImageTrace.{trap_line}
 use Rattle.osek_io.specs.Sunk.{sunk}
 use Rattle.command_runs.specs.Playing.{given}
-use Rattle.command_runs.proofs.GivenTexts.{part_of_held, puts_front_of_first, puts_past}
+use Rattle.command_runs.proofs.GivenTexts.{prefix_of_held, puts_prefix_of_first, puts_past}
 use Rattle.command_runs.proofs.playing.print_trap.Goals as goal
 
-pub returns-in-Err-clause-front : goal.returns-in-Err-clause-front
-returns-in-Err-clause-front g c =
+pub returns-in-Err-clause-prefix : goal.returns-in-Err-clause-prefix
+returns-in-Err-clause-prefix g c =
     let old = given (sunk g.O.Sink c.args.out.now) c.args.buffer.now in
     let new = given (sunk g.O.Sink c.print_held.new.out) c.print_held.new.buffer in
-    puts_front_of_first old new _ (trap_line c.args.number) (part_of_held old new c.in-Err.ensures.cause c.in-Err.ensures.part c.in-Err.ensures.nothing_held)
+    puts_prefix_of_first old new _ (trap_line c.args.number) (prefix_of_held old new c.in-Err.ensures.cause c.in-Err.ensures.prefix c.in-Err.ensures.nothing_held)
 
 pub returns-in-Ok-put_three-clause-ok : goal.returns-in-Ok-put_three-clause-ok
 returns-in-Ok-put_three-clause-ok g c =

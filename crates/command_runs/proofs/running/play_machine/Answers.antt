@@ -1,4 +1,4 @@
--- what is held back at the end of a play is printed, or a front of it
+-- what is held back at the end of a play is printed, or a prefix of it
 use Rattle.std.proofs.Common.{◌≡◌, List, ℕ, [], subst, sym, Err}
 use Rattle.osek_standard.specs.Dispatch.{stepped}
 use Rattle.trace_text.specs.EventText.{numbered_lines}
@@ -6,7 +6,7 @@ use Rattle.osek_io.specs.Sunk.{sunk}
 use Rattle.command_runs.specs.Playing.{given, Played, printing, plays, line_of, HeldReadAnswers, ReadAnswers}
 use Rattle.command_runs.specs.declared.stop.Stop.{Stop}
 use Rattle.command_runs.specs.declared.stop.Stop.TheVariants as stop
-use Rattle.command_runs.proofs.PlayEnds.{all_printed, front_printed}
+use Rattle.command_runs.proofs.PlayEnds.{all_printed, prefix_printed}
 use Rattle.command_runs.proofs.running.play_machine.Goals as goal
 
 pub returns-in-Ok-clause-answer : goal.returns-in-Ok-clause-answer
@@ -41,4 +41,4 @@ returns-in-Err-clause-answer g c =
     subst (λ (xs : List ℕ). HeldReadAnswers files name reads reads_after (given first xs) mid play r) c.requires.nothing_held c.print_trace-played.ensures.answer in
     let unprinted : c.in-Err.stop ≡ stop.Unprinted = cc (c.in-Err.ensures.error) in
     subst (λ (e : Stop). ReadAnswers files name reads reads_after first last play (Err e)) (sym unprinted)
-    (front_printed files name reads reads_after first mid last c.in-Err.ensures.cause c.in-Err.ensures.part play r held)
+    (prefix_printed files name reads reads_after first mid last c.in-Err.ensures.cause c.in-Err.ensures.prefix play r held)

@@ -1,4 +1,4 @@
--- the start's line and then the play, or a front of the line
+-- the start's line and then the play, or a prefix of the line
 use Rattle.std.proofs.Common.{◌≡◌, List, ℕ, refl, inl}
 use Rattle.osek_standard.specs.Dispatch.{stepped}
 use Rattle.trace_text.specs.EventText.{numbered_lines}
@@ -23,5 +23,5 @@ returns-clause-answer g c =
     inl (
       λ at. refl,
       of_map (g.F.Shelf.contents c.args.shelf.now) c.args.events.name.now _ _
-          (λ t short. (short, first_fails (given (sunk g.O.Sink c.args.out.now) c.args.buffer.now) (given (sunk g.O.Sink c.print_line.new.out) c.print_line.new.buffer) _ _ c.in-Err.stop unprinted c.in-Err.ensures.front)) c.requires.text,
+          (λ t short. (short, first_fails (given (sunk g.O.Sink c.args.out.now) c.args.buffer.now) (given (sunk g.O.Sink c.print_line.new.out) c.print_line.new.buffer) _ _ c.in-Err.stop unprinted c.in-Err.ensures.prefix)) c.requires.text,
     )

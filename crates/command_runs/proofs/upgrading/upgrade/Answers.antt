@@ -1,15 +1,15 @@
--- what becomes of the image was stored, or a front of it
+-- what becomes of the image was stored, or a prefix of it
 use Rattle.std.proofs.Common.{◌≡◌, ℕ, List, ◌∙◌, inl, inr, sym, subst}
 use Rattle.std.specs.Prelude.{◌⊎◌, Err}
 use Rattle.std.specs.declared.option.Option.{Option}
 use Rattle.image_model.specs.declared.image.{Image.{Image}, Version.TheVariants.{Two}}
 use Rattle.osek_io.specs.{Counts.{Rose}, Files.{Files}}
 use Rattle.command_runs.specs.{Inputs.{OfFile, no_memory}, Outside.{Outside, SameFiles, beside, told}, Replaying.{SpellImage, OfImage}}
-use Rattle.command_runs.specs.Upgrading.{UpgradeAnswers, StoresUpgraded, StoresUpgradedFront, stops, already, fails, stores}
+use Rattle.command_runs.specs.Upgrading.{UpgradeAnswers, StoresUpgraded, StoresUpgradedPrefix, stops, already, fails, stores}
 use Rattle.command_runs.specs.declared.stop.Stop.{Stop}
 use Rattle.command_runs.specs.declared.stop.Stop.TheVariants as stop
 use Rattle.command_runs.proofs.InputFiles.{of_map}
-use Rattle.command_runs.proofs.StoredFiles.{stored_all, stored_part}
+use Rattle.command_runs.proofs.StoredFiles.{stored_all, stored_prefix}
 use Rattle.command_runs.proofs.upgrading.upgrade.Goals as goal
 
 over_image : (files : Option Files) (image : List ℕ) (i : Image) (P : Image → Type 0) → OfFile files image (λ b. SpellImage b i) → P i → OfImage files image P
@@ -45,6 +45,6 @@ returns g c = let bytes = c.in-Ok-upgraded_bytes.bytes.items in record {
   answer = λ out.
       fails (subst (λ (n : ℕ). Rose n (g.F.Shelf.write_faults c.store.new.shelf)) c.in-Ok.ensures.same.writes c.in-Err-Write.ensures.cause)
       (over_image (g.F.Shelf.contents c.args.shelf.now) c.args.image.now c.in-Ok.image
-      (StoresUpgradedFront (beside (told g.F.Shelf c.args.shelf.now) out) (beside (told g.F.Shelf c.store.new.shelf) out) c.args.upgraded.now) c.in-Ok.ensures.image
-      (bytes, c.in-Ok-upgraded_bytes.ensures.bytes, stored_part _ _ _ c.args.upgraded.now c.deref.result.now bytes c.in-Ok.ensures.same.files c.deref.ensures.value c.in-Err-Write.ensures.part));
+      (StoresUpgradedPrefix (beside (told g.F.Shelf c.args.shelf.now) out) (beside (told g.F.Shelf c.store.new.shelf) out) c.args.upgraded.now) c.in-Ok.ensures.image
+      (bytes, c.in-Ok-upgraded_bytes.ensures.bytes, stored_prefix _ _ _ c.args.upgraded.now c.deref.result.now bytes c.in-Ok.ensures.same.files c.deref.ensures.value c.in-Err-Write.ensures.prefix));
 }

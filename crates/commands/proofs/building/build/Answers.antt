@@ -1,11 +1,11 @@
--- the image of the application was stored, or a front of it
+-- the image of the application was stored, or a prefix of it
 use Rattle.std.proofs.Common.{ℕ, ◌∙◌, subst, inl}
 use Rattle.image_codec.specs.Spelling.{spelling}
 use Rattle.osek_io.specs.Counts.{Rose}
-use Rattle.commands.specs.Building.{stops, fails, stores, Stores, StoresFront}
+use Rattle.commands.specs.Building.{stops, fails, stores, Stores, StoresPrefix}
 use Rattle.command_runs.specs.Inputs.{no_memory}
 use Rattle.command_runs.specs.Outside.{beside, told}
-use Rattle.command_runs.proofs.StoredFiles.{stored_all, stored_part}
+use Rattle.command_runs.proofs.StoredFiles.{stored_all, stored_prefix}
 use Rattle.commands.proofs.Compiles.{over_app}
 use Rattle.commands.proofs.building.build.Goals as goal
 
@@ -21,8 +21,8 @@ pub returns : goal.returns
 returns g c = let made = c.in-Ok-bytes.ensures in record {
   answer = λ out.
       fails (subst (λ (n : ℕ). Rose n (g.F.Shelf.write_faults c.store.new.shelf)) c.in-Ok.ensures.same.writes c.in-Err-Write.ensures.cause)
-      (over_app (g.F.Shelf.contents c.args.shelf.now) c.args.oil.now c.args.code.now (StoresFront (beside (told g.F.Shelf c.args.shelf.now) out) (beside (told g.F.Shelf c.store.new.shelf) out) c.args.image.now) c.in-Ok.app
-      (made.image, made.fitted, stored_part _ _ _ c.args.image.now c.deref.result.now (spelling made.image) c.in-Ok.ensures.same.files (c.deref.ensures.value ∙ made.are) c.in-Err-Write.ensures.part)
+      (over_app (g.F.Shelf.contents c.args.shelf.now) c.args.oil.now c.args.code.now (StoresPrefix (beside (told g.F.Shelf c.args.shelf.now) out) (beside (told g.F.Shelf c.store.new.shelf) out) c.args.image.now) c.in-Ok.app
+      (made.image, made.fitted, stored_prefix _ _ _ c.args.image.now c.deref.result.now (spelling made.image) c.in-Ok.ensures.same.files (c.deref.ensures.value ∙ made.are) c.in-Err-Write.ensures.prefix)
       c.in-Ok.ensures.app);
 }
 

@@ -1,4 +1,4 @@
--- the front of the line's room is the line of the site, or there is none
+-- the prefix of the line's room is the line of the site, or there is none
 use Rattle.std.proofs.Common.{◌≡◌, sym, ◌∙◌, ap, subst, Some, None}
 use Rattle.std.specs.declared.option.Option.{Option}
 use Rattle.image_model.specs.declared.site.Site.{Site}
@@ -18,9 +18,9 @@ returns-in-None-clause-ok g c =
 pub returns-in-Some-clause-ok : goal.returns-in-Some-clause-ok
 returns-in-Some-clause-ok g c =
     let is : site_at c.args.image.now c.args.block.0 ≡ Some c.in-Some.site = sym c.site_at.ensures.site ∙ c.in-Some.is in
-    rw (c.front.ensures ∙ c.write_site_line-size.ensures.line ∙ ap (λ (x : Option Site). site_text c.args.image.now.app c.args.version c.args.block.0 x) (sym is)) at c.put_line.ensures.ok
+    rw (c.prefix.ensures ∙ c.write_site_line-size.ensures.line ∙ ap (λ (x : Option Site). site_text c.args.image.now.app c.args.version c.args.block.0 x) (sym is)) at c.put_line.ensures.ok
 
-pub returns-in-Some-clause-front : goal.returns-in-Some-clause-front
-returns-in-Some-clause-front g c =
+pub returns-in-Some-clause-prefix : goal.returns-in-Some-clause-prefix
+returns-in-Some-clause-prefix g c =
     let is : site_at c.args.image.now c.args.block.0 ≡ Some c.in-Some.site = sym c.site_at.ensures.site ∙ c.in-Some.is in
-    rw (c.front.ensures ∙ c.write_site_line-size.ensures.line ∙ ap (λ (x : Option Site). site_text c.args.image.now.app c.args.version c.args.block.0 x) (sym is)) at c.put_line.ensures.front
+    rw (c.prefix.ensures ∙ c.write_site_line-size.ensures.line ∙ ap (λ (x : Option Site). site_text c.args.image.now.app c.args.version c.args.block.0 x) (sym is)) at c.put_line.ensures.prefix

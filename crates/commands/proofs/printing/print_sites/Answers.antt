@@ -1,4 +1,4 @@
--- the next line, or a front of it, behind those before it
+-- the next line, or a prefix of it, behind those before it
 use Rattle.std.proofs.Common.{◌≡◌, ℕ, ◌+◌, ◌<◌, ◌≤◌, List, length, get_or, refl, sym, ◌∙◌, ap, subst, None, arith}
 use Rattle.std.specs.List.{flat_map, enumerate_from}
 use Rattle.std.specs.declared.option.Option.{Option}
@@ -10,7 +10,7 @@ use Rattle.flow_text.specs.Texts.{site_text}
 use Rattle.osek_io.specs.Sunk.{sunk}
 use Rattle.command_runs.specs.Playing.{given, Puts}
 use Rattle.command_runs.proofs.GivenTexts.{puts_nothing}
-use Rattle.commands.proofs.Printed.{next_put, front_of_lines}
+use Rattle.commands.proofs.Printed.{next_put, prefix_of_lines}
 use Rattle.command_runs.proofs.Results.{on_err}
 use Rattle.commands.proofs.printing.print_sites.Goals as goal
 
@@ -31,15 +31,15 @@ line_at i v b lt =
 pub loop-block-init : goal.loop-block-init
 loop-block-init g c = record { put = puts_nothing (given (sunk g.O.Sink c.args.out.now) c.args.buffer.now); room = refl }
 
-pub returns-in_err-print_site-clause-front : goal.returns-in_err-print_site-clause-front
-returns-in_err-print_site-clause-front g c =
+pub returns-in_err-print_site-clause-prefix : goal.returns-in_err-print_site-clause-prefix
+returns-in_err-print_site-clause-prefix g c =
     let first = given (sunk g.O.Sink c.args.out.now) c.args.buffer.now in
     let now = given (sunk g.O.Sink c.loop-block.out) c.loop-block.buffer in
     let next = given (sunk g.O.Sink c.print_site.new.out) c.print_site.new.buffer in
     let i = c.args.image.now in
     let b = c.loop-block.block in
     let lt : b < length i.app.blocks = omega (arith, c.loop-block-test.true, c.loop-block.auto.block-end, c.len-block-end.ensures) in
-    on_err _ _ (front_of_lines (line_of i c.args.version) (sites_of i) first now next b (0, None) (site_text i.app c.args.version b (site_at i b)) (omega (arith, lt, counted i)) (line_at i c.args.version b lt) c.loop-block.invariant.put c.in_err-print_site.ensures.front)
+    on_err _ _ (prefix_of_lines (line_of i c.args.version) (sites_of i) first now next b (0, None) (site_text i.app c.args.version b (site_at i b)) (omega (arith, lt, counted i)) (line_at i c.args.version b lt) c.loop-block.invariant.put c.in_err-print_site.ensures.prefix)
 
 pub loop-block-preserved : goal.loop-block-preserved
 loop-block-preserved g c =

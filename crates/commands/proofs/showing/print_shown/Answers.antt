@@ -1,8 +1,8 @@
--- all was printed, or a front of it
+-- all was printed, or a prefix of it
 use Rattle.std.proofs.Common.{ℕ, List, [], refl, subst, inl, inr}
 use Rattle.flow_text.specs.Texts.{show_text}
 use Rattle.osek_io.specs.Sunk.{sunk}
-use Rattle.command_runs.specs.Playing.{given, Puts, PutsFront}
+use Rattle.command_runs.specs.Playing.{given, Puts, PutsPrefix}
 use Rattle.command_runs.proofs.GivenTexts.{puts_flushed, flush_breaks}
 use Rattle.commands.proofs.showing.print_shown.Goals as goal
 
@@ -10,9 +10,9 @@ pub returns-in-Err-Write : goal.returns-in-Err-Write
 returns-in-Err-Write g c =
     let x = c.args.dictated.now in
     let mid = given (sunk g.O.Sink c.print_dictated.new.out) c.print_dictated.new.buffer in
-    let front : PutsFront (given (sunk g.O.Sink c.args.out.now) []) mid (show_text x.image.app x.image.sites x.edges x.values) =
-    subst (λ (held : List ℕ). PutsFront (given (sunk g.O.Sink c.args.out.now) held) mid (show_text x.image.app x.image.sites x.edges x.values)) c.in-Ok-new.ensures c.in-Err-Write.ensures.front in
-    inr (inr (refl, front.0))
+    let prefix : PutsPrefix (given (sunk g.O.Sink c.args.out.now) []) mid (show_text x.image.app x.image.sites x.edges x.values) =
+    subst (λ (held : List ℕ). PutsPrefix (given (sunk g.O.Sink c.args.out.now) held) mid (show_text x.image.app x.image.sites x.edges x.values)) c.in-Ok-new.ensures c.in-Err-Write.ensures.prefix in
+    inr (inr (refl, prefix.0))
 
 pub returns-in-Ok-flush : goal.returns-in-Ok-flush
 returns-in-Ok-flush g c =
@@ -28,4 +28,4 @@ returns g c =
     let first = sunk g.O.Sink c.args.out.now in
     let mid = given (sunk g.O.Sink c.print_dictated.new.out) c.print_dictated.new.buffer in
     let put : Puts (given first []) mid (show_text x.image.app x.image.sites x.edges x.values) = subst (λ (held : List ℕ). Puts (given first held) mid (show_text x.image.app x.image.sites x.edges x.values)) c.in-Ok-new.ensures c.in-Ok-print_dictated.ensures.ok in
-    inr (inr (refl, flush_breaks first mid (sunk g.O.Sink c.flush.new.sink) (show_text x.image.app x.image.sites x.edges x.values) put c.in-Err-Write-flush.ensures.cause c.in-Err-Write-flush.ensures.part))
+    inr (inr (refl, flush_breaks first mid (sunk g.O.Sink c.flush.new.sink) (show_text x.image.app x.image.sites x.edges x.values) put c.in-Err-Write-flush.ensures.cause c.in-Err-Write-flush.ensures.prefix))

@@ -2,50 +2,50 @@
 use Rattle.std.proofs.Common.{refl, ap, ◌∙◌}
 use Rattle.osek_standard.specs.declared.block.{Block.{Block}}
 use Rattle.flow_model.specs.Runners.{runner_point}
-use Rattle.flow_effects.specs.Reading.{AreCasesOver}
+use Rattle.flow_model.specs.Effects.{AreCasesOf}
 use Rattle.flow_effects.specs.Moves.{onward, work_cases, choice_cases}
 use Rattle.flow_effects.proofs.Listed.{ok_list}
 use Rattle.flow_effects.proofs.MoveCases.{all_work, both_ways, loop_cases, count_cases}
 use Rattle.flow_effects.proofs.TaskEndCases.{all_task_ends}
-use Rattle.flow_effects.proofs.ReturnCases.{all_returns_over}
+use Rattle.flow_effects.proofs.ReturnCases.{all_returns}
 use Rattle.flow_effects.proofs.instruction.instruction_cases.Goals as goal
 
 pub returns-in-Work : goal.returns-in-Work
 returns-in-Work c =
     let is = ap (λ (x : Block). x.kind) c.block-2.ensures ∙ c.in-Work.is in
-    ok_list (AreCasesOver c.args.app.now (runner_point c.args.runner c.args.block) c.args.values.now) _ _ c.work_cases.result c.work_cases.ensures
+    ok_list (AreCasesOf c.args.app.now (runner_point c.args.runner c.args.block)) _ _ c.work_cases.result c.work_cases.ensures
     (ap (λ (x : Block). work_cases c.args.runner c.args.block x.next c.in-Work.count) c.block.ensures)
-    (λ entry read. all_work c.args.app.now c.args.runner c.args.block entry c.requires.owns c.in-Work.count is)
+    (all_work c.args.app.now c.args.runner c.args.block c.requires.owns c.in-Work.count is)
 
 pub returns-in-Choice : goal.returns-in-Choice
 returns-in-Choice c =
     let is = ap (λ (x : Block). x.kind) c.block-2.ensures ∙ c.in-Choice.is in
-    ok_list (AreCasesOver c.args.app.now (runner_point c.args.runner c.args.block) c.args.values.now) _ _ c.choice_cases.result c.choice_cases.ensures
+    ok_list (AreCasesOf c.args.app.now (runner_point c.args.runner c.args.block)) _ _ c.choice_cases.result c.choice_cases.ensures
     (ap (λ (x : Block). choice_cases c.args.runner x.next c.in-Choice.other) c.block.ensures)
-    (λ entry read. both_ways c.args.app.now c.args.runner c.args.block entry c.requires.owns c.in-Choice.other is)
+    (both_ways c.args.app.now c.args.runner c.args.block c.requires.owns c.in-Choice.other is)
 
 pub returns-in-Loop : goal.returns-in-Loop
 returns-in-Loop c =
     let is = ap (λ (x : Block). x.kind) c.block-2.ensures ∙ c.in-Loop.is in
-    ok_list (AreCasesOver c.args.app.now (runner_point c.args.runner c.args.block) c.args.values.now) _ _ c.onward.result c.onward.ensures
+    ok_list (AreCasesOf c.args.app.now (runner_point c.args.runner c.args.block)) _ _ c.onward.result c.onward.ensures
     (ap (λ (x : Block). onward c.args.runner x.next) c.block.ensures)
-    (λ entry read. loop_cases c.args.app.now c.args.runner c.args.block entry c.requires.owns is)
+    (loop_cases c.args.app.now c.args.runner c.args.block c.requires.owns is)
 
 pub returns-in-TaskEnd : goal.returns-in-TaskEnd
 returns-in-TaskEnd c =
     let is = ap (λ (x : Block). x.kind) c.block-2.ensures ∙ c.in-TaskEnd.is in
-    ok_list (AreCasesOver c.args.app.now (runner_point c.args.runner c.args.block) c.args.values.now) _ _ c.task_end_cases.result c.task_end_cases.ensures refl
-    (λ entry read. all_task_ends c.args.app.now c.args.block entry c.args.runner c.requires.owns is)
+    ok_list (AreCasesOf c.args.app.now (runner_point c.args.runner c.args.block)) _ _ c.task_end_cases.result c.task_end_cases.ensures refl
+    (all_task_ends c.args.app.now c.args.block c.args.runner c.requires.owns is)
 
 pub returns-in-IsrEnd : goal.returns-in-IsrEnd
 returns-in-IsrEnd c =
     let is = ap (λ (x : Block). x.kind) c.block-2.ensures ∙ c.in-IsrEnd.is in
-    ok_list (AreCasesOver c.args.app.now (runner_point c.args.runner c.args.block) c.args.values.now) _ _ c.return_cases.result c.return_cases.ensures refl
-    (λ entry read. all_returns_over c.args.app.now c.args.block entry is c.args.runner c.args.values.now read c.requires.owns)
+    ok_list (AreCasesOf c.args.app.now (runner_point c.args.runner c.args.block)) _ _ c.return_cases.result c.return_cases.ensures refl
+    (all_returns c.args.app.now c.args.block is c.args.runner c.requires.owns)
 
 pub returns-in-CountUp : goal.returns-in-CountUp
 returns-in-CountUp c =
     let is = ap (λ (x : Block). x.kind) c.block-2.ensures ∙ c.in-CountUp.is in
-    ok_list (AreCasesOver c.args.app.now (runner_point c.args.runner c.args.block) c.args.values.now) _ _ c.onward-in-CountUp.result c.onward-in-CountUp.ensures
+    ok_list (AreCasesOf c.args.app.now (runner_point c.args.runner c.args.block)) _ _ c.onward-in-CountUp.result c.onward-in-CountUp.ensures
     (ap (λ (x : Block). onward c.args.runner x.next) c.block.ensures)
-    (λ entry read. count_cases c.args.app.now c.args.runner c.args.block entry c.requires.owns is)
+    (count_cases c.args.app.now c.args.runner c.args.block c.requires.owns is)

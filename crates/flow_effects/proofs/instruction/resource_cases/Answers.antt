@@ -7,20 +7,20 @@ use Rattle.osek_standard.specs.declared.call.ResourceService.{ResourceService}
 use Rattle.flow_effects.specs.Resources.{get_cases, release_cases}
 use Rattle.flow_effects.proofs.ResourceCases.{all_gets, all_releases}
 use Rattle.flow_model.specs.Runners.{runner_point}
-use Rattle.flow_effects.specs.Reading.{AreCasesOver}
+use Rattle.flow_model.specs.Effects.{AreCasesOf}
 use Rattle.flow_effects.proofs.Listed.{ok_list}
 use Rattle.flow_effects.proofs.instruction.resource_cases.Goals as goal
 
 pub returns-in-GetResource : goal.returns-in-GetResource
 returns-in-GetResource c =
     let is = c.requires.kind ∙ ap (λ (x : ResourceService). kind.Call (call.Resource x c.args.resource)) c.in-GetResource.is in
-    ok_list (AreCasesOver c.args.app.now (runner_point c.args.runner c.args.block) c.args.values.now) _ _ c.get_cases.result c.get_cases.ensures
-    (ap (λ (x : Block). get_cases c.args.app.now c.args.runner x.next c.args.resource c.args.values.now) c.block.ensures)
-    (λ entry read. all_gets c.args.app.now c.args.block entry c.args.resource c.args.runner c.args.values.now read c.requires.owns is)
+    ok_list (AreCasesOf c.args.app.now (runner_point c.args.runner c.args.block)) _ _ c.get_cases.result c.get_cases.ensures
+    (ap (λ (x : Block). get_cases c.args.app.now c.args.runner x.next c.args.resource) c.block.ensures)
+    (all_gets c.args.app.now c.args.block c.args.resource c.args.runner c.requires.owns is)
 
 pub returns-in-ReleaseResource : goal.returns-in-ReleaseResource
 returns-in-ReleaseResource c =
     let is = c.requires.kind ∙ ap (λ (x : ResourceService). kind.Call (call.Resource x c.args.resource)) c.in-ReleaseResource.is in
-    ok_list (AreCasesOver c.args.app.now (runner_point c.args.runner c.args.block) c.args.values.now) _ _ c.release_cases.result c.release_cases.ensures
-    (ap (λ (x : Block). release_cases c.args.app.now c.args.runner x.next c.args.resource c.args.values.now) c.block.ensures)
-    (λ entry read. all_releases c.args.app.now c.args.block entry c.args.resource c.args.runner c.args.values.now read c.requires.owns is)
+    ok_list (AreCasesOf c.args.app.now (runner_point c.args.runner c.args.block)) _ _ c.release_cases.result c.release_cases.ensures
+    (ap (λ (x : Block). release_cases c.args.app.now c.args.runner x.next c.args.resource) c.block.ensures)
+    (all_releases c.args.app.now c.args.block c.args.resource c.args.runner c.requires.owns is)

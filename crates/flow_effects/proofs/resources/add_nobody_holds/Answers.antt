@@ -2,7 +2,7 @@ use Rattle.std.proofs.Common.{ℕ, ◌∙◌, ap, [], ◌∷◌, ◌++◌}
 use Rattle.osek_values.specs.Numbers.{task_no, mask}
 use Rattle.flow_model.specs.declared.test.Condition.{Condition}
 use Rattle.flow_model.specs.declared.test.Test.TheVariants as test
-use Rattle.flow_effects.specs.Lists.{of_task}
+use Rattle.flow_effects.specs.Conditions.{of_task}
 use Rattle.flow_effects.specs.Resources.{only}
 use Rattle.flow_effects.proofs.ListLaws.{grown}
 use Rattle.flow_effects.proofs.resources.add_nobody_holds.Goals as goal

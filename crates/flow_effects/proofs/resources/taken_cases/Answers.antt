@@ -7,7 +7,7 @@ use Rattle.flow_model.specs.declared.runner.Runner.TheVariants as runner
 use Rattle.flow_model.specs.declared.test.Condition.{Condition}
 use Rattle.flow_model.specs.declared.test.Test.TheVariants as test
 use Rattle.flow_model.specs.Cases.{goes_on}
-use Rattle.flow_effects.specs.Lists.{of_task}
+use Rattle.flow_effects.specs.Conditions.{of_task}
 use Rattle.flow_effects.proofs.ListLaws.{grown}
 use Rattle.flow_effects.proofs.resources.taken_cases.Goals as goal
 

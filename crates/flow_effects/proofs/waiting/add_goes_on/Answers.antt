@@ -7,19 +7,19 @@ use Rattle.flow_effects.specs.Waiting.{goes_on_by}
 use Rattle.flow_services.proofs.ListLaws.{passed_after, failed_after}
 use Rattle.flow_effects.proofs.ListLaws.{bits_by}
 use Rattle.flow_effects.proofs.waiting.add_goes_on.Goals as goal
-use Rattle.flow_effects.proofs.waiting.add_goes_on.Goals.{then-has_bit+in_ok-goes_on_by+in_ok-push, else-has_bit}
+use Rattle.flow_effects.proofs.waiting.add_goes_on.Goals.{then-has+in_ok-goes_on_by+in_ok-push, else-has}
 
 pub goes_on_by-requires-clause-own : goal.goes_on_by-requires-clause-own
 goes_on_by-requires-clause-own c =
-    bit_within c.args.mask.0 (the_task c.args.app.now c.args.task.0).own.0 c.loop-bit.bit (ap (λ (n : ℕ). has_bit n c.loop-bit.bit) (sym c.awaited-events.ensures) ∙ sym c.has_bit.ensures ∙ c.if-has_bit.true)
+    bit_within c.args.mask.0 (the_task c.args.app.now c.args.task.0).own.0 c.loop-bit.bit (ap (λ (n : ℕ). has_bit n c.loop-bit.bit) (sym c.awaited-events.ensures) ∙ sym c.has.ensures ∙ c.if-has.true)
 
 pub loop-bit-preserved : goal.loop-bit-preserved
-loop-bit-preserved c = elim c.if-has_bit.branch [
-  | then-has_bit+in_ok-goes_on_by+in_ok-push w ↦
+loop-bit-preserved c = elim c.if-has.branch [
+  | then-has+in_ok-goes_on_by+in_ok-push w ↦
       w.cases-is ∙ w.in_ok-push.ensures.ok ∙ ap (λ (x : EffectCase). c.loop-bit.cases ++ x ∷ []) w.in_ok-goes_on_by.ensures
-      ∙ passed_after c.args.cases.now c.loop-bit.cases (has_bit c.awaited-events.result.0) (goes_on_by c.args.app.now c.args.task c.args.next) c.loop-bit.bit c.loop-bit.invariant (sym c.has_bit.ensures ∙ w.if-has_bit.true)
-  | else-has_bit w ↦
-      w.cases-is ∙ failed_after c.args.cases.now c.loop-bit.cases (has_bit c.awaited-events.result.0) (goes_on_by c.args.app.now c.args.task c.args.next) c.loop-bit.bit c.loop-bit.invariant (sym c.has_bit.ensures ∙ w.if-has_bit.false)
+      ∙ passed_after c.args.cases.now c.loop-bit.cases (has_bit c.awaited-events.result.0) (goes_on_by c.args.app.now c.args.task c.args.next) c.loop-bit.bit c.loop-bit.invariant (sym c.has.ensures ∙ w.if-has.true)
+  | else-has w ↦
+      w.cases-is ∙ failed_after c.args.cases.now c.loop-bit.cases (has_bit c.awaited-events.result.0) (goes_on_by c.args.app.now c.args.task c.args.next) c.loop-bit.bit c.loop-bit.invariant (sym c.has.ensures ∙ w.if-has.false)
 ]
 
 pub returns : goal.returns

@@ -4,8 +4,7 @@ use Rattle.osek_values.specs.declared.numbers.BlockNo.{BlockNo}
 use Rattle.oil_system.specs.declared.objects.{Action.{Action}, Alarm.{Alarm}}
 use Rattle.osek_standard.specs.declared.app.App.{App}
 use Rattle.osek_standard.specs.Apps.{the_alarm}
-use Rattle.abstract_state.specs.declared.value.{PartValue.{PartValue}, PartValue.TheVariants.{OfAlarm}}
-use Rattle.abstract_state.specs.declared.table.Entry.{Entry}
+use Rattle.abstract_state.specs.declared.value.PartValue.TheVariants.{OfAlarm}
 use Rattle.abstract_state.specs.Components.{component_no}
 use Rattle.flow_model.specs.declared.test.Condition.{Condition}
 use Rattle.flow_model.specs.declared.test.Test.TheVariants as test
@@ -15,7 +14,7 @@ use Rattle.flow_model.specs.declared.runner.Runner.{Runner}
 use Rattle.flow_model.specs.Cases.{condition}
 use Rattle.flow_services.specs.declared.occasion.Occasion.{Occasion}
 use Rattle.flow_services.specs.Occasions.{case_at, unnoted_case}
-use Rattle.flow_services.specs.Services.{set_by, AreMembersOf, actions, alarm_is, looking, expiring}
+use Rattle.flow_services.specs.Services.{actions, alarm_is, looking, expiring}
 use Rattle.flow_services.proofs.alarms.expiries.Goals as goal
 
 abbrev expiring_at : Runner → BlockNo → Bool → ℕ → Occasion
@@ -24,20 +23,19 @@ expiring_at r next again n = record { runner = r; next = next; asked = asked.No;
 abbrev quiet : App → Runner → BlockNo → ℕ → Bool → EffectCase
 quiet app r next a armed = case_at (looking app r next) (unnoted_case (alarm_is app a armed ∷ []))
 
-abbrev ActionsAdded : App → List PartValue → Occasion → Action → List EffectCase → List EffectCase → Type 0
-ActionsAdded app values o x before after = (entry : Entry) → AreMembersOf (set_by x) entry values → after ≡ before ++ map (case_at o) (actions app entry x)
+abbrev ActionsAdded : App → Occasion → Action → List EffectCase → List EffectCase → Type 0
+ActionsAdded app o x before after = after ≡ before ++ map (case_at o) (actions app x)
 
-added : (app : App) (values : List PartValue) (o p : Occasion) (a : ℕ) (alarm : Alarm) (before after : List EffectCase) → the_alarm app a ≡ alarm → o ≡ p → ActionsAdded app values o alarm.action before after → ActionsAdded app values p (the_alarm app a).action before after
-added app values o p a alarm before after there is h =
-    subst (λ (x : Alarm). ActionsAdded app values p x.action before after) (sym there) (subst (λ (q : Occasion). ActionsAdded app values q alarm.action before after) is h)
+added : (app : App) (o p : Occasion) (a : ℕ) (alarm : Alarm) (before after : List EffectCase) → the_alarm app a ≡ alarm → o ≡ p → ActionsAdded app o alarm.action before after → ActionsAdded app p (the_alarm app a).action before after
+added app o p a alarm before after there is h =
+    subst (λ (x : Alarm). ActionsAdded app p x.action before after) (sym there) (subst (λ (q : Occasion). ActionsAdded app q alarm.action before after) is h)
 
 pub returns : goal.returns
-returns c entry has =
+returns c =
     let app = c.args.app.now in
     let r = c.args.runner in
     let next = c.args.next in
     let a = c.args.alarm.0 in
-    let values = c.args.values.now in
     let number = c.alarm_component-component.ensures in
     let first : c.in_ok-unnoted.field-0 ≡ quiet app r next a false =
     c.in_ok-unnoted.ensures
@@ -51,9 +49,9 @@ returns c entry has =
     ∙ ap (λ (x : EffectCase). quiet app r next a false ∷ x ∷ []) second in
     let once : c.expiring.result ≡ expiring app r next a false = c.expiring.ensures ∙ ap (expiring_at r next false) number in
     let again : c.expiring-2.result ≡ expiring app r next a true = c.expiring-2.ensures ∙ ap (expiring_at r next true) number in
-    let ones = map (case_at (expiring app r next a false)) (actions app entry (the_alarm app a).action) in
-    let others = map (case_at (expiring app r next a true)) (actions app entry (the_alarm app a).action) in
-    added app values c.expiring-2.result (expiring app r next a true) a c.alarm.result.now c.add_actions.new.cases c.add_actions-2.new.cases c.alarm.ensures again c.in_ok-add_actions-2.ensures entry has
+    let ones = map (case_at (expiring app r next a false)) (actions app (the_alarm app a).action) in
+    let others = map (case_at (expiring app r next a true)) (actions app (the_alarm app a).action) in
+    added app c.expiring-2.result (expiring app r next a true) a c.alarm.result.now c.add_actions.new.cases c.add_actions-2.new.cases c.alarm.ensures again c.in_ok-add_actions-2.ensures
     ∙ ap (λ (xs : List EffectCase). xs ++ others)
-    (added app values c.expiring.result (expiring app r next a false) a c.alarm.result.now c.push.new.self c.add_actions.new.cases c.alarm.ensures once c.in_ok-add_actions.ensures entry has
+    (added app c.expiring.result (expiring app r next a false) a c.alarm.result.now c.push.new.self c.add_actions.new.cases c.alarm.ensures once c.in_ok-add_actions.ensures
     ∙ ap (λ (xs : List EffectCase). xs ++ ones) both)

@@ -26,7 +26,6 @@ returns c =
     let app = c.args.app.now in
     let o = c.args.occasion in
     let t = c.args.task.0 in
-    let values = c.args.values.now in
     let events = c.and-events.result.0 in
     let extended : is_extended app t ≡ true = ap (λ (x : Task). not (x.own.0 == 0)) c.task.ensures ∙ ap not (sym c.is_empty.ensures ∙ c.if-is_empty.false) in
     let gone : ServiceCase = refused_case (condition t test.Suspended ∷ []) status.State in
@@ -40,6 +39,6 @@ returns c =
     (λ (rest : c.add_wakings.new.cases ≡ c.push-3.new.self ++ map (λ (b : BlockNo). case_at o (waking app t events b)) c.in_ok-blocks.blocks).
     two_and_mapped (case_at o) (waking app t events) c.args.cases.now c.push-2.new.self c.push-3.new.self c.add_wakings.new.cases gone (not_awaiting app t events c.in_ok-blocks.blocks) c.in_ok-blocks.blocks first second rest
     ∙ ap (λ (bs : List BlockNo). c.args.cases.now ++ map (case_at o) (settings app t events bs)) c.in_ok-blocks.ensures.all
-    ∙ ap (λ (n : ℕ). c.args.cases.now ++ map (case_at o) (settings app t n (awaiting_blocks app n values))) (named (the_task app t) c.task.result.now c.args.mask.0 c.and-events.result c.task.ensures c.and-events.ensures)
-    ∙ ap (λ (b : Bool). c.args.cases.now ++ map (case_at o) (if b then settings app t (bit_and c.args.mask.0 (the_task app t).own.0) (awaiting_blocks app (bit_and c.args.mask.0 (the_task app t).own.0) values) else always (refused_case [] status.Access))) (sym extended))
+    ∙ ap (λ (n : ℕ). c.args.cases.now ++ map (case_at o) (settings app t n (awaiting_blocks app n t))) (named (the_task app t) c.task.result.now c.args.mask.0 c.and-events.result c.task.ensures c.and-events.ensures)
+    ∙ ap (λ (b : Bool). c.args.cases.now ++ map (case_at o) (if b then settings app t (bit_and c.args.mask.0 (the_task app t).own.0) (awaiting_blocks app (bit_and c.args.mask.0 (the_task app t).own.0) t) else always (refused_case [] status.Access))) (sym extended))
     c.add_wakings.ensures

@@ -7,17 +7,17 @@ use Rattle.flow_model.specs.Runners.{change}
 use Rattle.flow_model.specs.Changes.{event_change}
 use Rattle.flow_services.proofs.ListLaws.{passed_after, failed_after}
 use Rattle.flow_services.proofs.tasks.add_event_changes.Goals as goal
-use Rattle.flow_services.proofs.tasks.add_event_changes.Goals.{then-has_bit+in_ok-push, else-has_bit}
+use Rattle.flow_services.proofs.tasks.add_event_changes.Goals.{then-has+in_ok-push, else-has}
 
 pub loop-bit-preserved : goal.loop-bit-preserved
 loop-bit-preserved c =
     let f = event_change c.args.app.now c.args.task.0 c.args.set in
-    elim c.if-has_bit.branch [
-      | then-has_bit+in_ok-push w ↦
+    elim c.if-has.branch [
+      | then-has+in_ok-push w ↦
           w.changes-is ∙ w.in_ok-push.ensures.ok
           ∙ ap (λ (n : ℕ). c.loop-bit.changes ++ change n (update.Set (OfEvent c.args.set)) ∷ []) w.component_number.ensures
-          ∙ passed_after c.args.changes.now c.loop-bit.changes (has_bit c.args.events.0) f c.loop-bit.bit c.loop-bit.invariant (sym c.has_bit.ensures ∙ w.if-has_bit.true)
-      | else-has_bit w ↦ w.changes-is ∙ failed_after c.args.changes.now c.loop-bit.changes (has_bit c.args.events.0) f c.loop-bit.bit c.loop-bit.invariant (sym c.has_bit.ensures ∙ w.if-has_bit.false)
+          ∙ passed_after c.args.changes.now c.loop-bit.changes (has_bit c.args.events.0) f c.loop-bit.bit c.loop-bit.invariant (sym c.has.ensures ∙ w.if-has.true)
+      | else-has w ↦ w.changes-is ∙ failed_after c.args.changes.now c.loop-bit.changes (has_bit c.args.events.0) f c.loop-bit.bit c.loop-bit.invariant (sym c.has.ensures ∙ w.if-has.false)
     ]
 
 pub returns : goal.returns

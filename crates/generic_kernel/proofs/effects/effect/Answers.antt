@@ -17,5 +17,5 @@ returns-clause-ready c =
     let app = c.args.app.now in
     let s = c.args.state.now in
     let changes : ChangesOwn app s c.perform-done.new.state = subst (ChangesOwn app s) (ap (λ (e : Effect). e.state) c.perform-done.ensures.row) (effect_changes_own app s c.args.choice) in
-    c.take_in.ensures s c.requires.ready (λ u n m. changes u
+    c.take_in.ensures.ready s c.requires.ready (λ u n m. changes u
     (ap (λ (o : Option TaskNo). is_that_task o u) (sym c.current-own.ensures) ∙ n) (ap (λ (o : Option TaskNo). is_that_task o u) (sym c.named_here-named.ensures.named) ∙ m))

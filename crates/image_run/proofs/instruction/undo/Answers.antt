@@ -51,6 +51,6 @@ returns-clause-ready c =
     let h = c.requires.before in
     let same : h.was ≡ c.put_back.new.state = sym (back i r b h) ∙ c.put_back.ensures in
     let changes : ChangesOnly (task_in b.own) (task_in b.named) r c.put_back.new.state = subst (ChangesOnly (task_in b.own) (task_in b.named) r) same (others i r b h) in
-    c.take_in.ensures r c.requires.ready (λ u n m. changes u
+    c.take_in.ensures.ready r c.requires.ready (λ u n m. changes u
     (ap (λ (o : Option TaskNo). is_that_task o u) (sym c.task_of-own.ensures) ∙ n)
     (ap (λ (o : Option TaskNo). is_that_task o u) (sym c.task_of-named.ensures) ∙ m))

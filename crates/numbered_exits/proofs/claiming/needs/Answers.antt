@@ -17,7 +17,7 @@ loop-task-preserved c =
     let known : k < length app.tasks = omega (arith, c.loop-task-test.true, c.len-task-end.ensures) in
     let own = c.of.result.now in
     one_need_more app pool entry k c.loop-task.needs c.push.new.self c.need.result c.in_ok-push.ensures.ok
-    (c.need.ensures app (values_at pool k) (own_levels app pool levels k known c.requires.levels own c.of.ensures) (all_judged app pool levels k known c.requires.levels own c.of.ensures entry c.requires.numbers))
+    (c.need.ensures.least app (values_at pool k) (own_levels app pool levels k known c.requires.levels own c.of.ensures) (all_judged app pool levels k known c.requires.levels own c.of.ensures entry c.requires.numbers))
     c.loop-task.invariant
 
 pub returns : goal.returns

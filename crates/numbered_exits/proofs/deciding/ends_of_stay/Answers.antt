@@ -1,6 +1,6 @@
 use Rattle.std.proofs.Common.{◌<◌, length, subst, arith}
 use Rattle.abstract_state.proofs.ComponentLaws.{task_counted}
-use Rattle.numbered_exits.specs.Deciding.{IsKnownStay}
+use Rattle.flow_model.specs.Effects.{IsKnownStay}
 use Rattle.numbered_exits.proofs.deciding.ends_of_stay.Goals as goal
 
 pub at_blocks-requires-clause-known : goal.at_blocks-requires-clause-known

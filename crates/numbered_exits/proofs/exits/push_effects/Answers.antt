@@ -19,6 +19,12 @@ push_effect-requires-clause-kept c =
     subst (KeepsDomains (effect_rule x)) (sym (same_view pool c.loop-place.pool entry inv.added.longer c.requires.numbers))
     (effect_keeps_domains c.args.app.now c.args.point (plain_entry pool entry) c.args.effects x (same_domains pool 0 entry.sets ∙ c.requires.domains) (c.loop-place.place, omega (arith, c.loop-place-test.true, c.len-place-end.ensures), there) c.requires.exact)
 
+pub push_effect-requires-clause-stays : goal.push_effect-requires-clause-stays
+push_effect-requires-clause-stays c =
+    let x = c.take_effect-effect.result in
+    let there : get_or c.args.effects c.loop-place.place x ≡ x = sym (c.loop-place.invariant.rest c.loop-place.place x (omega arith)) ∙ c.take_effect-effect.ensures.item x in
+    c.requires.stays x (c.loop-place.place, omega (arith, c.loop-place-test.true, c.len-place-end.ensures), there)
+
 pub loop-place-preserved : goal.loop-place-preserved
 loop-place-preserved c =
     let app = c.args.app.now in

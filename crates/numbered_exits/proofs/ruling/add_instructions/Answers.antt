@@ -6,7 +6,7 @@ use Rattle.abstract_state.specs.declared.table.Entry.{Entry}
 use Rattle.abstract_state.specs.Concrete.{AreAllowed}
 use Rattle.abstract_state.specs.Domains.{IsSound, domains, domains_of}
 use Rattle.flow_model.specs.declared.case.EffectCase.{EffectCase}
-use Rattle.flow_model.specs.Effects.{AreIn, AreAllAllowed, CoverEffects, AreExactEffects}
+use Rattle.flow_model.specs.Effects.{AreAllAllowed}
 use Rattle.flow_rules.specs.Assembly.{AreAllAdded}
 use Rattle.flow_rules.proofs.PointRules.{none_added, added_on}
 use Rattle.flow_exits.specs.Leaving.{effect_rule}
@@ -19,7 +19,7 @@ use Rattle.numbered_rules.specs.Applying.{KeepsDomains}
 use Rattle.numbered_exits.specs.Allowed.{IsAllowedPart}
 use Rattle.numbered_exits.proofs.EffectDomains.{effect_keeps_domains}
 use Rattle.numbered_exits.proofs.LeavingPoints.{numbers_counted, pool_counted, pool_has_tasks}
-use Rattle.numbered_exits.proofs.RuledExits.{rules_added, instructions_added}
+use Rattle.numbered_exits.proofs.RuledExits.{rules_added}
 use Rattle.numbered_exits.proofs.RuledPoints.{all_allowed, allowed_there, from_domains, from_sound}
 use Rattle.numbered_exits.proofs.ruling.add_instructions.Goals as goal
 
@@ -55,10 +55,6 @@ new-requires c =
     c.in_ok-numbers.ensures.numbers.domains ∙ c.in_ok-numbers.ensures.pool.domains ∙ ap pool_domains c.in_ok-grown.ensures ∙ sym c.requires.numbers.domains ∙ c.requires.domains in
     pool_has_tasks c.args.app.now c.numbered.new.pool c.in_ok-numbers.numbers alike c.in_ok-numbers.ensures.numbers.domains
 
-pub effects_at-requires-clause-domains : goal.effects_at-requires-clause-domains
-effects_at-requires-clause-domains c =
-    c.in_ok-numbers.ensures.numbers.domains ∙ c.in_ok-numbers.ensures.pool.domains ∙ ap pool_domains c.in_ok-grown.ensures ∙ sym c.requires.numbers.domains ∙ c.requires.domains
-
 pub add_effect-requires-clause-plain : goal.add_effect-requires-clause-plain
 add_effect-requires-clause-plain c =
     same_view c.numbered.new.pool c.loop-effect.grown c.in_ok-numbers.numbers c.loop-effect.invariant.longer c.in_ok-numbers.ensures.numbers ∙ c.in_ok-numbers.ensures.plain
@@ -90,7 +86,7 @@ add_effect-requires-clause-kept c =
     let among : Contains c.as_slice-effect-items.result.now x = (c.loop-effect.effect-index, c.loop-effect-test.true, sym c.effect-item.is) in
     let listed : Contains c.in_ok-effects.effects x = subst (λ (xs : List EffectCase). Contains xs x) c.as_slice-effect-items.ensures among in
     subst (KeepsDomains (effect_rule x)) (sym (same_view grown c.loop-effect.grown numbers c.loop-effect.invariant.longer c.in_ok-numbers.ensures.numbers))
-    (effect_keeps_domains app p (plain_entry grown numbers) c.in_ok-effects.effects x (same_domains grown 0 numbers.sets ∙ alike) listed (c.in_ok-effects.ensures.exact allowed))
+    (effect_keeps_domains app p (plain_entry grown numbers) c.in_ok-effects.effects x (same_domains grown 0 numbers.sets ∙ alike) listed (c.in_ok-effects.ensures.exact (plain_entry grown numbers) (same_domains grown 0 numbers.sets ∙ alike) allowed))
 
 pub loop-effect-init : goal.loop-effect-init
 loop-effect-init c = record {
@@ -116,23 +112,22 @@ loop-effect-preserved c =
       levels = c.in_ok-add_effect.ensures.levels;
     }
 
+pub add_effect-requires-clause-stays : goal.add_effect-requires-clause-stays
+add_effect-requires-clause-stays c =
+    let x = c.effect-item.result in
+    c.in_ok-effects.ensures.stays x (subst (λ (xs : List EffectCase). Contains xs x) c.as_slice-effect-items.ensures (c.loop-effect.effect-index, c.loop-effect-test.true, sym c.effect-item.is))
+
 pub returns : goal.returns
 returns c =
     let app = c.args.app.now in
-    let p = c.args.point in
-    let pool = c.args.pool.now in
-    let entry = c.args.entry.now in
-    let from = c.in_ok-from.from in
-    let before = c.args.rules.now in
+    let plain = plain_entry c.args.pool.now c.args.entry.now in
     let items = c.as_slice-effect-items.result.now in
-    let effects = c.in_ok-effects.effects in
-    let grown = c.numbered.new.pool in
-    let part : IsAllowedPart app p (plain_entry pool entry) from = subst (λ (e : Entry). IsAllowedPart app p e from) c.in_ok-plain.ensures c.in_ok-from.ensures in
-    let plain_is = c.in_ok-numbers.ensures.plain in
-    let allowed : AreAllAllowed app p (plain_entry grown c.in_ok-numbers.numbers) = subst (AreAllAllowed app p) (sym plain_is) (all_allowed app p pool entry from c.requires.domains c.are_values.ensures c.requires.numbers part) in
+    let alike : domains plain ≡ domains_of app = same_domains c.args.pool.now 0 c.args.entry.now.sets ∙ c.requires.domains in
     let whole = take_all c.loop-effect.effect-index items c.loop-effect-test.false ∙ c.as_slice-effect-items.ensures in
-    let added : AreAllAdded app p (plain_entry pool entry) effects before c.loop-effect.rules =
-    subst (λ (xs : List EffectCase). AreAllAdded app p (plain_entry pool entry) xs before c.loop-effect.rules) whole c.loop-effect.invariant.added in
-    instructions_added app p (plain_entry pool entry) from (allowed_there app p pool entry from c.requires.domains c.are_values.ensures c.requires.numbers part) effects before c.loop-effect.rules
-    (subst (λ (e : Entry). CoverEffects app p e effects) plain_is c.in_ok-effects.ensures.covering)
-    (subst (λ (e : Entry). AreExactEffects app p e effects) plain_is (c.in_ok-effects.ensures.exact allowed)) added
+    record {
+      effects = c.in_ok-effects.effects;
+      stays = c.in_ok-effects.ensures.stays;
+      covering = c.in_ok-effects.ensures.covering plain alike;
+      exact = c.in_ok-effects.ensures.exact plain alike;
+      added = subst (λ (xs : List EffectCase). AreAllAdded app c.args.point plain xs c.args.rules.now c.loop-effect.rules) whole c.loop-effect.invariant.added;
+    }

@@ -16,7 +16,7 @@ put_in-requires-clause-cells c =
     (record { known = c.loop-mode.invariant.1; proper = c.loop-mode.invariant.2.cells_proper })
 
 pub put_in-requires-clause-proper : goal.put_in-requires-clause-proper
-put_in-requires-clause-proper c = subst (λ (e : Entry). IsProperRow c.args.app.now (row_at c.in_ok-row.row.point e)) (sym c.in_ok-entry.ensures.plain) c.in_ok-row.ensures.proper
+put_in-requires-clause-proper c = subst (λ (e : Entry). IsProperRow c.args.app.now (row_at c.in_ok-row.row.point e)) (sym c.in_ok-entry.ensures.plain) c.in_ok-row.ensures.start.proper
 
 pub loop-mode-preserved : goal.loop-mode-preserved
 loop-mode-preserved c =
@@ -32,7 +32,7 @@ loop-mode-preserved c =
       longer_onward c.args.pool.now pool new c.loop-mode.invariant.0 c.in_ok-entry.ensures.pool,
       c.in_ok-put_in.ensures.cells,
       started_more app c.loop-mode.mode (mode_no c.loop-mode.mode) (plain_cells pool cells) (plain_cells new after) row refl
-          (omega (arith, c.loop-mode-test.true, c.len-mode-end.ensures)) c.loop-mode.invariant.2 c.in_ok-row.ensures joined,
+          (omega (arith, c.loop-mode-test.true, c.len-mode-end.ensures)) c.loop-mode.invariant.2 c.in_ok-row.ensures.start joined,
     )
 
 pub returns-clause-progress : goal.returns-clause-progress

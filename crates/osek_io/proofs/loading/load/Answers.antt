@@ -10,10 +10,10 @@ use Rattle.osek_io.specs.declared.loading.{LoadError.{LoadError}, LoadError.TheV
 use Rattle.osek_io.proofs.Turns.{reads_on, taken, length-taken}
 use Rattle.osek_io.proofs.loading.load.Goals as goal
 
--- Nothing is a front of what a file holds.
-empty_front : (so_far all : List ℕ) → so_far ≡ [] → so_far ≡ take (length so_far) all
-empty_front [] all e = refl
-empty_front (x ∷ xs) all e = absurd (cc)
+-- Nothing is a prefix of what a file holds.
+empty_prefix : (so_far all : List ℕ) → so_far ≡ [] → so_far ≡ take (length so_far) all
+empty_prefix [] all e = refl
+empty_prefix (x ∷ xs) all e = absurd (cc)
 
 -- A fault of the last turn is one of the whole, and so is a file that is missing.
 fault_or_missing : (before now : Option Files) (name : List ℕ) (at : ℕ) (a b c : ReadFaults) → now ≡ before → Same a b → Rose (b name at) (c name at) ⊎ IsMissing now name → RoseSomewhere (a name) (c name) ⊎ IsMissing before name
@@ -73,7 +73,7 @@ still_same a b c h k n at = k n at ∙ h n at
 pub loop-count-init : goal.loop-count-init
 loop-count-init g c = record {
   within = omega (arith, ap length c.new-bytes.ensures.items);
-  front = λ all h. empty_front c.new-bytes.result.items all c.new-bytes.ensures.items;
+  prefix = λ all h. empty_prefix c.new-bytes.result.items all c.new-bytes.ensures.items;
   files = refl;
   reads = λ n at. refl;
   asked = omega arith;
@@ -161,7 +161,7 @@ loop-count-preserved g c =
     taken now before c.read.new.into (drop c.bytes_to_ask-want.result c.loop-count.piece) c.in-Ok.count c.in-Ok.ensures.bound c.in_ok-extend_from_slice.ensures.items in
     record {
       within = omega (arith, length-taken now before c.read.new.into c.in-Ok.count items);
-      front = λ all h. reads_on before c.read.new.into all now c.len-taken.result c.in-Ok.count (was.front all h) (c.len-taken.ensures ∙ c.loop-count.bytes.ok.0)
+      prefix = λ all h. reads_on before c.read.new.into all now c.len-taken.result c.in-Ok.count (was.prefix all h) (c.len-taken.ensures ∙ c.loop-count.bytes.ok.0)
           (c.in-Ok.ensures.piece all (subst (λ (o : Option Files). Holds o c.args.name.now all) (sym was.files) h)) items;
       files = c.read.ensures.same_files ∙ was.files;
       reads = still_same _ _ _ was.reads c.in-Ok.ensures.no_fault;

@@ -20,8 +20,8 @@ pub returns-in_default-clause-cause : goal.returns-in_default-clause-cause
 returns-in_default-clause-cause g c =
     rises_there _ _ c.args.name.now _ _ _ _ c.loop-added.invariant.files c.loop-added.invariant.no_fault c.in_default.ensures.cause
 
-pub returns-in_default-clause-part : goal.returns-in_default-clause-part
-returns-in_default-clause-part g c = inr (c.loop-added.added, omega arith, c.in_default.ensures.err ∙ c.loop-added.invariant.files)
+pub returns-in_default-clause-prefix : goal.returns-in_default-clause-prefix
+returns-in_default-clause-prefix g c = inr (c.loop-added.added, omega arith, c.in_default.ensures.err ∙ c.loop-added.invariant.files)
 
 pub returns-in_default-clause-same_others : goal.returns-in_default-clause-same_others
 returns-in_default-clause-same_others g c = stored-others _ _ c.args.name.now _ (c.in_default.ensures.err ∙ c.loop-added.invariant.files)

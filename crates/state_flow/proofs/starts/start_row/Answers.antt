@@ -1,8 +1,12 @@
 use Rattle.std.proofs.Common.{ap}
 use Rattle.osek_standard.specs.Dispatch.{Stepped}
-use Rattle.state_flow.proofs.StartEntry.{start_row_told}
+use Rattle.state_flow.proofs.StartEntry.{start_row_told, start_row_same}
 use Rattle.state_flow.proofs.starts.start_row.Goals as goal
 
-pub returns : goal.returns
-returns c =
+pub returns-clause-start : goal.returns-clause-start
+returns-clause-start c =
     start_row_told c.args.app.now c.args.mode c.requires c.in_ok-state.state c.row_of.result (ap (λ (x : Stepped). x.state) c.in_ok-state.ensures.start) c.row_of.ensures.row c.row_of.ensures.proper
+
+pub returns-clause-row : goal.returns-clause-row
+returns-clause-row c =
+    start_row_same c.args.app.now c.args.mode c.requires c.in_ok-state.state c.row_of.result (ap (λ (x : Stepped). x.state) c.in_ok-state.ensures.start) c.row_of.ensures.row

@@ -1,7 +1,7 @@
 use Rattle.std.proofs.Common.{◌≡◌, ℕ, ◌+◌, min, sym, ap, subst, ◌∙◌}
 use Rattle.numbered_sets.specs.Numbers.{meets}
 use Rattle.numbered_sets.specs.NumberedEntries.{numbers_at}
-use Rattle.numbered_levels.proofs.NarrowingLaws.{IsNeedUpTo, no_need, need_with, need_without, least_of_all, enough_of_all}
+use Rattle.numbered_levels.proofs.NarrowingLaws.{IsNeedUpTo, no_need, need_with, need_without, least_of_all, enough_of_all, need_of_none}
 use Rattle.numbered_levels.proofs.task_levels.TaskLevels.need_of_live.Goals.{then-meets, else-meets}
 use Rattle.numbered_levels.proofs.task_levels.TaskLevels.need_of_live.Goals as goal
 
@@ -33,3 +33,6 @@ pub returns-clause-enough : goal.returns-clause-enough
 returns-clause-enough c =
     enough_of_all c.args.self.now.levels c.as_slice-level-items.result.now (numbers_at c.args.entry.now c.args.task.0) c.loop-level.level-index c.loop-level.need
     c.loop-level.invariant c.loop-level-test.false c.as_slice-level-items.ensures
+
+pub returns-clause-none : goal.returns-clause-none
+returns-clause-none c = need_of_none c.as_slice-level-items.result.now (numbers_at c.args.entry.now c.args.task.0) c.loop-level.level-index c.loop-level.need c.loop-level.invariant

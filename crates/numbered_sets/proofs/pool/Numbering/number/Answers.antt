@@ -1,40 +1,30 @@
-use Rattle.std.proofs.Common.{List, sym, ap, subst, ◌∙◌, arith}
-use Rattle.abstract_state.specs.declared.value.{Domain.{Domain}, PartValue.{PartValue}}
-use Rattle.abstract_state.specs.Domains.{IsWithin, domain_size}
-use Rattle.numbered_sets.specs.Pools.{Values, AreNumbered, IsNumberOf, with_value}
-use Rattle.numbered_sets.specs.Filters.{seen_values, AreFilters}
-use Rattle.numbered_sets.proofs.PoolLaws.{values_with_seen, numbered_with, few_values, number_of_seen}
-use Rattle.numbered_sets.proofs.SiftLaws.{filters_with}
+use Rattle.std.proofs.Common.{◌≡◌, true, ℕ, List, sym, ap, subst, ◌∙◌, arith}
+use Rattle.abstract_state.specs.declared.value.PartValue.{PartValue}
+use Rattle.abstract_state.specs.ValueOrder.{same_part}
+use Rattle.abstract_state.specs.Domains.{domain_size}
+use Rattle.abstract_state.proofs.OrderLaws.{part_right}
+use Rattle.numbered_sets.specs.Filters.{seen_values}
+use Rattle.numbered_sets.specs.Pools.{Values, IsNumberOf}
+use Rattle.numbered_sets.proofs.PoolLaws.{seen_already, few_values}
 use Rattle.numbered_sets.proofs.pool.Numbering.number.Goals as goal
 
-numbered : (c : goal.In_ok-number) → AreNumbered c.self.inside.domain (seen_values c.insert_full.new.self.keys)
-numbered c =
-    let within : IsWithin c.self.inside.domain c.args.value = subst (λ (x : Values). IsWithin x.domain c.args.value) (sym c.self.view_is) c.requires in
-    let values = ap seen_values c.in_ok-number.ensures.keys ∙ values_with_seen c.self.inside.seen.keys (record { value = c.args.value }) in
-    subst (AreNumbered c.self.inside.domain) (sym values) (numbered_with c.self.inside.domain (seen_values c.self.inside.seen.keys) c.args.value c.self.invariant.0 within)
+-- a value that is the same has the number too
+same_number : (vs : List PartValue) (v w : PartValue) (n : ℕ) → IsNumberOf vs v n → same_part v w ≡ true → IsNumberOf vs w n
+same_number vs v w n number same = subst (λ (u : PartValue). IsNumberOf vs u n) (part_right v w same) number
 
-number : (c : goal.In_ok-number) → IsNumberOf (seen_values c.insert_full.new.self.keys) c.args.value c.in_ok-number.number
-number c = number_of_seen c.insert_full.new.self.keys c.args.value c.in_ok-number.number c.in_ok-number.ensures.within c.in_ok-number.ensures.stored
+pub returns-then-is-clause-values : goal.returns-then-is-clause-values
+returns-then-is-clause-values c =
+    let now = c.args.self.now in
+    c.self.view_is ∙ sym (seen_already now c.args.value c.self.inside.next (same_number now.values c.value.result.now c.args.value c.self.inside.next c.value.ensures (sym c.is.ensures ∙ c.if-is.true)))
 
-pub invariant_of-self-2 : goal.invariant_of-self-2
-invariant_of-self-2 c =
-    let values = ap seen_values c.in_ok-number.ensures.keys ∙ values_with_seen c.self.inside.seen.keys (record { value = c.args.value }) in
-    (numbered c, subst (λ (vs : List PartValue). AreFilters vs c.self.inside.filters) (sym values) (filters_with (seen_values c.self.inside.seen.keys) c.args.value c.self.inside.filters c.self.invariant.1))
+pub returns-then-is-clause-number : goal.returns-then-is-clause-number
+returns-then-is-clause-number c =
+    subst (λ (x : Values). IsNumberOf x.values c.args.value c.self.inside.next) (sym c.self.view_is)
+    (same_number c.args.self.now.values c.value.result.now c.args.value c.self.inside.next c.value.ensures (sym c.is.ensures ∙ c.if-is.true))
 
-pub returns-clause-values : goal.returns-clause-values
-returns-clause-values c =
-    let values = ap seen_values c.in_ok-number.ensures.keys ∙ values_with_seen c.self.inside.seen.keys (record { value = c.args.value }) in
-    ap (λ (vs : List PartValue). make c.self.inside.domain vs) values
-    ∙ ap (λ (x : Values). make x.domain (with_value x.values c.args.value)) c.self.view_is
-  where
-    make : Domain → List PartValue → Values
-    make d vs = record { domain = d; values = vs }
-
-pub returns-clause-number : goal.returns-clause-number
-returns-clause-number c = number c
-
-pub returns-clause-below : goal.returns-clause-below
-returns-clause-below c =
-    let few = few_values c.self.inside.domain (seen_values c.insert_full.new.self.keys) (numbered c) in
+pub returns-then-is-clause-below : goal.returns-then-is-clause-below
+returns-then-is-clause-below c =
+    let few = few_values c.self.inside.domain (seen_values c.self.inside.seen.keys) c.self.invariant.0 in
     let size = ap (λ (x : Values). domain_size x.domain) c.self.view_is in
-    omega (arith, few, size, (number c).known)
+    let known = (subst (λ (x : Values). IsNumberOf x.values c.value.result.now c.self.inside.next) (sym c.self.view_is) c.value.ensures).known in
+    omega (arith, few, size, known)

@@ -1,0 +1,19 @@
+use Rattle.std.proofs.Common.{◌≡◌, ◌<◌, ◌∙◌, ◌∷◌, [], ℕ, length, ap, sym, arith}
+use Rattle.std.proofs.lemmas.Bool.{OnFalse_from}
+use Rattle.abstract_state.specs.Tables.{is_member}
+use Rattle.numbered_sets.specs.NumberedEntries.{numbers_at}
+use Rattle.numbered_sets.specs.Pools.{values_at}
+use Rattle.numbered_sets.specs.Views.{plain_set}
+use Rattle.numbered_rules.specs.Sifting.{LeavesNone}
+use Rattle.numbered_rules.proofs.SiftedSets.{wants_missing}
+use Rattle.numbered_rules.proofs.sifting.has_wanted.Goals as goal
+
+pub returns-in-Is : goal.returns-in-Is
+returns-in-Is c =
+    let pool = c.args.pool.now in
+    let entry = c.args.entry.now in
+    let x = c.args.condition.now in
+    let known : x.component.0 < length entry.sets = omega (arith, c.if-component-len.false, c.len.ensures, c.index-component.ensures) in
+    OnFalse_from c.has_value.result (LeavesNone pool (x ∷ []) entry) (λ e.
+    wants_missing pool x c.in-Is.value entry c.in-Is.is known
+    (ap (λ (k : ℕ). is_member (plain_set (values_at pool k) (numbers_at entry k)) c.in-Is.value) (sym c.index-component.ensures) ∙ sym c.has_value.ensures ∙ e))

@@ -1,0 +1,188 @@
+"""What a rule leaves open and the texts tell, for explain.py: which name, which token, which value. Nothing is told where the texts can't
+be read, and no more than one can see in them: osekfit alone says which rule is violated."""
+import difflib
+import re
+
+import application
+import lint_oil
+import locks
+import oil
+import task_code
+from given import Wrong, contents
+from task_code import Owner
+from tokens import HINT, is_name, number_of
+
+SIGN = re.compile(r'[^\w\s{}()\[\]=;:+\-,|?."/*]|[^\x00-\x7f]')
+"""What begins no token, outside of texts and comments."""
+
+KINDS = {'t': 'task', 'r': 'resource', 'm': 'event', 'a': 'alarm'}
+"""What an argument of a call names, by the letter of its shape."""
+
+
+class Texts:
+    """The texts of a command as far as they are needed: the one that is refused, and those that the command names."""
+
+    def __init__(self, name, place, words):
+        self.name, self.place, self.words = name, place, words
+        self.is_code = words[2:3] == [name]
+
+    def objects(self):
+        return oil.objects_of(contents(self.words[1] if self.is_code else self.name), self.name)
+
+    def system(self):
+        return oil.system_of(contents(self.words[1]), self.words[1])
+
+    def blocks(self):
+        return task_code.blocks_of(contents(self.words[2]), self.words[2])
+
+    def on_the_line(self):
+        """The objects' attributes of the line, also those between braces, each with its object."""
+        for found in self.objects():
+            for attribute in found.attributes + [part for a in found.attributes for part in a.attributes]:
+                if attribute.line == self.place:
+                    yield found, attribute
+
+
+def told(rule, texts, guide):
+    """What the texts tell of a refusal, as lines."""
+    tell = TELLERS.get(rule if rule in TELLERS else rule[0])
+    try:
+        return list(tell(texts, guide)) if tell else []
+    except (Wrong, OSError, IndexError, ValueError):
+        return []
+
+
+def signs(texts, _):
+    """The first sign of the line that begins no token."""
+    line = contents(texts.name).splitlines()[texts.place - 1]
+    match = SIGN.search(re.sub(r'"[^"]*"|/\*.*?\*/|//.*', '', line))
+    if match:
+        yield 'here: ' + ('a byte order mark' if match.group() == '\ufeff' else match.group())
+
+
+def wanted(texts, _):
+    """What the readers of these tools want on the line of a fault of the grammar."""
+    try:
+        blocks = texts.blocks() if texts.is_code else texts.objects() and []
+    except Wrong as wrong:
+        place, _, text = str(wrong)[len(texts.name) + 1:].partition(': ')
+        return ['here: ' + text.replace(HINT, '')] if place == str(texts.place) else []
+    faults = [application.misshapen(block) for block in blocks if block.line == texts.place]
+    return ['here: ' + fault for fault in faults if fault][:1]
+
+
+def missing(texts, _):
+    return ('missing: ' + text for text in lint_oil.missing(texts.objects(), texts.place))
+
+
+def undeclared(texts, _):
+    objects = texts.objects()
+    for text in lint_oil.undeclared(objects, texts.place):
+        kind, name = text.split(' ')[:2]
+        yield 'not declared: ' + text + nearest(name, [o.name for o in objects if o.kind == kind])
+
+
+def nearest(name, known):
+    """The known name that is most like this one, as words to add."""
+    close = difflib.get_close_matches(name, sorted(known), 1)
+    return '; %s is' % close[0] if close else ''
+
+
+def unfit_values(texts, guide):
+    """Attributes of the line whose value is none of those that the guide's table has."""
+    table = {(row[0], name): row[2] for row in rows_of(guide, 4) for name in row[1].split(', ')}
+    for found, attribute in texts.on_the_line():
+        values = table.get((found.kind, attribute.name))
+        if values and not allows(values, attribute.value):
+            yield 'here: %s of %s %s takes %s, not %s' % (attribute.name, found.kind, found.name, re.split(r'; | \(', values)[0], attribute.value)
+
+
+def rows_of(guide, width):
+    """The rows of the guide's tables that have so many cells."""
+    for line in guide.splitlines():
+        cells = [cell.strip() for cell in line.strip().strip('|').split('|')]
+        if line.startswith('|') and len(cells) == width:
+            yield cells
+
+
+def allows(values, value):
+    """Whether what the guide says of an attribute's values allows this one."""
+    number = number_of(value)
+    if number is None:
+        return value in re.findall(r'\b[A-Z]{3,}\b', values) or (values.startswith('a name') and is_name(value))
+    span = re.match(r'([\d,]+) to (2\^32-1|[\d,]+)', values)
+    if span:
+        least, most = (2 ** 32 - 1 if '^' in text else int(text.replace(',', '')) for text in span.groups())
+        return least <= number <= most
+    return values[0].isdigit() or 'a number' in values
+
+
+def second_ones(texts, _):
+    """Where the object stands that has the name of one on this line."""
+    seen = {}
+    for found in texts.objects():
+        if found.line == texts.place and (found.kind, found.name) in seen:
+            yield 'first: %s %s on line %d' % (found.kind, found.name, seen[found.kind, found.name])
+        seen.setdefault((found.kind, found.name), found.line)
+
+
+def shared_priorities(texts, _):
+    seen = {}
+    for found in texts.objects():
+        priority = number_of(oil.value(found.attributes, 'PRIORITY', '')) if found.kind == 'TASK' else None
+        if priority is not None:
+            if oil.first(found.attributes, 'PRIORITY').line == texts.place and priority in seen:
+                yield 'first: TASK %s has %d too' % (seen[priority], priority)
+            seen.setdefault(priority, found.name)
+
+
+def counters(texts, _):
+    """The values of the counters that the line is about."""
+    objects = {(o.kind, o.name): o for o in texts.objects()}
+    for found in {o.name: o for o, _ in texts.on_the_line()}.values():
+        counter = objects.get(('COUNTER', oil.value(found.attributes, 'COUNTER'))) if found.kind == 'ALARM' else found
+        if counter and counter.kind == 'COUNTER':
+            values = [oil.value(counter.attributes, *word) for word in (('MINCYCLE', '1'), ('MAXALLOWEDVALUE', 'none'))]
+            yield 'here: COUNTER %s has MINCYCLE %s and MAXALLOWEDVALUE %s' % (counter.name, *values)
+
+
+def bodies(texts, _):
+    """The tasks and routines that the task code has no body for, and bodies that nothing is declared for."""
+    system, there = texts.system(), {block.owner for block in texts.blocks()}
+    declared = [Owner('TASK', name) for name in system.tasks] + [Owner('ISR', name) for name in system.isrs]
+    of_category_1 = [Owner('ISR', isr.name) for isr in system.isrs.values() if isr.category == 1]
+    lacking = [owner for owner in declared if owner not in there and owner not in of_category_1]
+    yield from ('without code: %s %s' % owner for owner in lacking)
+    yield from ('of category 1, which has no code: ISR ' + owner.name for owner in of_category_1 if owner in there)
+    for owner in sorted(there.difference(declared)):
+        others = {other.name: '%s %s' % other for other in lacking}
+        close = difflib.get_close_matches(owner.name, others, 1)
+        yield 'not declared: %s %s%s' % (*owner, '; %s is' % others[close[0]] if close else '')
+
+
+def names_in_calls(texts, _):
+    """What calls of the line name and the OIL text doesn't declare."""
+    system = texts.system()
+    known = {'t': system.tasks, 'r': system.resources, 'm': system.events, 'a': system.alarms}
+    calls = [block for block in texts.blocks() if block.line == texts.place and block.word not in application.OWN]
+    pairs = [pair for block in calls for pair in zip(application.SHAPES[block.word], block.arguments)]
+    names = {(letter, name): None for letter, argument in pairs if letter in known for name in argument if name not in known[letter]}
+    return ['not declared: the %s %s%s' % (KINDS[letter], name, nearest(name, known[letter])) for letter, name in names]
+
+
+def locks_that_do_not_pair(texts, _):
+    return ('here: ' + what for line, what in locks.faults_of(contents(texts.words[2]), texts.name) if line == texts.place)
+
+
+def sources(texts, _):
+    """The sources of interrupts of the two texts that the command names."""
+    if texts.words[:1] == ['trace']:
+        system = texts.system()
+        names = ['tick ' + name for name in system.counters] + ['irq ' + isr.name for isr in system.isrs.values() if isr.category == 2]
+        yield 'there are: ' + ', '.join(names or ['none'])
+
+
+TELLERS = {'L1': signs, 'S': wanted, 'O2': second_ones, 'O4': missing, 'O6': unfit_values, 'O7': undeclared, 'O8': shared_priorities,
+           'O14': counters, 'C1': bodies, 'C2': bodies, 'C4': names_in_calls,
+           'C7': locks_that_do_not_pair, 'E2': sources}
+"""What tells of a rule, or of a letter of rules."""
