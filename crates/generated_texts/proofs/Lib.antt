@@ -1,0 +1,15 @@
+pub mod CodeDrawn
+pub mod CodeLexemes
+pub mod CodeRules
+pub mod CodeSentence
+pub mod Drawing
+pub mod EventDrawn
+pub mod EventTexts
+pub mod Faultless
+pub mod Lexemes
+pub mod OilDrawn
+pub mod OilLexemes
+pub mod OilRules
+pub mod OilSentence
+pub mod Rows
+pub mod TaskNames
