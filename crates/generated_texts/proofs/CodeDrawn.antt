@@ -6,10 +6,7 @@ use Rattle.osek_vectors.specs.Writing.{Text, fixed, ◌⨾◌, each_from}
 use Rattle.osek_vectors.specs.CodeTexts.{activation, event_setting, alarm_setting, statement_of_kind, statement, statements, task_body, isr_body, code_text}
 use Rattle.generated_texts.proofs.CodeLexemes.{Step, works, clears, takes, gives, schedules, waits, asks, activates, sets, arms, IsAmong, Steps, AreFour, AreSteps, step_lexemes, steps_lexemes, body_front, block_end, loop_front, body_lexemes, isr_lexemes, code_lexemes}
 use Rattle.generated_texts.proofs.Drawing.{Spells, Spells-fixed, Spells-draw, Spells-either, Spells-then, Spells-front, Spells-behind, Spells-each, Spells-by}
-use Rattle.generated_texts.proofs.Lexemes.{a_line_end, spelled}
-use Rattle.generated_texts.proofs.OilLexemes.{Lexemes}
-use Rattle.generated_texts.proofs.Rows.{each_of, AllFrom}
-use Rattle.generated_texts.proofs.TaskNames.{task_name}
+use Rattle.generated_texts.proofs.{Lexemes.{a_line_end, spelled}, OilLexemes.{Lexemes}, Rows.{each_of, AllFrom}, TaskNames.{task_name}}
 
 -- the generator's pieces, one behind the other
 three_pieces : (a b c rest : List ℕ) → (a ++ b ++ c) ++ rest ≡ a ++ (b ++ (c ++ rest))

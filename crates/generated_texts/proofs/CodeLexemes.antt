@@ -1,12 +1,9 @@
 -- A generated task code text, word by word: all that is drawn in it is which statements stand in each task.
 use Rattle.std.proofs.Common.{◌≡◌, ℕ, ◌+◌, ◌*◌, ◌<◌, ◌≤◌, true, List, [], ◌∷◌, ◌++◌, length, codes, decimal, refl, ◌∙◌, arith}
 use Rattle.std.specs.Prelude.{⊤}
-use Rattle.std.proofs.lemmas.Fmt.{length-decimal-le}
-use Rattle.std.proofs.lemmas.List.{length-append}
+use Rattle.std.proofs.lemmas.{Fmt.{length-decimal-le}, List.{length-append}}
 use Rattle.oil_lexer.specs.declared.token.Mark.TheVariants.{OpenBrace, CloseBrace, OpenParen, CloseParen, Comma, Semicolon, Question}
-use Rattle.generated_texts.proofs.Lexemes.{a_word, a_number, a_mark, a_space, a_line_end, spelled, are_right}
-use Rattle.generated_texts.proofs.OilLexemes.{Lexemes}
-use Rattle.generated_texts.proofs.Rows.{each_of, AllFrom}
+use Rattle.generated_texts.proofs.{Lexemes.{a_word, a_number, a_mark, a_space, a_line_end, spelled, are_right}, OilLexemes.{Lexemes}, Rows.{each_of, AllFrom}}
 use Rattle.generated_texts.proofs.TaskNames.{task_name, task_name_right, decimal_numeral}
 
 -- a statement, with the number of the task that it names or the offset of the alarm

@@ -1,30 +1,16 @@
 -- A generated task code text breaks no rule beside the system of its OIL text.
 use Rattle.std.proofs.Common.{◌≡◌, ℕ, ◌+◌, ◌*◌, ◌<◌, ◌≤◌, ⊎_elim, Bool, true, false, not, suc, ◌||◌, List, [], ◌∷◌, ◌++◌, length, map, codes, Option, Some, None, Ok, refl, sym, ap, subst, ◌∙◌, arith}
-use Rattle.std.specs.Prelude.{is_some, filter, if◌then◌else◌}
-use Rattle.std.specs.List.{list_any, flat_map, position, position_or_len}
-use Rattle.std.specs.Str.{bytes_eq}
-use Rattle.std.proofs.lemmas.Bool.{or_from, or_left, or_right, lt-ltb, cases_eq}
-use Rattle.std.proofs.lemmas.List.{length-append}
-use Rattle.std.proofs.lemmas.List.Folds.{list_any-append}
-use Rattle.std.proofs.lemmas.Slice.Eq.{bytes_eq-Decides}
+use Rattle.std.specs.{Prelude.{is_some, filter, if◌then◌else◌}, List.{list_any, flat_map, position, position_or_len}, Str.{bytes_eq}}
+use Rattle.std.proofs.lemmas.{Bool.{or_from, or_left, or_right, lt-ltb, cases_eq}, List.{length-append, Folds.{list_any-append}}, Slice.Eq.{bytes_eq-Decides}}
 use Rattle.std.proofs.Math.ListN.{drop_of_length-le}
-use Rattle.osek_values.specs.Lines.{IsIn}
-use Rattle.osek_values.specs.declared.refusal.{CodeRule.{CodeRule}, CodeRule.TheVariants.{C1, C2, C3, C4, C6, C7, C8, C9}}
-use Rattle.oil_system.specs.declared.objects.{Alarm.{Alarm}, Resource.{Resource}}
-use Rattle.oil_system.specs.declared.system.{TaskObject.{TaskObject}, EventObject.{EventObject}, System.{System}}
+use Rattle.osek_values.specs.{Lines.{IsIn}, declared.refusal.CodeRule.{CodeRule, TheVariants.{C1, C2, C3, C4, C6, C7, C8, C9}}}
+use Rattle.oil_system.specs.declared.{objects.{Alarm.{Alarm}, Resource.{Resource}}, system.{TaskObject.{TaskObject}, EventObject.{EventObject}, System.{System}}}
 use Rattle.oil_tree.specs.declared.tree.Object.{Object}
-use Rattle.oil_model.specs.Objects.{name_of}
-use Rattle.oil_model.specs.Rules.{repeated}
-use Rattle.oil_model.specs.Systems.{modes, events, names_of, task, alarm as alarm_of_object, system_of}
-use Rattle.task_code.specs.declared.tree.{Body.{Body}, BodyKind.TheVariants.{Task, Isr}, Code.{Code}}
-use Rattle.task_code.specs.Statements.{Statements, closed, closing_line}
-use Rattle.block_graph.specs.Faults.{HasNoFault}
-use Rattle.block_graph.specs.Locks.{walked, unpaired}
-use Rattle.block_graph.specs.Names.{task_of, isr_of, alarm_of, resource_of, event_of}
+use Rattle.oil_model.specs.{Objects.{name_of}, Rules.{repeated}, Systems.{modes, events, names_of, task, alarm as alarm_of_object, system_of}}
+use Rattle.task_code.specs.{declared.tree.{Body.{Body}, BodyKind.TheVariants.{Task, Isr}, Code.{Code}}, Statements.{Statements, closed, closing_line}}
+use Rattle.block_graph.specs.{Faults.{HasNoFault}, Locks.{walked, unpaired}, Names.{task_of, isr_of, alarm_of, resource_of, event_of}}
 use Rattle.block_graph.specs.Rules.{is_code_of, line_of_body, lacks_code, is_stray, has_same_owner, from_calls, undeclared, undeclared_in, isr_resources_by, statement_lines, block_lines, first_only, lines}
-use Rattle.generated_texts.proofs.Rows.{AllFrom}
-use Rattle.generated_texts.proofs.TaskNames.{task_name}
-use Rattle.generated_texts.proofs.OilSentence.{tasks_from, alarm_object, isr_object, oil_objects}
+use Rattle.generated_texts.proofs.{Rows.{AllFrom}, TaskNames.{task_name}, OilSentence.{tasks_from, oil_objects}}
 use Rattle.generated_texts.proofs.OilSentence as oil
 use Rattle.generated_texts.proofs.OilRules.{names_apart, tasks_only, alarm_only, isr_counted}
 use Rattle.generated_texts.proofs.CodeLexemes.{Step, works, clears, takes, gives, schedules, waits, asks, activates, sets, arms, IsAmong, Steps, AreSteps}

@@ -1,8 +1,7 @@
 -- The tree of a generated task code text: its tokens are a sentence, with a body for each task and one for the ISR.
 use Rattle.std.proofs.Common.{◌≡◌, ℕ, ◌+◌, List, [], ◌∷◌, codes, decimal, refl, ◌∙◌}
 use Rattle.std.specs.Prelude.{None}
-use Rattle.oil_lexer.specs.declared.token.{Mark.TheVariants.{CloseBrace}, Token.{Token}}
-use Rattle.oil_lexer.specs.Numbers.{value_of}
+use Rattle.oil_lexer.specs.{declared.token.{Mark.TheVariants.{CloseBrace}, Token.{Token}}, Numbers.{value_of}}
 use Rattle.task_code.specs.declared.call.Call.TheVariants as call
 use Rattle.task_code.specs.declared.tree.{Body.{Body}, BodyKind.TheVariants.{Task, Isr}, Code.{Code}, Condition.TheVariants.{Choice}}
 use Rattle.task_code.specs.declared.words.ObjectService.TheVariants as of_object
@@ -10,15 +9,11 @@ use Rattle.task_code.specs.declared.words.MaskService.TheVariants as of_mask
 use Rattle.task_code.specs.declared.words.AlarmService.TheVariants as of_alarm
 use Rattle.task_code.specs.declared.words.PlainService.TheVariants as of_none
 use Rattle.task_code.specs.declared.words.Service.TheVariants as service
-use Rattle.task_code.specs.Expect.{Stack, scan, some_statements}
-use Rattle.task_code.specs.Faults.{wrong_works, wrong_works_in, HasCode}
+use Rattle.task_code.specs.{Expect.{Stack, scan, some_statements}, Faults.{wrong_works, wrong_works_in, HasCode}}
 use Rattle.task_code.specs.Grammar.{reference, last_event, plain, object, mask, set_event, alarm, choice, IsStatements, no_more, a_work, a_while, a_call, AreBodies, no_body, a_body}
-use Rattle.task_code.specs.Statements.{Statements, closed, work_then, while_then, call_then}
-use Rattle.task_code.specs.Words.{body_kind, plain_service, object_service, service_of, statement_word}
+use Rattle.task_code.specs.{Statements.{Statements, closed, work_then, while_then, call_then}, Words.{body_kind, plain_service, object_service, service_of, statement_word}}
 use Rattle.task_code.proofs.Viable.{has_tree}
-use Rattle.generated_texts.proofs.Lexemes.{Lexeme, a_mark, a_line_end, tokens_from}
-use Rattle.generated_texts.proofs.Rows.{each_of}
-use Rattle.generated_texts.proofs.TaskNames.{task_name}
+use Rattle.generated_texts.proofs.{Lexemes.{Lexeme, a_mark, a_line_end, tokens_from}, Rows.{each_of}, TaskNames.{task_name}}
 use Rattle.generated_texts.proofs.CodeLexemes.{Step, works, clears, takes, gives, schedules, waits, asks, activates, sets, arms, Steps, step_lexemes, steps_lexemes, body_lexemes, isr_lexemes, code_lexemes}
 
 -- a statement in front of others

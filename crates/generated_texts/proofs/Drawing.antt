@@ -2,8 +2,7 @@
 use Rattle.std.proofs.Common.{◌≡◌, ℕ, ◌+◌, ◌/◌, ◌<◌, Bool, true, false, zero, suc, List, [], ◌∷◌, ◌++◌, length, refl, ap, ◌∙◌, append_assoc, arith}
 use Rattle.std.specs.Prelude.{if◌then◌else◌}
 use Rattle.std.proofs.lemmas.Nat.{mod_below}
-use Rattle.osek_vectors.specs.Draws.{next_state, number_of}
-use Rattle.osek_vectors.specs.Writing.{Text, fixed, draw, onto, ◌⨾◌, each_from}
+use Rattle.osek_vectors.specs.{Draws.{next_state, number_of}, Writing.{Text, fixed, draw, onto, ◌⨾◌, each_from}}
 use Rattle.generated_texts.proofs.Rows.{each_of, AllFrom}
 
 -- What is spelled has texts, and a value makes of what stands behind it what stands with it in front.

@@ -1,17 +1,12 @@
 -- The generator's event text is that of events of the application.
 use Rattle.std.proofs.Common.{◌≡◌, ℕ, ◌+◌, ◌*◌, ◌<◌, ◌≤◌, ◌==◌, true, false, zero, suc, List, [], ◌∷◌, ◌++◌, length, codes, decimal, None, refl, sym, ap, ◌∙◌, arith}
-use Rattle.std.proofs.lemmas.Fmt.{decimal_digit}
-use Rattle.std.proofs.lemmas.List.{append-nil}
-use Rattle.osek_values.specs.Numbers.{isr_no, counter_no}
-use Rattle.osek_values.specs.declared.event.{Event.{Event}, Event.TheVariants.{Run, Irq, Tick}}
+use Rattle.std.proofs.lemmas.{Fmt.{decimal_digit}, List.{append-nil}}
+use Rattle.osek_values.specs.{Numbers.{isr_no, counter_no}, declared.event.Event.{Event, TheVariants.{Run, Irq, Tick}}}
 use Rattle.osek_standard.specs.declared.app.App.{App}
-use Rattle.osek_vectors.specs.Writing.{Text, fixed}
-use Rattle.osek_vectors.specs.EventLines.{event_line_of_kind, event_line as the_line, event_text as the_text}
-use Rattle.trace_text.specs.EventGrammar.{event_text}
-use Rattle.trace_text.specs.EventText.{read_text}
+use Rattle.osek_vectors.specs.{Writing.{Text, fixed}, EventLines.{event_line_of_kind, event_line as the_line, event_text as the_text}}
+use Rattle.trace_text.specs.{EventGrammar.{event_text}, EventText.{read_text}}
 use Rattle.generated_texts.proofs.Drawing.{Spells, Spells-fixed, Spells-draw, Spells-either, Spells-each}
-use Rattle.generated_texts.proofs.EventTexts.{HasSources, IsShort, irq_is_short, tick_is_short, short_events_have_no_fault}
-use Rattle.generated_texts.proofs.Rows.{each_of, AllFrom}
+use Rattle.generated_texts.proofs.{EventTexts.{HasSources, IsShort, irq_is_short, tick_is_short, short_events_have_no_fault}, Rows.{each_of, AllFrom}}
 
 module _ (app : App) (has : HasSources app) where
   abbrev before : Event → List Event → List Event

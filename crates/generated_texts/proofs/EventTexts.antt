@@ -1,14 +1,10 @@
 -- Events on short lines: a text of them has no fault.
 use Rattle.std.proofs.Common.{◌≡◌, ℕ, ◌+◌, ◌*◌, ◌<◌, ◌≤◌, List, [], ◌∷◌, ◌++◌, length, codes, None, ap, arith}
 use Rattle.std.specs.List.{AllByRecursion}
-use Rattle.std.proofs.lemmas.List.{length-append}
-use Rattle.std.proofs.lemmas.List.Elements.{All-from_recursion}
-use Rattle.osek_values.specs.Numbers.{isr_no, counter_no}
-use Rattle.osek_values.specs.declared.event.{Event.{Event}, Event.TheVariants.{Irq, Tick}}
-use Rattle.osek_standard.specs.declared.app.App.{App}
-use Rattle.osek_standard.specs.Apps.{the_isr, the_counter, IsDeclared}
-use Rattle.trace_text.specs.EventGrammar.{event_line, event_text}
-use Rattle.trace_text.specs.EventText.{Reading, read_text}
+use Rattle.std.proofs.lemmas.List.{length-append, Elements.{All-from_recursion}}
+use Rattle.osek_values.specs.{Numbers.{isr_no, counter_no}, declared.event.Event.{Event, TheVariants.{Irq, Tick}}}
+use Rattle.osek_standard.specs.{declared.app.App.{App}, Apps.{the_isr, the_counter, IsDeclared}}
+use Rattle.trace_text.specs.{EventGrammar.{event_line, event_text}, EventText.{Reading, read_text}}
 use Rattle.trace_text.proofs.TextLaws.{reads_back}
 use Rattle.generated_texts.proofs.Rows.{AllFrom}
 

@@ -1,43 +1,26 @@
 -- The texts of a seed and a number of tasks have no fault.
 use Rattle.std.proofs.Common.{◌≡◌, ℕ, ◌<◌, ◌≤◌, Bool, List, [], ◌∷◌, length, map, get_or, codes, true, None, Ok, Err, refl, sym, ap, subst, ◌∙◌, arith}
 use Rattle.std.specs.Prelude.{Result}
-use Rattle.osek_values.specs.declared.refused.LineFault.{LineFault}
-use Rattle.osek_values.specs.declared.refusal.CodeRule.{CodeRule}
-use Rattle.osek_standard.specs.declared.app.App.{App}
-use Rattle.osek_standard.specs.declared.objects.{Counter.{Counter}, Isr.{Isr}}
-use Rattle.osek_standard.specs.Apps.{no_isr, no_counter}
-use Rattle.osek_vectors.specs.declared.generated.Generated.{Generated}
-use Rattle.osek_vectors.specs.CodeTexts.{code_text}
-use Rattle.osek_vectors.specs.Draws.{first_state}
-use Rattle.osek_vectors.specs.EventLines.{event_text}
-use Rattle.osek_vectors.specs.GeneratedTexts.{generated_texts}
+use Rattle.osek_values.specs.declared.{refused.LineFault.{LineFault}, refusal.CodeRule.{CodeRule}}
+use Rattle.osek_standard.specs.{declared.{app.App.{App}, objects.{Counter.{Counter}, Isr.{Isr}}}, Apps.{no_isr, no_counter}}
+use Rattle.osek_vectors.specs.{declared.generated.Generated.{Generated}, CodeTexts.{code_text}, Draws.{first_state}, EventLines.{event_text}, GeneratedTexts.{generated_texts}}
 use Rattle.osek_vectors.specs.OilTexts.{oil_text}
 use Rattle.oil_lexer.specs.Text.{AreTokens}
 use Rattle.oil_system.specs.declared.system.{CounterObject.{CounterObject}, System.{System}}
 use Rattle.oil_model.specs.Systems.{counter, system_of}
 use Rattle.task_code.specs.declared.tree.Code.{Code}
 use Rattle.task_code.proofs.Depths.{has_fit}
-use Rattle.block_graph.specs.Answers.{IsAnswer}
-use Rattle.block_graph.specs.Apps.{isr_with, extent, counters_from, HasApp}
-use Rattle.block_graph.specs.Blocks.{source_size}
+use Rattle.block_graph.specs.{Answers.{IsAnswer}, Apps.{isr_with, extent, counters_from, HasApp}, Blocks.{source_size}}
 use Rattle.block_graph.proofs.SomeAnswer as graph_law
 use Rattle.task_code.specs.declared.tree.BodyKind.TheVariants as body_kind
 use Rattle.front_end.specs.Texts.{DeclaresSystem, GivesApp}
 use Rattle.trace_text.specs.EventText.{read_text}
 use Rattle.front_end.proofs.SomeAnswer.{declared_is_linkable}
 use Rattle.generated_texts.specs.Faultless.{TextsHaveNoFault}
-use Rattle.generated_texts.proofs.Rows.{AllFrom}
-use Rattle.generated_texts.proofs.Lexemes.{Lexeme, spelled, tokens_from, are_right, parted}
-use Rattle.generated_texts.proofs.OilDrawn.{IsOilText, oil_is}
-use Rattle.generated_texts.proofs.OilLexemes.{oil_lexemes, oil_right, oil_size}
-use Rattle.generated_texts.proofs.OilSentence.{counter_object, oil_objects, oil_tree, oil_has_tree}
-use Rattle.generated_texts.proofs.OilRules.{counter_only, oil_has_no_fault}
-use Rattle.generated_texts.proofs.CodeDrawn.{IsCodeText, code_is}
-use Rattle.generated_texts.proofs.CodeLexemes.{Steps, AreSteps, code_lexemes, code_right, code_size}
-use Rattle.generated_texts.proofs.CodeSentence.{the_code, code_has_tree}
-use Rattle.generated_texts.proofs.CodeRules.{code_has_no_fault, isrs_are}
-use Rattle.generated_texts.proofs.EventDrawn.{events_have_no_fault}
-use Rattle.generated_texts.proofs.EventTexts.{HasSources}
+use Rattle.generated_texts.proofs.{Rows.{AllFrom}, Lexemes.{Lexeme, spelled, tokens_from, are_right, parted}, OilDrawn.{IsOilText, oil_is}}
+use Rattle.generated_texts.proofs.{OilLexemes.{oil_lexemes, oil_right, oil_size}, OilSentence.{counter_object, oil_objects, oil_tree, oil_has_tree}}
+use Rattle.generated_texts.proofs.{OilRules.{counter_only, oil_has_no_fault}, CodeDrawn.{IsCodeText, code_is}, CodeLexemes.{Steps, AreSteps, code_lexemes, code_right, code_size}}
+use Rattle.generated_texts.proofs.{CodeSentence.{the_code, code_has_tree}, CodeRules.{code_has_no_fault, isrs_are}, EventDrawn.{events_have_no_fault}, EventTexts.{HasSources}}
 
 tokens_are : (ls : List Lexeme) (bytes : List ℕ) → are_right ls ≡ true → length (spelled ls) ≤ 1048576 → bytes ≡ spelled ls → AreTokens bytes (tokens_from 1 ls)
 tokens_are ls bytes right size is = subst (λ (b : List ℕ). AreTokens b (tokens_from 1 ls)) (sym is) (record { within = size; parts = parted ls 1 right })

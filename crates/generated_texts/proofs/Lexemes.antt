@@ -1,22 +1,14 @@
 -- Texts that are spelled word by word, and their tokens: where each word and each number ends, a text is parted into these.
 use Rattle.std.proofs.Common.{◌≡◌, ℕ, ◌+◌, ◌<◌, ◌≤◌, ◌^◌, Bool, true, false, cond, List, [], ◌∷◌, ◌++◌, length, take, drop, refl, sym, ap, subst, ◌∙◌, arith}
-use Rattle.std.specs.Prelude.{◌&&◌, ◌==◌, not, nat_lt, slice_index}
-use Rattle.std.specs.List.{list_all}
-use Rattle.std.proofs.lemmas.Bool.{and_parts, and_from, or_left, or_right, or_parts, both_ways, not-true, ltb-true, leb-true}
-use Rattle.std.proofs.lemmas.List.{length-append, get_or_append_left}
-use Rattle.std.proofs.lemmas.List.Sums.{AllPass-from_list_all, sum_by-cons}
-use Rattle.std.proofs.Math.Seq.{take-append_seam, drop-append_seam, get_or-append_seam}
+use Rattle.std.specs.{Prelude.{◌&&◌, ◌==◌, not, nat_lt, slice_index}, List.{list_all}}
+use Rattle.std.proofs.lemmas.{Bool.{and_parts, and_from, or_left, or_right, or_parts, both_ways, not-true, ltb-true, leb-true}, List.{length-append, get_or_append_left}}
+use Rattle.std.proofs.{lemmas.List.Sums.{AllPass-from_list_all, sum_by-cons}, Math.Seq.{take-append_seam, drop-append_seam, get_or-append_seam}}
 use Rattle.osek_values.specs.Names.{is_letter, is_digit, is_name_byte, is_word, is_name}
-use Rattle.oil_lexer.specs.declared.classes.{Class.{Class}, Class.TheVariants.{Blank, Letter, Digit, Single}, ByteSet.TheVariants.{NameBytes, Digits}}
-use Rattle.oil_lexer.specs.declared.token.{Mark.{Mark as MarkType}, Mark.TheVariants.{OpenBrace, CloseBrace, OpenParen, CloseParen, OpenBracket, CloseBracket, Equals, Semicolon, Colon, Comma, Period, Question, Bar, Plus, Minus}, TokenKind.TheVariants.{Name, Number, Mark}, Piece.{Piece}, Piece.TheVariants.{Gap, Whole}, Token.{Token}}
-use Rattle.oil_lexer.specs.Ahead.{AreAhead}
-use Rattle.oil_lexer.specs.Classes.{is_blank, class_of}
-use Rattle.oil_lexer.specs.Fronts.{IsRun}
-use Rattle.oil_lexer.specs.Numbers.{value_of}
-use Rattle.oil_lexer.specs.Pieces.{IsHex, IsPiece, IsLongest, is_x}
+use Rattle.oil_lexer.specs.declared.classes.{Class.{Class, TheVariants.{Blank, Letter, Digit, Single}}, ByteSet.TheVariants.{NameBytes, Digits}}
+use Rattle.oil_lexer.specs.declared.token.{Mark.{Mark as MarkType, TheVariants.{OpenBrace, CloseBrace, OpenParen, CloseParen, OpenBracket, CloseBracket, Equals, Semicolon, Colon, Comma, Period, Question, Bar, Plus, Minus}}, TokenKind.TheVariants.{Name, Number, Mark}, Piece.{Piece, TheVariants.{Gap, Whole}}, Token.{Token}}
+use Rattle.oil_lexer.specs.{Ahead.{AreAhead}, Classes.{is_blank, class_of}, Fronts.{IsRun}, Numbers.{value_of}, Pieces.{IsHex, IsPiece, IsLongest, is_x}}
 use Rattle.oil_lexer.specs.Text.{Parts, none, gap, token, line_ends}
-use Rattle.oil_lexer.proofs.Longest.{is_of, to_piece, name_longest, decimal_longest}
-use Rattle.oil_lexer.proofs.Words.{word_bytes}
+use Rattle.oil_lexer.proofs.{Longest.{is_of, to_piece, name_longest, decimal_longest}, Words.{word_bytes}}
 use Rattle.oil_lexer.specs.Tokens.{name, number, mark}
 
 -- a word, the digits of a number, a mark, a space or the end of a line

@@ -2,12 +2,9 @@
 use Rattle.std.proofs.Common.{◌≡◌, ℕ, ◌==◌, Bool, List, [], ◌++◌, length, codes, decimal, refl, sym, ◌∙◌, append_assoc, arith}
 use Rattle.std.specs.Prelude.{⊤}
 use Rattle.std.proofs.lemmas.List.{append-nil}
-use Rattle.osek_vectors.specs.Writing.{fixed, ◌⨾◌, each_from}
-use Rattle.osek_vectors.specs.OilTexts.{oil_head, oil_foot, task_line, oil_text}
-use Rattle.generated_texts.proofs.Drawing.{Spells, Spells-fixed, Spells-draw, Spells-front, Spells-behind, Spells-each}
-use Rattle.generated_texts.proofs.Lexemes.{spelled}
-use Rattle.generated_texts.proofs.OilLexemes.{Lexemes, schedule_word, task_lexemes, head_lexemes, foot_lexemes, oil_lexemes}
-use Rattle.generated_texts.proofs.Rows.{each_of, AllFrom}
+use Rattle.osek_vectors.specs.{Writing.{fixed, ◌⨾◌, each_from}, OilTexts.{oil_head, oil_foot, task_line, oil_text}}
+use Rattle.generated_texts.proofs.{Drawing.{Spells, Spells-fixed, Spells-draw, Spells-front, Spells-behind, Spells-each}, Lexemes.{spelled}}
+use Rattle.generated_texts.proofs.{OilLexemes.{Lexemes, schedule_word, task_lexemes, head_lexemes, foot_lexemes, oil_lexemes}, Rows.{each_of, AllFrom}}
 
 -- the generator's pieces, one behind the other
 seven_pieces : (a b c d e f g rest : List ℕ) → (a ++ b ++ c ++ d ++ e ++ f ++ g) ++ rest ≡ a ++ (b ++ (c ++ (d ++ (e ++ (f ++ (g ++ rest))))))

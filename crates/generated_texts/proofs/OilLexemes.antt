@@ -1,11 +1,9 @@
 -- A generated OIL text, word by word: all that is drawn in it is which tasks are non-preemptive.
 use Rattle.std.proofs.Common.{◌≡◌, ℕ, ◌+◌, ◌*◌, ◌<◌, ◌≤◌, ◌^◌, Bool, true, false, List, [], ◌∷◌, ◌++◌, length, codes, decimal, refl, ◌∙◌, arith}
 use Rattle.std.specs.Prelude.{if◌then◌else◌}
-use Rattle.std.proofs.lemmas.List.{length-append}
-use Rattle.std.proofs.lemmas.Fmt.{length-decimal-le}
+use Rattle.std.proofs.lemmas.{List.{length-append}, Fmt.{length-decimal-le}}
 use Rattle.oil_lexer.specs.declared.token.Mark.TheVariants.{OpenBrace, CloseBrace, Equals, Semicolon}
-use Rattle.generated_texts.proofs.Lexemes.{Lexeme, a_word, a_number, a_mark, a_space, a_line_end, spelled, are_right}
-use Rattle.generated_texts.proofs.Rows.{each_of}
+use Rattle.generated_texts.proofs.{Lexemes.{Lexeme, a_word, a_number, a_mark, a_space, a_line_end, spelled, are_right}, Rows.{each_of}}
 use Rattle.generated_texts.proofs.TaskNames.{task_name, task_name_right, decimal_numeral}
 
 abbrev pub Lexemes : Type 0

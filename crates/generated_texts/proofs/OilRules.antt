@@ -1,20 +1,12 @@
 -- A generated OIL text breaks no rule on objects.
 use Rattle.std.proofs.Common.{◌≡◌, ℕ, ◌+◌, ◌<◌, ◌≤◌, ◌^◌, Bool, true, false, suc, List, [], ◌∷◌, ◌++◌, length, map, codes, decimal, refl, ap, subst, ◌∙◌, arith}
-use Rattle.std.specs.Prelude.{◌&&◌, nat_le, filter}
-use Rattle.std.specs.List.{list_any, flat_map, AllByRecursion}
-use Rattle.std.specs.Str.{bytes_eq}
-use Rattle.std.proofs.lemmas.Bool.{and_from, or_from, or_left, le-leb, ne_eqb, false_from_ne_true}
-use Rattle.std.proofs.lemmas.Fmt.{decimal_digit}
-use Rattle.std.proofs.lemmas.List.Folds.{list_any-append}
-use Rattle.std.proofs.lemmas.Option.{slice_get_past}
+use Rattle.std.specs.{Prelude.{◌&&◌, nat_le, filter}, List.{list_any, flat_map, AllByRecursion}, Str.{bytes_eq}}
+use Rattle.std.proofs.lemmas.{Bool.{and_from, or_from, or_left, le-leb, ne_eqb, false_from_ne_true}, Fmt.{decimal_digit}, List.Folds.{list_any-append}, Option.{slice_get_past}}
 use Rattle.std.proofs.lemmas.Slice.Eq.{bytes_eq-Decides}
-use Rattle.osek_values.specs.Lines.{IsIn}
-use Rattle.osek_values.specs.declared.refusal.{OilRule.{OilRule}, OilRule.TheVariants.{O1, O2, O3, O4, O5, O6, O7, O8, O9, O10, O11, O12, O13, O14, O15}}
+use Rattle.osek_values.specs.{Lines.{IsIn}, declared.refusal.OilRule.{OilRule, TheVariants.{O1, O2, O3, O4, O5, O6, O7, O8, O9, O10, O11, O12, O13, O14, O15}}}
 use Rattle.oil_lexer.specs.Numbers.{value_of}
 use Rattle.oil_tree.specs.declared.tree.Object.{Object}
-use Rattle.oil_model.specs.declared.objects.Category.TheVariants.{Two}
-use Rattle.oil_model.specs.Faults.{HasNoFault}
-use Rattle.oil_model.specs.Lists.{found_of}
+use Rattle.oil_model.specs.{declared.objects.Category.TheVariants.{Two}, Faults.{HasNoFault}, Lists.{found_of}}
 use Rattle.oil_model.specs.Objects.{is_kind, objects_of, is_called, declares, line_at, object_line, has_scheduler, is_other_mode, is_ordinary, is_isr, explicit_bits, free_from}
 use Rattle.oil_model.specs.Rules.{repeated, is_unknown, has_same_name, kinds, repeated_names, all_repeated_names, os_lines, missing_in, doubles_in, wrong_in, dangling_in, has_same_priority, is_activated_often, is_special_resource, is_callback, empty_masks_from, found_line, first_beyond, beyond_limits, is_reversed, late_times_of, is_other_category, takes_resource, lines}
 use Rattle.generated_texts.proofs.TaskNames.{task_name, task_name_injective, decimal_value}

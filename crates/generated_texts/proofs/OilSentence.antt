@@ -1,19 +1,12 @@
 -- The tree of a generated OIL text: its tokens are a sentence, with the tasks in turn.
 use Rattle.std.proofs.Common.{◌≡◌, ℕ, ◌+◌, Bool, List, [], ◌∷◌, ◌++◌, codes, decimal, refl}
 use Rattle.std.specs.Prelude.{None}
-use Rattle.oil_lexer.specs.declared.token.{Mark.TheVariants.{Semicolon}}
-use Rattle.oil_lexer.specs.Numbers.{value_of}
-use Rattle.oil_lexer.specs.Tokens.{mark}
-use Rattle.oil_tree.specs.declared.tree.{Object.{Object}, Tree.{Tree}, Value.TheVariants.{Word, Numeric}, Sign.TheVariants.{Bare}}
-use Rattle.oil_tree.specs.Attrs.{no_attrs, attr_then}
-use Rattle.oil_tree.specs.Expect.{scan, some_objects, an_end}
-use Rattle.oil_tree.specs.Faults.{HasTree}
+use Rattle.oil_lexer.specs.{declared.token.Mark.TheVariants.{Semicolon}, Numbers.{value_of}, Tokens.{mark}}
+use Rattle.oil_tree.specs.{declared.tree.{Object.{Object}, Tree.{Tree}, Value.TheVariants.{Word, Numeric}, Sign.TheVariants.{Bare}}, Attrs.{no_attrs, attr_then}}
+use Rattle.oil_tree.specs.{Expect.{scan, some_objects, an_end}, Faults.{HasTree}}
 use Rattle.oil_tree.specs.Grammar.{is_name, is_number, plain, no_more, one_more, bare, nested, IsObjects, no_objects, one_object, cpu, no_impl, no_version, IsSentence}
 use Rattle.oil_tree.proofs.Prefixes.{has_tree}
-use Rattle.generated_texts.proofs.Lexemes.{tokens_from}
-use Rattle.generated_texts.proofs.Rows.{each_of}
-use Rattle.generated_texts.proofs.TaskNames.{task_name}
-use Rattle.generated_texts.proofs.OilLexemes.{schedule_word, task_lexemes, foot_lexemes, oil_lexemes}
+use Rattle.generated_texts.proofs.{Lexemes.{tokens_from}, Rows.{each_of}, TaskNames.{task_name}, OilLexemes.{schedule_word, task_lexemes, foot_lexemes, oil_lexemes}}
 
 -- the object of a task with its name, its priority and its schedule
 abbrev pub task_with : List ℕ → ℕ → ℕ → Bool → Object

@@ -1,10 +1,7 @@
 -- The names of generated tasks, and their numbers as they are written.
 use Rattle.std.proofs.Common.{◌≡◌, ℕ, ◌+◌, ◌-◌, ◌*◌, ◌%◌, ◌<◌, ◌≤◌, ◌^◌, Bool, true, cond, List, [], ◌∷◌, ◌++◌, length, decimal, refl, ap, ◌∙◌, arith}
-use Rattle.std.specs.Prelude.{◌&&◌, nat_le, nat_lt}
-use Rattle.std.specs.List.{list_all}
-use Rattle.std.proofs.lemmas.Bool.{and_from, le-leb, lt-ltb}
-use Rattle.std.proofs.lemmas.Fmt.{decimal_by_steps, decimal_nonempty, length-decimal-le, decimal_injective}
-use Rattle.std.proofs.lemmas.List.Folds.{list_all-append}
+use Rattle.std.specs.{Prelude.{◌&&◌, nat_le, nat_lt}, List.{list_all}}
+use Rattle.std.proofs.lemmas.{Bool.{and_from, le-leb, lt-ltb}, Fmt.{decimal_by_steps, decimal_nonempty, length-decimal-le, decimal_injective}, List.Folds.{list_all-append}}
 use Rattle.std.proofs.lemmas.Nat.{mod_below}
 use Rattle.osek_values.specs.Names.{is_digit, is_word, is_name}
 use Rattle.oil_lexer.specs.Numbers.{digit_value, value_from, value_of}
