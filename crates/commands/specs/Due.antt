@@ -16,7 +16,7 @@ use Rattle.image_model.specs.ImageTrace.{has_trap}
 use Rattle.trace_text.specs.EventText.{read_text}
 use Rattle.osek_io.specs.Counts.{Rose}
 use Rattle.osek_io.specs.Files.{Files}
-use Rattle.commands.specs.GeneratedFiles.{oil_name, code_name, events_name, default_mode, generated_files}
+use Rattle.commands.specs.GeneratedFiles.{oil_name, code_name, events_name, default_mode}
 use Rattle.command_runs.specs.Outside.{Outside}
 use Rattle.command_runs.specs.Replaying.{SpellImage, IsImageFault}
 use Rattle.command_runs.specs.Running.{mode_named, end_of}
@@ -76,9 +76,6 @@ IsBuilt app r = r ≡ Ok tt
 abbrev pub OwnDue : Files → Result (Unit {0}) Stop → Type 0
 OwnDue files r = TextsDue files oil_name code_name (λ app. RunDue files app never default_mode events_name) r
 
-abbrev pub GenDue : (seed tasks : ℕ) → Result (Unit {0}) Stop → Type 0
-GenDue seed tasks = OwnDue (generated_files seed tasks)
-
 abbrev pub IsDue : Files → Option Command → Result (Unit {0}) Stop → Type 0
 IsDue files None r = r ≡ Err stop.Usage
 IsDue files (Some (Build oil code image)) r = TextsDue files oil code IsBuilt r
@@ -87,5 +84,5 @@ IsDue files (Some (Trace oil code mode events)) r = TextsDue files oil code (λ 
 IsDue files (Some (Show oil code)) r = TextsDue files oil code IsBuilt r
 IsDue files (Some (Info image)) r = ImageDue files image IsTold r
 IsDue files (Some (Upgrade image upgraded)) r = ImageDue files image Upgrades r
--- over its own texts `gen` is due what `trace` is
-IsDue files (Some (Gen seed tasks)) r = GenDue seed tasks r
+-- the own texts of `gen` have no fault
+IsDue files (Some (Gen seed tasks)) r = r ≡ Ok tt
