@@ -1,10 +1,11 @@
 -- No stop is due to a run of generated texts: they have no fault.
-use Rattle.std.proofs.Common.{◌≡◌, ◌<◌, ◌≤◌, ℕ, List, subst, ap, option_map, ◌∙◌, Some, Ok, Err}
+use Rattle.std.proofs.Common.{◌≡◌, ◌<◌, ◌≤◌, ℕ, Bool, cond, List, ◌∷◌, length, subst, ap, option_map, arith, ◌∙◌, Some, None, Ok, Err}
 use Rattle.std.specs.Cmp.Lexicographic.{nat_list_cmp_total}
 use Rattle.std.specs.FinMap.{empty, get, insert, get-insert}
 use Rattle.std.specs.List.{position}
 use Rattle.std.specs.Str.{bytes_eq}
 use Rattle.std.specs.declared.result.Result.{Result}
+use Rattle.std.proofs.lemmas.Bool.{lt-ltb}
 use Rattle.osek_values.specs.Numbers.{mode_no}
 use Rattle.osek_values.specs.declared.limits.TheConstants.{MAX_TASKS}
 use Rattle.oil_system.specs.declared.system.System.{System}
@@ -20,6 +21,10 @@ use Rattle.commands.specs.Due.{RunDue, ends, goes_on, OwnDue}
 use Rattle.commands.specs.GeneratedFiles.{oil_name, code_name, events_name, default_mode, text_files, generated_files}
 use Rattle.commands.specs.Tracing.{never}
 use Rattle.commands.proofs.OneDue.{one_own}
+
+-- the default mode is the first of those that a system declares
+first_named : (names : List (List ℕ)) → option_map mode_no (position (bytes_eq default_mode) (default_mode ∷ names)) ≡ Some (mode_no 0)
+first_named names = ap (λ (b : Bool). option_map mode_no (cond b (Some 0) None)) (lt-ltb 0 (length (default_mode ∷ names)) (omega arith))
 
 module _ (texts : Generated) where
   abbrev oil_alone : Files
@@ -47,7 +52,8 @@ module _ (texts : Generated) where
   run_is_due t =
       let modes : t.app.modes ≡ t.system.modes = t.gives.has_app.modes in
       let named : mode_named t.app default_mode ≡ Some (mode_no 0) =
-      ap (λ (names : List (List ℕ)). option_map mode_no (position (bytes_eq default_mode) names)) (modes ∙ ap (λ (s : System). s.modes) t.declares.has_system.is) in
+      ap (λ (names : List (List ℕ)). option_map mode_no (position (bytes_eq default_mode) names)) (modes ∙ ap (λ (s : System). s.modes) t.declares.has_system.is)
+          ∙ first_named _ in
       let done : end_of false (read_text t.app texts.events).fault ≡ Ok tt = ap (end_of false) t.faultless in
       goes_on texts.oil t.system texts.code t.app (Ok tt) oil_held t.declares code_held t.gives
       (subst (RunDue three t.app never default_mode events_name) done (ends (mode_no 0) texts.events named events_held))
