@@ -12,8 +12,7 @@ use Rattle.osek_io.specs.{Counts.{ReadFaults}, Files.{Files}, Sunk.{Sunk}}
 use Rattle.commands.specs.Answering.{CommandAnswers}
 use Rattle.commands.specs.Building as building
 use Rattle.commands.specs.Compiling.{SystemStops, CodeStops, CompileStops, OfApp}
-use Rattle.commands.specs.Due.{IsCalm, RunDue, no_mode, no_events, ends, ImageDue, no_image, bad_image, is_read, ImageRuns, IsTold, Upgrades, upgrade_end, TextsDue, no_oil, bad_oil, no_code, bad_code, goes_on, IsBuilt, GenDue, IsDue}
-use Rattle.commands.specs.GeneratedFiles.{events_name, default_mode, generated_files}
+use Rattle.commands.specs.Due.{IsCalm, RunDue, no_mode, no_events, ends, ImageDue, no_image, bad_image, is_read, ImageRuns, IsTold, Upgrades, upgrade_end, TextsDue, no_oil, bad_oil, no_code, bad_code, goes_on, IsBuilt, IsDue}
 use Rattle.commands.specs.Generating as generating
 use Rattle.command_runs.specs.Inputs.{over_limit, unread, faulty, no_memory}
 use Rattle.commands.specs.Informing as informing
@@ -129,15 +128,9 @@ module _ (files : Files) (after : Outside) (reads : ReadFaults) (writes : ℕ) (
     show_due oil code _ (showing.stops s h same) = texts_stop oil code IsBuilt s h
     show_due oil code _ (showing.tells r h) = of_app oil code IsBuilt _ r (λ app told. inr (printed_due _ r told.2)) h
 
-    -- over its own texts, of which the run was done
-    gen_due : (seed tasks : ℕ) (r : Result (Unit {0}) Stop) → generating.GenAnswers before after seed tasks r → OrMemory (GenDue seed tasks) r
+    gen_due : (seed tasks : ℕ) (r : Result (Unit {0}) Stop) → generating.GenAnswers before after seed tasks r → OrMemory (λ (x : Result (Unit {0}) Stop). x ≡ Ok tt) r
     gen_due seed tasks _ (generating.no_memory same) = inl refl
-    gen_due seed tasks _ (generating.stops s due same) = inr due
-    gen_due seed tasks _ (generating.tells r (text, holds, (system, declares, (code_text, code_holds, (app, gives, (events, events_hold, (line, told, prints))))))) =
-        let own = generated_files seed tasks in
-        let done : end_of false (read_text app events).fault ≡ Ok tt = ap (end_of false) told.run.faultless in
-        let due = subst (RunDue own app tracing.never default_mode events_name) done (ends told.run.mode events told.run.named events_hold) in
-        subst (OrMemory (GenDue seed tasks)) (sym (printed_due line r prints)) (inr (goes_on text system code_text app (Ok tt) holds declares code_holds gives due))
+    gen_due seed tasks _ (generating.tells r (text, holds, (system, declares, (code_text, code_holds, (app, gives, (events, events_hold, (line, told, prints))))))) = inr (printed_due line r prints)
 
     pub command_due : (command : Option Command) (r : Result (Unit {0}) Stop) → CommandAnswers before after command r → OrMemory (IsDue files command) r
     command_due None r h = ⊎_elim inr inl h.0

@@ -1,24 +1,25 @@
 -- From a run in memory to the answers of `gen`.
-use Rattle.std.proofs.Common.{◌≡◌, ℕ, List, sym, subst, inl, inr, Some, Err, refl}
+use Rattle.std.proofs.Common.{◌≡◌, ◌<◌, ◌≤◌, ℕ, List, sym, subst, inl, inr, Some, Err, refl}
 use Rattle.std.specs.declared.result.Result.{Result}
+use Rattle.osek_values.specs.declared.limits.TheConstants.{MAX_TASKS}
 use Rattle.osek_standard.specs.declared.app.App.{App}
 use Rattle.flow_text.specs.{declared.gen_line.AnalysisCounts.{AnalysisCounts}, GeneratedLine.{text_size, gen_line}}
 use Rattle.osek_io.specs.Files.{Files}
 use Rattle.commands.specs.GeneratedFiles.{oil_name, code_name, events_name, generated_files}
-use Rattle.commands.specs.Generating.{AreLeastCounts, IsDefaultTrace, TellsRun, OfOwn, GenAnswers, no_memory, stops, tells}
+use Rattle.commands.specs.Generating.{AreLeastCounts, IsDefaultTrace, TellsRun, OfOwn, GenAnswers, no_memory, tells}
 use Rattle.command_runs.specs.Outside.{Outside}
 use Rattle.commands.specs.Printing.{PrintAnswers}
 use Rattle.command_runs.specs.declared.stop.Stop.{Stop}
 use Rattle.command_runs.proofs.InputFiles.{of_map}
-use Rattle.commands.proofs.OwnRuns.{OwnStops}
+use Rattle.commands.proofs.{OwnRuns.{OwnStops}, OwnTexts.{no_stop_is_due}}
 
 module _ (before after : Outside) (seed tasks : ℕ) where
   abbrev Line : Result (Unit {0}) Stop → App → List ℕ → Type 0
   Line r app text = (line : List ℕ) × TellsRun app text line × PrintAnswers before after line r
 
-  pub own_answers : after.out ≡ before.out → (s : Stop) → OwnStops (generated_files seed tasks) s → GenAnswers before after seed tasks (Err s)
-  own_answers same s (inl e) = subst (λ (x : Stop). GenAnswers before after seed tasks (Err x)) (sym e) (no_memory same)
-  own_answers same s (inr due) = stops s due same
+  pub own_answers : (0 < tasks) × (tasks ≤ MAX_TASKS) → after.out ≡ before.out → (s : Stop) → OwnStops (generated_files seed tasks) s → GenAnswers before after seed tasks (Err s)
+  own_answers few same s (inl e) = subst (λ (x : Stop). GenAnswers before after seed tasks (Err x)) (sym e) (no_memory same)
+  own_answers few same s (inr due) = absurd (no_stop_is_due seed tasks few s due)
 
   -- the line of a run in memory was printed
   pub own_tells : (files : Files) (counts : AnalysisCounts) (trace : List ℕ) → files ≡ generated_files seed tasks →

@@ -13,6 +13,7 @@ pub mod OneImage
 pub mod OneTable
 pub mod OneText
 pub mod OwnRuns
+pub mod OwnTexts
 pub mod Printed
 pub mod ShownEdges
 pub mod SameForms

@@ -13,10 +13,9 @@ use Rattle.image_codec.proofs.{DecodeLaws.{its_reading}, GoodOfValid.{one_spelli
 use Rattle.trace_text.specs.EventText.{read_text}
 use Rattle.osek_io.specs.Files.{Files}
 use Rattle.command_runs.specs.Running.{end_of}
-use Rattle.commands.specs.Due.{RunDue, no_mode, no_events, ends, ImageDue, no_image, bad_image, is_read, ImageRuns, IsTold, Upgrades, TextsDue, no_oil, bad_oil, no_code, bad_code, goes_on, IsBuilt, IsDue}
+use Rattle.commands.specs.Due.{RunDue, no_mode, no_events, ends, ImageDue, no_image, bad_image, is_read, ImageRuns, IsTold, Upgrades, TextsDue, no_oil, bad_oil, no_code, bad_code, goes_on, IsBuilt, OwnDue, IsDue}
 use Rattle.command_runs.specs.Replaying.{SpellImage, IsImageFault}
-use Rattle.commands.specs.{Tracing.{never}, GeneratedFiles.{oil_name, code_name, events_name, default_mode, generated_files}}
-use Rattle.commands.specs.Words.{Command, Build, Replay, Trace, Show, Info, Gen, Upgrade}
+use Rattle.commands.specs.{Tracing.{never}, GeneratedFiles.{oil_name, code_name, events_name, default_mode}, Words.{Command, Build, Replay, Trace, Show, Info, Gen, Upgrade}}
 use Rattle.command_runs.specs.declared.stop.Stop.{Stop}
 use Rattle.command_runs.specs.declared.stop.Stop.TheVariants as stop
 
@@ -133,6 +132,8 @@ one_due files (Some (Trace oil code mode events)) a b x y = one_texts files oil 
 one_due files (Some (Show oil code)) a b x y = one_texts files oil code IsBuilt (λ app a b x y. x ∙ sym y) a b x y
 one_due files (Some (Info image)) a b x y = one_image files image IsTold (λ i a b x y. x ∙ sym y) a b x y
 one_due files (Some (Upgrade image upgraded)) a b x y = one_image files image Upgrades (λ i a b x y. x ∙ sym y) a b x y
-one_due files (Some (Gen seed tasks)) a b x y =
-    let own = generated_files seed tasks in
-    one_texts own oil_name code_name (λ app. RunDue own app never default_mode events_name) (λ app. one_run own app never default_mode events_name) a b x y
+one_due files (Some (Gen seed tasks)) a b x y = x ∙ sym y
+
+-- a run in memory is due one answer
+pub one_own : (files : Files) (a b : Result (Unit {0}) Stop) → OwnDue files a → OwnDue files b → a ≡ b
+one_own files a b x y = one_texts files oil_name code_name (λ app. RunDue files app never default_mode events_name) (λ app. one_run files app never default_mode events_name) a b x y

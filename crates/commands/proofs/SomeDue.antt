@@ -13,7 +13,7 @@ use Rattle.image_codec.specs.Spelling.{spelling}
 use Rattle.image_codec.proofs.SomeImage.{spell_or_fail}
 use Rattle.osek_io.specs.Files.{Files}
 use Rattle.commands.specs.Due.{RunDue, no_mode, no_events, ends, ImageDue, no_image, bad_image, is_read, ImageRuns, IsTold, Upgrades, upgrade_end, TextsDue, no_oil, bad_oil, no_code, bad_code, goes_on, IsBuilt, IsDue}
-use Rattle.commands.specs.{GeneratedFiles.{oil_name, code_name, events_name, default_mode, generated_files}, Laws.{HoldBytes}}
+use Rattle.commands.specs.Laws.{HoldBytes}
 use Rattle.command_runs.specs.Running.{mode_named}
 use Rattle.commands.specs.{Tracing.{never}, Words.{Command, Build, Replay, Trace, Show, Info, Gen, Upgrade}}
 use Rattle.command_runs.specs.declared.stop.Stop.{Stop}
@@ -85,4 +85,4 @@ some_due files hold (Some (Trace oil code mode events)) = some_texts files oil c
 some_due files hold (Some (Show oil code)) = some_texts files oil code IsBuilt (λ app. (Ok tt, refl))
 some_due files hold (Some (Info image)) = some_image files image IsTold (λ i. (Ok tt, refl)) hold
 some_due files hold (Some (Upgrade image upgraded)) = some_image files image Upgrades (λ i. (upgrade_end i.version, refl)) hold
-some_due files hold (Some (Gen seed tasks)) = let own = generated_files seed tasks in some_texts own oil_name code_name (λ app. RunDue own app never default_mode events_name) (λ app. some_run own app never default_mode events_name)
+some_due files hold (Some (Gen seed tasks)) = (Ok tt, refl)

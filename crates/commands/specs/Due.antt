@@ -11,7 +11,7 @@ use Rattle.image_codec.specs.declared.fault.ImageFault.{ImageFault}
 use Rattle.image_model.specs.ImageTrace.{has_trap}
 use Rattle.trace_text.specs.EventText.{read_text}
 use Rattle.osek_io.specs.{Counts.{Rose}, Files.{Files}}
-use Rattle.commands.specs.GeneratedFiles.{oil_name, code_name, events_name, default_mode, generated_files}
+use Rattle.commands.specs.GeneratedFiles.{oil_name, code_name, events_name, default_mode}
 use Rattle.command_runs.specs.{Outside.{Outside}, Replaying.{SpellImage, IsImageFault}, Running.{mode_named, end_of}}
 use Rattle.commands.specs.{Tracing.{never}, Words.{Command, Build, Replay, Trace, Show, Info, Gen, Upgrade}}
 use Rattle.command_runs.specs.declared.stop.{Input.TheVariants.{Oil, Code, Image as image_file, Events}, Stop.{Stop}}
@@ -68,9 +68,6 @@ IsBuilt app r = r ≡ Ok tt
 abbrev pub OwnDue : Files → Result (Unit {0}) Stop → Type 0
 OwnDue files r = TextsDue files oil_name code_name (λ app. RunDue files app never default_mode events_name) r
 
-abbrev pub GenDue : (seed tasks : ℕ) → Result (Unit {0}) Stop → Type 0
-GenDue seed tasks = OwnDue (generated_files seed tasks)
-
 abbrev pub IsDue : Files → Option Command → Result (Unit {0}) Stop → Type 0
 IsDue files None r = r ≡ Err stop.Usage
 IsDue files (Some (Build oil code image)) r = TextsDue files oil code IsBuilt r
@@ -79,5 +76,5 @@ IsDue files (Some (Trace oil code mode events)) r = TextsDue files oil code (λ 
 IsDue files (Some (Show oil code)) r = TextsDue files oil code IsBuilt r
 IsDue files (Some (Info image)) r = ImageDue files image IsTold r
 IsDue files (Some (Upgrade image upgraded)) r = ImageDue files image Upgrades r
--- over its own texts `gen` is due what `trace` is
-IsDue files (Some (Gen seed tasks)) r = GenDue seed tasks r
+-- the own texts of `gen` have no fault
+IsDue files (Some (Gen seed tasks)) r = r ≡ Ok tt

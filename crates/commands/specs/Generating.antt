@@ -7,7 +7,7 @@ use Rattle.abstract_state.specs.{declared.table.PlainTable.{PlainTable}, Forms.{
 use Rattle.trace_text.specs.EventText.{read_text}
 use Rattle.osek_io.specs.Files.{Files}
 use Rattle.flow_text.specs.{declared.gen_line.AnalysisCounts.{AnalysisCounts}, GeneratedLine.{analysis_counts, text_size, gen_line}}
-use Rattle.commands.specs.{Compiling.{OfApp}, Due.{GenDue}, Fitting.{IsLeastTable}, GeneratedFiles.{oil_name, code_name, events_name, default_mode, generated_files}}
+use Rattle.commands.specs.{Compiling.{OfApp}, Fitting.{IsLeastTable}, GeneratedFiles.{oil_name, code_name, events_name, default_mode, generated_files}}
 use Rattle.command_runs.specs.{Inputs.{OfFile}, Outside.{Outside}}
 use Rattle.commands.specs.Printing.{PrintAnswers}
 use Rattle.command_runs.specs.{Running.{mode_named}, declared.stop.Stop.{Stop}}
@@ -41,8 +41,7 @@ pub record TellsRun (app : App) (text line : List ℕ) : Type 0 where
 abbrev pub OfOwn : Option Files → (App → List ℕ → Type 0) → Type 0
 OfOwn files P = OfApp files oil_name code_name (λ app. OfFile files events_name (P app))
 
--- Memory ran out, or a stop that its own texts are due, and nothing was printed; or the line of the run was printed.
+-- Memory ran out, and nothing was printed; or the line of the run was printed: its own texts have no fault.
 pub data GenAnswers (before after : Outside) (seed tasks : ℕ) : Result (Unit {0}) Stop → Type 0 where
   no_memory : after.out ≡ before.out → GenAnswers before after seed tasks (Err stop.Memory)
-  stops : (s : Stop) → GenDue seed tasks (Err s) → after.out ≡ before.out → GenAnswers before after seed tasks (Err s)
   tells : (r : Result (Unit {0}) Stop) → OfOwn (Some (generated_files seed tasks)) (λ app text. (line : List ℕ) × TellsRun app text line × PrintAnswers before after line r) → GenAnswers before after seed tasks r

@@ -1,5 +1,6 @@
 //! The command `gen`: a system that is made from a number, and run in memory.
 ghost use Rattle.std.specs.Prelude.{◌≡◌, ◌⊎◌, ◌≤◌, ◌<◌, length, Some, Err, IfOk, IfErr};
+ghost use Rattle.osek_values.specs.declared.limits.TheConstants.{MAX_TASKS};
 ghost use Rattle.osek_io.specs.{Files.{Files}, Sunk.{sunk}};
 ghost use Rattle.osek_standard.specs.Versions.{FitsVersion1};
 ghost use Rattle.flow_text.specs.GeneratedLine.{text_size, gen_line};
@@ -69,7 +70,8 @@ fn shelf_of(alloc: Global, texts: &Generated) -> Result<MemShelf, Memory>
 
 /// The files of a generated system, in memory.
 fn generated_shelf(alloc: Global, seed: u64, tasks: u32) -> Result<MemShelf, Memory>
-    ensures { IfOk result (λ s. s.files ≡ generated_files seed tasks) }
+    ensures files { IfOk result (λ s. s.files ≡ generated_files seed tasks) }
+    ensures few { IfOk result (λ _. (0 < tasks) × (tasks ≤ MAX_TASKS)) }
 {
     match generate(alloc, seed, tasks) {
         Ok(texts) => shelf_of(alloc, &texts),
