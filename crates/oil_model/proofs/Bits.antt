@@ -1,11 +1,11 @@
 -- Bits of masks and of modes.
-use Rattle.std.proofs.Common.{◌≡◌, ℕ, ◌+◌, ◌-◌, ◌<◌, ◌≤◌, ◌^◌, ◌⊎◌, ⊎_elim, List, [], ◌∷◌, length, Bool, true, false, refl, sym, subst, arith}
-use Rattle.std.specs.{Prelude.{if◌then◌else◌, codes, bit_or, ◌||◌}, List.{AllByRecursion}}
+use Rattle.std.proofs.Common.{◌≡◌, ℕ, ◌+◌, ◌-◌, ◌<◌, ◌≤◌, ◌^◌, ◌⊎◌, inl, inr, ⊎_elim, List, [], ◌∷◌, length, Bool, true, false, refl, sym, subst, arith}
+use Rattle.std.specs.{Prelude.{if◌then◌else◌, codes, bit_or, ◌||◌}, List.{AllByRecursion}, Str.{bytes_eq}}
 use Rattle.std.proofs.{Math.Pow.{pow-lt, pow-sub-lt}, lemmas.Nat.{or_lt, le_or_l, le_or_r, pow_pos}}
 use Rattle.osek_values.specs.Hooks.{when, startup, shutdown, error, pre_task, post_task}
 use Rattle.oil_tree.specs.declared.tree.{Attr.{Attr}, Object.{Object}}
 use Rattle.oil_model.specs.{LookUp.{is_named, has, word_of, inner}, Objects.{priority, is_started, start, alarm_time, cycle_time}}
-use Rattle.oil_model.specs.Systems.{hook, hooks, number_in, mode_bits, start_bits, autostart, above_all}
+use Rattle.oil_model.specs.Systems.{hook, hooks, number_from, number_in, mode_bits, start_bits, autostart, above_all}
 use Rattle.oil_model.proofs.Facts.{true_or_false}
 
 small_hook : (b : Bool) (h : ℕ) → h < 2 ^ 5 → when b h < 2 ^ 5
@@ -20,6 +20,18 @@ known_hooks objects =
     let d : hook (codes "PRETASKHOOK") pre_task objects < 2 ^ 5 = small_hook _ pre_task (omega arith) in
     let e : hook (codes "POSTTASKHOOK") post_task objects < 2 ^ 5 = small_hook _ post_task (omega arith) in
     or_lt 5 _ _ a (or_lt 5 _ _ b (or_lt 5 _ _ c (or_lt 5 _ _ d e)))
+
+-- a name's number is one of the list, or 0
+number_or_none : (k : ℕ) (n : List ℕ) (names : List (List ℕ)) → (number_from k n names < k + length names) ⊎ (number_from k n names ≡ 0)
+number_or_none k n [] = inr refl
+number_or_none k n (m ∷ names) =
+    ⊎_elim
+    (λ t. subst (λ (b : Bool). ((if b then k else number_from (k + 1) n names) < k + length (m ∷ names)) ⊎ ((if b then k else number_from (k + 1) n names) ≡ 0)) (sym t) (inl (omega arith)))
+    (λ f. subst (λ (b : Bool). ((if b then k else number_from (k + 1) n names) < k + length (m ∷ names)) ⊎ ((if b then k else number_from (k + 1) n names) ≡ 0)) (sym f) (⊎_elim (λ lt. inl (omega (arith, lt))) (λ none. inr none) (number_or_none (k + 1) n names)))
+    (true_or_false (bytes_eq m n))
+
+pub mode_number : (modes : List (List ℕ)) (n : List ℕ) → 0 < length modes → number_in modes n < length modes
+mode_number modes n some = ⊎_elim (λ lt. omega (arith, lt)) (λ none. omega (arith, none, some)) (number_or_none 0 n modes)
 
 or_if : (b : Bool) (bits one w : ℕ) → bits < 2 ^ w → one < 2 ^ w → (if b then bit_or bits one else bits) < 2 ^ w
 or_if true bits one w h k = or_lt w bits one h k
