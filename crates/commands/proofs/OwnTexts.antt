@@ -1,5 +1,5 @@
 -- No stop is due to a run of generated texts: they have no fault.
-use Rattle.std.proofs.Common.{◌≡◌, ◌<◌, ◌≤◌, ℕ, Bool, cond, List, ◌∷◌, length, subst, ap, option_map, arith, ◌∙◌, Some, None, Ok, Err}
+use Rattle.std.proofs.Common.{◌≡◌, ◌<◌, ◌≤◌, ℕ, Bool, false, cond, List, ◌∷◌, length, subst, ap, option_map, arith, ◌∙◌, Some, None, Ok, Err}
 use Rattle.std.specs.{Cmp.Lexicographic.{nat_list_cmp_total}, FinMap.{empty, get, insert, get-insert}, List.{position}, Str.{bytes_eq}}
 use Rattle.std.proofs.lemmas.Bool.{lt-ltb}
 use Rattle.osek_values.specs.{Numbers.{mode_no}, declared.limits.TheConstants.{MAX_TASKS}}

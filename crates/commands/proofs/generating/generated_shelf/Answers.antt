@@ -18,4 +18,4 @@ whichever P (Ok x) is = is
 whichever P (Err e) is = tt
 
 pub returns-in-Ok-clause-few : goal.returns-in-Ok-clause-few
-returns-in-Ok-clause-few c = whichever _ c.shelf_of.result (few_of c.args.tasks c.in-Ok.ensures.refused.1)
+returns-in-Ok-clause-few c = whichever _ c.shelf_of.result (few_of c.args.tasks (λ out. (let e = c.in-Ok.ensures.refused.1 out in absurd cc)))
