@@ -1,19 +1,17 @@
 -- One event, from the machine's turn to what is printed.
-use Rattle.std.proofs.Common.{◌≡◌, ℕ, Bool, false, refl, sym, ◌∙◌, ap, subst, inl, inr, Some, None, Ok, Err}
+use Rattle.std.proofs.Common.{◌≡◌, ℕ, Bool, true, false, refl, sym, ◌∙◌, ap, subst, Some, None, Ok}
 use Rattle.std.specs.{Prelude.{if◌then◌else◌}, declared.{option.Option.{Option}, result.Result.{Result}}}
 use Rattle.osek_values.specs.declared.{event.Event.{Event}, notes.Notes.{Notes}}
 use Rattle.osek_standard.specs.{declared.state.State.{State}, Dispatch.{Stepped, stepped}}
 use Rattle.image_model.specs.{declared.image.Image.{Image}, ImageStep.{image_step}}
-use Rattle.image_run.specs.Machines.{AtWork, Turn, turned, turned_by, turn}
-use Rattle.image_model.specs.ImageTrace.{trap_line}
-use Rattle.command_runs.specs.{Playing.{Given, Puts, PutsPrefix, line_of, AnswersEvent}, declared.stop.Stop.{Stop}}
-use Rattle.command_runs.specs.declared.stop.Stop.TheVariants as stop
+use Rattle.image_run.specs.{Machines.{AtWork, Turn, turned, turned_by, turn}, Noted.{noted_if}}
+use Rattle.command_runs.specs.{Playing.{Given, played, line_of, HeldAnswers, AnswersEvent}, declared.stop.Stop.{Stop}}
 
 -- a turn of a machine that didn't trap is a step of its image
 pub turn_is : (m : AtWork) (e : Event) (t : Turn) → m.trapped ≡ false → turn m e ≡ t → turned_by m (image_step m.image m.state e) ≡ t
 turn_is m e t runs is = subst (λ (b : Bool). (if b then turned m None else turned_by m (image_step m.image m.state e)) ≡ t) runs is
 
-pub stepped_on : (m new : AtWork) (o : Option Stepped) (n : Notes) → turned_by m o ≡ turned new (Some n) → o ≡ Some (stepped new.state n)
+stepped_on : (m new : AtWork) (o : Option Stepped) (n : Notes) → turned_by m o ≡ turned new (Some n) → o ≡ Some (stepped new.state n)
 stepped_on m new None n e = absurd (cc (ap (λ (t : Turn). t.notes) e))
 stepped_on m new (Some x) n e =
     let notes : x.notes ≡ n = cc (ap (λ (t : Turn). t.notes) e) in
@@ -23,24 +21,26 @@ pub same_image : (m new : AtWork) (o : Option Stepped) (n : Option Notes) → tu
 same_image m new None n e = sym (ap (λ (t : Turn). t.machine.image) e)
 same_image m new (Some x) n e = sym (ap (λ (t : Turn). t.machine.image) e)
 
-pub trapped_on : (m new : AtWork) (o : Option Stepped) → turned_by m o ≡ turned new None → o ≡ None
+trapped_on : (m new : AtWork) (o : Option Stepped) → turned_by m o ≡ turned new None → o ≡ None
 trapped_on m new None e = refl
 trapped_on m new (Some x) e = absurd (cc (ap (λ (t : Turn). t.notes) e))
 
-pub event_printed : (old new : Given) (i j : Image) (n : ℕ) (s : State) (o : Option Stepped) (notes : Notes) →
-    o ≡ Some (stepped s notes) → j ≡ i → Puts old new (line_of j n (stepped s notes)) → AnswersEvent old new i n s o (Ok tt)
-event_printed old new i j n s o notes is same prints =
-    subst (λ (x : Option Stepped). AnswersEvent old new i n s x (Ok tt)) (sym is)
-    (inl (refl, refl, subst (λ (k : Image). Puts old new (line_of k n (stepped s notes))) same prints))
+pub runs_on : (m new : AtWork) (o : Option Stepped) (n : Notes) → m.trapped ≡ false → turned_by m o ≡ turned new (Some n) → new.trapped ≡ false
+runs_on m new None n runs e = absurd (cc (ap (λ (t : Turn). t.notes) e))
+runs_on m new (Some x) n runs e = sym (ap (λ (t : Turn). t.machine.trapped) e) ∙ runs
 
-pub event_unprinted : (old new : Given) (i j : Image) (n : ℕ) (s : State) (o : Option Stepped) (notes : Notes) (end : Stop) →
-    o ≡ Some (stepped s notes) → j ≡ i → ◌≡◌ {A = Result (Unit {0}) Stop} (Err end) (Err stop.Unprinted) → PutsPrefix old new (line_of j n (stepped s notes)) →
-    AnswersEvent old new i n s o (Err end)
-event_unprinted old new i j n s o notes end is same unprinted prefix =
-    subst (λ (x : Option Stepped). AnswersEvent old new i n s x (Err end)) (sym is)
-    (inr (unprinted, subst (λ (k : Image). PutsPrefix old new (line_of k n (stepped s notes))) same prefix))
+-- what a step that is no trap makes of a state
+pub steps_as : (m new : AtWork) (o : Option Stepped) (is : Bool) (n : Notes) → turned_by m o ≡ turned new (noted_if is n) → o ≡ (if is then Some (stepped new.state n) else None)
+steps_as m new o true n e = stepped_on m new o n e
+steps_as m new o false n e = trapped_on m new o e
 
-pub trap_unprinted : (old new : Given) (i : Image) (n : ℕ) (s : State) (o : Option Stepped) (end : Stop) →
-    o ≡ None → ◌≡◌ {A = Result (Unit {0}) Stop} (Err end) (Err stop.Unprinted) → PutsPrefix old new (trap_line n) → AnswersEvent old new i n s o (Err end)
-trap_unprinted old new i n s o end is unprinted prefix =
-    subst (λ (x : Option Stepped). AnswersEvent old new i n s x (Err end)) (sym is) (inr (unprinted, prefix))
+-- the line of a step that is no trap was put, or not, from where the play stood before it
+pub event_put : (old mid new : Given) (i j : Image) (n k : ℕ) (s : State) (o : Option Stepped) (x : Stepped) (r : Result (Unit {0}) Stop) → o ≡ Some x → mid ≡ old → j ≡ i → k ≡ n → s ≡ x.state →
+    HeldAnswers mid new (played (line_of j k x) (Ok tt)) r → AnswersEvent old new i n s o r
+event_put old mid new i j n k s o x r is held image number state h =
+    subst (λ (y : Option Stepped). AnswersEvent old new i n s y r) (sym is) (
+      state,
+      subst (λ (p : Given). HeldAnswers p new (played (line_of i n x) (Ok tt)) r) held
+          (subst (λ (m : ℕ). HeldAnswers mid new (played (line_of i m x) (Ok tt)) r) number
+          (subst (λ (l : Image). HeldAnswers mid new (played (line_of l k x) (Ok tt)) r) image h)),
+    )

@@ -5,13 +5,14 @@ use Rattle.std.proofs.{lemmas.{Bool.{ltb-true}, List.{append-nil, drop_all, leng
 use Rattle.osek_values.specs.declared.{limits.TheConstants.{MAX_EVENT_TEXT}, event.Event.{Event}}
 use Rattle.osek_standard.specs.declared.state.State.{State}
 use Rattle.image_model.specs.declared.image.Image.{Image}
+use Rattle.image_run.specs.Machines.{AtWork}
 use Rattle.trace_text.specs.{declared.{fault.EventFault.{EventFault}, feed.FeedStep.TheVariants.{Line}}, EventText.{text_lines, numbered_lines}, EventWords.{read_line}}
 use Rattle.trace_text.specs.Feeds.{FeedState, next_answer, after_next, lines_to_long}
 use Rattle.trace_text.proofs.FeedLaws.{line_is_first, too_long}
 use Rattle.osek_io.specs.{Counts.{Rose}, Files.{Files, Holds}}
 use Rattle.command_runs.specs.Inputs.{OfFile, ReadsOn}
 use Rattle.command_runs.specs.Playing.{Given, Puts, Played, played, printing, plays, plays_fed, played_line, MayFollow, PlaysOn, GoesOn, HasNoEnd, TakesLines, StopsBehind, HeldAnswers, HeldReadAnswers}
-use Rattle.command_runs.specs.declared.stop.Stop.{Stop}
+use Rattle.command_runs.specs.declared.{playing.Place.{Place}, stop.Stop.{Stop}}
 use Rattle.command_runs.proofs.{EndedLines.{EndsLine, ended_behind, line_ends_or_is_long}, GivenTexts.{puts_nothing, puts_both}, InputFiles.{of_map}}
 use Rattle.command_runs.proofs.Plays.{came_to_end, printed_first, printing-printing}
 
@@ -154,10 +155,13 @@ more_played files name first now next i start taken f g k n s l m t done on h = 
   takes = λ going. takes_both h.came f.ahead g.ahead i 1 1 start k n s l m t h.text on.text (h.takes (sym done ∙ going)) (on.takes (sym done ∙ going));
 }
 
--- what was held back was written meanwhile
-pub held_played : (files : Option Files) (name : List ℕ) (first now next : Given) (i : Image) (start : State) (taken : ℕ) (f : FeedState) (k n : ℕ) (s : State) → Puts now next [] →
-    HasCome files name first now i start taken f k n s → HasCome files name first next i start taken f k n s
-held_played files name first now next i start taken f k n s on h = more_played files name first now next i start taken f f k n s k n s refl (record { text = []; prints = on; goes_on = λ rest may. refl; takes = λ _. takes_nothing f.ahead i k n s }) h
+-- what was held back was written meanwhile, and the play stands where it stood
+pub held_played : (files : Option Files) (name : List ℕ) (first now next : Given) (i : Image) (start : State) (taken : ℕ) (f : FeedState) (p q : Place) (m w : AtWork) → q ≡ p → w ≡ m → Puts now next [] →
+    HasCome files name first now i start taken f p.line p.event m.state → HasCome files name first next i start taken f q.line q.event w.state
+held_played files name first now next i start taken f p q m w same_place same_machine on h =
+    subst (λ (x : Place). HasCome files name first next i start taken f x.line x.event w.state) (sym same_place)
+    (subst (λ (x : AtWork). HasCome files name first next i start taken f p.line p.event x.state) (sym same_machine)
+    (more_played files name first now next i start taken f f p.line p.event m.state p.line p.event m.state refl (record { text = []; prints = on; goes_on = λ rest may. refl; takes = λ _. takes_nothing f.ahead i p.line p.event m.state }) h))
 
 -- what is true of the bytes that came, whatever may follow, is true of the file's
 pub of_come : (files : Option Files) (name : List ℕ) (P : List ℕ → Type 0) → OfFile files name (λ t. length t ≤ MAX_EVENT_TEXT) → (came : List ℕ) (taken : ℕ) (f : FeedState) → length came ≡ taken → taken ≤ MAX_EVENT_TEXT →

@@ -50,6 +50,9 @@ puts_past p q mid text (n, m) (o, w) none = (
   ),
 )
 
+pub prefix_past : (p q : Given) (mid : Sunk) (text : List ℕ) → Writes p.out mid p.held → Breaks mid q.out text → q.held ≡ [] → PutsPrefix p q text
+prefix_past p q mid text (n, m) (rose, prefix) none = ((subst (λ (k : ℕ). Rose k q.out.faults) n rose, prefix_behind p.out.written mid.written q.out.written p.held text m prefix), none)
+
 -- a text was put where nothing was held back, and then what was held back of it was written
 pub puts_flushed : (first : Sunk) (mid : Given) (last : Sunk) (text : List ℕ) → Puts (given first []) mid text → Writes mid.out last mid.held → Writes first last text
 puts_flushed first mid last text (n, (f, parts, w)) (o, e) =

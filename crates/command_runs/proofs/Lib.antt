@@ -2,12 +2,12 @@ pub mod EndedLines
 pub mod EventSteps
 pub mod FaultlessReads
 pub mod FedPlays
+pub mod Prefixes
 pub mod GivenTexts
 pub mod InputFiles
 pub mod PlayEnds
 pub mod PlayedTrace
 pub mod Plays
-pub mod Prefixes
 pub mod Results
 pub mod Runs
 pub mod StoredFiles

@@ -2,17 +2,12 @@
 use Rattle.std.proofs.Common.{◌≡◌, ℕ, ◌+◌, List, [], ◌∷◌, ◌++◌, sym, ◌∙◌, ap, subst, inl, inr, append_assoc, Some, None, Ok, Err}
 use Rattle.std.specs.declared.{option.Option.{Option}, result.Result.{Result}}
 use Rattle.osek_values.specs.declared.event.Event.{Event}
-use Rattle.osek_standard.specs.{declared.state.State.{State}, Dispatch.{Stepped, stepped}}
+use Rattle.osek_standard.specs.{declared.state.State.{State}, Dispatch.{Stepped}}
 use Rattle.image_model.specs.{declared.image.Image.{Image}, ImageStep.{image_step}}
 use Rattle.trace_text.specs.declared.fault.EventFault.{EventFault}
-use Rattle.osek_io.specs.Counts.{Rose}
 use Rattle.command_runs.specs.Playing.{Played, played, printing, plays, played_line, played_after, line_of, Given, Puts, PutsPrefix, AnswersEvent, GoesOn, HeldAnswers}
 use Rattle.command_runs.specs.declared.stop.Stop.{Stop}
-use Rattle.command_runs.specs.declared.stop.Stop.TheVariants as stop
-use Rattle.osek_values.specs.declared.notes.Notes.{Notes}
-use Rattle.osek_standard.specs.{declared.app.App.{App}, TraceText.{line_text}}
-use Rattle.osek_io.specs.Stored.{WritesProperPrefix}
-use Rattle.command_runs.proofs.{Prefixes.{prefix_of_proper}, GivenTexts.{puts_nothing, puts_both, puts_prefix_of_first, puts_prefix_behind}}
+use Rattle.command_runs.proofs.GivenTexts.{puts_nothing, puts_both, puts_prefix_of_first, puts_prefix_behind}
 
 pub printing-printing : (a b : List ℕ) (p : Played) → printing a (printing b p) ≡ printing (a ++ b) p
 printing-printing a b p = ap (λ (l : List ℕ). played l p.end) (sym (append_assoc a b p.text))
@@ -32,23 +27,21 @@ pub line_played : (old new : Given) (i : Image) (n : ℕ) (s t : State) (number 
     GoesOn old new (λ more. played_line i n s number more r) (n + 1) t
 line_played old new i n s t number r e None is step (inl h) = absurd (cc (h.0))
 line_played old new i n s t number r e None is step (inr h) = absurd (cc (h.0))
-line_played old new i n s t number r e (Some x) is step (inl h) = record {
+line_played old new i n s t number r e (Some x) is step (same, inl h) = record {
   text = line_of i n x;
-  prints = h.2;
-  goes_on = λ more. ap (played_line i n s number more) is ∙ ap (played_after i n (more (n + 1))) step ∙ ap (λ (u : State). printing (line_of i n x) (more (n + 1) u)) (sym h.1);
+  prints = h.1;
+  goes_on = λ more. ap (played_line i n s number more) is ∙ ap (played_after i n (more (n + 1))) step ∙ ap (λ (u : State). printing (line_of i n x) (more (n + 1) u)) (sym same);
 }
-line_played old new i n s t number r e (Some x) is step (inr h) = absurd (cc (h.0))
+line_played old new i n s t number r e (Some x) is step (same, inr h) = absurd (cc (h.0))
 
 -- an event at which the play ends
 pub line_ends : (old new : Given) (i : Image) (n : ℕ) (s t : State) (number : ℕ) (r : Result (Option Event) EventFault) (e : Event) (x : Option Stepped) (end : Stop) →
     r ≡ Ok (Some e) → image_step i s e ≡ x → AnswersEvent old new i n t x (Err end) →
     (more : ℕ → State → Played) → HeldAnswers old new (played_line i n s number more r) (Err end)
-line_ends old new i n s t number r e None end is step (inl h) more =
-    subst (λ (p : Played). HeldAnswers old new p (Err end)) (sym (ap (played_line i n s number more) is ∙ ap (played_after i n (more (n + 1))) step)) (inl (h.0, h.1))
-line_ends old new i n s t number r e None end is step (inr h) more =
-    subst (λ (p : Played). HeldAnswers old new p (Err end)) (sym (ap (played_line i n s number more) is ∙ ap (played_after i n (more (n + 1))) step)) (inr (h.0, h.1))
-line_ends old new i n s t number r e (Some x) end is step (inl h) more = absurd (cc (h.0))
-line_ends old new i n s t number r e (Some x) end is step (inr h) more =
+line_ends old new i n s t number r e None end is step h more =
+    subst (λ (p : Played). HeldAnswers old new p (Err end)) (sym (ap (played_line i n s number more) is ∙ ap (played_after i n (more (n + 1))) step)) h
+line_ends old new i n s t number r e (Some x) end is step (any, inl h) more = absurd (cc (h.0))
+line_ends old new i n s t number r e (Some x) end is step (any, inr h) more =
     subst (λ (p : Played). HeldAnswers old new p (Err end)) (sym (ap (played_line i n s number more) is ∙ ap (played_after i n (more (n + 1))) step))
     (inr (h.0, puts_prefix_of_first old new (line_of i n x) (more (n + 1) x.state).text h.1))
 
@@ -66,15 +59,6 @@ came_to_end first now next play i lines n s r (inl h) c =
 came_to_end first now next play i lines n s r (inr h) c =
     inr (h.0, subst (PutsPrefix first next) (sym (ap (λ (p : Played). p.text) c.rest)) (puts_prefix_behind first now next c.text (plays i lines n s).text c.prints h.1))
 
--- what is put is the line
-line_is : (app seen : App) (n : ℕ) (s t : State) (notes : Notes) (text : List ℕ) → text ≡ line_text seen n (stepped t notes) ++ 10 ∷ [] → seen ≡ app → t ≡ s → text ≡ line_text app n (stepped s notes) ++ 10 ∷ []
-line_is app seen n s t notes text e a b = e ∙ ap (λ (x : App). line_text x n (stepped t notes) ++ 10 ∷ []) a ∙ ap (λ (x : State). line_text app n (stepped x notes) ++ 10 ∷ []) b
-
-pub line_prefix : (old new : Given) (app seen : App) (n : ℕ) (s t : State) (notes : Notes) (text : List ℕ) →
-    text ≡ line_text seen n (stepped t notes) ++ 10 ∷ [] → seen ≡ app → t ≡ s → Rose old.out.faults new.out.faults → WritesProperPrefix old.out.written new.out.written (old.held ++ text) → new.held ≡ [] → PutsPrefix old new (line_text app n (stepped s notes) ++ 10 ∷ [])
-line_prefix old new app seen n s t notes text e a b rose p none =
-    subst (PutsPrefix old new) (line_is app seen n s t notes text e a b) ((rose, prefix_of_proper old.out.written new.out.written (old.held ++ text) p), none)
-
 -- a text, and then a play
 pub printed_first : (first now next : Given) (text : List ℕ) (p : Played) (r : Result (Unit {0}) Stop) →
     Puts first now text → HeldAnswers now next p r → HeldAnswers first next (printing text p) r
@@ -83,6 +67,12 @@ printed_first first now next text p r e (inl h) =
 printed_first first now next text p r e (inr h) =
     inr (h.0, puts_prefix_behind first now next text p.text e h.1)
 
-pub first_fails : (first next : Given) (text : List ℕ) (p : Played) (end : Stop) → end ≡ stop.Unprinted →
-    PutsPrefix first next text → HeldAnswers first next (printing text p) (Err end)
-first_fails first next text p end is h = inr (ap (λ (e : Stop). Err e) is, puts_prefix_of_first first next text p.text h)
+-- a text that was put
+pub was_put : (first next : Given) (text : List ℕ) → HeldAnswers first next (played text (Ok tt)) (Ok tt) → Puts first next text
+was_put first next text (inl h) = h.1
+was_put first next text (inr h) = absurd (cc (h.0))
+
+-- or wasn't, and no more of a play is printed
+pub first_fails : (first next : Given) (text : List ℕ) (p : Played) (end : Stop) → HeldAnswers first next (played text (Ok tt)) (Err end) → HeldAnswers first next (printing text p) (Err end)
+first_fails first next text p end (inl h) = absurd (cc (h.0))
+first_fails first next text p end (inr h) = inr (h.0, puts_prefix_of_first first next text p.text h.1)

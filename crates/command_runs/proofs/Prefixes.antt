@@ -1,8 +1,8 @@
--- Prefixes of texts that are written piece by piece.
-use Rattle.std.proofs.Common.{◌≡◌, ℕ, List, ◌++◌, take, drop, refl, sym, ◌∙◌, ap, append_assoc, Some, None}
-use Rattle.std.specs.declared.option.Option.{Option}
-use Rattle.osek_io.specs.{Pieces.{grown}, Stored.{WritesProperPrefix}}
-use Rattle.command_runs.specs.Telling.{WritesPrefix}
+-- Texts that are written piece by piece, or prefixes of them.
+use Rattle.std.proofs.Common.{◌≡◌, ℕ, List, ◌++◌, take, drop, refl, sym, ◌∙◌, ap, subst, append_assoc, Some, None, Ok, Err}
+use Rattle.std.specs.{Prelude.{OnOk, OnErr}, declared.{option.Option.{Option}, result.Result.{Result}}}
+use Rattle.osek_io.specs.{Counts.{Rose}, Pieces.{grown}, Stored.{WritesProperPrefix}, Sunk.{Sunk, Writes}, declared.storing.PutError.{PutError}}
+use Rattle.command_runs.specs.Telling.{TellsText, WritesPrefix}
 use Rattle.std.proofs.lemmas.List.{take-append-drop}
 
 pub grown-grown : (old : Option (List ℕ)) (a b : List ℕ) → grown (grown old a) b ≡ grown old (a ++ b)
@@ -20,3 +20,18 @@ prefix_of_first old new a b h = (h.0, h.1 ++ b, ap (λ (l : List ℕ). l ++ b) h
 pub prefix_behind : (old between new : Option (List ℕ)) (a b : List ℕ) → between ≡ grown old a → WritesPrefix between new b → WritesPrefix old new (a ++ b)
 prefix_behind old between new a b e h =
     (a ++ h.0, h.1, ap (λ (l : List ℕ). a ++ l) h.2 ∙ sym (append_assoc a h.0 h.1), h.3 ∙ ap (λ (o : Option (List ℕ)). grown o h.0) e ∙ grown-grown old a h.0)
+
+-- a text that was put, by the clauses of `put_all`
+pub told_by : (p q : Sunk) (text : List ℕ) (r : Result (Unit {0}) PutError) → OnOk r (q.written ≡ grown p.written text) → OnOk r (q.faults ≡ p.faults) →
+    OnErr r (WritesProperPrefix p.written q.written text) → OnErr r (Rose p.faults q.faults) → TellsText p q text r
+told_by p q text (Ok done) all calm part rose = (calm, all)
+told_by p q text (Err e) all calm part rose = (rose, prefix_of_proper p.written q.written text part)
+
+-- a text of which not all was written, and so nothing of what is behind it
+pub told_first : (p q : Sunk) (a b : List ℕ) (e : PutError) → TellsText p q a (Err e) → TellsText p q (a ++ b) (Err e)
+told_first p q a b e (rose, part) = (rose, prefix_of_first p.written q.written a b part)
+
+-- a text behind one that was written
+pub told_behind : (p q r : Sunk) (a b : List ℕ) (x : Result (Unit {0}) PutError) → Writes p q a → TellsText q r b x → TellsText p r (a ++ b) x
+told_behind p q r a b (Ok done) (n, w) (m, v) = (m ∙ n, v ∙ ap (λ (o : Option (List ℕ)). grown o b) w ∙ grown-grown p.written a b)
+told_behind p q r a b (Err e) (n, w) (rose, part) = (subst (λ (k : ℕ). Rose k r.faults) n rose, prefix_behind p.written q.written r.written a b w part)

@@ -55,16 +55,6 @@ abbrev pub plays : Image → List (ℕ × List ℕ) → ℕ → State → Played
 plays i [] n s = played [] (Ok tt)
 plays i (line ∷ more) n s = played_line i n s line.0 (plays i more) (read_line i.app line.1)
 
--- What playing event n answers and leaves: the line of the step, or of a trap, was printed; or a prefix of it, where a
--- write failed.
-abbrev pub AnswersEvent : Given → Given → Image → ℕ → State → Option Stepped → Result (Unit {0}) Stop → Type 0
-AnswersEvent printed printed_after i n s None r =
-    ((r ≡ Err stop.Trapped) × Puts printed printed_after (trap_line n))
-    ⊎ ((r ≡ Err stop.Unprinted) × PutsPrefix printed printed_after (trap_line n))
-AnswersEvent printed printed_after i n s (Some x) r =
-    ((r ≡ Ok tt) × (s ≡ x.state) × Puts printed printed_after (line_of i n x))
-    ⊎ ((r ≡ Err stop.Unprinted) × PutsPrefix printed printed_after (line_of i n x))
-
 -- What playing a line answers and leaves, whatever comes after it: how many events there were next, in which state, what
 -- was printed; or an end of the play.
 pub record GoesOn (printed printed_after : Given) (line : (ℕ → State → Played) → Played) (next : ℕ) (s : State) : Type 0 where
@@ -84,9 +74,14 @@ HeldAnswers printed printed_after p r =
     ((r ≡ p.end) × Puts printed printed_after p.text)
     ⊎ ((r ≡ Err stop.Unprinted) × PutsPrefix printed printed_after p.text)
 
-abbrev pub AnswersLine : Given → Given → ((ℕ → State → Played) → Played) → State → Result ℕ Stop → Type 0
-AnswersLine printed printed_after line s (Ok next) = GoesOn printed printed_after line next s
-AnswersLine printed printed_after line s (Err e) = (more : ℕ → State → Played) → HeldAnswers printed printed_after (line more) (Err e)
+-- What playing event n answers and leaves: the line of the step was printed, or of a trap.
+abbrev pub AnswersEvent : Given → Given → Image → ℕ → State → Option Stepped → Result (Unit {0}) Stop → Type 0
+AnswersEvent printed printed_after i n s None r = HeldAnswers printed printed_after (played (trap_line n) (Err stop.Trapped)) r
+AnswersEvent printed printed_after i n s (Some x) r = (s ≡ x.state) × HeldAnswers printed printed_after (played (line_of i n x) (Ok tt)) r
+
+abbrev pub AnswersLine : Given → Given → ((ℕ → State → Played) → Played) → (next : ℕ) → State → Result (Unit {0}) Stop → Type 0
+AnswersLine printed printed_after line next s (Ok done) = GoesOn printed printed_after line next s
+AnswersLine printed printed_after line next s (Err e) = (more : ℕ → State → Played) → HeldAnswers printed printed_after (line more) (Err e)
 
 -- what is played of the lines that a feed has ahead, where this rest of the text comes behind them: line k is the next one
 abbrev pub plays_fed : Image → FeedState → (rest : List ℕ) → (k n : ℕ) → State → Played

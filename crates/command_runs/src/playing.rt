@@ -1,12 +1,12 @@
 //! An image at work: each line of an event text as it is read, and the line of the trace that comes of it.
-ghost use Rattle.std.specs.Prelude.{◌≡◌, ◌≤◌, ◌+◌, ◌++◌, ◌∷◌, [], ℕ, List, length, true, false, OnOk, OnErr, IfOk, IfErr, Err};
-ghost use Rattle.osek_standard.specs.{Apps.{IsDeclared}, Dispatch.{stepped}, TraceText.{line_text}};
+ghost use Rattle.std.specs.Prelude.{◌≡◌, ◌≤◌, ◌+◌, ◌++◌, ◌∷◌, [], ℕ, List, length, true, false, if◌then◌else◌, Some, None, OnOk, OnErr, IfErr, Err};
+ghost use Rattle.osek_standard.specs.{Apps.{IsDeclared}, Dispatch.{stepped}};
 ghost use Rattle.osek_io.specs.{Counts.{Rose}, Reads.{OnlyReads}, Stored.{WritesProperPrefix}, Sunk.{sunk, Writes}};
 ghost use Rattle.image_model.specs.{ImageStep.{image_step}, ImageTrace.{trap_line}};
 ghost use Rattle.command_runs.specs.Inputs.{OfFile};
-ghost use Rattle.command_runs.specs.Playing.{plays, plays_fed, played_line, given, Puts, PutsPrefix, MayFollow, HasNoEnd, PlaysOn, HeldAnswers, HeldReadAnswers, AnswersEvent, AnswersLine};
+ghost use Rattle.command_runs.specs.Playing.{played, plays, plays_fed, played_line, printing, line_of, given, MayFollow, HasNoEnd, PlaysOn, HeldAnswers, HeldReadAnswers, ReadAnswers, AnswersEvent, AnswersLine};
 ghost use Rattle.trace_text.specs.{EventWords.{read_line}, EventText.{numbered_lines}, Feeds.{no_bytes}, LineParts.{ArePartsOf}};
-ghost use Rattle.command_runs.specs.declared.stop.Stop.TheVariants.{Unprinted};
+ghost use Rattle.command_runs.specs.declared.stop.Stop.TheVariants.{Trapped, Unprinted};
 
 use crate::inputs::read_on;
 use crate::stop::Stop;
@@ -20,235 +20,236 @@ use osek_values::{Event, HookSet, Notes, Steps};
 use std::sync::ledger::Ledger;
 use trace_text::{FaultyLine, Feed, FeedStep, LineParts, read_event};
 
-/// Prints line n of the trace, or holds it back.
-#[inline(always)]
-pub fn print_line<O: Sink>(
-    out: &mut O,
-    buffer: &mut PutBuffer,
-    machine: &Machine,
-    number: u64,
-    notes: &Notes,
-    parts: &mut LineParts,
-) -> Result<(), Stop>
-    requires { ArePartsOf machine.now.image.app parts.old }
-    ensures parts { ArePartsOf machine.now.image.app parts.new }
-    ensures ok { OnOk result (Puts (given (sunk O.Sink out.old) buffer.old) (given (sunk O.Sink out.new) buffer.new) (line_text machine.now.image.app number (stepped machine.now.state notes.now) ++ 10 ∷ [])) }
-    ensures prefix { OnErr result (PutsPrefix (given (sunk O.Sink out.old) buffer.old) (given (sunk O.Sink out.new) buffer.new) (line_text machine.now.image.app number (stepped machine.now.state notes.now) ++ 10 ∷ [])) }
-    ensures error { OnErr result (result ≡ Err Unprinted) }
-{
-    parts.show(machine.app(), machine.state());
-    parts.count(number);
-    let line = TraceLine {
-        parts,
-        machine,
-        number,
-        notes,
-    };
-    match buffer.put_piece(out, &line) {
-        Ok(()) => Ok(()),
-        Err(PutError::Write) => Err(Stop::Unprinted),
-    }
-}
-
-/// Prints what is held back.
-pub fn print_held<O: Sink>(out: &mut O, buffer: &mut PutBuffer) -> Result<(), Stop>
-    ensures ok { OnOk result (Writes (sunk O.Sink out.old) (sunk O.Sink out.new) buffer.old) }
-    ensures prefix { OnErr result (WritesProperPrefix (O.written out.old) (O.written out.new) buffer.old) }
-    ensures nothing_held { buffer.new ≡ [] }
-    ensures cause { OnErr result (Rose (O.faults out.old) (O.faults out.new)) }
-    ensures error { OnErr result (result ≡ Err Unprinted) }
-{
-    match buffer.flush(out) {
-        Ok(()) => Ok(()),
-        Err(PutError::Write) => Err(Stop::Unprinted),
-    }
-}
-
-/// Prints the line of a trap at event n, behind what is held back.
-fn print_trap<O: Sink>(out: &mut O, buffer: &mut PutBuffer, number: u64) -> Result<(), Stop>
-    ensures ok { OnOk result (Puts (given (sunk O.Sink out.old) buffer.old) (given (sunk O.Sink out.new) buffer.new) (trap_line number)) }
-    ensures prefix { OnErr result (PutsPrefix (given (sunk O.Sink out.old) buffer.old) (given (sunk O.Sink out.new) buffer.new) (trap_line number)) }
-    ensures error { OnErr result (result ≡ Err Unprinted) }
-{
-    match print_held(out, buffer) {
-        Ok(()) => {}
-        Err(stop) => return Err(stop),
-    }
-    let mut digits = Buffer::new();
-    match put_three(out, b"trap ", digits.format(number).as_bytes(), b"\n") {
-        Ok(()) => Ok(()),
-        Err(PutError::Write) => Err(Stop::Unprinted),
-    }
-}
-
-/// Plays one event: a step of the machine, and its line.
-fn play_event<L: Ledger, O: Sink>(
-    out: &mut O,
-    buffer: &mut PutBuffer,
-    machine: &mut Machine,
-    number: u64,
-    event: Event,
-    parts: &mut LineParts,
-    scans: &mut Steps<L>,
-) -> Result<(), Stop>
-    requires declared { IsDeclared machine.old.image.app event }
-    requires running { machine.old.trapped ≡ false }
-    requires parts { ArePartsOf machine.old.image.app parts.old }
-    ensures image { machine.new.image ≡ machine.old.image }
-    ensures parts { OnOk result (ArePartsOf machine.old.image.app parts.new) }
-    ensures running { OnOk result (machine.new.trapped ≡ false) }
-    ensures event { AnswersEvent (given (sunk O.Sink out.old) buffer.old) (given (sunk O.Sink out.new) buffer.new) machine.old.image number machine.new.state (image_step machine.old.image machine.old.state event) result }
-{
-    let mut notes = Notes {
-        status: None,
-        value: None,
-        hooks: HookSet::none(),
-    };
-    if machine.step_into(event, scans, &mut notes) {
-        match print_line(out, buffer, machine, number, &notes, parts) {
-            Ok(()) => Ok(()),
-            Err(stop) => Err(stop),
-        }
-    } else {
-        match print_trap(out, buffer, number) {
-            Ok(()) => Err(Stop::Trapped),
-            Err(stop) => Err(stop),
-        }
-    }
-}
-
-/// Plays a line of the event text: none or one event. It answers the number of the next event.
-fn play_line<L: Ledger, O: Sink>(
-    out: &mut O,
-    buffer: &mut PutBuffer,
-    machine: &mut Machine,
-    number: u64,
-    event_line: &[u8],
-    line_number: u32,
-    parts: &mut LineParts,
-    scans: &mut Steps<L>,
-) -> Result<u64, Stop>
-    requires running { machine.old.trapped ≡ false }
-    requires parts { ArePartsOf machine.old.image.app parts.old }
-    // events are no more than lines
-    requires few { number ≤ line_number }
-    ensures image { machine.new.image ≡ machine.old.image }
-    ensures parts { OnOk result (ArePartsOf machine.old.image.app parts.new) }
-    ensures running { OnOk result (machine.new.trapped ≡ false) }
-    ensures next { IfOk result (λ n. n ≤ number + 1) }
-    ensures line { AnswersLine (given (sunk O.Sink out.old) buffer.old) (given (sunk O.Sink out.new) buffer.new) (λ more. played_line machine.old.image number machine.old.state line_number more (read_line machine.old.image.app event_line.now)) machine.new.state result }
-{
-    match read_event(machine.app(), event_line) {
-        Ok(None) => Ok(number),
-        Ok(Some(event)) => {
-            match play_event(out, buffer, machine, number, event, parts, scans) {
-                Ok(()) => Ok(number + 1),
-                Err(stop) => Err(stop),
-            }
-        }
-        Err(rule) => Err(Stop::Events(FaultyLine {
-            line: line_number,
-            rule,
-        })),
-    }
-}
-
-/// Which event and which line come next, each by its number.
+/// Which event and which line of its text come next, each by its number.
 #[derive(Clone, Copy)]
 pub struct Place {
     pub event: u64,
     pub line: u32,
 }
 
-/// Plays the lines that come out of a feed. It answers the place behind them.
-fn play_ahead<L: Ledger, O: Sink>(
-    out: &mut O,
-    buffer: &mut PutBuffer,
-    machine: &mut Machine,
-    feed: &mut Feed,
-    start: Place,
-    parts: &mut LineParts,
-    scans: &mut Steps<L>,
-) -> Result<Place, Stop>
-    requires running { machine.old.trapped ≡ false }
-    requires parts { ArePartsOf machine.old.image.app parts.old }
-    requires few { start.event ≤ start.line }
-    requires fits { start.line + length feed.old.ahead ≤ MAX_EVENT_TEXT + 1 }
-    ensures image { machine.new.image ≡ machine.old.image }
-    ensures parts { OnOk result (ArePartsOf machine.old.image.app parts.new) }
-    ensures running { OnOk result (machine.new.trapped ≡ false) }
-
-    ensures few { IfOk result (λ p. p.event ≤ p.line) }
-    ensures fits { IfOk result (λ p. p.line + length feed.new.ahead ≤ start.line + length feed.old.ahead) }
-    ensures finished { feed.new.finished ≡ feed.old.finished }
-    ensures waits { OnOk result (length feed.new.ahead ≤ MAX_EVENT_LINE) }
-    ensures ended { OnOk result (feed.new.finished ≡ true → feed.new.ahead ≡ []) }
-    ensures no_more { OnOk result (HasNoEnd feed.new.ahead) }
-
-    ensures plays { IfOk result (λ p. PlaysOn (given (sunk O.Sink out.old) buffer.old) (given (sunk O.Sink out.new) buffer.new) machine.old.image feed.old feed.new start.line start.event machine.old.state p.line p.event machine.new.state) }
-    ensures stops { IfErr result (λ e. (rest : List ℕ) → MayFollow feed.old rest → HeldAnswers (given (sunk O.Sink out.old) buffer.old) (given (sunk O.Sink out.new) buffer.new) (plays_fed machine.old.image feed.old rest start.line start.event machine.old.state) (Err e)) }
-{
-    let mut place = start;
-    'lines: while let FeedStep::Line = feed.next() {
-        match play_line(
-            out,
-            buffer,
-            machine,
-            place.event,
-            feed.line(),
-            place.line,
-            parts,
-            scans,
-        ) {
-            Ok(event) => {
-                place = Place {
-                    event,
-                    line: place.line + 1,
-                };
-            }
-            Err(stop) => return Err(stop),
-        }
-    }
-    Ok(place)
+/// A machine at work, and what its trace is printed by.
+#[derive(Drop)]
+pub struct Play<L: Ledger> {
+    pub machine: Machine,
+    pub parts: LineParts,
+    /// What is held back of the trace.
+    pub buffer: PutBuffer,
+    pub place: Place,
+    /// How often the machine compared priorities.
+    pub scans: Steps<L>,
+    ghost of_app: { ArePartsOf machine.image.app parts },
+    // events are no more than lines
+    ghost few: { place.event ≤ place.line },
 }
 
-/// Plays the lines of an event text as it is read, from event 1 on.
-pub fn play<L: Ledger, F: Shelf, O: Sink>(
-    shelf: &mut F,
-    events: &str,
-    out: &mut O,
-    buffer: &mut PutBuffer,
-    machine: &mut Machine,
-    feed: &mut Feed,
-    parts: &mut LineParts,
-    scans: &mut Steps<L>,
-) -> Result<(), Stop>
-    requires running { machine.old.trapped ≡ false }
-    requires parts { ArePartsOf machine.old.image.app parts.old }
-    requires empty { feed.old ≡ no_bytes }
-    requires text { OfFile (F.contents shelf.old) events.now (λ t. length t ≤ MAX_EVENT_TEXT) }
-    ensures answer { HeldReadAnswers (F.contents shelf.old) events.now (F.read_faults shelf.old events.now) (F.read_faults shelf.new events.now) (given (sunk O.Sink out.old) buffer.old) (given (sunk O.Sink out.new) buffer.new) (λ t. plays machine.old.image (numbered_lines t) 1 machine.old.state) result }
-    ensures same { OnlyReads F.Shelf shelf.old shelf.new }
-{
-    let mut place = Place { event: 1, line: 1 };
-    let mut taken = 0;
-    'pieces: loop {
-        // No line is held back while the text is waited for.
-        match print_held(out, buffer) {
-            Ok(()) => {}
-            Err(stop) => return Err(stop),
-        }
-        let count = match read_on(shelf, events, taken, feed) {
-            Ok(count) => count,
-            Err(stop) => return Err(stop),
+impl<L: Ledger> Play<L> {
+    /// Prints the line of the trace that has the number of the next event, or holds it back.
+    #[inline(always)]
+    fn print_line<O: Sink>(&mut self, out: &mut O, notes: &Notes) -> Result<(), Stop>
+        ensures machine { self.new.machine ≡ self.old.machine }
+        ensures place { self.new.place ≡ self.old.place }
+        ensures line { HeldAnswers (given (sunk O.Sink out.old) self.old.buffer) (given (sunk O.Sink out.new) self.new.buffer) (played (line_of self.old.machine.image self.old.place.event (stepped self.old.machine.state notes.now)) (Ok tt)) result }
+    {
+        self.parts.show(self.machine.app(), self.machine.state());
+        self.parts.count(self.place.event);
+        let line = TraceLine {
+            parts: &self.parts,
+            machine: &self.machine,
+            number: self.place.event,
+            notes,
         };
-        match play_ahead(out, buffer, machine, feed, place, parts, scans) {
-            Ok(next) => place = next,
-            Err(stop) => return Err(stop),
+        match self.buffer.put_piece(out, &line) {
+            Ok(()) => Ok(()),
+            Err(PutError::Write) => Err(Stop::Unprinted),
         }
-        if count == 0 {
-            return Ok(());
+    }
+
+    /// Prints what is held back.
+    fn print_held<O: Sink>(&mut self, out: &mut O) -> Result<(), Stop>
+        ensures machine { self.new.machine ≡ self.old.machine }
+        ensures place { self.new.place ≡ self.old.place }
+        ensures ok { OnOk result (Writes (sunk O.Sink out.old) (sunk O.Sink out.new) self.old.buffer) }
+        ensures prefix { OnErr result (WritesProperPrefix (O.written out.old) (O.written out.new) self.old.buffer) }
+        ensures nothing_held { self.new.buffer ≡ [] }
+        ensures cause { OnErr result (Rose (O.faults out.old) (O.faults out.new)) }
+        ensures error { OnErr result (result ≡ Err Unprinted) }
+    {
+        match self.buffer.flush(out) {
+            Ok(()) => Ok(()),
+            Err(PutError::Write) => Err(Stop::Unprinted),
         }
-        taken += count;
+    }
+
+    /// Prints the line of a trap at the next event, behind what is held back.
+    fn print_trap<O: Sink>(&mut self, out: &mut O) -> Result<(), Stop>
+        ensures machine { self.new.machine ≡ self.old.machine }
+        ensures line { HeldAnswers (given (sunk O.Sink out.old) self.old.buffer) (given (sunk O.Sink out.new) self.new.buffer) (played (trap_line self.old.place.event) (Err Trapped)) result }
+    {
+        self.print_held(out)?;
+        let mut digits = Buffer::new();
+        match put_three(
+            out,
+            b"trap ",
+            digits.format(self.place.event).as_bytes(),
+            b"\n",
+        ) {
+            Ok(()) => Err(Stop::Trapped),
+            Err(PutError::Write) => Err(Stop::Unprinted),
+        }
+    }
+
+    /// A step of the machine, and whether it is no trap.
+    fn step(&mut self, event: Event, notes: &mut Notes) -> bool
+        requires declared { IsDeclared self.old.machine.image.app event }
+        requires running { self.old.machine.trapped ≡ false }
+        ensures image { self.new.machine.image ≡ self.old.machine.image }
+        ensures running { result ≡ true → self.new.machine.trapped ≡ false }
+        ensures place { self.new.place ≡ self.old.place }
+        ensures buffer { self.new.buffer ≡ self.old.buffer }
+        ensures step { image_step self.old.machine.image self.old.machine.state event ≡ (if result then Some (stepped self.new.machine.state notes.new) else None) }
+    {
+        self.machine.step_into(event, &mut self.scans, notes)
+    }
+
+    /// Plays one event: a step of the machine, and its line.
+    fn play_event<O: Sink>(&mut self, out: &mut O, event: Event) -> Result<(), Stop>
+        requires declared { IsDeclared self.old.machine.image.app event }
+        requires running { self.old.machine.trapped ≡ false }
+        ensures image { self.new.machine.image ≡ self.old.machine.image }
+        ensures running { OnOk result (self.new.machine.trapped ≡ false) }
+        ensures place { OnOk result (self.new.place ≡ self.old.place) }
+        ensures event { AnswersEvent (given (sunk O.Sink out.old) self.old.buffer) (given (sunk O.Sink out.new) self.new.buffer) self.old.machine.image self.old.place.event self.new.machine.state (image_step self.old.machine.image self.old.machine.state event) result }
+    {
+        let mut notes = Notes {
+            status: None,
+            value: None,
+            hooks: HookSet::none(),
+        };
+        if self.step(event, &mut notes) {
+            self.print_line(out, &notes)
+        } else {
+            self.print_trap(out)
+        }
+    }
+
+    /// Plays the next line of the event text: none or one event.
+    fn play_line<O: Sink>(&mut self, out: &mut O, line: &[u8]) -> Result<(), Stop>
+        requires running { self.old.machine.trapped ≡ false }
+        requires fits { self.old.place.line ≤ MAX_EVENT_TEXT }
+        ensures image { self.new.machine.image ≡ self.old.machine.image }
+        ensures running { OnOk result (self.new.machine.trapped ≡ false) }
+        ensures next { OnOk result (self.new.place.line ≡ self.old.place.line + 1) }
+        ensures line { AnswersLine (given (sunk O.Sink out.old) self.old.buffer) (given (sunk O.Sink out.new) self.new.buffer) (λ more. played_line self.old.machine.image self.old.place.event self.old.machine.state self.old.place.line more (read_line self.old.machine.image.app line.now)) self.new.place.event self.new.machine.state result }
+    {
+        match read_event(self.machine.app(), line) {
+            Ok(None) => {
+                self.place.line += 1;
+                Ok(())
+            }
+            Ok(Some(event)) => {
+                self.play_event(out, event)?;
+                self.place.event += 1;
+                self.place.line += 1;
+                Ok(())
+            }
+            Err(rule) => Err(Stop::Events(FaultyLine {
+                line: self.place.line,
+                rule,
+            })),
+        }
+    }
+
+    /// Plays the lines that come out of a feed.
+    fn play_ahead<O: Sink>(&mut self, out: &mut O, feed: &mut Feed) -> Result<(), Stop>
+        requires running { self.old.machine.trapped ≡ false }
+        requires fits { self.old.place.line + length feed.old.ahead ≤ MAX_EVENT_TEXT + 1 }
+        ensures image { self.new.machine.image ≡ self.old.machine.image }
+        ensures running { OnOk result (self.new.machine.trapped ≡ false) }
+
+        ensures fits { OnOk result (self.new.place.line + length feed.new.ahead ≤ self.old.place.line + length feed.old.ahead) }
+        ensures finished { feed.new.finished ≡ feed.old.finished }
+        ensures waits { OnOk result (length feed.new.ahead ≤ MAX_EVENT_LINE) }
+        ensures ended { OnOk result (feed.new.finished ≡ true → feed.new.ahead ≡ []) }
+        ensures no_more { OnOk result (HasNoEnd feed.new.ahead) }
+
+        ensures plays { OnOk result (PlaysOn (given (sunk O.Sink out.old) self.old.buffer) (given (sunk O.Sink out.new) self.new.buffer) self.old.machine.image feed.old feed.new self.old.place.line self.old.place.event self.old.machine.state self.new.place.line self.new.place.event self.new.machine.state) }
+        ensures stops { IfErr result (λ e. (rest : List ℕ) → MayFollow feed.old rest → HeldAnswers (given (sunk O.Sink out.old) self.old.buffer) (given (sunk O.Sink out.new) self.new.buffer) (plays_fed self.old.machine.image feed.old rest self.old.place.line self.old.place.event self.old.machine.state) (Err e)) }
+    {
+        'lines: while let FeedStep::Line = feed.next() {
+            self.play_line(out, feed.line())?;
+        }
+        Ok(())
+    }
+
+    /// Plays the lines of an event text as it is read.
+    fn play_text<F: Shelf, O: Sink>(
+        &mut self,
+        out: &mut O,
+        shelf: &mut F,
+        events: &str,
+        feed: &mut Feed,
+    ) -> Result<(), Stop>
+        requires running { self.old.machine.trapped ≡ false }
+        requires first { self.old.place ≡ record { event = 1; line = 1 } }
+        requires empty { feed.old ≡ no_bytes }
+        requires text { OfFile (F.contents shelf.old) events.now (λ t. length t ≤ MAX_EVENT_TEXT) }
+        ensures answer { HeldReadAnswers (F.contents shelf.old) events.now (F.read_faults shelf.old events.now) (F.read_faults shelf.new events.now) (given (sunk O.Sink out.old) self.old.buffer) (given (sunk O.Sink out.new) self.new.buffer) (λ t. plays self.old.machine.image (numbered_lines t) 1 self.old.machine.state) result }
+        ensures same { OnlyReads F.Shelf shelf.old shelf.new }
+    {
+        let mut taken = 0;
+        'pieces: loop {
+            // No line is held back while the text is waited for.
+            self.print_held(out)?;
+            let count = read_on(shelf, events, taken, feed)?;
+            self.play_ahead(out, feed)?;
+            if count == 0 {
+                return Ok(());
+            }
+            taken += count;
+        }
+    }
+
+    /// Plays a machine that has just started, from line 0 on: the start's line, and what the event text brings as it is
+    /// read.
+    fn play<F: Shelf, O: Sink>(
+        &mut self,
+        notes: &Notes,
+        out: &mut O,
+        shelf: &mut F,
+        events: &str,
+        feed: &mut Feed,
+    ) -> Result<(), Stop>
+        requires running { self.old.machine.trapped ≡ false }
+        requires start { self.old.place ≡ record { event = 0; line = 0 } }
+        requires empty { feed.old ≡ no_bytes }
+        requires text { OfFile (F.contents shelf.old) events.now (λ t. length t ≤ MAX_EVENT_TEXT) }
+        ensures answer { HeldReadAnswers (F.contents shelf.old) events.now (F.read_faults shelf.old events.now) (F.read_faults shelf.new events.now) (given (sunk O.Sink out.old) self.old.buffer) (given (sunk O.Sink out.new) self.new.buffer) (λ t. printing (line_of self.old.machine.image 0 (stepped self.old.machine.state notes.now)) (plays self.old.machine.image (numbered_lines t) 1 self.old.machine.state)) result }
+        ensures same { OnlyReads F.Shelf shelf.old shelf.new }
+    {
+        self.print_line(out, notes)?;
+        self.place = Place { event: 1, line: 1 };
+        self.play_text(out, shelf, events, feed)
+    }
+
+    /// Prints the trace of a machine that has just started, all of it.
+    pub fn print_trace<F: Shelf, O: Sink>(
+        &mut self,
+        notes: &Notes,
+        out: &mut O,
+        shelf: &mut F,
+        events: &str,
+        feed: &mut Feed,
+    ) -> Result<(), Stop>
+        requires running { self.old.machine.trapped ≡ false }
+        requires start { self.old.place ≡ record { event = 0; line = 0 } }
+        requires nothing_held { self.old.buffer ≡ [] }
+        requires empty { feed.old ≡ no_bytes }
+        requires text { OfFile (F.contents shelf.old) events.now (λ t. length t ≤ MAX_EVENT_TEXT) }
+        ensures answer { ReadAnswers (F.contents shelf.old) events.now (F.read_faults shelf.old events.now) (F.read_faults shelf.new events.now) (sunk O.Sink out.old) (sunk O.Sink out.new) (λ t. printing (line_of self.old.machine.image 0 (stepped self.old.machine.state notes.now)) (plays self.old.machine.image (numbered_lines t) 1 self.old.machine.state)) result }
+        ensures same { OnlyReads F.Shelf shelf.old shelf.new }
+    {
+        let played = self.play(notes, out, shelf, events, feed);
+        self.print_held(out)?;
+        played
     }
 }

@@ -2,13 +2,14 @@
 ghost use Rattle.std.specs.{Prelude.{◌≡◌, ◌≤◌, ◌<◌, [], length, take, false, IfOk, IfSome}, List.{position}, Str.{bytes_eq}};
 ghost use Rattle.osek_io.specs.{Reads.{OnlyReads}, Sunk.{sunk}};
 ghost use Rattle.trace_text.specs.{EventText.{numbered_lines}, Feeds.{no_bytes}, LineParts.{ArePartsOf}};
-ghost use Rattle.osek_standard.specs.Dispatch.{stepped};
+ghost use Rattle.osek_standard.specs.{Dispatch.{stepped}, Kernel.{start as start_of}};
+ghost use Rattle.image_run.specs.Machines.{at_work};
 ghost use Rattle.image_model.specs.ImageTrace.{image_trace, has_trap};
-ghost use Rattle.command_runs.specs.{Outside.{outside}, Inputs.{OfFile}, Playing.{given, HeldReadAnswers, ReadAnswers, PlaysWhole, plays, printing, line_of}};
+ghost use Rattle.command_runs.specs.{Outside.{outside}, Inputs.{OfFile}, Playing.{ReadAnswers, PlaysWhole, plays, printing, line_of}};
 ghost use Rattle.command_runs.specs.Running.{mode_named as mode_of_name, RunAnswers};
 
 use crate::inputs::judge_length;
-use crate::playing::{play, print_held, print_line};
+use crate::playing::{Place, Play};
 use crate::stop::Stop;
 use image_model::Image;
 use image_run::Machine;
@@ -45,136 +46,68 @@ struct EventFile<'a> {
     name: &'a str,
 }
 
-/// Prints the trace of a machine that has just started: the start's line, and what the event text brings as it is read.
-fn print_trace<L: Ledger, F: Shelf, O: Sink>(
+/// A machine that has just started, what its start noted, and what its trace is printed by.
+#[derive(Drop)]
+struct Started {
+    machine: Machine,
+    notes: Notes,
+    parts: LineParts,
+    buffer: PutBuffer,
+}
+
+/// The start of an image in a mode.
+fn start(alloc: Global, image: Image, mode: ModeNo) -> Result<Started, Memory>
+    requires { mode.0 < length image.app.modes }
+    ensures machine { IfOk result (λ x. x.machine ≡ at_work image x.machine.state false) }
+    ensures start { IfOk result (λ x. start_of image.app mode ≡ stepped x.machine.state x.notes) }
+    ensures parts { IfOk result (λ x. ArePartsOf image.app x.parts) }
+    ensures nothing_held { IfOk result (λ x. x.buffer ≡ []) }
+{
+    let parts = LineParts::of(&image.app);
+    let (machine, notes) = Machine::start(alloc, image, mode)?;
+    let buffer = PutBuffer::new(alloc)?;
+    Ok(Started {
+        machine,
+        notes,
+        parts,
+        buffer,
+    })
+}
+
+/// Plays a machine that has just started, to its end. Its scans are counted in a ledger of their own.
+fn play_started<L: Ledger, F: Shelf, O: Sink>(
     blank: Blank,
+    started: Started,
+    out: &mut O,
     shelf: &mut F,
     events: EventFile<'_>,
-    out: &mut O,
-    buffer: &mut PutBuffer,
-    machine: &mut Machine,
-    notes: &Notes,
     feed: &mut Feed,
-    parts: &mut LineParts,
 ) -> Result<(), Stop>
     requires name { blank.name ≡ L.name }
     requires parts { blank.parts ≡ L.parts }
     requires some { 0 < L.parts }
-    requires running { machine.old.trapped ≡ false }
-    requires of_app { ArePartsOf machine.old.image.app parts.old }
+    requires running { started.machine.trapped ≡ false }
+    requires of_app { ArePartsOf started.machine.image.app started.parts }
+    requires nothing_held { started.buffer ≡ [] }
     requires empty { feed.old ≡ no_bytes }
     requires text { OfFile (F.contents shelf.old) events.name.now (λ t. length t ≤ MAX_EVENT_TEXT) }
-    ensures answer { HeldReadAnswers (F.contents shelf.old) events.entry.name.now (F.read_faults shelf.old events.entry.name.now) (F.read_faults shelf.new events.entry.name.now) (given (sunk O.Sink out.old) buffer.old) (given (sunk O.Sink out.new) buffer.new) (λ t. printing (line_of machine.old.image 0 (stepped machine.old.state notes.now)) (plays machine.old.image (numbered_lines t) 1 machine.old.state)) result }
+    ensures answer { ReadAnswers (F.contents shelf.old) events.entry.name.now (F.read_faults shelf.old events.entry.name.now) (F.read_faults shelf.new events.entry.name.now) (sunk O.Sink out.old) (sunk O.Sink out.new) (λ t. printing (line_of started.machine.image 0 (stepped started.machine.state started.notes)) (plays started.machine.image (numbered_lines t) 1 started.machine.state)) result }
     ensures same { OnlyReads F.Shelf shelf.old shelf.new }
 {
-    let mut scans = Steps::<L>::of(blank);
-    match print_line(out, buffer, machine, 0, notes, parts) {
-        Ok(()) => play(
-            shelf,
-            events.name,
-            out,
-            buffer,
-            machine,
-            feed,
-            parts,
-            &mut scans,
-        ),
-        Err(stop) => Err(stop),
-    }
-}
-
-/// What a play takes memory for: the event text as it comes, and what is held back of the trace.
-#[derive(Drop)]
-struct PlayRoom {
-    feed: Feed,
-    buffer: PutBuffer,
-}
-
-/// Plays a machine that has just started, to its end. Its scans are counted in a ledger of their own.
-fn play_machine<F: Shelf, O: Sink>(
-    shelf: &mut F,
-    events: &str,
-    out: &mut O,
-    mut machine: Machine,
-    notes: &Notes,
-    parts: &mut LineParts,
-    room: &mut PlayRoom,
-) -> Result<(), Stop>
-    requires running { machine.trapped ≡ false }
-    requires parts { ArePartsOf machine.image.app parts.old }
-    requires empty { room.old.feed ≡ no_bytes }
-    requires nothing_held { room.old.buffer ≡ [] }
-    requires text { OfFile (F.contents shelf.old) events.now (λ t. length t ≤ MAX_EVENT_TEXT) }
-    ensures answer { ReadAnswers (F.contents shelf.old) events.now (F.read_faults shelf.old events.now) (F.read_faults shelf.new events.now) (sunk O.Sink out.old) (sunk O.Sink out.new) (λ t. printing (line_of machine.image 0 (stepped machine.state notes.now)) (plays machine.image (numbered_lines t) 1 machine.state)) result }
-    ensures same { OnlyReads F.Shelf shelf.old shelf.new }
-{
-    let played = print_trace::<Brand, F, O>(
-        Blank::new(1),
-        shelf,
-        EventFile { name: events },
-        out,
-        &mut room.buffer,
-        &mut machine,
+    let Started {
+        machine,
         notes,
-        &mut room.feed,
         parts,
-    );
-    drop(machine);
-    match print_held(out, &mut room.buffer) {
-        Ok(()) => played,
-        Err(stop) => Err(stop),
-    }
-}
-
-/// Plays an image from its start in a mode, with all the room that it takes.
-fn play_with<F: Shelf, O: Sink>(
-    alloc: Global,
-    shelf: &mut F,
-    events: &str,
-    out: &mut O,
-    image: Image,
-    mode: ModeNo,
-    room: &mut PlayRoom,
-) -> Result<(), Stop>
-    requires known { mode.0 < length image.app.modes }
-    requires empty { room.old.feed ≡ no_bytes }
-    requires nothing_held { room.old.buffer ≡ [] }
-    requires text { OfFile (F.contents shelf.old) events.now (λ t. length t ≤ MAX_EVENT_TEXT) }
-    ensures answer { PlaysWhole (F.contents shelf.old) events.now (F.read_faults shelf.old events.now) (F.read_faults shelf.new events.now) (sunk O.Sink out.old) (sunk O.Sink out.new) image mode result }
-    ensures same { OnlyReads F.Shelf shelf.old shelf.new }
-{
-    let mut parts = LineParts::of(&image.app);
-    match Machine::start(alloc, image, mode) {
-        Ok((machine, notes)) => {
-            play_machine(shelf, events, out, machine, &notes, &mut parts, room)
-        },
-        Err(_) => Err(Stop::Memory),
-    }
-}
-
-/// Room for a line of the trace.
-pub fn line_room(alloc: Global) -> Result<Vec<u8>, Memory>
-    ensures { IfOk result (λ v. LINE_MAX ≤ length v.items) }
-{
-    Ok(vec![in alloc; 0u8; LINE_MAX]?)
-}
-
-/// The prefix of a buffer.
-pub fn prefix(buffer: &[u8], size: usize) -> &[u8]
-    requires { size ≤ length buffer.now }
-    ensures { result.now ≡ take size buffer.now }
-{
-    &buffer[..size]
-}
-
-/// The room that a play takes, of which nothing is used yet.
-fn play_room(alloc: Global) -> Result<PlayRoom, Memory>
-    ensures feed { IfOk result (λ r. r.feed ≡ no_bytes) }
-    ensures nothing_held { IfOk result (λ r. r.buffer ≡ []) }
-{
-    let feed = Feed::new(alloc)?;
-    let buffer = PutBuffer::new(alloc)?;
-    Ok(PlayRoom { feed, buffer })
+        buffer,
+    } = started;
+    let mut play = Play {
+        machine,
+        parts,
+        buffer,
+        place: Place { event: 0, line: 0 },
+        scans: Steps::<L>::of(blank),
+    };
+    play.print_trace(&notes, out, shelf, events.name, feed)
 }
 
 /// Plays an image from its start in a mode. All memory is taken before the first line is printed.
@@ -191,13 +124,29 @@ fn play_image<F: Shelf, O: Sink>(
     ensures answer { PlaysWhole (F.contents shelf.old) events.now (F.read_faults shelf.old events.now) (F.read_faults shelf.new events.now) (sunk O.Sink out.old) (sunk O.Sink out.new) image mode result }
     ensures same { OnlyReads F.Shelf shelf.old shelf.new }
 {
-    match play_room(alloc) {
-        Ok(mut room) => play_with(alloc, shelf, events, out, image, mode, &mut room),
-        Err(_) => {
-            drop(image);
-            Err(Stop::Memory)
-        }
-    }
+    let Ok(started) = start(alloc, image, mode) else {
+        return Err(Stop::Memory);
+    };
+    let Ok(mut feed) = Feed::new(alloc) else {
+        return Err(Stop::Memory);
+    };
+    let events = EventFile { name: events };
+    play_started::<Brand, F, O>(Blank::new(1), started, out, shelf, events, &mut feed)
+}
+
+/// Room for a line of the trace.
+pub fn line_room(alloc: Global) -> Result<Vec<u8>, Memory>
+    ensures { IfOk result (λ v. LINE_MAX ≤ length v.items) }
+{
+    Ok(vec![in alloc; 0u8; LINE_MAX]?)
+}
+
+/// The prefix of a buffer.
+pub fn prefix(buffer: &[u8], size: usize) -> &[u8]
+    requires { size ≤ length buffer.now }
+    ensures { result.now ≡ take size buffer.now }
+{
+    &buffer[..size]
 }
 
 /// Prints the trace of an image in a mode under an event text.

@@ -1,22 +1,17 @@
 //! What is told on err: the text that goes with an answer.
-ghost use Rattle.std.specs.{Prelude.{◌≡◌, ◌≤◌, ◌++◌, OnOk, OnErr, codes}, Fmt.{decimal}};
-ghost use Rattle.osek_io.specs.{Counts.{Rose}, Pieces.{grown}};
-ghost use Rattle.command_runs.specs.Telling.{WritesPrefix, fault_text};
+ghost use Rattle.std.specs.{Prelude.{◌++◌, codes}, Fmt.{decimal}};
+ghost use Rattle.osek_io.specs.Sunk.{sunk};
+ghost use Rattle.command_runs.specs.Telling.{TellsText, fault_text};
 
 use itoa::Buffer;
 use osek_io::{PutError, Sink, put_all};
 
 /// Tells a word and what is said of it.
 pub fn put_two<E: Sink>(err: &mut E, first: &[u8], second: &[u8]) -> Result<(), PutError>
-    ensures ok { OnOk result (E.written err.new ≡ grown (E.written err.old) (first.now ++ second.now)) }
-    ensures prefix { OnErr result (WritesPrefix (E.written err.old) (E.written err.new) (first.now ++ second.now)) }
-    ensures cause { OnErr result (Rose (E.faults err.old) (E.faults err.new)) }
-    ensures no_fault { OnOk result (E.faults err.new ≡ E.faults err.old) }
-    ensures never_falls { E.faults err.old ≤ E.faults err.new }
+    ensures { TellsText (sunk E.Sink err.old) (sunk E.Sink err.new) (first.now ++ second.now) result }
 {
     put_all(err, first)?;
-    put_all(err, second)?;
-    Ok(())
+    put_all(err, second)
 }
 
 /// Writes three pieces.
@@ -26,28 +21,18 @@ pub fn put_three<E: Sink>(
     second: &[u8],
     third: &[u8],
 ) -> Result<(), PutError>
-    ensures ok { OnOk result (E.written err.new ≡ grown (E.written err.old) (first.now ++ second.now ++ third.now)) }
-    ensures prefix { OnErr result (WritesPrefix (E.written err.old) (E.written err.new) (first.now ++ second.now ++ third.now)) }
-    ensures cause { OnErr result (Rose (E.faults err.old) (E.faults err.new)) }
-    ensures no_fault { OnOk result (E.faults err.new ≡ E.faults err.old) }
-    ensures never_falls { E.faults err.old ≤ E.faults err.new }
+    ensures { TellsText (sunk E.Sink err.old) (sunk E.Sink err.new) (first.now ++ second.now ++ third.now) result }
 {
     put_two(err, first, second)?;
-    put_all(err, third)?;
-    Ok(())
+    put_all(err, third)
 }
 
 /// Tells `FILE:PLACE`.
 fn put_place<E: Sink>(err: &mut E, file: &[u8], place: u64) -> Result<(), PutError>
-    ensures ok { OnOk result (E.written err.new ≡ grown (E.written err.old) (file.now ++ codes ":" ++ decimal place)) }
-    ensures prefix { OnErr result (WritesPrefix (E.written err.old) (E.written err.new) (file.now ++ codes ":" ++ decimal place)) }
-    ensures cause { OnErr result (Rose (E.faults err.old) (E.faults err.new)) }
-    ensures no_fault { OnOk result (E.faults err.new ≡ E.faults err.old) }
-    ensures never_falls { E.faults err.old ≤ E.faults err.new }
+    ensures { TellsText (sunk E.Sink err.old) (sunk E.Sink err.new) (file.now ++ codes ":" ++ decimal place) result }
 {
     let mut digits = Buffer::new();
-    put_three(err, file, b":", digits.format(place).as_bytes())?;
-    Ok(())
+    put_three(err, file, b":", digits.format(place).as_bytes())
 }
 
 /// Tells `FILE:PLACE: RULE`.
@@ -57,13 +42,8 @@ pub fn tell_fault<E: Sink>(
     place: u64,
     rule: &[u8],
 ) -> Result<(), PutError>
-    ensures ok { OnOk result (E.written err.new ≡ grown (E.written err.old) (fault_text file.now place rule.now)) }
-    ensures prefix { OnErr result (WritesPrefix (E.written err.old) (E.written err.new) (fault_text file.now place rule.now)) }
-    ensures cause { OnErr result (Rose (E.faults err.old) (E.faults err.new)) }
-    ensures no_fault { OnOk result (E.faults err.new ≡ E.faults err.old) }
-    ensures never_falls { E.faults err.old ≤ E.faults err.new }
+    ensures { TellsText (sunk E.Sink err.old) (sunk E.Sink err.new) (fault_text file.now place rule.now) result }
 {
     put_place(err, file, place)?;
-    put_three(err, b": ", rule, b"\n")?;
-    Ok(())
+    put_three(err, b": ", rule, b"\n")
 }

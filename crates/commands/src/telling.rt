@@ -1,8 +1,8 @@
 //! The answer of a command: its text on err, and its status.
-ghost use Rattle.std.specs.Prelude.{◌≡◌, ◌++◌, OnOk, OnErr, option_map, codes};
-ghost use Rattle.osek_io.specs.{Counts.{Rose}, Pieces.{grown}, Sunk.{sunk}};
+ghost use Rattle.std.specs.Prelude.{◌≡◌, ◌++◌, option_map, codes};
+ghost use Rattle.osek_io.specs.Sunk.{sunk};
 ghost use Rattle.commands.specs.{Answering.{Tells}, Seen.{seen}, Statuses.{stop_status, stop_text, names_of, output_of, mode_of, text_input as the_text_input}};
-ghost use Rattle.command_runs.specs.Telling.{WritesPrefix, fault_text};
+ghost use Rattle.command_runs.specs.Telling.{TellsText, fault_text};
 
 use crate::words::{Command, input_name, mode_name, output_name};
 use command_runs::{Input, Stop, put_two, tell_fault};
@@ -73,26 +73,16 @@ fn mode_word<'a>(command: &Option<Command<'a>>) -> &'a str
 
 /// Tells that the file that is written can't be.
 fn tell_output<E: Sink>(err: &mut E, command: &Option<Command<'_>>) -> Result<(), PutError>
-    ensures ok { OnOk result (E.written err.new ≡ grown (E.written err.old) (output_of (option_map seen command.now) ++ codes ": write\n")) }
-    ensures prefix { OnErr result (WritesPrefix (E.written err.old) (E.written err.new) (output_of (option_map seen command.now) ++ codes ": write\n")) }
-    ensures cause { OnErr result (Rose (E.faults err.old) (E.faults err.new)) }
-    ensures no_fault { OnOk result (E.faults err.new ≡ E.faults err.old) }
+    ensures { TellsText (sunk E.Sink err.old) (sunk E.Sink err.new) (output_of (option_map seen command.now) ++ codes ": write\n") result }
 {
-    let output = output_word(command);
-    put_two(err, output.as_bytes(), b": write\n")?;
-    Ok(())
+    put_two(err, output_word(command).as_bytes(), b": write\n")
 }
 
 /// Tells that there is no mode of the name.
 fn tell_mode<E: Sink>(err: &mut E, command: &Option<Command<'_>>) -> Result<(), PutError>
-    ensures ok { OnOk result (E.written err.new ≡ grown (E.written err.old) (mode_of (option_map seen command.now) ++ codes ": no such mode\n")) }
-    ensures prefix { OnErr result (WritesPrefix (E.written err.old) (E.written err.new) (mode_of (option_map seen command.now) ++ codes ": no such mode\n")) }
-    ensures cause { OnErr result (Rose (E.faults err.old) (E.faults err.new)) }
-    ensures no_fault { OnOk result (E.faults err.new ≡ E.faults err.old) }
+    ensures { TellsText (sunk E.Sink err.old) (sunk E.Sink err.new) (mode_of (option_map seen command.now) ++ codes ": no such mode\n") result }
 {
-    let mode = mode_word(command);
-    put_two(err, mode.as_bytes(), b": no such mode\n")?;
-    Ok(())
+    put_two(err, mode_word(command).as_bytes(), b": no such mode\n")
 }
 
 /// Tells a fault at a place of an input.
@@ -103,10 +93,7 @@ fn tell_fault_in<E: Sink>(
     place: u64,
     rule: &[u8],
 ) -> Result<(), PutError>
-    ensures ok { OnOk result (E.written err.new ≡ grown (E.written err.old) (fault_text (names_of (option_map seen command.now) input) place rule.now)) }
-    ensures prefix { OnErr result (WritesPrefix (E.written err.old) (E.written err.new) (fault_text (names_of (option_map seen command.now) input) place rule.now)) }
-    ensures cause { OnErr result (Rose (E.faults err.old) (E.faults err.new)) }
-    ensures no_fault { OnOk result (E.faults err.new ≡ E.faults err.old) }
+    ensures { TellsText (sunk E.Sink err.old) (sunk E.Sink err.new) (fault_text (names_of (option_map seen command.now) input) place rule.now) result }
 {
     tell_fault(err, name_of(command, input).as_bytes(), place, rule)
 }
@@ -118,10 +105,7 @@ fn tell_of<E: Sink>(
     input: Input,
     said: &[u8],
 ) -> Result<(), PutError>
-    ensures ok { OnOk result (E.written err.new ≡ grown (E.written err.old) (names_of (option_map seen command.now) input ++ said.now)) }
-    ensures prefix { OnErr result (WritesPrefix (E.written err.old) (E.written err.new) (names_of (option_map seen command.now) input ++ said.now)) }
-    ensures cause { OnErr result (Rose (E.faults err.old) (E.faults err.new)) }
-    ensures no_fault { OnOk result (E.faults err.new ≡ E.faults err.old) }
+    ensures { TellsText (sunk E.Sink err.old) (sunk E.Sink err.new) (names_of (option_map seen command.now) input ++ said.now) result }
 {
     put_two(err, name_of(command, input).as_bytes(), said)
 }
@@ -132,10 +116,7 @@ fn tell_stop<E: Sink>(
     command: &Option<Command<'_>>,
     stop: &Stop,
 ) -> Result<(), PutError>
-    ensures ok { OnOk result (E.written err.new ≡ grown (E.written err.old) (stop_text (names_of (option_map seen command.now)) (output_of (option_map seen command.now)) (mode_of (option_map seen command.now)) stop.now)) }
-    ensures prefix { OnErr result (WritesPrefix (E.written err.old) (E.written err.new) (stop_text (names_of (option_map seen command.now)) (output_of (option_map seen command.now)) (mode_of (option_map seen command.now)) stop.now)) }
-    ensures cause { OnErr result (Rose (E.faults err.old) (E.faults err.new)) }
-    ensures no_fault { OnOk result (E.faults err.new ≡ E.faults err.old) }
+    ensures { TellsText (sunk E.Sink err.old) (sunk E.Sink err.new) (stop_text (names_of (option_map seen command.now)) (output_of (option_map seen command.now)) (mode_of (option_map seen command.now)) stop.now) result }
 {
     match stop {
         Stop::Refused(refusal) => {

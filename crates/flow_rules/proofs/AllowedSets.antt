@@ -1,5 +1,5 @@
 -- The allowed part of an entry, set by set.
-use Rattle.std.proofs.Common.{◌≡◌, ℕ, zero, suc, ◌+◌, ◌-◌, ◌<◌, ◌≤◌, Bool, true, false, ◌&&◌, ◌||◌, List, [], ◌∷◌, ◌++◌, length, get_or, take, map, All, refl, sym, ap, subst, ◌∙◌, inl, inr, arith}
+use Rattle.std.proofs.Common.{◌≡◌, ℕ, zero, suc, ◌+◌, ◌-◌, ◌<◌, Bool, true, false, ◌&&◌, ◌||◌, List, [], ◌∷◌, ◌++◌, length, get_or, take, map, All, refl, sym, ap, subst, ◌∙◌, inl, inr, arith}
 use Rattle.std.specs.List.{list_any}
 use Rattle.std.proofs.lemmas.{Bool.{cases_lt, and_parts}, List.{take_more, get_or_append_left, get_or-append_right, length-append}}
 use Rattle.std.proofs.lemmas.{List.Elements.{All-contains, All-from_get_or, All-get_or, Contains-get_or}, Map.Views.{Contains-from_any, list_any-from_Contains}}

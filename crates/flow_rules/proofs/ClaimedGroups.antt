@@ -12,15 +12,15 @@ use Rattle.flow_model.specs.declared.case.Decision.TheVariants as decision
 use Rattle.flow_model.specs.{Values.{is_live_value}, Effects.{AreIn}, Scheduling.{task_priority, IsLiveTask, IsBestTask, NoneLive, NoneAbove, Decides}}
 use Rattle.flow_model.specs.declared.case.Leaving.{Leaving}
 use Rattle.numbered_sets.specs.{declared.numbered_entry.NumberedEntry.{NumberedEntry}, Numbers.{Numbers, has_number, kept_numbers, meets}, NumberedEntries.{numbers_at, AreFilled}}
-use Rattle.numbered_sets.specs.{Pools.{Values, values_at, IsNumberOf}, Views.{plain_entry, AreNumbersOf}}
+use Rattle.numbered_sets.specs.{Pools.{Values, values_at, IsNumberOf}, Views.{plain_entry}}
 use Rattle.numbered_sets.proofs.MeetLaws.{common_of, meets_at}
 use Rattle.flow_exits.specs.declared.claim.Claim.{Claim}
 use Rattle.flow_exits.specs.declared.claim.Claim.TheVariants as claim
 use Rattle.flow_exits.specs.{Claims.{limit_of, AreUnder}, Outcomes.{IsVacant, idle_decision}}
 use Rattle.flow_exits.proofs.ClaimLaws.{that_task, nobody_means, nobody_passes, keeps_means, keeps_passes, gets_means, gets_above, gets_passes}
 use Rattle.flow_rules.specs.{declared.{task_levels.{Level.{Level}, TaskLevels.{TaskLevels}}, levels.Levels.{Levels}, group.ExitGroup.{ExitGroup}}, Levels.{IsLiveAt, AreAllLevels}}
-use Rattle.flow_rules.specs.{Narrowing.{IsLeft, is_under_limit, NeverUnder}, Deciding.{DecidesSo, AddsFor, IsIt, IsOfLevel, IsAtLevel, IsLevelOf, IsAlive, IsOver, IsGroupFor}}
-use Rattle.flow_rules.proofs.{ExitLaws.{IsSound, IsKnownDecision}, LeftLaws.{tasks_counted, as_many_left, known_left, within_left, no_limit, under_left, left_under}}
+use Rattle.flow_rules.specs.{Narrowing.{IsLeft, is_under_limit, NeverUnder}, Deciding.{DecidesSo, AddsFor, IsWhole, IsIt, IsOfLevel, IsAtLevel, IsLevelOf, IsAlive, IsAsked, IsGroupFor, IsClaimed, IsCut, IsKnownDecision, NeverAt, over_of}}
+use Rattle.flow_rules.proofs.{LeftLaws.{tasks_counted, as_many_left, known_left, within_left, no_limit, under_left, left_under}}
 use Rattle.flow_rules.proofs.{KeptLaws.{as_many_kept, known_kept, filled_kept, number_kept, within_kept, in_kept}, AddingLaws.{nothing_more}}
 
 -- ---- values of a level
@@ -35,22 +35,14 @@ module _ (app : App) (pool : List Values) (levels : Levels) (all : AreAllLevels 
       none = record { judged = 0; dead = level.numbers; levels = [] }
 
 -- what is left has a number of each component
-pub left_sound : (app : App) (pool : List Values) (c : Claim) (entry left : NumberedEntry) → IsLeft (is_under_limit app c (length app.tasks)) pool entry left → component_count app ≤ length entry.sets → AreNumbersOf pool entry → AreFilled left → IsSound app pool left
-left_sound app pool c entry left h size numbers filled = record {
-  size = omega (arith, size, as_many_left (is_under_limit app c (length app.tasks)) pool entry left h);
-  numbers = known_left (is_under_limit app c (length app.tasks)) pool entry left h numbers;
+pub left_whole : (app : App) (pool : List Values) (c : Claim) (entry left : NumberedEntry) → IsLeft (is_under_limit app c (length app.tasks)) pool entry left → IsWhole app pool entry → AreFilled left → IsWhole app pool left
+left_whole app pool c entry left h whole filled = record {
+  size = omega (arith, whole.size, as_many_left (is_under_limit app c (length app.tasks)) pool entry left h);
+  numbers = known_left (is_under_limit app c (length app.tasks)) pool entry left h whole.numbers;
   filled = filled;
 }
 
 -- ---- what a claim leaves, with the numbers of a level alone for the task that it is for
-
--- the limits are those of a claim, which has none for task t, and of that the numbers of a level are left
-pub record IsClaimed (app : App) (pool : List Values) (c : Claim) (t : ℕ) (level : Level) (entry after : NumberedEntry) : Type 0 where
-  pub free : limit_of c t ≡ None
-  pub left : NumberedEntry
-  pub is_left : IsLeft (is_under_limit app c (length app.tasks)) pool entry left
-  pub there : t < length left.sets
-  pub kept : after.sets ≡ set left.sets t (kept_numbers (numbers_at left t) level.numbers)
 
 module _ (app : App) (pool : List Values) (c : Claim) (t : ℕ) (known : t < length app.tasks) (level : Level) (entry after : NumberedEntry) (h : IsClaimed app pool c t level entry after) where
   abbrev limits : ℕ → PartValue → Bool
@@ -61,12 +53,12 @@ module _ (app : App) (pool : List Values) (c : Claim) (t : ℕ) (known : t < len
       let v = slice_index_or (values_at pool t) n (OfAlarm false) in
       h.is_left.each t n (OfAlarm false) ∙ ap₂ (λ (a b : Bool). a && b) has (no_limit app c (length app.tasks) t v h.free)
 
-  pub claimed_sound : component_count app ≤ length entry.sets → AreNumbersOf pool entry → AreFilled h.left → IsTrue (meets (numbers_at entry t) level.numbers) → IsSound app pool after
-  claimed_sound size numbers filled met =
+  claimed_whole : IsWhole app pool entry → AreFilled h.left → IsTrue (meets (numbers_at entry t) level.numbers) → IsWhole app pool after
+  claimed_whole whole filled met =
       let common = common_of (numbers_at entry t) level.numbers met in
       record {
-        size = omega (arith, size, as_many_left limits pool entry h.left h.is_left, as_many_kept pool h.left after t level.numbers h.there h.kept);
-        numbers = known_kept pool h.left after t level.numbers h.there h.kept (known_left limits pool entry h.left h.is_left numbers);
+        size = omega (arith, whole.size, as_many_left limits pool entry h.left h.is_left, as_many_kept pool h.left after t level.numbers h.there h.kept);
+        numbers = known_kept pool h.left after t level.numbers h.there h.kept (known_left limits pool entry h.left h.is_left whole.numbers);
         filled = filled_kept pool h.left after t level.numbers h.there h.kept common.number (stays_left common.number common.first) common.second filled;
       }
 
@@ -88,6 +80,10 @@ module _ (app : App) (pool : List Values) (c : Claim) (t : ℕ) (known : t < len
           let x = number_kept pool h.left after t level.numbers h.there h.kept app value within (task_counted app t known) in
           level_value app pool levels all t known level of x.number (value t) (and_parts (has_number (numbers_at h.left t) x.number) (has_number level.numbers x.number) x.has_it).1 x.is
 
+-- no value is of the level
+pub never_met : (app : App) (c : Claim) (pool : List Values) (entry : NumberedEntry) (t : ℕ) (level : Level) → meets (numbers_at entry t) level.numbers ≡ false → NeverAt app c pool entry t level
+never_met app c pool entry t level none value within under at = (let met = meets_at (numbers_at entry t) level.numbers at.number at.has at.among in absurd (cc))
+
 -- the claimed task has no limit
 pub keeps_free : (t : TaskNo) (p : ℕ) → limit_of (claim.Keeps t p) t.0 ≡ None
 keeps_free t p = rw (eq-eqb t.0 t.0 refl) refl
@@ -106,21 +102,17 @@ left_there app pool c t entry known size found left some lefts component same =
     let is_left = subst (λ (o : Option NumberedEntry). IfSome o (IsLeft (is_under_limit app c (length app.tasks)) pool entry)) some lefts in
     omega (arith, known, same, tasks_counted app, size, as_many_left (is_under_limit app c (length app.tasks)) pool entry left is_left)
 
--- what the code leaves is so, and each component has a number
-pub record IsCut (app : App) (pool : List Values) (c : Claim) (t : ℕ) (level : Level) (entry after : NumberedEntry) : Type 0 where
-  pub claimed : IsClaimed app pool c t level entry after
-  pub sound : IsSound app pool after
-
-pub cut : (app : App) (pool : List Values) (c : Claim) (t : ℕ) (level : Level) (entry : NumberedEntry) → t < length app.tasks → component_count app ≤ length entry.sets → AreNumbersOf pool entry → limit_of c t ≡ None → IsTrue (meets (numbers_at entry t) level.numbers)
+-- what the code leaves is so
+pub cut : (app : App) (pool : List Values) (c : Claim) (t : ℕ) (level : Level) (entry : NumberedEntry) → t < length app.tasks → IsWhole app pool entry → limit_of c t ≡ None → IsTrue (meets (numbers_at entry t) level.numbers)
     → (found : Option NumberedEntry) (left : NumberedEntry) → found ≡ Some left → IfSome found (IsLeft (is_under_limit app c (length app.tasks)) pool entry) → IfSome found AreFilled
     → (component : ℕ) (after : NumberedEntry) → component ≡ t → after.sets ≡ set left.sets component (kept_numbers (numbers_at left component) level.numbers) → IsCut app pool c t level entry after
-cut app pool c t level entry known size numbers free met found left some lefts fills component after same write =
+cut app pool c t level entry known whole free met found left some lefts fills component after same write =
     let is_left = subst (λ (o : Option NumberedEntry). IfSome o (IsLeft (is_under_limit app c (length app.tasks)) pool entry)) some lefts in
     let filled = subst (λ (o : Option NumberedEntry). IfSome o AreFilled) some fills in
-    let there : t < length left.sets = omega (arith, known, tasks_counted app, size, as_many_left (is_under_limit app c (length app.tasks)) pool entry left is_left) in
+    let there : t < length left.sets = omega (arith, known, tasks_counted app, whole.size, as_many_left (is_under_limit app c (length app.tasks)) pool entry left is_left) in
     let kept = subst (λ (k : ℕ). after.sets ≡ set left.sets k (kept_numbers (numbers_at left k) level.numbers)) same write in
     let claimed : IsClaimed app pool c t level entry after = record { free = free; left = left; is_left = is_left; there = there; kept = kept } in
-    record { claimed = claimed; sound = claimed_sound app pool c t known level entry after claimed size numbers filled met }
+    record { claimed = claimed; whole = claimed_whole app pool c t known level entry after claimed whole filled met }
 
 -- ---- the running task keeps the processor
 
@@ -146,13 +138,8 @@ module _ (app : App) (pool : List Values) (levels : Levels) (all : AreAllLevels 
     whole = λ value e within decides at. (at.0, in_claimed app pool keeps t.0 known level entry after h value within (level_under value e decides at) at.1);
   }
 
-  -- no value is of the level, or none is under the limits
-  pub no_keeper_met : meets (numbers_at entry t.0) level.numbers ≡ false → (gs : List ExitGroup) → AddsFor app pool leaving entry (IsAtLevel pool entry t.0 level decision.Keep) gs gs
-  no_keeper_met none gs = nothing_more app pool leaving entry (IsAtLevel pool entry t.0 level decision.Keep) gs (λ value e within decides at.
-      (let met = meets_at (numbers_at entry t.0) level.numbers at.1.number at.1.has at.1.among in absurd (cc)))
-
-  pub no_keeper_under : NeverUnder app keeps pool entry → (gs : List ExitGroup) → AddsFor app pool leaving entry (IsAtLevel pool entry t.0 level decision.Keep) gs gs
-  no_keeper_under never gs = nothing_more app pool leaving entry (IsAtLevel pool entry t.0 level decision.Keep) gs (λ value e within decides at. never value within (level_under value e decides at))
+  pub no_keeper : NeverAt app keeps pool entry t.0 level → (gs : List ExitGroup) → AddsFor app pool leaving entry (IsAtLevel pool entry t.0 level decision.Keep) gs gs
+  no_keeper never gs = nothing_more app pool leaving entry (IsAtLevel pool entry t.0 level decision.Keep) gs (λ value e within decides at. never value within (level_under value e decides at) at.1)
 
 -- ---- another task gets the processor
 
@@ -160,6 +147,9 @@ not_that : (over : Option TaskNo) (w : TaskNo) (t : TaskNo) → is_that_task ove
 not_that over w t other e same =
     let that : is_that_task over w.0 ≡ true = ap (λ (o : Option TaskNo). is_that_task o w.0) e ∙ eq-eqb t.0 w.0 same in
     absurd (cc)
+
+same_running : (t u : TaskNo) → Some t ≡ Some u → t ≡ u
+same_running t u e = cc
 
 module _ (app : App) (value : ℕ → PartValue) (w : TaskNo) where
   -- the running task is Live, and below
@@ -172,39 +162,42 @@ module _ (app : App) (value : ℕ → PartValue) (w : TaskNo) where
     pub best : IsBestTask app value w.0
     pub above : (t : TaskNo) → over ≡ Some t → IsBelowIt t
 
-  pub winner_of : (a : Asked) (over : Option TaskNo) → IsOver a over → Decides app value a (decision.To (Some w)) → Wins over
-  winner_of asked.No over is h = absurd is
-  winner_of (asked.Maybe t) over is h = record {
-    best = h.best;
-    above = λ u e. (let same : t ≡ u = some_same t u (sym is ∙ e) in subst IsBelowIt same (record { live = h.running; below = h.above }));
-  }
-    where
-      some_same : (x y : TaskNo) → Some x ≡ Some y → x ≡ y
-      some_same x y p = cc
-  winner_of asked.Left over is h = record { best = h; above = λ u e. (let not : None ≡ Some u = sym is ∙ e in absurd (cc)) }
-  winner_of asked.Free over is h = record { best = h; above = λ u e. (let not : None ≡ Some u = sym is ∙ e in absurd (cc)) }
+  pub winner_of : (a : Asked) → Decides app value a (decision.To (Some w)) → Wins (over_of a)
+  winner_of asked.No h = absurd h
+  winner_of (asked.Maybe t) h = record { best = h.best; above = λ u e. subst IsBelowIt (same_running t u e) (record { live = h.running; below = h.above }) }
+  winner_of asked.Left h = record { best = h; above = λ u e. absurd (cc) }
+  winner_of asked.Free h = record { best = h; above = λ u e. absurd (cc) }
 
-  pub winner_decides : (a : Asked) (over : Option TaskNo) → IsOver a over → Wins over → Decides app value a (decision.To (Some w))
-  winner_decides asked.No over is h = absurd is
-  winner_decides (asked.Maybe t) over is h = (let x = h.above t is in record { running = x.live; best = h.best; above = x.below })
-  winner_decides asked.Left over is h = h.best
-  winner_decides asked.Free over is h = h.best
+  pub winner_decides : (pool : List Values) (entry : NumberedEntry) (a : Asked) → IsAsked app pool entry a → Wins (over_of a) → Decides app value a (decision.To (Some w))
+  winner_decides pool entry asked.No is h = absurd is
+  winner_decides pool entry (asked.Maybe t) is h = (let x = h.above t refl in record { running = x.live; best = h.best; above = x.below })
+  winner_decides pool entry asked.Left is h = h.best
+  winner_decides pool entry asked.Free is h = h.best
+
+-- the task that runs is Live
+alive_over : (app : App) (pool : List Values) (entry : NumberedEntry) (a : Asked) (t : TaskNo) → IsAsked app pool entry a → over_of a ≡ Some t → IsAlive app pool entry t.0
+alive_over app pool entry asked.No t is e = absurd is
+alive_over app pool entry (asked.Maybe u) t is e = subst (λ (x : TaskNo). IsAlive app pool entry x.0) (same_running u t e) is
+alive_over app pool entry asked.Left t is e = absurd (cc)
+alive_over app pool entry asked.Free t is e = absurd (cc)
 
 -- the running task never wins
-running_loses : (app : App) (value : ℕ → PartValue) (a : Asked) (over : Option TaskNo) (w : TaskNo) → IsOver a over → is_that_task over w.0 ≡ true → Decides app value a (decision.To (Some w)) → ⊥
-running_loses app value a over w is that h =
-    let t = that_task over w.0 that in
-    let below = ((winner_of app value w a over is h).above t.0 t.1).below in
+running_loses : (app : App) (value : ℕ → PartValue) (a : Asked) (w : TaskNo) → is_that_task (over_of a) w.0 ≡ true → Decides app value a (decision.To (Some w)) → ⊥
+running_loses app value a w that h =
+    let t = that_task (over_of a) w.0 that in
+    let below = ((winner_of app value w a h).above t.0 t.1).below in
     let same : task_priority app value t.0.0 ≡ task_priority app value w.0 = ap (task_priority app value) t.2 in
     absurd (omega (arith, below, same))
 
-pub no_running_winner : (app : App) (pool : List Values) (leaving : Leaving) (over : Option TaskNo) (w : TaskNo) (entry : NumberedEntry) (gs : List ExitGroup) → IsOver leaving.asked over → is_that_task over w.0 ≡ true
-    → AddsFor app pool leaving entry (IsIt (decision.To (Some w))) gs gs
-no_running_winner app pool leaving over w entry gs is that = nothing_more app pool leaving entry (IsIt (decision.To (Some w))) gs
-    (λ value e within decides same. running_loses app value leaving.asked over w is that (subst (DecidesSo app leaving value) same decides))
+pub no_running_winner : (app : App) (pool : List Values) (leaving : Leaving) (w : TaskNo) (entry : NumberedEntry) (gs : List ExitGroup) → is_that_task (over_of leaving.asked) w.0 ≡ true → AddsFor app pool leaving entry (IsIt (decision.To (Some w))) gs gs
+no_running_winner app pool leaving w entry gs that = nothing_more app pool leaving entry (IsIt (decision.To (Some w))) gs
+    (λ value e within decides same. running_loses app value leaving.asked w that (subst (DecidesSo app leaving value) same decides))
 
-module _ (app : App) (pool : List Values) (levels : Levels) (all : AreAllLevels app pool levels) (leaving : Leaving) (over : Option TaskNo) (is_over : IsOver leaving.asked over) (w : TaskNo) (known : w.0 < length app.tasks) (other : is_that_task over w.0 ≡ false)
+module _ (app : App) (pool : List Values) (levels : Levels) (all : AreAllLevels app pool levels) (leaving : Leaving) (w : TaskNo) (known : w.0 < length app.tasks) (other : is_that_task (over_of leaving.asked) w.0 ≡ false)
     (level : Level) (of : IsLevelOf levels w.0 level) (entry : NumberedEntry) where
+  abbrev over : Option TaskNo
+  over = over_of leaving.asked
+
   abbrev gets : Claim
   gets = claim.Gets w level.priority over
 
@@ -212,45 +205,41 @@ module _ (app : App) (pool : List Values) (levels : Levels) (all : AreAllLevels 
   to_it = decision.To (Some w)
 
   wins : (value : ℕ → PartValue) (e : Decision) → e ≡ to_it → DecidesSo app leaving value e → Wins app value w over
-  wins value e same decides = winner_of app value w leaving.asked over is_over (subst (DecidesSo app leaving value) same decides)
+  wins value e same decides = winner_of app value w leaving.asked (subst (DecidesSo app leaving value) same decides)
 
   under_it : (value : ℕ → PartValue) (e : Decision) → DecidesSo app leaving value e → IsAtLevel pool entry w.0 level to_it value e → AreUnder app gets (length app.tasks) value
   under_it value e decides at =
       let won = wins value e at.0 decides in
       gets_passes app value w level.priority over (level_value app pool levels all w.0 known level of at.1.number (value w.0) at.1.among at.1.is).priority won.best (λ t same. (won.above t same).below)
 
-  pub winner_group : (after : NumberedEntry) → IfSome over (λ t. IsAlive app pool entry t.0) → IsClaimed app pool gets w.0 level entry after → IsGroupFor app pool leaving entry (IsAtLevel pool entry w.0 level to_it) to_it after
-  winner_group after alive h = record {
+  pub winner_group : (after : NumberedEntry) → IsAsked app pool entry leaving.asked → IsClaimed app pool gets w.0 level entry after → IsGroupFor app pool leaving entry (IsAtLevel pool entry w.0 level to_it) to_it after
+  winner_group after asks h = record {
     within = within_claimed app pool gets w.0 known level entry after h;
     each = λ value within.
         (let at = claimed_live app pool gets w.0 known level entry after h value levels all of within in
         let inside = within_claimed app pool gets w.0 known level entry after h value within in
         let under = under_claimed app pool gets w.0 known level entry after h value within in
         let live : IsLiveTask app value w.0 = record { known = known; live = at.live } in
-        winner_decides app value w leaving.asked over is_over (record {
+        winner_decides app value w pool entry leaving.asked asks (record {
           best = gets_means app value w level.priority over at.priority live under;
           above = λ t same.
-              (let its : IsAlive app pool entry t.0 = subst (λ (o : Option TaskNo). IfSome o (λ u. IsAlive app pool entry u.0)) same alive in
+              (let its = alive_over app pool entry leaving.asked t asks same in
               let running : IsLiveTask app value t.0 = record { known = its.known; live = its.live value inside } in
               record { live = running; below = gets_above app value w level.priority over at.priority t same (not_that over w t other same) running under });
         }));
     whole = λ value e within decides at. (at.0, in_claimed app pool gets w.0 known level entry after h value within (under_it value e decides at) at.1);
   }
 
-  pub no_winner_met : meets (numbers_at entry w.0) level.numbers ≡ false → (gs : List ExitGroup) → AddsFor app pool leaving entry (IsAtLevel pool entry w.0 level to_it) gs gs
-  no_winner_met none gs = nothing_more app pool leaving entry (IsAtLevel pool entry w.0 level to_it) gs (λ value e within decides at.
-      (let met = meets_at (numbers_at entry w.0) level.numbers at.1.number at.1.has at.1.among in absurd (cc)))
-
-  pub no_winner_under : NeverUnder app gets pool entry → (gs : List ExitGroup) → AddsFor app pool leaving entry (IsAtLevel pool entry w.0 level to_it) gs gs
-  no_winner_under never gs = nothing_more app pool leaving entry (IsAtLevel pool entry w.0 level to_it) gs (λ value e within decides at. never value within (under_it value e decides at))
+  pub no_winner : NeverAt app gets pool entry w.0 level → (gs : List ExitGroup) → AddsFor app pool leaving entry (IsAtLevel pool entry w.0 level to_it) gs gs
+  no_winner never gs = nothing_more app pool leaving entry (IsAtLevel pool entry w.0 level to_it) gs (λ value e within decides at. never value within (under_it value e decides at) at.1)
 
 -- a task that gets the processor is Live
-pub winner_live : (app : App) (pool : List Values) (leaving : Leaving) (over : Option TaskNo) (w : TaskNo) (value : ℕ → PartValue) → IsOver leaving.asked over → DecidesSo app leaving value (decision.To (Some w)) → IsTrue (is_live_value (val_of (value w.0)))
-winner_live app pool leaving over w value is h = (winner_of app value w leaving.asked over is h).best.is.live
+pub winner_live : (app : App) (leaving : Leaving) (w : TaskNo) (value : ℕ → PartValue) → DecidesSo app leaving value (decision.To (Some w)) → IsTrue (is_live_value (val_of (value w.0)))
+winner_live app leaving w value h = (winner_of app value w leaving.asked h).best.is.live
 
 -- and so is one that keeps it
-pub keeper_live : (app : App) (pool : List Values) (leaving : Leaving) (t : TaskNo) (value : ℕ → PartValue) → leaving.asked ≡ asked.Maybe t → DecidesSo app leaving value decision.Keep → IsTrue (is_live_value (val_of (value t.0)))
-keeper_live app pool leaving t value running h = (let kept : NoneAbove app value t.0 = subst (λ (a : Asked). Decides app value a decision.Keep) running h in kept.running.live)
+pub keeper_live : (app : App) (leaving : Leaving) (t : TaskNo) (value : ℕ → PartValue) → leaving.asked ≡ asked.Maybe t → DecidesSo app leaving value decision.Keep → IsTrue (is_live_value (val_of (value t.0)))
+keeper_live app leaving t value running h = (let kept : NoneAbove app value t.0 = subst (λ (a : Asked). Decides app value a decision.Keep) running h in kept.running.live)
 
 -- ---- nobody gets it
 

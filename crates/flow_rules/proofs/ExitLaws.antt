@@ -1,6 +1,6 @@
 -- The exits of one group: each choice of its values has one, and stands where that ends.
-use Rattle.std.proofs.Common.{◌≡◌, ℕ, ◌<◌, ◌≤◌, false, List, [], ◌∷◌, ◌++◌, length, map, get_or, refl, sym, ap, subst, ◌∙◌, inl, inr, arith, Some, None}
-use Rattle.std.specs.Prelude.{⊤, Contains}
+use Rattle.std.proofs.Common.{◌≡◌, ℕ, ◌<◌, false, List, [], ◌∷◌, ◌++◌, length, map, get_or, refl, sym, ap, subst, ◌∙◌, inl, inr, arith, Some, None}
+use Rattle.std.specs.Prelude.{Contains}
 use Rattle.std.proofs.lemmas.List.{get_or_default}
 use Rattle.osek_standard.specs.declared.{app.App.{App}, point.Point.{Point}}
 use Rattle.osek_standard.specs.declared.point.Point.TheVariants as point
@@ -12,20 +12,14 @@ use Rattle.flow_model.specs.declared.case.Decision.TheVariants as decision
 use Rattle.flow_model.specs.{Values.{block_of}, Effects.{AreIn, stay_point, IsKnownStay}, Scheduling.{end_point}, declared.case.Stay.{Stay}}
 use Rattle.flow_model.specs.declared.case.Stay.TheVariants as stay
 use Rattle.flow_model.specs.declared.case.Leaving.{Leaving}
-use Rattle.numbered_sets.specs.{declared.numbered_entry.NumberedEntry.{NumberedEntry}, NumberedEntries.{AreFilled}, Pools.{Values, values_at, IsNumberOf}}
-use Rattle.numbered_sets.specs.Views.{plain_entry, AreNumbersOf}
+use Rattle.numbered_sets.specs.{declared.numbered_entry.NumberedEntry.{NumberedEntry}, Pools.{Values, values_at, IsNumberOf}}
+use Rattle.numbered_sets.specs.Views.{plain_entry}
 use Rattle.flow_exits.specs.{declared.exit.Exit.{Exit}, Exits.{IsFilled}, Leaving.{HasDecided}}
 use Rattle.flow_rules.specs.declared.group.{NumberEnd.{NumberEnd}, Ends.{Ends}, ExitGroup.{ExitGroup}}
 use Rattle.flow_rules.specs.declared.group.Ends.TheVariants as ends
-use Rattle.flow_rules.specs.{Groups.{holding, exit_at, exits_by, all_exits, AreKnownEnds}, Deciding.{AreBlockEnds, AreBlocks, AreEndsBy, AddsOne, AddsFor, IsGroupFor}}
+use Rattle.flow_rules.specs.{Groups.{holding, exit_at, exits_by, all_exits, AreKnownEnds}, Deciding.{AreBlockEnds, AreBlocks, AreEndsBy, AddsOne, AddsFor, IsGroupFor, IsKnownDecision, IsWhole}}
 use Rattle.flow_rules.proofs.{GroupLaws.{old_exit, new_exit, exit_cases, known_with}, NumberLaws.{member_number, filled_plain}}
 use Rattle.flow_rules.proofs.HeldLaws.{held_is, held_within, held_in, held_filled}
-
--- an entry with numbers of the pool, of which each component has one
-pub record IsSound (app : App) (pool : List Values) (entry : NumberedEntry) : Type 0 where
-  pub size : component_count app ≤ length entry.sets
-  pub numbers : AreNumbersOf pool entry
-  pub filled : AreFilled entry
 
 -- where a task's value stands
 abbrev block_point : ℕ → (ℕ → PartValue) → Point
@@ -54,7 +48,7 @@ module _ (app : App) (pool : List Values) (g : ExitGroup) (where_to : (ℕ → P
     each : (x : Exit) → Contains (exits_by pool g xs) x → IsExitTo x
     whole : (value : ℕ → PartValue) → AreIn app (plain_entry pool g.entry) value → HasExitTo xs value
 
-  module _ (sound : IsSound app pool g.entry) where
+  module _ (sound : IsWhole app pool g.entry) where
     one_point : (p : Point) → ((value : ℕ → PartValue) → p ≡ where_to value) → AreExitsTo (ends.At (p ∷ []))
     one_point p stands = record {
       known = tt;
@@ -117,16 +111,10 @@ module _ (app : App) (pool : List Values) (g : ExitGroup) (where_to : (ℕ → P
     at_blocks_of c lt (ends.At ps) h stands = absurd h
     at_blocks_of c lt (ends.With k xs) h stands = subst (λ (i : ℕ). AreExitsTo (ends.With i xs)) (sym h.0) (with_blocks c lt xs h.1 stands)
 
--- a task that gets the processor is one of the application's
-abbrev pub IsKnownDecision : App → Decision → Type 0
-IsKnownDecision app decision.Keep = ⊤
-IsKnownDecision app (decision.To None) = ⊤
-IsKnownDecision app (decision.To (Some w)) = w.0 < length app.tasks
-
 abbrev end_by : App → Stay → Decision → (ℕ → PartValue) → Point
 end_by app where_to d value = end_point app value (stay_point where_to value) d
 
-ends_by : (app : App) (pool : List Values) (g : ExitGroup) → IsSound app pool g.entry → (where_to : Stay) (d : Decision) (xs : Ends) → IsKnownStay app where_to → IsKnownDecision app d → AreEndsBy pool g.entry where_to d xs
+ends_by : (app : App) (pool : List Values) (g : ExitGroup) → IsWhole app pool g.entry → (where_to : Stay) (d : Decision) (xs : Ends) → IsKnownStay app where_to → IsKnownDecision app d → AreEndsBy pool g.entry where_to d xs
     → AreExitsTo app pool g (end_by app where_to d) xs
 ends_by app pool g sound (stay.At p) decision.Keep xs known _ h = subst (AreExitsTo app pool g (end_by app (stay.At p) decision.Keep)) (sym h) (one_point app pool g (end_by app (stay.At p) decision.Keep) sound p (λ value. refl))
 ends_by app pool g sound (stay.AtBlockOf t) decision.Keep xs known _ h = at_blocks_of app pool g (end_by app (stay.AtBlockOf t) decision.Keep) sound t.0 (task_counted app t.0 known) xs h (λ value. refl)
@@ -136,7 +124,7 @@ ends_by app pool g sound where_to (decision.To (Some w)) xs _ known h = at_block
 -- ---- one group more
 
 module _ (app : App) (pool : List Values) (leaving : Leaving) (after : NumberedEntry) (P : (ℕ → PartValue) → Decision → Type 0) (d : Decision) (before : List ExitGroup) (stays : IsKnownStay app leaving.stay) (goes : IsKnownDecision app d) where
-  added : (g : ExitGroup) → g.decision ≡ Some d → g.status ≡ leaving.status → AreEndsBy pool g.entry leaving.stay d g.ends → IsSound app pool g.entry → IsGroupFor app pool leaving after P d g.entry → AddsFor app pool leaving after P before (before ++ g ∷ [])
+  added : (g : ExitGroup) → g.decision ≡ Some d → g.status ≡ leaving.status → AreEndsBy pool g.entry leaving.stay d g.ends → IsWhole app pool g.entry → IsGroupFor app pool leaving after P d g.entry → AddsFor app pool leaving after P before (before ++ g ∷ [])
   added g decision status by sound group =
       let all = ends_by app pool g sound leaving.stay d g.ends stays goes by in
       record {
@@ -170,11 +158,11 @@ module _ (app : App) (pool : List Values) (leaving : Leaving) (after : NumberedE
             }));
       }
 
-  pub adds_group : (entry : NumberedEntry) (now : List ExitGroup) → IsSound app pool entry → IsGroupFor app pool leaving after P d entry → AddsOne pool leaving d entry before now → AddsFor app pool leaving after P before now
+  pub adds_group : (entry : NumberedEntry) (now : List ExitGroup) → IsWhole app pool entry → IsGroupFor app pool leaving after P d entry → AddsOne pool leaving d entry before now → AddsFor app pool leaving after P before now
   adds_group entry now sound group one =
       let g = one.group in
       subst (AddsFor app pool leaving after P before) (sym one.added)
       (added g one.decision one.status
       (subst (λ (x : NumberedEntry). AreEndsBy pool x leaving.stay d g.ends) (sym one.numbers) one.ends)
-      (subst (IsSound app pool) (sym one.numbers) sound)
+      (subst (IsWhole app pool) (sym one.numbers) sound)
       (subst (IsGroupFor app pool leaving after P d) (sym one.numbers) group))

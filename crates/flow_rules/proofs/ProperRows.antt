@@ -1,5 +1,5 @@
 -- Entries that allowed values fill are rows of a proper table.
-use Rattle.std.proofs.Common.{◌≡◌, ℕ, ◌+◌, ◌<◌, List, [], ◌∷◌, ◌++◌, length, get_or, sym, ap, subst, ◌∙◌, inl, inr, arith, true, IsTrue}
+use Rattle.std.proofs.Common.{◌≡◌, ℕ, ◌<◌, List, length, get_or, sym, ap, subst, ◌∙◌, inl, inr, arith, true, IsTrue}
 use Rattle.std.proofs.{lemmas.{List.{get_or_default, length-map, get_or_past}, Map.Views.{All-from_any}}, Math.ListN.{get_or-map}}
 use Rattle.osek_values.specs.Numbers.{alarm_no}
 use Rattle.osek_standard.specs.{declared.{app.App.{App}, point.Point.{Point}}, Points.{IsPoint}}

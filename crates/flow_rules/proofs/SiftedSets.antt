@@ -1,6 +1,6 @@
 -- What conditions leave of sets of numbers, and what a rule without changes makes of them.
-use Rattle.std.proofs.Common.{◌≡◌, ◌≢◌, ℕ, ◌<◌, ◌≤◌, Bool, true, false, not, ◌||◌, ◌&&◌, List, [], ◌∷◌, ◌++◌, length, get_or, refl, sym, ap, ap₂, ◌∙◌, inl, inr, arith, IsTrue}
-use Rattle.std.specs.{Prelude.{◌==◌}, List.{list_any}}
+use Rattle.std.proofs.Common.{◌≡◌, ℕ, ◌<◌, Bool, true, false, not, ◌||◌, ◌&&◌, List, [], ◌∷◌, ◌++◌, length, get_or, refl, sym, ap, ap₂, ◌∙◌, inl, inr, arith, IsTrue}
+use Rattle.std.specs.List.{list_any}
 use Rattle.std.proofs.{Math.ListN.{get_or-eq_default}, lemmas.{Bool.{cases_lt, and_parts, or_left, eq-eqb}, List.Folds.{list_any-append, list_any_at}}}
 use Rattle.osek_values.specs.Bits.{has_bit}
 use Rattle.abstract_state.specs.{declared.{value.PartValue.{PartValue}, table.ValueSet.{ValueSet}}, ValueOrder.{same_part}, Tables.{is_member}}

@@ -1,5 +1,5 @@
 -- The row of a start: the start is in it, and each inductive table has it.
-use Rattle.std.proofs.Common.{◌≡◌, ℕ, ◌+◌, ◌<◌, true, List, [], ◌∷◌, ◌++◌, length, map, get_or, IsTrue, refl, sym, ap, subst, ◌∙◌, inl, inr, arith, Result, Ok, Err}
+use Rattle.std.proofs.Common.{◌≡◌, ℕ, ◌<◌, true, List, [], ◌∷◌, length, map, get_or, IsTrue, refl, sym, ap, subst, ◌∙◌, inl, inr, arith, Result, Ok, Err}
 use Rattle.std.proofs.lemmas.{Bool.{or_cases, or_left}, List.{get_or-map, get_or_default, Elements.{All-map}}}
 use Rattle.std.specs.Prelude.{IfOk}
 use Rattle.osek_values.specs.{Numbers.{alarm_no}, declared.{memory.Memory.{Memory}, numbers.ModeNo.{ModeNo}}}

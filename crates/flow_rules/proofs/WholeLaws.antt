@@ -15,7 +15,7 @@ use Rattle.numbered_sets.specs.{Pools.{Values, values_at}, Views.{plain_entry, A
 use Rattle.flow_exits.specs.Outcomes.{IsVacant, idle_decision}
 use Rattle.flow_rules.specs.{declared.{task_levels.TaskLevels.{TaskLevels}, levels.Levels.{Levels}}, Levels.{AreTaskLevels, AreAllLevels, AreAllJudged, IsNarrowed}}
 use Rattle.flow_rules.proofs.LevelLaws.{narrowed_elsewhere, narrowed_known, narrowed_members, narrowed_beside, narrowed_size}
-use Rattle.flow_rules.specs.{declared.group.ExitGroup.{ExitGroup}, Deciding.{DecidesSo, AddsFor, IsAny, IsIt, IsWinnerBelow, IsAlive, IsOver, IsGroupFor}}
+use Rattle.flow_rules.specs.{declared.group.ExitGroup.{ExitGroup}, Deciding.{DecidesSo, AddsFor, IsAny, IsIt, IsWinnerBelow, IsWhole, IsAlive, IsAsked, IsGroupFor}}
 use Rattle.flow_rules.proofs.{NumberLaws.{member_number, number_fills}, OwnLevels.{own_levels, all_judged}, AddingLaws.{nothing_more, then_more, of_part}}
 
 -- ---- the values with which a task is Live
@@ -44,11 +44,11 @@ module _ (app : App) (pool : List Values) (after live : NumberedEntry) (t : ℕ)
   pub all_alive : IsAlive app pool live t
   all_alive = record { known = known; live = λ value within. (live_member (value t) (within t (task_counted app t known))).1 }
 
-  pub known_live : AreNumbersOf pool after → AreNumbersOf pool live
-  known_live = narrowed_known live_part pool t after live h
-
-  pub as_many_live : length live.sets ≡ length after.sets
+  as_many_live : length live.sets ≡ length after.sets
   as_many_live = narrowed_size live_part pool t after live h
+
+  pub whole_live : IsWhole app pool after → AreFilled live → IsWhole app pool live
+  whole_live whole filled = record { size = omega (arith, whole.size, as_many_live); numbers = narrowed_known live_part pool t after live h whole.numbers; filled = filled }
 
   -- where a set is empty it is the task's, which is never Live
   never_live : AreFilled after → HasEmptySet live → (value : ℕ → PartValue) → AreIn app (plain_entry pool after) value → IsTrue (live_part (value t)) → ⊥
@@ -101,14 +101,11 @@ pub vacant_by : (a : Asked) → (a ≡ asked.Left) ⊎ (a ≡ asked.Free) → Is
 vacant_by a (inl e) = subst IsVacant (sym e) tt
 vacant_by a (inr e) = subst IsVacant (sym e) tt
 
-pub over_vacant : (a : Asked) → IsVacant a → IsOver a None
-over_vacant asked.No vacant = absurd vacant
-over_vacant (asked.Maybe t) vacant = absurd vacant
-over_vacant asked.Left vacant = refl
-over_vacant asked.Free vacant = refl
-
-pub over_it : (a : Asked) (t : TaskNo) → a ≡ asked.Maybe t → IsOver a (Some t)
-over_it a t e = subst (λ (x : Asked). IsOver x (Some t)) (sym e) refl
+pub asked_vacant : (app : App) (pool : List Values) (entry : NumberedEntry) (a : Asked) → IsVacant a → IsAsked app pool entry a
+asked_vacant app pool entry asked.No vacant = absurd vacant
+asked_vacant app pool entry (asked.Maybe t) vacant = absurd vacant
+asked_vacant app pool entry asked.Left vacant = tt
+asked_vacant app pool entry asked.Free vacant = tt
 
 -- ---- all values after the effect
 
@@ -129,6 +126,9 @@ module _ (app : App) (pool : List Values) (leaving : Leaving) (after : NumberedE
     runs_so : (value : ℕ → PartValue) (d : Decision) → DecidesSo app leaving value d → Decides app value (asked.Maybe t) d
     runs_so value d = subst (λ (a : Asked). Decides app value a d) running
 
+    pub running_adds : (a b c : List ExitGroup) → AddsFor app pool leaving after (IsIt decision.Keep) a b → AddsFor app pool leaving after (IsWinnerBelow (length app.tasks)) b c → AddsFor app pool leaving after IsAny a c
+    running_adds = then_more app pool leaving after (IsIt decision.Keep) (IsWinnerBelow (length app.tasks)) IsAny (λ value d within decides p. running_cases app value t d (runs_so value d decides))
+
     pub unknown_task : length app.tasks ≤ t.0 → (gs : List ExitGroup) → AddsFor app pool leaving after IsAny gs gs
     unknown_task past gs = nothing_more app pool leaving after IsAny gs (λ value d h decides p. (let lt = (runs app value t d (runs_so value d decides)).known in omega (arith, lt, past)))
 
@@ -137,11 +137,9 @@ module _ (app : App) (pool : List Values) (leaving : Leaving) (after : NumberedE
       never_runs filled empty gs = nothing_more app pool leaving after IsAny gs (λ value d within decides p.
           never_live app pool after live t.0 known h filled empty value within (runs app value t d (runs_so value d decides)).live)
 
-      pub running_adds : (a b c : List ExitGroup) → AddsFor app pool leaving live (IsIt decision.Keep) a b → AddsFor app pool leaving live (IsWinnerBelow (length app.tasks)) b c → AddsFor app pool leaving after IsAny a c
-      running_adds a b c x y =
-          of_part app pool leaving after live IsAny IsAny (within_live app pool after live t.0 known h)
-          (λ value d within decides p. (in_live app pool after live t.0 known h value within (runs app value t d (runs_so value d decides)).live, tt)) a c
-          (then_more app pool leaving live (IsIt decision.Keep) (IsWinnerBelow (length app.tasks)) IsAny (λ value d within decides p. running_cases app value t d (runs_so value d decides)) a b c x y)
+      pub live_adds : (a b : List ExitGroup) → AddsFor app pool leaving live IsAny a b → AddsFor app pool leaving after IsAny a b
+      live_adds = of_part app pool leaving after live IsAny IsAny (within_live app pool after live t.0 known h)
+          (λ value d within decides p. (in_live app pool after live t.0 known h value within (runs app value t d (runs_so value d decides)).live, tt))
 
   pub vacant_adds : IsVacant leaving.asked → (a b c : List ExitGroup) → AddsFor app pool leaving after (IsIt (idle_decision leaving.asked)) a b → AddsFor app pool leaving after (IsWinnerBelow (length app.tasks)) b c → AddsFor app pool leaving after IsAny a c
   vacant_adds vacant = then_more app pool leaving after (IsIt (idle_decision leaving.asked)) (IsWinnerBelow (length app.tasks)) IsAny (λ value d within decides p. vacant_cases app value leaving.asked d vacant decides)

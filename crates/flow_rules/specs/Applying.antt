@@ -1,10 +1,15 @@
 -- What a rule makes of the values of numbered sets.
-use Rattle.std.specs.Prelude.{◌≡◌, ℕ, ◌<◌, List, length, IsTrue}
+use Rattle.std.specs.Prelude.{◌≡◌, ℕ, ◌<◌, List, length, IsTrue, None}
+use Rattle.osek_standard.specs.declared.point.Point.TheVariants as point
 use Rattle.abstract_state.specs.{declared.{value.{Domain.{Domain}, PartValue.{PartValue}}, table.{ValueSet.{ValueSet}, PlainEntry.{PlainEntry}}}, Domains.{IsWithin}}
 use Rattle.abstract_state.specs.Tables.{set_at, is_member}
-use Rattle.flow_model.specs.{declared.rule.Rule.{Rule}, Tests.{PassesAt, value_after}}
+use Rattle.flow_model.specs.{declared.{change.Change.{Change}, rule.Rule.{Rule}, test.Condition.{Condition}}, Tests.{PassesAt, value_after}}
 use Rattle.numbered_sets.specs.{Numbers.{Numbers, has_number}, Pools.{Values, values_at, IsLonger}, Views.{plain_set}}
 use Rattle.flow_rules.specs.Passing.{ArePassed, AreTaken}
+
+-- These conditions and changes alone.
+abbrev pub bare_rule : List Condition → List Change → Rule
+bare_rule conditions changes = record { conditions = conditions; changes = changes; target = point.Halted; decision = None; status = None }
 
 -- What the rule makes of the set's values that pass lies in their domain.
 pub record KeepsDomain (rule : Rule) (c : ℕ) (set : ValueSet) : Type 0 where

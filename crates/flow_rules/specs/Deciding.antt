@@ -1,21 +1,27 @@
 -- Groups of exits that come of what the scheduler decides with the values after an effect.
-use Rattle.std.specs.{Prelude.{◌≡◌, ◌⊎◌, ⊤, ℕ, ◌<◌, List, [], ◌∷◌, ◌++◌, length, slice_index_or, IsTrue, Some, None, Contains}, declared.option.Option.{Option}}
+use Rattle.std.specs.{Prelude.{◌≡◌, ◌⊎◌, ⊤, ℕ, ◌<◌, ◌≤◌, List, [], ◌∷◌, ◌++◌, length, slice_index_or, slice_set, IsTrue, Some, None, Contains}, declared.option.Option.{Option}}
 use Rattle.osek_values.specs.declared.numbers.TaskNo.{TaskNo}
 use Rattle.osek_standard.specs.declared.app.App.{App}
 use Rattle.osek_standard.specs.declared.point.Point.TheVariants as point
-use Rattle.abstract_state.specs.{declared.value.PartValue.{PartValue}, Concrete.{val_of}}
+use Rattle.abstract_state.specs.{declared.value.PartValue.{PartValue}, Components.{component_count}, Concrete.{val_of}}
 use Rattle.flow_model.specs.declared.case.{Asked.{Asked}, Stay.{Stay}, Leaving.{Leaving}, Decision.{Decision}}
 use Rattle.flow_model.specs.declared.case.Asked.TheVariants as asked
 use Rattle.flow_model.specs.declared.case.Stay.TheVariants as stay
 use Rattle.flow_model.specs.declared.case.Decision.TheVariants as decision
 use Rattle.flow_model.specs.{Values.{is_live_value, block_of}, Effects.{AreIn}, Scheduling.{Decides}}
-use Rattle.numbered_sets.specs.{declared.numbered_entry.NumberedEntry.{NumberedEntry}, Numbers.{has_number}, NumberedEntries.{numbers_at}, Pools.{Values, values_at, IsNumberOf}}
-use Rattle.numbered_sets.specs.Views.{plain_entry}
-use Rattle.flow_exits.specs.{declared.exit.Exit.{Exit}, Leaving.{IsDecided, HasDecided}}
+use Rattle.numbered_sets.specs.{declared.numbered_entry.NumberedEntry.{NumberedEntry}, Numbers.{has_number, kept_numbers}, NumberedEntries.{numbers_at, AreFilled}, Pools.{Values, values_at, IsNumberOf}}
+use Rattle.numbered_sets.specs.Views.{plain_entry, AreNumbersOf}
+use Rattle.flow_exits.specs.{declared.{exit.Exit.{Exit}, claim.Claim.{Claim}}, Leaving.{IsDecided, HasDecided}, Claims.{limit_of, AreUnder}}
 use Rattle.flow_rules.specs.declared.{task_levels.{Level.{Level}, TaskLevels.{TaskLevels}}, levels.Levels.{Levels}}
 use Rattle.flow_rules.specs.declared.group.{NumberEnd.{NumberEnd}, Ends.{Ends}, ExitGroup.{ExitGroup}}
 use Rattle.flow_rules.specs.declared.group.Ends.TheVariants as ends
-use Rattle.flow_rules.specs.Groups.{all_exits, AreKnownGroups}
+use Rattle.flow_rules.specs.{Groups.{all_exits, AreKnownGroups}, Narrowing.{IsLeft, is_under_limit}}
+
+-- an entry with numbers of the pool, of which each component has one
+pub record IsWhole (app : App) (pool : List Values) (entry : NumberedEntry) : Type 0 where
+  pub size : component_count app ≤ length entry.sets
+  pub numbers : AreNumbersOf pool entry
+  pub filled : AreFilled entry
 
 -- ---- ends
 
@@ -49,6 +55,12 @@ pub record AddsOne (pool : List Values) (leaving : Leaving) (d : Decision) (entr
   pub ends : AreEndsBy pool entry leaving.stay d group.ends
 
 -- ---- what is decided
+
+-- a task that gets the processor is one of the application's
+abbrev pub IsKnownDecision : App → Decision → Type 0
+IsKnownDecision app decision.Keep = ⊤
+IsKnownDecision app (decision.To None) = ⊤
+IsKnownDecision app (decision.To (Some w)) = w.0 < length app.tasks
 
 abbrev pub DecidesSo : App → Leaving → (ℕ → PartValue) → Decision → Type 0
 DecidesSo app leaving value d = Decides app value leaving.asked d
@@ -102,11 +114,37 @@ pub record IsAlive (app : App) (pool : List Values) (entry : NumberedEntry) (t :
   pub live : (value : ℕ → PartValue) → AreIn app (plain_entry pool entry) value → IsTrue (is_live_value (val_of (value t)))
 
 -- the task that runs where this is asked
-abbrev pub IsOver : Asked → Option TaskNo → Type 0
-IsOver asked.No over = ⊥
-IsOver (asked.Maybe t) over = over ≡ Some t
-IsOver asked.Left over = over ≡ None
-IsOver asked.Free over = over ≡ None
+abbrev pub over_of : Asked → Option TaskNo
+over_of asked.No = None
+over_of (asked.Maybe t) = Some t
+over_of asked.Left = None
+over_of asked.Free = None
+
+-- something is asked, and the task that runs then is Live
+abbrev pub IsAsked : App → List Values → NumberedEntry → Asked → Type 0
+IsAsked app pool entry asked.No = ⊥
+IsAsked app pool entry (asked.Maybe t) = IsAlive app pool entry t.0
+IsAsked app pool entry asked.Left = ⊤
+IsAsked app pool entry asked.Free = ⊤
+
+-- ---- what a claim leaves, with the numbers of a level alone for the task that it is for
+
+-- the limits are those of a claim, which has none for task t, and of that the numbers of a level are left
+pub record IsClaimed (app : App) (pool : List Values) (c : Claim) (t : ℕ) (level : Level) (entry after : NumberedEntry) : Type 0 where
+  pub free : limit_of c t ≡ None
+  pub left : NumberedEntry
+  pub is_left : IsLeft (is_under_limit app c (length app.tasks)) pool entry left
+  pub there : t < length left.sets
+  pub kept : after.sets ≡ slice_set left.sets t (kept_numbers (numbers_at left t) level.numbers)
+
+-- so it is, and each component has a number
+pub record IsCut (app : App) (pool : List Values) (c : Claim) (t : ℕ) (level : Level) (entry after : NumberedEntry) : Type 0 where
+  pub claimed : IsClaimed app pool c t level entry after
+  pub whole : IsWhole app pool after
+
+-- with no values of the entry, that of task t of the level, each task is under its limit
+abbrev pub NeverAt : App → Claim → List Values → NumberedEntry → ℕ → Level → Type 0
+NeverAt app c pool entry t level = (value : ℕ → PartValue) → AreIn app (plain_entry pool entry) value → AreUnder app c (length app.tasks) value → IsOfLevel pool entry t level value → ⊥
 
 -- It is decided so with each choice of the entry's values, which are values after the effect, and the entry has all those with
 -- a property with which it is.

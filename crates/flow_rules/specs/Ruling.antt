@@ -1,5 +1,5 @@
 -- Rules out of the exits of an effect.
-use Rattle.std.specs.{Prelude.{◌≡◌, ℕ, List, [], ◌∷◌, ◌++◌, map, if◌then◌else◌, Some, None, Contains}, List.{flat_map}, declared.option.Option.{Option}}
+use Rattle.std.specs.{Prelude.{◌≡◌, List, [], ◌∷◌, ◌++◌, map, if◌then◌else◌, Some, None, Contains}, List.{flat_map}, declared.option.Option.{Option}}
 use Rattle.osek_standard.specs.declared.app.App.{App}
 use Rattle.abstract_state.specs.declared.{value.{Component.{Component}, ComponentNo.{ComponentNo}, PartValue.{PartValue}}, table.{ValueSet.{ValueSet}, PlainEntry.{PlainEntry}}}
 use Rattle.abstract_state.specs.{Components.{components, component_number, component_no}, Tables.{set_at, is_member}}

@@ -24,7 +24,8 @@ pub fn add_rules(
 fn rule_of(alloc: Global, effect: &EffectCase, outcome: &OutcomeCase) -> Result<Rule, Memory>
     ensures { IfOk result (λ rule. rule ≡ rule_of_cases effect.now outcome.now) }
 {
-    let mut conditions = copied_conditions(alloc, effect.conditions.as_slice())?;
+    let mut conditions = Seq::new(alloc);
+    add_conditions(&mut conditions, effect.conditions.as_slice())?;
     add_conditions(&mut conditions, outcome.conditions.as_slice())?;
     Ok(Rule {
         conditions,
@@ -33,25 +34,6 @@ fn rule_of(alloc: Global, effect: &EffectCase, outcome: &OutcomeCase) -> Result<
         decision: Some(outcome.decision),
         status: effect.leaving.status,
     })
-}
-
-/// Another case of an effect that is the same.
-pub fn copied_effect(alloc: Global, effect: &EffectCase) -> Result<EffectCase, Memory>
-    ensures { IfOk result (λ copy. copy ≡ effect.now) }
-{
-    Ok(EffectCase {
-        conditions: copied_conditions(alloc, effect.conditions.as_slice())?,
-        changes: copied_changes(alloc, effect.changes.as_slice())?,
-        leaving: effect.leaving,
-    })
-}
-
-fn copied_conditions(alloc: Global, from: &[Condition]) -> Result<Seq<Condition>, Memory>
-    ensures { IfOk result (λ copy. copy ≡ from.now) }
-{
-    let mut copy = Seq::new(alloc);
-    add_conditions(&mut copy, from)?;
-    Ok(copy)
 }
 
 fn copied_changes(alloc: Global, from: &[Change]) -> Result<Seq<Change>, Memory>

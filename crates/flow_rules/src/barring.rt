@@ -1,7 +1,7 @@
 //! Conditions that values aren't of those of which changes make other values than some.
-ghost use Rattle.std.specs.{Prelude.{◌≡◌, ◌<◌, ◌++◌, length, IfOk, OnOk}, List.{flat_map}};
+ghost use Rattle.std.specs.{Prelude.{◌≡◌, ◌<◌, ◌++◌, IfOk, OnOk}, List.{flat_map}};
 ghost use Rattle.abstract_state.specs.{Domains.{domains, domains_of}, Tables.{set_at, is_member}};
-ghost use Rattle.flow_rules.specs.Ruling.{bars, bars_at, barred as barred_of};
+ghost use Rattle.flow_rules.specs.Ruling.{bars, barred as barred_of};
 
 use abstract_state::{ComponentNo, PartValue, PlainEntry, component_number, components};
 use flow_model::{Change, Condition, Test, value_after};

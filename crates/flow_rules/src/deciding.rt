@@ -1,187 +1,187 @@
 //! What the scheduler decides with the values after an effect.
-ghost use Rattle.std.specs.Prelude.{◌≡◌, ◌<◌, ◌≤◌, ◌∷◌, [], length, List, None, IfOk, OnOk};
-ghost use Rattle.abstract_state.specs.{Components.{component_count}, Concrete.{val_of}};
-ghost use Rattle.flow_model.specs.{Effects.{IsKnownStay}, Values.{block_of as block_of_val}};
+ghost use Rattle.std.specs.Prelude.{◌≡◌, ◌<◌, ◌∷◌, [], length, IfOk, OnOk};
+ghost use Rattle.abstract_state.specs.Concrete.{val_of};
+ghost use Rattle.flow_model.specs.Values.{block_of as block_of_val};
 ghost use Rattle.flow_model.specs.declared.case.Asked.TheVariants as asked;
-ghost use Rattle.flow_model.specs.declared.case.Decision.TheVariants as decision;
-ghost use Rattle.numbered_sets.specs.{NumberedEntries.{AreFilled}, Pools.{Values}, Views.{AreNumbersOf}};
+ghost use Rattle.numbered_sets.specs.Views.{AreNumbersOf};
 ghost use Rattle.flow_exits.specs.Outcomes.{IsVacant, idle_decision as idle_decision_of};
-ghost use Rattle.flow_rules.specs.Levels.{AreAllLevels};
 ghost use Rattle.flow_rules.specs.declared.group.Ends.TheVariants as ends;
-ghost use Rattle.flow_rules.specs.{Narrowing.{AreNeeds}, Deciding.{AreBlocks, AreStayEnds, AddsOne, AddsFor, IsAny, IsIt}};
+ghost use Rattle.flow_rules.specs.{Deciding.{AreBlocks, AreStayEnds, AreEndsBy, AddsOne, IsAlive, IsAny, IsIt, IsKnownDecision, IsWhole}, AfterEffect.{IsDecidable, Adds, AreNeedsOf}};
 
-use crate::claiming::{left_by, needs};
+use crate::after_effect::AfterEffect;
 use crate::group::{Ends, ExitGroup, NumberEnd};
-use crate::keeping::push_keepers;
-use crate::levels::Levels;
-use crate::winning::push_winners;
 use abstract_state::{PartValue, Point, Val};
 use flow_exits::Claim;
-use flow_model::{Asked, Decision, Leaving, Stay};
+use flow_model::{Asked, Decision, Stay};
 use numbered_sets::{NumberedEntry, Pool};
-use osek_standard::App;
 use osek_values::{BlockNo, Memory, Seq, TaskNo};
 use std::alloc::Global;
 
-/// Adds the exits that come of what the scheduler decides with these values.
-pub fn push_decided(
-    alloc: Global,
-    app: &App,
-    pool: &Pool,
-    levels: &Levels,
-    leaving: Leaving,
-    after: &NumberedEntry,
-    groups: &mut Vec<ExitGroup>,
-) -> Result<(), Memory>
-    requires stay { IsKnownStay app.now leaving.stay }
-    requires size { component_count app.now ≤ length after.now.sets }
-    requires levels { AreAllLevels app.now pool.now levels.now }
-    requires numbers { AreNumbersOf pool.now after.now }
-    requires filled { AreFilled after.now }
-    ensures { OnOk result (AddsFor app.now pool.now leaving after.now IsAny groups.old.items groups.new.items) }
-{
-    match leaving.asked {
-        Asked::No => push_unasked(alloc, app, pool, leaving, after, groups),
-        Asked::Maybe(task) => push_over(alloc, app, pool, levels, leaving, task, after, groups),
-        Asked::Left | Asked::Free => {
-            push_vacant(alloc, app, pool, levels, leaving, after, groups)
+impl<'a> AfterEffect<'a> {
+    /// Adds the exits that come of what the scheduler decides with these values.
+    pub fn push_decided(&self, alloc: Global, groups: &mut Vec<ExitGroup>) -> Result<(), Memory>
+        requires { IsDecidable self.now }
+        ensures { OnOk result (Adds self.now IsAny groups.old.items groups.new.items) }
+    {
+        match self.leaving.asked {
+            Asked::No => self.push_unasked(alloc, groups),
+            Asked::Maybe(task) => self.push_over(alloc, task, groups),
+            Asked::Left | Asked::Free => self.push_vacant(alloc, groups),
+        }
+    }
+
+    // the scheduler decides nothing
+    fn push_unasked(&self, alloc: Global, groups: &mut Vec<ExitGroup>) -> Result<(), Memory>
+        requires decidable { IsDecidable self.now }
+        requires unasked { self.now.leaving.asked ≡ asked.No }
+        ensures { OnOk result (Adds self.now IsAny groups.old.items groups.new.items) }
+    {
+        let entry = self.after.copy(alloc)?;
+        self.push_group(alloc, Decision::Keep, entry, groups)?;
+        Ok(())
+    }
+
+    // a task runs, which is Live
+    fn push_over(
+        &self,
+        alloc: Global,
+        task: TaskNo,
+        groups: &mut Vec<ExitGroup>,
+    ) -> Result<(), Memory>
+        requires decidable { IsDecidable self.now }
+        requires running { self.now.leaving.asked ≡ asked.Maybe task }
+        ensures { OnOk result (Adds self.now IsAny groups.old.items groups.new.items) }
+    {
+        if task.index() >= self.app.tasks.len() {
+            return Ok(());
+        }
+        let mut live = self.after.copy(alloc)?;
+        self.levels.of(task).keep_live(task, &mut live);
+        if !live.is_filled() {
+            return Ok(());
+        }
+        let running = AfterEffect {
+            app: self.app,
+            pool: self.pool,
+            levels: self.levels,
+            leaving: self.leaving,
+            after: &live,
+        };
+        running.push_running(alloc, task, groups)?;
+        Ok(())
+    }
+
+    // it is Live with each of its values
+    fn push_running(
+        &self,
+        alloc: Global,
+        task: TaskNo,
+        groups: &mut Vec<ExitGroup>,
+    ) -> Result<(), Memory>
+        requires decidable { IsDecidable self.now }
+        requires running { self.now.leaving.asked ≡ asked.Maybe task }
+        requires alive { IsAlive self.now.app.now self.now.pool.now self.now.after.now task.0 }
+        ensures { OnOk result (Adds self.now IsAny groups.old.items groups.new.items) }
+    {
+        let needs = self.needs(alloc)?;
+        self.push_keepers(alloc, needs.as_slice(), task, groups)?;
+        self.push_winners(alloc, needs.as_slice(), groups)?;
+        Ok(())
+    }
+
+    // nobody has the processor
+    fn push_vacant(&self, alloc: Global, groups: &mut Vec<ExitGroup>) -> Result<(), Memory>
+        requires decidable { IsDecidable self.now }
+        requires vacant { IsVacant self.now.leaving.asked }
+        ensures { OnOk result (Adds self.now IsAny groups.old.items groups.new.items) }
+    {
+        let needs = self.needs(alloc)?;
+        self.push_nobody(alloc, needs.as_slice(), groups)?;
+        self.push_winners(alloc, needs.as_slice(), groups)?;
+        Ok(())
+    }
+
+    // no task is Live
+    fn push_nobody(
+        &self,
+        alloc: Global,
+        needs: &[u64],
+        groups: &mut Vec<ExitGroup>,
+    ) -> Result<(), Memory>
+        requires decidable { IsDecidable self.now }
+        requires needs { AreNeedsOf self.now needs.now }
+        requires vacant { IsVacant self.now.leaving.asked }
+        ensures { OnOk result (Adds self.now (IsIt (idle_decision_of self.now.leaving.asked)) groups.old.items groups.new.items) }
+    {
+        let Some(entry) = self.left_by(alloc, needs, Claim::Nobody)? else {
+            return Ok(());
+        };
+        let decision = idle_decision(self.leaving.asked);
+        self.push_group(alloc, decision, entry, groups)?;
+        Ok(())
+    }
+
+    /// Adds the exits by which this is decided, with these values.
+    pub fn push_group(
+        &self,
+        alloc: Global,
+        decision: Decision,
+        entry: NumberedEntry,
+        groups: &mut Vec<ExitGroup>,
+    ) -> Result<(), Memory>
+        requires decidable { IsDecidable self.now }
+        requires known { IsKnownDecision self.now.app.now decision }
+        requires whole { IsWhole self.now.app.now self.now.pool.now entry }
+        ensures { OnOk result (AddsOne self.now.pool.now self.now.leaving decision entry groups.old.items groups.new.items) }
+    {
+        let ends = self.ends_by(alloc, decision, &entry)?;
+        groups.push(ExitGroup {
+            decision: Some(decision),
+            status: self.leaving.status,
+            entry,
+            ends,
+        })?;
+        Ok(())
+    }
+
+    // where the processor stands after this decision
+    fn ends_by(
+        &self,
+        alloc: Global,
+        decision: Decision,
+        entry: &NumberedEntry,
+    ) -> Result<Ends, Memory>
+        requires decidable { IsDecidable self.now }
+        requires known { IsKnownDecision self.now.app.now decision }
+        requires whole { IsWhole self.now.app.now self.now.pool.now entry.now }
+        ensures { IfOk result (AreEndsBy self.now.pool.now entry.now self.now.leaving.stay decision) }
+    {
+        match decision {
+            Decision::Keep => self.ends_of_stay(alloc, entry),
+            Decision::To(None) => at(alloc, Point::Idle),
+            Decision::To(Some(task)) => at_blocks(alloc, self.pool, task, entry),
+        }
+    }
+
+    fn ends_of_stay(&self, alloc: Global, entry: &NumberedEntry) -> Result<Ends, Memory>
+        requires decidable { IsDecidable self.now }
+        requires whole { IsWhole self.now.app.now self.now.pool.now entry.now }
+        ensures { IfOk result (AreStayEnds self.now.pool.now entry.now self.now.leaving.stay) }
+    {
+        match self.leaving.stay {
+            Stay::At(point) => at(alloc, point),
+            Stay::AtBlockOf(task) => at_blocks(alloc, self.pool, task, entry),
         }
     }
 }
 
-// the scheduler decides nothing
-fn push_unasked(
-    alloc: Global,
-    app: &App,
-    pool: &Pool,
-    leaving: Leaving,
-    after: &NumberedEntry,
-    groups: &mut Vec<ExitGroup>,
-) -> Result<(), Memory>
-    requires stay { IsKnownStay app.now leaving.stay }
-    requires unasked { leaving.asked ≡ asked.No }
-    requires size { component_count app.now ≤ length after.now.sets }
-    requires numbers { AreNumbersOf pool.now after.now }
-    requires filled { AreFilled after.now }
-    ensures { OnOk result (AddsFor app.now pool.now leaving after.now IsAny groups.old.items groups.new.items) }
+// what is decided where no task is Live
+fn idle_decision(asked: Asked) -> Decision
+    ensures { result ≡ idle_decision_of asked }
 {
-    let entry = after.copy(alloc)?;
-    push_stay(alloc, app, pool, leaving, entry, groups)?;
-    Ok(())
-}
-
-// a task runs, which is Live
-fn push_over(
-    alloc: Global,
-    app: &App,
-    pool: &Pool,
-    levels: &Levels,
-    leaving: Leaving,
-    task: TaskNo,
-    after: &NumberedEntry,
-    groups: &mut Vec<ExitGroup>,
-) -> Result<(), Memory>
-    requires stay { IsKnownStay app.now leaving.stay }
-    requires running { leaving.asked ≡ asked.Maybe task }
-    requires size { component_count app.now ≤ length after.now.sets }
-    requires levels { AreAllLevels app.now pool.now levels.now }
-    requires numbers { AreNumbersOf pool.now after.now }
-    requires filled { AreFilled after.now }
-    ensures { OnOk result (AddsFor app.now pool.now leaving after.now IsAny groups.old.items groups.new.items) }
-{
-    if task.index() >= app.tasks.len() {
-        return Ok(());
-    }
-    let mut live = after.copy(alloc)?;
-    levels.of(task).keep_live(task, &mut live);
-    if !live.is_filled() {
-        return Ok(());
-    }
-    let needs = needs(alloc, app, pool, levels, &live)?;
-    let least = needs.as_slice();
-    push_keepers(
-        alloc, app, pool, levels, least, leaving, task, &live, groups,
-    )?;
-    push_winners(
-        alloc,
-        app,
-        pool,
-        levels,
-        least,
-        leaving,
-        Some(task),
-        &live,
-        groups,
-    )?;
-    Ok(())
-}
-
-// nobody has the processor
-fn push_vacant(
-    alloc: Global,
-    app: &App,
-    pool: &Pool,
-    levels: &Levels,
-    leaving: Leaving,
-    after: &NumberedEntry,
-    groups: &mut Vec<ExitGroup>,
-) -> Result<(), Memory>
-    requires stay { IsKnownStay app.now leaving.stay }
-    requires vacant { IsVacant leaving.asked }
-    requires size { component_count app.now ≤ length after.now.sets }
-    requires levels { AreAllLevels app.now pool.now levels.now }
-    requires numbers { AreNumbersOf pool.now after.now }
-    requires filled { AreFilled after.now }
-    ensures { OnOk result (AddsFor app.now pool.now leaving after.now IsAny groups.old.items groups.new.items) }
-{
-    let needs = needs(alloc, app, pool, levels, after)?;
-    let least = needs.as_slice();
-    push_nobody(alloc, app, pool, levels, least, leaving, after, groups)?;
-    push_winners(
-        alloc, app, pool, levels, least, leaving, None, after, groups,
-    )?;
-    Ok(())
-}
-
-/// Adds the exits by which the processor stays where it is, with these values.
-pub fn push_stay(
-    alloc: Global,
-    app: &App,
-    pool: &Pool,
-    leaving: Leaving,
-    entry: NumberedEntry,
-    groups: &mut Vec<ExitGroup>,
-) -> Result<(), Memory>
-    requires stay { IsKnownStay app.now leaving.stay }
-    requires size { component_count app.now ≤ length entry.sets }
-    requires numbers { AreNumbersOf pool.now entry }
-    ensures { OnOk result (AddsOne pool.now leaving decision.Keep entry groups.old.items groups.new.items) }
-{
-    let ends = ends_of_stay(alloc, app, pool, leaving.stay, &entry)?;
-    groups.push(ExitGroup {
-        decision: Some(Decision::Keep),
-        status: leaving.status,
-        entry,
-        ends,
-    })?;
-    Ok(())
-}
-
-fn ends_of_stay(
-    alloc: Global,
-    app: &App,
-    pool: &Pool,
-    stay: Stay,
-    entry: &NumberedEntry,
-) -> Result<Ends, Memory>
-    requires known { IsKnownStay app.now stay }
-    requires size { component_count app.now ≤ length entry.now.sets }
-    requires numbers { AreNumbersOf pool.now entry.now }
-    ensures { IfOk result (AreStayEnds pool.now entry.now stay) }
-{
-    match stay {
-        Stay::At(point) => at(alloc, point),
-        Stay::AtBlockOf(task) => at_blocks(alloc, pool, task, entry),
+    match asked {
+        Asked::Left => Decision::To(None),
+        Asked::No | Asked::Maybe(_) | Asked::Free => Decision::Keep,
     }
 }
 
@@ -194,8 +194,8 @@ fn at(alloc: Global, point: Point) -> Result<Ends, Memory>
     Ok(Ends::At(points))
 }
 
-/// The blocks of a task's values, each with this value.
-pub fn at_blocks(
+// the blocks of a task's values, each with this value
+fn at_blocks(
     alloc: Global,
     pool: &Pool,
     task: TaskNo,
@@ -226,73 +226,4 @@ fn block_of(value: &PartValue) -> BlockNo
         PartValue::OfTask(Val::Suspended) => BlockNo(0),
         PartValue::OfEvent(_) | PartValue::OfAlarm(_) => BlockNo(0),
     }
-}
-
-// no task is Live
-fn push_nobody(
-    alloc: Global,
-    app: &App,
-    pool: &Pool,
-    levels: &Levels,
-    needs: &[u64],
-    leaving: Leaving,
-    after: &NumberedEntry,
-    groups: &mut Vec<ExitGroup>,
-) -> Result<(), Memory>
-    requires stay { IsKnownStay app.now leaving.stay }
-    requires vacant { IsVacant leaving.asked }
-    requires size { component_count app.now ≤ length after.now.sets }
-    requires levels { AreAllLevels app.now pool.now levels.now }
-    requires numbers { AreNumbersOf pool.now after.now }
-    requires filled { AreFilled after.now }
-    requires needs { AreNeeds app.now pool.now after.now (length app.now.tasks) needs.now }
-    ensures { OnOk result (AddsFor app.now pool.now leaving after.now (IsIt (idle_decision_of leaving.asked)) groups.old.items groups.new.items) }
-{
-    let Some(entry) = left_by(alloc, app, pool, levels, needs, Claim::Nobody, after)? else {
-        return Ok(());
-    };
-    push_idling(alloc, app, pool, leaving, entry, groups)?;
-    Ok(())
-}
-
-// the processor is idle then, or stays so
-fn push_idling(
-    alloc: Global,
-    app: &App,
-    pool: &Pool,
-    leaving: Leaving,
-    entry: NumberedEntry,
-    groups: &mut Vec<ExitGroup>,
-) -> Result<(), Memory>
-    requires stay { IsKnownStay app.now leaving.stay }
-    requires vacant { IsVacant leaving.asked }
-    requires size { component_count app.now ≤ length entry.sets }
-    requires numbers { AreNumbersOf pool.now entry }
-    ensures { OnOk result (AddsOne pool.now leaving (idle_decision_of leaving.asked) entry groups.old.items groups.new.items) }
-{
-    match leaving.asked {
-        Asked::Left => push_idle(alloc, leaving, entry, groups),
-        Asked::No | Asked::Maybe(_) | Asked::Free => {
-            push_stay(alloc, app, pool, leaving, entry, groups)
-        }
-    }
-}
-
-// the processor is idle
-fn push_idle(
-    alloc: Global,
-    leaving: Leaving,
-    entry: NumberedEntry,
-    groups: &mut Vec<ExitGroup>,
-) -> Result<(), Memory>
-    ensures { OnOk result ((pool : List Values) → AddsOne pool leaving (decision.To None) entry groups.old.items groups.new.items) }
-{
-    let ends = at(alloc, Point::Idle)?;
-    groups.push(ExitGroup {
-        decision: Some(Decision::To(None)),
-        status: leaving.status,
-        entry,
-        ends,
-    })?;
-    Ok(())
 }

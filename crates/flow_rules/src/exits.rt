@@ -1,25 +1,25 @@
 //! All exits of a point.
-ghost use Rattle.std.specs.Prelude.{ℕ, ◌≡◌, ◌<◌, ◌∷◌, [], length, slice_index_or, IfOk, OnOk};
+ghost use Rattle.std.specs.Prelude.{◌≡◌, ◌∷◌, [], IfOk, OnOk};
 ghost use Rattle.osek_standard.specs.Points.{IsPoint};
 ghost use Rattle.abstract_state.specs.Domains.{domains_of};
-ghost use Rattle.flow_model.specs.{declared.case.EffectCase.{EffectCase}, Effects.{AreAllAllowed, IsKnownStay, HaveKnownStays, AreExactEffects}};
+ghost use Rattle.flow_model.specs.Effects.{AreAllAllowed, IsKnownStay};
 ghost use Rattle.numbered_sets.specs.{NumberedEntries.{number_domains, AreFilled}, Pools.{IsLonger}, Views.{plain_entry, AreNumbersOf}};
 ghost use Rattle.flow_exits.specs.Leaving.{AreExits, effect_rule};
 ghost use Rattle.flow_rules.specs.{Levels.{AreLevels}, Applying.{KeepsDomains}, Groups.{all_exits, AreKnownGroups}, Leaving.{AddsEffects, AddsInstructions}};
 
-use crate::applying::apply;
+use crate::after_effect::AfterEffect;
+use crate::applying::applied;
 use crate::arriving::push_arrivals;
-use crate::deciding::push_decided;
+use crate::before_effect::BeforeEffect;
 use crate::group::ExitGroup;
 use crate::levels::Levels;
 use abstract_state::Point;
 use flow_effects::effect_cases;
-use flow_model::{Asked, EffectCase, Leaving, Rule, Runner, Stay};
+use flow_model::{EffectCase, Runner};
 use numbered_sets::{NumberedEntry, Pool};
 use osek_standard::App;
-use osek_values::{Memory, Seq};
+use osek_values::Memory;
 use std::alloc::Global;
-use std::mem;
 
 /// The exits of a point with these numbers, of which each component has one. The pool grows by the values that it lacks, and
 /// the levels with it, also where memory is wanted.
@@ -47,123 +47,77 @@ pub fn exit_groups(
     match Runner::executing(app, point) {
         None => Ok(groups),
         Some(_) => {
-            push_instructions(alloc, app, point, entry, pool, levels, &mut groups)?;
+            let before = BeforeEffect { app, before: entry };
+            before.push_instructions(alloc, point, pool, levels, &mut groups)?;
             Ok(groups)
         }
     }
 }
 
-// adds the exits of the instruction of a task's or a routine's point
-fn push_instructions(
-    alloc: Global,
-    app: &App,
-    point: Point,
-    entry: &NumberedEntry,
-    pool: &mut Pool,
-    levels: &mut Levels,
-    groups: &mut Vec<ExitGroup>,
-) -> Result<(), Memory>
-    requires point { IsPoint app.now point }
-    requires numbers { AreNumbersOf pool.old entry.now }
-    requires domains { number_domains entry.now ≡ domains_of app.now }
-    requires filled { AreFilled entry.now }
-    requires allowed { AreAllAllowed app.now point (plain_entry pool.old entry.now) }
-    requires levels { AreLevels app.now pool.old levels.old }
-    requires known { AreKnownGroups pool.old groups.old.items }
-    ensures pool { IsLonger pool.old pool.new }
-    ensures levels { OnOk result (AreLevels app.now pool.new levels.new) }
-    ensures added { OnOk result (AddsInstructions app.now point (plain_entry pool.old entry.now) pool.old groups.old.items pool.new groups.new.items) }
-{
-    let effects = effect_cases(alloc, app, point)?;
-    push_effects(alloc, app, point, effects, entry, pool, levels, groups)
-}
-
-// adds the exits of effects
-fn push_effects(
-    alloc: Global,
-    app: &App,
-    point: Point,
-    effects: Seq<EffectCase>,
-    entry: &NumberedEntry,
-    pool: &mut Pool,
-    levels: &mut Levels,
-    groups: &mut Vec<ExitGroup>,
-) -> Result<(), Memory>
-    requires numbers { AreNumbersOf pool.old entry.now }
-    requires domains { number_domains entry.now ≡ domains_of app.now }
-    requires stays { HaveKnownStays app.now effects }
-    requires exact { AreExactEffects app.now point (plain_entry pool.old entry.now) effects }
-    requires levels { AreLevels app.now pool.old levels.old }
-    requires known { AreKnownGroups pool.old groups.old.items }
-    ensures pool { IsLonger pool.old pool.new }
-    ensures levels { OnOk result (AreLevels app.now pool.new levels.new) }
-    ensures added { OnOk result (AddsEffects app.now (plain_entry pool.old entry.now) effects pool.old groups.old.items pool.new groups.new.items) }
-{
-    let mut rest = effects;
-    for place in 0..rest.len() {
-        let effect = take_effect(alloc, &mut rest, place);
-        push_effect(alloc, app, effect, entry, pool, levels, groups)?;
+impl<'a> BeforeEffect<'a> {
+    // adds the exits of the instruction of a task's or a routine's point
+    fn push_instructions(
+        &self,
+        alloc: Global,
+        point: Point,
+        pool: &mut Pool,
+        levels: &mut Levels,
+        groups: &mut Vec<ExitGroup>,
+    ) -> Result<(), Memory>
+        requires point { IsPoint self.now.app.now point }
+        requires numbers { AreNumbersOf pool.old self.now.before.now }
+        requires domains { number_domains self.now.before.now ≡ domains_of self.now.app.now }
+        requires allowed { AreAllAllowed self.now.app.now point (plain_entry pool.old self.now.before.now) }
+        requires levels { AreLevels self.now.app.now pool.old levels.old }
+        requires known { AreKnownGroups pool.old groups.old.items }
+        ensures pool { IsLonger pool.old pool.new }
+        ensures levels { OnOk result (AreLevels self.now.app.now pool.new levels.new) }
+        ensures added { OnOk result (AddsInstructions self.now.app.now point (plain_entry pool.old self.now.before.now) pool.old groups.old.items pool.new groups.new.items) }
+    {
+        let effects = effect_cases(alloc, self.app, point)?;
+        for effect in effects.as_slice() {
+            self.push_effect(alloc, effect, pool, levels, groups)?;
+        }
+        Ok(())
     }
-    Ok(())
-}
 
-/// Adds the exits of an effect, if it takes a value of each component
-pub fn push_effect(
-    alloc: Global,
-    app: &App,
-    effect: EffectCase,
-    entry: &NumberedEntry,
-    pool: &mut Pool,
-    levels: &mut Levels,
-    groups: &mut Vec<ExitGroup>,
-) -> Result<(), Memory>
-    requires numbers { AreNumbersOf pool.old entry.now }
-    requires domains { number_domains entry.now ≡ domains_of app.now }
-    requires stays { IsKnownStay app.now effect.leaving.stay }
-    requires kept { KeepsDomains (effect_rule effect) (plain_entry pool.old entry.now) }
-    requires levels { AreLevels app.now pool.old levels.old }
-    requires known { AreKnownGroups pool.old groups.old.items }
-    ensures pool { IsLonger pool.old pool.new }
-    ensures levels { OnOk result (AreLevels app.now pool.new levels.new) }
-    ensures added { OnOk result (AddsEffects app.now (plain_entry pool.old entry.now) (effect ∷ []) pool.old groups.old.items pool.new groups.new.items) }
-{
-    let leaving = effect.leaving;
-    let Some(after) = apply(alloc, &as_rule(effect), pool, entry)? else {
-        return Ok(());
-    };
-    levels.renew(alloc, app, pool)?;
-    push_decided(alloc, app, pool, levels, leaving, &after, groups)
-}
-
-// the effect alone, as a rule
-fn as_rule(effect: EffectCase) -> Rule
-    ensures { result ≡ effect_rule effect }
-{
-    Rule {
-        conditions: effect.conditions,
-        changes: effect.changes,
-        target: Point::Halted,
-        decision: None,
-        status: None,
+    /// Adds the exits of an effect, if it takes a value of each component.
+    pub fn push_effect(
+        &self,
+        alloc: Global,
+        effect: &EffectCase,
+        pool: &mut Pool,
+        levels: &mut Levels,
+        groups: &mut Vec<ExitGroup>,
+    ) -> Result<(), Memory>
+        requires numbers { AreNumbersOf pool.old self.now.before.now }
+        requires domains { number_domains self.now.before.now ≡ domains_of self.now.app.now }
+        requires stays { IsKnownStay self.now.app.now effect.now.leaving.stay }
+        requires kept { KeepsDomains (effect_rule effect.now) (plain_entry pool.old self.now.before.now) }
+        requires levels { AreLevels self.now.app.now pool.old levels.old }
+        requires known { AreKnownGroups pool.old groups.old.items }
+        ensures pool { IsLonger pool.old pool.new }
+        ensures levels { OnOk result (AreLevels self.now.app.now pool.new levels.new) }
+        ensures added { OnOk result (AddsEffects self.now.app.now (plain_entry pool.old self.now.before.now) (effect.now ∷ []) pool.old groups.old.items pool.new groups.new.items) }
+    {
+        let Some(after) = applied(
+            alloc,
+            &effect.conditions,
+            &effect.changes,
+            pool,
+            self.before,
+        )?
+        else {
+            return Ok(());
+        };
+        levels.renew(alloc, self.app, pool)?;
+        AfterEffect {
+            app: self.app,
+            pool: &*pool,
+            levels: &*levels,
+            leaving: effect.leaving,
+            after: &after,
+        }
+        .push_decided(alloc, groups)
     }
-}
-
-// takes the effect at a place, and leaves one of nothing there
-fn take_effect(alloc: Global, effects: &mut Seq<EffectCase>, place: usize) -> EffectCase
-    requires { place < length effects.old }
-    ensures item { (none : EffectCase) → slice_index_or effects.old place none ≡ result }
-    ensures size { length effects.new ≡ length effects.old }
-    ensures rest { (k : ℕ) (none : EffectCase) → place < k → slice_index_or effects.new k none ≡ slice_index_or effects.old k none }
-{
-    let nothing = EffectCase {
-        conditions: Seq::new(alloc),
-        changes: Seq::new(alloc),
-        leaving: Leaving {
-            asked: Asked::No,
-            stay: Stay::At(Point::Idle),
-            status: None,
-        },
-    };
-    let at = effects.at_mut(place);
-    mem::replace(at, nothing)
 }

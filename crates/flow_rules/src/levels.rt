@@ -14,8 +14,7 @@ pub struct Levels {
 }
 
 impl Levels {
-    ghost use Rattle.std.specs.Prelude.{List, ◌≡◌, ◌<◌, ◌≤◌, length, slice_index_or, IfOk, OnOk};
-    ghost use Rattle.numbered_sets.specs.Pools.{Values, IsLonger};
+    ghost use Rattle.std.specs.Prelude.{◌≡◌, ◌<◌, ◌≤◌, length, slice_index_or, IfOk, OnOk};
     ghost use Rattle.flow_rules.specs.{declared.task_levels.TaskLevels.{TaskLevels}, Levels.{AreLevels, AreAllLevels}};
 
     /// No value was judged yet.

@@ -1,11 +1,13 @@
 //! The exits of a point, by number, and its rules: the numbers of the values that the components have where a step ends.
 #![tactic(auto)]
 
+mod after_effect;
 mod allowing;
 mod applying;
 mod arriving;
 mod assembly;
 mod barring;
+mod before_effect;
 mod claiming;
 mod deciding;
 mod exits;

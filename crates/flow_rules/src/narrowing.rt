@@ -18,11 +18,11 @@ impl Level {
 }
 
 impl TaskLevels {
-    ghost use Rattle.std.specs.Prelude.{ℕ, List, ◌≡◌, ◌<◌, ◌≤◌, ◌+◌, ◌-◌, ◌^◌, length, IsTrue, Contains};
+    ghost use Rattle.std.specs.Prelude.{List, ◌≡◌, ◌<◌, ◌≤◌, ◌+◌, ◌-◌, ◌^◌, length, IsTrue, Contains};
     ghost use Rattle.osek_standard.specs.declared.app.App.{App};
     ghost use Rattle.abstract_state.specs.{declared.value.PartValue.{PartValue}, Concrete.{val_of}};
     ghost use Rattle.flow_model.specs.Values.{is_live_value};
-    ghost use Rattle.numbered_sets.specs.{Numbers.{meets}, NumberedEntries.{numbers_at}, Pools.{Values, values_at}, Views.{AreNumbersOf}};
+    ghost use Rattle.numbered_sets.specs.{Numbers.{meets}, NumberedEntries.{numbers_at}, Pools.{Values, values_at}};
     ghost use Rattle.flow_exits.specs.Claims.{is_below};
     ghost use Rattle.flow_rules.specs.{declared.task_levels.Level.{Level}, Levels.{AreTaskLevels, AreAllJudged, HasLevelBelow, IsLeastLimit, IsNarrowed}};
 

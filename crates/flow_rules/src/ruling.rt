@@ -9,9 +9,9 @@ ghost use Rattle.flow_rules.specs.{Instructions.{AddsInstructionRules as AddsIns
 ghost use Rattle.flow_rules.specs.{Groups.{exit_at as exit_of_group, exits_of, all_exits, IsKnownGroup, AreKnownGroups}, Ruling.{outcomes_by, AddsRulesOf}};
 
 use crate::allowing::allowed_part;
-use crate::assembly::{add_rules, copied_effect};
+use crate::assembly::add_rules;
 use crate::barring::barred;
-use crate::exits::push_effect;
+use crate::before_effect::BeforeEffect;
 use crate::group::{Ends, ExitGroup};
 use crate::levels::Levels;
 use abstract_state::{PlainEntry, Point};
@@ -108,8 +108,8 @@ fn add_effect(
     ensures added { OnOk result (AddsRulesOf app.now from.now effect.now rules.old rules.new) }
 {
     let mut groups = Vec::new(alloc);
-    let copy = copied_effect(alloc, effect)?;
-    push_effect(alloc, app, copy, entry, pool, levels, &mut groups)?;
+    let before = BeforeEffect { app, before: entry };
+    before.push_effect(alloc, effect, pool, levels, &mut groups)?;
     let exits = exits(alloc, pool, groups.as_slice())?;
     let outcomes = outcomes(
         alloc,

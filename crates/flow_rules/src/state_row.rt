@@ -1,5 +1,5 @@
 //! The row of one state.
-ghost use Rattle.std.specs.Prelude.{◌≡◌, ◌<◌, [], ◌∷◌, length, map, IfOk};
+ghost use Rattle.std.specs.Prelude.{◌≡◌, ◌<◌, IfOk};
 ghost use Rattle.osek_standard.specs.{Points.{point_of as point_of_state}, Well.{Well}};
 ghost use Rattle.abstract_state.specs.{Components.{IsComponent, value_in as value_of_activity, is_armed as is_armed_state, part_of}, Domains.{domain_of as domain_of_component}};
 ghost use Rattle.numbered_sets.specs.PlainTables.{row_at};

@@ -1,152 +1,94 @@
 //! Another task gets the processor.
-ghost use Rattle.std.specs.Prelude.{◌≡◌, ◌<◌, ◌≤◌, false, length, Some, IfSome, OnOk};
+ghost use Rattle.std.specs.Prelude.{◌≡◌, ◌<◌, false, length, Some, OnOk};
 ghost use Rattle.osek_standard.specs.States.{is_that_task};
-ghost use Rattle.abstract_state.specs.Components.{component_count};
 ghost use Rattle.flow_model.specs.declared.case.Decision.TheVariants as decision;
-ghost use Rattle.flow_model.specs.Effects.{IsKnownStay};
-ghost use Rattle.numbered_sets.specs.{NumberedEntries.{AreFilled}, Views.{AreNumbersOf}};
-ghost use Rattle.flow_rules.specs.{Levels.{AreAllLevels}, Narrowing.{AreNeeds}, Deciding.{AddsOne, AddsFor, IsAlive, IsIt, IsAtLevel, IsLevelOf, IsOver, IsWinnerBelow}};
+ghost use Rattle.flow_rules.specs.{Deciding.{IsAsked, IsIt, IsAtLevel, IsLevelOf, IsWinnerBelow, over_of}, AfterEffect.{IsDecidable, Adds, AreNeedsOf}};
 
-use crate::claiming::left_by;
-use crate::deciding::at_blocks;
+use crate::after_effect::AfterEffect;
 use crate::group::ExitGroup;
-use crate::levels::Levels;
 use crate::task_levels::Level;
 use flow_exits::{Claim, is_running};
-use flow_model::{Decision, Leaving};
-use numbered_sets::{NumberedEntry, Pool};
-use osek_standard::App;
+use flow_model::{Asked, Decision};
 use osek_values::{Memory, TaskNo};
 use std::alloc::Global;
 
-/// Adds the exits by which a task other than the one that runs gets the processor.
-pub fn push_winners(
-    alloc: Global,
-    app: &App,
-    pool: &Pool,
-    levels: &Levels,
-    needs: &[u64],
-    leaving: Leaving,
-    over: Option<TaskNo>,
-    entry: &NumberedEntry,
-    groups: &mut Vec<ExitGroup>,
-) -> Result<(), Memory>
-    requires stay { IsKnownStay app.now leaving.stay }
-    requires over { IsOver leaving.asked over }
-    requires size { component_count app.now ≤ length entry.now.sets }
-    requires levels { AreAllLevels app.now pool.now levels.now }
-    requires numbers { AreNumbersOf pool.now entry.now }
-    requires filled { AreFilled entry.now }
-    requires alive { IfSome over (λ t. IsAlive app.now pool.now entry.now t.0) }
-    requires needs { AreNeeds app.now pool.now entry.now (length app.now.tasks) needs.now }
-    ensures { OnOk result (AddsFor app.now pool.now leaving entry.now (IsWinnerBelow (length app.now.tasks)) groups.old.items groups.new.items) }
-{
-    for task in 0..app.tasks.len() {
-        let task = TaskNo(task as u8);
-        push_winner(
-            alloc, app, pool, levels, needs, leaving, over, task, entry, groups,
-        )?;
+impl<'a> AfterEffect<'a> {
+    /// Adds the exits by which a task other than the one that runs gets the processor.
+    pub fn push_winners(
+        &self,
+        alloc: Global,
+        needs: &[u64],
+        groups: &mut Vec<ExitGroup>,
+    ) -> Result<(), Memory>
+        requires decidable { IsDecidable self.now }
+        requires needs { AreNeedsOf self.now needs.now }
+        requires asked { IsAsked self.now.app.now self.now.pool.now self.now.after.now self.now.leaving.asked }
+        ensures { OnOk result (Adds self.now (IsWinnerBelow (length self.now.app.now.tasks)) groups.old.items groups.new.items) }
+    {
+        for task in 0..self.app.tasks.len() {
+            self.push_winner(alloc, needs, TaskNo(task as u8), groups)?;
+        }
+        Ok(())
     }
-    Ok(())
+
+    // this task gets it, at each of its current priorities, if it isn't the one that runs
+    fn push_winner(
+        &self,
+        alloc: Global,
+        needs: &[u64],
+        task: TaskNo,
+        groups: &mut Vec<ExitGroup>,
+    ) -> Result<(), Memory>
+        requires decidable { IsDecidable self.now }
+        requires needs { AreNeedsOf self.now needs.now }
+        requires asked { IsAsked self.now.app.now self.now.pool.now self.now.after.now self.now.leaving.asked }
+        requires known { task.0 < length self.now.app.now.tasks }
+        ensures { OnOk result (Adds self.now (IsIt (decision.To (Some task))) groups.old.items groups.new.items) }
+    {
+        if is_running(over(self.leaving.asked), task) {
+            return Ok(());
+        }
+        for level in self.levels.of(task).levels.as_slice() {
+            self.push_winner_at(alloc, needs, task, level, groups)?;
+        }
+        Ok(())
+    }
+
+    fn push_winner_at(
+        &self,
+        alloc: Global,
+        needs: &[u64],
+        task: TaskNo,
+        level: &Level,
+        groups: &mut Vec<ExitGroup>,
+    ) -> Result<(), Memory>
+        requires decidable { IsDecidable self.now }
+        requires needs { AreNeedsOf self.now needs.now }
+        requires asked { IsAsked self.now.app.now self.now.pool.now self.now.after.now self.now.leaving.asked }
+        requires known { task.0 < length self.now.app.now.tasks }
+        requires other { is_that_task (over_of self.now.leaving.asked) task.0 ≡ false }
+        requires level { IsLevelOf self.now.levels.now task.0 level.now }
+        ensures { OnOk result (Adds self.now (IsAtLevel self.now.pool.now self.now.after.now task.0 level.now (decision.To (Some task))) groups.old.items groups.new.items) }
+    {
+        let claim = Claim::Gets {
+            task,
+            priority: level.priority,
+            over: over(self.leaving.asked),
+        };
+        let Some(entry) = self.left_at(alloc, needs, claim, task, level)? else {
+            return Ok(());
+        };
+        self.push_group(alloc, Decision::To(Some(task)), entry, groups)?;
+        Ok(())
+    }
 }
 
-// this task gets it, at each of its current priorities, if it isn't the one that runs
-fn push_winner(
-    alloc: Global,
-    app: &App,
-    pool: &Pool,
-    levels: &Levels,
-    needs: &[u64],
-    leaving: Leaving,
-    over: Option<TaskNo>,
-    task: TaskNo,
-    entry: &NumberedEntry,
-    groups: &mut Vec<ExitGroup>,
-) -> Result<(), Memory>
-    requires stay { IsKnownStay app.now leaving.stay }
-    requires over { IsOver leaving.asked over }
-    requires size { component_count app.now ≤ length entry.now.sets }
-    requires levels { AreAllLevels app.now pool.now levels.now }
-    requires numbers { AreNumbersOf pool.now entry.now }
-    requires filled { AreFilled entry.now }
-    requires alive { IfSome over (λ t. IsAlive app.now pool.now entry.now t.0) }
-    requires needs { AreNeeds app.now pool.now entry.now (length app.now.tasks) needs.now }
-    requires known { task.0 < length app.now.tasks }
-    ensures { OnOk result (AddsFor app.now pool.now leaving entry.now (IsIt (decision.To (Some task))) groups.old.items groups.new.items) }
+// the task that runs where this is asked
+fn over(asked: Asked) -> Option<TaskNo>
+    ensures { result ≡ over_of asked }
 {
-    if is_running(over, task) {
-        return Ok(());
+    match asked {
+        Asked::Maybe(task) => Some(task),
+        Asked::No | Asked::Left | Asked::Free => None,
     }
-    for level in levels.of(task).levels.as_slice() {
-        push_winner_at(
-            alloc, app, pool, levels, needs, leaving, over, task, level, entry, groups,
-        )?;
-    }
-    Ok(())
-}
-
-fn push_winner_at(
-    alloc: Global,
-    app: &App,
-    pool: &Pool,
-    levels: &Levels,
-    needs: &[u64],
-    leaving: Leaving,
-    over: Option<TaskNo>,
-    task: TaskNo,
-    level: &Level,
-    entry: &NumberedEntry,
-    groups: &mut Vec<ExitGroup>,
-) -> Result<(), Memory>
-    requires stay { IsKnownStay app.now leaving.stay }
-    requires over { IsOver leaving.asked over }
-    requires size { component_count app.now ≤ length entry.now.sets }
-    requires levels { AreAllLevels app.now pool.now levels.now }
-    requires numbers { AreNumbersOf pool.now entry.now }
-    requires filled { AreFilled entry.now }
-    requires alive { IfSome over (λ t. IsAlive app.now pool.now entry.now t.0) }
-    requires needs { AreNeeds app.now pool.now entry.now (length app.now.tasks) needs.now }
-    requires known { task.0 < length app.now.tasks }
-    requires other { is_that_task over task.0 ≡ false }
-    requires level { IsLevelOf levels.now task.0 level.now }
-    ensures { OnOk result (AddsFor app.now pool.now leaving entry.now (IsAtLevel pool.now entry.now task.0 level.now (decision.To (Some task))) groups.old.items groups.new.items) }
-{
-    let component = task.index();
-    if !entry.meets(component, &level.numbers) {
-        return Ok(());
-    }
-    let claim = Claim::Gets {
-        task,
-        priority: level.priority,
-        over,
-    };
-    let Some(mut left) = left_by(alloc, app, pool, levels, needs, claim, entry)? else {
-        return Ok(());
-    };
-    left.keep(component, &level.numbers);
-    push_getting(alloc, pool, leaving, task, left, groups)?;
-    Ok(())
-}
-
-// the task gets it with these values
-fn push_getting(
-    alloc: Global,
-    pool: &Pool,
-    leaving: Leaving,
-    task: TaskNo,
-    entry: NumberedEntry,
-    groups: &mut Vec<ExitGroup>,
-) -> Result<(), Memory>
-    requires known { task.0 < length entry.sets }
-    requires numbers { AreNumbersOf pool.now entry }
-    ensures { OnOk result (AddsOne pool.now leaving (decision.To (Some task)) entry groups.old.items groups.new.items) }
-{
-    let ends = at_blocks(alloc, pool, task, &entry)?;
-    groups.push(ExitGroup {
-        decision: Some(Decision::To(Some(task))),
-        status: leaving.status,
-        entry,
-        ends,
-    })?;
-    Ok(())
 }

@@ -200,12 +200,21 @@ impl Numbering {
         self.seen.get_index_of(&key)
     }
 
+    // takes the memory for so many more values at once
+    fn make_room(&mut self, count: usize) -> Result<(), Memory>
+        ensures { self.new ≡ self.old }
+    {
+        self.seen.reserve_exact(count)?;
+        Ok(())
+    }
+
     /// The same values under the same numbers. No test was asked of them yet.
     fn copy(&self, alloc: Global) -> Result<Numbering, Memory>
         ensures { IfOk result (λ copy. copy ≡ self.now) }
     {
         self.are_values();
         let mut copy = Numbering::new(alloc, self.domain());
+        copy.make_room(self.len())?;
         for number in 0..self.len() {
             copy.number(self.value(number).copy())?;
         }

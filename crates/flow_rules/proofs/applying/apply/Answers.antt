@@ -1,68 +1,46 @@
-use Rattle.std.proofs.{Common.{length, refl, sym, subst, List, ◌∙◌, arith}, lemmas.Bool.{OnTrue_at, OnFalse_at}}
-use Rattle.flow_model.specs.declared.{rule.Rule.{Rule}, test.Condition.{Condition}}
-use Rattle.numbered_sets.specs.{declared.numbered_entry.NumberedEntry.{NumberedEntry}, Pools.{Values, IsLonger}}
-use Rattle.numbered_sets.proofs.NumberingLaws.{longer_onward}
-use Rattle.flow_rules.specs.{Changing.{up_to, AreAllPassed}, Sifting.{AreSifted, LeavesNone}}
-use Rattle.flow_rules.proofs.{NumbersPassing.{made_applies}, SiftedSets.{all_sifted, sifted_domains, taken_of_filled, none_taken}, ChangedSets.{stays_within, all_changes}}
+use Rattle.std.proofs.Common.{IfSome, IfNone, Some, None}
+use Rattle.std.specs.declared.option.Option.{Option}
+use Rattle.std.proofs.lemmas.{Option.{IfSome_then}, Result.{IfOk-weaker}}
+use Rattle.abstract_state.specs.declared.table.PlainEntry.{PlainEntry}
+use Rattle.flow_model.specs.{declared.rule.Rule.{Rule}, Rules.{Applies, HasNone}}
+use Rattle.numbered_sets.specs.{declared.numbered_entry.NumberedEntry.{NumberedEntry}, Views.{plain_entry}}
+use Rattle.flow_rules.specs.Applying.{KeepsDomains, bare_rule}
 use Rattle.flow_rules.proofs.applying.apply.Goals as goal
 
-pub returns-then-not-may_pass-clause-none : goal.returns-then-not-may_pass-clause-none
-returns-then-not-may_pass-clause-none c =
-    let rule = c.args.rule.now in
-    let pool = c.args.pool.now in
-    let none : LeavesNone pool rule.conditions c.args.entry.now =
-    subst (λ (xs : List Condition). LeavesNone pool xs c.args.entry.now) c.as_slice.ensures (OnFalse_at c.if-not-may_pass.true c.may_pass.ensures) in
-    none_taken pool rule c.args.entry.now none
+-- A rule makes of values what its conditions and changes say alone.
+module _ (rule : Rule) (entry : PlainEntry) where
+  abbrev bare : Rule
+  bare = bare_rule rule.conditions rule.changes
 
-pub returns-then-not-branch-clause-none : goal.returns-then-not-branch-clause-none
-returns-then-not-branch-clause-none c =
-    let rule = c.args.rule.now in
-    let pool = c.args.pool.now in
-    let none : LeavesNone pool rule.conditions c.args.entry.now =
-    subst (λ (xs : List Condition). LeavesNone pool xs c.args.entry.now) c.as_slice-2.ensures
-    (subst (LeavesNone pool c.as_slice-2.result.now) c.in_ok-made.ensures (OnFalse_at c.if-not-branch.true c.in_ok-sift.ensures.none)) in
-    none_taken pool rule c.args.entry.now none
+  bare_applies : (new : PlainEntry) → Applies bare entry new → Applies rule entry new
+  bare_applies new h = record {
+    domains = h.domains;
+    ascending = h.ascending;
+    from = λ c v lt m. (let x = h.from c v lt m in record { taken = record { was = x.taken.was; there = x.taken.there; passes = x.taken.passes }; becomes = x.becomes });
+    to = h.to;
+    filled = λ c lt. (let t = h.filled c lt in record { was = t.was; there = t.there; passes = t.passes });
+  }
 
-pub loop-place-init : goal.loop-place-init
-loop-place-init c =
-    let rule = c.args.rule.now in
-    let pool = c.args.pool.now in
-    let entry = c.args.entry.now in
-    let sifted : AreSifted pool rule.conditions entry c.sift.new.entry =
-    subst (λ (xs : List Condition). AreSifted pool xs entry c.sift.new.entry) c.as_slice-2.ensures
-    (subst (λ (e : NumberedEntry). AreSifted pool c.as_slice-2.result.now e c.sift.new.entry) c.in_ok-made.ensures (OnTrue_at c.if-not-branch.false c.in_ok-sift.ensures.sifted)) in (
-      subst (λ (p : List Values). AreAllPassed (up_to rule 0) p entry (length entry.sets) p c.sift.new.entry.sets) (sym c.in_ok-sift.ensures.same) (all_sifted pool rule entry c.sift.new.entry c.requires.numbers sifted),
-      sifted_domains pool rule.conditions entry c.sift.new.entry sifted,
-    )
+  keeps_bare : KeepsDomains rule entry → KeepsDomains bare entry
+  keeps_bare h = record { sets = λ taken c lt. (let k = h.sets (λ d below. (let t = taken d below in record { was = t.was; there = t.there; passes = t.passes })) c lt in record { each = k.each }) }
 
-pub change-requires-clause-domain : goal.change-requires-clause-domain
-change-requires-clause-domain c =
-    let rule = c.args.rule.now in
-    let pool = c.args.pool.now in
-    let entry = c.args.entry.now in
-    let sifted : AreSifted pool rule.conditions entry c.sift.new.entry =
-    subst (λ (xs : List Condition). AreSifted pool xs entry c.sift.new.entry) c.as_slice-2.ensures
-    (subst (λ (e : NumberedEntry). AreSifted pool c.as_slice-2.result.now e c.sift.new.entry) c.in_ok-made.ensures (OnTrue_at c.if-not-branch.false c.in_ok-sift.ensures.sifted)) in
-    let passed : AreAllPassed (up_to rule c.loop-place.place) pool entry (length entry.sets) c.loop-place.pool c.loop-place.made.sets =
-    subst (λ (p : List Values). AreAllPassed (up_to rule c.loop-place.place) p entry (length entry.sets) c.loop-place.pool c.loop-place.made.sets) c.in_ok-sift.ensures.same c.loop-place.invariant.0 in
-    let taken = taken_of_filled pool rule entry c.sift.new.entry c.requires.numbers sifted (OnTrue_at c.if-not-branch.false c.in_ok-sift.ensures.filled) in
-    stays_within rule pool entry c.loop-place.place c.loop-place.pool c.loop-place.made (omega (arith, c.loop-place-test.true, c.len-place-end.ensures)) c.requires.numbers (c.requires.domains.sets taken) passed
+  none_left : (new : Option NumberedEntry) → IfNone new (HasNone bare entry) → IfNone new (HasNone rule entry)
+  none_left None h = record { component = h.component; known = h.known; none = h.none }
+  none_left (Some x) h = h
+
+pub applied-requires-clause-domains : goal.applied-requires-clause-domains
+applied-requires-clause-domains c = keeps_bare c.args.rule.now (plain_entry c.args.pool.now c.args.entry.now) c.requires.domains
 
 pub returns-clause-some : goal.returns-clause-some
 returns-clause-some c =
     let rule = c.args.rule.now in
-    let pool = c.args.pool.now in
-    let entry = c.args.entry.now in
-    let sifted : AreSifted pool rule.conditions entry c.sift.new.entry =
-    subst (λ (xs : List Condition). AreSifted pool xs entry c.sift.new.entry) c.as_slice-2.ensures
-    (subst (λ (e : NumberedEntry). AreSifted pool c.as_slice-2.result.now e c.sift.new.entry) c.in_ok-made.ensures (OnTrue_at c.if-not-branch.false c.in_ok-sift.ensures.sifted)) in
-    let passed : AreAllPassed (up_to rule c.loop-place.place) pool entry (length entry.sets) c.loop-place.pool c.loop-place.made.sets =
-    subst (λ (p : List Values). AreAllPassed (up_to rule c.loop-place.place) p entry (length entry.sets) c.loop-place.pool c.loop-place.made.sets) c.in_ok-sift.ensures.same c.loop-place.invariant.0 in
-    let taken = taken_of_filled pool rule entry c.sift.new.entry c.requires.numbers sifted (OnTrue_at c.if-not-branch.false c.in_ok-sift.ensures.filled) in
-    let whole : AreAllPassed rule pool entry (length entry.sets) c.loop-place.pool c.loop-place.made.sets =
-    subst (λ (r : Rule). AreAllPassed r pool entry (length entry.sets) c.loop-place.pool c.loop-place.made.sets) (all_changes rule c.loop-place.place (omega (arith, c.loop-place-test.false, c.len-place-end.ensures))) passed in
-    made_applies rule pool entry (length entry.sets) c.loop-place.pool c.loop-place.made refl c.requires.numbers whole taken
+    let entry = plain_entry c.args.pool.now c.args.entry.now in
+    let after = c.applied.new.pool in
+    IfOk-weaker c.applied.result (λ new. IfSome new (λ x. Applies (bare_rule rule.conditions rule.changes) entry (plain_entry after x))) (λ new. IfSome new (λ x. Applies rule entry (plain_entry after x)))
+    (λ new some. IfSome_then new some (λ x. bare_applies rule entry (plain_entry after x))) c.applied.ensures.some
 
-pub returns-in_err-change-clause-pool : goal.returns-in_err-change-clause-pool
-returns-in_err-change-clause-pool c =
-    longer_onward c.args.pool.now c.loop-place.pool c.change.new.pool (subst (λ (p : List Values). IsLonger p c.loop-place.pool) c.in_ok-sift.ensures.same c.loop-place.invariant.0.longer) c.change.ensures.pool
+pub returns-clause-none : goal.returns-clause-none
+returns-clause-none c =
+    let rule = c.args.rule.now in
+    let entry = plain_entry c.args.pool.now c.args.entry.now in
+    IfOk-weaker c.applied.result (λ new. IfNone new (HasNone (bare_rule rule.conditions rule.changes) entry)) (λ new. IfNone new (HasNone rule entry)) (none_left rule entry) c.applied.ensures.none

@@ -2,14 +2,14 @@ use Rattle.std.proofs.Common.{◌≡◌, ◌<◌, ◌≤◌, ◌+◌, length, ge
 use Rattle.flow_model.specs.declared.change.Change.{Change}
 use Rattle.numbered_sets.specs.{Numbers.{Numbers}, NumberedEntries.{no_set}}
 use Rattle.numbered_sets.proofs.{CopiedEntries.{domains_put}, NumberingLaws.{longer_itself}}
-use Rattle.flow_rules.specs.{Applying.{IsPassedSet}, Changing.{is_named, up_to, alone, AreAllPassed}}
+use Rattle.flow_rules.specs.{Applying.{IsPassedSet, bare_rule}, Changing.{is_named, up_to, alone, AreAllPassed}}
 use Rattle.flow_rules.proofs.{NumbersPassing.{alike_there, known_there}, ChangedSets.{changed_none, changed_beyond, changed_one}}
 use Rattle.flow_rules.proofs.applying.change.Goals.{then-component-len-via-then-component-len, then-component-len-via-else-component-len+then-is_named}
 use Rattle.flow_rules.proofs.applying.change.Goals as goal
 
 pub returns-then-component-len-clause-passed : goal.returns-then-component-len-clause-passed
-returns-then-component-len-clause-passed c = λ before was h.
-    let rule = c.args.rule.now in
+returns-then-component-len-clause-passed c = λ conditions before was h.
+    let rule = bare_rule conditions c.args.changes.now in
     let x = c.at-change.result.now in
     let at = c.at-change.ensures.item x in
     let index = c.index-component.ensures in
@@ -32,8 +32,8 @@ updated-requires-clause-numbers c =
     known_there c.args.pool.now c.args.pool.now c.args.entry.now c.index-component.result c.in_ok-numbers.numbers c.requires.numbers (longer_itself c.args.pool.now) (sym c.in_ok-numbers.ensures)
 
 pub returns-clause-passed : goal.returns-clause-passed
-returns-clause-passed c = λ before was h.
-    let rule = c.args.rule.now in
+returns-clause-passed c = λ conditions before was h.
+    let rule = bare_rule conditions c.args.changes.now in
     let x = c.at-change.result.now in
     let at = c.at-change.ensures.item x in
     let sets = c.args.entry.now.sets in

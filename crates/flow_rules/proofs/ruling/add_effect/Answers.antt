@@ -2,16 +2,11 @@ use Rattle.std.proofs.Common.{◌≡◌, ◌∷◌, ◌++◌, [], ◌∙◌, Lis
 use Rattle.std.specs.Prelude.{Contains}
 use Rattle.std.proofs.lemmas.Result.{on_ok_weaker}
 use Rattle.abstract_state.specs.{declared.table.PlainEntry.{PlainEntry}, Domains.{domains}}
-use Rattle.flow_model.specs.declared.{case.{EffectCase.{EffectCase}, OutcomeCase.{OutcomeCase}}, change.Change.{Change}}
-use Rattle.numbered_sets.specs.Views.{plain_entry}
+use Rattle.flow_model.specs.declared.{case.OutcomeCase.{OutcomeCase}, change.Change.{Change}}
 use Rattle.numbered_sets.proofs.ViewLaws.{same_domains}
-use Rattle.flow_exits.specs.Leaving.{effect_rule}
-use Rattle.flow_rules.specs.{Assembly.{rule_of}, Applying.{KeepsDomains}, declared.group.ExitGroup.{ExitGroup}, Groups.{all_exits}, Leaving.{AddsEffects}, Ruling.{outcomes_by}}
+use Rattle.flow_rules.specs.{Assembly.{rule_of}, declared.group.ExitGroup.{ExitGroup}, Groups.{all_exits}, Leaving.{AddsEffects}, Ruling.{outcomes_by}}
 use Rattle.flow_rules.proofs.RuledExits.{exits_ruled}
 use Rattle.flow_rules.proofs.ruling.add_effect.Goals as goal
-
-pub push_effect-requires-clause-kept : goal.push_effect-requires-clause-kept
-push_effect-requires-clause-kept c = subst (λ (x : EffectCase). KeepsDomains (effect_rule x) (plain_entry c.args.pool.now c.args.entry.now)) (sym c.in_ok-copy.ensures) c.requires.kept
 
 pub outcomes-requires : goal.outcomes-requires
 outcomes-requires c = ap domains (sym c.requires.plain) ∙ same_domains c.args.pool.now 0 c.args.entry.now.sets ∙ c.requires.domains
@@ -31,8 +26,7 @@ returns-clause-added c =
     let exits = c.in_ok-exits.exits in
     let h : AddsEffects app from (effect ∷ []) pool [] after groups =
     subst (λ (gs : List ExitGroup). AddsEffects app from (effect ∷ []) pool gs after groups) c.new-groups.ensures.items
-    (subst (λ (x : EffectCase). AddsEffects app from (x ∷ []) pool c.new-groups.result.items after groups) c.in_ok-copy.ensures
-    (subst (λ (e : PlainEntry). AddsEffects app e (c.in_ok-copy.copy ∷ []) pool c.new-groups.result.items after groups) c.requires.plain c.in_ok-push_effect.ensures.added)) in
+    (subst (λ (e : PlainEntry). AddsEffects app e (effect ∷ []) pool c.new-groups.result.items after groups) c.requires.plain c.in_ok-push_effect.ensures.added) in
     let cases_are : c.as_slice-4.result.now ≡ flat_map (outcomes_by app effect.changes from) exits =
     c.as_slice-4.ensures ∙ c.in_ok-outcomes.ensures ∙ ap (λ (xs : List Change). flat_map (outcomes_by app xs from) c.as_slice-3.result.now) c.as_slice-2.ensures ∙ ap (flat_map (outcomes_by app effect.changes from)) c.as_slice-3.ensures in
     on_ok_weaker c.add_rules.result

@@ -1,4 +1,4 @@
-use Rattle.std.proofs.{Common.{◌≡◌, ◌<◌, ◌∙◌, ◌∷◌, [], ℕ, length, ap, sym, arith}, lemmas.Bool.{OnFalse_from}}
+use Rattle.std.proofs.{Common.{◌<◌, ◌∙◌, ◌∷◌, [], ℕ, length, ap, sym, arith}, lemmas.Bool.{OnFalse_from}}
 use Rattle.abstract_state.specs.Tables.{is_member}
 use Rattle.numbered_sets.specs.{NumberedEntries.{numbers_at}, Pools.{values_at}, Views.{plain_set}}
 use Rattle.flow_rules.specs.Sifting.{LeavesNone}
