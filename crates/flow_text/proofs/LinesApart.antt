@@ -47,10 +47,10 @@ site_once app b c x y known known_too form form_too same =
     (sym (site_regrouped word (block_text b) (line_of b) (form_text app x)) ∙ same ∙ site_regrouped word (block_text c) (line_of c) (form_text app y)) in
     let parts = parted 32 (block_text b) (block_text c) (behind app b x) (behind app c y) (block_lacks 32 b (omega arith) low) (block_lacks 32 c (omega arith) high) whole in
     let block = block_once b c low high parts.0 in
-    let front : ℕ → List ℕ = λ (k : ℕ). codes "line " ++ line_of k ++ codes " " in
-    let forms : front c ++ form_text app x ≡ front c ++ form_text app y =
-    ap (λ (k : ℕ). front k ++ form_text app x) (sym block) ∙ append_cancel_right (front b ++ form_text app x) (front c ++ form_text app y) lf parts.1 in
-    (block, form_once app x y form form_too (append_cancel_left (front c) (form_text app x) (form_text app y) forms))
+    let prefix : ℕ → List ℕ = λ (k : ℕ). codes "line " ++ line_of k ++ codes " " in
+    let forms : prefix c ++ form_text app x ≡ prefix c ++ form_text app y =
+    ap (λ (k : ℕ). prefix k ++ form_text app x) (sym block) ∙ append_cancel_right (prefix b ++ form_text app x) (prefix c ++ form_text app y) lf parts.1 in
+    (block, form_once app x y form form_too (append_cancel_left (prefix c) (form_text app x) (form_text app y) forms))
 
 -- what stands behind the block, where what is known of the status is told
 abbrev behind_known : App → ℕ → Site → List ℕ
@@ -76,10 +76,10 @@ known_site_once app b c x y known known_too form form_too same =
     (sym (known_regrouped word (block_text b) (line_of b) (form_text app x.form) (known_text x.known)) ∙ same ∙ known_regrouped word (block_text c) (line_of c) (form_text app y.form) (known_text y.known)) in
     let parts = parted 32 (block_text b) (block_text c) (behind_known app b x) (behind_known app c y) (block_lacks 32 b (omega arith) low) (block_lacks 32 c (omega arith) high) whole in
     let block = block_once b c low high parts.0 in
-    let front : ℕ → List ℕ = λ (k : ℕ). codes "line " ++ line_of k ++ codes " " in
+    let prefix : ℕ → List ℕ = λ (k : ℕ). codes "line " ++ line_of k ++ codes " " in
     let rest : Site → List ℕ = λ (s : Site). codes "known " ++ known_text s.known ++ lf in
-    let forms : front c ++ (form_text app x.form ++ 32 ∷ rest x) ≡ front c ++ (form_text app y.form ++ 32 ∷ rest y) = ap (λ (k : ℕ). front k ++ (form_text app x.form ++ 32 ∷ rest x)) (sym block) ∙ parts.1 in
-    let two = form_first app x.form y.form (rest x) (rest y) form form_too (append_cancel_left (front c) (form_text app x.form ++ 32 ∷ rest x) (form_text app y.form ++ 32 ∷ rest y) forms) in
+    let forms : prefix c ++ (form_text app x.form ++ 32 ∷ rest x) ≡ prefix c ++ (form_text app y.form ++ 32 ∷ rest y) = ap (λ (k : ℕ). prefix k ++ (form_text app x.form ++ 32 ∷ rest x)) (sym block) ∙ parts.1 in
+    let two = form_first app x.form y.form (rest x) (rest y) form form_too (append_cancel_left (prefix c) (form_text app x.form ++ 32 ∷ rest x) (form_text app y.form ++ 32 ∷ rest y) forms) in
     let texts = append_cancel_left (codes "known ") (known_text x.known) (known_text y.known) (append_cancel_right (codes "known " ++ known_text x.known) (codes "known " ++ known_text y.known) lf two.1) in
     let statuses = known_once x.known y.known texts in
     (block, λ j. record { form = two.0 j; known = statuses j })

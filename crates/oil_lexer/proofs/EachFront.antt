@@ -1,4 +1,4 @@
--- At each front of a text stands a piece that fits, or it breaks a rule.
+-- At each prefix of a text stands a piece that fits, or it breaks a rule.
 use Rattle.std.proofs.Common.{◌≡◌, ℕ, ◌+◌, ◌-◌, ◌<◌, ◌≤◌, ◌^◌, ◌⊎◌, inl, inr, ⊎_elim, Bool, true, false, zero, suc, List, length, take, arith, refl, subst}
 use Rattle.std.proofs.{lemmas.List.{get_or_past, length-take-le}, str.Laws.{order}}
 use Rattle.std.specs.Prelude.{slice_index, nat_le, ◌==◌, ◌&&◌}

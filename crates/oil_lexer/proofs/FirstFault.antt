@@ -66,11 +66,11 @@ module _ (Tree : Type 0) (IsSentence : List Token → Tree → Type 0) (limit : 
       cc
 
   clear_more : (done : List Token) (t : Token) → IsClear done → (FailsS1 done t → ⊥) → (FailsS3 done t → ⊥) → IsClear (done ++ t ∷ [])
-  clear_more done t clear s1 s3 front u back e =
+  clear_more done t clear s1 s3 prefix u back e =
       ⊎_elim
       (λ s. (subst (λ (f : List Token). FailsS1 f u → ⊥) s.0 (subst (λ (x : Token). FailsS1 done x → ⊥) s.1 s1), subst (λ (f : List Token). FailsS3 f u → ⊥) s.0 (subst (λ (x : Token). FailsS3 done x → ⊥) s.1 s3)))
-      (λ s. clear front u s.0 s.1)
-      (split_push done front back t u e)
+      (λ s. clear prefix u s.0 s.1)
+      (split_push done prefix back t u e)
 
   -- the tokens so far, none of which fails, and what they leave
   pub record IsAt (done : List Token) (d : ℕ) (stack : List Phrase) : Type 0 where
@@ -121,13 +121,13 @@ module _ (Tree : Type 0) (IsSentence : List Token → Tree → Type 0) (limit : 
 
   answers_some : (done ts : List Token) (t : Token) (d : ℕ) (stack next : List Phrase) (deep : Bool) → IsAt done d stack → step_all stack t.kind ≡ Some next → is_open t.kind && nat_le limit d ≡ deep → (IsAt (done ++ t ∷ []) (deeper d t.kind) next → Answers ((done ++ t ∷ []) ++ ts) (scan (deeper d t.kind) next ts)) → Answers (done ++ t ∷ ts) (cond deep (Some (TooDeep t.line)) (scan (deeper d t.kind) next ts))
   answers_some done ts t d stack next true at e deep go =
-      record { front = done; token = t; back = ts; parts = refl; clear = at.clear; fails = (prefix_of_run (done ++ t ∷ []) next (run_push done t stack (Some next) at.ran e), deep_test done t d at.depth deep); line_is = refl }
+      record { prefix = done; token = t; back = ts; parts = refl; clear = at.clear; fails = (prefix_of_run (done ++ t ∷ []) next (run_push done t stack (Some next) at.ran e), deep_test done t d at.depth deep); line_is = refl }
   answers_some done ts t d stack next false at e shallow go =
       subst (λ (x : List Token). Answers x (scan (deeper d t.kind) next ts)) (append_assoc done (t ∷ []) ts) (go (at_next done t d stack next at e shallow))
 
   answers_token : (done ts : List Token) (t : Token) (d : ℕ) (stack : List Phrase) (next : Option (List Phrase)) → IsAt done d stack → step_all stack t.kind ≡ next → ((n : List Phrase) → IsAt (done ++ t ∷ []) (deeper d t.kind) n → Answers ((done ++ t ∷ []) ++ ts) (scan (deeper d t.kind) n ts)) → Answers (done ++ t ∷ ts) (at_token d t next (λ n. scan (deeper d t.kind) n ts))
   answers_token done ts t d stack None at e go =
-      record { front = done; token = t; back = ts; parts = refl; clear = at.clear; fails = no_prefix_of_run (done ++ t ∷ []) (run_push done t stack None at.ran e); line_is = refl }
+      record { prefix = done; token = t; back = ts; parts = refl; clear = at.clear; fails = no_prefix_of_run (done ++ t ∷ []) (run_push done t stack None at.ran e); line_is = refl }
   answers_token done ts t d stack (Some n) at e go = answers_some done ts t d stack n (is_open t.kind && nat_le limit d) at e refl (go n)
 
   scan_answers : (ts done : List Token) (d : ℕ) (stack : List Phrase) → IsAt done d stack → Answers (done ++ ts) (scan d stack ts)
@@ -136,7 +136,7 @@ module _ (Tree : Type 0) (IsSentence : List Token → Tree → Type 0) (limit : 
 
   clear_nil : IsClear []
   clear_nil [] t back e = absurd cc
-  clear_nil (x ∷ front) t back e = absurd cc
+  clear_nil (x ∷ prefix) t back e = absurd cc
 
   pub first_fault : (tokens : List Token) → Answers tokens (scan 0 start tokens)
   first_fault tokens = scan_answers tokens [] 0 start (record { ran = refl; clear = clear_nil; depth = refl })

@@ -18,27 +18,27 @@ module _ (Tree : Type 0) (IsSentence : List Token → Tree → Type 0) (limit : 
   abbrev FailsAt : (List Token → Token → Type 0) → List Token → ℕ → Type 0
   FailsAt F tokens line = faults.FailsAt Tree IsSentence limit F tokens line
 
-  module _ (F G : List Token → Token → Type 0) (hits : (front : List Token) (t : Token) → F front t → (FailsS1 front t → ⊥) × (FailsS3 front t → ⊥) → ⊥) (hits' : (front : List Token) (t : Token) → G front t → (FailsS1 front t → ⊥) × (FailsS3 front t → ⊥) → ⊥) where
+  module _ (F G : List Token → Token → Type 0) (hits : (prefix : List Token) (t : Token) → F prefix t → (FailsS1 prefix t → ⊥) × (FailsS3 prefix t → ⊥) → ⊥) (hits' : (prefix : List Token) (t : Token) → G prefix t → (FailsS1 prefix t → ⊥) × (FailsS3 prefix t → ⊥) → ⊥) where
     -- two first failures stand at one token
-    one_place : (tokens : List Token) (l l' : ℕ) (x : FailsAt F tokens l) (y : FailsAt G tokens l') → (x.front ≡ y.front) × (x.token ≡ y.token)
+    one_place : (tokens : List Token) (l l' : ℕ) (x : FailsAt F tokens l) (y : FailsAt G tokens l') → (x.prefix ≡ y.prefix) × (x.token ≡ y.token)
     one_place tokens l l' x y =
         ⊎_elim (λ s. s)
-        (λ s. absurd (⊎_elim (λ p. hits x.front x.token x.fails (y.clear x.front x.token p.0 p.1)) (λ p. hits' y.front y.token y.fails (x.clear y.front y.token p.0 p.1)) s))
-        (split_two x.front x.back y.front y.back x.token y.token (sym x.parts ∙ y.parts))
+        (λ s. absurd (⊎_elim (λ p. hits x.prefix x.token x.fails (y.clear x.prefix x.token p.0 p.1)) (λ p. hits' y.prefix y.token y.fails (x.clear y.prefix y.token p.0 p.1)) s))
+        (split_two x.prefix x.back y.prefix y.back x.token y.token (sym x.parts ∙ y.parts))
 
     not_clear : (tokens : List Token) (l : ℕ) → FailsAt F tokens l → IsClear tokens → ⊥
-    not_clear tokens l x clear = hits x.front x.token x.fails (clear x.front x.token x.back x.parts)
+    not_clear tokens l x clear = hits x.prefix x.token x.fails (clear x.prefix x.token x.back x.parts)
 
-  hits_s1 : (front : List Token) (t : Token) → FailsS1 front t → (FailsS1 front t → ⊥) × (FailsS3 front t → ⊥) → ⊥
-  hits_s1 front t f c = c.0 f
+  hits_s1 : (prefix : List Token) (t : Token) → FailsS1 prefix t → (FailsS1 prefix t → ⊥) × (FailsS3 prefix t → ⊥) → ⊥
+  hits_s1 prefix t f c = c.0 f
 
-  hits_s3 : (front : List Token) (t : Token) → FailsS3 front t → (FailsS1 front t → ⊥) × (FailsS3 front t → ⊥) → ⊥
-  hits_s3 front t f c = c.1 f
+  hits_s3 : (prefix : List Token) (t : Token) → FailsS3 prefix t → (FailsS1 prefix t → ⊥) × (FailsS3 prefix t → ⊥) → ⊥
+  hits_s3 prefix t f c = c.1 f
 
   s1_s3 : (tokens : List Token) (l l' : ℕ) → FailsAt FailsS1 tokens l → FailsAt FailsS3 tokens l' → ⊥
   s1_s3 tokens l l' x y =
       let place = one_place FailsS1 FailsS3 hits_s1 hits_s3 tokens l l' x y in
-      let f : FailsS1 y.front y.token = subst (λ (t : Token). FailsS1 y.front t) place.1 (subst (λ (f : List Token). FailsS1 f x.token) place.0 x.fails) in
+      let f : FailsS1 y.prefix y.token = subst (λ (t : Token). FailsS1 y.prefix t) place.1 (subst (λ (f : List Token). FailsS1 f x.token) place.0 x.fails) in
       f y.fails.0
 
   pub same_fault : (tokens : List Token) (r r' : SyntaxRule) (l l' : ℕ) → faults.IsFirstFault Tree IsSentence limit tokens r l → faults.IsFirstFault Tree IsSentence limit tokens r' l' → (r ≡ r') × (l ≡ l')

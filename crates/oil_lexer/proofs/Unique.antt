@@ -79,7 +79,7 @@ stops_broken L5 rest (name, m, word, large) p n longest fits =
     omega arith
 stops_broken L6 rest b p n longest fits = b
 
--- two rules that one front breaks are the same
+-- two rules that one prefix breaks are the same
 same_rule : (r s : LexRule) (rest : List ℕ) → Breaks r rest → Breaks s rest → r ≡ s
 same_rule L1 L1 rest a b = refl
 same_rule L1 L2 rest a b = absurd (a.1 b.1)

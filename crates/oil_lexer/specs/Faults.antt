@@ -11,27 +11,27 @@ module _ (Tree : Type 0) (IsSentence : List Token → Tree → Type 0) (limit : 
 
   -- behind the front comes an open brace that is nested deeper than the limit
   abbrev pub IsTooDeep : List Token → Token → Type 0
-  IsTooDeep front t = IsTrue (is_open t.kind) × (limit ≤ depth_from 0 front)
+  IsTooDeep prefix t = IsTrue (is_open t.kind) × (limit ≤ depth_from 0 prefix)
 
-  -- how the token behind a front fails: it isn't allowed there, or it is and opens a brace too deep
+  -- how the token behind a prefix fails: it isn't allowed there, or it is and opens a brace too deep
   abbrev pub FailsS1 : List Token → Token → Type 0
-  FailsS1 front t = ¬ (IsPrefix (front ++ t ∷ []))
+  FailsS1 prefix t = ¬ (IsPrefix (prefix ++ t ∷ []))
 
   abbrev pub FailsS3 : List Token → Token → Type 0
-  FailsS3 front t = IsPrefix (front ++ t ∷ []) × IsTooDeep front t
+  FailsS3 prefix t = IsPrefix (prefix ++ t ∷ []) × IsTooDeep prefix t
 
   -- no token fails
   abbrev pub IsClear : List Token → Type 0
-  IsClear tokens = (front : List Token) (t : Token) (back : List Token) → tokens ≡ front ++ t ∷ back → (¬ (FailsS1 front t)) × (¬ (FailsS3 front t))
+  IsClear tokens = (prefix : List Token) (t : Token) (back : List Token) → tokens ≡ prefix ++ t ∷ back → (¬ (FailsS1 prefix t)) × (¬ (FailsS3 prefix t))
 
   -- the first token that fails, and its line
   pub record FailsAt (Fails : List Token → Token → Type 0) (tokens : List Token) (line : ℕ) : Type 0 where
-    pub front : List Token
+    pub prefix : List Token
     pub token : Token
     pub back : List Token
-    pub parts : tokens ≡ front ++ token ∷ back
-    pub clear : IsClear front
-    pub fails : Fails front token
+    pub parts : tokens ≡ prefix ++ token ∷ back
+    pub clear : IsClear prefix
+    pub fails : Fails prefix token
     pub line_is : line ≡ token.line
 
   -- no token fails, and the whole is no sentence: the line of the last token, or 1

@@ -1,5 +1,5 @@
 -- What stands at the front of a text: a blank, a comment or a token (ISO 17356-6, lexical rules), and the rules that a
--- front breaks.
+-- prefix breaks.
 use Rattle.std.specs.Prelude.{◌≡◌, ℕ, ◌-◌, ◌<◌, ◌≤◌, ◌^◌, ◌⊎◌, ⊤, Bool, ◌||◌, ◌==◌, List, length, take, drop, IsTrue, slice_index}
 use Rattle.osek_values.specs.{Names.{is_word}, declared.{limits.TheConstants.{MAX_NAME}, refusal.LexRule.{LexRule, TheVariants.{L1, L2, L3, L4, L5, L6}}}}
 use Rattle.oil_lexer.specs.declared.classes.{Class.{Class, TheVariants.{Blank, Letter, Digit, Quote, Slash, Single, Nothing}}, ByteSet.TheVariants.{Digits, HexDigits, TextBytes, LineBytes}}

@@ -66,8 +66,8 @@ impl<'a> Tokens<'a> {
             let Ok((piece, len)) = piece(rest) else {
                 unreachable!();
             };
-            let (front, after) = rest.split_at(len);
-            let next = line + line_ends(front);
+            let (prefix, after) = rest.split_at(len);
+            let next = line + line_ends(prefix);
             if let Piece::Whole(kind) = piece {
                 return Some((Token { kind, line }, Tokens::from_line(after, next)));
             }

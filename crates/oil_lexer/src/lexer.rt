@@ -30,8 +30,8 @@ fn judge(bytes: &[u8]) -> Result<(), LexFault>
     while !rest.is_empty() {
         match piece(rest) {
             Ok((_, len)) => {
-                let (front, after) = rest.split_at(len);
-                line += line_ends(front);
+                let (prefix, after) = rest.split_at(len);
+                line += line_ends(prefix);
                 rest = after;
             }
             Err(rule) => return Err(LexFault { line, rule }),

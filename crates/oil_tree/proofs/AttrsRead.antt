@@ -43,8 +43,8 @@ open_body d l stack ts h = shallow MAX_OIL_DEPTH d _ _ h
 -- reading stops in the braces of a body, or behind them
 pub stops_within : (t : Token) (d : ℕ) (stack : Stack) (ts tokens : List Token) (stop : Stop) → tokens ≡ t ∷ ts → is_open t.kind ≡ true → d < MAX_OIL_DEPTH → scan (d + 1) (some_attrs ∷ (an_end ∷ stack)) ts ≡ Some stop → scan d (a_body ∷ stack) tokens ≡ Some stop
 stops_within t d stack ts tokens stop e o h s =
-    let front : tokens ≡ mark OpenBrace t.line ∷ ts = front_is t (Mark OpenBrace) tokens ts e (open_kind t.kind o) in
-    ap (scan d (a_body ∷ stack)) front ∙ open_body d t.line stack ts h ∙ s
+    let prefix : tokens ≡ mark OpenBrace t.line ∷ ts = front_is t (Mark OpenBrace) tokens ts e (open_kind t.kind o) in
+    ap (scan d (a_body ∷ stack)) prefix ∙ open_body d t.line stack ts h ∙ s
 
 pub stops_behind_attrs : (t : Token) (d : ℕ) (inner : Attrs) (stack : Stack) (ts tokens b : List Token) (stop : Stop) → tokens ≡ t ∷ ts → is_open t.kind ≡ true → d < MAX_OIL_DEPTH → ReadsAttrs (d + 1) ts inner b → scan d (an_end ∷ stack) b ≡ Some stop → scan d (a_body ∷ stack) tokens ≡ Some stop
 stops_behind_attrs t d inner stack ts tokens b stop e o h r s =
@@ -53,21 +53,21 @@ stops_behind_attrs t d inner stack ts tokens b stop e o h r s =
 
 pub reads_nested : (t : Token) (d : ℕ) (inner : Attrs) (ts tokens b rest : List Token) → tokens ≡ t ∷ ts → is_open t.kind ≡ true → d < MAX_OIL_DEPTH → ReadsAttrs (d + 1) ts inner b → IsEnd b rest → ReadsBody d tokens inner rest
 reads_nested t d inner ts tokens b rest e o h r end =
-    let front : tokens ≡ mark OpenBrace t.line ∷ ts = front_is t (Mark OpenBrace) tokens ts e (open_kind t.kind o) in
+    let prefix : tokens ≡ mark OpenBrace t.line ∷ ts = front_is t (Mark OpenBrace) tokens ts e (open_kind t.kind o) in
     let back : d + 1 - 1 ≡ d = omega arith in
     record {
-      is_body = subst (λ (x : List Token). IsBody inner x rest) (sym front) (nested r.is_attrs end);
-      takes = λ stack. ap (scan d (a_body ∷ stack)) front ∙ open_body d t.line stack ts h ∙ r.takes (an_end ∷ stack) ∙ ap (λ n. scan n (an_end ∷ stack) b) back ∙ takes_end end d stack;
+      is_body = subst (λ (x : List Token). IsBody inner x rest) (sym prefix) (nested r.is_attrs end);
+      takes = λ stack. ap (scan d (a_body ∷ stack)) prefix ∙ open_body d t.line stack ts h ∙ r.takes (an_end ∷ stack) ∙ ap (λ n. scan n (an_end ∷ stack) b) back ∙ takes_end end d stack;
     }
 
 -- one attribute
 pub reads_attr : (d l l' : ℕ) (n m : List ℕ) (value : Value) (inner : Attrs) (tokens r1 r2 r3 rest : List Token) → tokens ≡ name n l ∷ r1 → r1 ≡ mark Equals l' ∷ r2 → IsValue value r2 r3 → ReadsBody d r3 inner rest → m ≡ n → ReadsAttr d tokens (record { name = m; line = l; value = value; attrs = inner }) rest
 reads_attr d l l' n m value inner tokens r1 r2 r3 rest e1 e2 v body same =
-    let front : tokens ≡ name m l ∷ (mark Equals l' ∷ r2) = e1 ∙ (λ i. name (sym same i) l ∷ e2 i) in
+    let prefix : tokens ≡ name m l ∷ (mark Equals l' ∷ r2) = e1 ∙ (λ i. name (sym same i) l ∷ e2 i) in
     record {
-      joins = λ next last more. subst (λ (x : List Token). IsAttrs (attr_then m l value inner next) x last) (sym front) (one_more v body.is_body more);
-      takes = λ stack. ap (scan d (attr_phrases ++ stack)) front ∙ takes_value v d _ ∙ body.takes stack;
-      shorter = let lengths = ap length front in omega (arith, lengths, shorter_value v, shorter_body body.is_body);
+      joins = λ next last more. subst (λ (x : List Token). IsAttrs (attr_then m l value inner next) x last) (sym prefix) (one_more v body.is_body more);
+      takes = λ stack. ap (scan d (attr_phrases ++ stack)) prefix ∙ takes_value v d _ ∙ body.takes stack;
+      shorter = let lengths = ap length prefix in omega (arith, lengths, shorter_value v, shorter_body body.is_body);
     }
 
 -- a list of attributes grows at its end
@@ -78,8 +78,8 @@ list_before-push (x ∷ items) a next = ap (λ (m : Attrs). attr_then x.name x.l
 -- the end of a list of attributes
 pub reads_close : (t : Token) (d : ℕ) (items : List Attr) (attrs : Attrs) (tokens rest after : List Token) → ((next : Attrs) (last : List Token) → IsAttrs next rest last → IsAttrs (list_before items next) tokens last) → ((stack : Stack) → scan d (some_attrs ∷ stack) tokens ≡ scan d (some_attrs ∷ stack) rest) → rest ≡ t ∷ after → is_close t.kind ≡ true → attrs ≡ list_before items no_attrs → ReadsAttrs d tokens attrs after
 reads_close t d items attrs tokens rest after joins takes e c same =
-    let front : rest ≡ mark CloseBrace t.line ∷ after = front_is t (Mark CloseBrace) rest after e (close_kind t.kind c) in
+    let prefix : rest ≡ mark CloseBrace t.line ∷ after = front_is t (Mark CloseBrace) rest after e (close_kind t.kind c) in
     record {
-      is_attrs = rw same (joins no_attrs after (subst (λ (x : List Token). IsAttrs no_attrs x after) (sym front) no_more));
-      takes = λ stack. takes stack ∙ ap (scan d (some_attrs ∷ stack)) front;
+      is_attrs = rw same (joins no_attrs after (subst (λ (x : List Token). IsAttrs no_attrs x after) (sym prefix) no_more));
+      takes = λ stack. takes stack ∙ ap (scan d (some_attrs ∷ stack)) prefix;
     }

@@ -17,10 +17,10 @@ balanced_shorter d t rest after left e r = let lengths = ap length e in omega (a
 
 pub reads_balanced : (t : Token) (d : ℕ) (tokens rest after : List Token) → ((last : List Token) → IsBalanced rest last → IsBalanced tokens last) → ((stack : Stack) → scan d (some_balanced ∷ stack) tokens ≡ scan d (some_balanced ∷ stack) rest) → rest ≡ t ∷ after → is_close t.kind ≡ true → ReadsBalanced d tokens after
 reads_balanced t d tokens rest after joins takes e c =
-    let front : rest ≡ mark CloseBrace t.line ∷ after = front_is t (Mark CloseBrace) rest after e (close_kind t.kind c) in
+    let prefix : rest ≡ mark CloseBrace t.line ∷ after = front_is t (Mark CloseBrace) rest after e (close_kind t.kind c) in
     record {
-      is_balanced = joins after (subst (λ (x : List Token). IsBalanced x after) (sym front) closed);
-      takes = λ stack. takes stack ∙ ap (scan d (some_balanced ∷ stack)) front;
+      is_balanced = joins after (subst (λ (x : List Token). IsBalanced x after) (sym prefix) closed);
+      takes = λ stack. takes stack ∙ ap (scan d (some_balanced ∷ stack)) prefix;
     }
 
 other_kind : (kind : TokenKind) (line d : ℕ) (stack : Stack) (ts : List Token) → is_open kind ≡ false → is_close kind ≡ false → scan d (some_balanced ∷ stack) (record { kind = kind; line = line } ∷ ts) ≡ scan d (some_balanced ∷ stack) ts
@@ -43,11 +43,11 @@ open_taken d l stack ts h = shallow MAX_OIL_DEPTH d _ _ h
 -- one pair of braces
 pub braces_taken : (t : Token) (d : ℕ) (stack : Stack) (ts tokens rest : List Token) → tokens ≡ t ∷ ts → is_open t.kind ≡ true → d < MAX_OIL_DEPTH → ReadsBalanced (d + 1) ts rest → scan d (some_balanced ∷ stack) tokens ≡ scan d (some_balanced ∷ stack) rest
 braces_taken t d stack ts tokens rest e o h r =
-    let front : tokens ≡ mark OpenBrace t.line ∷ ts = front_is t (Mark OpenBrace) tokens ts e (open_kind t.kind o) in
+    let prefix : tokens ≡ mark OpenBrace t.line ∷ ts = front_is t (Mark OpenBrace) tokens ts e (open_kind t.kind o) in
     let back : d + 1 - 1 ≡ d = omega arith in
-    ap (scan d (some_balanced ∷ stack)) front ∙ open_taken d t.line stack ts h ∙ r.takes (some_balanced ∷ stack) ∙ ap (λ n. scan n (some_balanced ∷ stack) rest) back
+    ap (scan d (some_balanced ∷ stack)) prefix ∙ open_taken d t.line stack ts h ∙ r.takes (some_balanced ∷ stack) ∙ ap (λ n. scan n (some_balanced ∷ stack) rest) back
 
 pub braces_join : (t : Token) (d : ℕ) (ts tokens rest last : List Token) → tokens ≡ t ∷ ts → is_open t.kind ≡ true → ReadsBalanced d ts rest → IsBalanced rest last → IsBalanced tokens last
 braces_join t d ts tokens rest last e o r more =
-    let front : tokens ≡ mark OpenBrace t.line ∷ ts = front_is t (Mark OpenBrace) tokens ts e (open_kind t.kind o) in
-    subst (λ (x : List Token). IsBalanced x last) (sym front) (braces r.is_balanced more)
+    let prefix : tokens ≡ mark OpenBrace t.line ∷ ts = front_is t (Mark OpenBrace) tokens ts e (open_kind t.kind o) in
+    subst (λ (x : List Token). IsBalanced x last) (sym prefix) (braces r.is_balanced more)

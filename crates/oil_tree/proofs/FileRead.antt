@@ -34,10 +34,10 @@ version_taken n l tokens ts stack e is = ap (scan 0 (a_file ∷ stack)) e ∙ ap
 
 pub reads_version : (n t : List ℕ) (l l' l'' : ℕ) (tokens r1 r2 r3 rest : List Token) → tokens ≡ name n l ∷ r1 → word_of n ≡ Version → r1 ≡ mark Equals l' ∷ r2 → r2 ≡ text t l'' ∷ r3 → IsEnd r3 rest → ReadsVersion tokens rest
 reads_version n t l l' l'' tokens r1 r2 r3 rest e is e2 e3 end =
-    let front : tokens ≡ name n l ∷ (mark Equals l' ∷ (text t l'' ∷ r3)) = e ∙ (λ i. name n l ∷ (e2 ∙ (λ j. mark Equals l' ∷ e3 j)) i) in
+    let prefix : tokens ≡ name n l ∷ (mark Equals l' ∷ (text t l'' ∷ r3)) = e ∙ (λ i. name n l ∷ (e2 ∙ (λ j. mark Equals l' ∷ e3 j)) i) in
     record {
-      joins = λ tree last u. subst (λ (x : List Token). IsFile tree x last) (sym front) (version is end u);
-      takes = λ stack. version_taken n l tokens _ stack front is ∙ takes_end end 0 _;
+      joins = λ tree last u. subst (λ (x : List Token). IsFile tree x last) (sym prefix) (version is end u);
+      takes = λ stack. version_taken n l tokens _ stack prefix is ∙ takes_end end 0 _;
     }
 
 -- the implementation
@@ -59,10 +59,10 @@ impl_taken n l tokens ts stack e is = ap (scan 0 (an_unversioned ∷ stack)) e �
 
 pub reads_impl : (n m : List ℕ) (l l' l'' : ℕ) (tokens r1 r2 r3 r4 rest : List Token) → tokens ≡ name n l ∷ r1 → word_of n ≡ Implementation → r1 ≡ name m l' ∷ r2 → r2 ≡ mark OpenBrace l'' ∷ r3 → ReadsBalanced 1 r3 r4 → IsEnd r4 rest → ReadsImpl tokens rest
 reads_impl n m l l' l'' tokens r1 r2 r3 r4 rest e is e2 e3 b end =
-    let front : tokens ≡ name n l ∷ (name m l' ∷ (mark OpenBrace l'' ∷ r3)) = e ∙ (λ i. name n l ∷ (e2 ∙ (λ j. name m l' ∷ e3 j)) i) in
+    let prefix : tokens ≡ name n l ∷ (name m l' ∷ (mark OpenBrace l'' ∷ r3)) = e ∙ (λ i. name n l ∷ (e2 ∙ (λ j. name m l' ∷ e3 j)) i) in
     record {
-      joins = λ tree last c. subst (λ (x : List Token). IsUnversioned tree x last) (sym front) (impl is b.is_balanced end c);
-      takes = λ stack. impl_taken n l tokens _ stack front is ∙ b.takes _ ∙ takes_end end 0 _;
+      joins = λ tree last c. subst (λ (x : List Token). IsUnversioned tree x last) (sym prefix) (impl is b.is_balanced end c);
+      takes = λ stack. impl_taken n l tokens _ stack prefix is ∙ b.takes _ ∙ takes_end end 0 _;
     }
 
 -- the CPU
@@ -72,8 +72,8 @@ cpu_taken n l tokens ts stack e is = ap (scan 0 (a_cpu ∷ stack)) e ∙ ap (λ 
 
 pub reads_cpu : (n m : List ℕ) (l l' l'' : ℕ) (objects : List Object) (tokens r1 r2 r3 r4 rest : List Token) → tokens ≡ name n l ∷ r1 → word_of n ≡ Cpu → r1 ≡ name m l' ∷ r2 → r2 ≡ mark OpenBrace l'' ∷ r3 → ReadsObjects r3 objects r4 → IsEnd r4 rest → ReadsCpu tokens (record { line = l; objects = objects }) rest
 reads_cpu n m l l' l'' objects tokens r1 r2 r3 r4 rest e is e2 e3 o end =
-    let front : tokens ≡ name n l ∷ (name m l' ∷ (mark OpenBrace l'' ∷ r3)) = e ∙ (λ i. name n l ∷ (e2 ∙ (λ j. name m l' ∷ e3 j)) i) in
+    let prefix : tokens ≡ name n l ∷ (name m l' ∷ (mark OpenBrace l'' ∷ r3)) = e ∙ (λ i. name n l ∷ (e2 ∙ (λ j. name m l' ∷ e3 j)) i) in
     record {
-      is_cpu = subst (λ (x : List Token). IsCpu (record { line = l; objects = objects }) x rest) (sym front) (cpu is o.are_objects end);
-      takes = λ stack. cpu_taken n l tokens _ stack front is ∙ o.takes _ ∙ takes_end end 0 _;
+      is_cpu = subst (λ (x : List Token). IsCpu (record { line = l; objects = objects }) x rest) (sym prefix) (cpu is o.are_objects end);
+      takes = λ stack. cpu_taken n l tokens _ stack prefix is ∙ o.takes _ ∙ takes_end end 0 _;
     }

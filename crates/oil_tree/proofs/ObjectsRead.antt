@@ -19,17 +19,17 @@ one_object_more t stack ts tokens e c = rw e (not_close_kind t.kind t.line stack
 
 pub reads_object : (l l' : ℕ) (k k' n n' : List ℕ) (attrs : Attrs) (tokens r1 r2 rest : List Token) → tokens ≡ name k l ∷ r1 → r1 ≡ name n l' ∷ r2 → ReadsBody 1 r2 attrs rest → k' ≡ k → n' ≡ n → ReadsObject tokens (record { kind = k'; line = l; name = n'; attrs = attrs }) rest
 reads_object l l' k k' n n' attrs tokens r1 r2 rest e1 e2 body sk sn =
-    let front : tokens ≡ name k' l ∷ (name n' l' ∷ r2) = e1 ∙ (λ i. name (sym sk i) l ∷ (e2 ∙ (λ j. name (sym sn j) l' ∷ r2)) i) in
+    let prefix : tokens ≡ name k' l ∷ (name n' l' ∷ r2) = e1 ∙ (λ i. name (sym sk i) l ∷ (e2 ∙ (λ j. name (sym sn j) l' ∷ r2)) i) in
     record {
-      joins = λ next last more. subst (λ (x : List Token). IsObjects (record { kind = k'; line = l; name = n'; attrs = attrs } ∷ next) x last) (sym front) (one_object body.is_body more);
-      takes = λ stack. ap (scan 1 (object_phrases ++ stack)) front ∙ body.takes stack;
-      shorter = let lengths = ap length front in omega (arith, lengths, shorter_body body.is_body);
+      joins = λ next last more. subst (λ (x : List Token). IsObjects (record { kind = k'; line = l; name = n'; attrs = attrs } ∷ next) x last) (sym prefix) (one_object body.is_body more);
+      takes = λ stack. ap (scan 1 (object_phrases ++ stack)) prefix ∙ body.takes stack;
+      shorter = let lengths = ap length prefix in omega (arith, lengths, shorter_body body.is_body);
     }
 
 pub reads_objects : (t : Token) (items objects : List Object) (tokens rest after : List Token) → ((next : List Object) (last : List Token) → IsObjects next rest last → IsObjects (items ++ next) tokens last) → ((stack : Stack) → scan 1 (some_objects ∷ stack) tokens ≡ scan 1 (some_objects ∷ stack) rest) → rest ≡ t ∷ after → is_close t.kind ≡ true → objects ≡ items → ReadsObjects tokens objects after
 reads_objects t items objects tokens rest after joins takes e c same =
-    let front : rest ≡ mark CloseBrace t.line ∷ after = front_is t (Mark CloseBrace) rest after e (close_kind t.kind c) in
+    let prefix : rest ≡ mark CloseBrace t.line ∷ after = front_is t (Mark CloseBrace) rest after e (close_kind t.kind c) in
     record {
-      are_objects = subst (λ (o : List Object). IsObjects o tokens after) (append-nil items ∙ sym same) (joins [] after (subst (λ (x : List Token). IsObjects [] x after) (sym front) no_objects));
-      takes = λ stack. takes stack ∙ ap (scan 1 (some_objects ∷ stack)) front;
+      are_objects = subst (λ (o : List Object). IsObjects o tokens after) (append-nil items ∙ sym same) (joins [] after (subst (λ (x : List Token). IsObjects [] x after) (sym prefix) no_objects));
+      takes = λ stack. takes stack ∙ ap (scan 1 (some_objects ∷ stack)) prefix;
     }

@@ -23,6 +23,10 @@ pub const MAX_BLOCKS: usize = 1056;
 pub const MAX_FILE: usize = 1_048_576;
 /// Bytes of an event text.
 pub const MAX_EVENT_TEXT: usize = 16_777_216;
+/// Bytes of a table beside an image.
+pub const MAX_TABLE: usize = 16_777_216;
+/// Bytes of a record of points.
+pub const MAX_RECORD: usize = 16_777_216;
 /// Bytes of a line of the event text, without its LF.
 pub const MAX_EVENT_LINE: usize = 256;
 /// Bytes of a name.

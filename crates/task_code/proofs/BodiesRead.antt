@@ -10,11 +10,11 @@ use Rattle.task_code.proofs.Scanned.{shorter_statements}
 pub reads_owned : (l l' : ℕ) (owner : Reference) (s : Statements) (tokens r1 r2 r rest : List Token) → tokens ≡ mark OpenParen l ∷ r1 → r1 ≡ name owner.name owner.line ∷ r2 → r2 ≡ mark CloseParen l' ∷ r → ReadsBlock 0 r s rest → ReadsOwned tokens owner s rest
 reads_owned l l' owner s tokens r1 r2 r rest e1 e2 e3 b =
     let short : tokens ≡ mark OpenParen l ∷ (name owner.name owner.line ∷ (mark CloseParen l' ∷ r)) = e1 ∙ ap (λ (z : List Token). mark OpenParen l ∷ z) (e2 ∙ ap (λ (z : List Token). name owner.name owner.line ∷ z) e3) in
-    let front : tokens ≡ mark OpenParen l ∷ (name owner.name owner.line ∷ (mark CloseParen l' ∷ (mark OpenBrace b.line ∷ b.inside))) = short ∙ ap (λ (z : List Token). mark OpenParen l ∷ (name owner.name owner.line ∷ (mark CloseParen l' ∷ z))) b.opens in
+    let prefix : tokens ≡ mark OpenParen l ∷ (name owner.name owner.line ∷ (mark CloseParen l' ∷ (mark OpenBrace b.line ∷ b.inside))) = short ∙ ap (λ (z : List Token). mark OpenParen l ∷ (name owner.name owner.line ∷ (mark CloseParen l' ∷ z))) b.opens in
     record {
-      joins = λ w kind line more is bodies. subst (λ (z : List Token). AreBodies (record { kind = kind; line = line; owner = owner; statements = s } ∷ more) (name w line ∷ z)) (sym front) (a_body is b.are_statements bodies);
+      joins = λ w kind line more is bodies. subst (λ (z : List Token). AreBodies (record { kind = kind; line = line; owner = owner; statements = s } ∷ more) (name w line ∷ z)) (sym prefix) (a_body is b.are_statements bodies);
       takes = ap (scan 0 body_stack) short ∙ b.takes [];
-      shorter = let lengths = ap length front in omega (arith, lengths, shorter_statements b.are_statements);
+      shorter = let lengths = ap length prefix in omega (arith, lengths, shorter_statements b.are_statements);
       within = let w = b.within in omega (arith, w);
     }
 

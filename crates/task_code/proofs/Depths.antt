@@ -15,19 +15,19 @@ abbrev Shallow : ℕ → List Token → Type 0
 Shallow d [] = ⊤
 Shallow d (t ∷ ts) = (is_open t.kind ≡ true → d < 32) × Shallow (deeper d t.kind) ts
 
-depth_push : (d : ℕ) (front : List Token) (t : Token) → depth_from d (front ++ t ∷ []) ≡ deeper (depth_from d front) t.kind
+depth_push : (d : ℕ) (prefix : List Token) (t : Token) → depth_from d (prefix ++ t ∷ []) ≡ deeper (depth_from d prefix) t.kind
 depth_push d [] t = refl
-depth_push d (u ∷ front) t = depth_push (deeper d u.kind) front t
+depth_push d (u ∷ prefix) t = depth_push (deeper d u.kind) prefix t
 
-shallow : (code : Code) (tokens : List Token) → HasTree tokens code → (front ts : List Token) → tokens ≡ front ++ ts → Shallow (depth_from 0 front) ts
-shallow code tokens tree front [] e = tt
-shallow code tokens tree front (t ∷ ts) e = (
-  (λ opens. ⊎_elim (λ lt. lt) (λ le. absurd ((tree.clear front t ts e).1 ((ts, code, subst (λ (all : List Token). AreBodies code.bodies all) (e ∙ pushed) tree.sentence), (opens, le)))) (order (depth_from 0 front) MAX_CODE_DEPTH)),
-  subst (λ (d : ℕ). Shallow d ts) (depth_push 0 front t) (shallow code tokens tree (front ++ t ∷ []) ts (e ∙ pushed)),
+shallow : (code : Code) (tokens : List Token) → HasTree tokens code → (prefix ts : List Token) → tokens ≡ prefix ++ ts → Shallow (depth_from 0 prefix) ts
+shallow code tokens tree prefix [] e = tt
+shallow code tokens tree prefix (t ∷ ts) e = (
+  (λ opens. ⊎_elim (λ lt. lt) (λ le. absurd ((tree.clear prefix t ts e).1 ((ts, code, subst (λ (all : List Token). AreBodies code.bodies all) (e ∙ pushed) tree.sentence), (opens, le)))) (order (depth_from 0 prefix) MAX_CODE_DEPTH)),
+  subst (λ (d : ℕ). Shallow d ts) (depth_push 0 prefix t) (shallow code tokens tree (prefix ++ t ∷ []) ts (e ∙ pushed)),
 )
   where
-    pushed : front ++ t ∷ ts ≡ (front ++ t ∷ []) ++ ts
-    pushed = sym (append_assoc front (t ∷ []) ts)
+    pushed : prefix ++ t ∷ ts ≡ (prefix ++ t ∷ []) ++ ts
+    pushed = sym (append_assoc prefix (t ∷ []) ts)
 
 -- calls have no braces
 

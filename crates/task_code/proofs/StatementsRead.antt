@@ -24,11 +24,11 @@ within_two d a b n h h' k = omega (arith, h, h', k)
 
 pub reads_work : (d line v l l' : ℕ) (tokens r1 rest : List Token) → tokens ≡ number v l ∷ r1 → r1 ≡ mark Semicolon l' ∷ rest → ReadsRest word.Work d line tokens (Work line v) rest
 reads_work d line v l l' tokens r1 rest e1 e2 =
-    let front : tokens ≡ number v l ∷ (mark Semicolon l' ∷ rest) = e1 ∙ ap (λ (z : List Token). number v l ∷ z) e2 in
+    let prefix : tokens ≡ number v l ∷ (mark Semicolon l' ∷ rest) = e1 ∙ ap (λ (z : List Token). number v l ∷ z) e2 in
     record {
-      joins = λ w next last e is. subst (λ (z : List Token). IsStatements (work_then line v next) (name w line ∷ z) last) (sym front) (a_work e is);
-      takes = λ stack. ap (scan d (statement_phrases word.Work ++ stack)) front;
-      shorter = let lengths = ap length front in omega (arith, lengths);
+      joins = λ w next last e is. subst (λ (z : List Token). IsStatements (work_then line v next) (name w line ∷ z) last) (sym prefix) (a_work e is);
+      takes = λ stack. ap (scan d (statement_phrases word.Work ++ stack)) prefix;
+      shorter = let lengths = ap length prefix in omega (arith, lengths);
       within = λ next h. h;
     }
 
@@ -37,7 +37,7 @@ reads_call d line l l' s c tokens r1 r2 rest e1 is e2 =
     record {
       joins = λ w next last e more. subst (λ (z : List Token). IsStatements (call_then line c next) (name w line ∷ z) last) (sym e1) (grammar.a_call e (subst (λ (z : List Token). IsCall s c r1 z) e2 is) more);
       takes = λ stack. ap (scan d (statement_phrases (word.Service s) ++ stack)) e1 ∙ takes_call is d (a_semicolon ∷ (some_statements ∷ [])) stack ∙ ap (scan d (a_semicolon ∷ (some_statements ∷ stack))) e2;
-      shorter = let front = ap length e1 in let back = ap length e2 in omega (arith, front, back, shorter_call is);
+      shorter = let prefix = ap length e1 in let back = ap length e2 in omega (arith, prefix, back, shorter_call is);
       within = λ next h. h;
     }
 
@@ -51,9 +51,9 @@ block_front d s tokens rest b = let lengths = ap length b.opens in omega (arith,
 
 pub reads_if : (d line l l' l'' : ℕ) (branch : Statements) (tokens r rest : List Token) → tokens ≡ mark OpenParen l ∷ (mark Question l' ∷ (mark CloseParen l'' ∷ r)) → ReadsBlock d r branch rest → ((d : ℕ) (stack : Stack) → scan d (after_if ∷ stack) rest ≡ scan d (some_statements ∷ stack) rest) → ReadsRest word.If d line tokens (If line branch None) rest
 reads_if d line l l' l'' branch tokens r rest e b goes_on =
-    let front : tokens ≡ mark OpenParen l ∷ (mark Question l' ∷ (mark CloseParen l'' ∷ (mark OpenBrace b.line ∷ b.inside))) = e ∙ ap (λ (z : List Token). mark OpenParen l ∷ (mark Question l' ∷ (mark CloseParen l'' ∷ z))) b.opens in
+    let prefix : tokens ≡ mark OpenParen l ∷ (mark Question l' ∷ (mark CloseParen l'' ∷ (mark OpenBrace b.line ∷ b.inside))) = e ∙ ap (λ (z : List Token). mark OpenParen l ∷ (mark Question l' ∷ (mark CloseParen l'' ∷ z))) b.opens in
     record {
-      joins = λ w next last is more. subst (λ (z : List Token). IsStatements (if_then line branch next) (name w line ∷ z) last) (sym front) (an_if is b.are_statements more);
+      joins = λ w next last is more. subst (λ (z : List Token). IsStatements (if_then line branch next) (name w line ∷ z) last) (sym prefix) (an_if is b.are_statements more);
       takes = λ stack. ap (scan d (statement_phrases word.If ++ stack)) e ∙ b.takes (after_if ∷ stack) ∙ goes_on d stack;
       shorter = let lengths = ap length e in omega (arith, lengths, block_front d branch r rest b);
       within = λ next h. within_one d (depth branch) (depth next) b.within h;
@@ -61,10 +61,10 @@ reads_if d line l l' l'' branch tokens r rest e b goes_on =
 
 pub reads_if_else : (d line l l' l'' l3 : ℕ) (w' : List ℕ) (branch otherwise : Statements) (tokens r r2 r3 rest : List Token) → tokens ≡ mark OpenParen l ∷ (mark Question l' ∷ (mark CloseParen l'' ∷ r)) → ReadsBlock d r branch r2 → r2 ≡ name w' l3 ∷ r3 → is_else w' ≡ true → ReadsBlock d r3 otherwise rest → ReadsRest word.If d line tokens (If line branch (Some otherwise)) rest
 reads_if_else d line l l' l'' l3 w' branch otherwise tokens r r2 r3 rest e b e2 is b' =
-    let front : tokens ≡ mark OpenParen l ∷ (mark Question l' ∷ (mark CloseParen l'' ∷ (mark OpenBrace b.line ∷ b.inside))) = e ∙ ap (λ (z : List Token). mark OpenParen l ∷ (mark Question l' ∷ (mark CloseParen l'' ∷ z))) b.opens in
+    let prefix : tokens ≡ mark OpenParen l ∷ (mark Question l' ∷ (mark CloseParen l'' ∷ (mark OpenBrace b.line ∷ b.inside))) = e ∙ ap (λ (z : List Token). mark OpenParen l ∷ (mark Question l' ∷ (mark CloseParen l'' ∷ z))) b.opens in
     let second : r2 ≡ name w' l3 ∷ (mark OpenBrace b'.line ∷ b'.inside) = e2 ∙ ap (λ (z : List Token). name w' l3 ∷ z) b'.opens in
     record {
-      joins = λ w next last if more. subst (λ (z : List Token). IsStatements (if_else_then line branch otherwise next) (name w line ∷ z) last) (sym front) (an_if_else if (subst (λ (z : List Token). IsStatements branch b.inside z) second b.are_statements) is b'.are_statements more);
+      joins = λ w next last if more. subst (λ (z : List Token). IsStatements (if_else_then line branch otherwise next) (name w line ∷ z) last) (sym prefix) (an_if_else if (subst (λ (z : List Token). IsStatements branch b.inside z) second b.are_statements) is b'.are_statements more);
       takes = λ stack. ap (scan d (statement_phrases word.If ++ stack)) e ∙ b.takes (after_if ∷ stack) ∙ ap (scan d (after_if ∷ stack)) e2 ∙ takes_else d l3 w' r3 stack is ∙ b'.takes (some_statements ∷ stack);
       shorter = let lengths = ap length e in let others = ap length e2 in omega (arith, lengths, others, block_front d branch r r2 b, block_front d otherwise r3 rest b');
       within = λ next h. within_two d (depth branch) (depth otherwise) (depth next) b.within b'.within h;
@@ -76,15 +76,15 @@ stops_in_else d l l' l'' l3 w' branch tokens r r2 r3 stop e b e2 is h stack =
 
 pub stops_behind_condition : (d l : ℕ) (c : Condition) (t : Token) (tokens r1 r2 : List Token) (stop : Stop) → tokens ≡ mark OpenParen l ∷ r1 → r1 ≡ t ∷ r2 → IsCondition c t → StopsIn (close_paren ∷ []) d r2 stop → StopsIn (statement_phrases word.While) d tokens stop
 stops_behind_condition d l c t tokens r1 r2 stop e1 e2 is h stack =
-    let front : tokens ≡ mark OpenParen l ∷ (t ∷ r2) = e1 ∙ ap (λ (z : List Token). mark OpenParen l ∷ z) e2 in
-    ap (scan d (statement_phrases word.While ++ stack)) front ∙ takes_condition is d (close_paren ∷ (open_brace ∷ (some_statements ∷ (some_statements ∷ stack)))) r2 ∙ h (open_brace ∷ (some_statements ∷ (some_statements ∷ stack)))
+    let prefix : tokens ≡ mark OpenParen l ∷ (t ∷ r2) = e1 ∙ ap (λ (z : List Token). mark OpenParen l ∷ z) e2 in
+    ap (scan d (statement_phrases word.While ++ stack)) prefix ∙ takes_condition is d (close_paren ∷ (open_brace ∷ (some_statements ∷ (some_statements ∷ stack)))) r2 ∙ h (open_brace ∷ (some_statements ∷ (some_statements ∷ stack)))
 
 pub reads_while : (d line l l' : ℕ) (c : Condition) (t : Token) (body : Statements) (tokens r1 r2 r rest : List Token) → tokens ≡ mark OpenParen l ∷ r1 → r1 ≡ t ∷ r2 → IsCondition c t → r2 ≡ mark CloseParen l' ∷ r → ReadsBlock d r body rest → ReadsRest word.While d line tokens (While line c body) rest
 reads_while d line l l' c t body tokens r1 r2 r rest e1 e2 is e3 b =
     let short : tokens ≡ mark OpenParen l ∷ (t ∷ (mark CloseParen l' ∷ r)) = e1 ∙ ap (λ (z : List Token). mark OpenParen l ∷ z) (e2 ∙ ap (λ (z : List Token). t ∷ z) e3) in
-    let front : tokens ≡ mark OpenParen l ∷ (t ∷ (mark CloseParen l' ∷ (mark OpenBrace b.line ∷ b.inside))) = short ∙ ap (λ (z : List Token). mark OpenParen l ∷ (t ∷ (mark CloseParen l' ∷ z))) b.opens in
+    let prefix : tokens ≡ mark OpenParen l ∷ (t ∷ (mark CloseParen l' ∷ (mark OpenBrace b.line ∷ b.inside))) = short ∙ ap (λ (z : List Token). mark OpenParen l ∷ (t ∷ (mark CloseParen l' ∷ z))) b.opens in
     record {
-      joins = λ w next last word more. subst (λ (z : List Token). IsStatements (while_then line c body next) (name w line ∷ z) last) (sym front) (a_while word is b.are_statements more);
+      joins = λ w next last word more. subst (λ (z : List Token). IsStatements (while_then line c body next) (name w line ∷ z) last) (sym prefix) (a_while word is b.are_statements more);
       takes = λ stack. ap (scan d (statement_phrases word.While ++ stack)) short ∙ takes_condition is d (close_paren ∷ (open_brace ∷ (some_statements ∷ (some_statements ∷ stack)))) (mark CloseParen l' ∷ r) ∙ b.takes (some_statements ∷ stack);
       shorter = let lengths = ap length short in omega (arith, lengths, block_front d body r rest b);
       within = λ next h. within_one d (depth body) (depth next) b.within h;
@@ -116,8 +116,8 @@ ListJoins items tokens rest = (next : Statements) (last : List Token) → IsStat
 
 pub list_joins : (d : ℕ) (w : List ℕ) (t : Token) (items more : List Statement) (s : Statement) (tokens rest after behind : List Token) → ListJoins items tokens rest → rest ≡ t ∷ after → t.kind ≡ Name w → ReadsStatement d (name w t.line ∷ after) s behind → more ≡ items ++ s ∷ [] → ListJoins more tokens behind
 list_joins d w t items more s tokens rest after behind joins e k read same = λ next last is.
-    let front : rest ≡ name w t.line ∷ after = front_is t (Name w) rest after e k in
-    let one : IsStatements (statement_before s next) rest last = subst (λ (z : List Token). IsStatements (statement_before s next) z last) (sym front) (read.joins next last is) in
+    let prefix : rest ≡ name w t.line ∷ after = front_is t (Name w) rest after e k in
+    let one : IsStatements (statement_before s next) rest last = subst (λ (z : List Token). IsStatements (statement_before s next) z last) (sym prefix) (read.joins next last is) in
     subst (λ (x : Statements). IsStatements x tokens last) (sym (ap (λ (x : List Statement). list_before x next) same ∙ list_before-push items s next)) (joins (statement_before s next) last one)
 
 pub list_takes : (d : ℕ) (w : List ℕ) (t : Token) (s : Statement) (rest after behind : List Token) → rest ≡ t ∷ after → t.kind ≡ Name w → ReadsStatement d (name w t.line ∷ after) s behind → (stack : Stack) → scan d (some_statements ∷ stack) rest ≡ scan d (some_statements ∷ stack) behind
@@ -133,24 +133,24 @@ list_within d items more s all one same next h =
 -- the end of a list
 pub reads_close : (d : ℕ) (m : AMark) (t : Token) (items : List Statement) (s : Statements) (tokens rest after : List Token) → d ≤ 32 → ListJoins items tokens rest → ((stack : Stack) → scan d (some_statements ∷ stack) tokens ≡ scan d (some_statements ∷ stack) rest) → ((next : Statements) → depth next + d ≤ 32 → depth (list_before items next) + d ≤ 32) → rest ≡ t ∷ after → t.kind ≡ Mark m → m ≡ CloseBrace → s ≡ list_of items t.line → ReadsStatements d tokens s after
 reads_close d m t items s tokens rest after limit joins takes within e k is same =
-    let front : rest ≡ mark CloseBrace t.line ∷ after = front_is t (Mark CloseBrace) rest after e (k ∙ ap Mark is) in
+    let prefix : rest ≡ mark CloseBrace t.line ∷ after = front_is t (Mark CloseBrace) rest after e (k ∙ ap Mark is) in
     record {
-      are_statements = subst (λ (x : Statements). IsStatements x tokens after) (sym same) (joins (closed t.line) after (subst (λ (z : List Token). IsStatements (closed t.line) z after) (sym front) no_more));
-      takes = λ stack. takes stack ∙ ap (scan d (some_statements ∷ stack)) front;
+      are_statements = subst (λ (x : Statements). IsStatements x tokens after) (sym same) (joins (closed t.line) after (subst (λ (z : List Token). IsStatements (closed t.line) z after) (sym prefix) no_more));
+      takes = λ stack. takes stack ∙ ap (scan d (some_statements ∷ stack)) prefix;
       within = subst (λ (x : Statements). depth x + d ≤ 32) (sym same) (within (closed t.line) (omega (arith, limit)));
     }
 
 -- a block
 pub reads_block : (d : ℕ) (t : Token) (s : Statements) (tokens ts rest : List Token) → tokens ≡ t ∷ ts → is_open t.kind ≡ true → d < 32 → ReadsStatements (d + 1) ts s rest → ReadsBlock d tokens s rest
 reads_block d t s tokens ts rest e o h r =
-    let front : tokens ≡ mark OpenBrace t.line ∷ ts = front_is t (Mark OpenBrace) tokens ts e (open_kind t.kind o) in
+    let prefix : tokens ≡ mark OpenBrace t.line ∷ ts = front_is t (Mark OpenBrace) tokens ts e (open_kind t.kind o) in
     let back : d + 1 - 1 ≡ d = omega arith in
     record {
       line = t.line;
       inside = ts;
-      opens = front;
+      opens = prefix;
       are_statements = r.are_statements;
-      takes = λ stack. ap (scan d (block_phrases ++ stack)) front ∙ takes_open d t.line (some_statements ∷ stack) ts h ∙ r.takes stack ∙ ap (λ n. scan n stack rest) back;
+      takes = λ stack. ap (scan d (block_phrases ++ stack)) prefix ∙ takes_open d t.line (some_statements ∷ stack) ts h ∙ r.takes stack ∙ ap (λ n. scan n stack rest) back;
       within = let w = r.within in omega (arith, w);
     }
 

@@ -49,9 +49,9 @@ pub written_front : (ds : List ℕ) (i n x m : ℕ) (text : List ℕ) → n < 16
 written_front ds i n x m text h few size all e before =
     let digits = drop i (set ds i x) in
     let count : 16 ≡ i + (16 - i) = omega (arith, few) in
-    let front : drop i (set (take 16 ds) i x) ≡ take (16 - i) digits =
+    let prefix : drop i (set (take 16 ds) i x) ≡ take (16 - i) digits =
     ap (λ (l : List ℕ). drop i l) (sym (take-set-lt 16 ds i x few)) ∙ ap (λ (j : ℕ). drop i (take j (set ds i x))) count ∙ drop-take i (16 - i) (set ds i x) in
-    take-take (16 - i) m digits (omega (arith, all)) ∙ sym (take-take (16 - i) (16 - i) digits (omega arith)) ∙ ap (λ (l : List ℕ). take (16 - i) l) (sym front)
+    take-take (16 - i) m digits (omega (arith, all)) ∙ sym (take-take (16 - i) (16 - i) digits (omega arith)) ∙ ap (λ (l : List ℕ). take (16 - i) l) (sym prefix)
     ∙ written (take 16 ds) i n x text h few (length-take-le 16 ds size) e before
 
 -- more than one digit is left

@@ -1,4 +1,4 @@
-pub mod Fronts
+pub mod Prefixes
 pub mod HexadecimalLaws
 pub mod NameLaws
 pub mod CountLaws

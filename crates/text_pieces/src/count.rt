@@ -1,7 +1,7 @@
 //! A number that is put often and mostly goes up by one: its digits are kept, and then only the last of them changes.
 ghost use Rattle.std.specs.Prelude.{◌≡◌, ◌==◌, ◌+◌, ◌≤◌, ◌++◌, length, take, decimal};
 
-use crate::pieces::{MAX_DECIMAL, put_decimal, put_front};
+use crate::pieces::{MAX_DECIMAL, put_decimal, put_prefix};
 use std::marker::Model;
 
 // Twice the room that digits need: a copy has a constant size.
@@ -68,5 +68,5 @@ pub fn put_count(buf: &mut [u8], at: usize, count: &Count) -> usize
     ensures text { take result buf.new ≡ take at buf.old ++ decimal count.now }
     ensures most { result ≤ at + MAX_DECIMAL }
 {
-    put_front(buf, at, &count.digits[..MAX_DECIMAL], count.size)
+    put_prefix(buf, at, &count.digits[..MAX_DECIMAL], count.size)
 }

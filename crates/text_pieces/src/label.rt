@@ -2,7 +2,7 @@
 //! behind it there, since a copy of constant size is a few moves, and one of any other size a call.
 ghost use Rattle.std.specs.Prelude.{◌≡◌, ◌+◌, ◌≤◌, [], ◌++◌, length, take};
 
-use crate::pieces::{put, put_front};
+use crate::pieces::{put, put_prefix};
 use std::marker::Model;
 
 /// The most bytes of a label: a name, and a mark on both sides.
@@ -68,10 +68,10 @@ pub fn put_label(buf: &mut [u8], at: usize, label: &Label) -> usize
 {
     let size = label.size;
     if size <= SHORT {
-        return put_front(buf, at, &label.bytes[..SHORT], size);
+        return put_prefix(buf, at, &label.bytes[..SHORT], size);
     }
     if size <= MIDDLE {
-        return put_front(buf, at, &label.bytes[..MIDDLE], size);
+        return put_prefix(buf, at, &label.bytes[..MIDDLE], size);
     }
-    put_front(buf, at, &label.bytes, size)
+    put_prefix(buf, at, &label.bytes, size)
 }

@@ -8,5 +8,5 @@ mod pieces;
 pub use count::{Count, put_count};
 pub use label::{LABEL_ROOM, Label, MAX_LABEL, put_label};
 pub use pieces::{
-    MAX_DECIMAL, MAX_HEXADECIMAL, put, put_byte, put_decimal, put_front, put_hexadecimal, put_name,
+    MAX_DECIMAL, MAX_HEXADECIMAL, put, put_byte, put_decimal, put_hexadecimal, put_name, put_prefix,
 };

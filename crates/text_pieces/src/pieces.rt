@@ -41,9 +41,9 @@ pub fn put_name(buf: &mut [u8], at: usize, name: &Name) -> usize
     put(buf, at, name.as_bytes())
 }
 
-/// Puts the front of a piece, and whatever comes of the rest of it.
-#[tactic(auto, using(crate::proofs::Fronts::front_put))]
-pub fn put_front(buf: &mut [u8], at: usize, piece: &[u8], size: usize) -> usize
+/// Puts a prefix of a piece, and whatever comes of the rest of it.
+#[tactic(auto, using(crate::proofs::Prefixes::prefix_put))]
+pub fn put_prefix(buf: &mut [u8], at: usize, piece: &[u8], size: usize) -> usize
     requires room { at + length piece.now ≤ length buf.old }
     requires within { size ≤ length piece.now }
     ensures text { take result buf.new ≡ take at buf.old ++ take size piece.now }
@@ -64,7 +64,7 @@ pub fn put_decimal(buf: &mut [u8], at: usize, n: u64) -> usize
 {
     let mut digits = [0; 2 * MAX_DECIMAL];
     let first = itoa::write_digits(n, &mut digits, MAX_DECIMAL);
-    put_front(
+    put_prefix(
         buf,
         at,
         &digits[first..first + MAX_DECIMAL],
@@ -101,7 +101,7 @@ pub fn put_hexadecimal(buf: &mut [u8], at: usize, n: u64) -> usize
         first -= 1;
     }
     digits[first] = hexadecimal_digit(left);
-    put_front(
+    put_prefix(
         buf,
         at,
         &digits[first..first + MAX_HEXADECIMAL],

@@ -12,7 +12,7 @@ abbrev IsOfAll : (ahead rest : List ℕ) → Option Peeled → Type 0
 IsOfAll ahead rest (Some p) = peeled true (ahead ++ rest) ≡ Some (record { line = p.line; rest = p.rest ++ rest })
 IsOfAll ahead rest None = Unit {0}
 
--- the first place in a front is the first one in the front of all
+-- the first place in a prefix is the first one in the prefix of all
 place_of_all : (w k : ℕ) (xs more : List ℕ) → position is_lf (take w xs) ≡ Some k → position is_lf (take w (xs ++ more)) ≡ Some k
 place_of_all w k xs more e =
     let first = front_place is_lf w k xs more e in
@@ -37,11 +37,11 @@ without_lf finished xs w long = cond long (Some (record { line = take w xs; rest
 long_of_all : (w : ℕ) (xs more : List ℕ) → w ≡ 257 → 256 < length xs → position is_lf (take w xs) ≡ None → peeled true (xs ++ more) ≡ Some (record { line = take w xs; rest = drop w xs ++ more })
 long_of_all w xs more is many none =
     let le : w ≤ length xs = omega (arith, is, many) in
-    let front : take w (xs ++ more) ≡ take w xs = take-append-le w xs more le in
+    let prefix : take w (xs ++ more) ≡ take w xs = take-append-le w xs more le in
     let long : 256 < length (xs ++ more) = omega (arith, many, length-append xs more) in
     let Of : ℕ → Type 0 = λ v. position is_lf (take v (xs ++ more)) ≡ None → peeled true (xs ++ more) ≡ without_lf true (xs ++ more) v true in
     let of_257 : Of 257 = λ e. ap (peeled_at true (xs ++ more)) e ∙ ap (without_lf true (xs ++ more) 257) (lt-ltb 256 (length (xs ++ more)) long) in
-    subst Of (sym is) of_257 (ap (position is_lf) front ∙ none) ∙ (λ i. Some (record { line = front i; rest = drop-append-le w xs more le i }))
+    subst Of (sym is) of_257 (ap (position is_lf) prefix ∙ none) ∙ (λ i. Some (record { line = prefix i; rest = drop-append-le w xs more le i }))
 
 whole_of_all : (w : ℕ) (finished : Bool) (xs more : List ℕ) → w ≡ 257 → (finished ≡ true → more ≡ []) → position is_lf (take w xs) ≡ None → (long last : Bool) → ltb 256 (length xs) ≡ long → (finished && ltb 0 (length xs)) ≡ last →
     IsOfAll xs more (cond long (Some (record { line = take w xs; rest = drop w xs })) (cond last (Some (record { line = xs; rest = [] })) None))

@@ -7,11 +7,11 @@ use Rattle.std.proofs.lemmas.List.{Quantifiers.{position-Some}, Sums.{fails_befo
 use Rattle.trace_text.specs.{EventText.{ended_line, text_lines}, Feeds.{lines_to_long}}
 use Rattle.trace_text.proofs.{EventLaws.{position_is}, LineLaws.{is_lf, line_before_lf, line_without_lf}, Parts.{none_found}}
 
--- an element of a front stands there with more behind it too
+-- an element of a prefix stands there with more behind it too
 in_front : (w j : ℕ) (xs more : List ℕ) → j < w → j < length xs → get_or (xs ++ more) j 0 ≡ get_or (take w xs) j 0
 in_front w j xs more small within = get_or_append_left xs more 0 j within ∙ sym (get_or-take w xs j 0 small)
 
--- the first place in a front is the first one of all
+-- the first place in a prefix is the first one of all
 pub front_place : (p : ℕ → Bool) (w k : ℕ) (xs more : List ℕ) → position p (take w xs) ≡ Some k → (k < w) × (k < length xs) × (position p (xs ++ more) ≡ Some k)
 front_place p w k xs more e =
     let at = position-Some p (take w xs) k 0 e in
@@ -26,7 +26,7 @@ front_place p w k xs more e =
           (ap p (in_front w k xs more small within) ∙ at.1),
     )
 
--- a first place that isn't in a front is behind it
+-- a first place that isn't in a prefix is behind it
 place_behind : (p : ℕ → Bool) (w k : ℕ) (xs more : List ℕ) → w ≤ length xs → position p (take w xs) ≡ None → position p (xs ++ more) ≡ Some k → w ≤ k
 place_behind p w k xs more le none e =
     let at = position-Some p (xs ++ more) k 0 e in
@@ -70,8 +70,8 @@ long_line w xs rest is h none = by_place (position is_lf (xs ++ rest)) refl
     more : length (xs ++ rest) ≡ length xs + length rest
     more = length-append xs rest
 
-    front : take w (xs ++ rest) ≡ take w xs
-    front = take-append-le w xs rest (omega (arith, is, h))
+    prefix : take w (xs ++ rest) ≡ take w xs
+    prefix = take-append-le w xs rest (omega (arith, is, h))
 
     by_place : (o : Option ℕ) → position is_lf (xs ++ rest) ≡ o → lines_to_long (text_lines (xs ++ rest)) ≡ take w xs ∷ []
     by_place (Some k) e =
@@ -80,16 +80,16 @@ long_line w xs rest is h none = by_place (position is_lf (xs ++ rest)) refl
         let size : length (take k (xs ++ rest)) ≡ k = length-take-le k (xs ++ rest) (omega (arith, at.0)) in
         let tail = text_lines (drop (k + 1) (xs ++ rest)) in
         ap lines_to_long (line_before_lf (xs ++ rest) k e) ∙ ap (λ l. lines_to_long (l ∷ tail)) (ended_long (take k (xs ++ rest)) (omega (arith, size, behind, is)))
-        ∙ long_first w (take k (xs ++ rest)) tail is (omega (arith, size, behind, is)) ∙ ap (λ l. l ∷ []) (take-take w k (xs ++ rest) behind ∙ front)
+        ∙ long_first w (take k (xs ++ rest)) tail is (omega (arith, size, behind, is)) ∙ ap (λ l. l ∷ []) (take-take w k (xs ++ rest) behind ∙ prefix)
     by_place None e =
-        ap lines_to_long (line_without_lf (xs ++ rest) e (omega (arith, more, h))) ∙ long_first w (xs ++ rest) [] is (omega (arith, more, h)) ∙ ap (λ l. l ∷ []) front
+        ap lines_to_long (line_without_lf (xs ++ rest) e (omega (arith, more, h))) ∙ long_first w (xs ++ rest) [] is (omega (arith, more, h)) ∙ ap (λ l. l ∷ []) prefix
 
 -- the last bytes of a text have no LF
 pub last_line : (w : ℕ) (xs : List ℕ) → w ≡ 257 → length xs ≤ 256 → 0 < length xs → position is_lf (take w xs) ≡ None → text_lines (xs ++ []) ≡ xs ∷ text_lines []
 last_line w xs is short some none =
     ap text_lines (append-nil xs) ∙ line_without_lf xs (ap (position is_lf) (sym (take_all w xs (omega (arith, is, short)))) ∙ none) some
 
--- a place in a front is a place of all
+-- a place in a prefix is a place of all
 pub place_within : (w : ℕ) (xs : List ℕ) (o : Option ℕ) → o ≡ position is_lf (take w xs) → IfSome o (λ k. k < length xs)
 place_within w xs None e = tt
 place_within w xs (Some k) e = (front_place is_lf w k xs [] (sym e)).1

@@ -61,7 +61,7 @@ fn without_cr(line: &[u8]) -> &[u8]
     ensures { result.now ≡ strip_carriage_return line.now }
 {
     match line {
-        [front @ .., b'\r'] => front,
+        [prefix @ .., b'\r'] => prefix,
         _ => line,
     }
 }
@@ -127,7 +127,7 @@ impl Feed {
         })
     }
 
-    /// Takes a front of the piece, as large as the room that is left. It answers how many bytes.
+    /// Takes a prefix of the piece, as large as the room that is left. It answers how many bytes.
     pub fn give(&mut self, piece: &[u8]) -> usize
         ensures taken { result ≡ taken_count self.old piece.now }
         ensures after { self.new ≡ after_give self.old piece.now }

@@ -10,7 +10,7 @@ use arrayvec::ArrayVec;
 use osek_standard::{App, State};
 use osek_values::limits::MAX_TASKS;
 use std::marker::Model;
-use text_pieces::{Count, LABEL_ROOM, MAX_DECIMAL, put, put_count, put_decimal, put_front};
+use text_pieces::{Count, LABEL_ROOM, MAX_DECIMAL, put, put_count, put_decimal, put_prefix};
 
 const TASKS_ROOM: usize = MAX_ALL_TASKS + LABEL_ROOM;
 
@@ -107,10 +107,10 @@ impl LineParts {
     {
         let size = self.size;
         if size <= SHORT {
-            return put_front(buf, at, &self.tasks[..SHORT], size);
+            return put_prefix(buf, at, &self.tasks[..SHORT], size);
         }
         if size <= MIDDLE {
-            return put_front(buf, at, &self.tasks[..MIDDLE], size);
+            return put_prefix(buf, at, &self.tasks[..MIDDLE], size);
         }
         put(buf, at, &self.tasks[..size])
     }

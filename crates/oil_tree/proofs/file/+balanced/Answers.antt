@@ -11,8 +11,8 @@ returns-then-is_close t c = reads_balanced _ _ _ _ _ c.loop-token.invariant.join
 
 pub returns-then-depth-ge-MAX_OIL_DEPTH : goal.returns-then-depth-ge-MAX_OIL_DEPTH
 returns-then-depth-ge-MAX_OIL_DEPTH t c =
-    let front = front_is _ (Mark OpenBrace) _ _ c.in_ok-token.ensures (open_kind _ (sym c.is_open.ensures ∙ c.if-is_open.true)) in
-    λ stack. c.loop-token.invariant.takes stack ∙ ap (scan c.args.depth (some_balanced ∷ stack)) front ∙ deep MAX_OIL_DEPTH c.args.depth _ _ (omega arith)
+    let prefix = front_is _ (Mark OpenBrace) _ _ c.in_ok-token.ensures (open_kind _ (sym c.is_open.ensures ∙ c.if-is_open.true)) in
+    λ stack. c.loop-token.invariant.takes stack ∙ ap (scan c.args.depth (some_balanced ∷ stack)) prefix ∙ deep MAX_OIL_DEPTH c.args.depth _ _ (omega arith)
 
 pub loop-token-smaller-then-is_open : goal.loop-token-smaller-then-is_open
 loop-token-smaller-then-is_open t c = balanced_shorter _ _ _ _ _ c.in_ok-token.ensures c.in_ok-rest.ensures

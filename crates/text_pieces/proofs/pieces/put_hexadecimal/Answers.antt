@@ -38,5 +38,5 @@ loop-left-preserved c =
 pub returns-clause-text : goal.returns-clause-text
 returns-clause-text c =
     let inv = c.loop-left.invariant in
-    c.put_front.ensures.text ∙ ap (λ t. take c.args.at c.args.buf.now ++ t)
+    c.put_prefix.ensures.text ∙ ap (λ t. take c.args.at c.args.buf.now ++ t)
     (written_front c.loop-left.digits c.loop-left.first c.loop-left.left c.hexadecimal_digit-2.result _ (hexadecimal c.args.n) c.loop-left-test.false inv.few (omega (arith, inv.size)) (omega arith) c.hexadecimal_digit-2.ensures inv.text)
