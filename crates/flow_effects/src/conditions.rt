@@ -3,7 +3,7 @@ ghost use Rattle.std.specs.Prelude.{◌≡◌, [], ◌∷◌, IfOk};
 ghost use Rattle.flow_effects.specs.Conditions.{of_task};
 
 use abstract_state::ComponentNo;
-use flow_model::{Condition, EffectCase, Test};
+use flow_model::{Condition, Test};
 use osek_values::{Memory, Seq, TaskNo};
 use std::alloc::Global;
 
@@ -24,13 +24,4 @@ pub fn if_task(alloc: Global, task: TaskNo, test: Test) -> Result<Seq<Condition>
     let mut conditions = Seq::new(alloc);
     conditions.push(of_task(task, test))?;
     Ok(conditions)
-}
-
-/// A case, alone.
-pub fn one(alloc: Global, case: EffectCase) -> Result<Seq<EffectCase>, Memory>
-    ensures { IfOk result (λ cases. cases ≡ case ∷ []) }
-{
-    let mut cases = Seq::new(alloc);
-    cases.push(case)?;
-    Ok(cases)
 }

@@ -2,9 +2,9 @@
 ghost use Rattle.std.specs.Prelude.{◌≡◌, IfOk};
 ghost use Rattle.flow_effects.specs.Moves.{stays, passes_by, onward, refuses, work_cases, choice_cases, halts};
 
-use crate::conditions::one;
 use abstract_state::Point;
 use flow_model::{Asked, EffectCase, Leaving, Runner};
+use flow_services::one;
 use osek_values::{BlockNo, Memory, Seq, Status};
 use std::alloc::Global;
 

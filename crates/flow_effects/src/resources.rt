@@ -3,10 +3,11 @@ ghost use Rattle.std.specs.Prelude.{◌≡◌, ◌<◌, ◌≤◌, [], ◌∷◌
 ghost use Rattle.flow_model.specs.Runners.{IsKnown};
 ghost use Rattle.flow_effects.specs.Resources.{restacks, only, nobody_holds, taken_cases, takes, gives_back, isnt_on_top, is_barred, get_cases, release_cases};
 
-use crate::conditions::{if_task, of_task, one};
+use crate::conditions::{if_task, of_task};
 use crate::moves::{onward, refuses};
 use abstract_state::ComponentNo;
 use flow_model::{Asked, Change, Condition, EffectCase, Leaving, Runner, Test, Update};
+use flow_services::one;
 use osek_standard::App;
 use osek_values::limits::MAX_TASKS;
 use osek_values::{BlockNo, Mask, Memory, ResNo, Seq, Status, TaskNo};

@@ -2,10 +2,10 @@
 ghost use Rattle.std.specs.Prelude.{◌≡◌, ◌<◌, length, IfOk};
 ghost use Rattle.flow_effects.specs.Returns.{goes_back, leaves_idle, return_cases, IsOverKnown};
 
-use crate::conditions::one;
 use crate::moves::stays;
 use abstract_state::Point;
 use flow_model::{Asked, EffectCase, Leaving, Runner, Stay};
+use flow_services::one;
 use osek_standard::App;
 use osek_values::{BlockNo, Memory, Seq, TaskNo};
 use std::alloc::Global;

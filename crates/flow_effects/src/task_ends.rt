@@ -3,11 +3,11 @@ ghost use Rattle.std.specs.Prelude.{◌≡◌, ◌<◌, [], ◌∷◌, ◌++◌,
 ghost use Rattle.flow_effects.specs.Conditions.{of_task as condition_of};
 ghost use Rattle.flow_effects.specs.TaskEnds.{suspends, ends, task_end_cases, refused_holding, terminate_cases, chains, holding_nothing, chain_to_itself, chain_to_another, chain_cases, schedule_cases};
 
-use crate::conditions::{if_task, of_task, one};
+use crate::conditions::{if_task, of_task};
 use crate::moves::{refuses, stays};
 use abstract_state::{ComponentNo, PartValue, Point, Val};
 use flow_model::{Asked, Change, Condition, EffectCase, Leaving, Runner, Test, Update};
-use flow_services::activating;
+use flow_services::{activating, one};
 use osek_standard::App;
 use osek_values::{BlockNo, Memory, Seq, Status, TaskNo};
 use std::alloc::Global;

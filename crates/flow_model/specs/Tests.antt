@@ -9,7 +9,7 @@ use Rattle.flow_model.specs.declared.test.{Test.{Test}, Condition.{Condition}}
 use Rattle.flow_model.specs.declared.test.Test.TheVariants as test
 use Rattle.flow_model.specs.declared.change.{Update.{Update}, Change.{Change}}
 use Rattle.flow_model.specs.declared.change.Update.TheVariants as update
-use Rattle.flow_model.specs.Values.{is_suspended_value, is_live_value, held_of, at_block, restacked, with_top, without_top}
+use Rattle.flow_model.specs.Values.{is_suspended_value, held_of, at_block, restacked, with_top, without_top}
 
 -- a test of a task's value; what is no task's passes
 abbrev pub of_task : (Val → Bool) → PartValue → Bool
@@ -29,7 +29,6 @@ passes (test.Is w) v = same_part v w
 passes (test.IsNot w) v = not (same_part v w)
 passes test.Suspended v = of_task is_suspended_value v
 passes test.NotSuspended v = of_task (λ x. not (is_suspended_value x)) v
-passes test.NotLive v = of_task (λ x. not (is_live_value x)) v
 passes (test.Holds r) v = of_task (λ x. holds (held_of x) r.0) v
 passes (test.HoldsNoneOf m) v = of_task (holds_none_of m.0) v
 passes test.HoldsSome v = of_task (λ x. not (holds_nothing x)) v

@@ -15,7 +15,6 @@ pub enum Test {
     IsNot(PartValue),
     Suspended,
     NotSuspended,
-    NotLive,
     /// The task holds this resource.
     Holds(ResNo),
     /// The task holds none of the resources whose bit is set.
@@ -50,7 +49,6 @@ impl Test {
             (Test::Suspended, PartValue::OfTask(Val::Suspended)) => true,
             (Test::Suspended, PartValue::OfTask(_)) => false,
             (Test::NotSuspended, PartValue::OfTask(Val::Suspended)) => false,
-            (Test::NotLive, PartValue::OfTask(Val::Live(_))) => false,
             (Test::Holds(resource), PartValue::OfTask(Val::Live(live))) => live.held.has(*resource),
             (Test::Holds(_), PartValue::OfTask(_)) => false,
             (Test::HoldsNoneOf(resources), PartValue::OfTask(Val::Live(live))) => {
@@ -79,7 +77,6 @@ impl Test {
             Test::IsNot(value) => Test::IsNot(value.copy()),
             Test::Suspended => Test::Suspended,
             Test::NotSuspended => Test::NotSuspended,
-            Test::NotLive => Test::NotLive,
             Test::Holds(resource) => Test::Holds(*resource),
             Test::HoldsNoneOf(resources) => Test::HoldsNoneOf(*resources),
             Test::HoldsSome => Test::HoldsSome,

@@ -10,7 +10,8 @@ use Rattle.abstract_state.specs.{Domains.{IsWithin, domain_of, domains, domains_
 use Rattle.abstract_state.proofs.{OrderLaws.{part_laws}, DomainValues.{allowed_within}, HeightLaws.{entry_height_is, height_few}}
 use Rattle.flow_model.specs.Effects.{AreAllAllowed}
 use Rattle.numbered_sets.specs.PlainTables.{row_at}
-use Rattle.flow_rules.specs.Rows.{IsFilled, IsProperRow}
+use Rattle.flow_exits.specs.Exits.{IsFilled}
+use Rattle.flow_rules.specs.Rows.{IsProperRow}
 use Rattle.std.proofs.lemmas.Bool.{cases_lt}
 use Rattle.osek_standard.specs.declared.point.Point.TheVariants as point
 use Rattle.abstract_state.specs.declared.value.PartValue.{PartValue}

@@ -60,7 +60,7 @@ pub row_proper : (app : App) → HasMasks app → (s : State) → Well app s →
 row_proper app masks s well =
     proper_row app masks (point_of s) (entry_of app s) (well_point app s well) (entry_domains app s) (entry_ascends app s)
     (λ c v lt m. subst (IsAllowed app (point_of s) c) (sym (entry_only app s c v lt m)) (well_part app s well c lt))
-    (λ c lt. (abstract_of app s c, entry_has app s c lt))
+    (λ c lt. record { value = abstract_of app s c; member = entry_has app s c lt })
 
 module _ (app : App) (mode : ModeNo) (known : mode.0 < length app.modes) where
   abbrev state : State

@@ -1,13 +1,10 @@
 -- Rows of a table, as each state has one.
-use Rattle.std.specs.Prelude.{ℕ, ◌<◌, IsTrue}
+use Rattle.std.specs.Prelude.{ℕ, IsTrue}
 use Rattle.osek_standard.specs.declared.app.App.{App}
-use Rattle.abstract_state.specs.{declared.{value.PartValue.{PartValue}, table.{PlainEntry.{PlainEntry}, TableRow.{TableRow}}}, Components.{component_count}}
+use Rattle.abstract_state.specs.{declared.{value.PartValue.{PartValue}, table.TableRow.{TableRow}}}
 use Rattle.abstract_state.specs.{Tables.{Sets, set_at, is_member}, Written.{IsRow}}
 use Rattle.flow_model.specs.Effects.{AreAllAllowed}
-
--- each component has a value
-abbrev pub IsFilled : App → PlainEntry → Type 0
-IsFilled app entry = (c : ℕ) → c < component_count app → (v : PartValue) × IsTrue (is_member (set_at entry c) v)
+use Rattle.flow_exits.specs.Exits.{IsFilled}
 
 -- A row of a proper table: its values are allowed at its point, and no set is empty.
 pub record IsProperRow (app : App) (x : TableRow) : Type 0 where

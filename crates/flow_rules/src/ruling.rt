@@ -71,54 +71,56 @@ fn add_instructions(
     let numbers = numbered(alloc, &mut grown, &from)?;
     let mut levels = Levels::new(alloc, app, &grown)?;
     let effects = effect_cases(alloc, app, point)?;
+    let ruled = Ruled {
+        app,
+        from: &from,
+        numbers: &numbers,
+    };
     for effect in effects.as_slice() {
-        add_effect(
-            alloc,
-            app,
-            effect,
-            &from,
-            &numbers,
-            &mut grown,
-            &mut levels,
-            rules,
-        )?;
+        ruled.add_effect(alloc, effect, &mut grown, &mut levels, rules)?;
     }
     Ok(())
 }
 
-// adds the rules of an effect, one for each exit
-fn add_effect(
-    alloc: Global,
-    app: &App,
-    effect: &EffectCase,
-    from: &PlainEntry,
-    entry: &NumberedEntry,
-    pool: &mut Pool,
-    levels: &mut Levels,
-    rules: &mut Seq<Rule>,
-) -> Result<(), Memory>
-    requires plain { plain_entry pool.old entry.now ≡ from.now }
-    requires numbers { AreNumbersOf pool.old entry.now }
-    requires domains { number_domains entry.now ≡ domains_of app.now }
-    requires stays { IsKnownStay app.now effect.now.leaving.stay }
-    requires kept { KeepsDomains (effect_rule effect.now) (plain_entry pool.old entry.now) }
-    requires levels { AreLevels app.now pool.old levels.old }
-    ensures pool { IsLonger pool.old pool.new }
-    ensures levels { OnOk result (AreLevels app.now pool.new levels.new) }
-    ensures added { OnOk result (AddsRulesOf app.now from.now effect.now rules.old rules.new) }
-{
-    let mut groups = Vec::new(alloc);
-    let before = BeforeEffect { app, before: entry };
-    before.push_effect(alloc, effect, pool, levels, &mut groups)?;
-    let exits = exits(alloc, pool, groups.as_slice())?;
-    let outcomes = outcomes(
-        alloc,
-        app,
-        effect.changes.as_slice(),
-        from,
-        exits.as_slice(),
-    )?;
-    add_rules(alloc, effect, outcomes.as_slice(), rules)
+/// The values before an effect, also by number.
+#[derive(Clone, Copy)]
+struct Ruled<'a> {
+    app: &'a App,
+    from: &'a PlainEntry,
+    numbers: &'a NumberedEntry,
+}
+
+impl<'a> Ruled<'a> {
+    // adds the rules of an effect, one for each exit
+    fn add_effect(
+        &self,
+        alloc: Global,
+        effect: &EffectCase,
+        pool: &mut Pool,
+        levels: &mut Levels,
+        rules: &mut Seq<Rule>,
+    ) -> Result<(), Memory>
+        requires plain { plain_entry pool.old self.now.numbers.now ≡ self.now.from.now }
+        requires numbers { AreNumbersOf pool.old self.now.numbers.now }
+        requires domains { number_domains self.now.numbers.now ≡ domains_of self.now.app.now }
+        requires stays { IsKnownStay self.now.app.now effect.now.leaving.stay }
+        requires kept { KeepsDomains (effect_rule effect.now) (plain_entry pool.old self.now.numbers.now) }
+        requires levels { AreLevels self.now.app.now pool.old levels.old }
+        ensures pool { IsLonger pool.old pool.new }
+        ensures levels { OnOk result (AreLevels self.now.app.now pool.new levels.new) }
+        ensures added { OnOk result (AddsRulesOf self.now.app.now self.now.from.now effect.now rules.old rules.new) }
+    {
+        let mut groups = Vec::new(alloc);
+        let before = BeforeEffect {
+            app: self.app,
+            before: self.numbers,
+        };
+        before.push_effect(alloc, effect, pool, levels, &mut groups)?;
+        let exits = exits(alloc, pool, groups.as_slice())?;
+        let changes = effect.changes.as_slice();
+        let outcomes = outcomes(alloc, self.app, changes, self.from, exits.as_slice())?;
+        add_rules(alloc, effect, outcomes.as_slice(), rules)
+    }
 }
 
 // what the scheduler does, one case for each exit, by the values before the changes

@@ -8,5 +8,6 @@ mod occasion;
 mod services;
 mod tasks;
 
+pub use occasion::one;
 pub use services::{is_service, service_cases};
 pub use tasks::activating;

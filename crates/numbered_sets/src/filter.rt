@@ -161,7 +161,6 @@ fn is_test(test: &Test, other: &Test) -> bool
     match (test, other) {
         (Test::Suspended, Test::Suspended) => true,
         (Test::NotSuspended, Test::NotSuspended) => true,
-        (Test::NotLive, Test::NotLive) => true,
         (Test::Holds(resource), Test::Holds(wanted)) => resource.0 == wanted.0,
         (Test::HoldsNoneOf(resources), Test::HoldsNoneOf(barred)) => resources.0 == barred.0,
         (Test::HoldsSome, Test::HoldsSome) => true,
@@ -179,7 +178,6 @@ fn slot_of(test: &Test) -> usize
     match test {
         Test::Suspended | Test::Is(_) | Test::IsNot(_) => 0,
         Test::NotSuspended => 1,
-        Test::NotLive => 2,
         Test::HoldsSome => 3,
         Test::HoldsNothing => 4,
         Test::Holds(resource) => 5 + resource.0 as usize % 8,

@@ -10,7 +10,7 @@ use Rattle.numbered_sets.specs.{declared.numbered_entry.NumberedEntry.{NumberedE
 use Rattle.numbered_sets.specs.{Pools.{Values, values_at, pool_domains, IsLonger}, Views.{values_with, plain_entry, AreNumbersOf}}
 use Rattle.numbered_sets.proofs.{PlainLaws.{ascending_in_order, plain_set_at}, ViewLaws.{same_domains}}
 use Rattle.numbered_sets.specs.PlainTables.{row_at}
-use Rattle.flow_exits.specs.{declared.exit.Exit.{Exit}, Exits.{IsFilled, AreExact}, Leaving.{AreExits}}
+use Rattle.flow_exits.specs.{declared.exit.Exit.{Exit}, Exits.{AreExact}, Leaving.{AreExits}}
 use Rattle.flow_exits.proofs.Covering.{exits_cover, exits_shown}
 use Rattle.flow_rules.specs.declared.group.{NumberEnd.{NumberEnd}, Ends.{Ends}, ExitGroup.{ExitGroup}}
 use Rattle.flow_rules.specs.declared.group.Ends.TheVariants as ends
@@ -61,19 +61,16 @@ module _ (app : App) (masks : HasMasks app) (p : Point) (pool : List Values) (en
   pub its_domains : number_domains entry ≡ domains_of app
   its_domains = sym (same_domains pool 0 entry.sets) ∙ proper.row.domains
 
-  plainly_filled : IsFilled app (plain_entry pool entry)
-  plainly_filled c lt = (let some = proper.filled c lt in record { value = some.0; member = some.1 })
-
   -- each set has a number
   pub numbers_filled : AreFilled entry
-  numbers_filled = filled_numbers app pool entry its_domains plainly_filled
+  numbers_filled = filled_numbers app pool entry its_domains proper.filled
 
   module _ (after : List Values) (longer : IsLonger pool after) (groups : List ExitGroup) (known : AreKnownGroups after groups) (are : AreExits app p (plain_entry pool entry) (all_exits after groups)) where
     after_domains : pool_domains after ≡ domains_of app
     after_domains = longer.domains ∙ sym numbers.domains ∙ its_domains
 
     exact : AreExact app p (plain_entry pool entry) (all_exits after groups)
-    exact = exits_shown app p (plain_entry pool entry) (all_exits after groups) proper.row.point are proper.allowed plainly_filled
+    exact = exits_shown app p (plain_entry pool entry) (all_exits after groups) proper.row.point are proper.allowed proper.filled
 
     pub rows_lead : Leads app p (plain_entry pool entry) (all_rows after groups)
     rows_lead = subst (Leads app p (plain_entry pool entry)) (rows_of_exits after groups)

@@ -12,7 +12,7 @@ use Rattle.abstract_state.proofs.AllowedLaws.{well_point, well_part}
 use Rattle.flow_model.specs.Effects.{AreAllAllowed, IsAt}
 use Rattle.numbered_sets.specs.PlainTables.{row_at}
 use Rattle.flow_exits.specs.{declared.exit.Exit.{Exit}, Exits.{CoverSteps, IsStepTo, IsExact, AreExact}}
-use Rattle.flow_rules.specs.Rows.{IsFilled, IsProperRow, IsRowIn}
+use Rattle.flow_rules.specs.Rows.{IsProperRow, IsRowIn}
 use Rattle.state_flow.specs.Reaching.{IsLed, IsReached, Leads}
 use Rattle.flow_rules.proofs.ProperRows.{set_known, proper_row}
 
@@ -76,9 +76,6 @@ module _ (app : App) (p : Point) (entry : PlainEntry) (x : Exit) (exact : IsExac
       subst (IsAllowed app x.target c) r.value
       (subst (λ (q : Point). IsAllowed app q c (abstract_of app s c)) r.target (well_part app s (step_keeps app r.from r.event r.at.well) c lt))
 
-  values_filled : IsFilled app x.entry
-  values_filled c lt = (let some = exact.filled c lt in (some.value, some.member))
-
   -- what an inductive table has of the entry's point, it has of the exit
   module _ (other : Sets) (inductive : Inductive app other) (has : IsRowIn other (row_at p entry)) where
     at_in : (s : State) → IsAt app p entry s → In app other s
@@ -102,7 +99,7 @@ module _ (app : App) (p : Point) (entry : PlainEntry) (x : Exit) (exact : IsExac
 
   module _ (masks : HasMasks app) (ordered : IsOrdered app x) where
     proper_exit : IsProperRow app (exit_row x)
-    proper_exit = proper_row app masks x.target x.entry target_point ordered.0 ordered.1 values_allowed values_filled
+    proper_exit = proper_row app masks x.target x.entry target_point ordered.0 ordered.1 values_allowed exact.filled
 
     exit_reached : IsReached app p entry (exit_row x)
     exit_reached = record {

@@ -47,7 +47,7 @@ module _ (app : App) (cells : List (Cell PlainEntry)) (row : TableRow) (proper_c
             | inl before ↦ subst (λ (q : Point). IsAllowed app q c v) (sym x.raised.point) (old.allowed c v lt before)
             | inr new ↦ subst (λ (q : Point). IsAllowed app q c v) (sym (x.raised.point ∙ x.at)) (proper.allowed c v lt new)
           ];
-          filled = λ c lt. let f = old.filled c lt in (f.0, x.raised.grows.each c f.0 f.1);
+          filled = λ c lt. let f = old.filled c lt in record { value = f.value; member = x.raised.grows.each c f.value f.member };
         }
 
     -- a new cell stands for the row

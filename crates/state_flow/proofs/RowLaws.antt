@@ -115,7 +115,7 @@ module _ (app : App) (cells : List (Cell PlainEntry)) (proper_cells : AreProperC
     filled = λ p c e lt.
         let x = entry_cell cells p e in
         let f = (proper_cells.each x.cell x.among).filled c lt in
-        (f.0, subst (λ (q : Point). IsTrue ((sets_in cells).has q c f.0)) x.at (cell_value cells x.cell c f.0 x.among f.1));
+        (f.value, subst (λ (q : Point). IsTrue ((sets_in cells).has q c f.value)) x.at (cell_value cells x.cell c f.value x.among f.member));
   }
 
   pub written : IsWritten app (table_of cells)

@@ -6,18 +6,18 @@ use Rattle.flow_model.specs.declared.{case.OutcomeCase.{OutcomeCase}, change.Cha
 use Rattle.numbered_sets.proofs.ViewLaws.{same_domains}
 use Rattle.flow_rules.specs.{Assembly.{rule_of}, declared.group.ExitGroup.{ExitGroup}, Groups.{all_exits}, Leaving.{AddsEffects}, Ruling.{outcomes_by}}
 use Rattle.flow_rules.proofs.RuledExits.{exits_ruled}
-use Rattle.flow_rules.proofs.ruling.add_effect.Goals as goal
+use Rattle.flow_rules.proofs.ruling.Ruled.add_effect.Goals as goal
 
 pub outcomes-requires : goal.outcomes-requires
-outcomes-requires c = ap domains (sym c.requires.plain) ∙ same_domains c.args.pool.now 0 c.args.entry.now.sets ∙ c.requires.domains
+outcomes-requires c = ap domains (sym c.requires.plain) ∙ same_domains c.args.pool.now 0 c.args.self.now.numbers.now.sets ∙ c.requires.domains
 
 pub exits-requires : goal.exits-requires
 exits-requires c = λ g m. c.in_ok-push_effect.ensures.added.known g (subst (λ (gs : List ExitGroup). Contains gs g) c.as_slice.ensures.value m)
 
 pub returns-clause-added : goal.returns-clause-added
 returns-clause-added c =
-    let app = c.args.app.now in
-    let from = c.args.from.now in
+    let app = c.args.self.now.app.now in
+    let from = c.args.self.now.from.now in
     let effect = c.args.effect.now in
     let before = c.args.rules.now in
     let pool = c.args.pool.now in
