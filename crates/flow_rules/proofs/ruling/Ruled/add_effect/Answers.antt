@@ -27,8 +27,8 @@ returns-clause-added c =
     let h : AddsEffects app from (effect ∷ []) pool [] after groups =
     subst (λ (gs : List ExitGroup). AddsEffects app from (effect ∷ []) pool gs after groups) c.new-groups.ensures.items
     (subst (λ (e : PlainEntry). AddsEffects app e (effect ∷ []) pool c.new-groups.result.items after groups) c.requires.plain c.in_ok-push_effect.ensures.added) in
-    let cases_are : c.as_slice-4.result.now ≡ flat_map (outcomes_by app effect.changes from) exits =
-    c.as_slice-4.ensures ∙ c.in_ok-outcomes.ensures ∙ ap (λ (xs : List Change). flat_map (outcomes_by app xs from) c.as_slice-3.result.now) c.as_slice-2.ensures ∙ ap (flat_map (outcomes_by app effect.changes from)) c.as_slice-3.ensures in
+    let cases_are : c.as_slice-3.result.now ≡ flat_map (outcomes_by app effect.changes from) exits =
+    c.as_slice-3.ensures ∙ c.in_ok-outcomes.ensures ∙ ap (λ (xs : List Change). flat_map (outcomes_by app xs from) c.as_slice-2.result.now) c.as_slice-changes.ensures ∙ ap (flat_map (outcomes_by app effect.changes from)) c.as_slice-2.ensures in
     on_ok_weaker c.add_rules.result
     (λ added. exits_ruled app from effect pool after groups exits before c.add_rules.new.rules h (c.in_ok-exits.ensures ∙ ap (all_exits after) c.as_slice.ensures.value)
     (added ∙ ap (λ (xs : List OutcomeCase). before ++ map (rule_of effect) xs) cases_are)) c.add_rules.ensures
