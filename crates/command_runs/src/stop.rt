@@ -4,7 +4,7 @@ use osek_values::Refusal;
 use trace_text::FaultyLine;
 
 /// A file that a command reads.
-#[derive(Clone, Copy, PartialEq, Eq, Debug)]
+#[derive(Clone, Copy)]
 pub enum Input {
     Oil,
     Code,
@@ -13,7 +13,7 @@ pub enum Input {
 }
 
 /// Why a command stops, each with a status and a text on err of its own.
-#[derive(Clone, Copy, PartialEq, Eq, Debug)]
+#[derive(Drop)]
 pub enum Stop {
     /// The OIL text or the task code has this first fault.
     Refused(Refusal),
