@@ -14,4 +14,4 @@ seen (command.Gen seed tasks) = words.Gen seed tasks
 seen (command.Upgrade image upgraded) = words.Upgrade image.now upgraded.now
 
 abbrev pub seen_names : Names → names.Names
-seen_names n = record { oil = n.oil.now; code = n.code.now; image = n.image.now; mode = n.mode.now; events = n.events.now; output = n.output.now }
+seen_names n = record { oil = n.oil.now; code = n.code.now; image = n.image.now; upgraded = n.upgraded.now; mode = n.mode.now; events = n.events.now }

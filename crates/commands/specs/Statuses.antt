@@ -9,7 +9,7 @@ use Rattle.command_runs.specs.declared.stop.{Input.{Input}, Stop.{Stop}}
 use Rattle.command_runs.specs.declared.stop.Input.TheVariants as input
 use Rattle.command_runs.specs.declared.stop.Stop.TheVariants as stop
 use Rattle.command_runs.specs.Telling.{fault_text}
-use Rattle.commands.specs.{Names.{Names, input_name, names_of}, Words.{Command}}
+use Rattle.commands.specs.{Names.{Names, input_name, output_name, names_of}, Words.{Command}}
 
 abbrev pub stop_status : Stop → ℕ
 stop_status (stop.Refused r) = 1
@@ -17,7 +17,7 @@ stop_status stop.Usage = 2
 stop_status (stop.Image f) = 3
 stop_status (stop.Events f) = 4
 stop_status (stop.Unread i) = 5
-stop_status stop.Unstored = 6
+stop_status (stop.Unstored o) = 6
 stop_status stop.Unprinted = 6
 stop_status stop.Memory = 7
 stop_status stop.Trapped = 8
@@ -40,7 +40,7 @@ stop_text names stop.Usage = codes "usage" ++ codes "\n"
 stop_text names (stop.Image f) = fault_text names.image f.offset (image_rule_name f.rule)
 stop_text names (stop.Events f) = fault_text names.events f.line (event_fault_name f.rule)
 stop_text names (stop.Unread i) = input_name names i ++ codes ": read\n"
-stop_text names stop.Unstored = names.output ++ codes ": write\n"
+stop_text names (stop.Unstored o) = output_name names o ++ codes ": write\n"
 stop_text names stop.Unprinted = codes "out" ++ codes ": write\n"
 stop_text names stop.Memory = codes "memory" ++ codes "\n"
 stop_text names stop.Trapped = []

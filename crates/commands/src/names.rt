@@ -1,41 +1,74 @@
 //! What the words of a command name.
 ghost use Rattle.std.specs.Prelude.{◌≡◌, option_map};
-ghost use Rattle.commands.specs.{Names.{no_names, command_names, names_of as the_names, input_name}, Seen.{seen, seen_names}};
+ghost use Rattle.commands.specs.{Names.{command_names, names_of as the_names, input_name, output_name}, Seen.{seen, seen_names}};
 
 use crate::words::Command;
-use command_runs::Input;
+use command_runs::{Input, Output};
 
-/// The words that name the inputs of a command, the mode, and the file that it writes; each is empty where there is none.
+/// A field for each kind of word that names something: the word, or an empty one where the command has none of the kind.
 #[derive(Clone, Copy)]
 pub struct Names<'a> {
     pub oil: &'a str,
     pub code: &'a str,
     pub image: &'a str,
+    pub upgraded: &'a str,
     pub mode: &'a str,
     pub events: &'a str,
-    pub output: &'a str,
 }
 
 const NO_NAMES: Names<'static> = Names {
     oil: "",
     code: "",
     image: "",
+    upgraded: "",
     mode: "",
     events: "",
-    output: "",
 };
 
 fn command_names_of<'a>(command: &Command<'a>) -> Names<'a>
     ensures { seen_names result ≡ command_names (seen command.now) }
 {
     match command {
-        Command::Build { oil, code, image } => Names { oil, code, output: image, ..NO_NAMES },
-        Command::Replay { image, mode, events } => Names { image, mode, events, ..NO_NAMES },
-        Command::Trace { oil, code, mode, events } => Names { oil, code, mode, events, ..NO_NAMES },
-        Command::Show { oil, code } => Names { oil, code, ..NO_NAMES },
+        Command::Build { oil, code, image } => Names {
+            oil,
+            code,
+            image,
+            ..NO_NAMES
+        },
+        Command::Replay {
+            image,
+            mode,
+            events,
+        } => Names {
+            image,
+            mode,
+            events,
+            ..NO_NAMES
+        },
+        Command::Trace {
+            oil,
+            code,
+            mode,
+            events,
+        } => Names {
+            oil,
+            code,
+            mode,
+            events,
+            ..NO_NAMES
+        },
+        Command::Show { oil, code } => Names {
+            oil,
+            code,
+            ..NO_NAMES
+        },
         Command::Info { image } => Names { image, ..NO_NAMES },
         Command::Gen { seed: _, tasks: _ } => NO_NAMES,
-        Command::Upgrade { image, upgraded } => Names { image, output: upgraded, ..NO_NAMES },
+        Command::Upgrade { image, upgraded } => Names {
+            image,
+            upgraded,
+            ..NO_NAMES
+        },
     }
 }
 
@@ -59,6 +92,16 @@ impl<'a> Names<'a> {
             Input::Code => self.code,
             Input::Image => self.image,
             Input::Events => self.events,
+        }
+    }
+
+    /// The word that names a file that is written.
+    pub fn output(&self, output: Output) -> &'a str
+        ensures { result.now ≡ output_name (seen_names self.now) output }
+    {
+        match output {
+            Output::Image => self.image,
+            Output::Upgraded => self.upgraded,
         }
     }
 }

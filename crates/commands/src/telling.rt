@@ -23,7 +23,7 @@ fn status(stop: &Stop) -> u8
         Stop::Image(_) => 3,
         Stop::Events(_) => 4,
         Stop::Unread(_) => 5,
-        Stop::Unstored => UNWRITTEN,
+        Stop::Unstored(_) => UNWRITTEN,
         Stop::Unprinted => UNWRITTEN,
         Stop::Memory => 7,
         Stop::Trapped => 8,
@@ -73,13 +73,25 @@ fn tell_stop<E: Sink>(err: &mut E, names: &Names<'_>, stop: &Stop) -> Result<(),
         }
         Stop::Usage => put_two(err, b"usage", b"\n"),
         Stop::Image(fault) => {
-            tell_fault_in(err, names, Input::Image, fault.offset as u64, fault.rule.name())
+            tell_fault_in(
+                err,
+                names,
+                Input::Image,
+                fault.offset as u64,
+                fault.rule.name(),
+            )
         }
         Stop::Events(fault) => {
-            tell_fault_in(err, names, Input::Events, fault.line as u64, fault.rule.name())
+            tell_fault_in(
+                err,
+                names,
+                Input::Events,
+                fault.line as u64,
+                fault.rule.name(),
+            )
         }
         Stop::Unread(input) => tell_of(err, names.input(*input), b": read\n"),
-        Stop::Unstored => tell_of(err, names.output, b": write\n"),
+        Stop::Unstored(output) => tell_of(err, names.output(*output), b": write\n"),
         Stop::Unprinted => put_two(err, b"out", b": write\n"),
         Stop::Memory => put_two(err, b"memory", b"\n"),
         Stop::Trapped => Ok(()),
