@@ -7,8 +7,8 @@ use Rattle.commands.proofs.telling.refuse.Goals as goal
 
 pub returns-in-Ok : goal.returns-in-Ok
 returns-in-Ok g c =
-    inl (c.status.ensures, subst (λ (n : Names). TellsText (sunk g.E.Sink c.args.err.now) (sunk g.E.Sink c.tell_stop.new.err) (stop_text n c.args.stop.now) (Ok tt)) c.names_of.ensures c.in-Ok.ensures)
+    inl (c.status.ensures, subst (λ (n : Names). TellsText (sunk g.E.Sink c.args.err.now) (sunk g.E.Sink c.tell_stop.new.err) (stop_text n c.args.stop.now) (Ok tt)) c.names_of-names.ensures c.in-Ok.ensures)
 
 pub returns-in-Err-Write : goal.returns-in-Err-Write
 returns-in-Err-Write g c =
-    inr (refl, subst (λ (n : Names). Breaks (sunk g.E.Sink c.args.err.now) (sunk g.E.Sink c.tell_stop.new.err) (stop_text n c.args.stop.now)) c.names_of.ensures c.in-Err-Write.ensures)
+    inr (refl, subst (λ (n : Names). Breaks (sunk g.E.Sink c.args.err.now) (sunk g.E.Sink c.tell_stop.new.err) (stop_text n c.args.stop.now)) c.names_of-names.ensures c.in-Err-Write.ensures)

@@ -7,7 +7,7 @@ pub returns-in-Trapped : goal.returns-in-Trapped
 returns-in-Trapped g c = rw c.in-Trapped.is (refl, grown-nil (g.E.Sink.written c.args.err.now))
 
 pub returns-in-Refused : goal.returns-in-Refused
-returns-in-Refused g c = rw c.in-Refused.is (rw (c.text_input.ensures, c.name.ensures) at c.tell_fault_in.ensures)
+returns-in-Refused g c = rw c.in-Refused.is (rw (c.text_input-input.ensures, c.name.ensures) at c.tell_fault_in.ensures)
 
 pub returns-in-Image : goal.returns-in-Image
 returns-in-Image g c = rw c.in-Image.is (rw c.name-in-Image.ensures at c.tell_fault_in-in-Image.ensures)
