@@ -4,6 +4,7 @@ use Rattle.image_model.specs.{declared.image.{Image.{Image}, Version.TheVariants
 use Rattle.image_codec.specs.Spelling.{spelling}
 use Rattle.osek_io.specs.{Counts.{Rose}, Files.{with_file}, Stored.{StoresProperPrefix}}
 use Rattle.command_runs.specs.{Outside.{Outside, SameFiles}, Replaying.{OfImage, ImageStops}, declared.stop.Stop.{Stop}}
+use Rattle.command_runs.specs.declared.stop.Output.TheVariants as output
 use Rattle.command_runs.specs.declared.stop.Stop.TheVariants as stop
 
 -- the bytes of what becomes of an image that is upgraded
@@ -25,5 +26,5 @@ module _ (before after : Outside) (upgraded : List ℕ) where
 pub data UpgradeAnswers (before after : Outside) (image upgraded : List ℕ) : Result (Unit {0}) Stop → Type 0 where
   stops : (s : Stop) → ImageStops before.shelf after.shelf image s → SameFiles before.shelf after.shelf → UpgradeAnswers before after image upgraded (Err s)
   already : OfImage before.shelf.files image (λ i. i.version ≡ Two) → SameFiles before.shelf after.shelf → UpgradeAnswers before after image upgraded (Err stop.AlreadyNew)
-  fails : Rose before.shelf.writes after.shelf.writes → OfImage before.shelf.files image (StoresUpgradedPrefix before after upgraded) → UpgradeAnswers before after image upgraded (Err stop.Unstored)
+  fails : Rose before.shelf.writes after.shelf.writes → OfImage before.shelf.files image (StoresUpgradedPrefix before after upgraded) → UpgradeAnswers before after image upgraded (Err (stop.Unstored output.Upgraded))
   stores : after.shelf.writes ≡ before.shelf.writes → OfImage before.shelf.files image (StoresUpgraded before after upgraded) → UpgradeAnswers before after image upgraded (Ok tt)

@@ -4,7 +4,7 @@ use osek_values::Refusal;
 use trace_text::FaultyLine;
 
 /// A file that a command reads.
-#[derive(Clone, Copy, PartialEq, Eq, Debug)]
+#[derive(Clone, Copy)]
 pub enum Input {
     Oil,
     Code,
@@ -12,8 +12,17 @@ pub enum Input {
     Events,
 }
 
+/// A file that a command writes.
+#[derive(Clone, Copy)]
+pub enum Output {
+    /// The image that `build` makes.
+    Image,
+    /// The image that `upgrade` makes.
+    Upgraded,
+}
+
 /// Why a command stops, each with a status and a text on err of its own.
-#[derive(Clone, Copy, PartialEq, Eq, Debug)]
+#[derive(Drop)]
 pub enum Stop {
     /// The OIL text or the task code has this first fault.
     Refused(Refusal),
@@ -25,8 +34,8 @@ pub enum Stop {
     Events(FaultyLine),
     /// The input can't be read, or isn't there.
     Unread(Input),
-    /// The image that is made can't be written.
-    Unstored,
+    /// The output can't be written.
+    Unstored(Output),
     /// What the command prints can't be written.
     Unprinted,
     Memory,

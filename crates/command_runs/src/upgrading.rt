@@ -7,7 +7,7 @@ ghost use Rattle.command_runs.specs.{Outside.{beside, told}, Upgrading.{SpellsUp
 ghost use Rattle.command_runs.specs.declared.stop.Stop.TheVariants as a_stop;
 
 use crate::replaying::load_image;
-use crate::stop::Stop;
+use crate::stop::{Output, Stop};
 use image_codec::encode;
 use image_model::Image;
 use osek_io::{PutError, Shelf, store};
@@ -60,6 +60,6 @@ pub fn upgrade<F: Shelf>(
     };
     match store(shelf, upgraded, &bytes) {
         Ok(()) => Ok(()),
-        Err(PutError::Write) => Err(Stop::Unstored),
+        Err(PutError::Write) => Err(Stop::Unstored(Output::Upgraded)),
     }
 }

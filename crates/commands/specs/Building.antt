@@ -6,6 +6,7 @@ use Rattle.image_codec.specs.Spelling.{spelling}
 use Rattle.osek_io.specs.{Counts.{Rose}, Files.{with_file}, Stored.{StoresProperPrefix}}
 use Rattle.commands.specs.{Compiling.{OfApp, CompileStops}, Fitting.{IsFitted}}
 use Rattle.command_runs.specs.{Outside.{Outside, SameFiles}, declared.stop.Stop.{Stop}}
+use Rattle.command_runs.specs.declared.stop.Output.TheVariants as output
 use Rattle.command_runs.specs.declared.stop.Stop.TheVariants as stop
 
 -- the bytes of the image that is fitted to the application
@@ -26,5 +27,5 @@ module _ (before after : Outside) (image : List ℕ) where
 -- `build` stops at the texts and writes no file; a write fails; or it is done.
 pub data BuildAnswers (before after : Outside) (oil code image : List ℕ) : Result (Unit {0}) Stop → Type 0 where
   stops : (s : Stop) → CompileStops before.shelf after.shelf oil code s → SameFiles before.shelf after.shelf → BuildAnswers before after oil code image (Err s)
-  fails : Rose before.shelf.writes after.shelf.writes → OfApp before.shelf.files oil code (StoresPrefix before after image) → BuildAnswers before after oil code image (Err stop.Unstored)
+  fails : Rose before.shelf.writes after.shelf.writes → OfApp before.shelf.files oil code (StoresPrefix before after image) → BuildAnswers before after oil code image (Err (stop.Unstored output.Image))
   stores : after.shelf.writes ≡ before.shelf.writes → OfApp before.shelf.files oil code (Stores before after image) → BuildAnswers before after oil code image (Ok tt)

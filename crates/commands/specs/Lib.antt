@@ -8,6 +8,7 @@ pub mod Generating
 pub mod Informing
 pub mod KeptTexts
 pub mod Laws
+pub mod Names
 pub mod OneText
 pub mod Printing
 pub mod Seen

@@ -1,6 +1,7 @@
--- A command of the code as the definitions see it: the bytes of its words.
+-- A command of the code, and what it names, as the definitions see them: the bytes of the words.
+use Rattle.commands.specs.Names as names
 use Rattle.commands.specs.Words as words
-use Rattle.commands.specs.declared.words.Command.{Command}
+use Rattle.commands.specs.declared.{names.Names.{Names}, words.Command.{Command}}
 use Rattle.commands.specs.declared.words.Command.TheVariants as command
 
 abbrev pub seen : Command → words.Command
@@ -11,3 +12,6 @@ seen (command.Show oil code) = words.Show oil.now code.now
 seen (command.Info image) = words.Info image.now
 seen (command.Gen seed tasks) = words.Gen seed tasks
 seen (command.Upgrade image upgraded) = words.Upgrade image.now upgraded.now
+
+abbrev pub seen_names : Names → names.Names
+seen_names n = record { oil = n.oil.now; code = n.code.now; image = n.image.now; upgraded = n.upgraded.now; mode = n.mode.now; events = n.events.now }

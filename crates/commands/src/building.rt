@@ -7,7 +7,7 @@ ghost use Rattle.command_runs.specs.Outside.{beside, told};
 
 use crate::compiling::compile;
 use crate::fitting::{fitted, least_table};
-use command_runs::Stop;
+use command_runs::{Output, Stop};
 use image_codec::encode;
 use image_model::Image;
 use osek_io::{PutError, Shelf, store};
@@ -56,6 +56,6 @@ pub fn build<F: Shelf>(
     };
     match store(shelf, image, &bytes) {
         Ok(()) => Ok(()),
-        Err(PutError::Write) => Err(Stop::Unstored),
+        Err(PutError::Write) => Err(Stop::Unstored(Output::Image)),
     }
 }

@@ -8,6 +8,7 @@ mod generating;
 mod informing;
 mod kept_text;
 mod laws;
+mod names;
 mod printing;
 mod ranges;
 mod showing;

@@ -1,14 +1,13 @@
 //! The words of the command line.
 ghost use Rattle.std.specs.{Prelude.{◌≡◌, ◌∷◌, [], ℕ, List, IfOk, map, option_map}, Borrow.{Bor}, String.{string_bytes}};
-ghost use Rattle.commands.specs.{Words.{command_of, gen_of as the_gen_of, command_of_words as the_command_of_words, input_name, output_name, mode_name}, Seen.{seen}};
+ghost use Rattle.commands.specs.{Words.{command_of, gen_of as the_gen_of, command_of_words as the_command_of_words}, Seen.{seen}};
 
-use command_runs::Input;
 use command_words::{has_form, parse_words, seed_of, tasks_of};
 use osek_values::Memory;
 use std::alloc::Global;
 
 /// What the words ask for. Each name is the word as it was given.
-#[derive(Clone, Copy, Debug)]
+#[derive(Clone, Copy)]
 pub enum Command<'a> {
     /// `build OIL CODE IMAGE`
     Build {
@@ -48,123 +47,6 @@ pub enum Command<'a> {
         image: &'a str,
         upgraded: &'a str,
     },
-}
-
-/// The word that names an input; empty where the command has none of the kind.
-pub fn input_name<'a>(command: &Command<'a>, input: Input) -> &'a str
-    ensures { result.now ≡ input_name (seen command.now) input }
-{
-    match command {
-        Command::Build {
-            oil,
-            code,
-            image: _,
-        } => match input {
-            Input::Oil => oil,
-            Input::Code => code,
-            Input::Image => "",
-            Input::Events => "",
-        },
-        Command::Replay {
-            image,
-            mode: _,
-            events,
-        } => match input {
-            Input::Oil => "",
-            Input::Code => "",
-            Input::Image => image,
-            Input::Events => events,
-        },
-        Command::Trace {
-            oil,
-            code,
-            mode: _,
-            events,
-        } => match input {
-            Input::Oil => oil,
-            Input::Code => code,
-            Input::Image => "",
-            Input::Events => events,
-        },
-        Command::Show { oil, code } => match input {
-            Input::Oil => oil,
-            Input::Code => code,
-            Input::Image => "",
-            Input::Events => "",
-        },
-        Command::Info { image } => match input {
-            Input::Oil => "",
-            Input::Code => "",
-            Input::Image => image,
-            Input::Events => "",
-        },
-        Command::Gen { seed: _, tasks: _ } => "",
-        Command::Upgrade { image, upgraded: _ } => match input {
-            Input::Oil => "",
-            Input::Code => "",
-            Input::Image => image,
-            Input::Events => "",
-        },
-    }
-}
-
-/// The word that names the file that is written; empty where the command writes none.
-pub fn output_name<'a>(command: &Command<'a>) -> &'a str
-    ensures { result.now ≡ output_name (seen command.now) }
-{
-    match command {
-        Command::Build {
-            oil: _,
-            code: _,
-            image,
-        } => image,
-        Command::Replay {
-            image: _,
-            mode: _,
-            events: _,
-        } => "",
-        Command::Trace {
-            oil: _,
-            code: _,
-            mode: _,
-            events: _,
-        } => "",
-        Command::Show { oil: _, code: _ } => "",
-        Command::Info { image: _ } => "",
-        Command::Gen { seed: _, tasks: _ } => "",
-        Command::Upgrade { image: _, upgraded } => upgraded,
-    }
-}
-
-/// The word that names the mode; empty where the command has none.
-pub fn mode_name<'a>(command: &Command<'a>) -> &'a str
-    ensures { result.now ≡ mode_name (seen command.now) }
-{
-    match command {
-        Command::Build {
-            oil: _,
-            code: _,
-            image: _,
-        } => "",
-        Command::Replay {
-            image: _,
-            mode,
-            events: _,
-        } => mode,
-        Command::Trace {
-            oil: _,
-            code: _,
-            mode,
-            events: _,
-        } => mode,
-        Command::Show { oil: _, code: _ } => "",
-        Command::Info { image: _ } => "",
-        Command::Gen { seed: _, tasks: _ } => "",
-        Command::Upgrade {
-            image: _,
-            upgraded: _,
-        } => "",
-    }
 }
 
 fn gen_of<'a>(seed: Option<u64>, tasks: Option<u32>) -> Option<Command<'a>>

@@ -7,7 +7,7 @@ pub returns-in-Trapped : goal.returns-in-Trapped
 returns-in-Trapped g c = rw c.in-Trapped.is (refl, grown-nil (g.E.Sink.written c.args.err.now))
 
 pub returns-in-Refused : goal.returns-in-Refused
-returns-in-Refused g c = rw c.in-Refused.is (rw (c.text_input.ensures, c.name.ensures) at c.tell_fault_in.ensures)
+returns-in-Refused g c = rw c.in-Refused.is (rw (c.text_input-input.ensures, c.name.ensures) at c.tell_fault_in.ensures)
 
 pub returns-in-Image : goal.returns-in-Image
 returns-in-Image g c = rw c.in-Image.is (rw c.name-in-Image.ensures at c.tell_fault_in-in-Image.ensures)
@@ -19,10 +19,10 @@ pub returns-in-Usage : goal.returns-in-Usage
 returns-in-Usage g c = rw c.in-Usage.is c.put_two.ensures
 
 pub returns-in-Unread : goal.returns-in-Unread
-returns-in-Unread g c = rw c.in-Unread.is c.tell_of.ensures
+returns-in-Unread g c = rw c.in-Unread.is (rw c.input.ensures at c.tell_of.ensures)
 
 pub returns-in-Unstored : goal.returns-in-Unstored
-returns-in-Unstored g c = rw c.in-Unstored.is c.tell_output.ensures
+returns-in-Unstored g c = rw c.in-Unstored.is (rw c.output.ensures at c.tell_of-in-Unstored.ensures)
 
 pub returns-in-Unprinted : goal.returns-in-Unprinted
 returns-in-Unprinted g c = rw c.in-Unprinted.is (c.put_two-in-Unprinted.ensures)
@@ -31,7 +31,7 @@ pub returns-in-Memory : goal.returns-in-Memory
 returns-in-Memory g c = rw c.in-Memory.is (c.put_two-in-Memory.ensures)
 
 pub returns-in-NoMode : goal.returns-in-NoMode
-returns-in-NoMode g c = rw c.in-NoMode.is c.tell_mode.ensures
+returns-in-NoMode g c = rw c.in-NoMode.is (c.tell_of-in-NoMode.ensures)
 
 pub returns-in-AlreadyNew : goal.returns-in-AlreadyNew
 returns-in-AlreadyNew g c = rw c.in-AlreadyNew.is (c.tell_of-in-AlreadyNew.ensures)
