@@ -106,13 +106,17 @@ class Analysis(TableSteps):
                 seen.add(value)
             self.waiting.append(point)
 
-    def solve(self):
-        """Lets the table grow until the steps of all its states stay in it. Each state is asked once."""
+    def solve(self, most=None):
+        """Lets the table grow until the steps of all its states stay in it. Each state is asked once; None where more than `most` were."""
+        asked = 0
         while self.waiting:
             point = self.waiting.pop()
             done = self.done.setdefault(point, set())
-            for values in list(itertools.product(*self.table[point])):
+            for values in itertools.product(*map(list, self.table[point])):
                 if values not in done:
+                    asked += 1
+                    if most is not None and asked > most:
+                        return None
                     done.add(values)
                     for step in self.steps_of(self.state_of(point, values)):
                         self.join(step.state)
