@@ -267,7 +267,8 @@ def try_image(rng, trial, texts, others, knows):
 
 
 def try_certificate(rng, trial, texts, others, knows):
-    """A changed table, or a changed image beside its table: a refusal of either, a denial, or a yes of an image that doesn't trap."""
+    """A changed table, or a changed image beside its table, or the table of a changed text: a refusal of image or table, a denial, or a yes of
+    an image that doesn't trap."""
     for k, name in enumerate(('a.oil', 'a.code', 'a.events')):
         trial.put(name, texts[k])
     certified = trial.run(['certify', 'a.oil', 'a.code', 'a.image', 'a.table'], 'a.image', 'a.table')
@@ -276,9 +277,14 @@ def try_certificate(rng, trial, texts, others, knows):
         raise Fault('certify (status %d) stores another image than build (status %d)' % (certified.status, built.status))
     if trial.run(['check', 'a.image', 'a.table']).out != b'yes\n':
         raise Fault('check denies what certify stored')
-    name = rng.choice(['a.image', 'a.table', 'a.table', 'a.table'])
+    name = rng.choice(['a.image', 'a.table', 'a.oil', 'a.code'])
     data = trial.get(name)
-    trial.put(name, image_changes(rng, data, [data]))
+    if name in ('a.image', 'a.table'):
+        trial.put(name, image_changes(rng, data, [data]))
+    else:
+        trial.put(name, text_changes(rng, data, others[name == 'a.code']))
+        if trial.run(['certify', 'a.oil', 'a.code', 'b.image', 'a.table'], 'b.image', 'a.table').status not in (0, 1, 13):
+            raise Fault('certify ends otherwise than build may')
     judge_certificate(trial)
 
 
