@@ -14,8 +14,8 @@ HEIGHTS = [(120, 14), (600, 5)]
 READABLE = 12
 """The least height of a row that has its point's name, and a text for each cell in viewers that show one."""
 
-HEAD, LEFT, CHARACTER, MOST_TOLD = 64, 130, 6.2, 400
-"""The room above the rows and left of the columns, the width of a letter, and how much is told of a cell."""
+HEAD, CHARACTER, MOST_TOLD = 64, 6.2, 400
+"""The room above the rows, the width of a letter, and how much is told of a cell."""
 
 
 class Chart:
@@ -24,9 +24,15 @@ class Chart:
         self.points = points_of(app)
         self.height = next((height for most, height in HEIGHTS if len(self.points) <= most), 2)
         self.most = max([len(values) for sets in table.values() for values in sets[:len(app.tasks)]] + [1])
-        self.lefts = [LEFT]
+        self.left = max(CHARACTER * len(name) for point in self.points for name in (self.owner(point), shown_point(app, point))) + 24
+        self.lefts = [self.left]
         for task in app.tasks:
             self.lefts.append(self.lefts[-1] + max(40, CHARACTER * len(task.name) + 12))
+
+    def owner(self, point):
+        """Whose a point is."""
+        block = block_of(point)
+        return shown_point(self.app, point) if block is None else self.app.blocks[block].owner.name
 
     def shade(self, count):
         part = math.log(count) / math.log(self.most) if self.most > 1 else 0
@@ -37,18 +43,15 @@ class Chart:
 
     def draw_names(self):
         """The points' names, or where there are too many whose they are."""
-        owner, free = None, 0
+        free = 0
         for row, point in enumerate(self.points):
-            block = block_of(point)
-            name = shown_point(self.app, point) if block is None else self.app.blocks[block].owner.name
-            is_next = (name != owner)
-            owner = name
+            is_next = row == 0 or self.owner(point) != self.owner(self.points[row - 1])
             if is_next:
-                self.drawing.line(LEFT - 6, self.top(row), self.lefts[-1], self.top(row), LINE)
-            text = shown_point(self.app, point) if self.height >= READABLE else name if is_next and self.top(row) >= free else None
-            if text:
+                self.drawing.line(self.left - 6, self.top(row), self.lefts[-1], self.top(row), LINE)
+            if self.height >= READABLE or is_next and self.top(row) >= free:
                 free = self.top(row) + READABLE
-                self.drawing.text(LEFT - 10, self.top(row) + min(11, self.height + 3), text, 10, INK if point in self.table else FAINT, anchor='end')
+                text = shown_point(self.app, point) if self.height >= READABLE else self.owner(point)
+                self.drawing.text(self.left - 10, self.top(row) + min(11, self.height + 3), text, 10, INK if point in self.table else FAINT, anchor='end')
 
     def draw_column(self, task):
         """The cells of a task; those of one shade that stand side by side are one where they are too low to be told apart."""
@@ -78,7 +81,7 @@ class Chart:
         for task in range(len(self.app.tasks)):
             self.draw_column(task)
         self.draw_names()
-        return self.drawing.svg(max(self.lefts[-1] + 12, CHARACTER * len(told)), self.top(len(self.points)) + 14)
+        return self.drawing.svg(max(self.lefts[-1] + 12, CHARACTER * len(told), 9 * len(title)), self.top(len(self.points)) + 14)
 
 
 def chart(app, table, title):
