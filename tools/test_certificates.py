@@ -1,8 +1,11 @@
 """Tests of certificates: their bytes, their faults, what the model says of them, and how they are told; `python3 tools/test_tools.py` runs
 them too. The bytes of the worked table and what is said of changed ones were given by an independent implementation."""
+import contextlib
+import io
 import itertools
 import os
 import sys
+import tempfile
 import unittest
 from collections import Counter
 from xml.etree import ElementTree
@@ -14,9 +17,10 @@ import certificate
 import certificate_chart
 import certified
 import image
+import model
 import table_bytes
 from application import application_of
-from given import Wrong, contents
+from given import Wrong, contents, data
 from image_reader import read_image
 from least_table import Analysis
 from points import HALT_POINT, IDLE_POINT, block_of, executing_at, points_of
@@ -187,6 +191,15 @@ class Verdicts(unittest.TestCase):
         app = application_of('CPU c { OS os; APPMODE M1; TASK T1 { PRIORITY = 1; AUTOSTART = TRUE { APPMODE = M1; }; }; TASK T2 { PRIORITY = 2; }; };', CODE)
         for names, due in (([], 'yes'), (['b0'], 'N1 M1'), (['idle'], 'N1 OSDEFAULTAPPMODE'), (['b0', 'idle'], 'N1 OSDEFAULTAPPMODE')):
             self.assertEqual(self.said(app, self.changed(app, names)), due, names)
+
+    def test_files_are_stored_and_checked(self):
+        with tempfile.TemporaryDirectory() as folder:
+            names = [os.path.join(folder, name) for name in 'it']
+            model.store(WORKED, *names)
+            self.assertEqual([data(name) for name in names], [image_of(WORKED), TABLE])
+            with contextlib.redirect_stdout(io.StringIO()) as out, contextlib.redirect_stderr(io.StringIO()) as err:
+                statuses = [model.check(*names), model.check(names[0], names[0])]
+        self.assertEqual((statuses, out.getvalue(), err.getvalue()), ([0, 11], 'yes\n', '%s:0: K2\n' % names[0]))
 
     def test_what_check_prints(self):
         data = image_of(WORKED)

@@ -11,7 +11,6 @@ all states of the application were looked at.
 """
 import os
 import re
-import sys
 
 from application import application_of
 from certified import table_of
@@ -146,7 +145,7 @@ def arguments():
     parser.add_argument('code', metavar='CODE')
     parser.add_argument('site', metavar='bN', help='the block of a call site, as `osekfit show` has it')
     parser.add_argument('--events', metavar='DIR', help='where the runs are stored')
-    parser.add_argument('--most', type=int, default=20000, metavar='N', help='how many states are looked at for runs')
+    parser.add_argument('--most', type=int, default=100000, metavar='N', help='how many states are looked at for runs')
     return parser.parse_args()
 
 
