@@ -39,7 +39,7 @@ def misshapen(block):
 
 
 class Application:
-    """The tables of an application, by number, and what is looked up in them."""
+    """The tables of an application, by number, and what is looked up in them. The blocks are all, those of tick routines too."""
 
     def __init__(self, system, blocks):
         self.hooks, self.modes = system.hooks, system.modes
@@ -50,29 +50,15 @@ class Application:
         self.alarm_number = {alarm.name: k for k, alarm in enumerate(self.alarms)}
         self.counter_number = {counter.name: k for k, counter in enumerate(self.counters)}
         self.resource_number = {resource.name: k for k, resource in enumerate(self.resources)}
-        self.written = len(blocks)
         self.blocks = list(blocks)
-        ticks = [Source('%', counter.name, self.add_tick_routine(counter)) for counter in self.counters]
         firsts = first_blocks(blocks)
         self.first = [firsts[Owner('TASK', task.name)] for task in self.tasks]
+        ticks = [Source('%', counter.name, firsts[Owner('TICK', counter.name)]) for counter in self.counters]
         self.sources = ticks + [Source('@', isr.name, firsts[Owner('ISR', isr.name)])
                                 for isr in system.isrs.values() if isr.category == 2]
 
-    def add_tick_routine(self, counter):
-        """Appends the blocks of a counter's routine: it counts, lets each of its alarms expire, and ends."""
-        first = len(self.blocks)
-        alarms = [alarm.name for alarm in self.alarms if alarm.counter == counter.name]
-        words = [('count', [])] + [('expire', [name]) for name in alarms] + [('end', [])]
-        for k, (word, arguments) in enumerate(words):
-            text = ' '.join([word] + arguments)
-            next_ = None if word == 'end' else first + k + 1
-            self.blocks.append(Block(Owner('TICK', counter.name), 0, text, word, arguments, False, next_, None))
-        return first
-
     def is_site(self, number):
-        """Whether a block is a call site: a task's call that may dispatch, the end of a task, or that of a routine."""
-        block = self.blocks[number]
-        return block.word == 'end' if block.owner.kind != 'TASK' else block.word in SITE_CALLS
+        return is_site(self.blocks[number])
 
     def sites(self):
         return [number for number in range(len(self.blocks)) if self.is_site(number)]
@@ -83,9 +69,12 @@ class Application:
             found |= self.events[name]
         return found
 
+    def own_bits(self):
+        """The event bits that tasks have, as pairs of a task's number and a bit."""
+        return [(t, bit) for t, task in enumerate(self.tasks) for bit in range(64) if task.own >> bit & 1]
+
     def blocks_of_task(self, task):
         return [k for k, block in enumerate(self.blocks) if block.owner == Owner('TASK', self.tasks[task].name)]
-
 
     def fault_of(self, block):
         """Why a block of the text can't be done, or None: what its call names isn't there."""
@@ -97,6 +86,22 @@ class Application:
             if known is not None and any(name not in known for name in argument):
                 return '%s names what is not declared' % block.text
         return None
+
+
+def is_site(block):
+    """Whether a block is a call site: a task's call that may dispatch, the end of a task, or that of a routine."""
+    return block.word == 'end' if block.owner.kind != 'TASK' else block.word in SITE_CALLS
+
+
+def tick_routines(system, first):
+    """The blocks of the counters' routines, of which the first has this number: each counts, lets its counter's alarms expire, and ends."""
+    found = []
+    for counter in system.counters:
+        alarms = [alarm.name for alarm in system.alarms.values() if alarm.counter == counter]
+        for word, arguments in [('count', [])] + [('expire', [name]) for name in alarms] + [('end', [])]:
+            next_ = None if word == 'end' else first + len(found) + 1
+            found.append(Block(Owner('TICK', counter), 0, ' '.join([word] + arguments), word, arguments, False, next_, None))
+    return found
 
 
 def first_blocks(blocks):
@@ -116,7 +121,7 @@ def joined(system, blocks, names):
     for alarm in system.alarms.values():
         if alarm.counter not in system.counters or alarm.task not in system.tasks or alarm.event not in [None] + list(system.events):
             raise Wrong('%s:%d: alarm %s names what is not declared' % (names[0], alarm.line, alarm.name))
-    app = Application(system, blocks)
+    app = Application(system, blocks + tick_routines(system, len(blocks)))
     for block in blocks:
         fault = app.fault_of(block)
         if fault:

@@ -2,7 +2,8 @@
 """Compares a built osekfit with the model of model.py on small applications that are made at random.
 
 Each application has all kinds of objects and statements, right or wrong in use. What `build` stores has to be the model's image, byte for
-byte; what `trace` prints, and `replay` of the image, what the model prints, in each mode; and `show` what it shows. An application that
+byte; what `trace` prints, and `replay` of the image, what the model prints, in each mode; and `show` what it shows. Where the program has
+`certify` and `check`, the table has to be the model's, and of changed images and tables both have to say the same. An application that
 differs is kept.
 
     tools/compare_model.py crates/osekfit/out/osekfit --count 100 --seed 7
@@ -14,11 +15,14 @@ import subprocess
 import sys
 import tempfile
 
+import certified
 import image
 import least_table
 import model
+import table_bytes
 from application import application_of
-from given import Parser, Wrong, run
+from certificate_changes import Changes
+from given import Parser, Wrong, data, run
 from oil import HOOKS
 from task_code import CLOSERS, OPENERS
 
@@ -31,6 +35,9 @@ FOR_ALL = ['work %(number)d', 'work %(number)d', 'SetEvent(%(task)s, %(mask)s)',
 
 RARE = ['ShutdownOS(E_OK)', 'Schedule()', 'TerminateTask()', 'WaitEvent(%(mask)s)']
 """Statements of routines that are refused, and the one that ends all."""
+
+CHANGED = 6
+"""How many changed certificates of an application are checked."""
 
 
 class Maker:
@@ -99,27 +106,38 @@ def answer(program, words, folder):
     return (done.stdout + done.stderr).decode('latin-1')
 
 
-def differences(program, folder, events):
+def differences(program, folder, events, chance):
     """The commands whose answers differ from the model's over the texts of a folder."""
-    texts = []
-    for name in ('a.oil', 'a.code'):
-        with open(os.path.join(folder, name), encoding='ascii') as file:
-            texts.append(file.read())
-    app, found = application_of(*texts), []
+    app, found = application_of(*(data(os.path.join(folder, name)).decode('ascii') for name in ('a.oil', 'a.code'))), []
     analysis = least_table.Analysis(app).solve()
     refusal = answer(program, ['build', 'a.oil', 'a.code', 'a.image'], folder)
-    if refusal or stored(folder) != image.image(app, analysis.shown, analysis.noted):
+    if refusal or data(os.path.join(folder, 'a.image')) != image.image(app, analysis.shown, analysis.noted):
         found.append('build')
     for mode in app.modes:
         due = ''.join(model.line(app, n, step) + '\n' for n, (step, _, _) in enumerate(model.play(app, mode, events)))
         found += ['trace %s' % mode] if answer(program, ['trace', 'a.oil', 'a.code', mode, 'a.events'], folder) != due else []
         found += ['replay %s' % mode] if answer(program, ['replay', 'a.image', mode, 'a.events'], folder) != due else []
-    return found + (['show'] if answer(program, ['show', 'a.oil', 'a.code'], folder) != least_table.show(app, analysis) else [])
+    found += ['show'] if answer(program, ['show', 'a.oil', 'a.code'], folder) != least_table.show(app, analysis) else []
+    return found + certificate_differences(program, folder, analysis, chance)
 
 
-def stored(folder):
-    with open(os.path.join(folder, 'a.image'), 'rb') as file:
-        return file.read()
+def certificate_differences(program, folder, analysis, chance):
+    """Those of the commands on certificates; none where the program doesn't have them."""
+    app, table, names = analysis.app, certified.table_of(analysis), ('b.image', 'b.table')
+    refusal = answer(program, ['certify', 'a.oil', 'a.code', *names], folder)
+    if refusal == 'usage\n':
+        return []
+    due = (image.image(app, analysis.shown, analysis.noted), table_bytes.spelled(app, table))
+    if refusal or tuple(data(os.path.join(folder, name)) for name in names) != due:
+        return ['certify']
+    changes = Changes(chance, analysis, table)
+    for pair in [due] + [changes.pair() for _ in range(CHANGED)]:
+        for name, content in zip(names, pair):
+            with open(os.path.join(folder, name), 'wb') as file:
+                file.write(content)
+        if answer(program, ['check', *names], folder) != certified.told(*pair, *names)[1] + '\n':
+            return ['check of b.image and b.table']
+    return []
 
 
 def compare(program, seed, folder):
@@ -129,7 +147,7 @@ def compare(program, seed, folder):
     for name, text in texts.items():
         with open(os.path.join(folder, name), 'w', encoding='ascii') as file:
             file.write(text)
-    return differences(program, folder, model.events_of(texts['a.events']))
+    return differences(program, folder, model.events_of(texts['a.events']), maker.random)
 
 
 def arguments():

@@ -4,7 +4,8 @@ from collections import namedtuple
 
 import graph
 from given import Wrong
-from least_table import point_of, shown_point
+from least_table import point_of
+from points import shown_point
 from states import ARRIVAL, HALTED, IDLE, NOTHING, To, place_of
 
 Row = namedtuple('Row', 'name reached all missed')

@@ -4,8 +4,9 @@
 For each command and each k the program's k-th call of the C library that looks up, opens, reads, writes or seeks fails, until a
 run meets no failure. A run that met one has to end with status 5 and `FILE: read`, with no file created or changed, or with status 6
 and `FILE: write` or `out: write` (or a prefix of what was to be told, where that failed), the image untouched or a prefix of what is
-stored without a failure; either way with a prefix of what is printed without one. Then each command runs once with reads and writes
-that move one byte at most, and once with each of them interrupted by a signal at first: both end as without.
+stored without a failure (or whole, where the table of `certify` is untouched or a prefix); either way with a prefix of what is printed
+without one. Then each command runs once with reads and writes that move one byte at most, and once with each of them interrupted by a
+signal at first: both end as without.
 
     tools/fail_io.py crates/osekfit/out/osekfit          needs cc: a library that is loaded first lets the call fail
 """
@@ -99,7 +100,8 @@ int statx(int folder, const char *path, int flags, unsigned mask, void *into) {
 """
 
 COMMANDS = refuse_memory.COMMANDS + [['build', 'a.oil', 'a.code', 'old.image'], ['replay', 'a.image', 'NOPE', 'a.events'], ['info', 'a.oil'],
-                                     ['upgrade', 'a.image', 'new.image'], ['upgrade', 'first.image', 'old.image']]
+                                     ['upgrade', 'a.image', 'new.image'], ['upgrade', 'first.image', 'old.image'],
+                                     ['certify', 'a.oil', 'a.code', 'old.image', 'old.table']]
 
 
 def fault_of(words, answer, ample, texts):
@@ -115,15 +117,17 @@ def fault_of(words, answer, ample, texts):
         return 'status %d' % answer.status
     if not ample.out.startswith(answer.out):
         return '%d bytes on out' % len(answer.out)
-    stored = {'build': words[-1], 'upgrade': words[-1]}.get(words[0]) if answer.status == 6 else None
+    stored = {'build': words[-1:], 'upgrade': words[-1:], 'certify': words[-2:]}.get(words[0], []) if answer.status == 6 else []
     return file_fault_of(stored, answer, ample, texts)
 
 
-def file_fault_of(image, answer, ample, texts):
-    """What is wrong with the files, of which the image alone may hold a prefix of what is stored without a failure."""
+def file_fault_of(stored, answer, ample, texts):
+    """What is wrong with the files. Those that are stored are so in turn: some as without a failure, and the next one may hold a prefix."""
+    whole = next((k for k, name in enumerate(stored) if answer.files.get(name) != ample.files.get(name)), len(stored))
     for name in set(answer.files) | set(texts):
         now = answer.files.get(name)
-        if now != texts.get(name) and not (name == image and now is not None and ample.files[name].startswith(now)):
+        is_prefix = name in stored[whole:whole + 1] and None not in (now, ample.files.get(name)) and ample.files[name].startswith(now)
+        if now != texts.get(name) and name not in stored[:whole] and not is_prefix:
             return '%s was changed' % name
     return None
 
@@ -131,6 +135,8 @@ def file_fault_of(image, answer, ample, texts):
 def fail_all(runner, words, texts, say):
     """Lets each call of a command fail in turn; the number of faults."""
     ample = runner.run(words, 0)
+    if refuse_memory.is_unknown(words, ample, say):
+        return 0
     faults, told = refuse_memory.judge(runner, words, 1, 'call %d fails', lambda answer: fault_of(words, answer, ample, texts), say)
     for how in ('', 'short', 'interrupted'):
         if runner.run(words, 0, how)._replace(refused=False) != ample:
@@ -145,11 +151,11 @@ def main():
     parser.add_argument('program', metavar='PROGRAM', help='the built osekfit')
     parser.add_argument('--example', default='first', help='the folder of examples/ whose texts are used')
     words = parser.parse_args()
-    words.image = None
+    words.image = words.table = None
     folder, faults = tempfile.mkdtemp(prefix='osekfit-io-'), 0
     try:
         texts = refuse_memory.texts_of(words, folder)
-        texts['old.image'] = b'before'
+        texts.update({'old.image': b'before', 'old.table': b'before'})
         runner = refuse_memory.Built(words.program, folder, texts, LIBRARY)
         for command in COMMANDS:
             faults += fail_all(runner, command, texts, lambda text: print(text, flush=True))

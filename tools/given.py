@@ -37,6 +37,12 @@ def contents(name):
         return file.read()
 
 
+def data(name):
+    """The bytes of the file of this name."""
+    with open(name, 'rb') as file:
+        return file.read()
+
+
 def run(main):
     """Runs the main function of a tool and ends with its status: STOPPED and one line where something is wrong, and no word
     where nobody reads the output any more."""

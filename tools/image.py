@@ -16,6 +16,9 @@ HOOKS = ['Startup', 'Shutdown', 'Error', 'PreTask', 'PostTask']
 
 NONE_NOTED, ANY, NOBODY = 9, 255, 255
 
+NEVER, STAY, GENERAL = b'\0\0', b'\1\0', b'\3\0'
+"""The forms' bytes; those of a direct dispatch begin with 2."""
+
 
 def number(value, size):
     return value.to_bytes(size, 'big')
@@ -103,9 +106,9 @@ def operand(app, letter, argument):
 
 def form(shown):
     if len(shown) != 1:
-        return b'\3\0' if shown else b'\0\0'
+        return GENERAL if shown else NEVER
     (only,) = shown
-    return b'\1\0' if only == KEEP else b'\2' + number(NOBODY if only.task is None else only.task, 1)
+    return STAY if only == KEEP else b'\2' + number(NOBODY if only.task is None else only.task, 1)
 
 
 def known(noted):

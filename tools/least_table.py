@@ -6,37 +6,26 @@ every choice of what the table doesn't keep (latches, where within `work` the pr
 import itertools
 
 from kernel import Kernel
+from points import HALT_POINT, IDLE_POINT, NOBODY, block_point, points_of, shown_point
 from states import ARRIVAL, HALTED, IDLE, KEEP, NOTHING, Armed, Live, Routine, Running, State, To, at_place, place_of, with_alarm
-
-HALT_POINT, IDLE_POINT = (0,), (1,)
-"""Points are in the order in which they are shown: halt, idle, then by block, and of a routine's block nobody first and then the tasks."""
 
 
 def point_of(state):
     if state.processor in (HALTED, IDLE):
         return HALT_POINT if state.processor == HALTED else IDLE_POINT
     over = state.processor.over if isinstance(state.processor, Routine) else None
-    return (2, place_of(state)[0], -1 if over is None else over, isinstance(state.processor, Routine))
+    return block_point(place_of(state)[0], over, isinstance(state.processor, Routine))
 
 
-def shown_point(app, point):
-    if point in (HALT_POINT, IDLE_POINT):
-        return 'halt' if point == HALT_POINT else 'idle'
-    _, block, over, is_routine = point
-    return 'b%d' % block + ('/' + ('-' if over < 0 else app.tasks[over].name) if is_routine else '')
-
-
-class Analysis:
-    """The least table of an application, on its way."""
+class TableSteps:
+    """The states that a table admits, and what their steps show. A table has for each of its points a list of sets, one a component: each
+    task, each of its own event bits, the lowest first, and each alarm."""
 
     def __init__(self, app):
         self.app, self.kernel = app, Kernel(app)
-        self.bits = [(t, bit) for t, task in enumerate(app.tasks) for bit in range(64) if task.own >> bit & 1]
-        self.table, self.done, self.waiting = {}, {}, []
+        self.bits = app.own_bits()
         self.edges = set()
         self.shown, self.noted = ({block: set() for block in app.sites()} for _ in range(2))
-        for mode in range(len(app.modes)):
-            self.join(self.kernel.start(mode).state)
 
     # Values and states.
 
@@ -64,7 +53,7 @@ class Analysis:
             return Running(self.app.task_number[owner.name])
         mark = '%' if owner.kind == 'TICK' else '@'
         source = next(k for k, s in enumerate(self.app.sources) if (s.mark, s.name) == (mark, owner.name))
-        return Routine(source, block, 0, None if over < 0 else over)
+        return Routine(source, block, 0, None if over == NOBODY else over)
 
     def steps_of(self, state):
         """The steps of a state with each choice of what a table doesn't keep."""
@@ -89,7 +78,24 @@ class Analysis:
             return [(with_alarm(state, alarm, armed), False) for armed in (Armed(0, 0), often, Armed(1, 0))]
         return [(state, False)]
 
-    # The table.
+    def note(self, point, step):
+        """What a step says of edges, and of the form and the status of its site."""
+        target = point_of(step.state)
+        if target != point or isinstance(step.shown, To):
+            self.edges.add((point, target))
+        if len(point) > 1 and point[1] in self.shown and step.shown not in (ARRIVAL, NOTHING):
+            self.shown[point[1]].add(step.shown)
+            self.noted[point[1]].add(step.status)
+
+
+class Analysis(TableSteps):
+    """The least table of an application, on its way."""
+
+    def __init__(self, app):
+        super().__init__(app)
+        self.table, self.done, self.waiting = {}, {}, []
+        for mode in range(len(app.modes)):
+            self.join(self.kernel.start(mode).state)
 
     def join(self, state):
         """Puts a state's values into its point's entry."""
@@ -100,27 +106,22 @@ class Analysis:
                 seen.add(value)
             self.waiting.append(point)
 
-    def solve(self):
-        """Lets the table grow until the steps of all its states stay in it. Each state is asked once."""
+    def solve(self, most=None):
+        """Lets the table grow until the steps of all its states stay in it. Each state is asked once; None where more than `most` were."""
+        asked = 0
         while self.waiting:
             point = self.waiting.pop()
             done = self.done.setdefault(point, set())
-            for values in list(itertools.product(*self.table[point])):
+            for values in itertools.product(*map(list, self.table[point])):
                 if values not in done:
+                    asked += 1
+                    if most is not None and asked > most:
+                        return None
                     done.add(values)
                     for step in self.steps_of(self.state_of(point, values)):
                         self.join(step.state)
                         self.note(point, step)
         return self
-
-    def note(self, point, step):
-        """What a step says of edges, and of the form and the status of its site."""
-        target = point_of(step.state)
-        if target != point or isinstance(step.shown, To):
-            self.edges.add((point, target))
-        if len(point) > 1 and point[1] in self.shown and step.shown not in (ARRIVAL, NOTHING):
-            self.shown[point[1]].add(step.shown)
-            self.noted[point[1]].add(step.status)
 
 
 def form(app, shown):
@@ -140,16 +141,11 @@ def heights(app, bits):
     return sum(1 + count + count * stacks for count in blocks) + 2 * bits + 2 * len(app.alarms)
 
 
-def points(app):
-    tasks = sum(1 for block in app.blocks if block.owner.kind == 'TASK')
-    return 2 + tasks + (len(app.blocks) - tasks) * (len(app.tasks) + 1)
-
-
 def show(app, analysis=None):
     """What `show` prints of an application, whose analysis may be given."""
     analysis = analysis or Analysis(app).solve()
     lines = ['site b%d line %d %s' % (block, app.blocks[block].line, form(app, shown)) for block, shown in analysis.shown.items()]
     lines += ['edge %s %s' % (shown_point(app, p), shown_point(app, q)) for p, q in sorted(analysis.edges)]
     values = sum(len(seen) for entry in analysis.table.values() for seen in entry)
-    lines += ['points %d height %d values %d edges %d' % (points(app), heights(app, len(analysis.bits)), values, len(analysis.edges))]
+    lines += ['points %d height %d values %d edges %d' % (len(points_of(app)), heights(app, len(analysis.bits)), values, len(analysis.edges))]
     return ''.join(text + '\n' for text in lines)

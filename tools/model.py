@@ -1,18 +1,21 @@
 #!/usr/bin/env python3
-"""A model of osekfit's `trace`, `show` and `build` in Python, to compare the proved program with.
+"""A model of osekfit in Python, to compare the proved program with.
 
-It is written from the guide and the definitions, apart from the program, and in the plainest way: the least table is found by steps
-of all states that a table admits, one by one. So `show` and `build` are for small applications alone (some five tasks). The texts are taken to be
-without fault. The files examples/*/*.show are its answers.
+It is written from the guide and the definitions, apart from the program, and in the plainest way: tables are found and judged by steps
+of all states that a table admits, one by one. So all but `trace` is for small applications alone (some five tasks). Texts and images are
+taken to be without fault. The files examples/*/*.show are its answers. `certify` stores an image with the least table, as a certificate of it,
+and `check` says whether a table certifies an image: `yes`, or the first fault of its bytes (status 11), or why not (status 12).
 
     tools/model.py trace a.oil a.code OSDEFAULTAPPMODE a.events
     tools/model.py show a.oil a.code
     tools/model.py build a.oil a.code a.image
+    tools/model.py certify a.oil a.code a.image a.table
+    tools/model.py check a.image a.table
 """
 import sys
 
 from application import application_of
-from given import Parser, Wrong, contents, run
+from given import Parser, Wrong, contents, data, run
 from kernel import Kernel
 from services import letter
 from states import HALTED, IDLE, SUSPENDED, Live, Routine
@@ -83,19 +86,32 @@ def play(app, mode, events, name='the event text'):
         yield step, words, number
 
 
-def store(app, name):
-    """Stores the image of an application."""
-    import image
-    import least_table
-    analysis = least_table.Analysis(app).solve()
-    with open(name, 'wb') as file:
-        file.write(image.image(app, analysis.shown, analysis.noted))
+def store(app, image_name, table_name=None):
+    """Stores the image of an application, and the table that certifies it where that has a name."""
+    import certified
+    stored = certified.certified(app)
+    for name, found in zip((image_name, table_name), stored):
+        if name is not None:
+            with open(name, 'wb') as file:
+                file.write(found)
+
+
+def check(image_name, table_name):
+    """Says whether a table certifies an image; the status."""
+    import certified
+    status, told = certified.told(data(image_name), data(table_name), image_name, table_name)
+    (sys.stderr if status else sys.stdout).write(told + '\n')
+    return status
+
+
+COMMANDS = {'trace': ['OIL', 'CODE', 'MODE', 'EVENTS'], 'show': ['OIL', 'CODE'], 'build': ['OIL', 'CODE', 'IMAGE'],
+            'certify': ['OIL', 'CODE', 'IMAGE', 'TABLE'], 'check': ['IMAGE', 'TABLE']}
 
 
 def arguments():
     parser = Parser(__doc__)
-    verbs = parser.add_subparsers(dest='verb', metavar='trace|show|build', required=True)
-    for verb, words in (('trace', ['OIL', 'CODE', 'MODE', 'EVENTS']), ('show', ['OIL', 'CODE']), ('build', ['OIL', 'CODE', 'IMAGE'])):
+    verbs = parser.add_subparsers(dest='verb', metavar='|'.join(COMMANDS), required=True)
+    for verb, words in COMMANDS.items():
         one = verbs.add_parser(verb)
         for word in words:
             one.add_argument(word.lower(), metavar=word)
@@ -104,16 +120,18 @@ def arguments():
 
 def main():
     words = arguments()
+    if words.verb == 'check':
+        return check(words.image, words.table)
     app = application_of(contents(words.oil), contents(words.code), (words.oil, words.code))
     if words.verb == 'show':
         import least_table
         sys.stdout.write(least_table.show(app))
-        return
-    if words.verb == 'build':
-        store(app, words.image)
-        return
-    for number, (step, _, _) in enumerate(play(app, words.mode, events_of(contents(words.events), words.events), words.events)):
-        sys.stdout.write(line(app, number, step) + '\n')
+    elif words.verb == 'trace':
+        for number, (step, _, _) in enumerate(play(app, words.mode, events_of(contents(words.events), words.events), words.events)):
+            sys.stdout.write(line(app, number, step) + '\n')
+    else:
+        store(app, words.image, words.table if words.verb == 'certify' else None)
+    return 0
 
 
 if __name__ == '__main__':

@@ -1,10 +1,11 @@
 #!/usr/bin/env python3
-"""Changes the examples' texts and images at random and runs a built osekfit on them.
+"""Changes the examples' texts, images and tables at random and runs a built osekfit on them.
 
 Each run has to end in time, with a status of the guide's table and the text on standard error that belongs to it; a refusal names
 the file that was changed, and a line or offset in it; no file but the image is changed, and that one only where `build` ends with
-0. What was built replays as `trace` prints it, and `info` has the sites that `show` has. What goes wrong is said, and its files
-are kept. The last lines count how often each answer came.
+0. What was built replays as `trace` prints it, and `info` has the sites that `show` has. Where there is `certify`, it stores the image that
+`build` stores; `check` says yes of what it stored, and yes of no image that traps. What goes wrong is said, and its files are kept. The last
+lines count how often each answer came.
 
     tools/mutate.py crates/osekfit/out/osekfit --minutes 5 --seed 7
 """
@@ -36,10 +37,10 @@ PIECES = [b'{', b'}', b'(', b')', b';', b'=', b':', b'"', b'/*', b'*/', b'//', b
           b'TRUE', b'SuspendOSInterrupts();', b'ResumeOSInterrupts();', b'run 1', b'irq ', b'tick ', b'#', b'x' * 65, b' ' * 257]
 
 
-COUNTS = {'build': 4, 'replay': 4, 'trace': 5, 'show': 3, 'info': 2, 'gen': 3, 'upgrade': 3}
+COUNTS = {'build': 4, 'replay': 4, 'trace': 5, 'show': 3, 'info': 2, 'gen': 3, 'upgrade': 3, 'certify': 5, 'check': 3}
 """How many words each command has."""
 
-WORDS = list(COUNTS) + ['a.oil', 'a.code', '1', '17', '-', '--help', '', 'x', '\u00e9']
+WORDS = list(COUNTS) + ['a.oil', 'a.code', 'a.table', '1', '17', '-', '--help', '', 'x', '\u00e9']
 
 
 class Fault(Exception):
@@ -128,7 +129,7 @@ class Trial:
     def files(self):
         return {name: self.get(name) for name in os.listdir(self.folder)}
 
-    def run(self, words, may_write=None):
+    def run(self, words, *may_write):
         """Runs the program, and sees that the answer is of a stated form and that it changed nothing else."""
         before = self.files()
         try:
@@ -140,14 +141,14 @@ class Trial:
         self.see(words, answer)
         after = self.files()
         changed = {name for name in set(before) | set(after) if before.get(name) != after.get(name)}
-        if changed - ({may_write} if answer.status == 0 else set()):
+        if changed - (set(may_write) if answer.status == 0 else set()):
             raise Fault('%s: changed %s with status %d' % (' '.join(words), sorted(changed), answer.status))
         return answer
 
     def see(self, words, answer):
         kind = words[0] if words and words[0] in COUNTS else 'other'
-        rule = answer.err.decode('latin-1').rpartition(': ')[2].strip()
-        self.counts[kind, answer.status, rule if answer.status in (1, 3, 4) else ''] += 1
+        rule = answer.err.decode('latin-1').rpartition(': ')[2].strip().partition(' ')[0]
+        self.counts[kind, answer.status, rule if answer.status in (1, 3, 4, 11, 12) else ''] += 1
         if not is_stated(self, words, answer):
             raise Fault('%s: status %d with err %r and %d bytes on out'
                         % (' '.join(words), answer.status, answer.err[:200], len(answer.out)))
@@ -155,7 +156,11 @@ class Trial:
 
 REFUSALS = {1: (r'(a\.oil|a\.code):(\d+): ([LSOC])(\d+)\n', {'L': 6, 'S': 3, 'O': 15, 'C': 9}),
             3: (r'(a\.image):(\d+): (I)(\d+)\n', {'I': 7}),
-            4: (r'(a\.events):(\d+): (E)(\d+)\n', {'E': 4})}
+            4: (r'(a\.events):(\d+): (E)(\d+)\n', {'E': 4}),
+            11: (r'(a\.table):(\d+): (K)(\d+)\n', {'K': 6})}
+
+DENIAL = r'a\.table: (N1 \w+|N2 (halt|idle|b\d+(/(-|\w+))?)|N[34] b\d+)\n'
+"""What is said of a table that doesn't certify an image."""
 
 
 def is_stated(trial, words, answer):
@@ -173,6 +178,10 @@ def is_stated(trial, words, answer):
         return answer.out == b'' and err == 'usage\n'
     if answer.status == 10:
         return answer.out == b'' and err == 'a.image: version 2\n'
+    if answer.status == 12:
+        return answer.out == b'' and re.fullmatch(DENIAL, err) is not None
+    if answer.status == 13:
+        return answer.out == b'' and err == 'a.table: too long\n'
     return False
 
 
@@ -181,7 +190,7 @@ def is_refusal(trial, answer, form, most):
     if not match or not 1 <= int(match.group(4)) <= most[match.group(3)]:
         return False
     data = trial.get(match.group(1))
-    last = len(data) if match.group(3) == 'I' else data.count(b'\n') + 1
+    last = len(data) if match.group(3) in 'IK' else data.count(b'\n') + 1
     return int(match.group(2)) <= last and (answer.status == 4 or answer.out == b'')
 
 
@@ -207,9 +216,9 @@ def try_texts(rng, trial, texts, others, knows):
         raise Fault('build: status %d' % built.status)
     if built.status == 0:
         agree(trial)
-        if knows:
+        if 'show' in knows:
             sites_agree(trial)
-    elif knows and trial.run(['show', 'a.oil', 'a.code']) != built:
+    elif 'show' in knows and trial.run(['show', 'a.oil', 'a.code']) != built:
         raise Fault('show refuses otherwise than build')
 
 
@@ -248,13 +257,44 @@ def try_image(rng, trial, texts, others, knows):
     replayed = trial.run(['replay', 'a.image', MODE, 'a.events'])
     if replayed.status not in (0, 3, 4, 8, 9):
         raise Fault('replay: status %d' % replayed.status)
-    if knows:
+    if 'info' in knows:
         told = trial.run(['info', 'a.image'])
         if told.status not in (0, 3) or (told.status == 3) != (replayed.status == 3) or told.status and told.err != replayed.err:
             raise Fault('info (status %d) judges the image otherwise than replay (status %d)' % (told.status, replayed.status))
         upgraded = trial.run(['upgrade', 'a.image', 'b.image'], 'b.image')
         if upgraded.status not in (0, 3, 10) or (upgraded.status == 3) != (told.status == 3) or upgraded.status == 3 and upgraded.err != told.err:
             raise Fault('upgrade (status %d) judges the image otherwise than info (status %d)' % (upgraded.status, told.status))
+
+
+def try_certificate(rng, trial, texts, others, knows):
+    """A changed table, or a changed image beside its table, or the table of a changed text: a refusal of image or table, a denial, or a yes of
+    an image that doesn't trap."""
+    for k, name in enumerate(('a.oil', 'a.code', 'a.events')):
+        trial.put(name, texts[k])
+    certified = trial.run(['certify', 'a.oil', 'a.code', 'a.image', 'a.table'], 'a.image', 'a.table')
+    built = trial.run(['build', 'a.oil', 'a.code', 'b.image'], 'b.image')
+    if certified.status or built.status or trial.get('a.image') != trial.get('b.image'):
+        raise Fault('certify (status %d) stores another image than build (status %d)' % (certified.status, built.status))
+    if trial.run(['check', 'a.image', 'a.table']).out != b'yes\n':
+        raise Fault('check denies what certify stored')
+    name = rng.choice(['a.image', 'a.table', 'a.oil', 'a.code'])
+    data = trial.get(name)
+    if name in ('a.image', 'a.table'):
+        trial.put(name, image_changes(rng, data, [data]))
+    else:
+        trial.put(name, text_changes(rng, data, others[name == 'a.code']))
+        if trial.run(['certify', 'a.oil', 'a.code', 'b.image', 'a.table'], 'b.image', 'a.table').status not in (0, 1, 13):
+            raise Fault('certify ends otherwise than build may')
+    judge_certificate(trial)
+
+
+def judge_certificate(trial):
+    """What `check` may say of an image and a table, whoever made them."""
+    checked, told = trial.run(['check', 'a.image', 'a.table']), trial.run(['info', 'a.image'])
+    if checked.status not in (0, 3, 11, 12) or (checked.status == 3) != (told.status == 3) or checked.status == 3 and checked.err != told.err:
+        raise Fault('check (status %d) judges the image otherwise than info (status %d)' % (checked.status, told.status))
+    if checked.status == 0 and (checked.out != b'yes\n' or trial.run(['replay', 'a.image', MODE, 'a.events']).status == 8):
+        raise Fault('check prints %r of an image that traps, or no yes' % checked.out[:20])
 
 
 def try_words(rng, trial, texts, others, knows):
@@ -271,7 +311,7 @@ def one_trial(rng, program, examples, knows, counts, keep):
     """Tries one change; what went wrong, or None."""
     folder = tempfile.mkdtemp(prefix='osekfit-mutate-')
     try:
-        attempt = rng.choices([try_texts, try_events, try_image, try_words], [6, 2, 6, 1])[0]
+        attempt = rng.choices([try_texts, try_events, try_image, try_words, try_certificate], [6, 2, 6, 1, 4 if 'certify' in knows else 0])[0]
         texts = examples[rng.choice(sorted(examples))]
         others = [[e[k] for e in examples.values()] for k in range(3)]
         attempt(rng, Trial(program, folder, counts), texts, others, knows)
@@ -293,17 +333,21 @@ def arguments():
     return parser.parse_args()
 
 
-def knows_show(program):
-    """Whether the program has the commands show and info."""
-    done = subprocess.run([program, 'show', 'a', 'b'], cwd='/', capture_output=True, timeout=SECONDS, check=False)
-    return done.returncode != 2
+def known_commands(program):
+    """The commands that the program has, of those whose inputs aren't there then."""
+    found = set()
+    for command in ('show', 'info', 'certify', 'check'):
+        words = [program, command] + ['a', 'b', 'c', 'd'][:COUNTS[command] - 1]
+        if subprocess.run(words, cwd='/', capture_output=True, timeout=SECONDS, check=False).returncode != 2:
+            found.add(command)
+    return found
 
 
 def main():
     words = arguments()
     program, keep = os.path.abspath(words.program), os.path.abspath(words.keep)
     rng, examples, counts = random.Random(words.seed), load_examples(), collections.Counter()
-    knows, end, trials, faults = knows_show(program), time.monotonic() + 60 * words.minutes, 0, 0
+    knows, end, trials, faults = known_commands(program), time.monotonic() + 60 * words.minutes, 0, 0
     while time.monotonic() < end:
         trials += 1
         fault = one_trial(rng, program, examples, knows, counts, keep)

@@ -27,13 +27,20 @@ MODE = 'OSDEFAULTAPPMODE'
 
 COMMANDS = [['build', 'a.oil', 'a.code', 'a.image'], ['build', 'a.oil', 'a.code', 'new.image'],
             ['replay', 'a.image', MODE, 'a.events'], ['trace', 'a.oil', 'a.code', MODE, 'a.events'],
-            ['show', 'a.oil', 'a.code'], ['info', 'a.image'], ['gen', '1', '1'], ['upgrade', 'first.image', 'new.image']]
+            ['show', 'a.oil', 'a.code'], ['info', 'a.image'], ['gen', '1', '1'], ['upgrade', 'first.image', 'new.image'],
+            ['certify', 'a.oil', 'a.code', 'new.image', 'new.table'], ['check', 'a.image', 'a.table'], ['check', 'a.image', 'other.table']]
+
+OF_AN_IMAGE, STORED = ('replay', 'info', 'check'), ('a.image', 'a.table', 'other.table')
+"""The commands that read what is stored, and the names of that."""
 
 FIRST_IMAGE = bytes.fromhex(
     '4f53454b46495401' '00' '010000000101' '0002' '025431' '0001' '01' '0000000000000000' '01' '0000' '0002'
     '0d5245535f5343484544554c4552' '00000003' '104f5344454641554c544150504d4f4445'
     '04' '00' '00000001' '0001' '02ff' '16' '00' '00000001' '0000')
 """An image of version 1: a task that ends itself."""
+
+DUE = (0, 11, 12)
+"""The statuses with ample memory."""
 
 SECONDS = 60
 MOST = 200000
@@ -132,8 +139,8 @@ def read(name):
 def fault_of(words, answer, ample, texts):
     """What is wrong with the answer of a run that met a refusal, or None."""
     err = answer.err.decode('latin-1')
-    if answer.status == 0:
-        return None if answer._replace(refused=False) == ample else 'status 0, and not all was done'
+    if answer.status in DUE:
+        return None if answer._replace(refused=False) == ample else 'status %d, and not all was done' % answer.status
     if answer.status == 7 and err not in ('memory\n', ''):
         return 'err is %r' % err
     if answer.status in (5, 6) and not re.fullmatch(r'([^\n:]+: (read|write)\n)?', err):
@@ -168,13 +175,24 @@ def judge(runner, words, every, what, fault_of_answer, say):
     return faults, ', '.join('%d times status %d' % (count, status) for status, count in sorted(statuses.items()))
 
 
+def has_inputs(words, texts):
+    """Whether what a command reads is there."""
+    return words[0] not in OF_AN_IMAGE or all(name in texts for name in words if name in STORED)
+
+
+def is_unknown(words, ample, say):
+    """Whether the program doesn't have a command yet, which then is said."""
+    if ample.status == 2:
+        say('%s: no such command yet' % words[0])
+    return ample.status == 2
+
+
 def refuse_all(runner, words, texts, every, say):
     """Refuses each request of a command in turn; the number of faults."""
     ample = runner.run(words, 0)
-    if ample.status == 2:
-        say('%s: no such command yet' % words[0])
+    if is_unknown(words, ample, say):
         return 0
-    if ample.status != 0:
+    if ample.status not in DUE:
         say('%s: status %d with ample memory' % (' '.join(words), ample.status))
         return 1
     faults, told = judge(runner, words, every, 'request %d refused', lambda answer: fault_of(words, answer, ample, texts), say)
@@ -187,7 +205,8 @@ def arguments():
     parser.add_argument('program', metavar='PROGRAM', nargs='?', help='the built osekfit')
     parser.add_argument('--try', dest='tried', action='store_true', help='by rt try, in place of a built program')
     parser.add_argument('--example', default='first', help='the folder of examples/ whose texts are used')
-    parser.add_argument('--image', metavar='FILE', help="the example's image; needed with --try for replay and info")
+    parser.add_argument('--image', metavar='FILE', help="the example's image; needed with --try for replay, info and check")
+    parser.add_argument('--table', metavar='FILE', help='the table that certifies it; needed with --try for check')
     parser.add_argument('--every', type=int, default=1, metavar='N', help='refuse the first request and each N-th after it')
     parser.add_argument('--only', metavar='COMMAND', help='one command')
     return parser.parse_args()
@@ -196,12 +215,15 @@ def arguments():
 def texts_of(words, folder):
     example = os.path.join(TOP, 'examples', words.example, words.example)
     texts = {'a.' + end: read('%s.%s' % (example, end)) for end in ('oil', 'code', 'events')}
-    image = words.image
+    stored = {'a.image': words.image, 'a.table': words.table}
     if words.program:
-        image = os.path.join(folder, 'image')
-        subprocess.run([os.path.abspath(words.program), 'build', example + '.oil', example + '.code', image], check=True)
-    if image:
-        texts['a.image'] = read(image)
+        stored = {name: os.path.join(folder, name) for name in stored}
+        program, sources = os.path.abspath(words.program), [example + '.oil', example + '.code']
+        if subprocess.run([program, 'certify'] + sources + list(stored.values()), stderr=subprocess.DEVNULL, check=False).returncode:
+            subprocess.run([program, 'build'] + sources + [stored['a.image']], check=True)
+    texts.update({name: read(file) for name, file in stored.items() if file and os.path.exists(file)})
+    if 'a.table' in texts:
+        texts['other.table'] = texts['a.table'][:-1] + b'\xff'
     texts['first.image'] = FIRST_IMAGE
     return texts
 
@@ -215,7 +237,7 @@ def main():
         texts = texts_of(words, folder)
         runner = Tried(folder, texts) if words.tried else Built(words.program, folder, texts)
         for command in COMMANDS:
-            if words.only in (None, command[0]) and ('a.image' in texts or command[0] not in ('replay', 'info')):
+            if words.only in (None, command[0]) and has_inputs(command, texts):
                 faults += refuse_all(runner, command, texts, words.every, lambda text: print(text, flush=True))
     finally:
         shutil.rmtree(folder)

@@ -397,9 +397,6 @@ class Documents(unittest.TestCase):
         self.assertRaises(Wrong, crates.libraries, ['nobody'])
 
 
-TOOLS = ['annotate.py', 'check_documents.py', 'compare_model.py', 'events.py', 'explain.py', 'graph.py', 'lint.py', 'model.py', 'regress.py', 'timeline.py']
-
-
 class Ends(unittest.TestCase):
     """Each tool ends with one line and status 2 where it can't work, and with no word where nobody reads."""
 
@@ -410,6 +407,7 @@ class Ends(unittest.TestCase):
     def test_missing_files_and_wrong_words_are_told_in_one_line(self):
         for words in (['annotate.py', 'no', 'no', 'no'], ['check_documents.py', 'no/program'], ['compare_model.py', 'no/program'], ['events.py', 'no'],
                       ['explain.py', 'no/program'], ['graph.py', 'no'], ['lint.py', 'no', 'no'], ['model.py', 'show', 'no', 'no'],
+                      ['model.py', 'check', 'no', 'no'], ['certificate.py', 'no', 'no'], ['why.py', 'no', 'no', 'b0'],
                       ['regress.py', '--program', 'no/program', 'no'], ['timeline.py', 'no'], ['timeline.py', '--first', 'x', 'no'], ['graph.py', '--no']):
             done = self.ended(words, stdout=subprocess.DEVNULL)
             self.assertEqual((done.returncode, done.stderr.count(b'\n')), (2, 1), (words, done.stderr))

@@ -1,6 +1,6 @@
 #!/usr/bin/env python3
-"""Tests of the tools, run by hand: `python3 tools/test_tools.py`, those of test_texts.py with them. Expected values are worked out by
-hand from the guide. None of them needs a built program."""
+"""Tests of the tools, run by hand: `python3 tools/test_tools.py`, those of the other files test_*.py with them. Expected values are worked
+out by hand from the guide. None of them needs a built program."""
 import io
 import json
 import os

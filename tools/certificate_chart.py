@@ -1,0 +1,89 @@
+"""The picture of certificate.py: a row for each point and a column for each task, dark by how many values the task may have there."""
+import math
+
+from drawing import FAINT, INK, LINE, Drawing
+from points import block_of, points_of, shown_point
+from table_words import Wording
+
+LIGHT, DARK = (0xdd, 0xf4, 0xff), (0x0a, 0x30, 0x69)
+"""The colours of one value, and of the most that some task has at some point."""
+
+HEIGHTS = [(120, 14), (600, 5)]
+"""The height of a row where there are at most so many points; it is 2 where there are more."""
+
+READABLE = 12
+"""The least height of a row that has its point's name, and a text for each cell in viewers that show one."""
+
+HEAD, CHARACTER, MOST_TOLD = 64, 6.2, 400
+"""The room above the rows, the width of a letter, and how much is told of a cell."""
+
+
+class Chart:
+    def __init__(self, app, table):
+        self.app, self.table, self.wording, self.drawing = app, table, Wording(app), Drawing()
+        self.points = points_of(app)
+        self.height = next((height for most, height in HEIGHTS if len(self.points) <= most), 2)
+        self.most = max([len(values) for sets in table.values() for values in sets[:len(app.tasks)]] + [1])
+        self.left = max(CHARACTER * len(name) for point in self.points for name in (self.owner(point), shown_point(app, point))) + 24
+        self.lefts = [self.left]
+        for task in app.tasks:
+            self.lefts.append(self.lefts[-1] + max(40, CHARACTER * len(task.name) + 12))
+
+    def owner(self, point):
+        """Whose a point is."""
+        block = block_of(point)
+        return shown_point(self.app, point) if block is None else self.app.blocks[block].owner.name
+
+    def shade(self, count):
+        part = math.log(count) / math.log(self.most) if self.most > 1 else 0
+        return '#%02x%02x%02x' % tuple(round(a + (b - a) * part) for a, b in zip(LIGHT, DARK))
+
+    def top(self, row):
+        return HEAD + self.height * row
+
+    def draw_names(self):
+        """The points' names, or where there are too many whose they are."""
+        free = 0
+        for row, point in enumerate(self.points):
+            is_next = row == 0 or self.owner(point) != self.owner(self.points[row - 1])
+            if is_next:
+                self.drawing.line(self.left - 6, self.top(row), self.lefts[-1], self.top(row), LINE)
+            if self.height >= READABLE or is_next and self.top(row) >= free:
+                free = self.top(row) + READABLE
+                text = shown_point(self.app, point) if self.height >= READABLE else self.owner(point)
+                self.drawing.text(self.left - 10, self.top(row) + min(11, self.height + 3), text, 10, INK if point in self.table else FAINT, anchor='end')
+
+    def draw_column(self, task):
+        """The cells of a task; those of one shade that stand side by side are one where they are too low to be told apart."""
+        left, width = self.lefts[task], self.lefts[task + 1] - self.lefts[task] - 2
+        self.drawing.text(left + width / 2, HEAD - 8, self.app.tasks[task].name, 11, anchor='middle')
+        counts = [len(self.table[point][task]) if point in self.table else 0 for point in self.points]
+        row = 0
+        while row < len(counts):
+            end = row + 1
+            while self.height < READABLE and end < len(counts) and counts[end] == counts[row]:
+                end += 1
+            if counts[row]:
+                self.drawing.rect(left, self.top(row), width, self.height * (end - row), self.shade(counts[row]), self.told(row, task))
+            row = end
+
+    def told(self, row, task):
+        if self.height < READABLE:
+            return None
+        point = self.points[row]
+        text = '%s, %s: %s' % (shown_point(self.app, point), self.app.tasks[task].name, self.wording.task(point, task, self.table[point][task]))
+        return text if len(text) <= MOST_TOLD else text[:MOST_TOLD] + '..'
+
+    def draw(self, title):
+        self.drawing.text(12, 20, title, 14)
+        told = 'white: no state of the table stands here; light: one value; dark: %d' % self.most
+        self.drawing.text(12, 38, told, 10, FAINT)
+        for task in range(len(self.app.tasks)):
+            self.draw_column(task)
+        self.draw_names()
+        return self.drawing.svg(max(self.lefts[-1] + 12, CHARACTER * len(told), 9 * len(title)), self.top(len(self.points)) + 14)
+
+
+def chart(app, table, title):
+    """The picture of a table, as SVG."""
+    return Chart(app, table).draw(title)

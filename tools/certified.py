@@ -1,0 +1,90 @@
+"""Certificates in the model of model.py: the least table as bytes, and what is said of an image and a table. A table certifies an image where
+it is closed under the kernel's steps, and the image has at each site what the table's states dictate, or asks less of it."""
+import itertools
+
+import image
+from image_reader import read_image
+from least_table import Analysis, TableSteps, point_of
+from points import shown_point
+from states import SUSPENDED, Live, Waiting
+from table_bytes import HELD, LIVE, Fault, read_table, spelled
+
+DAMAGED, DENIED = 11, 12
+"""The statuses of a table with a fault in its bytes, and of one that certifies nothing."""
+
+
+def fields_of(value):
+    """The fields of a task's value."""
+    if value == SUSPENDED:
+        return (0,)
+    return (2, value.block) if isinstance(value, Waiting) else (1, value.block, 0, 0, len(value.held)) + value.held
+
+
+def value_of(fields):
+    """The task's value that has these fields."""
+    if len(fields) == 1:
+        return SUSPENDED
+    return Live(fields[1], 0, fields[HELD:]) if fields[0] == LIVE else Waiting(fields[1])
+
+
+def table_of(analysis):
+    """The table of an analysis, as table_bytes has tables."""
+    tasks = len(analysis.app.tasks)
+    return {point: [sorted(map(fields_of, values)) for values in sets[:tasks]] + [sorted(map(int, values)) for values in sets[tasks:]]
+            for point, sets in analysis.table.items()}
+
+
+def certified(app):
+    """The image of an application, and the table that certifies it."""
+    analysis = Analysis(app).solve()
+    return image.image(app, analysis.shown, analysis.noted), spelled(app, table_of(analysis))
+
+
+class Check(TableSteps):
+    """What the states of a given table come to, beside an image."""
+
+    def __init__(self, stored, table):
+        super().__init__(stored.app)
+        self.stored, tasks = stored, len(stored.app.tasks)
+        self.table = {point: [set(map(value_of, values)) for values in sets[:tasks]] + [set(values) for values in sets[tasks:]]
+                      for point, sets in table.items()}
+
+    def has(self, state):
+        """Whether the table admits a state."""
+        sets = self.table.get(point_of(state))
+        return sets is not None and all(value in seen for value, seen in zip(self.values_of(state), sets))
+
+    def denial(self):
+        """The rule by which the table doesn't certify the image, and where; None where it does."""
+        return self.left_at_start() or self.left_by_step() or self.unfit()
+
+    def left_at_start(self):
+        """The first mode whose start the table doesn't admit."""
+        return next((('N1', mode) for k, mode in enumerate(self.app.modes) if not self.has(self.kernel.start(k).state)), None)
+
+    def left_by_step(self):
+        """The first point at which a state steps to one that the table doesn't admit."""
+        for point in sorted(self.table):
+            for values in itertools.product(*self.table[point]):
+                for step in self.steps_of(self.state_of(point, values)):
+                    if not self.has(step.state):
+                        return 'N2', shown_point(self.app, point)
+                    self.note(point, step)
+        return None
+
+    def unfit(self):
+        """The first site whose form is another than the dictated one and looks at nothing less; else so of what it knows."""
+        reached = [block for block, shown in self.shown.items() if shown]
+        forms = [b for b in reached if self.stored.forms[b] not in (image.form(self.shown[b]), image.GENERAL)]
+        known = [b for b in reached if image.number(self.stored.known[b], 1) not in (image.known(self.noted[b]), image.number(image.ANY, 1))]
+        return next(((rule, 'b%d' % b) for rule, blocks in (('N3', forms), ('N4', known)) for b in blocks), None)
+
+
+def told(image_data, table_data, image_name, table_name):
+    """The status of `check`, and its line."""
+    stored = read_image(image_data, image_name)
+    try:
+        denial = Check(stored, read_table(stored.app, table_data)).denial()
+    except Fault as fault:
+        return DAMAGED, '%s:%s' % (table_name, fault)
+    return (DENIED, '%s: %s %s' % ((table_name,) + denial)) if denial else (0, 'yes')

@@ -1,0 +1,146 @@
+"""The bytes of a certificate's table, written and read as the guide has them: a second reader beside the program's.
+
+A table is a dictionary: for each point with an entry, a list of sets, one a component. These are the tasks, each task's own event bits, the
+lowest first, and the alarms. A task's set is a list of values in the order of their bytes, and a value is the tuple of its fields; the set
+of a bit or an alarm is a list of 0 (not set, idle) and 1 (set, armed)."""
+from collections import namedtuple
+
+from fields import Cut, Fields
+from image import number
+from points import block_of, executing_at, points_of
+
+MAGIC = b'OSEKTAB\1'
+
+MOST = 16 * 1024 * 1024
+"""How many bytes a table has at most."""
+
+SUSPENDED, LIVE, WAITING = 0, 1, 2
+"""The first field of a task's value. Behind LIVE stand its block, its further activations, whether it is inside an INTERNAL resource, how
+many resources it holds, and these, the first taken first; behind WAITING stands its block."""
+
+HELD = 5
+"""The place of the first resource among a value's fields."""
+
+RULES = {
+    'K1': 'the bytes end early',
+    'K2': 'no table, or one of another version',
+    'K3': 'a field is out of its range, or no value that is possible at this point begins so',
+    'K4': "a value isn't above the one before it",
+    'K5': 'bytes stand after the end',
+    'K6': 'the file is over 16 MiB',
+}
+
+
+class Fault(Exception):
+    """The first fault of a table's bytes: its rule, and the offset of the field's, or the value's, first byte."""
+
+    def __init__(self, rule, offset):
+        super().__init__('%d: %s' % (offset, rule))
+        self.rule, self.offset = rule, offset
+
+
+# Writing.
+
+
+def spelled(app, table):
+    """The bytes of a table."""
+    return MAGIC + b''.join(b'\1' + entry_bytes(app, table[p]) if p in table else b'\0' for p in points_of(app))
+
+
+def entry_bytes(app, sets):
+    tasks = len(app.tasks)
+    return b''.join(listed(values) for values in sets[:tasks]) + bytes(sum(1 << v for v in values) for values in sets[tasks:])
+
+
+def listed(values):
+    return number(len(values), 4) + b''.join(value_bytes(fields) for fields in values)
+
+
+def value_bytes(fields):
+    """A block has two bytes, and each other field one."""
+    return b''.join(number(field, 2 if place == 1 else 1) for place, field in enumerate(fields))
+
+
+# Reading.
+
+
+Shape = namedtuple('Shape', 'tags live waiting resources')
+"""What a value of a task may be at a point: its first field, the blocks of a live and of a waiting one, and the resources that there are."""
+
+
+class Shapes:
+    """The shapes of an application's tasks."""
+
+    def __init__(self, app):
+        self.app, self.resources = app, range(len(app.resources))
+        self.blocks = [app.blocks_of_task(t) for t in range(len(app.tasks))]
+        waits = [[b for b in blocks if app.blocks[b].word == 'WaitEvent'] for blocks in self.blocks]
+        self.waiting = [blocks if task.own else [] for task, blocks in zip(app.tasks, waits)]
+
+    def at(self, point, task):
+        """A task that has the processor here, or is interrupted, is live: at this point's block where that is its own."""
+        if executing_at(self.app, point) == task:
+            own = block_of(point) in self.blocks[task]
+            return Shape([LIVE], [block_of(point)] if own else self.blocks[task], [], self.resources)
+        waiting = self.waiting[task]
+        return Shape([SUSPENDED, LIVE] + [WAITING] * bool(waiting), self.blocks[task], waiting, self.resources)
+
+
+class TableReader(Fields):
+    def __init__(self, app, data):
+        super().__init__(data)
+        self.app, self.shapes, self.flags = app, Shapes(app), len(app.own_bits()) + len(app.alarms)
+
+    def read(self):
+        if len(self.data) < len(MAGIC):
+            raise Fault('K1', 0)
+        if self.take(len(MAGIC)) != MAGIC:
+            raise Fault('K2', 0)
+        table = {point: self.entry(point) for point in points_of(self.app) if self.one_of(range(2))}
+        if self.place < len(self.data):
+            raise Fault('K5', self.place)
+        return table
+
+    def one_of(self, allowed, size=1):
+        """The next field, which has to be one of these numbers."""
+        at, field = self.place, self.number(size)
+        if field not in allowed:
+            raise Fault('K3', at)
+        return field
+
+    def entry(self, point):
+        tasks = [self.values(self.shapes.at(point, task)) for task in range(len(self.app.tasks))]
+        flags = [self.one_of(range(1, 4)) for _ in range(self.flags)]
+        return tasks + [[v for v in (0, 1) if found >> v & 1] for found in flags]
+
+    def values(self, shape):
+        """As many values as are counted, one at least, each above the one before."""
+        found = []
+        for _ in range(self.one_of(range(1, 2 ** 32), 4)):
+            at, value = self.place, self.value(shape)
+            if found and value <= found[-1]:
+                raise Fault('K4', at)
+            found.append(value)
+        return found
+
+    def value(self, shape):
+        tag = self.one_of(shape.tags)
+        if tag == SUSPENDED:
+            return (tag,)
+        if tag == WAITING:
+            return (tag, self.one_of(shape.waiting, 2))
+        fields = [tag, self.one_of(shape.live, 2), self.one_of([0]), self.one_of([0]), self.one_of(range(len(shape.resources) + 1))]
+        for _ in range(fields[-1]):
+            fields.append(self.one_of([r for r in shape.resources if r not in fields[HELD:]]))
+        return tuple(fields)
+
+
+def read_table(app, data):
+    """The table of an application that these bytes spell; their first fault is raised."""
+    if len(data) > MOST:
+        raise Fault('K6', MOST)
+    reader = TableReader(app, data)
+    try:
+        return reader.read()
+    except Cut:
+        raise Fault('K1', reader.place) from None

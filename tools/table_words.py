@@ -1,0 +1,51 @@
+"""What a table has at a point, in words: for certificate.py and why.py."""
+from table_bytes import HELD, LIVE, SUSPENDED
+from points import block_of, executing_at
+
+
+class Wording:
+    """Says where the tasks of an application may be, by names."""
+
+    def __init__(self, app):
+        self.app, self.bits = app, app.own_bits()
+
+    def place(self, block):
+        line = self.app.blocks[block].line
+        return 'b%d, line %d' % (block, line) if line else 'b%d' % block
+
+    def parts(self, point, sets):
+        """What may be at a point, as pairs of a name and words: tasks and the events of each, then alarms."""
+        count = len(self.app.tasks)
+        for number, task in enumerate(self.app.tasks):
+            yield task.name, '%s: %s' % (task.name, self.task(point, number, sets[number]))
+            if task.own:
+                own = [(bit, values) for (t, bit), values in zip(self.bits, sets[count:]) if t == number]
+                yield task.name, "%s's events: %s" % (task.name, events(own))
+        for alarm, values in zip(self.app.alarms, sets[count + len(self.bits):]):
+            yield alarm.name, '%s: %s' % (alarm.name, ' or '.join(('idle', 'armed')[v] for v in values))
+
+    def task(self, point, number, values):
+        """What a task may be doing; values that differ in their block alone are told together."""
+        places = {}
+        for fields in values:
+            places.setdefault((fields[0],) + fields[HELD:], []).append(fields[1:2])
+        return ' or '.join(self.doing(point, number, key, [block for found in blocks for block in found]) for key, blocks in places.items())
+
+    def doing(self, point, number, key, blocks):
+        tag, held = key[0], key[1:]
+        if tag == SUSPENDED:
+            return 'suspended'
+        word = self.live(point, number, blocks) if tag == LIVE else 'waits'
+        word += ' with ' + ' and '.join(self.app.resources[r].name for r in held) if held else ''
+        return word if word.startswith('runs') else '%s at %s' % (word, '; '.join(map(self.place, blocks)))
+
+    def live(self, point, number, blocks):
+        if executing_at(self.app, point) != number:
+            return 'ready'
+        return 'runs' if [block_of(point)] == blocks else 'interrupted'
+
+
+def events(bits):
+    """The events of a task, as masks: those that are set, and those that may be."""
+    masks = [(sum(1 << bit for bit, values in bits if list(values) == which), word) for which, word in (([1], 'set'), ([0, 1], 'set or not'))]
+    return ', '.join('%x %s' % pair for pair in masks if pair[0]) or 'none set'

@@ -1,0 +1,164 @@
+#!/usr/bin/env python3
+"""Says why a call site has its form: what each task may be doing there, with which priority, and for each outcome of the site the shortest
+run that has it.
+
+    tools/why.py a.oil a.code b12
+    tools/why.py --events DIR a.oil a.code b12        stores the runs as event texts for `osekfit replay`, as DIR/b12-1.events and so on
+
+What may be is told by the least table of the model in model.py, which is for small applications; where it is too large, runs alone are
+looked for. The table keeps no relation between two tasks. So it may have two outcomes where runs have one: this is said too, for certain where
+all states of the application were looked at.
+"""
+import os
+import re
+
+from application import application_of
+from certified import table_of
+from given import Parser, Wrong, contents, run
+from least_table import Analysis, form
+from model import events_of, line, play
+from points import block_of, shown_point
+from site_runs import Search
+from states import KEEP
+from table_bytes import HELD
+from table_words import Wording
+
+MOST_ASKED = 100000
+"""How many states the model's table may have."""
+
+
+class Site:
+    """A call site of an application, and what its table says of it, where the table isn't too large."""
+
+    def __init__(self, app, block, most_asked=MOST_ASKED):
+        self.app, self.block = app, block
+        self.owner = app.blocks[block].owner
+        self.analysis = Analysis(app).solve(most_asked)
+        self.admitted = self.analysis.shown[block] if self.analysis else None
+
+    def heading(self, code_name):
+        block = self.app.blocks[self.block]
+        what = 'the end of %s' % self.owner.name if block.word == 'end' else '%s of %s' % (block.text, self.owner.name)
+        known = form(self.app, self.admitted) if self.analysis else 'its table is too large for the model'
+        return 'b%d, %s%s: %s' % (self.block, '%s:%d: ' % (code_name, block.line) if block.line else '', what, known)
+
+    def said(self, outcome):
+        """An outcome in words."""
+        if outcome == KEEP:
+            return '%s goes on' % self.owner.name if self.owner.kind == 'TASK' else 'the routine returns'
+        return 'the processor becomes idle' if outcome.task is None else '%s is dispatched' % self.app.tasks[outcome.task].name
+
+    def table_lines(self):
+        """What each task may be doing at the site's points, those of the highest priority first."""
+        table, wording = table_of(self.analysis), Wording(self.app)
+        order = sorted(range(len(self.app.tasks)), key=lambda t: -self.app.tasks[t].priority)
+        for point in sorted(p for p in table if block_of(p) == self.block):
+            yield 'at %s' % shown_point(self.app, point)
+            for t in order:
+                task = self.app.tasks[t]
+                kind = '' if task.is_full else ', not preemptable'
+                yield '  %s, priority %d%s: %s' % (task.name, task.priority, kind, wording.task(point, t, table[point][t]))
+        yield from self.ceiling_lines(table)
+
+    def ceiling_lines(self, table):
+        """What resources that are held here do to a priority."""
+        values = [fields for p, sets in table.items() if block_of(p) == self.block for found in sets[:len(self.app.tasks)] for fields in found]
+        for resource in (self.app.resources[r] for r in sorted({r for fields in values for r in fields[HELD:]})):
+            if resource.ceiling:
+                yield 'who holds %s is just above priority %d' % (resource.name, resource.ceiling // 2)
+
+
+def searched(site, most):
+    """The search for runs to each outcome that the table admits, or to two outcomes where there is no table."""
+    search = Search(site.app, site.block)
+    search.look(lambda found: len(found) > 1 if site.admitted is None else site.admitted <= found.keys(), most)
+    return search
+
+
+def outcome_order(outcome):
+    return -2 if outcome == KEEP else -1 if outcome.task is None else outcome.task
+
+
+def run_lines(site, search, outcome):
+    """The run to an outcome: its events, and the line of the trace that shows it."""
+    found = search.run_to(outcome)
+    events = [event for event, count in found.events for _ in range(count)]
+    step = list(play(site.app, found.mode, events_of('\n'.join(events))))[-1][0]
+    yield '%s: in %s by %s' % (site.said(outcome), found.mode, ', '.join(shortened(events)))
+    yield '  %s' % line(site.app, len(events), step)
+
+
+def shortened(events):
+    """Events as a script for events.py has them: several of one in one."""
+    found = []
+    for event in events:
+        if found and found[-1][0] == event:
+            found[-1][1] += 1
+        else:
+            found.append([event, 1])
+    return [event if count == 1 else '%s * %d' % (event, count) for event, count in found]
+
+
+def missing_lines(site, search):
+    """What the table admits and no run showed."""
+    if site.admitted == set():
+        yield 'no state of the table stands here'
+    for outcome in sorted((site.admitted or set()) - set(search.found), key=outcome_order):
+        told = 'none of the first %d states shows it' if search.waiting else 'no run does it (all %d states were looked at)'
+        yield '%s: the table admits it, but %s' % (site.said(outcome), told % len(search.came))
+
+
+def lines_of(site, search, code_name):
+    yield site.heading(code_name)
+    if site.analysis:
+        yield from site.table_lines()
+    for outcome in sorted(search.found, key=outcome_order):
+        yield from run_lines(site, search, outcome)
+    yield from missing_lines(site, search)
+    if site.admitted is None and len(search.found) < 2:
+        yield 'none of the first %d states shows %s' % (len(search.came), 'another outcome' if search.found else 'the site')
+
+
+def stored(site, search, folder):
+    """Stores the runs as event texts; their names."""
+    for number, outcome in enumerate(sorted(search.found, key=outcome_order), 1):
+        name = os.path.join(folder, 'b%d-%d.events' % (site.block, number))
+        found = search.run_to(outcome)
+        with open(name, 'w', encoding='ascii') as file:
+            file.write('# b%d: %s, in %s\n' % (site.block, site.said(outcome), found.mode))
+            file.writelines('%s\n' % event * count for event, count in found.events)
+        yield name
+
+
+def site_block(app, text):
+    """The number of the call site that is named."""
+    match = re.fullmatch(r'b(\d+)(/.*)?', text)
+    block = int(match.group(1)) if match else None
+    if block not in app.sites():
+        raise Wrong('%s is no call site: these are %s' % (text, ', '.join('b%d' % site for site in app.sites())))
+    return block
+
+
+def arguments():
+    parser = Parser(__doc__)
+    parser.add_argument('oil', metavar='OIL')
+    parser.add_argument('code', metavar='CODE')
+    parser.add_argument('site', metavar='bN', help='the block of a call site, as `osekfit show` has it')
+    parser.add_argument('--events', metavar='DIR', help='where the runs are stored')
+    parser.add_argument('--most', type=int, default=100000, metavar='N', help='how many states are looked at for runs')
+    return parser.parse_args()
+
+
+def main():
+    words = arguments()
+    app = application_of(contents(words.oil), contents(words.code), (words.oil, words.code))
+    site = Site(app, site_block(app, words.site))
+    search = searched(site, words.most)
+    for text in lines_of(site, search, words.code):
+        print(text)
+    for name in stored(site, search, words.events) if words.events else []:
+        print(name)
+
+
+if __name__ == '__main__':
+    run(main)
