@@ -1,6 +1,7 @@
 pub mod AboveLast
 pub mod AscendingValues
 pub mod Ascends
+pub mod Decisions
 pub mod EntryFaults
 pub mod FieldReads
 pub mod Fields
@@ -14,6 +15,9 @@ pub mod RowsSoFar
 pub mod Sequences
 pub mod SetFaults
 pub mod ShapeLaws
+pub mod SomeShapes
+pub mod SomeTables
+pub mod SomeValues
 pub mod StackEnds
 pub mod StackReads
 pub mod TableFaults

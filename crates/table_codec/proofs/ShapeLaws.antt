@@ -19,7 +19,7 @@ one_block a b e = ap block_no e
 
 module _ (app : App) (t : TaskNo) (known : t.0 < length app.tasks) where
   -- where the task has the processor it is Live at that block
-  abbrev running_shape : Point → BlockNo → Shape
+  abbrev pub running_shape : Point → BlockNo → Shape
   running_shape p b = record { point = p; task = t; is_free = false; waits = false; first = b; count = 1 }
 
   at_block : (b : BlockNo) → IsOwn app t.0 b.0 → IsShape app (running_shape (point.Task b) b)
@@ -84,7 +84,7 @@ module _ (app : App) (t : TaskNo) (known : t.0 < length app.tasks) where
   not_is : (b : Bool) → b ≡ false → IsTrue (not b)
   not_is b e = ap not e
 
-  abbrev elsewhere_shape : Point → (is_free waits : Bool) → Shape
+  abbrev pub elsewhere_shape : Point → (is_free waits : Bool) → Shape
   elsewhere_shape p is_free waits = record { point = p; task = t; is_free = is_free; waits = waits; first = (the_task app t.0).first; count = (the_task app t.0).count }
 
   pub elsewhere : (p : Point) (waits : Bool) → RunsNowhere app p t.0

@@ -1,5 +1,5 @@
 -- The numbered rows of a written table: they have sets that can be written, and merged with the points they are spelled.
-use Rattle.std.proofs.Common.{◌≡◌, ℕ, ◌<◌, ◌≤◌, List, [], ◌∷◌, ◌++◌, length, map, get_or, refl, sym, ap, subst, ◌∙◌, inl, inr, arith, All}
+use Rattle.std.proofs.Common.{◌≡◌, ℕ, ◌<◌, ◌≤◌, List, [], ◌∷◌, ◌++◌, length, map, get_or, refl, sym, ap, ap₂, subst, ◌∙◌, inl, inr, arith, All}
 use Rattle.std.specs.Prelude.{Contains}
 use Rattle.std.specs.Global.{Vec}
 use Rattle.std.specs.List.{flat_map}
@@ -90,7 +90,13 @@ module _ (app : App) (table : PlainTable) (written : IsWritten app table) (pool 
           ∙ ap (λ (rs : List TableRow). flat_map (point_bytes app rs) (points_in_order app)) (sym (ap (plain_rows pool) empty) ∙ are.same))
     ]
 
-    -- All of it is the table's spelling.
-    pub written_whole : magic ++ merged_bytes (components app) values (points_in_order app) rows ≡ spelling app table
+    written_whole : magic ++ merged_bytes (components app) values (points_in_order app) rows ≡ spelling app table
     unfolding spelling
     written_whole = ap (λ (l : List ℕ). magic ++ l) merged_rows
+
+    -- All of it is the table's spelling.
+    pub all_written : (ks : List Component) (points : List Point) (before : List ℕ) → ks ≡ components app → points ≡ points_in_order app → before ≡ magic → before ++ merged_bytes ks values points rows ≡ spelling app table
+    all_written ks points before k p b =
+        ap (λ (l : List ℕ). l ++ merged_bytes ks values points rows) b
+        ∙ ap₂ (λ (cs : List Component) (ps : List Point). magic ++ merged_bytes cs values ps rows) k p
+        ∙ written_whole

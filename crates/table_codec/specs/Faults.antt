@@ -1,9 +1,7 @@
 -- The first fault of a table's bytes, without a reader: what stands before it is as in some table, and it breaks a rule.
-use Rattle.std.specs.Prelude.{◌≡◌, ◌≢◌, ◌⊎◌, ⊤, ℕ, ◌^◌, ◌-◌, ◌<◌, ◌≤◌, List, [], ◌∷◌, ◌++◌, length, take, All, Contains, slice_get, Some, Result, Ok, Err}
+use Rattle.std.specs.Prelude.{◌≡◌, ◌≢◌, ◌⊎◌, ℕ, ◌^◌, ◌-◌, ◌<◌, ◌≤◌, List, [], ◌∷◌, ◌++◌, length, take, All, Contains, slice_get, Some}
 use Rattle.std.specs.List.{flat_map}
 use Rattle.std.specs.Int.{to_be_bytes, w32}
-use Rattle.osek_values.specs.declared.refused.Refused.{Refused}
-use Rattle.osek_values.specs.declared.refused.Refused.TheVariants as refused
 use Rattle.osek_standard.specs.declared.app.App.{App}
 use Rattle.osek_standard.specs.declared.point.Point.{Point}
 use Rattle.abstract_state.specs.declared.value.{Component.{Component}, PartValue.{PartValue}}
@@ -132,15 +130,3 @@ pub record IsFirstFault (app : App) (bytes : List ℕ) (x : TableFault) : Type 0
   pub fault : Fault
   pub first : IsTableFault app bytes fault
   pub is : x ≡ located (length bytes) fault
-
--- a table is answered, unless memory ran out
-abbrev pub IsAnswered : PlainTable → Result PlainTable (Refused TableFault) → Type 0
-IsAnswered table (Ok t) = t ≡ table
-IsAnswered table (Err refused.Memory) = ⊤
-IsAnswered table (Err (refused.Fault f)) = ⊥
-
--- bytes are refused for a fault, unless memory ran out
-abbrev pub IsRefusedAs : TableFault → Result PlainTable (Refused TableFault) → Type 0
-IsRefusedAs fault (Ok t) = ⊥
-IsRefusedAs fault (Err refused.Memory) = ⊤
-IsRefusedAs fault (Err (refused.Fault f)) = f ≡ fault

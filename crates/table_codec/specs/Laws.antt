@@ -2,7 +2,7 @@
 use Rattle.std.specs.Prelude.{◌≡◌, ◌⊎◌, ℕ, ◌<◌, List, ◌++◌, slice_index}
 use Rattle.osek_standard.specs.declared.app.App.{App}
 use Rattle.abstract_state.specs.declared.table.PlainTable.{PlainTable}
-use Rattle.abstract_state.specs.Written.{IsWritten}
+use Rattle.abstract_state.specs.{Domains.{HasMasks}, Written.{IsWritten}}
 use Rattle.table_codec.specs.declared.fault.TableFault.{TableFault}
 use Rattle.table_codec.specs.Spelling.{spelling}
 use Rattle.table_codec.specs.Faults.{IsFirstFault}
@@ -21,5 +21,5 @@ OneFault = (app : App) (bytes : List ℕ) (f g : TableFault) → IsFirstFault ap
 
 -- bytes spell a table, or have a first fault
 abbrev pub SomeAnswer : Type 0
-SomeAnswer = (app : App) (bytes : List ℕ) → ((i : ℕ) → slice_index bytes i < 256)
+SomeAnswer = (app : App) (bytes : List ℕ) → HasMasks app → ((i : ℕ) → slice_index bytes i < 256)
     → ((table : PlainTable) × IsWritten app table × (spelling app table ≡ bytes)) ⊎ ((f : TableFault) × IsFirstFault app bytes f)

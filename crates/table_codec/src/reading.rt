@@ -1,6 +1,6 @@
 //! Tables from bytes.
-ghost use Rattle.std.specs.Prelude.{◌≡◌, ◌++◌, ◌∷◌, [], All, IfOk, IfErr, OnOk};
-ghost use Rattle.osek_values.specs.Answers.{Refuses};
+ghost use Rattle.std.specs.Prelude.{◌≡◌, ◌++◌, ◌∷◌, [], All, Ok, Err, IfOk, IfErr, OnOk};
+ghost use Rattle.osek_values.specs.Answers.{Refuses, Answers};
 ghost use Rattle.abstract_state.specs.declared.table.PlainTable.{PlainTable as APlainTable};
 ghost use Rattle.abstract_state.specs.Components.{components as components_of};
 ghost use Rattle.abstract_state.specs.Domains.{domains, domains_of, IsSound};
@@ -10,7 +10,7 @@ ghost use Rattle.numbered_sets.specs.Pools.{pool_domains};
 ghost use Rattle.numbered_sets.specs.PlainTables.{plain_table, plain_rows, row_at, AreRowsOf};
 ghost use Rattle.table_codec.specs.Spelling.{spelling, magic as magic_of};
 ghost use Rattle.table_codec.specs.declared.fault.TableFault.{TableFault as ATableFault};
-ghost use Rattle.table_codec.specs.Faults.{IsTableFault, IsRowFault, IsPointFault, IsFirstFault, IsAnswered, IsRefusedAs};
+ghost use Rattle.table_codec.specs.Faults.{IsTableFault, IsRowFault, IsPointFault, IsFirstFault};
 ghost use Rattle.table_codec.specs.Rows.{IsReadRow, IsMagicFault, IsPresenceFault, IsReadTable};
 
 use crate::entries::entry;
@@ -159,8 +159,8 @@ pub fn read_table(alloc: Global, app: &App, bytes: &[u8]) -> Result<Table, Table
     ensures spelled { IfOk result (λ t. spelling app.now t ≡ bytes.now) }
     ensures first { IfErr result (λ e. Refuses e (IsFirstFault app.now bytes.now)) }
     // What is spelled so is answered, and what is the first fault is refused so, unless memory runs out.
-    ensures complete { (t : APlainTable) → IsWritten app.now t → spelling app.now t ≡ bytes.now → IsAnswered t result }
-    ensures exact { (f : ATableFault) → IsFirstFault app.now bytes.now f → IsRefusedAs f result }
+    ensures complete { (t : APlainTable) → IsWritten app.now t → spelling app.now t ≡ bytes.now → Answers result (Ok t) }
+    ensures exact { (f : ATableFault) → IsFirstFault app.now bytes.now f → Answers result (Err f) }
 {
     let mut reader = Reader::new(bytes);
     match all(alloc, &mut reader, app) {

@@ -1,10 +1,10 @@
-use Rattle.std.proofs.Common.{◌≡◌, ◌∙◌, ◌+◌, ◌++◌, ◌<◌, ℕ, suc, List, drop, length, sym, ap, subst, arith}
+use Rattle.std.proofs.{Common.{◌≡◌, ◌∙◌, ◌+◌, ◌++◌, ◌<◌, ℕ, suc, List, drop, length, sym, ap, subst, arith, Err}, lemmas.Result.{err_from_is_err_and}}
 use Rattle.numbered_sets.specs.SetLists.{set_of}
 use Rattle.table_codec.specs.declared.ascending.NumberedValue.{NumberedValue}
 use Rattle.table_codec.specs.Ascending.{values_in}
 use Rattle.table_codec.specs.Spelling.{set_bytes, sets_bytes}
-use Rattle.table_codec.specs.Writing.{IsWritable, all_in}
-use Rattle.table_codec.proofs.WriteLaws.{writable_at, set_next, put_on}
+use Rattle.table_codec.specs.Writing.{Puts, IsWritable, all_in}
+use Rattle.table_codec.proofs.{WriteLaws.{writable_at, set_next, put_on}, WriteSteps.{puts_on}}
 use Rattle.table_codec.proofs.writing.put_entry.Goals as goal
 
 pub put_set-requires : goal.put_set-requires
@@ -16,7 +16,20 @@ put_set-requires c =
     (c.at.ensures.item c.at.result.now) c.requires.sets)
 
 pub returns-in_err-put_set : goal.returns-in_err-put_set
-returns-in_err-put_set c = (let a = c.in_err-put_set.ensures in let b = c.as_slice.ensures.value in ?)
+returns-in_err-put_set c =
+    let p = err_from_is_err_and c.from_residual.result c.from_residual.ensures.1 in
+    let place = c.loop-place.place in
+    let ks = c.args.components.now in
+    let all = all_in c.args.sets.now c.args.values.now in
+    let k = c.at-component.result.now in
+    let out = c.loop-place.out.items in
+    let after = c.put_set.new.out.items in
+    let piece = set_bytes k (values_in (set_of c.args.sets.now place) c.at.result.now.items) in
+    let here : place < length ks = omega (arith, c.loop-place-test.true, c.len-place-end.ensures) in
+    let next = set_next c.args.sets.now c.args.values.now ks place k c.at.result.now here (omega (arith, here, c.requires.as_many)) (omega (arith, here, c.requires.size)) (c.at-component.ensures.item k) (c.at.ensures.item c.at.result.now) in
+    let bad = subst (λ (vs : List NumberedValue). Puts {X = Unit {0}} (Err c.in_err-put_set.field-0.0) out after (set_bytes k (values_in (set_of c.args.sets.now place) vs))) c.as_slice.ensures.value c.in_err-put_set.ensures in
+    rw (p.1, p.2) (puts_on (Unit {0}) c.in_err-put_set.field-0.0 c.args.out.now.items out after after piece (sets_bytes (drop (suc place) ks) (drop (suc place) all)) (sets_bytes ks all)
+    (ap (λ (l : List ℕ). out ++ l) (sym next) ∙ c.loop-place.invariant) bad)
 
 pub loop-place-preserved : goal.loop-place-preserved
 loop-place-preserved c =
