@@ -1,13 +1,8 @@
 -- A value is above those of an ascending list where it is above the last.
 use Rattle.std.proofs.Common.{◌≡◌, ◌↔◌, Bool, true, IsTrue, refl, sym, ℕ, ◌-◌, ◌<◌, List, [], ◌∷◌, ◌++◌, length, get_or, ap, subst, ◌∙◌, arith}
-use Rattle.std.specs.List.{AllByRecursion}
-use Rattle.std.specs.Prelude.{All}
-use Rattle.std.specs.Ordering.{is_lt}
-use Rattle.std.specs.declared.cmp.{Ordering.{Ordering}, Ordering.TheVariants.{Less, Equal, Greater}}
-use Rattle.std.proofs.lemmas.List.{take_all}
-use Rattle.std.proofs.lemmas.List.Elements.{All-get_or, All-from_recursion, recursion_from_All}
-use Rattle.abstract_state.specs.declared.value.PartValue.{PartValue}
-use Rattle.abstract_state.specs.ValueOrder.{part_order, IsAscending}
+use Rattle.std.specs.{Prelude.{All}, Ordering.{is_lt}, declared.cmp.Ordering.{Ordering, TheVariants.{Less, Equal, Greater}}}
+use Rattle.std.proofs.lemmas.List.{take_all, Elements.{All-get_or, All-from_recursion, recursion_from_All}}
+use Rattle.abstract_state.specs.{declared.value.PartValue.{PartValue}, ValueOrder.{part_order, IsAscending}}
 use Rattle.abstract_state.proofs.OrderLaws.{all_passed, ascending_one}
 use Rattle.table_codec.proofs.Ascends.{sorted_push, sorted_last}
 
@@ -23,7 +18,7 @@ above_last xs m v up some is = (
       sorted_push part_order xs v up (recursion_from_All IsBelow xs all),
   λ h.
       let all : All IsBelow xs = All-from_recursion IsBelow xs (sorted_last part_order xs v h) in
-      subst IsBelow is (All-get_or IsBelow xs (length xs - 1) m (omega (arith, some)) all)
+      subst IsBelow is (All-get_or IsBelow xs (length xs - 1) m (omega (arith, some)) all),
 )
   where
     IsBelow : PartValue → Type 0

@@ -1,25 +1,14 @@
 -- Values that were sorted, each with its number: whichever numbers are asked for, theirs come in order.
-use Rattle.std.proofs.Common.{◌≡◌, ℕ, zero, suc, ◌+◌, ◌<◌, ◌≤◌, Bool, true, false, ◌||◌, ◌&&◌, cond, List, [], ◌∷◌, ◌++◌, length, map, filter, take, get_or, refl, sym, ap, ap₂, subst, ◌∙◌, inl, inr, arith}
-use Rattle.std.specs.Prelude.{if◌then◌else◌}
-use Rattle.std.specs.Cmp.{IsStrictWeakOrder}
-use Rattle.std.specs.List.{list_any, IsDistinct, AllByRecursion}
-use Rattle.std.specs.List.Sorted.{IsStrictlySortedBy, IsSortedBy, IsPermutation}
-use Rattle.std.specs.Ordering.{is_eq, is_lt, ordering_reverse}
-use Rattle.std.specs.declared.cmp.{Ordering.{Ordering}, Ordering.TheVariants.{Less, Equal, Greater}}
-use Rattle.std.proofs.lemmas.Bool.{cases_Bool}
-use Rattle.std.proofs.lemmas.List.{take_more, length-take-le}
-use Rattle.std.proofs.lemmas.List.Elements.{recursion_from_All}
-use Rattle.std.proofs.lemmas.List.Kept.{IsStrictlySortedBy-filter}
-use Rattle.std.proofs.lemmas.List.Sorted.{ranks_by, sorted_far, list_any-IsPermutation, length_permutation}
-use Rattle.std.proofs.lemmas.Map.Keys.{IsDistinct-IsPermutation, apart_from_distinct}
-use Rattle.abstract_state.specs.declared.value.PartValue.{PartValue}
-use Rattle.abstract_state.specs.ValueOrder.{part_order, same_part, IsAscending}
+use Rattle.std.proofs.Common.{◌≡◌, ℕ, suc, ◌+◌, ◌<◌, ◌≤◌, Bool, true, false, ◌||◌, ◌&&◌, cond, List, [], ◌∷◌, ◌++◌, length, map, filter, take, get_or, refl, sym, ap, ap₂, ◌∙◌, arith}
+use Rattle.std.specs.{Prelude.{if◌then◌else◌}, List.{list_any, IsDistinct, AllByRecursion, Sorted.{IsStrictlySortedBy, IsSortedBy, IsPermutation}}}
+use Rattle.std.specs.{Ordering.{is_eq, is_lt, ordering_reverse}, declared.cmp.Ordering.{Ordering, TheVariants.{Less}}}
+use Rattle.std.proofs.lemmas.List.{take_more, length-take-le, Elements.{recursion_from_All}, Kept.{IsStrictlySortedBy-filter}}
+use Rattle.std.proofs.lemmas.{List.Sorted.{ranks_by, sorted_far, list_any-IsPermutation}, Map.Keys.{IsDistinct-IsPermutation, apart_from_distinct}}
+use Rattle.abstract_state.specs.{declared.value.PartValue.{PartValue}, ValueOrder.{part_order, same_part, IsAscending}}
 use Rattle.abstract_state.proofs.OrderLaws.{order_total, part_laws, same_list}
-use Rattle.numbered_sets.specs.Numbers.{Numbers, has_number}
-use Rattle.numbered_sets.specs.Views.{values_with, in_order, plain_set}
+use Rattle.numbered_sets.specs.{Numbers.{has_number}, Views.{values_with, in_order}}
 use Rattle.numbered_sets.proofs.PlainLaws.{ordered, any_first, any_in_order, ascending_in_order}
-use Rattle.table_codec.specs.declared.ascending.NumberedValue.{NumberedValue}
-use Rattle.table_codec.specs.Ascending.{values_in, AreInOrder, numbered_value, numbered_from}
+use Rattle.table_codec.specs.{declared.ascending.NumberedValue.{NumberedValue}, Ascending.{values_in, AreInOrder, numbered_value, numbered_from}}
 
 abbrev pub number_order : NumberedValue → NumberedValue → Ordering
 number_order a b = part_order a.value b.value

@@ -1,8 +1,6 @@
 -- Lists in strict order, and one more element behind them.
 use Rattle.std.proofs.Common.{◌≡◌, List, [], ◌∷◌, ◌++◌}
-use Rattle.std.specs.List.{AllByRecursion}
-use Rattle.std.specs.List.Sorted.{IsStrictlySortedBy}
-use Rattle.std.specs.declared.cmp.{Ordering.{Ordering}, Ordering.TheVariants.{Less}}
+use Rattle.std.specs.{List.{AllByRecursion, Sorted.{IsStrictlySortedBy}}, declared.cmp.Ordering.{Ordering, TheVariants.{Less}}}
 
 module _ {X : Type 0} where
   all_prefix : (P : X → Type 0) (xs ys : List X) → AllByRecursion P (xs ++ ys) → AllByRecursion P xs
@@ -13,7 +11,7 @@ module _ {X : Type 0} where
   all_back P [] ys all = all
   all_back P (x ∷ xs) ys all = all_back P xs ys all.1
 
-  all_push : (P : X → Type 0) (xs : List X) (y : X) → AllByRecursion P xs → P y → AllByRecursion P (xs ++ y ∷ [])
+  pub all_push : (P : X → Type 0) (xs : List X) (y : X) → AllByRecursion P xs → P y → AllByRecursion P (xs ++ y ∷ [])
   all_push P [] y all h = (h, tt)
   all_push P (x ∷ xs) y all h = (all.0, all_push P xs y all.1 h)
 

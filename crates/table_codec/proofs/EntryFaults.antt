@@ -1,27 +1,17 @@
 -- The sets of an entry, and the entry of a point: they are read in one way, or have one fault.
-use Rattle.std.proofs.Common.{◌≡◌, ◌⊎◌, ℕ, zero, suc, ◌+◌, ◌<◌, ◌≤◌, List, [], ◌∷◌, ◌++◌, length, map, get_or, refl, sym, ap, subst, ◌∙◌, inl, inr, arith, append_assoc, append-nil, length-append, Some, None}
-use Rattle.std.specs.Prelude.{slice_get}
-use Rattle.std.specs.List.{flat_map, zip}
-use Rattle.std.specs.declared.option.Option.{Option}
-use Rattle.std.proofs.Math.Seq.{get_or-append_seam}
-use Rattle.std.proofs.lemmas.List.{length_push, length-map}
-use Rattle.std.proofs.lemmas.List.Concat.{flat_map-cons}
+use Rattle.std.proofs.Common.{◌≡◌, ◌⊎◌, ℕ, zero, suc, ◌+◌, ◌<◌, ◌≤◌, List, [], ◌∷◌, ◌++◌, length, map, get_or, refl, sym, ap, subst, ◌∙◌, inl, inr, arith, append_assoc, length-append, Some, None}
+use Rattle.std.specs.{Prelude.{slice_get}, List.{zip}, declared.option.Option.{Option}}
+use Rattle.std.proofs.{Math.Seq.{get_or-append_seam}, lemmas.List.{length_push, length-map, Concat.{flat_map-cons}}}
 use Rattle.osek_values.specs.Numbers.{alarm_no}
-use Rattle.osek_standard.specs.declared.app.App.{App}
-use Rattle.osek_standard.specs.declared.point.Point.{Point}
+use Rattle.osek_standard.specs.declared.{app.App.{App}, point.Point.{Point}}
 use Rattle.abstract_state.specs.declared.value.{Component.{Component}, PartValue.{PartValue}, Domain.{Domain}}
 use Rattle.abstract_state.specs.declared.value.Component.TheVariants as component
-use Rattle.abstract_state.specs.declared.table.{ValueSet.{ValueSet}, PlainEntry.{PlainEntry}}
-use Rattle.abstract_state.specs.Components.{components, component_at, component_count}
+use Rattle.abstract_state.specs.{declared.table.{ValueSet.{ValueSet}, PlainEntry.{PlainEntry}}, Components.{components, component_at, component_count}}
 use Rattle.abstract_state.specs.Domains.{domains, domains_of, domain_of}
 use Rattle.abstract_state.proofs.ComponentLaws.{component_known}
-use Rattle.table_codec.specs.declared.fault.Fault.{Fault}
-use Rattle.table_codec.specs.Spelling.{set_bytes, sets_bytes, members_of, entry_bytes}
-use Rattle.table_codec.specs.Faults.{IsSetFault, IsGoodSet, AreGoodSets, IsEntryFault, IsPointFault}
-use Rattle.table_codec.specs.Sets.{IsReadEntry}
-use Rattle.table_codec.specs.Rows.{IsReadRow}
-use Rattle.table_codec.proofs.Sequences.{Runs, one_run, no_fault, one_fault}
-use Rattle.table_codec.proofs.SetFaults.{one_set, set_clash, one_set_fault}
+use Rattle.table_codec.specs.{declared.fault.Fault.{Fault}, Spelling.{set_bytes, sets_bytes, members_of}, Faults.{IsSetFault, IsGoodSet, AreGoodSets, IsEntryFault, IsPointFault}}
+use Rattle.table_codec.specs.{Sets.{IsReadEntry}, Rows.{IsReadRow}}
+use Rattle.table_codec.proofs.{Sequences.{Runs, one_run, no_fault, one_fault}, SetFaults.{one_set, set_clash, one_set_fault}}
 
 no_sets : (ks : List Component) → sets_bytes ks [] ≡ []
 no_sets [] = refl
@@ -80,11 +70,12 @@ module _ (app : App) (p : Point) where
       let known : length before < component_count app = omega (arith, ap (λ (cs : List Component). length cs) is, length-append done (k ∷ ks), size) in
       let next : length (before ++ vs ∷ []) ≡ length done + 1 = omega (arith, length_push before vs, size) in
       let mid = sets_bytes ks sets ++ rest in
-      let spelled : bytes ≡ set_bytes k vs ++ mid = e ∙ ap (λ (l : List ℕ). l ++ rest) (more_sets k ks vs sets) ∙ append_assoc (set_bytes k vs) (sets_bytes ks sets) rest in
-      (mid,
-      (known, subst (λ (n : ℕ). IsGoodSet app p (component_at app n) vs) first (good 0 vs refl), spelled ∙ ap (λ (c : Component). set_bytes c vs ++ mid) (sym here)),
-      runs_from (done ++ k ∷ []) ks (before ++ vs ∷ []) sets mid rest (is ∙ sym (append_assoc done (k ∷ []) ks)) (omega (arith, next, length_push done k)) (omega (arith, few))
-      (λ c ws h. let e : length before + suc c ≡ length (before ++ vs ∷ []) + c = omega (arith, length_push before vs) in subst (λ (n : ℕ). IsGoodSet app p (component_at app n) ws) e (good (suc c) ws h)) refl)
+      let spelled : bytes ≡ set_bytes k vs ++ mid = e ∙ ap (λ (l : List ℕ). l ++ rest) (more_sets k ks vs sets) ∙ append_assoc (set_bytes k vs) (sets_bytes ks sets) rest in (
+        mid,
+        (known, subst (λ (n : ℕ). IsGoodSet app p (component_at app n) vs) first (good 0 vs refl), spelled ∙ ap (λ (c : Component). set_bytes c vs ++ mid) (sym here)),
+        runs_from (done ++ k ∷ []) ks (before ++ vs ∷ []) sets mid rest (is ∙ sym (append_assoc done (k ∷ []) ks)) (omega (arith, next, length_push done k)) (omega (arith, few))
+            (λ c ws h. let e : length before + suc c ≡ length (before ++ vs ∷ []) + c = omega (arith, length_push before vs) in subst (λ (n : ℕ). IsGoodSet app p (component_at app n) ws) e (good (suc c) ws h)) refl,
+      )
 
   pub runs_of_sets : (sets : List (List PartValue)) (bytes rest : List ℕ) → length sets ≤ component_count app → AreGoodSets app p sets → bytes ≡ sets_bytes (components app) sets ++ rest → Runs Reads [] bytes sets rest
   runs_of_sets sets bytes rest few good e = runs_from [] (components app) [] sets bytes rest refl refl few (λ c vs h. let e : c ≡ 0 + c = omega arith in subst (λ (n : ℕ). IsGoodSet app p (component_at app n) vs) e (good c vs h)) e

@@ -1,8 +1,6 @@
 -- A number that was read, and may not stand there.
 use Rattle.std.proofs.Common.{◌≡◌, ◌↔◌, ℕ, ◌<◌, Bool, false, List, ◌++◌, length, ap, ◌∙◌, IsTrue}
-use Rattle.table_codec.specs.declared.fault.{Fault.{Fault}, TableRule.{TableRule}, TableRule.TheVariants.{K3}}
-use Rattle.table_codec.specs.Spelling.{field_limit, field_bytes}
-use Rattle.table_codec.specs.Faults.{IsFieldFault, field_barred}
+use Rattle.table_codec.specs.{declared.fault.{Fault.{Fault}, TableRule.{TableRule, TheVariants.{K3}}}, Spelling.{field_limit, field_bytes}, Faults.{IsFieldFault, field_barred}}
 
 abbrev pub fault_of : TableRule → ℕ → Fault
 fault_of rule left = record { rule = rule; left = left }

@@ -1,12 +1,10 @@
 -- The fields of a task's values: bytes that begin with two lists of fields have one of them before the other, and no value's
 -- fields begin another's.
-use Rattle.std.proofs.Common.{◌≡◌, ◌⊎◌, ℕ, suc, ◌+◌, ◌^◌, ◌<◌, ◌≤◌, Bool, true, false, List, [], ◌∷◌, ◌++◌, length, map, refl, sym, ap, subst, ◌∙◌, inl, inr, arith, append_assoc, eqb-true}
-use Rattle.std.specs.Prelude.{◌==◌, if◌then◌else◌}
-use Rattle.std.specs.Int.{to_be_bytes, w16, from_be_bytes}
-use Rattle.std.proofs.lemmas.List.{append-nil, length-append, length-map}
-use Rattle.std.proofs.lemmas.Nat.{from_be_bytes-to_be_bytes_2}
-use Rattle.osek_values.specs.declared.numbers.{ResNo.{ResNo}, BlockNo.{BlockNo}}
-use Rattle.abstract_state.specs.declared.value.{LiveVal.{LiveVal}, Val.{Val}, Val.TheVariants.{Suspended, Live, Waiting}}
+use Rattle.std.proofs.Common.{◌≡◌, ◌⊎◌, ℕ, suc, ◌+◌, ◌^◌, ◌<◌, ◌≤◌, Bool, true, false, List, [], ◌∷◌, ◌++◌, length, refl, sym, ap, subst, ◌∙◌, inl, inr, arith, append_assoc, eqb-true}
+use Rattle.std.specs.{Prelude.{◌==◌, if◌then◌else◌}, Int.{to_be_bytes, w16, from_be_bytes}}
+use Rattle.std.proofs.lemmas.{List.{append-nil, length-append, length-map}, Nat.{from_be_bytes-to_be_bytes_2}}
+use Rattle.osek_values.specs.declared.numbers.ResNo.{ResNo}
+use Rattle.abstract_state.specs.declared.value.Val.{Val, TheVariants.{Suspended, Live, Waiting}}
 use Rattle.table_codec.specs.Spelling.{resource_numbers, task_fields, field_width, field_limit, field_bytes, fields_from}
 
 pub record IsPrefix (ns ms : List ℕ) : Type 0 where

@@ -1,22 +1,15 @@
 -- Sets of flags that are read by their number.
 use Rattle.std.proofs.Common.{◌≡◌, ℕ, zero, suc, ◌<◌, ◌≤◌, Bool, true, false, List, [], ◌∷◌, ◌++◌, refl, sym, ap, subst, ◌∙◌, arith}
-use Rattle.std.specs.Prelude.{sum_by}
-use Rattle.std.specs.List.Sorted.{IsStrictlySortedBy}
-use Rattle.std.specs.declared.cmp.{Ordering.TheVariants.{Less}}
-use Rattle.std.proofs.lemmas.List.Elements.{All-nil, All-cons}
-use Rattle.std.proofs.lemmas.List.Sums.{sum_by-cons}
+use Rattle.std.specs.{Prelude.{sum_by}, List.Sorted.{IsStrictlySortedBy}, declared.cmp.Ordering.TheVariants.{Less}}
+use Rattle.std.proofs.lemmas.List.{Elements.{All-nil, All-cons}, Sums.{sum_by-cons}}
 use Rattle.osek_values.specs.declared.numbers.{TaskNo.{TaskNo}, EventNo.{EventNo}, AlarmNo.{AlarmNo}}
-use Rattle.osek_standard.specs.declared.app.App.{App}
-use Rattle.osek_standard.specs.declared.point.Point.{Point}
-use Rattle.abstract_state.specs.declared.value.{Component.{Component}, PartValue.{PartValue}, PartValue.TheVariants.{OfTask, OfEvent, OfAlarm}}
+use Rattle.osek_standard.specs.declared.{app.App.{App}, point.Point.{Point}}
+use Rattle.abstract_state.specs.declared.value.{Component.{Component}, PartValue.{PartValue, TheVariants.{OfEvent, OfAlarm}}}
 use Rattle.abstract_state.specs.declared.value.Component.TheVariants as component
 use Rattle.abstract_state.specs.declared.value.Domain.TheVariants as domain
-use Rattle.abstract_state.specs.ValueOrder.{part_order, IsAscending}
-use Rattle.abstract_state.specs.Components.{IsPart}
+use Rattle.abstract_state.specs.{ValueOrder.{part_order, IsAscending}, Components.{IsPart}}
 use Rattle.abstract_state.proofs.OrderLaws.{ascending_one}
-use Rattle.table_codec.specs.Spelling.{flags, flag_number}
-use Rattle.table_codec.specs.Faults.{IsGoodSet}
-use Rattle.table_codec.specs.Sets.{IsFlagNumber, flagged, IsReadSet}
+use Rattle.table_codec.specs.{Spelling.{flags, flag_number}, Faults.{IsGoodSet}, Sets.{IsFlagNumber, flagged, IsReadSet}}
 
 no_flags : sum_by flag_number [] ≡ 0
 no_flags = refl

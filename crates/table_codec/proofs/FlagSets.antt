@@ -1,21 +1,13 @@
 -- Sets of flags: one of the two, or both, and the number of each.
 use Rattle.std.proofs.Common.{◌≡◌, ◌⊎◌, ℕ, ◌+◌, ◌<◌, ◌≤◌, Bool, true, false, List, [], ◌∷◌, ◌++◌, length, refl, sym, ap, ap₂, subst, ◌∙◌, inl, inr, arith}
-use Rattle.std.specs.Prelude.{sum_by}
-use Rattle.std.specs.List.{AllByRecursion}
-use Rattle.std.specs.List.Sorted.{IsStrictlySortedBy}
-use Rattle.std.specs.declared.cmp.{Ordering.TheVariants.{Less}}
-use Rattle.std.proofs.lemmas.List.Elements.{recursion_from_All}
-use Rattle.std.proofs.lemmas.List.Sums.{sum_by-cons}
+use Rattle.std.specs.{Prelude.{sum_by}, List.{AllByRecursion, Sorted.{IsStrictlySortedBy}}, declared.cmp.Ordering.TheVariants.{Less}}
+use Rattle.std.proofs.lemmas.List.{Elements.{recursion_from_All}, Sums.{sum_by-cons}}
 use Rattle.osek_values.specs.declared.numbers.{TaskNo.{TaskNo}, EventNo.{EventNo}, AlarmNo.{AlarmNo}}
-use Rattle.osek_standard.specs.declared.app.App.{App}
-use Rattle.osek_standard.specs.declared.point.Point.{Point}
-use Rattle.abstract_state.specs.declared.value.{Component.{Component}, PartValue.{PartValue}, PartValue.TheVariants.{OfTask, OfEvent, OfAlarm}}
+use Rattle.osek_standard.specs.declared.{app.App.{App}, point.Point.{Point}}
+use Rattle.abstract_state.specs.declared.value.PartValue.{PartValue, TheVariants.{OfTask, OfEvent, OfAlarm}}
 use Rattle.abstract_state.specs.declared.value.Component.TheVariants as component
-use Rattle.abstract_state.specs.ValueOrder.{part_order, IsAscending}
-use Rattle.abstract_state.specs.Components.{IsPart}
-use Rattle.table_codec.specs.declared.fault.Fault.{Fault}
-use Rattle.table_codec.specs.Spelling.{flags, flag_number}
-use Rattle.table_codec.specs.Faults.{IsFlagsFault, IsGoodSet}
+use Rattle.abstract_state.specs.{ValueOrder.{part_order, IsAscending}, Components.{IsPart}}
+use Rattle.table_codec.specs.{declared.fault.Fault.{Fault}, Spelling.{flags, flag_number}, Faults.{IsFlagsFault, IsGoodSet}}
 
 -- a set of flags, and its number
 pub data IsFlagSet (of : Bool → PartValue) (vs : List PartValue) (n : ℕ) : Type 0 where
@@ -115,7 +107,7 @@ flags_clash of vs rest [] f h e bad = absurd (cc)
 flags_clash of vs rest (n ∷ bytes) f h e bad =
     let same : n ≡ sum_by flag_number vs = cc in
     let range = flag_range of vs (sum_by flag_number vs) h in
-    elim bad.0 [ | inl none ↦ omega (arith, same, range.0, none) | inr above ↦ omega (arith, same, range.1, above) ]
+    elim bad.0 [ inl none ↦ omega (arith, same, range.0, none) | inr above ↦ omega (arith, same, range.1, above) ]
 
 pub one_flags_fault : (bytes : List ℕ) (f g : Fault) → IsFlagsFault bytes f → IsFlagsFault bytes g → f ≡ g
 one_flags_fault [] f g h d = h ∙ sym d

@@ -1,15 +1,9 @@
 -- One row more, beside a pool that may have grown by its values.
-use Rattle.std.proofs.Common.{◌≡◌, List, [], ◌∷◌, ◌++◌, ℕ, refl, sym, ap, ap₂, subst, ◌∙◌, inl, inr, arith, map}
-use Rattle.std.proofs.lemmas.List.{map-append}
-use Rattle.std.proofs.lemmas.List.Elements.{Contains-push_cases}
-use Rattle.osek_standard.specs.declared.point.Point.{Point}
+use Rattle.std.proofs.{Common.{◌≡◌, List, [], ◌∷◌, ◌++◌, ℕ, refl, ap, ap₂, subst, ◌∙◌, inl, inr, arith}, lemmas.List.{map-append, Elements.{Contains-push_cases}}}
 use Rattle.abstract_state.specs.declared.table.{PlainEntry.{PlainEntry}, TableRow.{TableRow}}
-use Rattle.numbered_sets.specs.declared.numbered_entry.NumberedEntry.{NumberedEntry}
-use Rattle.numbered_sets.specs.Pools.{Values, IsLonger}
-use Rattle.numbered_sets.specs.Views.{plain_entry, AreNumbersOf}
+use Rattle.numbered_sets.specs.{Pools.{Values, IsLonger}, Views.{plain_entry, AreNumbersOf}}
 use Rattle.numbered_sets.proofs.ViewLaws.{same_view, still_known}
-use Rattle.numbered_sets.specs.declared.table.NumberedRow.{NumberedRow}
-use Rattle.numbered_sets.specs.PlainTables.{row_at, plain_row, plain_rows, AreRowsOf}
+use Rattle.numbered_sets.specs.{declared.table.NumberedRow.{NumberedRow}, PlainTables.{row_at, plain_row, plain_rows, AreRowsOf}}
 use Rattle.numbered_sets.proofs.GrownPools.{rows_of_tail}
 
 module _ (pool after : List Values) (longer : IsLonger pool after) where

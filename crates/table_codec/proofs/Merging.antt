@@ -1,20 +1,14 @@
 -- Rows in the order of their points, beside all points in their order: each row is the one of its point.
-use Rattle.std.proofs.Common.{◌≡◌, ◌⊎◌, ℕ, zero, suc, ◌+◌, ◌<◌, ◌≤◌, Bool, true, false, cond, List, [], ◌∷◌, ◌++◌, length, map, filter, refl, sym, ap, ap₂, subst, ◌∙◌, inl, inr, arith, Some, None}
-use Rattle.std.specs.Prelude.{if◌then◌else◌}
-use Rattle.std.specs.Cmp.{nat_cmp_is}
-use Rattle.std.specs.List.{AllByRecursion}
-use Rattle.std.specs.List.Sorted.{IsStrictlySortedBy}
-use Rattle.std.specs.Ordering.{nat_cmp}
-use Rattle.std.specs.declared.cmp.{Ordering.{Ordering}, Ordering.TheVariants.{Less, Equal, Greater}}
-use Rattle.std.specs.declared.option.Option.{Option}
+use Rattle.std.proofs.Common.{◌≡◌, ◌⊎◌, ℕ, ◌+◌, ◌<◌, ◌≤◌, Bool, true, false, cond, List, [], ◌∷◌, ◌++◌, map, filter, refl, sym, ap, ap₂, subst, ◌∙◌, inl, inr, arith, Some, None}
+use Rattle.std.specs.{Prelude.{if◌then◌else◌}, Cmp.{nat_cmp_is}, List.{AllByRecursion, Sorted.{IsStrictlySortedBy}}, Ordering.{nat_cmp}}
+use Rattle.std.specs.declared.{cmp.Ordering.TheVariants.{Less, Equal, Greater}, option.Option.{Option}}
 use Rattle.std.proofs.lemmas.Bool.{cases_Bool, cases_order}
-use Rattle.osek_standard.specs.declared.point.Point.{Point}
-use Rattle.osek_standard.specs.Points.{point_number}
+use Rattle.osek_standard.specs.{declared.point.Point.{Point}, Points.{point_number}}
 use Rattle.osek_standard.proofs.Members.{Among}
-use Rattle.abstract_state.specs.declared.table.{PlainEntry.{PlainEntry}, TableRow.{TableRow}}
-use Rattle.abstract_state.specs.Tables.{same_point, is_row_of}
+use Rattle.abstract_state.specs.{declared.table.{PlainEntry.{PlainEntry}, TableRow.{TableRow}}, Tables.{same_point, is_row_of}}
 use Rattle.abstract_state.proofs.EqualityLaws.{point_right, point_itself}
 use Rattle.numbered_sets.specs.PlainTables.{row_at}
+use Rattle.table_codec.proofs.Ascends.{all_push}
 
 less_is : (x y : ℕ) → nat_cmp x y ≡ Less → x < y
 less_is x y e = elim (cases_order x y) [
@@ -49,10 +43,6 @@ module _ {X : Type 0} (n : X → ℕ) where
   unfolding IsStrictlySortedBy
   sorted_from_up [] up = tt
   sorted_from_up (x ∷ xs) up = (up_heads x xs up.0, sorted_from_up xs up.1)
-
-  all_push : (P : X → Type 0) (xs : List X) (y : X) → AllByRecursion P xs → P y → AllByRecursion P (xs ++ y ∷ [])
-  all_push P [] y all h = (h, tt)
-  all_push P (x ∷ xs) y all h = (all.0, all_push P xs y all.1 h)
 
   pub up_push : (xs : List X) (y : X) → Up xs → AllByRecursion (λ x. n x < n y) xs → Up (xs ++ y ∷ [])
   up_push [] y up below = (tt, tt)

@@ -1,30 +1,18 @@
 -- What a reader knows between two items: of the values of a set, of the sets of an entry, and of the rows of a table.
-use Rattle.std.proofs.Common.{◌≡◌, ◌⊎◌, ℕ, zero, suc, ◌+◌, ◌^◌, ◌<◌, ◌≤◌, Bool, List, [], ◌∷◌, ◌++◌, length, map, take, drop, get_or, refl, sym, ap, ap₂, subst, ◌∙◌, inl, inr, arith, append_assoc, append-nil, length-append, All, IsTrue, Some, None}
-use Rattle.std.specs.Prelude.{slice_get, Contains}
-use Rattle.std.specs.Int.{to_be_bytes, w32}
-use Rattle.std.specs.List.{flat_map, filter, zip, AllByRecursion}
-use Rattle.std.proofs.Math.Seq.{get_or-append_seam}
-use Rattle.std.proofs.lemmas.Grind.{flat_map-append}
-use Rattle.std.proofs.lemmas.List.{length_push, length-map, map-append, take_more, take_all, get_or_default}
-use Rattle.std.proofs.lemmas.List.Elements.{All-nil, All-push, All-from_recursion, recursion_from_All, All-weaker}
-use Rattle.std.proofs.lemmas.Option.{slice_get-map, slice_get_within}
-use Rattle.osek_standard.specs.declared.app.App.{App}
-use Rattle.osek_standard.specs.declared.point.Point.{Point}
+use Rattle.std.proofs.Common.{◌≡◌, ◌⊎◌, ℕ, zero, suc, ◌+◌, ◌^◌, ◌<◌, ◌≤◌, List, [], ◌∷◌, ◌++◌, length, map, take, get_or, refl, sym, ap, ap₂, subst, ◌∙◌, inl, inr, arith, append_assoc, append-nil, All, Some}
+use Rattle.std.specs.{Prelude.{slice_get}, Int.{to_be_bytes, w32}, List.{flat_map}}
+use Rattle.std.proofs.lemmas.{Grind.{flat_map-append}, List.{length_push, length-map, map-append, take_more, get_or_default, Elements.{All-nil, All-push}}}
+use Rattle.osek_standard.specs.declared.{app.App.{App}, point.Point.{Point}}
 use Rattle.abstract_state.specs.declared.value.{Component.{Component}, PartValue.{PartValue}, Domain.{Domain}}
 use Rattle.abstract_state.specs.declared.value.Component.TheVariants as component
 use Rattle.osek_values.specs.Numbers.{alarm_no}
-use Rattle.abstract_state.specs.declared.table.{ValueSet.{ValueSet}, PlainEntry.{PlainEntry}}
-use Rattle.abstract_state.specs.ValueOrder.{IsAscending}
-use Rattle.abstract_state.specs.Components.{components, component_at, component_count, IsPart, IsComponent}
-use Rattle.abstract_state.specs.Domains.{domains, domains_of, domain_of}
-use Rattle.abstract_state.proofs.ComponentLaws.{component_known}
-use Rattle.abstract_state.proofs.OrderLaws.{ascending_none}
+use Rattle.abstract_state.specs.{declared.table.ValueSet.{ValueSet}, ValueOrder.{IsAscending}, Components.{components, component_at, component_count, IsPart, IsComponent}}
+use Rattle.abstract_state.specs.Domains.{domains, domain_of}
+use Rattle.abstract_state.proofs.{ComponentLaws.{component_known}, OrderLaws.{ascending_none}}
 use Rattle.numbered_sets.specs.Pools.{no_values as none_seen, pool_domains}
-use Rattle.table_codec.specs.declared.fault.Fault.{Fault}
-use Rattle.table_codec.specs.Spelling.{value_bytes, listed, set_bytes, sets_bytes, members_of, entry_bytes}
-use Rattle.table_codec.specs.Faults.{IsNextFault, IsListedFault, count_cut, count_none, bad_list, IsSetFault, IsGoodSet, AreGoodSets, IsEntryFault}
-use Rattle.table_codec.specs.Sets.{IsCountFault, cut_count, no_count, IsNextValue, IsReadList, IsReadSet, IsReadEntry}
-use Rattle.table_codec.proofs.EntryFaults.{more_sets, entry_size}
+use Rattle.table_codec.specs.{declared.fault.Fault.{Fault}, Spelling.{value_bytes, set_bytes, sets_bytes}, Faults.{IsListedFault, count_cut, count_none, IsGoodSet, AreGoodSets}}
+use Rattle.table_codec.specs.Sets.{IsCountFault, cut_count, no_count, IsNextValue, IsReadSet}
+use Rattle.table_codec.proofs.EntryFaults.{more_sets}
 
 pub one_more_flat : {X : Type 0} (f : X → List ℕ) (xs : List X) (x : X) → flat_map f (xs ++ x ∷ []) ≡ flat_map f xs ++ f x
 one_more_flat f xs x = flat_map-append f xs (x ∷ []) ∙ ap (λ (l : List ℕ). flat_map f xs ++ l) (append-nil (f x))

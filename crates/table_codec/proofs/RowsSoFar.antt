@@ -1,44 +1,26 @@
 -- Rows that are read point by point: they make a written table, and spell the points so far.
-use Rattle.std.proofs.Common.{◌≡◌, ◌↔◌, ap₂, cond, append_assoc, ℕ, zero, suc, ◌+◌, ◌^◌, ◌<◌, ◌≤◌, Bool, true, List, [], ◌∷◌, ◌++◌, length, map, filter, take, drop, get_or, refl, sym, ap, subst, ◌∙◌, inl, inr, arith, append-nil, All, IsTrue, Some, None}
-use Rattle.std.specs.Prelude.{slice_get, Contains}
-use Rattle.std.specs.List.{flat_map, list_any, AllByRecursion}
-use Rattle.std.specs.declared.option.Option.{Option}
-use Rattle.std.proofs.lemmas.Grind.{flat_map-append}
-use Rattle.std.proofs.lemmas.List.{length-map, get_or-map, take_more, take_all, get_or_default, take-append-drop}
-use Rattle.std.proofs.lemmas.List.Concat.{flat_map-cons}
-use Rattle.std.proofs.lemmas.List.Elements.{All-from_recursion, recursion_from_All, All-contains, All-weaker}
-use Rattle.std.proofs.lemmas.Map.Views.{list_any-from_Contains}
+use Rattle.std.proofs.Common.{◌≡◌, ◌↔◌, ap₂, cond, append_assoc, ℕ, zero, suc, ◌+◌, ◌^◌, ◌<◌, ◌≤◌, List, [], ◌∷◌, ◌++◌, length, filter, take, drop, get_or, refl, sym, ap, subst, ◌∙◌, inl, inr, arith, All}
+use Rattle.std.specs.{Prelude.{Contains}, List.{flat_map, AllByRecursion}}
+use Rattle.std.proofs.lemmas.List.{length-map, get_or-map, take_more, take_all, take-append-drop, Concat.{flat_map-cons}, Elements.{All-from_recursion, All-contains, All-weaker}}
 use Rattle.std.specs.Option.{option_map}
-use Rattle.std.proofs.Math.ListN.{get_or-eq_default}
-use Rattle.std.proofs.lemmas.Bool.{cases_lt, cases_Bool}
-use Rattle.std.proofs.lemmas.Option.{slice_get-get_or, slice_get-map}
-use Rattle.osek_standard.specs.declared.app.App.{App}
-use Rattle.osek_standard.specs.declared.point.Point.{Point}
-use Rattle.osek_standard.specs.Points.{point_number, IsPoint}
+use Rattle.std.proofs.{Math.ListN.{get_or-eq_default}, lemmas.{Bool.{cases_lt, cases_Bool}, Option.{slice_get-get_or, slice_get-map}}}
+use Rattle.osek_standard.specs.{declared.{app.App.{App}, point.Point.{Point}}, Points.{point_number, IsPoint}}
 use Rattle.osek_standard.proofs.Members.{Among, contained_among, among_contained, among_each, among_left, among_right}
 use Rattle.osek_values.specs.Numbers.{alarm_no}
 use Rattle.abstract_state.specs.declared.value.{Domain.{Domain}, PartValue.{PartValue}}
 use Rattle.abstract_state.specs.declared.value.Component.TheVariants as component
 use Rattle.abstract_state.specs.declared.table.{ValueSet.{ValueSet}, PlainEntry.{PlainEntry}, TableRow.{TableRow}, PlainTable.{PlainTable}}
 use Rattle.abstract_state.specs.Components.{components, component_at, component_count, IsPart}
-use Rattle.abstract_state.specs.Domains.{domains, domains_of, domain_of, IsWithin, IsSound, IsSoundEntry, HasMasks}
-use Rattle.abstract_state.specs.Tables.{empty_set, set_at, is_member, is_row_of, sets_of, HasRow, HasValue, IsProper}
+use Rattle.abstract_state.specs.{Domains.{domains, domains_of, domain_of, IsWithin, IsSound, IsSoundEntry, HasMasks}, Tables.{empty_set, set_at, is_row_of, sets_of, IsProper}}
 use Rattle.abstract_state.specs.Written.{IsRow, IsWritten}
-use Rattle.abstract_state.proofs.DomainValues.{allowed_within}
-use Rattle.abstract_state.proofs.HeightLaws.{entry_height_is, height_few}
-use Rattle.abstract_state.proofs.EqualityLaws.{point_itself, written_entry, written_value}
-use Rattle.abstract_state.proofs.OrderLaws.{part_laws}
+use Rattle.abstract_state.proofs.{DomainValues.{allowed_within}, HeightLaws.{entry_height_is, height_few}, EqualityLaws.{point_itself, written_entry, written_value}}
 use Rattle.table_codec.specs.declared.fault.Fault.{Fault}
 use Rattle.numbered_sets.specs.PlainTables.{row_at}
 use Rattle.osek_standard.specs.Points.{points_in_order}
-use Rattle.table_codec.specs.Spelling.{members_of, entry_bytes, rows_bytes, point_bytes}
-use Rattle.table_codec.specs.Faults.{IsGoodSet, AreGoodSets, IsPointFault, IsRowFault}
-use Rattle.table_codec.specs.Sets.{IsReadEntry}
+use Rattle.table_codec.specs.{Spelling.{members_of, entry_bytes, rows_bytes, point_bytes}, Faults.{IsGoodSet, AreGoodSets, IsPointFault, IsRowFault}, Sets.{IsReadEntry}}
 use Rattle.table_codec.specs.Rows.{IsReadTable}
-use Rattle.table_codec.proofs.EntryFaults.{entry_size}
-use Rattle.table_codec.proofs.Merging.{row_number, Up, up_push, sorted_from_up, none_before, filter_other, filter_own, other_number}
-use Rattle.table_codec.proofs.PointOrder.{points_up, among_point}
-use Rattle.table_codec.proofs.ReadSoFar.{one_more_flat, read_on}
+use Rattle.table_codec.proofs.{EntryFaults.{entry_size}, Merging.{row_number, Up, up_push, sorted_from_up, none_before, filter_other, filter_own, other_number}}
+use Rattle.table_codec.proofs.{Ascends.{all_push}, PointOrder.{points_up, among_point}, ReadSoFar.{one_more_flat, read_on}}
 
 -- a row of the application, with good sets
 pub record IsGoodRow (app : App) (row : TableRow) : Type 0 where
@@ -149,10 +131,6 @@ module _ (app : App) where
   longer_before : (qs : List Point) (q : Point) (rows : List TableRow) → AllByRecursion (λ (row : TableRow). Among row.point qs) rows → AllByRecursion (λ (row : TableRow). Among row.point (qs ++ q ∷ [])) rows
   longer_before qs q [] at = tt
   longer_before qs q (row ∷ rows) at = (among_left row.point qs (q ∷ []) at.0, longer_before qs q rows at.1)
-
-  all_push : {X : Type 0} (P : X → Type 0) (xs : List X) (y : X) → AllByRecursion P xs → P y → AllByRecursion P (xs ++ y ∷ [])
-  all_push P [] y all h = (h, tt)
-  all_push P (x ∷ xs) y all h = (all.0, all_push P xs y all.1 h)
 
   -- a row behind the points leaves their bytes
   filter_push : (p : Point) (rows : List TableRow) (row : TableRow) → point_number p < row_number row → filter (is_row_of p) (rows ++ row ∷ []) ≡ filter (is_row_of p) rows

@@ -1,36 +1,19 @@
 -- The set of a component: it is read in one way, or has one fault.
-use Rattle.std.proofs.Common.{◌≡◌, ◌⊎◌, ℕ, zero, suc, ◌+◌, ◌^◌, ◌<◌, ◌≤◌, Bool, true, false, List, [], ◌∷◌, ◌++◌, length, flat_map, refl, sym, ap, subst, ◌∙◌, inl, inr, arith, append_assoc, append-nil, length-append, All}
-use Rattle.std.specs.Prelude.{sum_by}
-use Rattle.std.specs.Int.{to_be_bytes, w32, from_be_bytes}
-use Rattle.std.specs.List.{AllByRecursion}
-use Rattle.std.specs.List.Sorted.{IsStrictlySortedBy}
-use Rattle.std.proofs.lemmas.List.Concat.{flat_map-cons}
-use Rattle.std.proofs.lemmas.List.Elements.{recursion_from_All, All-from_recursion, All-weaker}
-use Rattle.std.proofs.lemmas.Nat.{from_be_bytes-to_be_bytes_4}
-use Rattle.std.specs.declared.cmp.{Ordering.TheVariants.{Less}}
+use Rattle.std.proofs.Common.{◌≡◌, ◌⊎◌, ℕ, ◌+◌, ◌^◌, ◌<◌, ◌≤◌, List, [], ◌∷◌, ◌++◌, length, flat_map, refl, sym, ap, subst, ◌∙◌, arith, append_assoc, All}
+use Rattle.std.specs.{Int.{to_be_bytes, w32, from_be_bytes}, List.{AllByRecursion}}
+use Rattle.std.proofs.lemmas.{List.{Concat.{flat_map-cons}, Elements.{recursion_from_All, All-weaker}}, Nat.{from_be_bytes-to_be_bytes_4}}
 use Rattle.osek_values.specs.declared.numbers.TaskNo.{TaskNo}
-use Rattle.osek_standard.specs.declared.app.App.{App}
-use Rattle.osek_standard.specs.declared.point.Point.{Point}
-use Rattle.osek_standard.specs.Apps.{the_task, no_task}
-use Rattle.osek_standard.specs.Counts.{stacks}
+use Rattle.osek_standard.specs.{declared.{app.App.{App}, point.Point.{Point}}, Apps.{the_task, no_task}, Counts.{stacks}}
 use Rattle.osek_standard.proofs.CountLaws.{few_stacks}
 use Rattle.std.proofs.Math.Nat.{mul-le-mul}
-use Rattle.abstract_state.specs.declared.value.{Component.{Component}, PartValue.{PartValue}, PartValue.TheVariants.{OfTask, OfEvent, OfAlarm}, Domain.{Domain}}
+use Rattle.abstract_state.specs.declared.value.{Component.{Component}, PartValue.{PartValue, TheVariants.{OfEvent, OfAlarm}}}
 use Rattle.abstract_state.specs.declared.value.Component.TheVariants as component
-use Rattle.abstract_state.specs.declared.table.ValueSet.{ValueSet}
-use Rattle.abstract_state.specs.ValueOrder.{part_order, IsAscending}
-use Rattle.abstract_state.specs.Components.{components, component_at, component_count, component_number, IsPart, IsComponent}
-use Rattle.abstract_state.specs.Domains.{IsWithin, domain_of, domain_size}
-use Rattle.abstract_state.proofs.ComponentLaws.{component_known, task_counted, task_at_its_number}
-use Rattle.abstract_state.proofs.DomainValues.{allowed_within, domain_counted}
-use Rattle.abstract_state.proofs.SoundSets.{most_members}
-use Rattle.table_codec.specs.declared.fault.Fault.{Fault}
-use Rattle.table_codec.specs.Spelling.{value_bytes, listed, flags, flag_number, set_bytes}
-use Rattle.table_codec.specs.Faults.{fault_at, IsNextFault, IsListFault, IsListedFault, count_cut, count_none, bad_list, IsFlagsFault, IsSetFault, IsGoodSet}
-use Rattle.table_codec.specs.Sets.{IsNextValue}
-use Rattle.table_codec.proofs.Ascends.{sorted_prefix}
-use Rattle.table_codec.proofs.FlagSets.{event_set, alarm_set, one_flags, flags_clash, one_flags_fault}
-use Rattle.table_codec.proofs.Sequences.{Runs, one_run, no_fault, one_fault}
+use Rattle.abstract_state.specs.{declared.table.ValueSet.{ValueSet}, ValueOrder.{part_order, IsAscending}, Components.{component_at, IsPart, IsComponent}}
+use Rattle.abstract_state.specs.Domains.{IsWithin, domain_of}
+use Rattle.abstract_state.proofs.{ComponentLaws.{task_counted, task_at_its_number}, DomainValues.{allowed_within, domain_counted}, SoundSets.{most_members}}
+use Rattle.table_codec.specs.{declared.fault.Fault.{Fault}, Spelling.{value_bytes, listed, set_bytes}}
+use Rattle.table_codec.specs.{Faults.{IsNextFault, IsListFault, IsListedFault, count_cut, count_none, bad_list, IsSetFault, IsGoodSet}, Sets.{IsNextValue}}
+use Rattle.table_codec.proofs.{Ascends.{sorted_prefix}, FlagSets.{event_set, alarm_set, one_flags, flags_clash, one_flags_fault}, Sequences.{Runs, one_run, no_fault, one_fault}}
 use Rattle.table_codec.proofs.ValueFaults.{one_next, next_clash, one_next_fault}
 
 pub four_heads : (n m : ℕ) (x y : List ℕ) → n < 2 ^ 32 → m < 2 ^ 32 → to_be_bytes w32 n ++ x ≡ to_be_bytes w32 m ++ y → (n ≡ m) × (x ≡ y)
@@ -56,10 +39,11 @@ module _ (app : App) (p : Point) (t : TaskNo) (known : t.0 < length app.tasks) w
   runs_of_values : (before vs : List PartValue) (bytes rest : List ℕ) → IsAscending (before ++ vs) → AllByRecursion (IsPart app p k) vs → bytes ≡ flat_map value_bytes vs ++ rest → Runs Reads before bytes vs rest
   runs_of_values before [] bytes rest up all e = e
   runs_of_values before (v ∷ vs) bytes rest up all e =
-      let again : IsAscending ((before ++ v ∷ []) ++ vs) = subst IsAscending (sym (append_assoc before (v ∷ []) vs)) up in
-      (flat_map value_bytes vs ++ rest,
-      record { allowed = all.0; above = sorted_prefix part_order (before ++ v ∷ []) vs again; are = e ∙ ap (λ (l : List ℕ). l ++ rest) (flat_map-cons value_bytes v vs) ∙ append_assoc (value_bytes v) (flat_map value_bytes vs) rest },
-      runs_of_values (before ++ v ∷ []) vs (flat_map value_bytes vs ++ rest) rest again all.1 refl)
+      let again : IsAscending ((before ++ v ∷ []) ++ vs) = subst IsAscending (sym (append_assoc before (v ∷ []) vs)) up in (
+        flat_map value_bytes vs ++ rest,
+        record { allowed = all.0; above = sorted_prefix part_order (before ++ v ∷ []) vs again; are = e ∙ ap (λ (l : List ℕ). l ++ rest) (flat_map-cons value_bytes v vs) ∙ append_assoc (value_bytes v) (flat_map value_bytes vs) rest },
+        runs_of_values (before ++ v ∷ []) vs (flat_map value_bytes vs ++ rest) rest again all.1 refl,
+      )
 
   -- a task has fewer values than a count can say
   few_values : (vs : List PartValue) → IsGoodSet app p k vs → length vs < 2 ^ 32

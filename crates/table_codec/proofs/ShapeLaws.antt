@@ -2,17 +2,12 @@
 use Rattle.std.proofs.Common.{◌≡◌, ◌↔◌, ℕ, ◌+◌, ◌<◌, ◌≤◌, Bool, true, false, not, length, refl, sym, ap, subst, ◌∙◌, inl, inr, arith, IsTrue, Some, None}
 use Rattle.std.specs.Prelude.{◌==◌}
 use Rattle.std.proofs.lemmas.Bool.{cases_Bool, eq-eqb, eqb-true}
-use Rattle.osek_values.specs.Numbers.{block_no}
-use Rattle.osek_values.specs.declared.numbers.{TaskNo.{TaskNo}, BlockNo.{BlockNo}}
-use Rattle.osek_standard.specs.declared.app.App.{App}
-use Rattle.osek_standard.specs.declared.point.Point.{Point}
+use Rattle.osek_values.specs.{Numbers.{block_no}, declared.numbers.{TaskNo.{TaskNo}, BlockNo.{BlockNo}}}
+use Rattle.osek_standard.specs.declared.{app.App.{App}, point.Point.{Point}}
 use Rattle.osek_standard.specs.declared.point.Point.TheVariants as point
-use Rattle.osek_standard.specs.Apps.{the_task, no_task}
-use Rattle.osek_standard.specs.Well.{IsOwn, IsWaitingAt}
-use Rattle.abstract_state.specs.declared.value.{LiveVal.{LiveVal}, Val.{Val}, Val.TheVariants.{Suspended, Live, Waiting}}
-use Rattle.abstract_state.specs.Components.{FitsPoint}
-use Rattle.table_codec.specs.declared.shape.Shape.{Shape}
-use Rattle.table_codec.specs.Shapes.{IsShape, is_over, RunsAt, RunsNowhere}
+use Rattle.osek_standard.specs.{Apps.{the_task, no_task}, Well.{IsOwn, IsWaitingAt}}
+use Rattle.abstract_state.specs.{declared.value.{LiveVal.{LiveVal}, Val.{Val, TheVariants.{Suspended, Live, Waiting}}}, Components.{FitsPoint}}
+use Rattle.table_codec.specs.{declared.shape.Shape.{Shape}, Shapes.{IsShape, is_over, RunsAt, RunsNowhere}}
 
 one_block : (a b : BlockNo) → a.0 ≡ b.0 → a ≡ b
 one_block a b e = ap block_no e
@@ -32,7 +27,7 @@ module _ (app : App) (t : TaskNo) (known : t.0 < length app.tasks) where
           ((subst (IsOwn app t.0) (sym same) own, h.1), λ _. one_block v.block b same),
       λ h.
           let same : v.block.0 ≡ b.0 = ap (λ (x : BlockNo). x.0) (h.1 own) in
-          ((omega (arith, same), omega (arith, same)), h.0.1)
+          ((omega (arith, same), omega (arith, same)), h.0.1),
     );
     some = omega arith;
     waiting = λ c. (λ h. absurd (cc (h.0)), λ h. absurd (h.1 own));
@@ -97,7 +92,7 @@ module _ (app : App) (t : TaskNo) (known : t.0 < length app.tasks) where
     waiting = λ c. (λ h. (h.1, free_fits p (Waiting c) none (is_not (is_over p t.0) h.0)), λ h. (not_is (is_over p t.0) (waiting_free p c h.1), h.0));
     waits = (
       λ e. let x = w.0 e in (x.1.0, (x.1.1, free_fits p (Waiting x.1.0) none (is_not (is_over p t.0) x.0))),
-      λ h. w.1 (not_is (is_over p t.0) (waiting_free p h.0 h.1.1), (h.0, h.1.0))
+      λ h. w.1 (not_is (is_over p t.0) (waiting_free p h.0 h.1.1), (h.0, h.1.0)),
     );
   }
 

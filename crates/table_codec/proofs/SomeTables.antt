@@ -8,12 +8,10 @@ use Rattle.abstract_state.specs.declared.table.{ValueSet.{ValueSet}, PlainEntry.
 use Rattle.abstract_state.specs.{Components.{components, component_at, component_count}, Domains.{domain_of, HasMasks}, Written.{IsWritten}}
 use Rattle.abstract_state.proofs.ComponentLaws.{component_known}
 use Rattle.numbered_sets.specs.PlainTables.{row_at}
-use Rattle.table_codec.specs.declared.fault.{Fault.{Fault}, TableFault.{TableFault}, TableRule.TheVariants.{K1, K2, K3, K5}}
-use Rattle.table_codec.specs.Spelling.{magic, set_bytes, entry_bytes, spelling}
+use Rattle.table_codec.specs.{declared.fault.{Fault.{Fault}, TableFault.{TableFault}, TableRule.TheVariants.{K1, K2, K3, K5}}, Spelling.{magic, set_bytes, entry_bytes, spelling}}
 use Rattle.table_codec.specs.Faults.{fault_at, IsSetFault, IsEntryFault, IsPointFault, IsRowFault, IsTableFault, magic_cut, other_magic, bad_row, IsFirstFault, located}
 use Rattle.table_codec.specs.{Sets.{IsReadEntry}, Rows.{IsReadRow, IsReadTable}}
-use Rattle.table_codec.proofs.Decisions.{Decided, decide_bytes, AreBytes, bytes_behind}
-use Rattle.table_codec.proofs.SomeValues.{SetFound, set_found}
+use Rattle.table_codec.proofs.{Decisions.{Decided, decide_bytes, AreBytes, bytes_behind}, SomeValues.{SetFound, set_found}}
 use Rattle.table_codec.proofs.{ReadSoFar.{AreSetsSoFar, no_sets, next_set, members}, TableReads.{behind_fault, spelled_whole}, WrittenTables.{point_at}}
 use Rattle.table_codec.proofs.RowsSoFar.{AreRowsSoFar, absent_row, present_row, bad_row as row_fault, all_rows}
 
@@ -38,14 +36,17 @@ module _ (app : App) (p : Point) (bytes : List ℕ) where
           (bytes_behind rest (set_bytes (component_at app (length sets)) found.0.members) found.1 found.2.are all)
       by_set (inr bad) goes =
           let size : length sets ≡ length (members sets) = sym (length-map sets (λ (set : ValueSet). set.members)) in
-          inr (bad.0, record {
-            sets = members sets;
-            rest = rest;
-            few = omega (arith, e, size);
-            good = h.good;
-            are = h.are;
-            next = subst (λ (n : ℕ). IsSetFault app p (component_at app n) rest bad.0) size bad.1;
-          })
+          inr (
+            bad.0,
+            record {
+              sets = members sets;
+              rest = rest;
+              few = omega (arith, e, size);
+              good = h.good;
+              are = h.are;
+              next = subst (λ (n : ℕ). IsSetFault app p (component_at app n) rest bad.0) size bad.1;
+            },
+          )
 
   entry_found : AreBytes bytes → EntryFound app p bytes
   entry_found all = sets_from (component_count app) [] bytes (no_sets app p bytes) (omega arith) all

@@ -1,5 +1,5 @@
 -- Bytes begin with a value of a task or have a value's fault, and likewise of a set.
-use Rattle.std.proofs.Common.{◌≡◌, ◌⊎◌, ℕ, zero, suc, ◌+◌, ◌^◌, ◌<◌, ◌≤◌, Bool, true, false, List, [], ◌∷◌, ◌++◌, length, refl, sym, ap, subst, ◌∙◌, inl, inr, arith, append_assoc, IsTrue}
+use Rattle.std.proofs.Common.{◌≡◌, ◌⊎◌, ℕ, zero, suc, ◌+◌, ◌^◌, ◌<◌, ◌≤◌, true, false, List, [], ◌∷◌, ◌++◌, length, refl, sym, ap, subst, ◌∙◌, inl, inr, arith, append_assoc, IsTrue}
 use Rattle.std.specs.{Int.{to_be_bytes, w16, w32}, List.{flat_map}}
 use Rattle.std.proofs.lemmas.{Bool.{cases_lt, cases_Bool}, List.{length_push}}
 use Rattle.osek_values.specs.{declared.numbers.{TaskNo.{TaskNo}, ResNo.{ResNo}}, Numbers.{block_no, res_no}}
@@ -7,10 +7,8 @@ use Rattle.osek_standard.specs.{declared.{app.App.{App}, point.Point.{Point}}, T
 use Rattle.osek_standard.proofs.StackLaws.{push_stack}
 use Rattle.abstract_state.specs.declared.value.{Val.TheVariants.{Suspended, Live, Waiting}, Component.{Component}, PartValue.{PartValue, TheVariants.{OfTask, OfEvent, OfAlarm}}}
 use Rattle.abstract_state.specs.declared.value.Component.TheVariants as component
-use Rattle.abstract_state.specs.declared.table.ValueSet.{ValueSet}
-use Rattle.abstract_state.specs.{ValueOrder.{IsAscending}, Components.{live_val, IsComponent}, Domains.{domain_of}}
-use Rattle.table_codec.specs.declared.{fault.{Fault.{Fault}, TableRule.TheVariants.{K1, K3, K4}}, shape.Shape.{Shape}}
-use Rattle.table_codec.specs.Spelling.{resource_numbers, value_bytes, listed, set_bytes}
+use Rattle.abstract_state.specs.{declared.table.ValueSet.{ValueSet}, ValueOrder.{IsAscending}, Components.{live_val, IsComponent}, Domains.{domain_of}}
+use Rattle.table_codec.specs.{declared.{fault.{Fault.{Fault}, TableRule.TheVariants.{K1, K3, K4}}, shape.Shape.{Shape}}, Spelling.{value_bytes}}
 use Rattle.table_codec.specs.Faults.{fault_at, IsValueFault, IsNextFault, bad_value, not_above, IsListedFault, count_cut, count_none, bad_list, IsFlagsFault, IsSetFault}
 use Rattle.table_codec.specs.{Shapes.{IsShape, shaped}, Values.{IsTag, IsReadValue, IsReadStack, IsStackFault}, Sets.{IsFlagNumber, flagged, IsReadList, IsReadSet}}
 use Rattle.table_codec.proofs.Decisions.{Decided, decide_less, decide_at_most, decide_both, decide_true, decide_ascending, AreBytes, bytes_behind, long_word, IsField, FieldFound, word_found, byte_found}
@@ -118,10 +116,14 @@ module _ (app : App) (x : Shape) (s : IsShape app x) (bytes : List ℕ) (count :
   values_from : (left : ℕ) (vs : List PartValue) (rest : List ℕ) → AreValuesSoFar app x.point (shaped x) count bytes vs rest → count ≡ length vs + left → AreBytes rest → ListFound app x.point (shaped x) bytes
   values_from zero vs rest h e all =
       let whole : length vs ≡ count = omega (arith, e) in
-      inl (vs, rest, record {
-        good = record { some = omega (arith, some, whole); allowed = h.allowed; ascending = h.ascending };
-        are = h.are ∙ ap (λ (n : ℕ). to_be_bytes w32 n ++ (flat_map value_bytes vs ++ rest)) (sym whole) ∙ sym (append_assoc (to_be_bytes w32 (length vs)) (flat_map value_bytes vs) rest);
-      })
+      inl (
+        vs,
+        rest,
+        record {
+          good = record { some = omega (arith, some, whole); allowed = h.allowed; ascending = h.ascending };
+          are = h.are ∙ ap (λ (n : ℕ). to_be_bytes w32 n ++ (flat_map value_bytes vs ++ rest)) (sym whole) ∙ sym (append_assoc (to_be_bytes w32 (length vs)) (flat_map value_bytes vs) rest);
+        },
+      )
   values_from (suc left) vs rest h e all = by_next (value_found app x s rest all) (λ more after k d l. values_from left more after k d l)
     where
       Goes : Type 0

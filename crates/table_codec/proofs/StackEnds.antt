@@ -1,20 +1,13 @@
 -- A stack goes on to any size up to the number of resources.
-use Rattle.std.proofs.Common.{◌≡◌, ◌⊎◌, ℕ, zero, suc, ◌+◌, ◌-◌, ◌<◌, ◌≤◌, Bool, ◌||◌, true, false, List, [], ◌∷◌, ◌++◌, length, map, take, refl, sym, ap, subst, ◌∙◌, inl, inr, arith, append_assoc, append-nil, length-append, nat_eq, eqb-true}
+use Rattle.std.proofs.Common.{◌≡◌, ◌⊎◌, ℕ, zero, suc, ◌+◌, ◌-◌, ◌<◌, ◌≤◌, Bool, ◌||◌, true, false, List, [], ◌∷◌, ◌++◌, length, take, refl, sym, ap, subst, ◌∙◌, inl, inr, arith, append_assoc, append-nil, length-append, nat_eq, eqb-true}
 use Rattle.std.specs.List.{range_with_len, list_any, IsDistinct, AllByRecursion}
 use Rattle.std.proofs.lemmas.List.Elements.{All-nil, recursion_from_All}
 use Rattle.std.specs.Cmp.{nat_eq_equiv}
-use Rattle.std.proofs.Math.Seq.{take-append-add}
-use Rattle.std.proofs.lemmas.Bool.{cases_Bool, cases_eq, eqb-false, ne_eqb}
-use Rattle.std.proofs.lemmas.List.{length-map}
-use Rattle.std.proofs.lemmas.List.FromFn.{length-range_with_len}
+use Rattle.std.proofs.{Math.Seq.{take-append-add}, lemmas.{Bool.{cases_Bool, cases_eq, eqb-false, ne_eqb}, List.{length-map, FromFn.{length-range_with_len}}}}
 use Rattle.std.proofs.lemmas.Map.Made.{length-le_from_is_member}
-use Rattle.osek_values.specs.declared.numbers.ResNo.{ResNo}
-use Rattle.osek_values.specs.Numbers.{res_no}
-use Rattle.osek_standard.specs.declared.app.App.{App}
-use Rattle.osek_standard.specs.TaskStates.{holds}
-use Rattle.osek_standard.specs.Well.{IsStack, same_resource}
-use Rattle.osek_standard.proofs.Distinct.{distinct_range}
-use Rattle.osek_standard.proofs.StackLaws.{push_stack, pop_stack}
+use Rattle.osek_values.specs.{declared.numbers.ResNo.{ResNo}, Numbers.{res_no}}
+use Rattle.osek_standard.specs.{declared.app.App.{App}, TaskStates.{holds}, Well.{IsStack, same_resource}}
+use Rattle.osek_standard.proofs.{Distinct.{distinct_range}, StackLaws.{push_stack, pop_stack}}
 use Rattle.table_codec.specs.Spelling.{resource_numbers}
 
 -- one of so many numbers isn't held, or all are

@@ -1,16 +1,9 @@
 -- A stack that is read resource by resource.
-use Rattle.std.proofs.Common.{◌≡◌, ℕ, ◌+◌, ◌<◌, ◌≤◌, List, [], ◌∷◌, ◌++◌, length, refl, sym, ap, subst, ◌∙◌, arith, append_assoc}
-use Rattle.std.proofs.lemmas.List.{length_push}
-use Rattle.osek_values.specs.Numbers.{res_no}
-use Rattle.osek_values.specs.declared.numbers.ResNo.{ResNo}
-use Rattle.osek_standard.specs.declared.app.App.{App}
-use Rattle.osek_standard.specs.Well.{IsStack}
-use Rattle.table_codec.specs.declared.fault.Fault.{Fault}
-use Rattle.table_codec.specs.Spelling.{resource_numbers}
-use Rattle.table_codec.specs.Faults.{IsFieldFault}
-use Rattle.table_codec.specs.Values.{IsReadStack, IsStackFault}
-use Rattle.table_codec.proofs.StackEnds.{empty_stack}
-use Rattle.table_codec.proofs.ValueReading.{numbers_join}
+use Rattle.std.proofs.{Common.{◌≡◌, ℕ, ◌+◌, ◌<◌, ◌≤◌, List, [], ◌∷◌, ◌++◌, length, refl, sym, ap, subst, ◌∙◌, arith, append_assoc}, lemmas.List.{length_push}}
+use Rattle.osek_values.specs.{Numbers.{res_no}, declared.numbers.ResNo.{ResNo}}
+use Rattle.osek_standard.specs.{declared.app.App.{App}, Well.{IsStack}}
+use Rattle.table_codec.specs.{declared.fault.Fault.{Fault}, Spelling.{resource_numbers}, Faults.{IsFieldFault}, Values.{IsReadStack, IsStackFault}}
+use Rattle.table_codec.proofs.{StackEnds.{empty_stack}, ValueReading.{numbers_join}}
 
 module _ (app : App) (bytes : List ℕ) where
   pub record IsStackSoFar (count : ℕ) (held : List ResNo) (rest : List ℕ) : Type 0 where

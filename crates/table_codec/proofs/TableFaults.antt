@@ -1,20 +1,14 @@
 -- The bytes of a table: they mean one table, and have no fault; and bytes have one first fault at most.
 use Rattle.std.proofs.Common.{◌≡◌, ℕ, ◌-◌, ◌<◌, ◌≤◌, List, [], ◌∷◌, ◌++◌, length, map, take, refl, sym, ap, subst, ◌∙◌, arith, append_assoc, append-nil, length-append}
-use Rattle.std.specs.List.{flat_map}
-use Rattle.std.specs.declared.option.Option.{Option}
-use Rattle.std.proofs.lemmas.List.{length-map}
-use Rattle.std.proofs.Math.Seq.{take-append_seam}
-use Rattle.osek_standard.specs.declared.app.App.{App}
-use Rattle.osek_standard.specs.declared.point.Point.{Point}
-use Rattle.abstract_state.specs.declared.table.{PlainEntry.{PlainEntry}, TableRow.{TableRow}, PlainTable.{PlainTable}}
-use Rattle.abstract_state.specs.Written.{IsWritten}
+use Rattle.std.specs.{List.{flat_map}, declared.option.Option.{Option}}
+use Rattle.std.proofs.{lemmas.List.{length-map}, Math.Seq.{take-append_seam}}
+use Rattle.osek_standard.specs.declared.{app.App.{App}, point.Point.{Point}}
+use Rattle.abstract_state.specs.{declared.table.{PlainEntry.{PlainEntry}, TableRow.{TableRow}, PlainTable.{PlainTable}}, Written.{IsWritten}}
 use Rattle.table_codec.specs.declared.fault.{Fault.{Fault}, TableFault.{TableFault}, TableRule.TheVariants.{K5}}
 use Rattle.osek_standard.specs.Points.{points_in_order}
 use Rattle.table_codec.specs.Spelling.{magic, point_bytes, spelling}
 use Rattle.table_codec.specs.Faults.{fault_at, IsRowFault, IsTableFault, magic_cut, other_magic, bad_row, bytes_behind, IsFirstFault, located}
-use Rattle.table_codec.proofs.Fields.{cancel}
-use Rattle.table_codec.proofs.Merging.{found_in, rows_of}
-use Rattle.table_codec.proofs.Sequences.{Runs, one_run, no_fault, one_fault}
+use Rattle.table_codec.proofs.{Fields.{cancel}, Merging.{found_in, rows_of}, Sequences.{Runs, one_run, no_fault, one_fault}}
 use Rattle.table_codec.proofs.WrittenTables.{Reads, Fails, one_read, read_clash, one_fail, table_runs, fails_at, rows_are}
 
 magic_size : (rest : List ℕ) → 8 ≤ length (magic ++ rest)

@@ -1,14 +1,11 @@
 -- What the reader of a table answers, by its parts.
-use Rattle.std.proofs.Common.{◌≡◌, ℕ, ◌-◌, ◌<◌, List, [], ◌∷◌, ◌++◌, length, refl, sym, ap, subst, ◌∙◌, inl, inr, arith, append_assoc, append-nil}
+use Rattle.std.proofs.Common.{◌≡◌, ℕ, ◌-◌, ◌<◌, List, [], ◌∷◌, ◌++◌, length, refl, sym, ap, subst, ◌∙◌, arith, append_assoc, append-nil}
 use Rattle.std.specs.List.{flat_map}
 use Rattle.osek_standard.specs.declared.app.App.{App}
-use Rattle.abstract_state.specs.declared.table.PlainTable.{PlainTable}
-use Rattle.abstract_state.specs.Written.{IsWritten}
-use Rattle.table_codec.specs.declared.fault.{Fault.{Fault}, TableFault.{TableFault}, TableRule.{TableRule}, TableRule.TheVariants.{K5}}
+use Rattle.abstract_state.specs.{declared.table.PlainTable.{PlainTable}, Written.{IsWritten}}
+use Rattle.table_codec.specs.declared.fault.{Fault.{Fault}, TableFault.{TableFault}, TableRule.{TableRule, TheVariants.{K5}}}
 use Rattle.osek_standard.specs.Points.{points_in_order}
-use Rattle.table_codec.specs.Spelling.{magic, point_bytes, spelling}
-use Rattle.table_codec.specs.Faults.{fault_at, IsTableFault, bytes_behind, IsFirstFault}
-use Rattle.table_codec.specs.Rows.{IsReadTable}
+use Rattle.table_codec.specs.{Spelling.{magic, point_bytes, spelling}, Faults.{fault_at, IsTableFault, bytes_behind, IsFirstFault}, Rows.{IsReadTable}}
 use Rattle.table_codec.proofs.TableFaults.{spelled_once, no_first_fault}
 
 pub none_left : (bytes : List ℕ) → length bytes ≡ 0 → bytes ≡ []

@@ -1,23 +1,16 @@
 -- A task's next value: it is read in one way, or has one fault.
 use Rattle.std.proofs.Common.{◌≡◌, ◌⊎◌, ℕ, suc, ◌+◌, ◌^◌, ◌<◌, ◌≤◌, Bool, true, false, List, [], ◌∷◌, ◌++◌, length, refl, sym, ap, subst, ◌∙◌, inl, inr, arith, append_assoc, append-nil, length-append, eqb-true}
-use Rattle.std.specs.Prelude.{◌==◌, if◌then◌else◌}
-use Rattle.std.specs.List.{AllByRecursion}
+use Rattle.std.specs.{Prelude.{◌==◌, if◌then◌else◌}, List.{AllByRecursion}}
 use Rattle.std.proofs.lemmas.List.Elements.{recursion_from_All}
 use Rattle.osek_values.specs.declared.numbers.{TaskNo.{TaskNo}, ResNo.{ResNo}}
-use Rattle.osek_standard.specs.declared.app.App.{App}
-use Rattle.osek_standard.specs.declared.point.Point.{Point}
-use Rattle.osek_standard.specs.Apps.{no_task}
-use Rattle.osek_standard.specs.Well.{IsOwn, IsStack}
+use Rattle.osek_standard.specs.{declared.{app.App.{App}, point.Point.{Point}}, Apps.{no_task}, Well.{IsOwn}}
 use Rattle.osek_standard.proofs.StackLaws.{stack_few}
-use Rattle.abstract_state.specs.declared.value.{Val.{Val}, Val.TheVariants.{Suspended, Live, Waiting}, Component.{Component}, PartValue.{PartValue}, PartValue.TheVariants.{OfTask, OfEvent, OfAlarm}}
+use Rattle.abstract_state.specs.declared.value.{Val.{Val, TheVariants.{Suspended, Live, Waiting}}, Component.{Component}, PartValue.{PartValue, TheVariants.{OfTask, OfEvent, OfAlarm}}}
 use Rattle.abstract_state.specs.declared.value.Component.TheVariants as component
-use Rattle.abstract_state.specs.ValueOrder.{IsAscending}
-use Rattle.abstract_state.specs.Components.{IsVal, IsPart}
-use Rattle.table_codec.specs.declared.fault.Fault.{Fault}
-use Rattle.table_codec.specs.Spelling.{resource_numbers, task_fields, value_fields, field_width, field_limit, field_bytes, fields_from, value_bytes}
-use Rattle.table_codec.specs.Faults.{fault_at, IsFieldFault, field_cut, field_barred, Begins, IsValueFault, IsNextFault, bad_value, not_above}
-use Rattle.table_codec.specs.Sets.{IsNextValue}
-use Rattle.table_codec.proofs.Fields.{AreWithin, IsPrefix, one_head, fields_meet, same_prefix, val_alone, fields_append, within_prefix, within_next, plus_none, cancel, width_is}
+use Rattle.abstract_state.specs.{ValueOrder.{IsAscending}, Components.{IsVal, IsPart}}
+use Rattle.table_codec.specs.{declared.fault.Fault.{Fault}, Spelling.{resource_numbers, task_fields, value_fields, field_limit, field_bytes, fields_from, value_bytes}}
+use Rattle.table_codec.specs.{Faults.{IsFieldFault, field_cut, field_barred, Begins, IsValueFault, IsNextFault, bad_value, not_above}, Sets.{IsNextValue}}
+use Rattle.table_codec.proofs.Fields.{AreWithin, one_head, fields_meet, same_prefix, val_alone, fields_append, within_prefix, within_next, plus_none, cancel, width_is}
 
 -- a field has one fault
 pub one_field_fault : (place : ℕ) (M N : ℕ → Type 0) (bytes : List ℕ) (f g : Fault) → IsFieldFault place M bytes f → IsFieldFault place N bytes g → f ≡ g
@@ -51,9 +44,22 @@ module _ (app : App) (p : Point) (t : TaskNo) (known : t.0 < length app.tasks) w
   val_within : (v : Val) → IsVal app t.0 v → AreWithin 0 (task_fields v)
   val_within Suspended h = (omega arith, tt)
   val_within (Live x) h =
-      let few : length x.held ≤ 8 = omega (arith, stack_few (length app.resources) x.held h.1, app.valid.few_resources) in
-      (omega arith, (block_few x.block.0 h.0, (omega arith, (omega arith, (omega (arith, few),
-      bytes_within 3 x.held (each_few (length app.resources) x.held app.valid.few_resources (recursion_from_All (λ (r : ResNo). r.0 < length app.resources) x.held h.1.known)))))))
+      let few : length x.held ≤ 8 = omega (arith, stack_few (length app.resources) x.held h.1, app.valid.few_resources) in (
+        omega arith,
+        (
+          block_few x.block.0 h.0,
+          (
+            omega arith,
+            (
+              omega arith,
+              (
+                omega (arith, few),
+                bytes_within 3 x.held (each_few (length app.resources) x.held app.valid.few_resources (recursion_from_All (λ (r : ResNo). r.0 < length app.resources) x.held h.1.known)),
+              ),
+            ),
+          ),
+        ),
+      )
   val_within (Waiting b) h = (omega arith, (block_few b.0 h.own, tt))
 
   pub within : (v : PartValue) → IsPart app p k v → AreWithin 0 (value_fields v)
@@ -106,8 +112,8 @@ module _ (app : App) (p : Point) (t : TaskNo) (known : t.0 < length app.tasks) w
   pub no_value_fault : (v : PartValue) (bytes tail : List ℕ) (f : Fault) → IsPart app p k v → bytes ≡ value_bytes v ++ tail → IsValueFault app p k bytes f → ⊥
   no_value_fault v bytes tail f ok e h =
       let w = h.begins.value in
-      let fronts = within_prefix 0 h.fields h.begins.more (subst (AreWithin 0) h.begins.is (within w h.begins.allowed)) in
-      elim (fields_meet 0 h.fields (value_fields v) h.rest tail fronts (within v ok) (sym h.are ∙ e)) [
+      let within_start = within_prefix 0 h.fields h.begins.more (subst (AreWithin 0) h.begins.is (within w h.begins.allowed)) in
+      elim (fields_meet 0 h.fields (value_fields v) h.rest tail within_start (within v ok) (sym h.are ∙ e)) [
         | inl prefix ↦ beyond prefix.more prefix.is
         | inr past ↦
             (let is : value_fields w ≡ value_fields v ++ (past.more ++ h.begins.more) = h.begins.is ∙ ap (λ (l : List ℕ). l ++ h.begins.more) past.is ∙ append_assoc (value_fields v) past.more h.begins.more in

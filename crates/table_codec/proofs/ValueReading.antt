@@ -1,24 +1,15 @@
 -- Reading a task's value field by field: what is known after each, and which fault of the value a field's fault is.
-use Rattle.std.proofs.Common.{◌≡◌, ℕ, zero, suc, ◌+◌, ◌^◌, ◌<◌, ◌≤◌, ◌≢◌, Bool, true, false, List, [], ◌∷◌, ◌++◌, length, map, refl, sym, ap, ap₂, subst, ◌∙◌, arith, append_assoc, append-nil, length-append, IsTrue, eqb-true}
-use Rattle.std.specs.Prelude.{◌==◌, if◌then◌else◌}
-use Rattle.std.specs.Int.{to_be_bytes, w16}
-use Rattle.std.proofs.lemmas.List.{length-map}
-use Rattle.osek_values.specs.Numbers.{res_no, block_no}
-use Rattle.osek_values.specs.declared.numbers.{ResNo.{ResNo}, BlockNo.{BlockNo}}
-use Rattle.osek_standard.specs.declared.app.App.{App}
-use Rattle.osek_standard.specs.Validity.{IsAmong}
-use Rattle.osek_standard.specs.Well.{IsStack, IsWaitingAt}
+use Rattle.std.proofs.Common.{◌≡◌, ℕ, suc, ◌+◌, ◌^◌, ◌<◌, ◌≤◌, ◌≢◌, Bool, true, false, List, [], ◌∷◌, ◌++◌, length, map, refl, sym, ap, ap₂, subst, ◌∙◌, arith, append_assoc, IsTrue, eqb-true}
+use Rattle.std.specs.{Prelude.{◌==◌, if◌then◌else◌}, Int.{to_be_bytes, w16}}
+use Rattle.osek_values.specs.{Numbers.{res_no}, declared.numbers.{ResNo.{ResNo}, BlockNo.{BlockNo}}}
+use Rattle.osek_standard.specs.{declared.app.App.{App}, Validity.{IsAmong}, Well.{IsStack, IsWaitingAt}}
 use Rattle.osek_standard.proofs.StackLaws.{stack_few}
-use Rattle.abstract_state.specs.declared.value.{LiveVal.{LiveVal}, Val.{Val}, Val.TheVariants.{Suspended, Live, Waiting}, PartValue.{PartValue}, PartValue.TheVariants.{OfTask, OfEvent, OfAlarm}}
+use Rattle.abstract_state.specs.declared.value.{LiveVal.{LiveVal}, Val.TheVariants.{Suspended, Live, Waiting}, PartValue.{PartValue, TheVariants.{OfTask, OfEvent, OfAlarm}}}
 use Rattle.abstract_state.specs.Components.{live_val, IsPart}
-use Rattle.table_codec.specs.declared.fault.Fault.{Fault}
-use Rattle.table_codec.specs.declared.shape.Shape.{Shape}
-use Rattle.table_codec.specs.Spelling.{resource_numbers, value_fields, field_width, field_limit, field_bytes, fields_from, value_bytes}
-use Rattle.table_codec.specs.Faults.{fault_at, IsFieldFault, field_cut, field_barred, Begins, IsValueFault}
-use Rattle.table_codec.specs.Shapes.{IsShape, shaped}
+use Rattle.table_codec.specs.{declared.{fault.Fault.{Fault}, shape.Shape.{Shape}}, Spelling.{resource_numbers, value_fields, fields_from}}
+use Rattle.table_codec.specs.{Faults.{IsFieldFault, field_cut, field_barred, Begins, IsValueFault}, Shapes.{IsShape, shaped}}
 use Rattle.table_codec.specs.Values.{IsTag, IsReadValue, IsReadStack, IsStackFault}
-use Rattle.table_codec.proofs.Fields.{narrow_fields, same_stack}
-use Rattle.table_codec.proofs.StackEnds.{stack_goes_on, stack_prefix, empty_stack}
+use Rattle.table_codec.proofs.{Fields.{narrow_fields, same_stack}, StackEnds.{stack_goes_on, stack_prefix, empty_stack}}
 
 -- a field's fault at another place of the same width, where less may stand
 pub field_fault : (i j : ℕ) (M N : ℕ → Type 0) (bytes : List ℕ) (f : Fault) → (i == 1) ≡ (j == 1) → ((n : ℕ) → N n → M n) → IsFieldFault i M bytes f → IsFieldFault j N bytes f
@@ -67,8 +58,8 @@ module _ (app : App) (x : Shape) (s : IsShape app x) where
   abbrev Can : PartValue → Type 0
   Can v = IsPart app x.point (shaped x) v
 
-  abbrev Front : List ℕ → Type 0
-  Front fields = Begins app x.point (shaped x) fields
+  abbrev Starts : List ℕ → Type 0
+  Starts fields = Begins app x.point (shaped x) fields
 
   abbrev Bad : List ℕ → Fault → Type 0
   Bad bytes f = IsValueFault app x.point (shaped x) bytes f
@@ -103,13 +94,13 @@ module _ (app : App) (x : Shape) (s : IsShape app x) where
     pub more : List ℕ
     pub is : live.block.0 ∷ 0 ∷ 0 ∷ length live.held ∷ resource_numbers live.held ≡ fields ++ more
 
-  live_of : (fields : List ℕ) → Front (1 ∷ fields) → IsLiveOf fields
+  live_of : (fields : List ℕ) → Starts (1 ∷ fields) → IsLiveOf fields
   live_of fields begins =
       let form = live_form begins.value (fields ++ begins.more) begins.allowed begins.is in
       let can = (s.live form.0).1 (subst Can form.1 begins.allowed) in
       record { live = form.0; among = can.0; stack = can.1; more = begins.more; is = sym form.2 }
 
-  live_prefix : (b : BlockNo) (held : List ResNo) (fields more : List ℕ) → IsAmong b.0 x.first.0 x.count → IsStack app held → b.0 ∷ 0 ∷ 0 ∷ length held ∷ resource_numbers held ≡ fields ++ more → Front (1 ∷ fields)
+  live_prefix : (b : BlockNo) (held : List ResNo) (fields more : List ℕ) → IsAmong b.0 x.first.0 x.count → IsStack app held → b.0 ∷ 0 ∷ 0 ∷ length held ∷ resource_numbers held ≡ fields ++ more → Starts (1 ∷ fields)
   live_prefix b held fields more among stack e = record {
     value = OfTask (Live (live_val b held));
     allowed = (s.live (live_val b held)).0 (among, stack);
@@ -134,7 +125,7 @@ module _ (app : App) (x : Shape) (s : IsShape app x) where
     };
     not_whole = some_fields;
     are = refl;
-    next = field_fault 0 0 (IsTag x) (λ n. Front (n ∷ [])) bytes f refl may bad;
+    next = field_fault 0 0 (IsTag x) (λ n. Starts (n ∷ [])) bytes f refl may bad;
   }
     where
       tag_of : (v : PartValue) (n : ℕ) (more : List ℕ) → Can v → value_fields v ≡ n ∷ more → IsTag x n
@@ -144,7 +135,7 @@ module _ (app : App) (x : Shape) (s : IsShape app x) where
       tag_of (OfEvent b) n more h e = absurd h
       tag_of (OfAlarm b) n more h e = absurd h
 
-      may : (n : ℕ) → Front (n ∷ []) → IsTag x n
+      may : (n : ℕ) → Starts (n ∷ []) → IsTag x n
       may n begins = tag_of begins.value n begins.more begins.allowed begins.is
 
   -- ---- of a Live task
@@ -156,7 +147,7 @@ module _ (app : App) (x : Shape) (s : IsShape app x) where
     begins = live_prefix x.first [] [] (x.first.0 ∷ 0 ∷ 0 ∷ 0 ∷ []) first_among (empty_stack app) refl;
     not_whole = λ v h e. (let form = live_form v [] h e in let rest = form.2 in absurd (cc));
     are = refl;
-    next = field_fault 1 1 (λ n. IsAmong n x.first.0 x.count) (λ n. Front (1 ∷ n ∷ [])) bytes f refl
+    next = field_fault 1 1 (λ n. IsAmong n x.first.0 x.count) (λ n. Starts (1 ∷ n ∷ [])) bytes f refl
         (λ n begins. let l = live_of (n ∷ []) begins in let same : l.live.block.0 ≡ n = cc (l.is) in subst (λ (m : ℕ). IsAmong m x.first.0 x.count) same l.among) bad;
   }
 
@@ -171,7 +162,7 @@ module _ (app : App) (x : Shape) (s : IsShape app x) where
       begins = live_prefix b [] (b.0 ∷ []) (0 ∷ 0 ∷ 0 ∷ []) among (empty_stack app) refl;
       not_whole = λ v h d. (let form = live_form v (b.0 ∷ []) h d in let more = form.2 in absurd (cc));
       are = ap (λ (l : List ℕ). 1 ∷ l) e;
-      next = field_fault 2 2 (λ n. n ≤ 0) (λ n. Front (1 ∷ b.0 ∷ n ∷ [])) rest f refl
+      next = field_fault 2 2 (λ n. n ≤ 0) (λ n. Starts (1 ∷ b.0 ∷ n ∷ [])) rest f refl
           (λ n begins. let l = live_of (b.0 ∷ n ∷ []) begins in let same : 0 ≡ n = cc (l.is) in omega (arith, same)) bad;
     }
 
@@ -182,7 +173,7 @@ module _ (app : App) (x : Shape) (s : IsShape app x) where
       begins = live_prefix b [] (b.0 ∷ 0 ∷ []) (0 ∷ 0 ∷ []) among (empty_stack app) refl;
       not_whole = λ v h d. (let form = live_form v (b.0 ∷ 0 ∷ []) h d in let more = form.2 in absurd (cc));
       are = ap (λ (l : List ℕ). 1 ∷ l) e;
-      next = field_fault 2 3 (λ n. n ≤ 0) (λ n. Front (1 ∷ b.0 ∷ 0 ∷ n ∷ [])) rest f refl
+      next = field_fault 2 3 (λ n. n ≤ 0) (λ n. Starts (1 ∷ b.0 ∷ 0 ∷ n ∷ [])) rest f refl
           (λ n begins. let l = live_of (b.0 ∷ 0 ∷ n ∷ []) begins in let same : 0 ≡ n = cc (l.is) in omega (arith, same)) bad;
     }
 
@@ -193,7 +184,7 @@ module _ (app : App) (x : Shape) (s : IsShape app x) where
       begins = live_prefix b [] (b.0 ∷ 0 ∷ 0 ∷ []) (0 ∷ []) among (empty_stack app) refl;
       not_whole = λ v h d. (let form = live_form v (b.0 ∷ 0 ∷ 0 ∷ []) h d in let more = form.2 in absurd (cc));
       are = ap (λ (l : List ℕ). 1 ∷ l) e;
-      next = field_fault 2 4 (λ n. n ≤ length app.resources) (λ n. Front (1 ∷ b.0 ∷ 0 ∷ 0 ∷ n ∷ [])) rest f refl
+      next = field_fault 2 4 (λ n. n ≤ length app.resources) (λ n. Starts (1 ∷ b.0 ∷ 0 ∷ 0 ∷ n ∷ [])) rest f refl
           (λ n begins.
           let l = live_of (b.0 ∷ 0 ∷ 0 ∷ n ∷ []) begins in
           let same : length l.live.held ≡ n = cc (l.is) in
@@ -207,7 +198,7 @@ module _ (app : App) (x : Shape) (s : IsShape app x) where
     abbrev stack_fields : ℕ → List ResNo → List ℕ
     stack_fields size held = b.0 ∷ 0 ∷ 0 ∷ size ∷ resource_numbers held
 
-    stack_begins : (size : ℕ) (held : List ResNo) → IsStack app held → length held ≤ size → size ≤ length app.resources → Front (1 ∷ stack_fields size held)
+    stack_begins : (size : ℕ) (held : List ResNo) → IsStack app held → length held ≤ size → size ≤ length app.resources → Starts (1 ∷ stack_fields size held)
     stack_begins size held stack le few =
         let goes = stack_goes_on app held size stack le few in
         live_prefix b (held ++ goes.more) (stack_fields size held) (resource_numbers goes.more) among goes.stack
@@ -221,7 +212,7 @@ module _ (app : App) (x : Shape) (s : IsShape app x) where
         let same : resource_numbers held ≡ resource_numbers form.0.held = cc in
         omega (arith, few, size_is, ap (λ (l : List ResNo). length l) (same_stack held form.0.held same))
 
-    may_be_next : (size : ℕ) (held : List ResNo) (n : ℕ) → Front (1 ∷ (stack_fields size held ++ n ∷ [])) → IsStack app (held ++ res_no n ∷ [])
+    may_be_next : (size : ℕ) (held : List ResNo) (n : ℕ) → Starts (1 ∷ (stack_fields size held ++ n ∷ [])) → IsStack app (held ++ res_no n ∷ [])
     may_be_next size held n begins =
         let l = live_of (stack_fields size held ++ n ∷ []) begins in
         let is = l.is in
@@ -238,7 +229,7 @@ module _ (app : App) (x : Shape) (s : IsShape app x) where
           begins = stack_begins size bad.held bad.stack (omega (arith, less)) few;
           not_whole = stack_unfinished size bad.held bad.few;
           are = ap (λ (l : List ℕ). 1 ∷ l) (e ∙ ap (λ (l : List ℕ). block_bytes (0 ∷ 0 ∷ size ∷ l)) bad.are) ∙ sym (stack_bytes size bad.held bad.rest);
-          next = field_fault 5 (length (1 ∷ stack_fields size bad.held)) (λ n. IsStack app (bad.held ++ res_no n ∷ [])) (λ n. Front (1 ∷ (stack_fields size bad.held ++ n ∷ []))) bad.rest f
+          next = field_fault 5 (length (1 ∷ stack_fields size bad.held)) (λ n. IsStack app (bad.held ++ res_no n ∷ [])) (λ n. Starts (1 ∷ (stack_fields size bad.held ++ n ∷ []))) bad.rest f
               (late_place (suc (suc (suc (length (resource_numbers bad.held)))))) (may_be_next size bad.held) bad.next;
         }
 
@@ -259,10 +250,10 @@ module _ (app : App) (x : Shape) (s : IsShape app x) where
     begins = (let some = s.waits.0 waits in record { value = OfTask (Waiting some.0); allowed = some.1; more = some.0.0 ∷ []; is = refl });
     not_whole = λ v h e. (let form = wait_form v [] h e in let rest = form.2 in absurd (cc));
     are = refl;
-    next = field_fault 1 1 (IsWaitingAt app x.task.0) (λ n. Front (2 ∷ n ∷ [])) bytes f refl may bad;
+    next = field_fault 1 1 (IsWaitingAt app x.task.0) (λ n. Starts (2 ∷ n ∷ [])) bytes f refl may bad;
   }
     where
-      may : (n : ℕ) → Front (2 ∷ n ∷ []) → IsWaitingAt app x.task.0 n
+      may : (n : ℕ) → Starts (2 ∷ n ∷ []) → IsWaitingAt app x.task.0 n
       may n begins =
           let form = wait_form begins.value (n ∷ begins.more) begins.allowed begins.is in
           let rest = form.2 in

@@ -1,39 +1,22 @@
 -- Writing sets, entries and rows one after the other, and that what is written so is the table's spelling.
-use Rattle.std.proofs.Common.{◌≡◌, ◌⊎◌, ℕ, zero, suc, ◌+◌, ◌<◌, ◌≤◌, Bool, true, false, cond, List, [], ◌∷◌, ◌++◌, length, map, filter, take, drop, get_or, refl, sym, ap, ap₂, subst, ◌∙◌, inl, inr, arith, append_assoc, append-nil, length-append, All, Some}
+use Rattle.std.proofs.Common.{◌≡◌, ◌⊎◌, ℕ, zero, suc, ◌+◌, ◌<◌, ◌≤◌, Bool, true, false, cond, List, [], ◌∷◌, ◌++◌, length, map, filter, take, drop, get_or, refl, sym, ap, ap₂, subst, ◌∙◌, arith, append_assoc, length-append, Some}
 use Rattle.std.specs.Prelude.{◌==◌, if◌then◌else◌, sum_by, slice_get}
-use Rattle.std.proofs.Math.Seq.{get_or-append_seam}
-use Rattle.std.proofs.lemmas.List.Elements.{All-weaker}
-use Rattle.osek_values.specs.Numbers.{alarm_no}
-use Rattle.osek_values.specs.declared.numbers.TaskNo.{TaskNo}
-use Rattle.std.specs.Global.{Vec}
-use Rattle.std.specs.List.{flat_map, AllByRecursion}
-use Rattle.std.proofs.lemmas.Bool.{cases_Bool, eq-eqb, ne_eqb}
-use Rattle.std.proofs.lemmas.Grind.{flat_map-append}
-use Rattle.std.proofs.lemmas.List.{length_push, length-map, take_more}
-use Rattle.std.proofs.lemmas.List.Concat.{flat_map-cons}
-use Rattle.osek_standard.specs.declared.app.App.{App}
-use Rattle.osek_standard.specs.declared.point.Point.{Point}
-use Rattle.osek_standard.specs.Points.{point_number}
+use Rattle.std.proofs.{Math.Seq.{get_or-append_seam}, lemmas.List.Elements.{All-weaker}}
+use Rattle.osek_values.specs.{Numbers.{alarm_no}, declared.numbers.TaskNo.{TaskNo}}
+use Rattle.std.specs.{Global.{Vec}, List.{flat_map, AllByRecursion}}
+use Rattle.std.proofs.lemmas.{Bool.{eq-eqb, ne_eqb}, List.{length_push, Concat.{flat_map-cons}}}
+use Rattle.osek_standard.specs.{declared.{app.App.{App}, point.Point.{Point}}, Points.{point_number}}
 use Rattle.osek_standard.proofs.StackLaws.{stack_few}
-use Rattle.abstract_state.specs.declared.value.{Component.{Component}, PartValue.{PartValue}, PartValue.TheVariants.{OfTask, OfEvent, OfAlarm}, Val.TheVariants.{Suspended, Live, Waiting}}
+use Rattle.abstract_state.specs.declared.value.{Component.{Component}, PartValue.{PartValue, TheVariants.{OfTask, OfEvent, OfAlarm}}, Val.TheVariants.{Suspended, Live, Waiting}}
 use Rattle.abstract_state.specs.declared.value.Component.TheVariants as component
-use Rattle.abstract_state.specs.declared.table.{ValueSet.{ValueSet}, TableRow.{TableRow}}
-use Rattle.abstract_state.specs.Components.{components, component_at, IsPart}
-use Rattle.abstract_state.specs.Tables.{same_point, is_row_of}
+use Rattle.abstract_state.specs.{declared.table.{ValueSet.{ValueSet}, TableRow.{TableRow}}, Components.{components, component_at, IsPart}, Tables.{same_point}}
 use Rattle.abstract_state.proofs.EqualityLaws.{point_itself}
-use Rattle.numbered_sets.specs.Numbers.{Numbers, numbers, has_number}
-use Rattle.numbered_sets.specs.Pools.{Values, values_at}
-use Rattle.numbered_sets.specs.SetLists.{set_of}
-use Rattle.numbered_sets.specs.Views.{plain_set, plain_sets, plain_entry}
-use Rattle.numbered_sets.specs.declared.table.NumberedRow.{NumberedRow}
-use Rattle.numbered_sets.specs.PlainTables.{plain_row, plain_rows}
-use Rattle.table_codec.specs.declared.ascending.NumberedValue.{NumberedValue}
-use Rattle.table_codec.specs.Ascending.{values_in, AreInOrder}
+use Rattle.numbered_sets.specs.{Numbers.{Numbers, has_number}, Pools.{Values, values_at}, SetLists.{set_of}, Views.{plain_set, plain_sets, plain_entry}}
+use Rattle.numbered_sets.specs.{declared.table.NumberedRow.{NumberedRow}, PlainTables.{plain_row, plain_rows}}
+use Rattle.table_codec.specs.{declared.ascending.NumberedValue.{NumberedValue}, Ascending.{values_in, AreInOrder}}
 use Rattle.table_codec.specs.Spelling.{value_bytes, flag_number, set_bytes, sets_bytes, members_of, entry_bytes, rows_bytes, point_bytes}
-use Rattle.table_codec.specs.Writing.{CanBeWritten, IsWritable, AreWritable, AreOrdered, all_in, merged_bytes}
-use Rattle.table_codec.specs.Faults.{IsGoodSet, AreGoodSets}
-use Rattle.table_codec.proofs.EntryFaults.{more_sets}
-use Rattle.table_codec.proofs.FlagSets.{event_set, alarm_set, flag_range}
+use Rattle.table_codec.specs.{Writing.{CanBeWritten, IsWritable, AreWritable, AreOrdered, all_in, merged_bytes}, Faults.{IsGoodSet, AreGoodSets}}
+use Rattle.table_codec.proofs.{EntryFaults.{more_sets}, FlagSets.{event_set, alarm_set, flag_range}}
 use Rattle.table_codec.proofs.Merging.{row_number, AreAt, Up, IsFirst, own, behind, first_of, filter_own, filter_other, none_behind, other_number_too}
 
 -- ---- the values of a set
@@ -103,10 +86,11 @@ module _ (app : App) (p : Point) where
   writable_from done (k ∷ ks) n (vs ∷ sets) is size good =
       let first : n + 0 ≡ n = omega arith in
       let here : component_at app n ≡ k
-      = ap (λ (cs : List Component). get_or cs n (component.Alarm (alarm_no 0))) is ∙ ap (λ (m : ℕ). get_or (done ++ k ∷ ks) m (component.Alarm (alarm_no 0))) size ∙ get_or-append_seam done k ks (component.Alarm (alarm_no 0)) in
-      (good_writable k vs (subst (λ (c : Component). IsGoodSet app p c vs) here (subst (λ (m : ℕ). IsGoodSet app p (component_at app m) vs) first (good 0 vs refl))),
-      writable_from (done ++ k ∷ []) ks (suc n) sets (is ∙ sym (append_assoc done (k ∷ []) ks)) (omega (arith, size, length_push done k))
-      (λ c ws h. let e : n + suc c ≡ suc n + c = omega arith in subst (λ (m : ℕ). IsGoodSet app p (component_at app m) ws) e (good (suc c) ws h)))
+      = ap (λ (cs : List Component). get_or cs n (component.Alarm (alarm_no 0))) is ∙ ap (λ (m : ℕ). get_or (done ++ k ∷ ks) m (component.Alarm (alarm_no 0))) size ∙ get_or-append_seam done k ks (component.Alarm (alarm_no 0)) in (
+        good_writable k vs (subst (λ (c : Component). IsGoodSet app p c vs) here (subst (λ (m : ℕ). IsGoodSet app p (component_at app m) vs) first (good 0 vs refl))),
+        writable_from (done ++ k ∷ []) ks (suc n) sets (is ∙ sym (append_assoc done (k ∷ []) ks)) (omega (arith, size, length_push done k))
+            (λ c ws h. let e : n + suc c ≡ suc n + c = omega arith in subst (λ (m : ℕ). IsGoodSet app p (component_at app m) ws) e (good (suc c) ws h)),
+      )
 
   pub sets_writable : (sets : List (List PartValue)) → AreGoodSets app p sets → AreWritable (components app) sets
   sets_writable sets good = writable_from [] (components app) 0 sets refl refl (λ c vs h. let e : c ≡ 0 + c = omega arith in subst (λ (n : ℕ). IsGoodSet app p (component_at app n) vs) e (good c vs h))

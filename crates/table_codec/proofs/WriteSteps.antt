@@ -1,26 +1,14 @@
 -- The steps of the writer's loops.
-use Rattle.std.proofs.Common.{◌≡◌, ◌⊎◌, ℕ, zero, suc, ◌+◌, ◌<◌, ◌≤◌, Bool, true, false, cond, List, [], ◌∷◌, ◌++◌, length, map, filter, take, drop, get_or, refl, sym, ap, ap₂, subst, ◌∙◌, inl, inr, arith, append_assoc, All, drop-cons}
-use Rattle.std.specs.Prelude.{◌==◌, if◌then◌else◌, sum_by, Err}
-use Rattle.std.specs.Global.{Vec}
-use Rattle.std.specs.Int.{to_be_bytes, w16}
-use Rattle.std.specs.List.{AllByRecursion}
-use Rattle.std.proofs.Math.ListN.{drop_of_length-le}
-use Rattle.std.proofs.lemmas.Bool.{eq-eqb, ne_eqb}
-use Rattle.std.proofs.lemmas.List.Elements.{recursion_from_All}
-use Rattle.std.proofs.lemmas.List.Sums.{sum_by-append, sum_by-cons}
-use Rattle.osek_standard.specs.declared.point.Point.{Point}
-use Rattle.osek_standard.specs.Points.{point_number}
-use Rattle.abstract_state.specs.declared.value.{Component.{Component}, LiveVal.{LiveVal}, Val.TheVariants.{Live}, PartValue.{PartValue}, PartValue.TheVariants.{OfTask}}
-use Rattle.numbered_sets.specs.Numbers.{Numbers, has_number}
-use Rattle.numbered_sets.specs.declared.table.NumberedRow.{NumberedRow}
-use Rattle.table_codec.specs.declared.ascending.NumberedValue.{NumberedValue}
-use Rattle.table_codec.specs.Ascending.{values_in}
-use Rattle.table_codec.specs.Spelling.{flag_number, resource_numbers, sets_bytes, value_bytes}
+use Rattle.std.proofs.Common.{◌≡◌, ◌⊎◌, ℕ, zero, suc, ◌+◌, ◌<◌, ◌≤◌, Bool, true, false, cond, List, [], ◌∷◌, ◌++◌, length, map, filter, take, drop, get_or, refl, sym, ap, ap₂, subst, ◌∙◌, arith, append_assoc, All, drop-cons}
+use Rattle.std.specs.{Prelude.{◌==◌, if◌then◌else◌, sum_by, Err}, Global.{Vec}, Int.{to_be_bytes, w16}, List.{AllByRecursion}}
+use Rattle.std.proofs.{Math.ListN.{drop_of_length-le}, lemmas.{Bool.{eq-eqb, ne_eqb}, List.{Elements.{recursion_from_All}, Sums.{sum_by-append, sum_by-cons}}}}
+use Rattle.osek_standard.specs.{declared.point.Point.{Point}, Points.{point_number}}
+use Rattle.abstract_state.specs.declared.value.{Component.{Component}, LiveVal.{LiveVal}, Val.TheVariants.{Live}, PartValue.{PartValue, TheVariants.{OfTask}}}
+use Rattle.numbered_sets.specs.{Numbers.{Numbers, has_number}, declared.table.NumberedRow.{NumberedRow}}
+use Rattle.table_codec.specs.{declared.ascending.NumberedValue.{NumberedValue}, Ascending.{values_in}, Spelling.{flag_number, resource_numbers, sets_bytes, value_bytes}}
 use Rattle.osek_values.specs.declared.limits.TheConstants.{MAX_TABLE}
-use Rattle.table_codec.specs.declared.fault.WriteFault.{WriteFault, TheVariants.{TooLong, Memory}}
-use Rattle.table_codec.specs.Writing.{Puts, all_in, merged_bytes}
-use Rattle.table_codec.proofs.Fields.{narrow_fields}
-use Rattle.table_codec.proofs.WriteLaws.{values_more, too_many}
+use Rattle.table_codec.specs.{declared.fault.WriteFault.{WriteFault, TheVariants.{TooLong, Memory}}, Writing.{Puts, all_in, merged_bytes}}
+use Rattle.table_codec.proofs.{Fields.{narrow_fields}, WriteLaws.{values_more, too_many}}
 
 -- ---- the values of a set
 

@@ -1,33 +1,18 @@
 -- The numbered rows of a written table: they have sets that can be written, and merged with the points they are spelled.
-use Rattle.std.proofs.Common.{◌≡◌, ℕ, ◌<◌, ◌≤◌, List, [], ◌∷◌, ◌++◌, length, map, get_or, refl, sym, ap, ap₂, subst, ◌∙◌, inl, inr, arith, All}
-use Rattle.std.specs.Prelude.{Contains}
-use Rattle.std.specs.Global.{Vec}
-use Rattle.std.specs.List.{flat_map}
-use Rattle.std.proofs.lemmas.Bool.{cases_lt}
-use Rattle.std.proofs.lemmas.List.{length-map, get_or_default}
-use Rattle.std.proofs.lemmas.List.Concat.{flat_map-cons}
-use Rattle.std.proofs.lemmas.List.Elements.{recursion_from_All}
-use Rattle.osek_standard.specs.declared.app.App.{App}
-use Rattle.osek_standard.specs.declared.point.Point.{Point}
+use Rattle.std.proofs.Common.{◌≡◌, ℕ, ◌<◌, ◌≤◌, List, [], ◌∷◌, ◌++◌, length, get_or, refl, sym, ap, ap₂, subst, ◌∙◌, inl, inr, arith, All}
+use Rattle.std.specs.{Prelude.{Contains}, Global.{Vec}, List.{flat_map}}
+use Rattle.std.proofs.lemmas.{Bool.{cases_lt}, List.{length-map, get_or_default, Concat.{flat_map-cons}, Elements.{recursion_from_All}}}
+use Rattle.osek_standard.specs.declared.{app.App.{App}, point.Point.{Point}}
 use Rattle.osek_standard.proofs.Members.{contained_among, among_contained, among_map}
-use Rattle.abstract_state.specs.declared.value.{Component.{Component}, Domain.{Domain}}
-use Rattle.abstract_state.specs.declared.table.{TableRow.{TableRow}, PlainTable.{PlainTable}}
-use Rattle.abstract_state.specs.Components.{components}
-use Rattle.abstract_state.specs.Domains.{domain_of, domains_of}
-use Rattle.abstract_state.specs.Written.{IsRow, IsWritten}
-use Rattle.numbered_sets.specs.Numbers.{Numbers}
-use Rattle.numbered_sets.specs.Pools.{Values, pool_domains}
-use Rattle.numbered_sets.specs.Views.{plain_entry}
-use Rattle.numbered_sets.specs.declared.table.NumberedRow.{NumberedRow}
+use Rattle.abstract_state.specs.{declared.{value.{Component.{Component}, Domain.{Domain}}, table.{TableRow.{TableRow}, PlainTable.{PlainTable}}}, Components.{components}}
+use Rattle.abstract_state.specs.{Domains.{domain_of, domains_of}, Written.{IsRow, IsWritten}}
+use Rattle.numbered_sets.specs.{Numbers.{Numbers}, Pools.{Values, pool_domains}, Views.{plain_entry}, declared.table.NumberedRow.{NumberedRow}}
 use Rattle.numbered_sets.specs.PlainTables.{plain_row, plain_rows, AreRowsFor}
 use Rattle.numbered_sets.proofs.WrittenRows.{row_there, number_domains_of}
 use Rattle.table_codec.specs.declared.ascending.NumberedValue.{NumberedValue}
 use Rattle.osek_standard.specs.Points.{points_in_order}
-use Rattle.table_codec.specs.Spelling.{magic, members_of, point_bytes, spelling}
-use Rattle.table_codec.specs.Writing.{AreWritable, AreOrdered, all_in, merged_bytes}
-use Rattle.table_codec.proofs.Merging.{row_number, Up, AreAt}
-use Rattle.table_codec.proofs.PointOrder.{points_up}
-use Rattle.table_codec.proofs.WriteLaws.{sets_writable, sets_are, merged_spelled}
+use Rattle.table_codec.specs.{Spelling.{magic, members_of, point_bytes, spelling}, Writing.{AreWritable, AreOrdered, all_in, merged_bytes}}
+use Rattle.table_codec.proofs.{Merging.{row_number, Up, AreAt}, PointOrder.{points_up}, WriteLaws.{sets_writable, sets_are, merged_spelled}}
 use Rattle.table_codec.proofs.WrittenTables.{row_good, rows_up, all_at}
 
 first_listed : (rows : List NumberedRow) → 0 < length rows → (row : NumberedRow) × Contains rows row

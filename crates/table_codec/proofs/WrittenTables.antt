@@ -1,41 +1,22 @@
 -- A written table's rows at the points: each point's byte and entry stand at their place.
-use Rattle.std.proofs.Common.{◌≡◌, ◌⊎◌, ℕ, zero, suc, ◌+◌, ◌<◌, ◌≤◌, Bool, true, false, cond, List, [], ◌∷◌, ◌++◌, length, map, filter, get_or, refl, sym, ap, subst, ◌∙◌, inl, inr, arith, append_assoc, length-append, IsTrue, All, Some, None, IfSome}
-use Rattle.std.specs.Prelude.{slice_get, Contains}
-use Rattle.std.specs.List.{flat_map, list_any, AllByRecursion}
-use Rattle.std.specs.List.Sorted.{IsStrictlySortedBy}
-use Rattle.std.specs.declared.option.Option.{Option}
-use Rattle.std.proofs.Math.Seq.{get_or-append_seam}
-use Rattle.std.proofs.lemmas.Bool.{cases_Bool}
+use Rattle.std.proofs.Common.{◌≡◌, ◌⊎◌, ℕ, ◌+◌, ◌<◌, ◌≤◌, Bool, true, cond, List, [], ◌∷◌, ◌++◌, length, map, filter, get_or, refl, sym, ap, subst, ◌∙◌, inl, inr, arith, append_assoc, IsTrue, Some, None}
+use Rattle.std.specs.{Prelude.{slice_get, Contains}, List.{flat_map, list_any}, declared.option.Option.{Option}}
+use Rattle.std.proofs.{Math.Seq.{get_or-append_seam}, lemmas.Bool.{cases_Bool}}
 use Rattle.std.specs.Option.{option_map}
-use Rattle.std.proofs.lemmas.List.{length_push, length-map, get_or_default}
-use Rattle.std.proofs.lemmas.List.Concat.{flat_map-cons}
-use Rattle.std.proofs.lemmas.Map.Views.{All-from_any}
-use Rattle.std.proofs.lemmas.Option.{slice_get_cases, slice_get-map}
-use Rattle.osek_standard.specs.declared.app.App.{App}
-use Rattle.osek_standard.specs.declared.point.Point.{Point}
+use Rattle.std.proofs.lemmas.{List.{length_push, length-map, get_or_default, Concat.{flat_map-cons}}, Map.Views.{All-from_any}, Option.{slice_get_cases, slice_get-map}}
+use Rattle.osek_standard.specs.declared.{app.App.{App}, point.Point.{Point}}
 use Rattle.osek_standard.specs.declared.point.Point.TheVariants as point
-use Rattle.osek_standard.specs.Points.{point_number, IsPoint}
 use Rattle.osek_standard.proofs.Members.{Among, among_contained}
-use Rattle.abstract_state.specs.declared.value.{PartValue.{PartValue}}
-use Rattle.abstract_state.specs.declared.table.{ValueSet.{ValueSet}, PlainEntry.{PlainEntry}, TableRow.{TableRow}, PlainTable.{PlainTable}}
-use Rattle.abstract_state.specs.ValueOrder.{same_part, IsAscending}
-use Rattle.abstract_state.specs.Components.{component_at, component_count, IsPart}
-use Rattle.abstract_state.specs.Domains.{IsSound}
-use Rattle.abstract_state.specs.Tables.{empty_set, set_at, is_member, same_point, is_row_of}
+use Rattle.abstract_state.specs.declared.{value.PartValue.{PartValue}, table.{ValueSet.{ValueSet}, PlainEntry.{PlainEntry}, TableRow.{TableRow}, PlainTable.{PlainTable}}}
+use Rattle.abstract_state.specs.{ValueOrder.{same_part, IsAscending}, Components.{component_at, component_count, IsPart}, Tables.{empty_set, set_at, is_member, is_row_of}}
 use Rattle.abstract_state.specs.Written.{IsRow, IsWritten}
-use Rattle.abstract_state.proofs.EqualityLaws.{point_right}
-use Rattle.abstract_state.proofs.OrderLaws.{part_laws}
+use Rattle.abstract_state.proofs.{EqualityLaws.{point_right}, OrderLaws.{part_laws}}
 use Rattle.numbered_sets.proofs.WrittenRows.{row_there, row_allowed, row_filled}
 use Rattle.table_codec.specs.declared.fault.Fault.{Fault}
 use Rattle.osek_standard.specs.Points.{points_in_order}
-use Rattle.table_codec.specs.Spelling.{members_of, entry_bytes, rows_bytes, point_bytes}
-use Rattle.table_codec.specs.Faults.{IsGoodSet, AreGoodSets, IsPointFault}
-use Rattle.table_codec.specs.Sets.{IsReadEntry}
-use Rattle.table_codec.specs.Rows.{IsReadRow}
+use Rattle.table_codec.specs.{Spelling.{members_of, entry_bytes, rows_bytes, point_bytes}, Faults.{IsGoodSet, AreGoodSets, IsPointFault}, Sets.{IsReadEntry}, Rows.{IsReadRow}}
 use Rattle.table_codec.proofs.EntryFaults.{entry_size, one_row, row_clash, one_point_fault}
-use Rattle.table_codec.proofs.Merging.{row_number, first_entry, found_in, rows_of, AreAt, Up, up_from_sorted, rows_found}
-use Rattle.table_codec.proofs.PointOrder.{points_up, point_among}
-use Rattle.table_codec.proofs.Sequences.{Runs}
+use Rattle.table_codec.proofs.{Merging.{row_number, first_entry, found_in, rows_of, AreAt, Up, up_from_sorted, rows_found}, PointOrder.{points_up, point_among}, Sequences.{Runs}}
 
 filter_first : (f : TableRow → Bool) (rows : List TableRow) (row : TableRow) (more : List TableRow) → filter f rows ≡ row ∷ more → Among row rows × (f row ≡ true)
 filter_first f [] row more e = absurd (cc)
@@ -141,10 +122,12 @@ module _ (app : App) where
       let mid = flat_map (point_bytes app table.rows) done ++ rest in
       let spelled : bytes ≡ point_bytes app table.rows p ++ mid
       = e ∙ ap (λ (l : List ℕ). l ++ rest) (flat_map-cons (point_bytes app table.rows) p done) ∙ append_assoc (point_bytes app table.rows p) (flat_map (point_bytes app table.rows) done) rest in
-      let read = subst (λ (l : List ℕ). IsReadRow app p l mid (found_in table.rows p)) (sym spelled) (point_read app table written p mid) in
-      (mid, subst (λ (q : Point). IsReadRow app q bytes mid (found_in table.rows p)) (sym here) read,
-      runs_from table written (prefix ++ p ∷ []) done later (before ++ found_in table.rows p ∷ []) mid rest (is ∙ sym (append_assoc prefix (p ∷ []) (done ++ later)))
-      (omega (arith, length_push before (found_in table.rows p), length_push prefix p, size)) refl)
+      let read = subst (λ (l : List ℕ). IsReadRow app p l mid (found_in table.rows p)) (sym spelled) (point_read app table written p mid) in (
+        mid,
+        subst (λ (q : Point). IsReadRow app q bytes mid (found_in table.rows p)) (sym here) read,
+        runs_from table written (prefix ++ p ∷ []) done later (before ++ found_in table.rows p ∷ []) mid rest (is ∙ sym (append_assoc prefix (p ∷ []) (done ++ later)))
+            (omega (arith, length_push before (found_in table.rows p), length_push prefix p, size)) refl,
+      )
 
   -- the rows of a table at the first points
   pub table_runs : (table : PlainTable) → IsWritten app table → (done later : List Point) (rest : List ℕ) → points_in_order app ≡ done ++ later

@@ -2,8 +2,7 @@
 use Rattle.std.specs.Prelude.{◌≡◌, ℕ, ◌+◌, List, [], ◌∷◌, map, filter}
 use Rattle.abstract_state.specs.declared.value.PartValue.{PartValue}
 use Rattle.table_codec.specs.declared.ascending.NumberedValue.{NumberedValue}
-use Rattle.numbered_sets.specs.Numbers.{Numbers, has_number}
-use Rattle.numbered_sets.specs.Views.{plain_set}
+use Rattle.numbered_sets.specs.{Numbers.{Numbers, has_number}, Views.{plain_set}}
 
 -- the values whose numbers are in a set
 abbrev pub values_in : Numbers → List NumberedValue → List PartValue

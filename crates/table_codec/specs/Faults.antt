@@ -1,16 +1,11 @@
 -- The first fault of a table's bytes, without a reader: what stands before it is as in some table, and it breaks a rule.
-use Rattle.std.specs.Prelude.{◌≡◌, ◌≢◌, ◌⊎◌, ℕ, ◌^◌, ◌-◌, ◌<◌, ◌≤◌, List, [], ◌∷◌, ◌++◌, length, take, All, Contains, slice_get, Some}
-use Rattle.std.specs.List.{flat_map}
-use Rattle.std.specs.Int.{to_be_bytes, w32}
-use Rattle.osek_standard.specs.declared.app.App.{App}
-use Rattle.osek_standard.specs.declared.point.Point.{Point}
+use Rattle.std.specs.{Prelude.{◌≡◌, ◌≢◌, ◌⊎◌, ℕ, ◌^◌, ◌-◌, ◌<◌, ◌≤◌, List, [], ◌∷◌, ◌++◌, length, take, All, Contains, slice_get, Some}, List.{flat_map}, Int.{to_be_bytes, w32}}
+use Rattle.osek_standard.specs.declared.{app.App.{App}, point.Point.{Point}}
 use Rattle.abstract_state.specs.declared.value.{Component.{Component}, PartValue.{PartValue}}
 use Rattle.abstract_state.specs.declared.value.Component.TheVariants as component
-use Rattle.abstract_state.specs.declared.table.{TableRow.{TableRow}, PlainTable.{PlainTable}}
-use Rattle.abstract_state.specs.ValueOrder.{IsAscending}
-use Rattle.abstract_state.specs.Components.{components, component_at, component_count, IsPart}
-use Rattle.abstract_state.specs.Written.{IsWritten}
-use Rattle.table_codec.specs.declared.fault.{TableRule.{TableRule}, TableRule.TheVariants.{K1, K2, K3, K4, K5}, Fault.{Fault}, TableFault.{TableFault}}
+use Rattle.abstract_state.specs.{declared.table.{TableRow.{TableRow}, PlainTable.{PlainTable}}, ValueOrder.{IsAscending}}
+use Rattle.abstract_state.specs.{Components.{components, component_at, component_count, IsPart}, Written.{IsWritten}}
+use Rattle.table_codec.specs.declared.fault.{TableRule.{TableRule, TheVariants.{K1, K2, K3, K4, K5}}, Fault.{Fault}, TableFault.{TableFault}}
 use Rattle.osek_standard.specs.Points.{points_in_order}
 use Rattle.table_codec.specs.Spelling.{value_fields, field_width, field_limit, field_bytes, fields_from, value_bytes, sets_bytes, point_bytes, magic, spelling}
 

@@ -1,11 +1,8 @@
 -- What holds of all spellings, and of the first fault of bytes.
 use Rattle.std.specs.Prelude.{◌≡◌, ◌⊎◌, ℕ, ◌<◌, List, ◌++◌, slice_index}
 use Rattle.osek_standard.specs.declared.app.App.{App}
-use Rattle.abstract_state.specs.declared.table.PlainTable.{PlainTable}
-use Rattle.abstract_state.specs.{Domains.{HasMasks}, Written.{IsWritten}}
-use Rattle.table_codec.specs.declared.fault.TableFault.{TableFault}
-use Rattle.table_codec.specs.Spelling.{spelling}
-use Rattle.table_codec.specs.Faults.{IsFirstFault}
+use Rattle.abstract_state.specs.{declared.table.PlainTable.{PlainTable}, Domains.{HasMasks}, Written.{IsWritten}}
+use Rattle.table_codec.specs.{declared.fault.TableFault.{TableFault}, Spelling.{spelling}, Faults.{IsFirstFault}}
 
 -- equal bytes mean equal tables, whatever follows them
 abbrev pub OneSpelling : Type 0

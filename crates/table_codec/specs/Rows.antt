@@ -1,16 +1,10 @@
 -- What a reader of rows answers.
-use Rattle.std.specs.Prelude.{◌≡◌, ◌≢◌, ℕ, ◌<◌, ◌≤◌, List, [], ◌∷◌, ◌++◌, length, take, Some, None}
-use Rattle.std.specs.List.{flat_map}
-use Rattle.std.specs.declared.option.Option.{Option}
-use Rattle.osek_standard.specs.declared.app.App.{App}
-use Rattle.osek_standard.specs.declared.point.Point.{Point}
-use Rattle.abstract_state.specs.declared.table.{PlainEntry.{PlainEntry}, PlainTable.{PlainTable}}
-use Rattle.abstract_state.specs.Written.{IsWritten}
+use Rattle.std.specs.{Prelude.{◌≡◌, ◌≢◌, ℕ, ◌<◌, ◌≤◌, List, [], ◌∷◌, ◌++◌, length, take, Some, None}, List.{flat_map}, declared.option.Option.{Option}}
+use Rattle.osek_standard.specs.declared.{app.App.{App}, point.Point.{Point}}
+use Rattle.abstract_state.specs.{declared.table.{PlainEntry.{PlainEntry}, PlainTable.{PlainTable}}, Written.{IsWritten}}
 use Rattle.table_codec.specs.declared.fault.{Fault.{Fault}, TableRule.TheVariants.{K1, K2, K3}}
 use Rattle.osek_standard.specs.Points.{points_in_order}
-use Rattle.table_codec.specs.Spelling.{magic, point_bytes}
-use Rattle.table_codec.specs.Faults.{fault_at}
-use Rattle.table_codec.specs.Sets.{IsReadEntry}
+use Rattle.table_codec.specs.{Spelling.{magic, point_bytes}, Faults.{fault_at}, Sets.{IsReadEntry}}
 
 -- the magic is cut, or another
 pub data IsMagicFault (bytes : List ℕ) (f : Fault) : Type 0 where

@@ -1,15 +1,9 @@
 -- What a reader of sets, of entries and of rows answers.
-use Rattle.std.specs.Prelude.{◌≡◌, ⊤, ℕ, ◌+◌, ◌<◌, ◌≤◌, ◌==◌, Bool, true, false, List, [], ◌∷◌, ◌++◌, length, if◌then◌else◌}
-use Rattle.std.specs.Int.{to_be_bytes, w32}
-use Rattle.osek_standard.specs.declared.app.App.{App}
-use Rattle.osek_standard.specs.declared.point.Point.{Point}
-use Rattle.abstract_state.specs.declared.value.{Component.{Component}, PartValue.{PartValue}}
-use Rattle.abstract_state.specs.declared.table.{ValueSet.{ValueSet}, PlainEntry.{PlainEntry}}
-use Rattle.abstract_state.specs.ValueOrder.{IsAscending}
-use Rattle.abstract_state.specs.Components.{component_count, IsPart}
-use Rattle.abstract_state.specs.Domains.{domain_of, domains, domains_of}
-use Rattle.table_codec.specs.declared.fault.{Fault.{Fault}, TableRule.TheVariants.{K1, K3}}
-use Rattle.table_codec.specs.Spelling.{value_bytes, listed, set_bytes, members_of, entry_bytes}
+use Rattle.std.specs.{Prelude.{◌≡◌, ⊤, ℕ, ◌+◌, ◌<◌, ◌≤◌, ◌==◌, Bool, true, false, List, [], ◌∷◌, ◌++◌, length, if◌then◌else◌}, Int.{to_be_bytes, w32}}
+use Rattle.osek_standard.specs.declared.{app.App.{App}, point.Point.{Point}}
+use Rattle.abstract_state.specs.{declared.{value.{Component.{Component}, PartValue.{PartValue}}, table.{ValueSet.{ValueSet}, PlainEntry.{PlainEntry}}}, ValueOrder.{IsAscending}}
+use Rattle.abstract_state.specs.{Components.{IsPart}, Domains.{domain_of, domains, domains_of}}
+use Rattle.table_codec.specs.{declared.fault.{Fault.{Fault}, TableRule.TheVariants.{K1, K3}}, Spelling.{value_bytes, listed, set_bytes, members_of, entry_bytes}}
 use Rattle.table_codec.specs.Faults.{fault_at, IsGoodSet, AreGoodSets}
 
 abbrev pub IsFlagNumber : ℕ → Type 0

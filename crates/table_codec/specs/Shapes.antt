@@ -1,13 +1,9 @@
 -- What a task can be at a point, in a few numbers.
 use Rattle.std.specs.Prelude.{ℕ, ◌≡◌, ◌<◌, ◌↔◌, ◌==◌, Bool, false, IsTrue, Some, None, length}
 use Rattle.osek_values.specs.declared.numbers.BlockNo.{BlockNo}
-use Rattle.osek_standard.specs.declared.app.App.{App}
-use Rattle.osek_standard.specs.Validity.{IsAmong}
-use Rattle.osek_standard.specs.Well.{IsOwn, IsStack, IsWaitingAt}
-use Rattle.osek_standard.specs.declared.point.Point.{Point}
+use Rattle.osek_standard.specs.{declared.{app.App.{App}, point.Point.{Point}}, Validity.{IsAmong}, Well.{IsOwn, IsStack, IsWaitingAt}}
 use Rattle.osek_standard.specs.declared.point.Point.TheVariants as point
-use Rattle.abstract_state.specs.declared.value.{LiveVal.{LiveVal}, Val.TheVariants.{Suspended, Live, Waiting}, PartValue.TheVariants.{OfTask}}
-use Rattle.abstract_state.specs.declared.value.Component.{Component}
+use Rattle.abstract_state.specs.declared.value.{LiveVal.{LiveVal}, Val.TheVariants.{Suspended, Live, Waiting}, PartValue.TheVariants.{OfTask}, Component.{Component}}
 use Rattle.abstract_state.specs.declared.value.Component.TheVariants as component
 use Rattle.abstract_state.specs.Components.{IsPart}
 use Rattle.table_codec.specs.declared.shape.Shape.{Shape}

@@ -1,16 +1,11 @@
 -- The bytes of a table: each point in order, with what the components can be there, numbers big-endian (this project's profile).
-use Rattle.std.specs.Prelude.{ℕ, suc, ◌^◌, ◌==◌, List, [], ◌∷◌, ◌++◌, length, map, filter, sum_by, if◌then◌else◌, codes}
-use Rattle.std.specs.List.{flat_map, zip}
-use Rattle.std.specs.Int.{to_be_bytes, w16, w32}
+use Rattle.std.specs.{Prelude.{ℕ, suc, ◌^◌, ◌==◌, List, [], ◌∷◌, ◌++◌, length, map, filter, sum_by, if◌then◌else◌, codes}, List.{flat_map, zip}, Int.{to_be_bytes, w16, w32}}
 use Rattle.osek_values.specs.declared.numbers.ResNo.{ResNo}
-use Rattle.osek_standard.specs.declared.app.App.{App}
-use Rattle.osek_standard.specs.declared.point.Point.{Point}
-use Rattle.abstract_state.specs.declared.value.{Val.{Val}, Val.TheVariants.{Suspended, Live, Waiting}, Component.{Component}, PartValue.{PartValue}, PartValue.TheVariants.{OfTask, OfEvent, OfAlarm}}
+use Rattle.osek_standard.specs.declared.{app.App.{App}, point.Point.{Point}}
+use Rattle.abstract_state.specs.declared.value.{Val.{Val, TheVariants.{Suspended, Live, Waiting}}, Component.{Component}, PartValue.{PartValue, TheVariants.{OfTask, OfEvent, OfAlarm}}}
 use Rattle.abstract_state.specs.declared.value.Component.TheVariants as component
-use Rattle.abstract_state.specs.declared.table.{ValueSet.{ValueSet}, PlainEntry.{PlainEntry}, TableRow.{TableRow}, PlainTable.{PlainTable}}
-use Rattle.abstract_state.specs.Components.{components}
-use Rattle.abstract_state.specs.Concrete.{flag_of}
-use Rattle.abstract_state.specs.Tables.{is_row_of}
+use Rattle.abstract_state.specs.{declared.table.{ValueSet.{ValueSet}, PlainEntry.{PlainEntry}, TableRow.{TableRow}, PlainTable.{PlainTable}}, Components.{components}}
+use Rattle.abstract_state.specs.{Concrete.{flag_of}, Tables.{is_row_of}}
 use Rattle.osek_standard.specs.Points.{points_in_order}
 
 -- the numbers of the resources on a stack, the first taken first

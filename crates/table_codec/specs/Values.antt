@@ -1,16 +1,9 @@
 -- What a value's reader answers, field by field.
 use Rattle.std.specs.Prelude.{◌≡◌, ⊤, ℕ, zero, suc, ◌<◌, List, [], ◌∷◌, ◌++◌, length, IsTrue}
-use Rattle.osek_values.specs.declared.numbers.ResNo.{ResNo}
-use Rattle.osek_values.specs.Numbers.{res_no}
-use Rattle.osek_standard.specs.declared.app.App.{App}
-use Rattle.osek_standard.specs.declared.point.Point.{Point}
-use Rattle.osek_standard.specs.Well.{IsStack}
-use Rattle.abstract_state.specs.declared.value.{Component.{Component}, PartValue.{PartValue}}
-use Rattle.abstract_state.specs.Components.{IsPart}
-use Rattle.table_codec.specs.declared.fault.Fault.{Fault}
-use Rattle.table_codec.specs.declared.shape.Shape.{Shape}
-use Rattle.table_codec.specs.Spelling.{value_bytes, resource_numbers}
-use Rattle.table_codec.specs.Faults.{IsFieldFault}
+use Rattle.osek_values.specs.{declared.numbers.ResNo.{ResNo}, Numbers.{res_no}}
+use Rattle.osek_standard.specs.{declared.{app.App.{App}, point.Point.{Point}}, Well.{IsStack}}
+use Rattle.abstract_state.specs.{declared.value.{Component.{Component}, PartValue.{PartValue}}, Components.{IsPart}}
+use Rattle.table_codec.specs.{declared.{fault.Fault.{Fault}, shape.Shape.{Shape}}, Spelling.{value_bytes, resource_numbers}, Faults.{IsFieldFault}}
 
 -- how a task of the shape may stand
 abbrev pub IsTag : Shape → ℕ → Type 0

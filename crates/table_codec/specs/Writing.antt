@@ -1,18 +1,12 @@
 -- What a writer answers, and what it is given: the values of each component in their order, each with its number.
-use Rattle.std.specs.Prelude.{◌≡◌, ⊤, ℕ, zero, suc, ◌+◌, ◌^◌, ◌<◌, ◌≤◌, ◌==◌, Bool, List, [], ◌∷◌, ◌++◌, length, map, take, sum_by, slice_index_or, All, if◌then◌else◌, Result, Ok, Err}
-use Rattle.std.specs.Global.{Vec}
-use Rattle.osek_standard.specs.declared.point.Point.{Point}
-use Rattle.osek_standard.specs.Points.{point_number}
-use Rattle.abstract_state.specs.declared.value.{Component.{Component}, Val.TheVariants.{Suspended, Live, Waiting}, PartValue.{PartValue}, PartValue.TheVariants.{OfTask, OfEvent, OfAlarm}}
+use Rattle.std.specs.{Prelude.{◌≡◌, ⊤, ℕ, ◌+◌, ◌^◌, ◌<◌, ◌≤◌, ◌==◌, List, [], ◌∷◌, ◌++◌, length, sum_by, slice_index_or, All, if◌then◌else◌, Result, Ok, Err}, Global.{Vec}}
+use Rattle.osek_standard.specs.{declared.point.Point.{Point}, Points.{point_number}}
+use Rattle.abstract_state.specs.declared.value.{Component.{Component}, Val.TheVariants.{Suspended, Live, Waiting}, PartValue.{PartValue, TheVariants.{OfTask, OfEvent, OfAlarm}}}
 use Rattle.abstract_state.specs.declared.value.Component.TheVariants as component
-use Rattle.table_codec.specs.declared.ascending.NumberedValue.{NumberedValue}
-use Rattle.table_codec.specs.Ascending.{values_in, AreInOrder}
-use Rattle.numbered_sets.specs.Numbers.{Numbers}
-use Rattle.numbered_sets.specs.Pools.{Values, values_at}
-use Rattle.numbered_sets.specs.declared.table.NumberedRow.{NumberedRow}
+use Rattle.table_codec.specs.{declared.ascending.NumberedValue.{NumberedValue}, Ascending.{values_in, AreInOrder}}
+use Rattle.numbered_sets.specs.{Numbers.{Numbers}, Pools.{Values, values_at}, declared.table.NumberedRow.{NumberedRow}}
 use Rattle.osek_values.specs.declared.limits.TheConstants.{MAX_TABLE}
-use Rattle.table_codec.specs.declared.fault.WriteFault.{WriteFault, TheVariants.{TooLong, Memory}}
-use Rattle.table_codec.specs.Spelling.{value_bytes, flag_number, sets_bytes}
+use Rattle.table_codec.specs.{declared.fault.WriteFault.{WriteFault, TheVariants.{TooLong, Memory}}, Spelling.{value_bytes, flag_number, sets_bytes}}
 
 -- The bytes are put behind those that were there, or they would be too many then, or memory ran out.
 abbrev pub Puts : {X : Type 0} → Result X WriteFault → (before after bytes : List ℕ) → Type 0

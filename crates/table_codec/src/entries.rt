@@ -2,8 +2,7 @@
 ghost use Rattle.std.specs.Prelude.{◌≡◌, ◌≤◌, length, IfOk, IfErr};
 ghost use Rattle.osek_values.specs.Answers.{Refuses};
 ghost use Rattle.abstract_state.specs.Components.{components as components_of};
-ghost use Rattle.table_codec.specs.Faults.{IsEntryFault};
-ghost use Rattle.table_codec.specs.Sets.{IsReadEntry};
+ghost use Rattle.table_codec.specs.{Faults.{IsEntryFault}, Sets.{IsReadEntry}};
 
 use crate::fault::ReadError;
 use crate::reader::Reader;

@@ -1,6 +1,5 @@
 //! Reading numbers from the start of bytes.
-ghost use Rattle.std.specs.Prelude.{◌≡◌, ◌∷◌, ◌++◌, ◌<◌, ◌≤◌, IfSome, IfNone, length, take, drop};
-ghost use Rattle.std.specs.Int.{to_be_bytes, w16, w32};
+ghost use Rattle.std.specs.{Prelude.{◌≡◌, ◌∷◌, ◌++◌, ◌<◌, ◌≤◌, IfSome, IfNone, length, take, drop}, Int.{to_be_bytes, w16, w32}};
 
 use crate::fault::{Fault, TableRule};
 use std::marker::Model;
@@ -27,8 +26,7 @@ pub(crate) fn fault(rule: TableRule, left: usize) -> Fault
 }
 
 impl<'a> Reader<'a> {
-    ghost use Rattle.std.specs.Prelude.{◌≡◌, ◌∷◌, ◌++◌, ◌<◌, ◌≤◌, ◌^◌, [], IfSome, IfNone, length, take, drop};
-    ghost use Rattle.std.specs.Int.{to_be_bytes, w16, w32};
+    ghost use Rattle.std.specs.{Prelude.{◌≡◌, ◌∷◌, ◌++◌, ◌<◌, ◌≤◌, ◌^◌, [], IfSome, IfNone, length, take, drop}, Int.{to_be_bytes, w16, w32}};
 
     /// Reads these bytes.
     pub fn new(bytes: &'a [u8]) -> Reader<'a>
@@ -89,7 +87,11 @@ impl<'a> Reader<'a> {
         ensures text { result.now ≡ take most self.old }
         ensures rest { self.new ≡ drop most self.old }
     {
-        let count = if self.rest.len() < most { self.rest.len() } else { most };
+        let count = if self.rest.len() < most {
+            self.rest.len()
+        } else {
+            most
+        };
         let (text, rest) = self.rest.split_at(count);
         self.rest = rest;
         text

@@ -1,17 +1,11 @@
 //! Tables from bytes.
 ghost use Rattle.std.specs.Prelude.{◌≡◌, ◌++◌, ◌∷◌, [], All, Ok, Err, IfOk, IfErr, OnOk};
 ghost use Rattle.osek_values.specs.Answers.{Refuses, Answers};
-ghost use Rattle.abstract_state.specs.declared.table.PlainTable.{PlainTable as APlainTable};
-ghost use Rattle.abstract_state.specs.Components.{components as components_of};
-ghost use Rattle.abstract_state.specs.Domains.{domains, domains_of, IsSound};
-ghost use Rattle.abstract_state.specs.ValueOrder.{flag_field};
-ghost use Rattle.abstract_state.specs.Written.{IsWritten};
-ghost use Rattle.numbered_sets.specs.Pools.{pool_domains};
-ghost use Rattle.numbered_sets.specs.PlainTables.{plain_table, plain_rows, row_at, AreRowsOf};
-ghost use Rattle.table_codec.specs.Spelling.{spelling, magic as magic_of};
-ghost use Rattle.table_codec.specs.declared.fault.TableFault.{TableFault as ATableFault};
-ghost use Rattle.table_codec.specs.Faults.{IsTableFault, IsRowFault, IsPointFault, IsFirstFault};
-ghost use Rattle.table_codec.specs.Rows.{IsReadRow, IsMagicFault, IsPresenceFault, IsReadTable};
+ghost use Rattle.abstract_state.specs.{declared.table.PlainTable.{PlainTable as APlainTable}, Components.{components as components_of}, Domains.{domains, domains_of, IsSound}};
+ghost use Rattle.abstract_state.specs.{ValueOrder.{flag_field}, Written.{IsWritten}};
+ghost use Rattle.numbered_sets.specs.{Pools.{pool_domains}, PlainTables.{plain_table, plain_rows, row_at, AreRowsOf}};
+ghost use Rattle.table_codec.specs.{Spelling.{spelling, magic as magic_of}, declared.fault.TableFault.{TableFault as ATableFault}};
+ghost use Rattle.table_codec.specs.{Faults.{IsTableFault, IsRowFault, IsPointFault, IsFirstFault}, Rows.{IsReadRow, IsMagicFault, IsPresenceFault, IsReadTable}};
 
 use crate::entries::entry;
 use crate::fault::{Fault, ReadError, TableError, TableFault, TableRule};

@@ -1,8 +1,7 @@
 //! What a task can be at a point.
 ghost use Rattle.std.specs.Prelude.{◌≡◌, ◌≢◌, ◌↔◌, ◌<◌, IsTrue, IfSome, IfNone, length};
 ghost use Rattle.osek_values.specs.declared.numbers.BlockNo.{BlockNo as ABlockNo};
-ghost use Rattle.osek_standard.specs.Apps.{the_block};
-ghost use Rattle.osek_standard.specs.Well.{IsOwn, IsWaitEvent, IsWaitingAt};
+ghost use Rattle.osek_standard.specs.{Apps.{the_block}, Well.{IsOwn, IsWaitEvent, IsWaitingAt}};
 ghost use Rattle.table_codec.specs.Shapes.{IsShape, is_over, RunsAt, RunsNowhere};
 
 use image_model::is_within;
@@ -51,7 +50,7 @@ impl Shape {
                     waits: is_free && may_wait(app, task),
                     first: app.task(task).first,
                     count: app.task(task).count,
-                    }
+                }
             }
         }
     }

@@ -1,12 +1,8 @@
 //! Reading a task's value.
-ghost use Rattle.std.specs.Prelude.{◌≡◌, ◌↔◌, [], ◌∷◌, ◌++◌, ◌<◌, ◌≤◌, length, IsTrue, IfOk, IfErr};
-ghost use Rattle.std.specs.Int.{to_be_bytes, w16};
-ghost use Rattle.osek_standard.specs.Validity.{IsAmong};
-ghost use Rattle.osek_standard.specs.Well.{IsStack, IsWaitingAt};
+ghost use Rattle.std.specs.{Prelude.{◌≡◌, ◌↔◌, [], ◌∷◌, ◌++◌, ◌<◌, ◌≤◌, length, IsTrue, IfOk, IfErr}, Int.{to_be_bytes, w16}};
+ghost use Rattle.osek_standard.specs.{Validity.{IsAmong}, Well.{IsStack, IsWaitingAt}};
 ghost use Rattle.osek_values.specs.Numbers.{res_no};
-ghost use Rattle.table_codec.specs.Faults.{IsFieldFault, IsValueFault};
-ghost use Rattle.table_codec.specs.Shapes.{IsShape, shaped};
-ghost use Rattle.table_codec.specs.Values.{IsTag, IsReadValue, IsReadStack, IsStackFault};
+ghost use Rattle.table_codec.specs.{Faults.{IsFieldFault, IsValueFault}, Shapes.{IsShape, shaped}, Values.{IsTag, IsReadValue, IsReadStack, IsStackFault}};
 
 use crate::fault::{Fault, TableRule};
 use crate::reader::{Reader, fault};

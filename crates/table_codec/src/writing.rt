@@ -1,11 +1,8 @@
 //! The bytes of a table.
-ghost use Rattle.std.specs.Prelude.{◌≡◌, ◌++◌, ◌∷◌, ◌^◌, ◌<◌, ◌≤◌, length, sum_by, All, IfOk, IfErr, OnOk};
-ghost use Rattle.std.specs.List.{flat_map};
-ghost use Rattle.abstract_state.specs.declared.value.{Val.TheVariants.{Live}, PartValue.TheVariants.{OfTask}};
-ghost use Rattle.abstract_state.specs.Written.{IsWritten};
+ghost use Rattle.std.specs.{Prelude.{◌≡◌, ◌++◌, ◌∷◌, ◌^◌, ◌<◌, ◌≤◌, length, sum_by, All, IfOk, IfErr, OnOk}, List.{flat_map}};
+ghost use Rattle.abstract_state.specs.{declared.value.{Val.TheVariants.{Live}, PartValue.TheVariants.{OfTask}}, Written.{IsWritten}};
 ghost use Rattle.table_codec.specs.Ascending.{values_in};
-ghost use Rattle.numbered_sets.specs.SetLists.{set_of};
-ghost use Rattle.numbered_sets.specs.declared.table.NumberedRow.{NumberedRow as ARow};
+ghost use Rattle.numbered_sets.specs.{SetLists.{set_of}, declared.table.NumberedRow.{NumberedRow as ARow}};
 ghost use Rattle.osek_values.specs.declared.limits.TheConstants.{MAX_TABLE};
 ghost use Rattle.table_codec.specs.declared.fault.WriteFault.TheVariants.{TooLong};
 ghost use Rattle.table_codec.specs.Spelling.{spelling, resource_numbers, value_bytes, set_bytes, listed, flag_number as flag_number_of, sets_bytes};
@@ -24,6 +21,7 @@ use std::alloc::{AllocError, Global};
 
 // what stands at a point without an entry, and before an entry
 const ABSENT: u8 = 0;
+
 const PRESENT: u8 = 1;
 
 fn put_value(out: &mut Vec<u8>, value: &PartValue) -> Result<(), AllocError>

@@ -1,7 +1,6 @@
 use Rattle.std.proofs.Common.{◌∙◌, ◌++◌, ◌∷◌, [], List, sym, ap, arith}
 use Rattle.numbered_sets.specs.Pools.{values_at}
-use Rattle.table_codec.specs.declared.ascending.NumberedValue.{NumberedValue}
-use Rattle.table_codec.specs.Ascending.{numbered_value}
+use Rattle.table_codec.specs.{declared.ascending.NumberedValue.{NumberedValue}, Ascending.{numbered_value}}
 use Rattle.table_codec.proofs.AscendingValues.{numbered_more}
 use Rattle.table_codec.proofs.ascending.numbered_values.Goals as goal
 

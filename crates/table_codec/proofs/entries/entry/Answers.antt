@@ -1,8 +1,5 @@
-use Rattle.std.proofs.Common.{◌≡◌, ◌∙◌, ◌<◌, ℕ, List, length, sym, ap, subst, arith}
-use Rattle.std.proofs.lemmas.List.{length_push}
-use Rattle.abstract_state.specs.declared.value.Component.{Component}
-use Rattle.abstract_state.specs.declared.table.ValueSet.{ValueSet}
-use Rattle.abstract_state.specs.Components.{component_at, component_count, IsComponent}
+use Rattle.std.proofs.{Common.{◌≡◌, ◌∙◌, ◌<◌, ℕ, List, length, sym, ap, subst, arith}, lemmas.List.{length_push}}
+use Rattle.abstract_state.specs.{declared.{value.Component.{Component}, table.ValueSet.{ValueSet}}, Components.{component_at, component_count, IsComponent}}
 use Rattle.abstract_state.proofs.ComponentLaws.{component_known}
 use Rattle.table_codec.specs.Sets.{IsReadSet}
 use Rattle.table_codec.proofs.ReadSoFar.{AreSetsSoFar, component_there, no_sets, next_set}

@@ -1,5 +1,4 @@
-use Rattle.std.proofs.Common.{◌∙◌, List, sym, ap, subst}
-use Rattle.numbered_sets.specs.declared.table.NumberedRow.{NumberedRow}
+use Rattle.std.proofs.Common.{◌∙◌, sym, ap, subst}
 use Rattle.numbered_sets.specs.PlainTables.{plain_rows, AreRowsOf}
 use Rattle.table_codec.proofs.GrownRows.{rows_pushed, plain_pushed}
 use Rattle.table_codec.proofs.reading.add_row.Goals as goal

@@ -1,14 +1,9 @@
-use Rattle.std.proofs.Common.{◌≡◌, ◌∙◌, sym, ap, subst, arith}
-use Rattle.std.proofs.lemmas.Result.{err_from_is_err_and}
+use Rattle.std.proofs.{Common.{◌≡◌, ◌∙◌, sym, ap, subst, arith}, lemmas.Result.{err_from_is_err_and}}
 use Rattle.osek_values.proofs.Refusals.{refuses_map}
-use Rattle.abstract_state.specs.declared.table.PlainTable.{PlainTable}
-use Rattle.abstract_state.specs.Written.{IsWritten}
+use Rattle.abstract_state.specs.{declared.table.PlainTable.{PlainTable}, Written.{IsWritten}}
 use Rattle.numbered_sets.specs.PlainTables.{plain_table}
-use Rattle.table_codec.specs.declared.fault.TableRule.TheVariants.{K5}
-use Rattle.table_codec.specs.Faults.{bad_row}
-use Rattle.table_codec.specs.Spelling.{spelling}
-use Rattle.table_codec.proofs.FieldReads.{fault_of}
-use Rattle.table_codec.proofs.TableReads.{behind_fault, spelled_whole, none_left}
+use Rattle.table_codec.specs.{declared.fault.TableRule.TheVariants.{K5}, Faults.{bad_row}, Spelling.{spelling}}
+use Rattle.table_codec.proofs.{FieldReads.{fault_of}, TableReads.{behind_fault, spelled_whole, none_left}}
 use Rattle.table_codec.proofs.reading.all.Goals as goal
 
 pub returns-in_err-rows-clause-err : goal.returns-in_err-rows-clause-err

@@ -1,5 +1,4 @@
-use Rattle.std.proofs.Common.{◌∙◌, ◌+◌, sym, subst, arith, List}
-use Rattle.std.proofs.lemmas.Result.{err_from_is_err_and}
+use Rattle.std.proofs.{Common.{◌∙◌, ◌+◌, sym, subst, arith, List}, lemmas.Result.{err_from_is_err_and}}
 use Rattle.osek_values.proofs.Refusals.{refuses_map}
 use Rattle.abstract_state.specs.declared.table.TableRow.{TableRow}
 use Rattle.numbered_sets.specs.PlainTables.{plain_rows}

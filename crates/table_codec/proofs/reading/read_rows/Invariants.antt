@@ -1,7 +1,6 @@
 use Rattle.std.proofs.Common.{◌≡◌}
 use Rattle.abstract_state.specs.Domains.{domains_of}
-use Rattle.numbered_sets.specs.Pools.{pool_domains}
-use Rattle.numbered_sets.specs.PlainTables.{plain_rows, AreRowsOf}
+use Rattle.numbered_sets.specs.{Pools.{pool_domains}, PlainTables.{plain_rows, AreRowsOf}}
 use Rattle.table_codec.proofs.RowsSoFar.{AreRowsSoFar}
 use Rattle.table_codec.proofs.reading.read_rows.Given as goal
 

@@ -1,10 +1,7 @@
 use Rattle.std.proofs.Common.{◌≡◌, ◌∙◌, List, ℕ, subst}
-use Rattle.osek_values.specs.declared.refused.Refused.{Refused}
-use Rattle.osek_values.specs.Answers.{Refuses}
-use Rattle.table_codec.specs.declared.fault.Fault.{Fault}
-use Rattle.table_codec.specs.Faults.{IsTableFault}
-use Rattle.table_codec.proofs.TableFaults.{one_first_fault}
-use Rattle.table_codec.proofs.TableReads.{is_located, same_table, no_fault_there}
+use Rattle.osek_values.specs.{declared.refused.Refused.{Refused}, Answers.{Refuses}}
+use Rattle.table_codec.specs.{declared.fault.Fault.{Fault}, Faults.{IsTableFault}}
+use Rattle.table_codec.proofs.{TableFaults.{one_first_fault}, TableReads.{is_located, same_table, no_fault_there}}
 use Rattle.table_codec.proofs.reading.read_table.Goals as goal
 
 pub returns-in-Ok-clause-complete : goal.returns-in-Ok-clause-complete

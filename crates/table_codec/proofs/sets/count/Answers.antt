@@ -1,7 +1,6 @@
 use Rattle.std.proofs.Common.{◌∙◌, ◌++◌, ℕ, ap}
 use Rattle.std.specs.Int.{to_be_bytes, w32}
-use Rattle.table_codec.specs.declared.fault.TableRule.TheVariants.{K3}
-use Rattle.table_codec.specs.Sets.{no_count}
+use Rattle.table_codec.specs.{declared.fault.TableRule.TheVariants.{K3}, Sets.{no_count}}
 use Rattle.table_codec.proofs.FieldReads.{fault_of}
 use Rattle.table_codec.proofs.sets.count.Goals as goal
 

@@ -1,7 +1,5 @@
-use Rattle.std.proofs.Common.{◌∙◌, ◌-◌, ℕ, sym, ap, arith, get_or}
-use Rattle.std.proofs.lemmas.Bool.{eq-eqb}
-use Rattle.abstract_state.specs.declared.value.PartValue.{PartValue}
-use Rattle.table_codec.proofs.AboveLast.{above_none, above_last, less_test}
+use Rattle.std.proofs.{Common.{◌∙◌, ◌-◌, ℕ, sym, ap, arith, get_or}, lemmas.Bool.{eq-eqb}}
+use Rattle.table_codec.proofs.AboveLast.{above_none, less_test}
 use Rattle.table_codec.proofs.sets.is_above.Goals as goal
 
 pub returns-then-count-eq0 : goal.returns-then-count-eq0

@@ -1,6 +1,4 @@
-use Rattle.std.proofs.Common.{List, length, sym, ap, subst, arith}
-use Rattle.std.proofs.lemmas.List.{length_push}
-use Rattle.std.proofs.lemmas.Result.{err_from_is_err_and}
+use Rattle.std.proofs.{Common.{List, length, sym, ap, subst, arith}, lemmas.{List.{length_push}, Result.{err_from_is_err_and}}}
 use Rattle.abstract_state.specs.declared.value.PartValue.{PartValue}
 use Rattle.table_codec.specs.Shapes.{shaped}
 use Rattle.table_codec.proofs.ReadSoFar.{AreValuesSoFar, count_fault, no_values, next_value}

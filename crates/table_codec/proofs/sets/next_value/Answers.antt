@@ -1,7 +1,5 @@
 use Rattle.std.proofs.Common.{◌∙◌, ◌++◌, ◌∷◌, [], ap}
-use Rattle.abstract_state.specs.ValueOrder.{IsAscending}
-use Rattle.table_codec.specs.declared.fault.TableRule.TheVariants.{K4}
-use Rattle.table_codec.specs.Faults.{not_above}
+use Rattle.table_codec.specs.{declared.fault.TableRule.TheVariants.{K4}, Faults.{not_above}}
 use Rattle.table_codec.proofs.FieldReads.{fault_of}
 use Rattle.table_codec.proofs.sets.next_value.Goals as goal
 

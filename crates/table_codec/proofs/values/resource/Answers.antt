@@ -2,8 +2,7 @@ use Rattle.std.proofs.Common.{◌≡◌, ◌∙◌, ◌<◌, ◌++◌, ◌∷◌
 use Rattle.osek_values.specs.Numbers.{res_no}
 use Rattle.osek_standard.specs.Well.{IsStack}
 use Rattle.osek_standard.proofs.StackLaws.{push_stack}
-use Rattle.table_codec.proofs.FieldReads.{number_barred}
-use Rattle.table_codec.proofs.StackEnds.{stack_last}
+use Rattle.table_codec.proofs.{FieldReads.{number_barred}, StackEnds.{stack_last}}
 use Rattle.table_codec.proofs.values.resource.Goals as goal
 use Rattle.table_codec.proofs.values.resource.Goals.{else-number-len-via-then-number-len+else-not-has, else-number-len-via-else-number-len}
 

@@ -1,5 +1,4 @@
-use Rattle.std.proofs.Common.{◌≡◌, arith}
-use Rattle.std.proofs.lemmas.Result.{err_from_is_err_and}
+use Rattle.std.proofs.{Common.{◌≡◌, arith}, lemmas.Result.{err_from_is_err_and}}
 use Rattle.table_codec.proofs.StackReads.{none_read, one_read, bad_resource, stack_read}
 use Rattle.table_codec.proofs.values.stack.Goals as goal
 

@@ -1,5 +1,4 @@
-use Rattle.std.proofs.Common.{take, arith}
-use Rattle.std.proofs.lemmas.List.{length-take-le}
+use Rattle.std.proofs.{Common.{take, arith}, lemmas.List.{length-take-le}}
 use Rattle.numbered_sets.specs.SetLists.{set_of}
 use Rattle.table_codec.proofs.WriteSteps.{few_values}
 use Rattle.table_codec.proofs.writing.count.Goals as goal

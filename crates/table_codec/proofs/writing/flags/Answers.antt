@@ -1,6 +1,5 @@
 use Rattle.std.proofs.Common.{◌≡◌, ◌∙◌, ◌+◌, true, sym, arith}
-use Rattle.numbered_sets.specs.Numbers.{has_number}
-use Rattle.numbered_sets.specs.SetLists.{set_of}
+use Rattle.numbered_sets.specs.{Numbers.{has_number}, SetLists.{set_of}}
 use Rattle.table_codec.proofs.WriteSteps.{sum_prefix, sum_more}
 use Rattle.table_codec.proofs.writing.flags.Goals as goal
 

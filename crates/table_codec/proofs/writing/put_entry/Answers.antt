@@ -1,9 +1,6 @@
 use Rattle.std.proofs.{Common.{◌≡◌, ◌∙◌, ◌+◌, ◌++◌, ◌<◌, ℕ, suc, List, drop, length, sym, ap, subst, arith, Err}, lemmas.Result.{err_from_is_err_and}}
 use Rattle.numbered_sets.specs.SetLists.{set_of}
-use Rattle.table_codec.specs.declared.ascending.NumberedValue.{NumberedValue}
-use Rattle.table_codec.specs.Ascending.{values_in}
-use Rattle.table_codec.specs.Spelling.{set_bytes, sets_bytes}
-use Rattle.table_codec.specs.Writing.{Puts, IsWritable, all_in}
+use Rattle.table_codec.specs.{declared.ascending.NumberedValue.{NumberedValue}, Ascending.{values_in}, Spelling.{set_bytes, sets_bytes}, Writing.{Puts, IsWritable, all_in}}
 use Rattle.table_codec.proofs.{WriteLaws.{writable_at, set_next, put_on}, WriteSteps.{puts_on}}
 use Rattle.table_codec.proofs.writing.put_entry.Goals as goal
 

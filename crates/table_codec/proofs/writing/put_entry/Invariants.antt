@@ -1,6 +1,5 @@
 use Rattle.std.proofs.Common.{◌≡◌, ◌++◌, drop}
-use Rattle.table_codec.specs.Spelling.{sets_bytes}
-use Rattle.table_codec.specs.Writing.{all_in}
+use Rattle.table_codec.specs.{Spelling.{sets_bytes}, Writing.{all_in}}
 use Rattle.table_codec.proofs.writing.put_entry.Given as goal
 
 abbrev pub invariant-loop-place : goal.invariant-loop-place

@@ -1,11 +1,8 @@
 use Rattle.std.proofs.Common.{length, arith, length-append}
-use Rattle.std.specs.Int.{to_be_bytes, w32}
-use Rattle.std.specs.List.{flat_map}
+use Rattle.std.specs.{Int.{to_be_bytes, w32}, List.{flat_map}}
 use Rattle.std.proofs.lemmas.List.Elements.{recursion_from_All}
 use Rattle.numbered_sets.specs.SetLists.{set_of}
-use Rattle.table_codec.specs.Ascending.{values_in}
-use Rattle.table_codec.specs.Spelling.{value_bytes}
-use Rattle.table_codec.specs.Writing.{CanBeWritten}
+use Rattle.table_codec.specs.{Ascending.{values_in}, Spelling.{value_bytes}, Writing.{CanBeWritten}}
 use Rattle.table_codec.proofs.WriteLaws.{bytes_many}
 use Rattle.table_codec.proofs.writing.put_listed.Goals as goal
 

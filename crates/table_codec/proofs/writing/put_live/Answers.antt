@@ -1,5 +1,4 @@
-use Rattle.std.proofs.Common.{◌≡◌, ◌∙◌, ◌∷◌, [], ◌++◌, List, ℕ, length, ap}
-use Rattle.std.proofs.lemmas.Result.{IfOk-weaker}
+use Rattle.std.proofs.{Common.{◌≡◌, ◌∙◌, ◌∷◌, [], ◌++◌, List, ℕ, length, ap}, lemmas.Result.{IfOk-weaker}}
 use Rattle.osek_values.specs.declared.numbers.ResNo.{ResNo}
 use Rattle.abstract_state.specs.declared.value.{Val.TheVariants.{Live}, PartValue.TheVariants.{OfTask}}
 use Rattle.table_codec.specs.Spelling.{resource_numbers, value_bytes}

@@ -1,10 +1,8 @@
 use Rattle.std.proofs.{Common.{◌≡◌, ◌∙◌, ◌+◌, ◌<◌, ◌≤◌, ◌++◌, ◌∷◌, ℕ, List, [], drop, get_or, length, sym, ap, subst, arith}, lemmas.{Result.{err_from_is_err_and}, List.{get_or_default}}}
-use Rattle.osek_standard.specs.declared.point.Point.{Point}
 use Rattle.osek_standard.specs.declared.point.Point.TheVariants as point
 use Rattle.osek_standard.specs.Points.{point_number}
 use Rattle.numbered_sets.specs.declared.table.NumberedRow.{NumberedRow}
-use Rattle.table_codec.specs.Spelling.{sets_bytes}
-use Rattle.table_codec.specs.Writing.{AreWritable, all_in, merged_bytes}
+use Rattle.table_codec.specs.{Spelling.{sets_bytes}, Writing.{AreWritable, all_in, merged_bytes}}
 use Rattle.table_codec.proofs.{WriteLaws.{put_on}, WriteSteps.{puts_on, merged_row, merged_none, merged_absent}}
 use Rattle.table_codec.proofs.writing.put_rows.Goals as goal
 use Rattle.table_codec.proofs.writing.put_rows.Goals.{then-next-len+then-number+in_ok-put_row, else-next-len+in_ok-push, else-next-len-via-then-next-len+else-number, else-next-len-via-else-next-len}

@@ -1,6 +1,5 @@
 use Rattle.std.proofs.Common.{◌≡◌, ◌∙◌, true, sym}
-use Rattle.numbered_sets.specs.Numbers.{has_number}
-use Rattle.numbered_sets.specs.SetLists.{set_of}
+use Rattle.numbered_sets.specs.{Numbers.{has_number}, SetLists.{set_of}}
 use Rattle.table_codec.specs.Writing.{CanBeWritten}
 use Rattle.table_codec.proofs.WriteSteps.{value_at}
 use Rattle.table_codec.proofs.writing.put_values.Goals as goal

@@ -1,8 +1,7 @@
 use Rattle.std.proofs.Common.{◌≡◌, ◌++◌, take}
 use Rattle.std.specs.List.{flat_map}
 use Rattle.numbered_sets.specs.SetLists.{set_of}
-use Rattle.table_codec.specs.Ascending.{values_in}
-use Rattle.table_codec.specs.Spelling.{value_bytes}
+use Rattle.table_codec.specs.{Ascending.{values_in}, Spelling.{value_bytes}}
 use Rattle.table_codec.proofs.writing.put_values.Given as goal
 
 abbrev pub invariant-loop-found : goal.invariant-loop-found

@@ -1,13 +1,9 @@
 use Rattle.std.proofs.{Common.{◌≡◌, ◌∙◌, ◌+◌, ◌≤◌, ◌<◌, ◌++◌, ℕ, List, length, sym, ap, ap₂, subst, arith, length-append, All}, lemmas.Result.{err_from_is_err_and}}
 use Rattle.std.specs.Prelude.{Err}
-use Rattle.osek_standard.specs.declared.point.Point.{Point}
-use Rattle.abstract_state.specs.declared.value.Component.{Component}
-use Rattle.abstract_state.specs.Components.{components}
+use Rattle.abstract_state.specs.{declared.value.Component.{Component}, Components.{components}}
 use Rattle.numbered_sets.specs.declared.table.NumberedRow.{NumberedRow}
 use Rattle.osek_values.specs.declared.limits.TheConstants.{MAX_TABLE}
-use Rattle.table_codec.specs.declared.fault.WriteFault.{WriteFault, TheVariants.{TooLong}}
-use Rattle.table_codec.specs.Spelling.{magic, spelling}
-use Rattle.table_codec.specs.Writing.{Puts, AreOrdered, AreWritable, all_in, merged_bytes}
+use Rattle.table_codec.specs.{declared.fault.WriteFault.{WriteFault, TheVariants.{TooLong}}, Spelling.{magic}, Writing.{Puts, AreOrdered, AreWritable, all_in, merged_bytes}}
 use Rattle.table_codec.proofs.WrittenBytes.{pool_counts, each_size, each_writable, all_written}
 use Rattle.table_codec.proofs.writing.write_table.Goals as goal
 

@@ -1,7 +1,6 @@
 use Rattle.std.proofs.Common.{◌≡◌, ◌↔◌, ◌∙◌, true, false, sym, ap, IsTrue, not}
 use Rattle.osek_values.specs.declared.numbers.BlockNo.{BlockNo}
-use Rattle.osek_standard.specs.declared.objects.Task.{Task}
-use Rattle.osek_standard.specs.Well.{IsWaitingAt}
+use Rattle.osek_standard.specs.{declared.objects.Task.{Task}, Well.{IsWaitingAt}}
 use Rattle.table_codec.proofs.ShapeLaws.{elsewhere_is}
 use Rattle.table_codec.proofs.shape.Shape.of.Goals as goal
 use Rattle.table_codec.proofs.shape.Shape.of.Goals.{then-is_free, else-is_free}
