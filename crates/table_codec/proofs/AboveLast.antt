@@ -1,5 +1,5 @@
 -- A value is above those of an ascending list where it is above the last.
-use Rattle.std.proofs.Common.{◌≡◌, ◌↔◌, Bool, true, IsTrue, refl, sym, ℕ, ◌-◌, ◌<◌, List, [], ◌∷◌, ◌++◌, length, get_or, ap, subst, ◌∙◌, arith}
+use Rattle.std.proofs.Common.{◌≡◌, ◌↔◌, Bool, true, IsTrue, refl, sym, ◌-◌, ◌<◌, List, [], ◌∷◌, ◌++◌, length, get_or, ap, subst, ◌∙◌, arith}
 use Rattle.std.specs.{Prelude.{All}, Ordering.{is_lt}, declared.cmp.Ordering.{Ordering, TheVariants.{Less, Equal, Greater}}}
 use Rattle.std.proofs.lemmas.List.{take_all, Elements.{All-get_or, All-from_recursion, recursion_from_All}}
 use Rattle.abstract_state.specs.{declared.value.PartValue.{PartValue}, ValueOrder.{part_order, IsAscending}}

@@ -1,5 +1,5 @@
 -- Values that were sorted, each with its number: whichever numbers are asked for, theirs come in order.
-use Rattle.std.proofs.Common.{◌≡◌, ℕ, suc, ◌+◌, ◌<◌, ◌≤◌, Bool, true, false, ◌||◌, ◌&&◌, cond, List, [], ◌∷◌, ◌++◌, length, map, filter, take, get_or, refl, sym, ap, ap₂, ◌∙◌, arith}
+use Rattle.std.proofs.Common.{◌≡◌, ℕ, suc, ◌+◌, ◌<◌, Bool, true, false, ◌||◌, ◌&&◌, cond, List, [], ◌∷◌, ◌++◌, length, map, filter, take, get_or, refl, sym, ap, ap₂, ◌∙◌, arith}
 use Rattle.std.specs.{Prelude.{if◌then◌else◌}, List.{list_any, IsDistinct, AllByRecursion, Sorted.{IsStrictlySortedBy, IsSortedBy, IsPermutation}}}
 use Rattle.std.specs.{Ordering.{is_eq, is_lt, ordering_reverse}, declared.cmp.Ordering.{Ordering, TheVariants.{Less}}}
 use Rattle.std.proofs.lemmas.List.{take_more, length-take-le, Elements.{recursion_from_All}, Kept.{IsStrictlySortedBy-filter}}

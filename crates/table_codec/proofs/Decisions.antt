@@ -1,5 +1,5 @@
 -- What a reader tests holds or doesn't, and bytes are cut, or begin with a number that may stand there or not.
-use Rattle.std.proofs.Common.{◌≡◌, ◌⊎◌, ℕ, zero, suc, ◌+◌, ◌*◌, ◌^◌, ◌<◌, ◌≤◌, Bool, true, false, List, [], ◌∷◌, ◌++◌, refl, sym, ap, subst, ◌∙◌, inl, inr, arith, IsTrue}
+use Rattle.std.proofs.Common.{◌≡◌, ◌⊎◌, ℕ, zero, suc, ◌+◌, ◌*◌, ◌^◌, ◌<◌, ◌≤◌, Bool, true, false, List, [], ◌∷◌, ◌++◌, refl, sym, ap, subst, inl, inr, arith, IsTrue}
 use Rattle.std.specs.{Prelude.{◌==◌, if◌then◌else◌, slice_index}, Int.{to_be_bytes, w16, w32}, List.{AllByRecursion, Sorted.{IsStrictlySortedBy}}}
 use Rattle.std.specs.declared.cmp.Ordering.{Ordering, TheVariants.{Less, Equal, Greater}}
 use Rattle.std.proofs.lemmas.{Bool.{cases_lt, cases_eq}, Nat.{be_bytes_2, be_bytes_4}}

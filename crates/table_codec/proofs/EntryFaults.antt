@@ -1,5 +1,5 @@
 -- The sets of an entry, and the entry of a point: they are read in one way, or have one fault.
-use Rattle.std.proofs.Common.{◌≡◌, ◌⊎◌, ℕ, zero, suc, ◌+◌, ◌<◌, ◌≤◌, List, [], ◌∷◌, ◌++◌, length, map, get_or, refl, sym, ap, subst, ◌∙◌, inl, inr, arith, append_assoc, length-append, Some, None}
+use Rattle.std.proofs.Common.{◌≡◌, ℕ, suc, ◌+◌, ◌<◌, ◌≤◌, List, [], ◌∷◌, ◌++◌, length, map, get_or, refl, sym, ap, subst, ◌∙◌, inl, inr, arith, append_assoc, length-append, Some, None}
 use Rattle.std.specs.{Prelude.{slice_get}, List.{zip}, declared.option.Option.{Option}}
 use Rattle.std.proofs.{Math.Seq.{get_or-append_seam}, lemmas.List.{length_push, length-map, Concat.{flat_map-cons}}}
 use Rattle.osek_values.specs.Numbers.{alarm_no}

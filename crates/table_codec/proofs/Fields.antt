@@ -1,6 +1,6 @@
 -- The fields of a task's values: bytes that begin with two lists of fields have one of them before the other, and no value's
 -- fields begin another's.
-use Rattle.std.proofs.Common.{◌≡◌, ◌⊎◌, ℕ, suc, ◌+◌, ◌^◌, ◌<◌, ◌≤◌, Bool, true, false, List, [], ◌∷◌, ◌++◌, length, refl, sym, ap, subst, ◌∙◌, inl, inr, arith, append_assoc, eqb-true}
+use Rattle.std.proofs.Common.{◌≡◌, ◌⊎◌, ℕ, suc, ◌+◌, ◌^◌, ◌<◌, Bool, true, false, List, [], ◌∷◌, ◌++◌, length, refl, sym, ap, subst, ◌∙◌, inl, inr, arith, append_assoc, eqb-true}
 use Rattle.std.specs.{Prelude.{◌==◌, if◌then◌else◌}, Int.{to_be_bytes, w16, from_be_bytes}}
 use Rattle.std.proofs.lemmas.{List.{append-nil, length-append, length-map}, Nat.{from_be_bytes-to_be_bytes_2}}
 use Rattle.osek_values.specs.declared.numbers.ResNo.{ResNo}

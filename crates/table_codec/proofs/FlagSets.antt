@@ -1,5 +1,5 @@
 -- Sets of flags: one of the two, or both, and the number of each.
-use Rattle.std.proofs.Common.{◌≡◌, ◌⊎◌, ℕ, ◌+◌, ◌<◌, ◌≤◌, Bool, true, false, List, [], ◌∷◌, ◌++◌, length, refl, sym, ap, ap₂, subst, ◌∙◌, inl, inr, arith}
+use Rattle.std.proofs.Common.{◌≡◌, ℕ, ◌<◌, ◌≤◌, Bool, true, false, List, [], ◌∷◌, ◌++◌, length, refl, sym, ap, ap₂, subst, ◌∙◌, inl, inr, arith}
 use Rattle.std.specs.{Prelude.{sum_by}, List.{AllByRecursion, Sorted.{IsStrictlySortedBy}}, declared.cmp.Ordering.TheVariants.{Less}}
 use Rattle.std.proofs.lemmas.List.{Elements.{recursion_from_All}, Sums.{sum_by-cons}}
 use Rattle.osek_values.specs.declared.numbers.{TaskNo.{TaskNo}, EventNo.{EventNo}, AlarmNo.{AlarmNo}}

@@ -1,5 +1,5 @@
 -- One row more, beside a pool that may have grown by its values.
-use Rattle.std.proofs.{Common.{◌≡◌, List, [], ◌∷◌, ◌++◌, ℕ, refl, ap, ap₂, subst, ◌∙◌, inl, inr, arith}, lemmas.List.{map-append, Elements.{Contains-push_cases}}}
+use Rattle.std.proofs.{Common.{◌≡◌, List, [], ◌∷◌, ◌++◌, refl, ap, ap₂, subst, ◌∙◌, inl, inr, arith}, lemmas.List.{map-append, Elements.{Contains-push_cases}}}
 use Rattle.abstract_state.specs.declared.table.{PlainEntry.{PlainEntry}, TableRow.{TableRow}}
 use Rattle.numbered_sets.specs.{Pools.{Values, IsLonger}, Views.{plain_entry, AreNumbersOf}}
 use Rattle.numbered_sets.proofs.ViewLaws.{same_view, still_known}

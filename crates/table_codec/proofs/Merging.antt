@@ -1,6 +1,6 @@
 -- Rows in the order of their points, beside all points in their order: each row is the one of its point.
-use Rattle.std.proofs.Common.{◌≡◌, ◌⊎◌, ℕ, ◌+◌, ◌<◌, ◌≤◌, Bool, true, false, cond, List, [], ◌∷◌, ◌++◌, map, filter, refl, sym, ap, ap₂, subst, ◌∙◌, inl, inr, arith, Some, None}
-use Rattle.std.specs.{Prelude.{if◌then◌else◌}, Cmp.{nat_cmp_is}, List.{AllByRecursion, Sorted.{IsStrictlySortedBy}}, Ordering.{nat_cmp}}
+use Rattle.std.proofs.Common.{◌≡◌, ℕ, ◌<◌, Bool, true, false, cond, List, [], ◌∷◌, ◌++◌, map, filter, refl, sym, ap, ap₂, subst, ◌∙◌, inl, inr, arith, Some, None}
+use Rattle.std.specs.{Cmp.{nat_cmp_is}, List.{AllByRecursion, Sorted.{IsStrictlySortedBy}}, Ordering.{nat_cmp}}
 use Rattle.std.specs.declared.{cmp.Ordering.TheVariants.{Less, Equal, Greater}, option.Option.{Option}}
 use Rattle.std.proofs.lemmas.Bool.{cases_Bool, cases_order}
 use Rattle.osek_standard.specs.{declared.point.Point.{Point}, Points.{point_number}}

@@ -1,5 +1,4 @@
 -- The points of an application ascend by their numbers, and are its points and no others.
-use Rattle.std.proofs.Common.{◌≡◌}
 use Rattle.osek_standard.specs.{declared.{app.App.{App}, point.Point.{Point}}, Points.{point_number, points_in_order, IsPoint}}
 use Rattle.osek_standard.proofs.{Members.{Among, among_contained, contained_among}, PointLaws.{are_points, points_ascend}}
 use Rattle.table_codec.proofs.Merging.{Up, up_from_sorted}

@@ -1,5 +1,5 @@
 -- What a reader knows between two items: of the values of a set, of the sets of an entry, and of the rows of a table.
-use Rattle.std.proofs.Common.{◌≡◌, ◌⊎◌, ℕ, zero, suc, ◌+◌, ◌^◌, ◌<◌, ◌≤◌, List, [], ◌∷◌, ◌++◌, length, map, take, get_or, refl, sym, ap, ap₂, subst, ◌∙◌, inl, inr, arith, append_assoc, append-nil, All, Some}
+use Rattle.std.proofs.Common.{◌≡◌, ◌⊎◌, ℕ, zero, suc, ◌<◌, List, [], ◌∷◌, ◌++◌, length, map, take, get_or, refl, sym, ap, ap₂, subst, ◌∙◌, inl, inr, arith, append_assoc, append-nil, All, Some}
 use Rattle.std.specs.{Prelude.{slice_get}, Int.{to_be_bytes, w32}, List.{flat_map}}
 use Rattle.std.proofs.lemmas.{Grind.{flat_map-append}, List.{length_push, length-map, map-append, take_more, get_or_default, Elements.{All-nil, All-push}}}
 use Rattle.osek_standard.specs.declared.{app.App.{App}, point.Point.{Point}}
@@ -7,7 +7,7 @@ use Rattle.abstract_state.specs.declared.value.{Component.{Component}, PartValue
 use Rattle.abstract_state.specs.declared.value.Component.TheVariants as component
 use Rattle.osek_values.specs.Numbers.{alarm_no}
 use Rattle.abstract_state.specs.{declared.table.ValueSet.{ValueSet}, ValueOrder.{IsAscending}, Components.{components, component_at, component_count, IsPart, IsComponent}}
-use Rattle.abstract_state.specs.Domains.{domains, domain_of}
+use Rattle.abstract_state.specs.Domains.{domain_of}
 use Rattle.abstract_state.proofs.{ComponentLaws.{component_known}, OrderLaws.{ascending_none}}
 use Rattle.numbered_sets.specs.Pools.{no_values as none_seen, pool_domains}
 use Rattle.table_codec.specs.{declared.fault.Fault.{Fault}, Spelling.{value_bytes, set_bytes, sets_bytes}, Faults.{IsListedFault, count_cut, count_none, IsGoodSet, AreGoodSets}}

@@ -1,5 +1,5 @@
 -- Rows that are read point by point: they make a written table, and spell the points so far.
-use Rattle.std.proofs.Common.{◌≡◌, ◌↔◌, ap₂, cond, append_assoc, ℕ, zero, suc, ◌+◌, ◌^◌, ◌<◌, ◌≤◌, List, [], ◌∷◌, ◌++◌, length, filter, take, drop, get_or, refl, sym, ap, subst, ◌∙◌, inl, inr, arith, All}
+use Rattle.std.proofs.Common.{◌≡◌, ap₂, cond, append_assoc, ℕ, zero, suc, ◌+◌, ◌<◌, ◌≤◌, List, [], ◌∷◌, ◌++◌, length, filter, take, drop, get_or, refl, sym, ap, subst, ◌∙◌, inl, inr, arith, All}
 use Rattle.std.specs.{Prelude.{Contains}, List.{flat_map, AllByRecursion}}
 use Rattle.std.proofs.lemmas.List.{length-map, get_or-map, take_more, take_all, take-append-drop, Concat.{flat_map-cons}, Elements.{All-from_recursion, All-contains, All-weaker}}
 use Rattle.std.specs.Option.{option_map}

@@ -1,6 +1,6 @@
 -- Items one after the other at the start of bytes, each read after those before it: where each reading has one answer, so
 -- has that of all of them.
-use Rattle.std.proofs.Common.{◌≡◌, ◌⊎◌, ℕ, ◌+◌, ◌<◌, List, [], ◌∷◌, ◌++◌, length, refl, sym, ap, subst, ◌∙◌, inl, inr, arith, append_assoc, append-nil, length-append}
+use Rattle.std.proofs.Common.{◌≡◌, ◌⊎◌, ℕ, ◌<◌, List, [], ◌∷◌, ◌++◌, length, refl, sym, ap, subst, ◌∙◌, inl, inr, arith, append_assoc, append-nil, length-append}
 use Rattle.table_codec.specs.declared.fault.Fault.{Fault}
 
 module _ {X : Type 0} (Reads : List X → List ℕ → List ℕ → X → Type 0) where

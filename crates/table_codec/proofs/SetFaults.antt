@@ -1,5 +1,5 @@
 -- The set of a component: it is read in one way, or has one fault.
-use Rattle.std.proofs.Common.{◌≡◌, ◌⊎◌, ℕ, ◌+◌, ◌^◌, ◌<◌, ◌≤◌, List, [], ◌∷◌, ◌++◌, length, flat_map, refl, sym, ap, subst, ◌∙◌, arith, append_assoc, All}
+use Rattle.std.proofs.Common.{◌≡◌, ℕ, ◌^◌, ◌<◌, ◌≤◌, List, [], ◌∷◌, ◌++◌, length, flat_map, refl, sym, ap, subst, ◌∙◌, arith, append_assoc, All}
 use Rattle.std.specs.{Int.{to_be_bytes, w32, from_be_bytes}, List.{AllByRecursion}}
 use Rattle.std.proofs.lemmas.{List.{Concat.{flat_map-cons}, Elements.{recursion_from_All, All-weaker}}, Nat.{from_be_bytes-to_be_bytes_4}}
 use Rattle.osek_values.specs.declared.numbers.TaskNo.{TaskNo}

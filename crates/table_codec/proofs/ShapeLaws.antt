@@ -1,5 +1,5 @@
 -- What a task can be where it has the processor, and elsewhere.
-use Rattle.std.proofs.Common.{◌≡◌, ◌↔◌, ℕ, ◌+◌, ◌<◌, ◌≤◌, Bool, true, false, not, length, refl, sym, ap, subst, ◌∙◌, inl, inr, arith, IsTrue, Some, None}
+use Rattle.std.proofs.Common.{◌≡◌, ◌↔◌, ℕ, ◌<◌, Bool, true, false, not, length, refl, sym, ap, subst, inl, inr, arith, IsTrue, Some, None}
 use Rattle.std.specs.Prelude.{◌==◌}
 use Rattle.std.proofs.lemmas.Bool.{cases_Bool, eq-eqb, eqb-true}
 use Rattle.osek_values.specs.{Numbers.{block_no}, declared.numbers.{TaskNo.{TaskNo}, BlockNo.{BlockNo}}}

@@ -1,5 +1,5 @@
 -- Of each task at each point there is a shape.
-use Rattle.std.proofs.Common.{◌≡◌, ◌⊎◌, ℕ, ◌+◌, ◌<◌, ◌≤◌, true, false, not, length, refl, subst, inl, inr, IsTrue, None, Some}
+use Rattle.std.proofs.Common.{◌≡◌, ◌⊎◌, ℕ, ◌+◌, ◌<◌, true, false, not, length, refl, subst, inl, inr, IsTrue, None, Some}
 use Rattle.osek_values.specs.{declared.numbers.{TaskNo.{TaskNo}, BlockNo.{BlockNo}}, Numbers.{block_no}}
 use Rattle.osek_standard.specs.declared.{app.App.{App}, point.Point.{Point}, block.Kind.{Kind}}
 use Rattle.osek_standard.specs.declared.point.Point.TheVariants as point

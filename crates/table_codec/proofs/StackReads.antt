@@ -1,5 +1,5 @@
 -- A stack that is read resource by resource.
-use Rattle.std.proofs.{Common.{◌≡◌, ℕ, ◌+◌, ◌<◌, ◌≤◌, List, [], ◌∷◌, ◌++◌, length, refl, sym, ap, subst, ◌∙◌, arith, append_assoc}, lemmas.List.{length_push}}
+use Rattle.std.proofs.{Common.{◌≡◌, ℕ, ◌+◌, ◌<◌, List, [], ◌∷◌, ◌++◌, length, refl, sym, ap, subst, ◌∙◌, arith, append_assoc}, lemmas.List.{length_push}}
 use Rattle.osek_values.specs.{Numbers.{res_no}, declared.numbers.ResNo.{ResNo}}
 use Rattle.osek_standard.specs.{declared.app.App.{App}, Well.{IsStack}}
 use Rattle.table_codec.specs.{declared.fault.Fault.{Fault}, Spelling.{resource_numbers}, Faults.{IsFieldFault}, Values.{IsReadStack, IsStackFault}}

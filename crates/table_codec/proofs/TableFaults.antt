@@ -1,5 +1,5 @@
 -- The bytes of a table: they mean one table, and have no fault; and bytes have one first fault at most.
-use Rattle.std.proofs.Common.{◌≡◌, ℕ, ◌-◌, ◌<◌, ◌≤◌, List, [], ◌∷◌, ◌++◌, length, map, take, refl, sym, ap, subst, ◌∙◌, arith, append_assoc, append-nil, length-append}
+use Rattle.std.proofs.Common.{◌≡◌, ℕ, ◌<◌, ◌≤◌, List, [], ◌∷◌, ◌++◌, length, map, take, refl, sym, ap, subst, ◌∙◌, arith, append_assoc, append-nil, length-append}
 use Rattle.std.specs.{List.{flat_map}, declared.option.Option.{Option}}
 use Rattle.std.proofs.{lemmas.List.{length-map}, Math.Seq.{take-append_seam}}
 use Rattle.osek_standard.specs.declared.{app.App.{App}, point.Point.{Point}}

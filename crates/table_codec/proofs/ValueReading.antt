@@ -1,5 +1,5 @@
 -- Reading a task's value field by field: what is known after each, and which fault of the value a field's fault is.
-use Rattle.std.proofs.Common.{◌≡◌, ℕ, suc, ◌+◌, ◌^◌, ◌<◌, ◌≤◌, ◌≢◌, Bool, true, false, List, [], ◌∷◌, ◌++◌, length, map, refl, sym, ap, ap₂, subst, ◌∙◌, arith, append_assoc, IsTrue, eqb-true}
+use Rattle.std.proofs.Common.{◌≡◌, ℕ, suc, ◌^◌, ◌<◌, ◌≤◌, ◌≢◌, Bool, true, false, List, [], ◌∷◌, ◌++◌, length, map, refl, sym, ap, ap₂, subst, ◌∙◌, arith, append_assoc, IsTrue, eqb-true}
 use Rattle.std.specs.{Prelude.{◌==◌, if◌then◌else◌}, Int.{to_be_bytes, w16}}
 use Rattle.osek_values.specs.{Numbers.{res_no}, declared.numbers.{ResNo.{ResNo}, BlockNo.{BlockNo}}}
 use Rattle.osek_standard.specs.{declared.app.App.{App}, Validity.{IsAmong}, Well.{IsStack, IsWaitingAt}}

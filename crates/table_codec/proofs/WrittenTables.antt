@@ -1,5 +1,5 @@
 -- A written table's rows at the points: each point's byte and entry stand at their place.
-use Rattle.std.proofs.Common.{◌≡◌, ◌⊎◌, ℕ, ◌+◌, ◌<◌, ◌≤◌, Bool, true, cond, List, [], ◌∷◌, ◌++◌, length, map, filter, get_or, refl, sym, ap, subst, ◌∙◌, inl, inr, arith, append_assoc, IsTrue, Some, None}
+use Rattle.std.proofs.Common.{◌≡◌, ℕ, ◌<◌, Bool, true, cond, List, [], ◌∷◌, ◌++◌, length, map, filter, get_or, refl, sym, ap, subst, ◌∙◌, inl, inr, arith, append_assoc, IsTrue, Some, None}
 use Rattle.std.specs.{Prelude.{slice_get, Contains}, List.{flat_map, list_any}, declared.option.Option.{Option}}
 use Rattle.std.proofs.{Math.Seq.{get_or-append_seam}, lemmas.Bool.{cases_Bool}}
 use Rattle.std.specs.Option.{option_map}

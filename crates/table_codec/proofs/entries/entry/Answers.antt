@@ -1,4 +1,4 @@
-use Rattle.std.proofs.{Common.{◌≡◌, ◌∙◌, ◌<◌, ℕ, List, length, sym, ap, subst, arith}, lemmas.List.{length_push}}
+use Rattle.std.proofs.{Common.{◌≡◌, ◌∙◌, ◌<◌, List, length, sym, ap, subst, arith}, lemmas.List.{length_push}}
 use Rattle.abstract_state.specs.{declared.{value.Component.{Component}, table.ValueSet.{ValueSet}}, Components.{component_at, component_count, IsComponent}}
 use Rattle.abstract_state.proofs.ComponentLaws.{component_known}
 use Rattle.table_codec.specs.Sets.{IsReadSet}

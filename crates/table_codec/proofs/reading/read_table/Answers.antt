@@ -1,4 +1,4 @@
-use Rattle.std.proofs.Common.{◌≡◌, ◌∙◌, List, ℕ, subst}
+use Rattle.std.proofs.Common.{◌∙◌, List, ℕ, subst}
 use Rattle.osek_values.specs.{declared.refused.Refused.{Refused}, Answers.{Refuses}}
 use Rattle.table_codec.specs.{declared.fault.Fault.{Fault}, Faults.{IsTableFault}}
 use Rattle.table_codec.proofs.{TableFaults.{one_first_fault}, TableReads.{is_located, same_table, no_fault_there}}

@@ -1,4 +1,4 @@
-use Rattle.std.proofs.Common.{◌∙◌, ◌++◌, ◌∷◌, [], ap}
+use Rattle.std.proofs.Common.{◌∙◌, ap}
 use Rattle.table_codec.specs.{declared.fault.TableRule.TheVariants.{K4}, Faults.{not_above}}
 use Rattle.table_codec.proofs.FieldReads.{fault_of}
 use Rattle.table_codec.proofs.sets.next_value.Goals as goal

@@ -1,4 +1,4 @@
-use Rattle.std.proofs.{Common.{◌≡◌, ◌∙◌, ◌+◌, ◌<◌, ◌≤◌, ◌++◌, ◌∷◌, ℕ, List, [], drop, get_or, length, sym, ap, subst, arith}, lemmas.{Result.{err_from_is_err_and}, List.{get_or_default}}}
+use Rattle.std.proofs.{Common.{◌≡◌, ◌∙◌, ◌+◌, ◌<◌, ◌++◌, ◌∷◌, ℕ, List, [], drop, get_or, length, sym, ap, subst, arith}, lemmas.{Result.{err_from_is_err_and}, List.{get_or_default}}}
 use Rattle.osek_standard.specs.declared.point.Point.TheVariants as point
 use Rattle.osek_standard.specs.Points.{point_number}
 use Rattle.numbered_sets.specs.declared.table.NumberedRow.{NumberedRow}
