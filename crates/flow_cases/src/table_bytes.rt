@@ -11,15 +11,17 @@ use std::sync::ledger::{Blank, Ledger};
 use std::test::*;
 use table_codec::{TableError, TableFault, TableRule, WriteFault, read_table, write_table};
 
-const OIL: &[u8] = b"CPU c { OS os; TASK T1 { PRIORITY = 1; AUTOSTART = TRUE; }; TASK T2 { PRIORITY = 2; }; };";
+const OIL: &[u8] =
+    b"CPU c { OS os; TASK T1 { PRIORITY = 1; AUTOSTART = TRUE; }; TASK T2 { PRIORITY = 2; }; };";
+
 const CODE: &[u8] =
     b"TASK(T1) { ActivateTask(T2); TerminateTask(); } TASK(T2) { TerminateTask(); }";
 
 /// Written down from the format, point by point: halted, idle, and b0 to b4.
 const TABLE: [u8; 75] = [
-    79, 83, 69, 75, 84, 65, 66, 1, 0, 1, 0, 0, 0, 1, 0, 0, 0, 0, 1, 0, 1, 0, 0, 0, 1, 1, 0, 0, 0, 0,
-    0, 0, 0, 0, 1, 0, 1, 0, 0, 0, 1, 1, 0, 1, 0, 0, 0, 0, 0, 0, 1, 0, 0, 1, 0, 0, 0, 1, 1, 0, 1, 0,
-    0, 0, 0, 0, 0, 1, 1, 0, 3, 0, 0, 0, 0,
+    79, 83, 69, 75, 84, 65, 66, 1, 0, 1, 0, 0, 0, 1, 0, 0, 0, 0, 1, 0, 1, 0, 0, 0, 1, 1, 0, 0, 0,
+    0, 0, 0, 0, 0, 1, 0, 1, 0, 0, 0, 1, 1, 0, 1, 0, 0, 0, 0, 0, 0, 1, 0, 0, 1, 0, 0, 0, 1, 1, 0, 1,
+    0, 0, 0, 0, 0, 0, 1, 1, 0, 3, 0, 0, 0, 0,
 ];
 
 fn the_app(alloc: Global) -> Result<App, TextError> {
@@ -69,26 +71,122 @@ struct Change {
 
 const CHANGES: [Change; 16] = [
     // T1 at idle: no value, waiting, twice suspended, Live before suspended, Live before waiting, two values where there is one
-    Change { at: 10, taken: 5, put: &[0, 0, 0, 0, 0], rule: TableRule::K3, offset: 10 },
-    Change { at: 10, taken: 5, put: &[0, 0, 0, 1, 2, 0, 0], rule: TableRule::K3, offset: 14 },
-    Change { at: 10, taken: 5, put: &[0, 0, 0, 2, 0, 0], rule: TableRule::K4, offset: 15 },
-    Change { at: 10, taken: 5, put: &[0, 0, 0, 2, 1, 0, 0, 0, 0, 0, 0], rule: TableRule::K4, offset: 20 },
-    Change { at: 10, taken: 5, put: &[0, 0, 0, 2, 1, 0, 0, 0, 0, 0, 2, 0, 0], rule: TableRule::K3, offset: 20 },
-    Change { at: 10, taken: 4, put: &[0, 0, 0, 2], rule: TableRule::K4, offset: 15 },
-    Change { at: 10, taken: 4, put: &[255, 255, 255, 255], rule: TableRule::K4, offset: 15 },
+    Change {
+        at: 10,
+        taken: 5,
+        put: &[0, 0, 0, 0, 0],
+        rule: TableRule::K3,
+        offset: 10,
+    },
+    Change {
+        at: 10,
+        taken: 5,
+        put: &[0, 0, 0, 1, 2, 0, 0],
+        rule: TableRule::K3,
+        offset: 14,
+    },
+    Change {
+        at: 10,
+        taken: 5,
+        put: &[0, 0, 0, 2, 0, 0],
+        rule: TableRule::K4,
+        offset: 15,
+    },
+    Change {
+        at: 10,
+        taken: 5,
+        put: &[0, 0, 0, 2, 1, 0, 0, 0, 0, 0, 0],
+        rule: TableRule::K4,
+        offset: 20,
+    },
+    Change {
+        at: 10,
+        taken: 5,
+        put: &[0, 0, 0, 2, 1, 0, 0, 0, 0, 0, 2, 0, 0],
+        rule: TableRule::K3,
+        offset: 20,
+    },
+    Change {
+        at: 10,
+        taken: 4,
+        put: &[0, 0, 0, 2],
+        rule: TableRule::K4,
+        offset: 15,
+    },
+    Change {
+        at: 10,
+        taken: 4,
+        put: &[255, 255, 255, 255],
+        rule: TableRule::K4,
+        offset: 15,
+    },
     // T1 at b0, where it runs: suspended, a further activation, inside, a stack of two, a resource that there isn't
-    Change { at: 25, taken: 6, put: &[0], rule: TableRule::K3, offset: 25 },
-    Change { at: 28, taken: 1, put: &[1], rule: TableRule::K3, offset: 28 },
-    Change { at: 29, taken: 1, put: &[1], rule: TableRule::K3, offset: 29 },
-    Change { at: 30, taken: 1, put: &[2], rule: TableRule::K3, offset: 30 },
-    Change { at: 30, taken: 1, put: &[1, 1], rule: TableRule::K3, offset: 31 },
+    Change {
+        at: 25,
+        taken: 6,
+        put: &[0],
+        rule: TableRule::K3,
+        offset: 25,
+    },
+    Change {
+        at: 28,
+        taken: 1,
+        put: &[1],
+        rule: TableRule::K3,
+        offset: 28,
+    },
+    Change {
+        at: 29,
+        taken: 1,
+        put: &[1],
+        rule: TableRule::K3,
+        offset: 29,
+    },
+    Change {
+        at: 30,
+        taken: 1,
+        put: &[2],
+        rule: TableRule::K3,
+        offset: 30,
+    },
+    Change {
+        at: 30,
+        taken: 1,
+        put: &[1, 1],
+        rule: TableRule::K3,
+        offset: 31,
+    },
     // T1 at b0 where b1 runs, and at a block of T2
-    Change { at: 42, taken: 2, put: &[0, 0], rule: TableRule::K3, offset: 42 },
-    Change { at: 59, taken: 2, put: &[0, 3], rule: TableRule::K3, offset: 59 },
+    Change {
+        at: 42,
+        taken: 2,
+        put: &[0, 0],
+        rule: TableRule::K3,
+        offset: 42,
+    },
+    Change {
+        at: 59,
+        taken: 2,
+        put: &[0, 3],
+        rule: TableRule::K3,
+        offset: 59,
+    },
     // T2 at b0: how it stands is no number of the format
-    Change { at: 35, taken: 1, put: &[3], rule: TableRule::K3, offset: 35 },
+    Change {
+        at: 35,
+        taken: 1,
+        put: &[3],
+        rule: TableRule::K3,
+        offset: 35,
+    },
     // bytes behind the end
-    Change { at: 74, taken: 1, put: &[0, 0], rule: TableRule::K5, offset: 75 },
+    Change {
+        at: 74,
+        taken: 1,
+        put: &[0, 0],
+        rule: TableRule::K5,
+        offset: 75,
+    },
 ];
 
 fn changed(alloc: Global, change: &Change) -> Result<Vec<u8>, AllocError> {
@@ -159,21 +257,46 @@ struct Counts {
 
 fn counted(counts: Counts, refusal: Option<TableError>) -> Counts {
     match refusal {
-        None => Counts { tables: counts.tables.saturating_add(1), ..counts },
+        None => Counts {
+            tables: counts.tables.saturating_add(1),
+            ..counts
+        },
         Some(TableError::Memory) => counts,
         Some(TableError::Fault(fault)) => match fault.rule {
-            TableRule::K1 => Counts { k1: counts.k1.saturating_add(1), ..counts },
-            TableRule::K2 => Counts { k2: counts.k2.saturating_add(1), ..counts },
-            TableRule::K3 => Counts { k3: counts.k3.saturating_add(1), ..counts },
-            TableRule::K4 => Counts { k4: counts.k4.saturating_add(1), ..counts },
-            TableRule::K5 => Counts { k5: counts.k5.saturating_add(1), ..counts },
+            TableRule::K1 => Counts {
+                k1: counts.k1.saturating_add(1),
+                ..counts
+            },
+            TableRule::K2 => Counts {
+                k2: counts.k2.saturating_add(1),
+                ..counts
+            },
+            TableRule::K3 => Counts {
+                k3: counts.k3.saturating_add(1),
+                ..counts
+            },
+            TableRule::K4 => Counts {
+                k4: counts.k4.saturating_add(1),
+                ..counts
+            },
+            TableRule::K5 => Counts {
+                k5: counts.k5.saturating_add(1),
+                ..counts
+            },
             TableRule::K6 => counts,
         },
     }
 }
 
 fn differing(alloc: Global, app: &App) -> Counts {
-    let mut counts = Counts { k1: 0, k2: 0, k3: 0, k4: 0, k5: 0, tables: 0 };
+    let mut counts = Counts {
+        k1: 0,
+        k2: 0,
+        k3: 0,
+        k4: 0,
+        k5: 0,
+        tables: 0,
+    };
     for place in 0..TABLE.len() {
         for bits in [1, 128, 255] {
             let mut bytes = TABLE;
@@ -201,12 +324,22 @@ fn cut_tables_are_refused_where_they_are_cut(rt: HostRuntime) {
 #[test]
 fn changed_tables_are_refused_for_these_faults(rt: HostRuntime) {
     let app = the_app(rt.alloc()).expect(&rt, "memory");
-    assert_eq!(rt; first_wrong_change(rt.alloc(), &app).expect(&rt, "memory"), None);
+    assert_eq!(rt;
+        first_wrong_change(rt.alloc(), &app).expect(&rt, "memory"),
+        None
+    );
 }
 
 #[test]
 fn tables_that_differ_in_a_byte_have_these_faults(rt: HostRuntime) {
     let app = the_app(rt.alloc()).expect(&rt, "memory");
-    let wanted = Counts { k1: 2, k2: 24, k3: 162, k4: 34, k5: 2, tables: 1 };
+    let wanted = Counts {
+        k1: 2,
+        k2: 24,
+        k3: 162,
+        k4: 34,
+        k5: 2,
+        tables: 1,
+    };
     assert_eq!(rt; differing(rt.alloc(), &app), wanted);
 }

@@ -123,13 +123,15 @@ module _ (app : App) (p : Point) where
   row_clash [] rest None f h bad = absurd (cc)
   row_clash [] rest (Some entry) f h bad = absurd (cc (h.1))
   row_clash (n ∷ bytes) rest None f h (inl high) = (let zero : n ≡ 0 = cc in omega (arith, zero, high.0))
-  row_clash (n ∷ bytes) rest None f h (inr bad) = (let zero : n ≡ 0 = cc in omega (arith, zero, bad.0))
+  row_clash (n ∷ bytes) rest None f h (inr bad) = (let one : n ≡ 1 = cc (bad.1) in let zero : n ≡ 0 = cc in omega (arith, zero, one))
   row_clash (n ∷ bytes) rest (Some entry) f h (inl high) = (let one : n ≡ 1 = cc (h.1) in omega (arith, one, high.0))
-  row_clash (n ∷ bytes) rest (Some entry) f h (inr bad) = (let mid : h.0 ≡ bytes = cc (h.1) in entry_clash bytes rest entry f (subst (λ (l : List ℕ). IsReadEntry app p l rest entry) mid h.2) bad.1)
+  row_clash (n ∷ bytes) rest (Some entry) f h (inr bad) = (let mid : h.0 ≡ bad.0 = cc (h.1, bad.1) in entry_clash bad.0 rest entry f (subst (λ (l : List ℕ). IsReadEntry app p l rest entry) mid h.2) bad.2)
 
   pub one_point_fault : (bytes : List ℕ) (f g : Fault) → IsPointFault app p bytes f → IsPointFault app p bytes g → f ≡ g
-  one_point_fault [] f g h d = h ∙ sym d
+  one_point_fault [] f g (inl h) (inl d) = h ∙ sym d
+  one_point_fault [] f g (inl h) (inr d) = absurd (cc (d.1))
+  one_point_fault [] f g (inr h) d = absurd (cc (h.1))
   one_point_fault (n ∷ bytes) f g (inl h) (inl d) = h.1 ∙ sym d.1
-  one_point_fault (n ∷ bytes) f g (inl h) (inr d) = absurd (omega (arith, h.0, d.0))
-  one_point_fault (n ∷ bytes) f g (inr h) (inl d) = absurd (omega (arith, h.0, d.0))
-  one_point_fault (n ∷ bytes) f g (inr h) (inr d) = one_entry_fault bytes f g h.1 d.1
+  one_point_fault (n ∷ bytes) f g (inl h) (inr d) = (let one : n ≡ 1 = cc (d.1) in absurd (omega (arith, h.0, one)))
+  one_point_fault (n ∷ bytes) f g (inr h) (inl d) = (let one : n ≡ 1 = cc (h.1) in absurd (omega (arith, d.0, one)))
+  one_point_fault (n ∷ bytes) f g (inr h) (inr d) = (let same : d.0 ≡ h.0 = cc (h.1, d.1) in one_entry_fault h.0 f g h.2 (subst (λ (l : List ℕ). IsEntryFault app p l g) same d.2))

@@ -10,8 +10,8 @@ use Rattle.abstract_state.specs.{declared.table.ValueSet.{ValueSet}, ValueOrder.
 use Rattle.abstract_state.specs.Domains.{domain_of}
 use Rattle.abstract_state.proofs.{ComponentLaws.{component_known}, OrderLaws.{ascending_none}}
 use Rattle.numbered_sets.specs.Pools.{no_values as none_seen, pool_domains}
-use Rattle.table_codec.specs.{declared.fault.Fault.{Fault}, Spelling.{value_bytes, set_bytes, sets_bytes}, Faults.{IsListedFault, count_cut, count_none, IsGoodSet, AreGoodSets}}
-use Rattle.table_codec.specs.Sets.{IsCountFault, cut_count, no_count, IsNextValue, IsReadSet}
+use Rattle.table_codec.specs.{declared.fault.Fault.{Fault}, Spelling.{value_bytes, set_bytes, sets_bytes}, Faults.{IsGoodSet, AreGoodSets}}
+use Rattle.table_codec.specs.Sets.{IsNextValue, IsReadSet}
 use Rattle.table_codec.proofs.EntryFaults.{more_sets}
 
 pub one_more_flat : {X : Type 0} (f : X → List ℕ) (xs : List X) (x : X) → flat_map f (xs ++ x ∷ []) ≡ flat_map f xs ++ f x
@@ -38,10 +38,6 @@ module _ (app : App) (p : Point) (k : Component) (count : ℕ) (bytes : List ℕ
     ascending = next.above;
     are = h.are ∙ ap (λ (l : List ℕ). to_be_bytes w32 count ++ l) (read_on (flat_map value_bytes vs ++ rest) (flat_map value_bytes vs) (value_bytes v) rest after refl next.are ∙ ap (λ (l : List ℕ). l ++ after) (sym (one_more_flat value_bytes vs v)));
   }
-
-pub count_fault : (app : App) (p : Point) (k : Component) (bytes : List ℕ) (f : Fault) → IsCountFault bytes f → IsListedFault app p k bytes f
-count_fault app p k bytes f (cut_count few e) = count_cut few e
-count_fault app p k bytes f (no_count more is e) = count_none more is e
 
 -- ---- the sets of an entry
 

@@ -12,7 +12,7 @@ use Rattle.abstract_state.specs.{declared.table.ValueSet.{ValueSet}, ValueOrder.
 use Rattle.abstract_state.specs.Domains.{IsWithin, domain_of}
 use Rattle.abstract_state.proofs.{ComponentLaws.{task_counted, task_at_its_number}, DomainValues.{allowed_within, domain_counted}, SoundSets.{most_members}}
 use Rattle.table_codec.specs.{declared.fault.Fault.{Fault}, Spelling.{value_bytes, listed, set_bytes}}
-use Rattle.table_codec.specs.{Faults.{IsNextFault, IsListFault, IsListedFault, count_cut, count_none, bad_list, IsSetFault, IsGoodSet}, Sets.{IsNextValue}}
+use Rattle.table_codec.specs.{Faults.{IsNextFault, IsListFault, IsListedFault, bad_count, count_cut, count_none, bad_list, IsSetFault, IsGoodSet}, Sets.{IsNextValue}}
 use Rattle.table_codec.proofs.{Ascends.{sorted_prefix}, FlagSets.{event_set, alarm_set, one_flags, flags_clash, one_flags_fault}, Sequences.{Runs, one_run, no_fault, one_fault}}
 use Rattle.table_codec.proofs.ValueFaults.{one_next, next_clash, one_next_fault}
 
@@ -76,8 +76,8 @@ module _ (app : App) (p : Point) (t : TaskNo) (known : t.0 < length app.tasks) w
   list_runs bytes f h = runs_of_values [] h.values (flat_map value_bytes h.values ++ h.rest) h.rest h.ascending (recursion_from_All (IsPart app p k) h.values h.allowed) refl
 
   pub listed_clash : (vs : List PartValue) (rest bytes : List ℕ) (f : Fault) → IsGoodSet app p k vs → bytes ≡ listed vs ++ rest → IsListedFault app p k bytes f → ⊥
-  listed_clash vs rest bytes f h e (count_cut less d) = omega (arith, less, ap length (e ∙ listed_is vs rest), four_bytes (length vs) (flat_map value_bytes vs ++ rest))
-  listed_clash vs rest bytes f h e (count_none more is d) =
+  listed_clash vs rest bytes f h e (bad_count (count_cut less d)) = omega (arith, less, ap length (e ∙ listed_is vs rest), four_bytes (length vs) (flat_map value_bytes vs ++ rest))
+  listed_clash vs rest bytes f h e (bad_count (count_none more is d)) =
       let heads = four_heads (length vs) 0 (flat_map value_bytes vs ++ rest) more (few_values vs h) (omega arith) (sym (listed_is vs rest) ∙ sym e ∙ is) in
       omega (arith, h.some, heads.0)
   listed_clash vs rest bytes f h e (bad_list bad) =
@@ -86,16 +86,16 @@ module _ (app : App) (p : Point) (t : TaskNo) (known : t.0 < length app.tasks) w
       (list_runs bytes f bad) bad.next (good_runs vs (flat_map value_bytes bad.values ++ bad.rest) rest h heads.1) (omega (arith, bad.few, heads.0))
 
   pub one_listed_fault : (bytes : List ℕ) (f g : Fault) → IsListedFault app p k bytes f → IsListedFault app p k bytes g → f ≡ g
-  one_listed_fault bytes f g (count_cut less e) (count_cut fewer d) = e ∙ sym d
-  one_listed_fault bytes f g (count_cut less e) (count_none more is d) = absurd (omega (arith, less, ap length is, four_bytes 0 more))
-  one_listed_fault bytes f g (count_cut less e) (bad_list bad) = absurd (omega (arith, less, ap length bad.are, four_bytes bad.count (flat_map value_bytes bad.values ++ bad.rest)))
-  one_listed_fault bytes f g (count_none more is e) (count_cut less d) = absurd (omega (arith, less, ap length is, four_bytes 0 more))
-  one_listed_fault bytes f g (count_none more is e) (count_none rest are d) = e ∙ sym d
-  one_listed_fault bytes f g (count_none more is e) (bad_list bad) =
+  one_listed_fault bytes f g (bad_count (count_cut less e)) (bad_count (count_cut fewer d)) = e ∙ sym d
+  one_listed_fault bytes f g (bad_count (count_cut less e)) (bad_count (count_none more is d)) = absurd (omega (arith, less, ap length is, four_bytes 0 more))
+  one_listed_fault bytes f g (bad_count (count_cut less e)) (bad_list bad) = absurd (omega (arith, less, ap length bad.are, four_bytes bad.count (flat_map value_bytes bad.values ++ bad.rest)))
+  one_listed_fault bytes f g (bad_count (count_none more is e)) (bad_count (count_cut less d)) = absurd (omega (arith, less, ap length is, four_bytes 0 more))
+  one_listed_fault bytes f g (bad_count (count_none more is e)) (bad_count (count_none rest are d)) = e ∙ sym d
+  one_listed_fault bytes f g (bad_count (count_none more is e)) (bad_list bad) =
       let heads = four_heads 0 bad.count more (flat_map value_bytes bad.values ++ bad.rest) (omega arith) bad.fits (sym is ∙ bad.are) in
       absurd (omega (arith, bad.few, heads.0))
-  one_listed_fault bytes f g (bad_list bad) (count_cut less d) = absurd (omega (arith, less, ap length bad.are, four_bytes bad.count (flat_map value_bytes bad.values ++ bad.rest)))
-  one_listed_fault bytes f g (bad_list bad) (count_none more is d) =
+  one_listed_fault bytes f g (bad_list bad) (bad_count (count_cut less d)) = absurd (omega (arith, less, ap length bad.are, four_bytes bad.count (flat_map value_bytes bad.values ++ bad.rest)))
+  one_listed_fault bytes f g (bad_list bad) (bad_count (count_none more is d)) =
       let heads = four_heads 0 bad.count more (flat_map value_bytes bad.values ++ bad.rest) (omega arith) bad.fits (sym is ∙ bad.are) in
       absurd (omega (arith, bad.few, heads.0))
   one_listed_fault bytes f g (bad_list bad) (bad_list worse) =

@@ -9,7 +9,7 @@ use Rattle.abstract_state.specs.{Components.{components, component_at, component
 use Rattle.abstract_state.proofs.ComponentLaws.{component_known}
 use Rattle.numbered_sets.specs.PlainTables.{row_at}
 use Rattle.table_codec.specs.{declared.fault.{Fault.{Fault}, TableFault.{TableFault}, TableRule.TheVariants.{K1, K2, K3, K5}}, Spelling.{magic, set_bytes, entry_bytes, spelling}}
-use Rattle.table_codec.specs.Faults.{fault_at, IsSetFault, IsEntryFault, IsPointFault, IsRowFault, IsTableFault, magic_cut, other_magic, bad_row, IsFirstFault, located}
+use Rattle.table_codec.specs.Faults.{fault_at, IsSetFault, IsEntryFault, IsPointFault, IsRowFault, IsTableFault, bad_magic, magic_cut, other_magic, bad_row, IsFirstFault, located}
 use Rattle.table_codec.specs.{Sets.{IsReadEntry}, Rows.{IsReadRow, IsReadTable}}
 use Rattle.table_codec.proofs.{Decisions.{Decided, decide_bytes, AreBytes, bytes_behind}, SomeValues.{SetFound, set_found}}
 use Rattle.table_codec.proofs.{ReadSoFar.{AreSetsSoFar, no_sets, next_set, members}, TableReads.{behind_fault, spelled_whole}, WrittenTables.{point_at}}
@@ -57,11 +57,11 @@ abbrev RowFound : App → Point → List ℕ → Type 0
 RowFound app p bytes = ((found : Option PlainEntry) × (rest : List ℕ) × IsReadRow app p bytes rest found) ⊎ ((f : Fault) × IsPointFault app p bytes f)
 
 row_found : (app : App) (p : Point) (bytes : List ℕ) → AreBytes bytes → RowFound app p bytes
-row_found app p [] all = inr (fault_at K1 [], refl)
+row_found app p [] all = inr (fault_at K1 [], inl refl)
 row_found app p (zero ∷ rest) all = inl (None, rest, refl)
 row_found app p (suc zero ∷ rest) all = elim (entry_found app p rest (λ i. all (suc i))) [
   | inl h ↦ inl (Some h.0, h.1, (rest, refl, h.2))
-  | inr bad ↦ inr (bad.0, inr (refl, bad.1))
+  | inr bad ↦ inr (bad.0, inr (rest, refl, bad.1))
 ]
 row_found app p (suc (suc n) ∷ rest) all = inr (fault_at K3 (suc (suc n) ∷ rest), inl (omega arith, refl))
 
@@ -112,11 +112,11 @@ module _ (app : App) (masks : HasMasks app) (bytes : List ℕ) where
 
   by_magic : 8 ≤ length bytes → AreBytes bytes → Decided (take 8 bytes ≡ magic) → TableFound app bytes
   by_magic long all (inl is) = by_rows (drop 8 bytes) (sym (take-append-drop 8 bytes) ∙ ap (λ (l : List ℕ). l ++ drop 8 bytes) is) all
-  by_magic long all (inr other) = inr (fault_at K2 bytes, other_magic long other refl)
+  by_magic long all (inr other) = inr (fault_at K2 bytes, bad_magic (other_magic long other refl))
 
   table_found : AreBytes bytes → TableFound app bytes
   table_found all = elim (cases_lt (length bytes) 8) [
-    | inl cut ↦ inr (fault_at K1 bytes, magic_cut cut refl)
+    | inl cut ↦ inr (fault_at K1 bytes, bad_magic (magic_cut cut refl))
     | inr long ↦ by_magic long all (decide_bytes (take 8 bytes) magic)
   ]
 

@@ -9,7 +9,7 @@ use Rattle.abstract_state.specs.declared.value.{Val.TheVariants.{Suspended, Live
 use Rattle.abstract_state.specs.declared.value.Component.TheVariants as component
 use Rattle.abstract_state.specs.{declared.table.ValueSet.{ValueSet}, ValueOrder.{IsAscending}, Components.{live_val, IsComponent}, Domains.{domain_of}}
 use Rattle.table_codec.specs.{declared.{fault.{Fault.{Fault}, TableRule.TheVariants.{K1, K3, K4}}, shape.Shape.{Shape}}, Spelling.{value_bytes}}
-use Rattle.table_codec.specs.Faults.{fault_at, IsValueFault, IsNextFault, bad_value, not_above, IsListedFault, count_cut, count_none, bad_list, IsFlagsFault, IsSetFault}
+use Rattle.table_codec.specs.Faults.{fault_at, IsValueFault, IsNextFault, bad_value, not_above, IsListedFault, bad_count, count_cut, count_none, bad_list, IsFlagsFault, IsSetFault}
 use Rattle.table_codec.specs.{Shapes.{IsShape, shaped}, Values.{IsTag, IsReadValue, IsReadStack, IsStackFault}, Sets.{IsFlagNumber, flagged, IsReadList, IsReadSet}}
 use Rattle.table_codec.proofs.Decisions.{Decided, decide_less, decide_at_most, decide_both, decide_true, decide_ascending, AreBytes, bytes_behind, long_word, IsField, FieldFound, word_found, byte_found}
 use Rattle.table_codec.proofs.{StackEnds.{stack_last}, StackReads.{IsStackSoFar, none_read, one_read, bad_resource, stack_read}, SomeShapes.{decide_waiting, some_shape}, FlagReads.{event_read, alarm_read}}
@@ -144,14 +144,14 @@ module _ (app : App) (x : Shape) (s : IsShape app x) (bytes : List ℕ) (count :
 
 module _ (app : App) (x : Shape) (s : IsShape app x) where
   by_count : (bytes : List ℕ) (n : ℕ) (rest : List ℕ) → n < 2 ^ 32 → bytes ≡ to_be_bytes w32 n ++ rest → AreBytes rest → ListFound app x.point (shaped x) bytes
-  by_count bytes zero rest fits e all = inr (fault_at K3 bytes, count_none rest e refl)
+  by_count bytes zero rest fits e all = inr (fault_at K3 bytes, bad_count (count_none rest e refl))
   by_count bytes (suc n) rest fits e all = values_from app x s bytes (suc n) (omega arith) fits (suc n) [] rest (no_values app x.point (shaped x) (suc n) bytes rest e) (omega arith) all
 
   list_of_shape : (bytes : List ℕ) → AreBytes bytes → ListFound app x.point (shaped x) bytes
-  list_of_shape [] all = inr (fault_at K1 [], count_cut (omega arith) refl)
-  list_of_shape (a ∷ []) all = inr (fault_at K1 (a ∷ []), count_cut (omega arith) refl)
-  list_of_shape (a ∷ b ∷ []) all = inr (fault_at K1 (a ∷ b ∷ []), count_cut (omega arith) refl)
-  list_of_shape (a ∷ b ∷ c ∷ []) all = inr (fault_at K1 (a ∷ b ∷ c ∷ []), count_cut (omega arith) refl)
+  list_of_shape [] all = inr (fault_at K1 [], bad_count (count_cut (omega arith) refl))
+  list_of_shape (a ∷ []) all = inr (fault_at K1 (a ∷ []), bad_count (count_cut (omega arith) refl))
+  list_of_shape (a ∷ b ∷ []) all = inr (fault_at K1 (a ∷ b ∷ []), bad_count (count_cut (omega arith) refl))
+  list_of_shape (a ∷ b ∷ c ∷ []) all = inr (fault_at K1 (a ∷ b ∷ c ∷ []), bad_count (count_cut (omega arith) refl))
   list_of_shape (a ∷ b ∷ c ∷ d ∷ rest) all =
       let n = long_word a b c d (all 0) (all 1) (all 2) (all 3) in
       by_count (a ∷ b ∷ c ∷ d ∷ rest) n.0 rest n.1 (ap (λ (l : List ℕ). l ++ rest) (sym n.2)) (λ i. all (suc (suc (suc (suc i)))))

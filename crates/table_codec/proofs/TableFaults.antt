@@ -7,7 +7,7 @@ use Rattle.abstract_state.specs.{declared.table.{PlainEntry.{PlainEntry}, TableR
 use Rattle.table_codec.specs.declared.fault.{Fault.{Fault}, TableFault.{TableFault}, TableRule.TheVariants.{K5}}
 use Rattle.osek_standard.specs.Points.{points_in_order}
 use Rattle.table_codec.specs.Spelling.{magic, point_bytes, spelling}
-use Rattle.table_codec.specs.Faults.{fault_at, IsRowFault, IsTableFault, magic_cut, other_magic, bad_row, bytes_behind, IsFirstFault, located}
+use Rattle.table_codec.specs.Faults.{fault_at, IsRowFault, IsTableFault, bad_magic, magic_cut, other_magic, bad_row, bytes_behind, IsFirstFault, located}
 use Rattle.table_codec.proofs.{Fields.{cancel}, Merging.{found_in, rows_of}, Sequences.{Runs, one_run, no_fault, one_fault}}
 use Rattle.table_codec.proofs.WrittenTables.{Reads, Fails, one_read, read_clash, one_fail, table_runs, fails_at, rows_are}
 
@@ -88,28 +88,28 @@ module _ (app : App) where
   spelled_prefix bytes table rest e = ap (take 8) (e ∙ spelled table rest) ∙ magic_prefix (all_rows table ++ rest)
 
   pub no_first : (bytes : List ℕ) (table : PlainTable) (f : Fault) → IsWritten app table → bytes ≡ spelling app table ++ [] → IsTableFault app bytes f → ⊥
-  no_first bytes table f written e (magic_cut less d) = omega (arith, less, spelled_size bytes table [] e)
-  no_first bytes table f written e (other_magic most differs d) = differs (spelled_prefix bytes table [] e)
+  no_first bytes table f written e (bad_magic (magic_cut less d)) = omega (arith, less, spelled_size bytes table [] e)
+  no_first bytes table f written e (bad_magic (other_magic most differs d)) = differs (spelled_prefix bytes table [] e)
   no_first bytes table f written e (bad_row rows is bad) = row_clash rows [] f table written (behind_magic bytes rows table [] is e) bad
   no_first bytes table f written e (bytes_behind found rest good some is d) =
       let same = spelled_once found table rest [] good written (sym is ∙ e) in
       omega (arith, some, ap (λ (l : List ℕ). length l) same.1)
 
   pub one_first : (bytes : List ℕ) (f g : Fault) → IsTableFault app bytes f → IsTableFault app bytes g → f ≡ g
-  one_first bytes f g (magic_cut less e) (magic_cut fewer d) = e ∙ sym d
-  one_first bytes f g (magic_cut less e) (other_magic most differs d) = absurd (omega (arith, less, most))
-  one_first bytes f g (magic_cut less e) (bad_row rows is bad) = absurd (omega (arith, less, ap (λ (l : List ℕ). length l) is, magic_size rows))
-  one_first bytes f g (magic_cut less e) (bytes_behind table rest good some is d) = absurd (omega (arith, less, spelled_size bytes table rest is))
-  one_first bytes f g (other_magic most differs e) (magic_cut less d) = absurd (omega (arith, less, most))
-  one_first bytes f g (other_magic most differs e) (other_magic more parts d) = e ∙ sym d
-  one_first bytes f g (other_magic most differs e) (bad_row rows is bad) = absurd (differs (ap (take 8) is ∙ magic_prefix rows))
-  one_first bytes f g (other_magic most differs e) (bytes_behind table rest good some is d) = absurd (differs (spelled_prefix bytes table rest is))
-  one_first bytes f g (bad_row rows is bad) (magic_cut less d) = absurd (omega (arith, less, ap (λ (l : List ℕ). length l) is, magic_size rows))
-  one_first bytes f g (bad_row rows is bad) (other_magic most differs d) = absurd (differs (ap (take 8) is ∙ magic_prefix rows))
+  one_first bytes f g (bad_magic (magic_cut less e)) (bad_magic (magic_cut fewer d)) = e ∙ sym d
+  one_first bytes f g (bad_magic (magic_cut less e)) (bad_magic (other_magic most differs d)) = absurd (omega (arith, less, most))
+  one_first bytes f g (bad_magic (magic_cut less e)) (bad_row rows is bad) = absurd (omega (arith, less, ap (λ (l : List ℕ). length l) is, magic_size rows))
+  one_first bytes f g (bad_magic (magic_cut less e)) (bytes_behind table rest good some is d) = absurd (omega (arith, less, spelled_size bytes table rest is))
+  one_first bytes f g (bad_magic (other_magic most differs e)) (bad_magic (magic_cut less d)) = absurd (omega (arith, less, most))
+  one_first bytes f g (bad_magic (other_magic most differs e)) (bad_magic (other_magic more parts d)) = e ∙ sym d
+  one_first bytes f g (bad_magic (other_magic most differs e)) (bad_row rows is bad) = absurd (differs (ap (take 8) is ∙ magic_prefix rows))
+  one_first bytes f g (bad_magic (other_magic most differs e)) (bytes_behind table rest good some is d) = absurd (differs (spelled_prefix bytes table rest is))
+  one_first bytes f g (bad_row rows is bad) (bad_magic (magic_cut less d)) = absurd (omega (arith, less, ap (λ (l : List ℕ). length l) is, magic_size rows))
+  one_first bytes f g (bad_row rows is bad) (bad_magic (other_magic most differs d)) = absurd (differs (ap (take 8) is ∙ magic_prefix rows))
   one_first bytes f g (bad_row rows is bad) (bad_row others are worse) = one_row_fault rows f g bad (subst (λ (l : List ℕ). IsRowFault app l g) (cancel magic others rows (sym are ∙ is)) worse)
   one_first bytes f g (bad_row rows is bad) (bytes_behind table rest good some are d) = absurd (row_clash rows rest f table good (behind_magic bytes rows table rest is are) bad)
-  one_first bytes f g (bytes_behind table rest good some are e) (magic_cut less d) = absurd (omega (arith, less, spelled_size bytes table rest are))
-  one_first bytes f g (bytes_behind table rest good some are e) (other_magic most differs d) = absurd (differs (spelled_prefix bytes table rest are))
+  one_first bytes f g (bytes_behind table rest good some are e) (bad_magic (magic_cut less d)) = absurd (omega (arith, less, spelled_size bytes table rest are))
+  one_first bytes f g (bytes_behind table rest good some are e) (bad_magic (other_magic most differs d)) = absurd (differs (spelled_prefix bytes table rest are))
   one_first bytes f g (bytes_behind table rest good some are e) (bad_row rows is bad) = absurd (row_clash rows rest g table good (behind_magic bytes rows table rest is are) bad)
   one_first bytes f g (bytes_behind table rest good some are e) (bytes_behind found more fine any is d) =
       let same = spelled_once table found rest more good fine (sym are ∙ is) in

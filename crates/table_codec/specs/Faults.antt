@@ -17,6 +17,16 @@ pub data IsFieldFault (place : ℕ) (May : ℕ → Type 0) (bytes : List ℕ) (f
   field_cut : length bytes < field_width place → f ≡ fault_at K1 bytes → IsFieldFault place May bytes f
   field_barred : (n : ℕ) (more : List ℕ) → n < field_limit place → bytes ≡ field_bytes place n ++ more → (May n → ⊥) → f ≡ fault_at K3 bytes → IsFieldFault place May bytes f
 
+-- the number of a set's values is cut, or 0
+pub data IsCountFault (bytes : List ℕ) (f : Fault) : Type 0 where
+  count_cut : length bytes < 4 → f ≡ fault_at K1 bytes → IsCountFault bytes f
+  count_none : (more : List ℕ) → bytes ≡ to_be_bytes w32 0 ++ more → f ≡ fault_at K3 bytes → IsCountFault bytes f
+
+-- the byte that says whether a point has an entry is cut, or neither 0 nor 1
+abbrev pub IsPresenceFault : List ℕ → Fault → Type 0
+IsPresenceFault [] f = f ≡ fault_at K1 []
+IsPresenceFault (n ∷ bytes) f = (1 < n) × (f ≡ fault_at K3 (n ∷ bytes))
+
 -- a byte of flags that is neither 1, 2 nor 3
 abbrev pub IsFlagsFault : List ℕ → Fault → Type 0
 IsFlagsFault [] f = f ≡ fault_at K1 []
@@ -58,8 +68,7 @@ pub record IsListFault (app : App) (p : Point) (k : Component) (bytes : List ℕ
   pub next : IsNextFault app p k values rest f
 
 pub data IsListedFault (app : App) (p : Point) (k : Component) (bytes : List ℕ) (f : Fault) : Type 0 where
-  count_cut : length bytes < 4 → f ≡ fault_at K1 bytes → IsListedFault app p k bytes f
-  count_none : (more : List ℕ) → bytes ≡ to_be_bytes w32 0 ++ more → f ≡ fault_at K3 bytes → IsListedFault app p k bytes f
+  bad_count : IsCountFault bytes f → IsListedFault app p k bytes f
   bad_list : IsListFault app p k bytes f → IsListedFault app p k bytes f
 
 module _ (app : App) (p : Point) (k : Component) where
@@ -91,10 +100,9 @@ module _ (app : App) (p : Point) where
     pub are : bytes ≡ sets_bytes (components app) sets ++ rest
     pub next : IsSetFault app p (component_at app (length sets)) rest f
 
-  -- neither 0 nor 1; or an entry that is faulty
+  -- the byte that says whether there is an entry, or the entry
   abbrev pub IsPointFault : List ℕ → Fault → Type 0
-  IsPointFault [] f = f ≡ fault_at K1 []
-  IsPointFault (n ∷ bytes) f = ((1 < n) × (f ≡ fault_at K3 (n ∷ bytes))) ⊎ ((n ≡ 1) × IsEntryFault bytes f)
+  IsPointFault bytes f = IsPresenceFault bytes f ⊎ ((more : List ℕ) × (bytes ≡ 1 ∷ more) × IsEntryFault more f)
 
 -- the points before one are as in a table that has no other rows, and it is faulty
 pub record IsRowFault (app : App) (bytes : List ℕ) (f : Fault) : Type 0 where
@@ -109,10 +117,14 @@ pub record IsRowFault (app : App) (bytes : List ℕ) (f : Fault) : Type 0 where
   pub are : bytes ≡ flat_map (point_bytes app table.rows) done ++ rest
   pub next : IsPointFault app point rest f
 
+-- the magic is cut, or other bytes stand in its place
+pub data IsMagicFault (bytes : List ℕ) (f : Fault) : Type 0 where
+  magic_cut : length bytes < 8 → f ≡ fault_at K1 bytes → IsMagicFault bytes f
+  other_magic : 8 ≤ length bytes → (take 8 bytes ≢ magic) → f ≡ fault_at K2 bytes → IsMagicFault bytes f
+
 -- The first fault of the bytes: their magic, a row, or bytes behind the table.
 pub data IsTableFault (app : App) (bytes : List ℕ) (f : Fault) : Type 0 where
-  magic_cut : length bytes < 8 → f ≡ fault_at K1 bytes → IsTableFault app bytes f
-  other_magic : 8 ≤ length bytes → (take 8 bytes ≢ magic) → f ≡ fault_at K2 bytes → IsTableFault app bytes f
+  bad_magic : IsMagicFault bytes f → IsTableFault app bytes f
   bad_row : (rows : List ℕ) → bytes ≡ magic ++ rows → IsRowFault app rows f → IsTableFault app bytes f
   bytes_behind : (table : PlainTable) (rest : List ℕ) → IsWritten app table → 0 < length rest → bytes ≡ spelling app table ++ rest → f ≡ fault_at K5 rest → IsTableFault app bytes f
 

@@ -6,16 +6,6 @@ use Rattle.table_codec.specs.declared.fault.{Fault.{Fault}, TableRule.TheVariant
 use Rattle.osek_standard.specs.Points.{points_in_order}
 use Rattle.table_codec.specs.{Spelling.{magic, point_bytes}, Faults.{fault_at}, Sets.{IsReadEntry}}
 
--- the magic is cut, or another
-pub data IsMagicFault (bytes : List ℕ) (f : Fault) : Type 0 where
-  cut_magic : length bytes < 8 → f ≡ fault_at K1 bytes → IsMagicFault bytes f
-  another_magic : 8 ≤ length bytes → (take 8 bytes ≢ magic) → f ≡ fault_at K2 bytes → IsMagicFault bytes f
-
--- the byte that says whether a point has an entry is cut, or neither 0 nor 1
-abbrev pub IsPresenceFault : List ℕ → Fault → Type 0
-IsPresenceFault [] f = f ≡ fault_at K1 []
-IsPresenceFault (n ∷ bytes) f = (1 < n) × (f ≡ fault_at K3 (n ∷ bytes))
-
 -- the point's byte stands at the start of the bytes, and its entry, if it has one; and these follow
 abbrev pub IsReadRow : App → Point → (bytes rest : List ℕ) → Option PlainEntry → Type 0
 IsReadRow app p bytes rest None = bytes ≡ 0 ∷ rest

@@ -13,11 +13,6 @@ IsFlagNumber n = (0 < n) × (n ≤ 3)
 abbrev pub flagged : (Bool → PartValue) → ℕ → List PartValue
 flagged of n = (if n == 2 then [] else of false ∷ []) ++ (if n == 1 then [] else of true ∷ [])
 
--- the number of values is cut, or 0
-pub data IsCountFault (bytes : List ℕ) (f : Fault) : Type 0 where
-  cut_count : length bytes < 4 → f ≡ fault_at K1 bytes → IsCountFault bytes f
-  no_count : (more : List ℕ) → bytes ≡ to_be_bytes w32 0 ++ more → f ≡ fault_at K3 bytes → IsCountFault bytes f
-
 module _ (app : App) (p : Point) (k : Component) where
   -- a value above those before it stands at the start of the bytes, and these follow it
   pub record IsNextValue (before : List PartValue) (bytes rest : List ℕ) (v : PartValue) : Type 0 where

@@ -5,7 +5,7 @@ ghost use Rattle.abstract_state.specs.{declared.table.PlainTable.{PlainTable as 
 ghost use Rattle.abstract_state.specs.{ValueOrder.{flag_field}, Written.{IsWritten}};
 ghost use Rattle.numbered_sets.specs.{Pools.{pool_domains}, PlainTables.{plain_table, plain_rows, row_at, AreRowsOf}};
 ghost use Rattle.table_codec.specs.{Spelling.{spelling, magic as magic_of}, declared.fault.TableFault.{TableFault as ATableFault}};
-ghost use Rattle.table_codec.specs.{Faults.{IsTableFault, IsRowFault, IsPointFault, IsFirstFault}, Rows.{IsReadRow, IsMagicFault, IsPresenceFault, IsReadTable}};
+ghost use Rattle.table_codec.specs.{Faults.{IsMagicFault, IsPresenceFault, IsTableFault, IsRowFault, IsPointFault, IsFirstFault}, Rows.{IsReadRow, IsReadTable}};
 
 use crate::entries::entry;
 use crate::fault::{Fault, ReadError, TableError, TableFault, TableRule};

@@ -5,7 +5,7 @@ ghost use Rattle.std.specs.Int.{to_be_bytes, w32};
 ghost use Rattle.abstract_state.specs.Domains.{domain_of};
 ghost use Rattle.abstract_state.specs.declared.value.PartValue.TheVariants as part;
 ghost use Rattle.abstract_state.specs.{ValueOrder.{IsAscending}, Components.{IsPart, IsComponent}};
-ghost use Rattle.table_codec.specs.{Faults.{IsNextFault, IsListedFault, IsFlagsFault, IsSetFault}, Sets.{IsReadList, IsReadSet, IsNextValue, IsFlagNumber, IsCountFault, flagged}};
+ghost use Rattle.table_codec.specs.{Faults.{IsNextFault, IsCountFault, IsListedFault, IsFlagsFault, IsSetFault}, Sets.{IsReadList, IsReadSet, IsNextValue, IsFlagNumber, flagged}};
 ghost use Rattle.table_codec.specs.Shapes.{IsShape, shaped};
 
 use crate::fault::{Fault, ReadError, TableRule};

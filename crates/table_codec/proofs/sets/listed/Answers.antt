@@ -1,13 +1,14 @@
 use Rattle.std.proofs.{Common.{List, length, sym, ap, subst, arith}, lemmas.{List.{length_push}, Result.{err_from_is_err_and}}}
 use Rattle.abstract_state.specs.declared.value.PartValue.{PartValue}
 use Rattle.table_codec.specs.Shapes.{shaped}
-use Rattle.table_codec.proofs.ReadSoFar.{AreValuesSoFar, count_fault, no_values, next_value}
+use Rattle.table_codec.proofs.ReadSoFar.{AreValuesSoFar, no_values, next_value}
+use Rattle.table_codec.specs.Faults.{bad_count}
 use Rattle.table_codec.proofs.sets.listed.Goals as goal
 
 pub returns-in_err-count-clause-err : goal.returns-in_err-count-clause-err
 returns-in_err-count-clause-err c =
     let p = err_from_is_err_and c.from_residual.result c.from_residual.ensures.1 in
-    rw (p.1, p.2) (count_fault c.args.app.now c.args.shape.now.point (shaped c.args.shape.now) c.args.reader.now c.in_err-count.field-0.0 c.in_err-count.ensures.err)
+    rw (p.1, p.2) (bad_count c.in_err-count.ensures.err)
 
 pub loop-init : goal.loop-init
 loop-init c = record {
