@@ -10,7 +10,7 @@ use Rattle.abstract_state.specs.{declared.table.ValueSet.{ValueSet}, ValueOrder.
 use Rattle.abstract_state.specs.Domains.{domain_of}
 use Rattle.abstract_state.proofs.{ComponentLaws.{component_known}, OrderLaws.{ascending_none}}
 use Rattle.numbered_sets.specs.Pools.{no_values as none_seen, pool_domains}
-use Rattle.table_codec.specs.{declared.fault.Fault.{Fault}, Spelling.{value_bytes, set_bytes, sets_bytes}, Faults.{IsGoodSet, AreGoodSets}}
+use Rattle.table_codec.specs.{Spelling.{value_bytes, set_bytes, sets_bytes}, Faults.{IsGoodSet, AreGoodSets}}
 use Rattle.table_codec.specs.Sets.{IsNextValue, IsReadSet}
 use Rattle.table_codec.proofs.EntryFaults.{more_sets}
 

@@ -1,10 +1,9 @@
 -- What a reader of rows answers.
-use Rattle.std.specs.{Prelude.{◌≡◌, ◌≢◌, ℕ, ◌<◌, ◌≤◌, List, [], ◌∷◌, ◌++◌, length, take, Some, None}, List.{flat_map}, declared.option.Option.{Option}}
+use Rattle.std.specs.{Prelude.{◌≡◌, ℕ, List, ◌∷◌, ◌++◌, Some, None}, List.{flat_map}, declared.option.Option.{Option}}
 use Rattle.osek_standard.specs.declared.{app.App.{App}, point.Point.{Point}}
 use Rattle.abstract_state.specs.{declared.table.{PlainEntry.{PlainEntry}, PlainTable.{PlainTable}}, Written.{IsWritten}}
-use Rattle.table_codec.specs.declared.fault.{Fault.{Fault}, TableRule.TheVariants.{K1, K2, K3}}
 use Rattle.osek_standard.specs.Points.{points_in_order}
-use Rattle.table_codec.specs.{Spelling.{magic, point_bytes}, Faults.{fault_at}, Sets.{IsReadEntry}}
+use Rattle.table_codec.specs.{Spelling.{point_bytes}, Sets.{IsReadEntry}}
 
 -- the point's byte stands at the start of the bytes, and its entry, if it has one; and these follow
 abbrev pub IsReadRow : App → Point → (bytes rest : List ℕ) → Option PlainEntry → Type 0

@@ -1,10 +1,10 @@
 -- What a reader of sets, of entries and of rows answers.
-use Rattle.std.specs.{Prelude.{◌≡◌, ℕ, ◌<◌, ◌≤◌, ◌==◌, Bool, true, false, List, [], ◌∷◌, ◌++◌, length, if◌then◌else◌}, Int.{to_be_bytes, w32}}
+use Rattle.std.specs.{Prelude.{◌≡◌, ℕ, ◌<◌, ◌≤◌, ◌==◌, Bool, true, false, List, [], ◌∷◌, ◌++◌, if◌then◌else◌}}
 use Rattle.osek_standard.specs.declared.{app.App.{App}, point.Point.{Point}}
 use Rattle.abstract_state.specs.{declared.{value.{Component.{Component}, PartValue.{PartValue}}, table.{ValueSet.{ValueSet}, PlainEntry.{PlainEntry}}}, ValueOrder.{IsAscending}}
 use Rattle.abstract_state.specs.{Components.{IsPart}, Domains.{domain_of, domains, domains_of}}
-use Rattle.table_codec.specs.{declared.fault.{Fault.{Fault}, TableRule.TheVariants.{K1, K3}}, Spelling.{value_bytes, listed, set_bytes, members_of, entry_bytes}}
-use Rattle.table_codec.specs.Faults.{fault_at, IsGoodSet, AreGoodSets}
+use Rattle.table_codec.specs.{Spelling.{value_bytes, listed, set_bytes, members_of, entry_bytes}}
+use Rattle.table_codec.specs.Faults.{IsGoodSet, AreGoodSets}
 
 abbrev pub IsFlagNumber : ℕ → Type 0
 IsFlagNumber n = (0 < n) × (n ≤ 3)

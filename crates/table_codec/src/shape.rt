@@ -136,8 +136,10 @@ fn may_wait(app: &App, task: TaskNo) -> bool
     requires { task.0 < length app.now.tasks }
     ensures { IsTrue result ↔ ((b : ABlockNo) × IsWaitingAt app.now task.0 b.0) }
 {
-    for block in 0..app.blocks.len() {
-        if waits_at(app, task, BlockNo(block as u16)) {
+    let first = app.task(task).first.0;
+    let count = app.task(task).count;
+    for block in first..first + count {
+        if waits_at(app, task, BlockNo(block)) {
             return true;
         }
     }
