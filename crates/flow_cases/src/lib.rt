@@ -12,4 +12,6 @@ mod point_tables;
 mod printed_lines;
 #[cfg(test)]
 mod rules_at_points;
+#[cfg(test)]
+mod table_bytes;
 pub mod worked_texts;

@@ -1,0 +1,12 @@
+use Rattle.std.proofs.Common.{◌≡◌}
+use Rattle.abstract_state.specs.Domains.{domains_of}
+use Rattle.numbered_sets.specs.{Pools.{pool_domains}, PlainTables.{plain_rows, AreRowsOf}}
+use Rattle.table_codec.proofs.RowsSoFar.{AreRowsSoFar}
+use Rattle.table_codec.proofs.reading.read_rows.Given as goal
+
+abbrev pub invariant-loop-place : goal.invariant-loop-place
+invariant-loop-place l = record {
+  known : AreRowsOf l.pool l.rows;
+  domains : pool_domains l.pool ≡ domains_of l.app;
+  rows : AreRowsSoFar l.app l.fn.reader l.place (plain_rows l.pool l.rows) l.reader;
+}

@@ -1,0 +1,22 @@
+-- What holds of all spellings, and of the first fault of bytes.
+use Rattle.std.specs.Prelude.{◌≡◌, ◌⊎◌, ℕ, ◌<◌, List, ◌++◌, slice_index}
+use Rattle.osek_standard.specs.declared.app.App.{App}
+use Rattle.abstract_state.specs.{declared.table.PlainTable.{PlainTable}, Domains.{HasMasks}, Written.{IsWritten}}
+use Rattle.table_codec.specs.{declared.fault.TableFault.{TableFault}, Spelling.{spelling}, Faults.{IsFirstFault}}
+
+-- equal bytes mean equal tables, whatever follows them
+abbrev pub OneSpelling : Type 0
+OneSpelling = (app : App) (a b : PlainTable) (x y : List ℕ) → IsWritten app a → IsWritten app b → spelling app a ++ x ≡ spelling app b ++ y → (a ≡ b) × (x ≡ y)
+
+-- bytes that spell a table have no fault
+abbrev pub OneAnswer : Type 0
+OneAnswer = (app : App) (table : PlainTable) (f : TableFault) → IsWritten app table → IsFirstFault app (spelling app table) f → ⊥
+
+-- one fault is the first
+abbrev pub OneFault : Type 0
+OneFault = (app : App) (bytes : List ℕ) (f g : TableFault) → IsFirstFault app bytes f → IsFirstFault app bytes g → f ≡ g
+
+-- bytes spell a table, or have a first fault
+abbrev pub SomeAnswer : Type 0
+SomeAnswer = (app : App) (bytes : List ℕ) → HasMasks app → ((i : ℕ) → slice_index bytes i < 256)
+    → ((table : PlainTable) × IsWritten app table × (spelling app table ≡ bytes)) ⊎ ((f : TableFault) × IsFirstFault app bytes f)

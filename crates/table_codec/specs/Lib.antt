@@ -1,0 +1,10 @@
+pub mod Ascending
+pub mod Faults
+pub mod Laws
+pub mod Rules
+pub mod Rows
+pub mod Sets
+pub mod Shapes
+pub mod Spelling
+pub mod Values
+pub mod Writing

@@ -1,0 +1,20 @@
+//! The bytes of tables.
+#![tactic(auto)]
+
+mod ascending;
+mod entries;
+mod fault;
+mod laws;
+mod points;
+mod reader;
+mod reading;
+mod sets;
+mod shape;
+mod values;
+mod writing;
+
+pub use fault::{TableError, TableFault, TableRule, WriteFault};
+pub use laws::{one_answer, one_fault, one_spelling, some_answer};
+pub use numbered_sets::Table;
+pub use reading::read_table;
+pub use writing::write_table;

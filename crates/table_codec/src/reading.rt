@@ -1,0 +1,168 @@
+//! Tables from bytes.
+ghost use Rattle.std.specs.Prelude.{◌≡◌, ◌++◌, ◌∷◌, [], All, Ok, Err, IfOk, IfErr, OnOk};
+ghost use Rattle.osek_values.specs.Answers.{Refuses, Answers};
+ghost use Rattle.abstract_state.specs.{declared.table.PlainTable.{PlainTable as APlainTable}, Components.{components as components_of}, Domains.{domains, domains_of, IsSound}};
+ghost use Rattle.abstract_state.specs.{ValueOrder.{flag_field}, Written.{IsWritten}};
+ghost use Rattle.numbered_sets.specs.{Pools.{pool_domains}, PlainTables.{plain_table, plain_rows, row_at, AreRowsOf}};
+ghost use Rattle.table_codec.specs.{Spelling.{spelling, magic as magic_of}, declared.fault.TableFault.{TableFault as ATableFault}};
+ghost use Rattle.table_codec.specs.{Faults.{IsMagicFault, IsPresenceFault, IsTableFault, IsRowFault, IsPointFault, IsFirstFault}, Rows.{IsReadRow, IsReadTable}};
+
+use crate::entries::entry;
+use crate::fault::{Fault, ReadError, TableError, TableFault, TableRule};
+use crate::points::points;
+use crate::reader::{Reader, fault};
+use crate::sets::domain;
+use abstract_state::{Component, PlainEntry, components, masks_are_few};
+use numbered_sets::{NumberedRow, Pool, Table, numbered};
+use osek_standard::{App, Point};
+use osek_values::{Memory, Seq};
+use std::alloc::Global;
+
+/// OSEKTAB, and the version.
+pub(crate) fn magic() -> &'static [u8]
+    ensures { result.now ≡ magic_of }
+{
+    b"OSEKTAB\x01"
+}
+
+fn read_magic(reader: &mut Reader) -> Result<(), Fault>
+    ensures ok { OnOk result (reader.old ≡ magic_of ++ reader.new) }
+    ensures err { IfErr result (IsMagicFault reader.old) }
+{
+    let left = reader.left();
+    if left < 8 {
+        return Err(fault(TableRule::K1, left));
+    }
+    if reader.text(8) != magic() {
+        return Err(fault(TableRule::K2, left));
+    }
+    Ok(())
+}
+
+// whether a point has an entry
+fn is_present(reader: &mut Reader) -> Result<bool, Fault>
+    ensures ok { IfOk result (λ b. reader.old ≡ flag_field b ∷ reader.new) }
+    ensures err { IfErr result (IsPresenceFault reader.old) }
+{
+    let left = reader.left();
+    let Some(present) = reader.byte() else {
+        return Err(fault(TableRule::K1, left));
+    };
+    if present > 1 {
+        return Err(fault(TableRule::K3, left));
+    }
+    Ok(present == 1)
+}
+
+// the entry of a point, if it has one
+fn point_entry(
+    alloc: Global,
+    reader: &mut Reader,
+    app: &App,
+    point: Point,
+    components: &Seq<Component>,
+) -> Result<Option<PlainEntry>, ReadError>
+    requires { components.now ≡ components_of app.now }
+    ensures ok { IfOk result (IsReadRow app.now point reader.old reader.new) }
+    ensures err { IfErr result (λ e. Refuses e (IsPointFault app.now point reader.old)) }
+{
+    if !is_present(reader)? {
+        return Ok(None);
+    }
+    let found = entry(alloc, reader, app, point, components)?;
+    Ok(Some(found))
+}
+
+// a row more, whose values the pool numbers
+fn add_row(
+    alloc: Global,
+    pool: &mut Pool,
+    rows: &mut Seq<NumberedRow>,
+    point: Point,
+    entry: &PlainEntry,
+) -> Result<(), Memory>
+    requires domains { domains entry.now ≡ pool_domains pool.old }
+    requires sound { All IsSound entry.now.sets }
+    requires rows { AreRowsOf pool.old rows.old }
+    ensures rows { OnOk result (AreRowsOf pool.new rows.new) }
+    ensures domains { pool_domains pool.new ≡ pool_domains pool.old }
+    ensures plain { OnOk result (plain_rows pool.new rows.new ≡ plain_rows pool.old rows.old ++ row_at point entry.now ∷ []) }
+{
+    let entry = numbered(alloc, pool, entry)?;
+    rows.push(NumberedRow { point, entry })?;
+    Ok(())
+}
+
+// the rows of all points
+fn read_rows(
+    alloc: Global,
+    reader: &mut Reader,
+    app: &App,
+    pool: &mut Pool,
+    components: &Seq<Component>,
+) -> Result<Seq<NumberedRow>, ReadError>
+    requires domains { pool_domains pool.old ≡ domains_of app.now }
+    requires components { components.now ≡ components_of app.now }
+    ensures rows { IfOk result (AreRowsOf pool.new) }
+    ensures table { IfOk result (λ rows. IsReadTable app.now reader.old reader.new (plain_table pool.new rows)) }
+    ensures err { IfErr result (λ e. Refuses e (IsRowFault app.now reader.old)) }
+{
+    masks_are_few(app);
+    let points = points(alloc, app)?;
+    let mut rows = Seq::new(alloc);
+    for place in 0..points.len() {
+        let point = *points.at(place);
+        if let Some(entry) = point_entry(alloc, reader, app, point, components)? {
+            add_row(alloc, pool, &mut rows, point, &entry)?;
+        }
+    }
+    Ok(rows)
+}
+
+// a pool without values
+fn new_pool(alloc: Global, app: &App, components: &Seq<Component>) -> Result<Pool, Memory>
+    requires { components.now ≡ components_of app.now }
+    ensures { IfOk result (λ pool. pool_domains pool ≡ domains_of app.now) }
+{
+    let mut domains = Vec::new(alloc);
+    for component in components.as_slice() {
+        domains.push(domain(app, *component))?;
+    }
+    Pool::new(alloc, domains.as_slice())
+}
+
+// a table that is all of the bytes
+fn all(alloc: Global, reader: &mut Reader, app: &App) -> Result<Table, ReadError>
+    ensures ok { IfOk result (λ t. IsWritten app.now t × (spelling app.now t ≡ reader.old)) }
+    ensures err { IfErr result (λ e. Refuses e (IsTableFault app.now reader.old)) }
+{
+    read_magic(reader)?;
+    let components = components(alloc, app)?;
+    let mut pool = new_pool(alloc, app, &components)?;
+    let rows = read_rows(alloc, reader, app, &mut pool, &components)?;
+    let left = reader.left();
+    if left != 0 {
+        return Err(ReadError::Fault(fault(TableRule::K5, left)));
+    }
+    Ok(Table::of(pool, rows))
+}
+
+/// The table that the bytes spell, all of the bytes, or their first fault.
+pub fn read_table(alloc: Global, app: &App, bytes: &[u8]) -> Result<Table, TableError>
+    ensures written { IfOk result (IsWritten app.now) }
+    ensures spelled { IfOk result (λ t. spelling app.now t ≡ bytes.now) }
+    ensures first { IfErr result (λ e. Refuses e (IsFirstFault app.now bytes.now)) }
+    // What is spelled so is answered, and what is the first fault is refused so, unless memory runs out.
+    ensures complete { (t : APlainTable) → IsWritten app.now t → spelling app.now t ≡ bytes.now → Answers result (Ok t) }
+    ensures exact { (f : ATableFault) → IsFirstFault app.now bytes.now f → Answers result (Err f) }
+{
+    let mut reader = Reader::new(bytes);
+    match all(alloc, &mut reader, app) {
+        Ok(table) => Ok(table),
+        Err(ReadError::Memory) => Err(TableError::Memory),
+        Err(ReadError::Fault(fault)) => Err(TableError::Fault(TableFault {
+            rule: fault.rule,
+            offset: bytes.len().saturating_sub(fault.left),
+        })),
+    }
+}

@@ -1,0 +1,264 @@
+//! The bytes of a table.
+ghost use Rattle.std.specs.{Prelude.{◌≡◌, ◌++◌, ◌∷◌, ◌^◌, ◌<◌, ◌≤◌, length, sum_by, All, IfOk, IfErr, OnOk}, List.{flat_map}};
+ghost use Rattle.abstract_state.specs.{declared.value.{Val.TheVariants.{Live}, PartValue.TheVariants.{OfTask}}, Written.{IsWritten}};
+ghost use Rattle.table_codec.specs.Ascending.{values_in};
+ghost use Rattle.numbered_sets.specs.{SetLists.{set_of}, declared.table.NumberedRow.{NumberedRow as ARow}};
+ghost use Rattle.osek_values.specs.declared.limits.TheConstants.{MAX_TABLE};
+ghost use Rattle.table_codec.specs.declared.fault.WriteFault.TheVariants.{TooLong};
+ghost use Rattle.table_codec.specs.Spelling.{spelling, resource_numbers, value_bytes, set_bytes, listed, flag_number as flag_number_of, sets_bytes};
+ghost use Rattle.table_codec.specs.Writing.{Puts, stack_size, CanBeWritten, IsWritable, AreWritable, AreOrdered, all_in, merged_bytes};
+
+use crate::ascending::{NumberedValue, ascending};
+use crate::fault::WriteFault;
+use crate::points::points;
+use crate::reading::magic;
+use abstract_state::{Component, LiveVal, PartValue, Val, components};
+use numbered_sets::{NumberedRow, NumberedSets, Pool, Table};
+use osek_standard::{App, Point};
+use osek_values::limits::MAX_TABLE;
+use osek_values::{Memory, ResNo, Seq};
+use std::alloc::{AllocError, Global};
+
+// what stands at a point without an entry, and before an entry
+const ABSENT: u8 = 0;
+
+const PRESENT: u8 = 1;
+
+fn put_value(out: &mut Vec<u8>, value: &PartValue) -> Result<(), AllocError>
+    requires { stack_size value.now < 2 ^ 8 }
+    ensures { OnOk result (out.new.items ≡ out.old.items ++ value_bytes value.now) }
+{
+    match value {
+        PartValue::OfTask(Val::Suspended) => {
+            out.push(0)?;
+            Ok(())
+        }
+        PartValue::OfTask(Val::Live(live)) => put_live(out, live),
+        PartValue::OfTask(Val::Waiting(block)) => {
+            out.push(2)?;
+            out.extend_from_slice(&block.0.to_be_bytes())
+        }
+        PartValue::OfEvent(_) | PartValue::OfAlarm(_) => Ok(()),
+    }
+}
+
+// no task has further activations or is inside an INTERNAL resource
+fn put_live(out: &mut Vec<u8>, live: &LiveVal) -> Result<(), AllocError>
+    requires { length live.now.held < 2 ^ 8 }
+    ensures { OnOk result (out.new.items ≡ out.old.items ++ value_bytes (OfTask (Live live.now))) }
+{
+    out.push(1)?;
+    out.extend_from_slice(&live.block.0.to_be_bytes())?;
+    out.push(0)?;
+    out.push(0)?;
+    let held = live.held.as_slice();
+    out.push(held.len() as u8)?;
+    put_stack(out, held)
+}
+
+fn put_stack(out: &mut Vec<u8>, held: &[ResNo]) -> Result<(), AllocError>
+    ensures { OnOk result (out.new.items ≡ out.old.items ++ resource_numbers held.now) }
+{
+    for resource in held {
+        out.push(resource.0)?;
+    }
+    Ok(())
+}
+
+// the values of a task, behind their number
+fn put_listed(
+    out: &mut Vec<u8>,
+    values: &[NumberedValue],
+    sets: &NumberedSets,
+    component: usize,
+) -> Result<(), WriteFault>
+    requires { All CanBeWritten (values_in (set_of sets.now component) values.now) }
+    ensures { Puts result out.old.items out.new.items (listed (values_in (set_of sets.now component) values.now)) }
+{
+    let count = count(values, sets, component);
+    if count > MAX_TABLE {
+        return Err(WriteFault::TooLong);
+    }
+    out.extend_from_slice(&(count as u32).to_be_bytes())?;
+    put_values(out, values, sets, component)?;
+    limited(out)
+}
+
+// whether the bytes are within the limit
+fn limited(out: &Vec<u8>) -> Result<(), WriteFault>
+    ensures within { OnOk result (length out.now.items ≤ MAX_TABLE) }
+    ensures too_long { IfErr result (λ e. (e ≡ TooLong) × (MAX_TABLE < length out.now.items)) }
+{
+    if out.len() > MAX_TABLE {
+        return Err(WriteFault::TooLong);
+    }
+    Ok(())
+}
+
+fn put_values(
+    out: &mut Vec<u8>,
+    values: &[NumberedValue],
+    sets: &NumberedSets,
+    component: usize,
+) -> Result<(), AllocError>
+    requires { All CanBeWritten (values_in (set_of sets.now component) values.now) }
+    ensures { OnOk result (out.new.items ≡ out.old.items ++ flat_map value_bytes (values_in (set_of sets.now component) values.now)) }
+{
+    for found in values {
+        if sets.has(component, found.number) {
+            put_value(out, &found.value)?;
+        }
+    }
+    Ok(())
+}
+
+fn count(values: &[NumberedValue], sets: &NumberedSets, component: usize) -> usize
+    ensures { result ≡ length (values_in (set_of sets.now component) values.now) }
+{
+    let mut count = 0;
+    for found in values {
+        if sets.has(component, found.number) {
+            count += 1;
+        }
+    }
+    count
+}
+
+fn flag_number(value: &PartValue) -> u8
+    ensures { result ≡ flag_number_of value.now }
+{
+    match value {
+        PartValue::OfTask(_) => 1,
+        PartValue::OfEvent(set) | PartValue::OfAlarm(set) => if *set { 2 } else { 1 },
+    }
+}
+
+// the number of a set of flags
+fn flags(values: &[NumberedValue], sets: &NumberedSets, component: usize) -> u8
+    requires { sum_by flag_number_of (values_in (set_of sets.now component) values.now) ≤ 3 }
+    ensures { result ≡ sum_by flag_number_of (values_in (set_of sets.now component) values.now) }
+{
+    let mut flags = 0;
+    for found in values {
+        if sets.has(component, found.number) {
+            flags += flag_number(&found.value);
+        }
+    }
+    flags
+}
+
+fn put_set(
+    out: &mut Vec<u8>,
+    values: &[NumberedValue],
+    sets: &NumberedSets,
+    place: usize,
+    component: Component,
+) -> Result<(), WriteFault>
+    requires { IsWritable component (values_in (set_of sets.now place) values.now) }
+    ensures { Puts result out.old.items out.new.items (set_bytes component (values_in (set_of sets.now place) values.now)) }
+{
+    match component {
+        Component::Task(_) => put_listed(out, values, sets, place),
+        Component::Event { task: _, bit: _ } | Component::Alarm(_) => {
+            out.push(flags(values, sets, place))?;
+            Ok(())
+        }
+    }
+}
+
+fn put_entry(
+    out: &mut Vec<u8>,
+    components: &Seq<Component>,
+    values: &Seq<Vec<NumberedValue>>,
+    sets: &NumberedSets,
+) -> Result<(), WriteFault>
+    requires size { length components.now ≤ length values.now }
+    requires as_many { length components.now ≤ length sets.now }
+    requires sets { AreWritable components.now (all_in sets.now values.now) }
+    ensures { Puts result out.old.items out.new.items (sets_bytes components.now (all_in sets.now values.now)) }
+{
+    for place in 0..components.len() {
+        let component = *components.at(place);
+        put_set(out, values.at(place).as_slice(), sets, place, component)?;
+    }
+    Ok(())
+}
+
+// whether a point has an entry, and the entry
+fn put_row(
+    out: &mut Vec<u8>,
+    components: &Seq<Component>,
+    values: &Seq<Vec<NumberedValue>>,
+    row: &NumberedRow,
+) -> Result<(), WriteFault>
+    requires size { length components.now ≤ length values.now }
+    requires as_many { length components.now ≤ length row.now.entry.sets }
+    requires sets { AreWritable components.now (all_in row.now.entry.sets values.now) }
+    ensures { Puts result out.old.items out.new.items (1 ∷ sets_bytes components.now (all_in row.now.entry.sets values.now)) }
+{
+    out.push(PRESENT)?;
+    put_entry(out, components, values, &row.entry.sets)
+}
+
+// the rows of all points, of which each is the next one's or has none
+fn put_rows(
+    out: &mut Vec<u8>,
+    points: &Seq<Point>,
+    components: &Seq<Component>,
+    values: &Seq<Vec<NumberedValue>>,
+    rows: &Seq<NumberedRow>,
+) -> Result<(), WriteFault>
+    requires size { 0 < length rows.now → length components.now ≤ length values.now }
+    requires as_many { All (λ (row : ARow). length components.now ≤ length row.entry.sets) rows.now }
+    requires sets { All (λ (row : ARow). AreWritable components.now (all_in row.entry.sets values.now)) rows.now }
+    ensures { Puts result out.old.items out.new.items (merged_bytes components.now values.now points.now rows.now) }
+{
+    let mut next = 0;
+    for place in 0..points.len() {
+        if next < rows.len() && rows.at(next).point.number() == points.at(place).number() {
+            put_row(out, components, values, rows.at(next))?;
+            next += 1;
+        } else {
+            out.push(ABSENT)?;
+        }
+    }
+    Ok(())
+}
+
+// the values of each component, if there is a row
+fn all_ascending(
+    alloc: Global,
+    pool: &Pool,
+    components: usize,
+    rows: usize,
+) -> Result<Seq<Vec<NumberedValue>>, Memory>
+    requires { 0 < rows → components ≤ length pool.now }
+    ensures { IfOk result (λ values. 0 < rows → AreOrdered pool.now components values) }
+{
+    let mut values = Seq::new(alloc);
+    if rows == 0 {
+        return Ok(values);
+    }
+    for component in 0..components {
+        values.push(ascending(alloc, pool, component)?)?;
+    }
+    Ok(values)
+}
+
+/// The bytes of a table, if they are within the limit.
+pub fn write_table(alloc: Global, app: &App, table: &Table) -> Result<Vec<u8>, WriteFault>
+    requires { IsWritten app.now table.now }
+    ensures bytes { IfOk result (λ v. v.items ≡ spelling app.now table.now) }
+    ensures within { IfOk result (λ v. length v.items ≤ MAX_TABLE) }
+    ensures too_long { result ≡ Err TooLong → MAX_TABLE < length (spelling app.now table.now) }
+{
+    let numbered = table.numbered_rows(alloc)?;
+    let components = components(alloc, app)?;
+    let points = points(alloc, app)?;
+    let values = all_ascending(alloc, &numbered.pool, components.len(), numbered.rows.len())?;
+    let mut out = Vec::new(alloc);
+    out.extend_from_slice(magic())?;
+    put_rows(&mut out, &points, &components, &values, numbered.rows)?;
+    limited(&out)?;
+    Ok(out)
+}
