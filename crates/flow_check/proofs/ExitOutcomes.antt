@@ -14,9 +14,9 @@ use Rattle.numbered_sets.specs.Pools.{Values}
 use Rattle.flow_rules.specs.declared.group.{NumberEnd.{NumberEnd}, Ends.{Ends}, ExitGroup.{ExitGroup}}
 use Rattle.flow_rules.specs.declared.group.Ends.TheVariants as ends
 use Rattle.flow_rules.specs.Groups.{holding, exit_at, exits_by, exits_of, all_exits}
-use Rattle.call_tailor.specs.{declared.found.Findings.{Findings}, Found.{Seen, Nothing, Alone, IsSeen, AreJoined, outcome_seen, status_seen, AreJoinedFindings, IsTold}}
-use Rattle.call_tailor.specs.Outcomes.{end_count, status_noted, Arises, IsOfExit, IsOfExits, AreOfRow, AreOfExits}
-use Rattle.call_tailor.proofs.Joining.{same_decision, same_status, status_once, joined_nothing, same_seen, joined_seen, seen_already}
+use Rattle.flow_check.specs.{declared.found.Findings.{Findings}, Found.{Seen, Nothing, Alone, IsSeen, AreJoined, outcome_seen, status_seen, AreJoinedFindings, IsTold}}
+use Rattle.flow_check.specs.Outcomes.{end_count, status_noted, Arises, IsOfExit, IsOfExits, AreOfRow, AreOfExits}
+use Rattle.flow_check.proofs.Joining.{same_decision, same_status, status_once, joined_nothing, same_seen, joined_seen, seen_already}
 
 module _ {X V : Type 0} (meant : V → X) (once : (v w : V) → meant v ≡ meant w → v ≡ w) (tells : Exit → Decision → V) where
   abbrev told : Exit → Decision → X

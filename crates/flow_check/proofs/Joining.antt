@@ -5,7 +5,7 @@ use Rattle.osek_values.specs.declared.status.Status.{Status}
 use Rattle.flow_model.specs.declared.case.Decision.{Decision}
 use Rattle.flow_model.specs.declared.case.Decision.TheVariants as decision
 use Rattle.flow_model.specs.Scheduling.{outcome_of_decision}
-use Rattle.call_tailor.specs.Found.{Seen, Nothing, Alone, Several, HoldsOfTwo, IsSeen, AreJoined}
+use Rattle.flow_check.specs.Found.{Seen, Nothing, Alone, Several, HoldsOfTwo, IsSeen, AreJoined}
 
 pub same_decision : (d e : Decision) → outcome_of_decision d ≡ outcome_of_decision e → d ≡ e
 same_decision decision.Keep decision.Keep h = refl

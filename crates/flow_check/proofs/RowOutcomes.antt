@@ -10,11 +10,11 @@ use Rattle.osek_standard.specs.{Apps.{is_site}, declared.state.State.{State}, Di
 use Rattle.osek_standard.proofs.WellLaws.{own_known, routine_known}
 use Rattle.abstract_state.specs.declared.table.TableRow.{TableRow}
 use Rattle.flow_model.specs.Scheduling.{outcome_of_decision}
-use Rattle.call_tailor.specs.declared.found.Findings.{Findings}
-use Rattle.call_tailor.specs.declared.found.Found.TheVariants as found
-use Rattle.call_tailor.specs.Found.{Seen, IsSeen, AreJoined, outcome_seen, status_seen, AreJoinedFindings}
-use Rattle.call_tailor.specs.Outcomes.{status_noted, Arises, ArisesAt, AreOfRow, IsFoundAt, AreFound, first_found}
-use Rattle.call_tailor.proofs.Joining.{same_decision, same_status, status_once, same_seen, joined_seen}
+use Rattle.flow_check.specs.declared.found.Findings.{Findings}
+use Rattle.flow_check.specs.declared.found.Found.TheVariants as found
+use Rattle.flow_check.specs.Found.{Seen, IsSeen, AreJoined, outcome_seen, status_seen, AreJoinedFindings}
+use Rattle.flow_check.specs.Outcomes.{status_noted, Arises, ArisesAt, AreOfRow, IsFoundAt, AreFound, first_found}
+use Rattle.flow_check.proofs.Joining.{same_decision, same_status, status_once, same_seen, joined_seen}
 
 -- a point stands at one block, which is the application's
 pub stands_once : (p : Point) (b c : BlockNo) → StandsAt p b → StandsAt p c → b ≡ c

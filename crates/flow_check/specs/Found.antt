@@ -8,8 +8,8 @@ use Rattle.image_model.specs.declared.site.Known.TheVariants as known
 use Rattle.flow_model.specs.declared.case.Decision.{Decision}
 use Rattle.flow_model.specs.declared.case.Decision.TheVariants as decision
 use Rattle.flow_model.specs.Scheduling.{outcome_of_decision}
-use Rattle.call_tailor.specs.declared.found.{Found.{Found}, Findings.{Findings}}
-use Rattle.call_tailor.specs.declared.found.Found.TheVariants as found
+use Rattle.flow_check.specs.declared.found.{Found.{Found}, Findings.{Findings}}
+use Rattle.flow_check.specs.declared.found.Found.TheVariants as found
 
 -- what is seen so far: nothing, this alone, or several
 pub data Seen (V : Type 0) : Type 0 where

@@ -7,9 +7,9 @@ use Rattle.flow_model.specs.{declared.case.Decision.{Decision}, Effects.{IsAt}, 
 use Rattle.flow_exits.specs.declared.exit.Exit.{Exit}
 use Rattle.flow_rules.specs.declared.group.Ends.{Ends}
 use Rattle.flow_rules.specs.declared.group.Ends.TheVariants as ends
-use Rattle.call_tailor.specs.declared.found.Findings.{Findings}
-use Rattle.call_tailor.specs.declared.found.Found.TheVariants as found
-use Rattle.call_tailor.specs.Found.{AreFindings}
+use Rattle.flow_check.specs.declared.found.Findings.{Findings}
+use Rattle.flow_check.specs.declared.found.Found.TheVariants as found
+use Rattle.flow_check.specs.Found.{AreFindings}
 
 -- the status that an instruction notes, if it notes one
 abbrev pub status_noted : App → State → Bool → Option Status

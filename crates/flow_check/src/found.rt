@@ -1,6 +1,6 @@
 //! What is found of the instructions at a block, and the site that it gives.
 ghost use Rattle.std.specs.{Prelude.{◌≡◌}, Bool.{OnTrue}};
-ghost use Rattle.call_tailor.specs.Found.{Alone, AreJoined, outcome_seen, status_seen, AreJoinedFindings, IsTold, form_of, known_of};
+ghost use Rattle.flow_check.specs.Found.{Alone, AreJoined, outcome_seen, status_seen, AreJoinedFindings, IsTold, form_of, known_of};
 
 use flow_model::Decision;
 use image_model::{Form, Known};
@@ -25,7 +25,7 @@ pub struct Findings {
 
 impl Found {
     ghost use Rattle.std.specs.{Prelude.{◌≡◌}, Bool.{OnTrue}};
-    ghost use Rattle.call_tailor.specs.Found.{Alone, AreJoined, outcome_seen, form_of};
+    ghost use Rattle.flow_check.specs.Found.{Alone, AreJoined, outcome_seen, form_of};
 
     // whether one more instruction with this outcome tells nothing new
     fn tells(self, decision: Decision) -> bool
@@ -70,7 +70,7 @@ impl Found {
 
 impl Findings {
     ghost use Rattle.std.specs.{Prelude.{◌≡◌}, Bool.{OnTrue}};
-    ghost use Rattle.call_tailor.specs.Found.{Nothing, Alone, outcome_seen, status_seen, AreJoinedFindings, IsTold, known_of};
+    ghost use Rattle.flow_check.specs.Found.{Nothing, Alone, outcome_seen, status_seen, AreJoinedFindings, IsTold, known_of};
 
     /// Before the first instruction.
     pub fn none() -> Findings

@@ -1,19 +1,17 @@
 //! The outcomes and the statuses at the sites, over the rows of a table.
-ghost use Rattle.std.specs.{Prelude.{◌≡◌, ◌++◌, ◌∷◌, [], ◌<◌, List, length, IfOk, OnOk, IfSome, IfNone}, Bool.{OnTrue, OnFalse}};
-ghost use Rattle.osek_standard.specs.{Apps.{is_site}, Points.{StandsAt}};
+ghost use Rattle.std.specs.{Prelude.{◌≡◌, ◌++◌, ◌∷◌, [], ◌<◌, List, length, slice_index_or, None, IfOk, OnOk, IfSome, IfNone}, Bool.{OnTrue, OnFalse}};
+ghost use Rattle.osek_standard.specs.{declared.app.App.{App}, Apps.{is_site}, Points.{StandsAt}};
 ghost use Rattle.osek_values.specs.declared.numbers.BlockNo.{BlockNo};
-ghost use Rattle.abstract_state.specs.{declared.table.TableRow.{TableRow}, Written.{IsRow, IsWritten}};
-ghost use Rattle.flow_model.specs.Effects.{AreAllAllowed};
-ghost use Rattle.flow_exits.specs.{declared.exit.Exit.{Exit}, Exits.{IsFilled}};
-ghost use Rattle.numbered_sets.specs.{Pools.{Values, IsLonger}, Views.{plain_entry, AreNumbersOf}};
-ghost use Rattle.flow_rules.specs.{Levels.{AreLevels}, Groups.{exits_of}};
-ghost use Rattle.numbered_sets.specs.PlainTables.{plain_row};
-ghost use Rattle.call_tailor.specs.Outcomes.{end_count, AreOfRow, AreOfExits, AreFound, first_found};
+ghost use Rattle.abstract_state.specs.{declared.table.TableRow.{TableRow}, Written.{IsWritten}};
+ghost use Rattle.flow_exits.specs.declared.exit.Exit.{Exit};
+ghost use Rattle.numbered_sets.specs.{Pools.{Values, IsLonger}, Views.{AreNumbersOf}, PlainTables.{plain_row}};
+ghost use Rattle.flow_rules.specs.{Levels.{AreLevels}, Rows.{IsProperRow}, Groups.{exits_of, all_exits}};
+ghost use Rattle.flow_check.specs.{Rows.{AreExitsOf}, Outcomes.{end_count, AreOfExits, AreFound, first_found}};
 
 use crate::found::Findings;
+use crate::rows::row_groups;
 use abstract_state::Point;
-use flow_exits::laws::steps_end_at_exits;
-use flow_rules::{Ends, ExitGroup, Levels, exit_groups};
+use flow_rules::{Ends, ExitGroup, Levels};
 use image_model::is_site;
 use numbered_sets::{NumberedRow, Pool, Table};
 use osek_standard::App;
@@ -39,8 +37,8 @@ pub fn findings(alloc: Global, app: &App, table: &Table) -> Result<Seq<Option<Fi
     Ok(sites)
 }
 
-// nothing is found yet at any site
-fn no_findings(alloc: Global, app: &App) -> Result<Seq<Option<Findings>>, Memory>
+/// Nothing is found yet at any site.
+pub(crate) fn no_findings(alloc: Global, app: &App) -> Result<Seq<Option<Findings>>, Memory>
     ensures { IfOk result (AreFound app.now []) }
 {
     let mut sites = Seq::new(alloc);
@@ -71,23 +69,47 @@ fn add_row(
     sites: &mut Seq<Option<Findings>>,
 ) -> Result<(), Memory>
     requires numbers { AreNumbersOf pool.old row.now.entry }
-    requires row { IsRow app.now (plain_row pool.old row.now) }
-    requires allowed { AreAllAllowed app.now row.now.point (plain_entry pool.old row.now.entry) }
-    requires filled { IsFilled app.now (plain_entry pool.old row.now.entry) }
+    requires proper { IsProperRow app.now (plain_row pool.old row.now) }
     requires levels { AreLevels app.now pool.old levels.old }
     requires count { length sites.old ≡ length app.now.blocks }
     ensures pool { IsLonger pool.old pool.new }
     ensures levels { OnOk result (AreLevels app.now pool.new levels.new) }
     ensures found { OnOk result ((rows : List TableRow) → AreFound app.now rows sites.old → AreFound app.now (rows ++ plain_row pool.old row.now ∷ []) sites.new) }
 {
-    match block_of(row.point) {
-        None => Ok(()),
+    if !is_at_site(row.point, sites) {
+        return Ok(());
+    }
+    let groups = row_groups(alloc, app, row, pool, levels)?;
+    add_groups(row.point, groups.as_slice(), sites);
+    Ok(())
+}
+
+fn is_at_site(point: Point, sites: &Seq<Option<Findings>>) -> bool
+    requires { (b : BlockNo) → StandsAt point b → b.0 < length sites.now }
+    ensures { OnFalse result ((b : BlockNo) → StandsAt point b → slice_index_or sites.now b.0 None ≡ None) }
+{
+    match block_of(point) {
+        None => false,
+        Some(block) => sites.at(block.index()).is_some(),
+    }
+}
+
+/// Adds what the exits of a row show, where its point stands at a site.
+pub(crate) fn add_groups(
+    point: Point,
+    groups: &[ExitGroup],
+    sites: &mut Seq<Option<Findings>>,
+)
+    requires { (b : BlockNo) → StandsAt point b → b.0 < length sites.old }
+    ensures { (app : App) (pool : List Values) (rows : List TableRow) (row : TableRow) → row.point ≡ point → AreExitsOf app row (all_exits pool groups.now) → AreFound app rows sites.old → AreFound app (rows ++ row ∷ []) sites.new }
+{
+    match block_of(point) {
+        None => {}
         Some(block) => match *sites.at(block.index()) {
-            None => Ok(()),
+            None => {}
             Some(before) => {
-                let more = findings_of(alloc, app, row, pool, levels)?;
+                let more = found_in(groups);
                 sites.put(block.index(), Some(before.join(more)));
-                Ok(())
             }
         },
     }
@@ -104,30 +126,15 @@ fn block_of(point: Point) -> Option<BlockNo>
     }
 }
 
-// what the states of a row show
-fn findings_of(
-    alloc: Global,
-    app: &App,
-    row: &NumberedRow,
-    pool: &mut Pool,
-    levels: &mut Levels,
-) -> Result<Findings, Memory>
-    requires numbers { AreNumbersOf pool.old row.now.entry }
-    requires row { IsRow app.now (plain_row pool.old row.now) }
-    requires allowed { AreAllAllowed app.now row.now.point (plain_entry pool.old row.now.entry) }
-    requires filled { IsFilled app.now (plain_entry pool.old row.now.entry) }
-    requires levels { AreLevels app.now pool.old levels.old }
-    ensures pool { IsLonger pool.old pool.new }
-    ensures levels { OnOk result (AreLevels app.now pool.new levels.new) }
-    ensures found { IfOk result (AreOfRow app.now (plain_row pool.old row.now)) }
+// what exits tell
+fn found_in(groups: &[ExitGroup]) -> Findings
+    ensures { (pool : List Values) → AreOfExits (all_exits pool groups.now) result }
 {
-    steps_end_at_exits();
-    let groups = exit_groups(alloc, app, row.point, &row.entry, pool, levels)?;
     let mut found = Findings::none();
-    for group in groups.as_slice() {
+    for group in groups {
         found = with_group(found, group);
     }
-    Ok(found)
+    found
 }
 
 // What was found, and what the exits of a group tell, which all tell the same. The begin of a routine tells nothing.

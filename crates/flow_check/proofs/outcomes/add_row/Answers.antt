@@ -1,9 +1,9 @@
 use Rattle.std.proofs.Common.{◌≡◌, ◌<◌, ◌++◌, ◌∷◌, [], ◌∙◌, ℕ, length, get_or, set, Some, None, sym, ap, subst, arith}
 use Rattle.osek_values.specs.{Numbers.{block_no}, declared.numbers.BlockNo.{BlockNo}}
 use Rattle.numbered_sets.specs.PlainTables.{plain_row}
-use Rattle.call_tailor.specs.Outcomes.{AreFound}
-use Rattle.call_tailor.proofs.RowOutcomes.{stands_once, stands_known, row_passed, row_added}
-use Rattle.call_tailor.proofs.outcomes.add_row.Goals as goal
+use Rattle.flow_check.specs.Outcomes.{AreFound}
+use Rattle.flow_check.proofs.RowOutcomes.{stands_once, stands_known, row_passed, row_added}
+use Rattle.flow_check.proofs.outcomes.add_row.Goals as goal
 
 pub returns-in-None-clause-found : goal.returns-in-None-clause-found
 returns-in-None-clause-found c = λ rows found.

@@ -3,9 +3,9 @@ use Rattle.abstract_state.specs.declared.table.TableRow.{TableRow}
 use Rattle.numbered_sets.proofs.NumberingLaws.{longer_onward}
 use Rattle.numbered_sets.specs.PlainTables.{plain_row, AreRowsFor}
 use Rattle.numbered_sets.proofs.{RowsByNumber.{as_many, row_known, row_is, row_listed}, WrittenRows.{row_there, row_allowed, row_filled, pool_has_tasks}}
-use Rattle.call_tailor.specs.Outcomes.{AreFound}
-use Rattle.call_tailor.proofs.RowOutcomes.{rows_more}
-use Rattle.call_tailor.proofs.outcomes.findings.Goals as goal
+use Rattle.flow_check.specs.Outcomes.{AreFound}
+use Rattle.flow_check.proofs.RowOutcomes.{rows_more}
+use Rattle.flow_check.proofs.outcomes.findings.Goals as goal
 
 pub new-requires : goal.new-requires
 new-requires c =

@@ -4,9 +4,9 @@ use Rattle.flow_rules.specs.{declared.group.ExitGroup.{ExitGroup}, Groups.{all_e
 use Rattle.flow_rules.proofs.LeavingPoints.{filled_numbers}
 use Rattle.numbered_sets.specs.PlainTables.{plain_row}
 use Rattle.numbered_sets.proofs.WrittenRows.{number_domains_of}
-use Rattle.call_tailor.specs.Outcomes.{AreOfExits}
-use Rattle.call_tailor.proofs.ExitOutcomes.{findings_of_none, groups_more, of_all_exits}
-use Rattle.call_tailor.proofs.outcomes.findings_of.Goals as goal
+use Rattle.flow_check.specs.Outcomes.{AreOfExits}
+use Rattle.flow_check.proofs.ExitOutcomes.{findings_of_none, groups_more, of_all_exits}
+use Rattle.flow_check.proofs.outcomes.findings_of.Goals as goal
 
 pub exit_groups-requires-clause-domains : goal.exit_groups-requires-clause-domains
 exit_groups-requires-clause-domains c = number_domains_of c.args.app.now c.args.pool.now c.args.row.now c.requires.row

@@ -1,9 +1,9 @@
 use Rattle.std.proofs.Common.{rules, ◌≡◌, ◌++◌, ◌∷◌, [], ◌∙◌, length, ap}
 use Rattle.std.specs.declared.option.Option.{Option}
 use Rattle.abstract_state.proofs.RangeLaws.{mapped_more}
-use Rattle.call_tailor.specs.{declared.found.Findings.{Findings}, Outcomes.{first_found}}
-use Rattle.call_tailor.proofs.RowOutcomes.{first_outcomes}
-use Rattle.call_tailor.proofs.outcomes.no_findings.Goals as goal
+use Rattle.flow_check.specs.{declared.found.Findings.{Findings}, Outcomes.{first_found}}
+use Rattle.flow_check.proofs.RowOutcomes.{first_outcomes}
+use Rattle.flow_check.proofs.outcomes.no_findings.Goals as goal
 
 pub loop-block-preserved : goal.loop-block-preserved
 loop-block-preserved c =

@@ -1,8 +1,8 @@
 use Rattle.std.proofs.{Common.{◌∙◌}, lemmas.Bool.{OnTrue_at, OnFalse_at}}
 use Rattle.flow_rules.specs.Groups.{exits_of}
-use Rattle.call_tailor.proofs.ExitOutcomes.{with_arrivals, with_one, with_old, alike_in_group, some_in_group, none_in_group}
-use Rattle.call_tailor.proofs.outcomes.with_group.Goals.{then-tells-via-then-tells, then-tells-via-else-tells+then-not-has_end}
-use Rattle.call_tailor.proofs.outcomes.with_group.Goals as goal
+use Rattle.flow_check.proofs.ExitOutcomes.{with_arrivals, with_one, with_old, alike_in_group, some_in_group, none_in_group}
+use Rattle.flow_check.proofs.outcomes.with_group.Goals.{then-tells-via-then-tells, then-tells-via-else-tells+then-not-has_end}
+use Rattle.flow_check.proofs.outcomes.with_group.Goals as goal
 
 pub returns-in-None : goal.returns-in-None
 returns-in-None c = λ pool done h.
