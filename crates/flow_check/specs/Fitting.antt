@@ -1,9 +1,10 @@
 -- Which sites fit what is found of the instructions at their blocks.
-use Rattle.std.specs.{Prelude.{◌≡◌, ◌⊎◌, ⊤, ℕ, ◌<◌, List, slice_index_or, Some, None}, declared.option.Option.{Option}}
+use Rattle.std.specs.{Prelude.{◌≡◌, ◌⊎◌, ⊤, ℕ, ◌<◌, List, length, slice_index_or, Some, None}, declared.option.Option.{Option}}
 use Rattle.image_model.specs.declared.site.Site.{Site}
 use Rattle.image_model.specs.declared.site.Form.TheVariants as form
 use Rattle.image_model.specs.declared.site.Known.TheVariants as known
-use Rattle.flow_check.specs.declared.found.{Findings.{Findings}, Found.TheVariants as found}
+use Rattle.flow_check.specs.declared.found.Findings.{Findings}
+use Rattle.flow_check.specs.declared.found.Found.TheVariants as found
 use Rattle.flow_check.specs.Found.{form_of, known_of}
 
 -- no instruction is found, or the form is the general one or that of what is found
@@ -25,6 +26,7 @@ module _ (P : Option Findings → Option Site → Type 0) (sites : List (Option 
 
   -- and the one at the block doesn't
   pub record IsFirstUnfit (b : ℕ) : Type 0 where
+    pub known : b < length sites
     pub before : AreFit b
     pub unfit : P (slice_index_or found b None) (slice_index_or sites b None) → ⊥
 

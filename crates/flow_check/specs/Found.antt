@@ -2,7 +2,7 @@
 use Rattle.std.specs.{Prelude.{◌≡◌, ◌≢◌, ◌⊎◌, Some, None}, declared.option.Option.{Option}}
 use Rattle.osek_values.specs.declared.status.Status.{Status}
 use Rattle.osek_standard.specs.Dispatch.{Outcome}
-use Rattle.image_model.specs.declared.site.{Form.{Form}, Known.{Known}, Site.{Site}}
+use Rattle.image_model.specs.declared.site.{Form.{Form}, Known.{Known}}
 use Rattle.image_model.specs.declared.site.Form.TheVariants as form
 use Rattle.image_model.specs.declared.site.Known.TheVariants as known
 use Rattle.flow_model.specs.declared.case.Decision.{Decision}
@@ -77,7 +77,3 @@ form_of found.Several = form.General
 abbrev pub known_of : Option Known → Known
 known_of None = known.Any
 known_of (Some x) = x
-
-abbrev pub site_of : Option Findings → Option Site
-site_of None = None
-site_of (Some x) = Some (record { form = form_of x.outcome; known = known_of x.status })

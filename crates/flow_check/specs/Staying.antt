@@ -1,33 +1,32 @@
 -- Whether the exits of a point lead into a table.
-use Rattle.std.specs.Prelude.{◌≡◌, ◌⊎◌, ℕ, ◌<◌, List, map, IsTrue, Contains}
+use Rattle.std.specs.Prelude.{◌≡◌, ◌⊎◌, ⊤, ℕ, ◌<◌, List, length, map, IsTrue, Contains}
 use Rattle.osek_standard.specs.{declared.{app.App.{App}, point.Point.{Point}}, Points.{point_number}}
-use Rattle.abstract_state.specs.declared.value.PartValue.{PartValue}
+use Rattle.abstract_state.specs.declared.{value.PartValue.{PartValue}, table.TableRow.{TableRow}}
 use Rattle.abstract_state.specs.{Components.{component_count}, Tables.{Sets, set_at, is_member}}
 use Rattle.flow_exits.specs.declared.exit.Exit.{Exit}
 use Rattle.numbered_sets.specs.declared.{numbered_entry.NumberedEntry.{NumberedEntry}, table.NumberedRow.{NumberedRow}}
-use Rattle.numbered_sets.specs.{NumberedEntries.{IsBelowNumbers}, Within.{HasNumberBeside}}
+use Rattle.numbered_sets.specs.{NumberedEntries.{IsBelowNumbers}, Within.{HasNumberBeside}, PlainTables.{row_at}}
 use Rattle.flow_rules.specs.{declared.group.{NumberEnd.{NumberEnd}, Ends.{Ends}, ExitGroup.{ExitGroup}}, Groups.{holding}}
 use Rattle.flow_rules.specs.declared.group.Ends.TheVariants as ends
 use Rattle.flow_check.specs.Rows.{IsRowWith, HasNoRowWith}
 
 -- ---- by values
 
--- The table has an entry at the exit's point, with all of its values.
-pub record IsExitIn (app : App) (table : Sets) (x : Exit) : Type 0 where
-  pub entry : IsTrue (table.entry x.target)
-  pub has : (c : ℕ) (v : PartValue) → c < component_count app → IsTrue (is_member (set_at x.entry c) v) → IsTrue (table.has x.target c v)
-
--- it has a value that the table lacks there
-pub record LacksValue (app : App) (table : Sets) (x : Exit) : Type 0 where
+-- the row has a value that the table lacks at its point
+pub record LacksValue (app : App) (table : Sets) (row : TableRow) : Type 0 where
   pub component : ℕ
   pub value : PartValue
   pub known : component < component_count app
-  pub member : IsTrue (is_member (set_at x.entry component) value)
-  pub lacks : IsTrue (table.has x.target component value) → ⊥
+  pub member : IsTrue (is_member (set_at row.entry component) value)
+  pub lacks : IsTrue (table.has row.point component value) → ⊥
 
--- The table has no entry there, or it lacks a value of the exit.
-abbrev pub IsExitOut : App → Sets → Exit → Type 0
-IsExitOut app table x = (IsTrue (table.entry x.target) → ⊥) ⊎ LacksValue app table x
+-- The table has no entry at the row's point, or it lacks a value of the row there.
+abbrev pub IsRowOut : App → Sets → TableRow → Type 0
+IsRowOut app table row = (IsTrue (table.entry row.point) → ⊥) ⊎ LacksValue app table row
+
+-- the row of an exit
+abbrev pub exit_row : Exit → TableRow
+exit_row x = row_at x.target x.entry
 
 -- ---- by numbers
 
@@ -43,6 +42,11 @@ end_at p entry = record { target = p; entry = entry }
 abbrev pub ends_by : NumberedEntry → Ends → List NumberedEnd
 ends_by entry (ends.At points) = map (λ (p : Point). end_at p entry) points
 ends_by entry (ends.With c xs) = map (λ (x : NumberEnd). end_at x.target (holding entry c x.number)) xs
+
+-- the component whose values the ends tell apart has a set
+abbrev pub HasSetFor : NumberedEntry → Ends → Type 0
+HasSetFor entry (ends.At points) = ⊤
+HasSetFor entry (ends.With c xs) = c < length entry.sets
 
 -- its point has a row, with all of its numbers
 pub record IsIn (rows : List NumberedRow) (x : NumberedEnd) : Type 0 where

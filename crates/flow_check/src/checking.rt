@@ -3,13 +3,13 @@ ghost use Rattle.std.specs.Prelude.{◌≡◌, ◌<◌, List, length, IfOk};
 ghost use Rattle.osek_values.specs.declared.{event.Event.{Event}, numbers.ModeNo.{ModeNo}};
 ghost use Rattle.image_model.specs.Laws.{IsKernelsRun};
 ghost use Rattle.abstract_state.specs.{Tables.{sets_of}, Written.{IsWritten}};
-ghost use Rattle.flow_check.specs.{declared.verdict.Verdict.TheVariants as verdict, Verdicts.{IsVerdict}};
+ghost use Rattle.flow_check.specs.declared.verdict.Verdict.TheVariants as verdict;
+ghost use Rattle.flow_check.specs.Verdicts.{IsVerdict};
 
 use crate::fitting::verdict_by;
-use crate::flow::{Flow, flow};
+use crate::flow::{Flow, flow_of};
 use crate::starting::first_start_out;
 use crate::verdict::Verdict;
-use abstract_state::laws::fitting_images_are_the_kernel;
 use image_model::Image;
 use numbered_sets::Table;
 use osek_values::{Memory, ModeNo};
@@ -22,7 +22,6 @@ pub fn check(alloc: Global, image: &Image, table: &Table) -> Result<Verdict, Mem
     ensures verdict { IfOk result (IsVerdict image.now (sets_of table.now)) }
     ensures kernel { IfOk result (λ said. said ≡ verdict.Yes → (mode : ModeNo) (es : List Event) → mode.0 < length image.now.app.modes → IsKernelsRun image.now mode es) }
 {
-    fitting_images_are_the_kernel();
     let app = &image.app;
     let numbered = table.numbered_rows(alloc)?;
     let rows = numbered.rows.as_slice();
@@ -33,7 +32,7 @@ pub fn check(alloc: Global, image: &Image, table: &Table) -> Result<Verdict, Mem
     if let Some(mode) = first_start_out(alloc, app, rows, &mut pool)? {
         return Ok(Verdict::N1(mode));
     }
-    match flow(alloc, app, rows, &mut pool)? {
+    match flow_of(alloc, app, rows, &mut pool)? {
         Flow::Leaves(point) => Ok(Verdict::N2(point)),
         Flow::Stays(found) => Ok(verdict_by(image, found.as_slice())),
     }

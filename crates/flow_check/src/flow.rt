@@ -24,7 +24,7 @@ pub enum Flow {
 }
 
 /// Where the steps from the states of the table of these rows lead: one evaluation a row.
-pub(crate) fn flow(
+pub(crate) fn flow_of(
     alloc: Global,
     app: &App,
     rows: &[NumberedRow],
@@ -39,7 +39,8 @@ pub(crate) fn flow(
     for row in rows {
         let groups = row_groups(alloc, app, row, pool, &mut levels)?;
         pool.are_values();
-        if !all_stay(alloc, groups.as_slice(), rows)? {
+        let stay = all_stay(alloc, groups.as_slice(), rows)?;
+        if !stay {
             return Ok(Flow::Leaves(row.point));
         }
         add_groups(row.point, groups.as_slice(), &mut sites);

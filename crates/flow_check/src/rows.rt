@@ -45,5 +45,6 @@ pub(crate) fn row_groups(
     ensures exits { IfOk result (λ groups. AreExitsOf app.now (plain_row pool.old row.now) (all_exits pool.new groups.items)) }
 {
     steps_end_at_exits();
-    exit_groups(alloc, app, row.point, &row.entry, pool, levels)
+    let groups = exit_groups(alloc, app, row.point, &row.entry, pool, levels)?;
+    Ok(groups)
 }

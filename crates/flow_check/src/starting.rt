@@ -27,7 +27,8 @@ pub(crate) fn first_start_out(
 {
     for mode in 0..app.modes.len() {
         let mode = ModeNo(mode as u8);
-        if !is_start_in(alloc, app, mode, rows, pool)? {
+        let is_in = is_start_in(alloc, app, mode, rows, pool)?;
+        if !is_in {
             return Ok(Some(mode));
         }
     }

@@ -1,7 +1,8 @@
 //! Whether the exits of a point lead into the rows of a table.
-ghost use Rattle.std.specs.{Prelude.{◌≡◌, ◌<◌, length, IfOk}, Bool.{OnTrue, OnFalse}};
-ghost use Rattle.flow_rules.specs.declared.group.Ends.TheVariants as ends;
-ghost use Rattle.flow_check.specs.{Rows.{AreInOrder}, Staying.{IsIn, IsOut, AreIn, IsSomeOut, AreAllIn, IsSomeGroupOut, end_at, ends_by}};
+ghost use Rattle.std.specs.{Prelude.{◌≡◌, ◌<◌, length, Contains, IfOk}, Bool.{OnTrue, OnFalse}};
+ghost use Rattle.flow_rules.specs.declared.group.ExitGroup.{ExitGroup};
+ghost use Rattle.flow_rules.specs.declared.group.Ends.TheVariants as ends_of;
+ghost use Rattle.flow_check.specs.{Rows.{AreInOrder}, Staying.{IsIn, IsOut, AreIn, IsSomeOut, AreAllIn, IsSomeGroupOut, HasSetFor, end_at, ends_by}};
 
 use crate::rows::row_at;
 use abstract_state::Point;
@@ -16,12 +17,14 @@ pub(crate) fn all_stay(
     groups: &[ExitGroup],
     rows: &[NumberedRow],
 ) -> Result<bool, Memory>
-    requires { AreInOrder rows.now }
+    requires sets { (g : ExitGroup) → Contains groups.now g → HasSetFor g.entry g.ends }
+    requires order { AreInOrder rows.now }
     ensures stay { IfOk result (λ stay. OnTrue stay (AreAllIn rows.now groups.now)) }
     ensures out { IfOk result (λ stay. OnFalse stay (IsSomeGroupOut rows.now groups.now)) }
 {
     for group in groups {
-        if !stays(alloc, group, rows)? {
+        let stay = stays(alloc, group, rows)?;
+        if !stay {
             return Ok(false);
         }
     }
@@ -29,7 +32,8 @@ pub(crate) fn all_stay(
 }
 
 fn stays(alloc: Global, group: &ExitGroup, rows: &[NumberedRow]) -> Result<bool, Memory>
-    requires { AreInOrder rows.now }
+    requires set { HasSetFor group.now.entry group.now.ends }
+    requires order { AreInOrder rows.now }
     ensures stay { IfOk result (λ stay. OnTrue stay (AreIn rows.now (ends_by group.now.entry group.now.ends))) }
     ensures out { IfOk result (λ stay. OnFalse stay (IsSomeOut rows.now (ends_by group.now.entry group.now.ends))) }
 {
@@ -45,8 +49,8 @@ fn stays(alloc: Global, group: &ExitGroup, rows: &[NumberedRow]) -> Result<bool,
 // at each of these points, with all numbers
 fn all_at(points: &[Point], entry: &NumberedEntry, rows: &[NumberedRow]) -> bool
     requires { AreInOrder rows.now }
-    ensures stay { OnTrue result (AreIn rows.now (ends_by entry.now (ends.At points.now))) }
-    ensures out { OnFalse result (IsSomeOut rows.now (ends_by entry.now (ends.At points.now))) }
+    ensures stay { OnTrue result (AreIn rows.now (ends_by entry.now (ends_of.At points.now))) }
+    ensures out { OnFalse result (IsSomeOut rows.now (ends_by entry.now (ends_of.At points.now))) }
 {
     for point in points {
         if !is_in(*point, entry, rows) {
@@ -65,8 +69,8 @@ fn all_with(
 ) -> Result<bool, Memory>
     requires component { component < length entry.sets }
     requires order { AreInOrder rows.now }
-    ensures stay { IfOk result (λ stay. OnTrue stay (AreIn rows.now (ends_by entry (ends.With component ends.now)))) }
-    ensures out { IfOk result (λ stay. OnFalse stay (IsSomeOut rows.now (ends_by entry (ends.With component ends.now)))) }
+    ensures stay { IfOk result (λ stay. OnTrue stay (AreIn rows.now (ends_by entry (ends_of.With component ends.now)))) }
+    ensures out { IfOk result (λ stay. OnFalse stay (IsSomeOut rows.now (ends_by entry (ends_of.With component ends.now)))) }
 {
     let mut held = entry;
     for end in ends {

@@ -2,9 +2,9 @@ use Rattle.std.proofs.Common.{◌<◌, List, length, take, sym, subst, arith}
 use Rattle.abstract_state.specs.declared.table.TableRow.{TableRow}
 use Rattle.numbered_sets.proofs.NumberingLaws.{longer_onward}
 use Rattle.numbered_sets.specs.PlainTables.{plain_row, AreRowsFor}
-use Rattle.numbered_sets.proofs.{RowsByNumber.{as_many, row_known, row_is, row_listed}, WrittenRows.{row_there, row_allowed, row_filled, pool_has_tasks}}
+use Rattle.numbered_sets.proofs.{RowsByNumber.{as_many, row_known, row_is, row_listed}, WrittenRows.{pool_has_tasks}}
 use Rattle.flow_check.specs.Outcomes.{AreFound}
-use Rattle.flow_check.proofs.RowOutcomes.{rows_more}
+use Rattle.flow_check.proofs.{RowOutcomes.{rows_more}, TableRows.{row_proper}}
 use Rattle.flow_check.proofs.outcomes.findings.Goals as goal
 
 pub new-requires : goal.new-requires
@@ -17,24 +17,11 @@ add_row-requires-clause-numbers c =
     let are = subst (AreRowsFor c.args.table.now.rows c.in_ok-numbered.numbered.pool) (sym c.as_slice-row-items.ensures) c.in_ok-numbered.ensures in
     row_known c.args.table.now.rows c.in_ok-numbered.numbered.pool c.as_slice-row-items.result.now are c.loop-row.pool c.loop-row.invariant.0 c.loop-row.row-index c.row-item.result c.loop-row-test.true c.row-item.is
 
-pub add_row-requires-clause-row : goal.add_row-requires-clause-row
-add_row-requires-clause-row c =
+pub add_row-requires-clause-proper : goal.add_row-requires-clause-proper
+add_row-requires-clause-proper c =
     let are = subst (AreRowsFor c.args.table.now.rows c.in_ok-numbered.numbered.pool) (sym c.as_slice-row-items.ensures) c.in_ok-numbered.ensures in
     let listed = row_listed c.args.table.now.rows c.in_ok-numbered.numbered.pool c.as_slice-row-items.result.now are c.loop-row.pool c.loop-row.invariant.0 c.loop-row.row-index c.row-item.result c.loop-row-test.true c.row-item.is in
-    row_there c.args.app.now c.args.table.now c.requires (plain_row c.loop-row.pool c.row-item.result) listed
-
-pub add_row-requires-clause-allowed : goal.add_row-requires-clause-allowed
-add_row-requires-clause-allowed c =
-    let are = subst (AreRowsFor c.args.table.now.rows c.in_ok-numbered.numbered.pool) (sym c.as_slice-row-items.ensures) c.in_ok-numbered.ensures in
-    let listed = row_listed c.args.table.now.rows c.in_ok-numbered.numbered.pool c.as_slice-row-items.result.now are c.loop-row.pool c.loop-row.invariant.0 c.loop-row.row-index c.row-item.result c.loop-row-test.true c.row-item.is in
-    row_allowed c.args.app.now c.args.table.now c.requires (plain_row c.loop-row.pool c.row-item.result) listed
-
-pub add_row-requires-clause-filled : goal.add_row-requires-clause-filled
-add_row-requires-clause-filled c = λ k lt.
-    let are = subst (AreRowsFor c.args.table.now.rows c.in_ok-numbered.numbered.pool) (sym c.as_slice-row-items.ensures) c.in_ok-numbered.ensures in
-    let listed = row_listed c.args.table.now.rows c.in_ok-numbered.numbered.pool c.as_slice-row-items.result.now are c.loop-row.pool c.loop-row.invariant.0 c.loop-row.row-index c.row-item.result c.loop-row-test.true c.row-item.is in
-    let some = row_filled c.args.app.now c.args.table.now c.requires (plain_row c.loop-row.pool c.row-item.result) listed k lt in
-    record { value = some.0; member = some.1 }
+    row_proper c.args.app.now c.args.table.now c.requires (plain_row c.loop-row.pool c.row-item.result) listed
 
 pub loop-row-preserved : goal.loop-row-preserved
 loop-row-preserved c =
