@@ -56,7 +56,7 @@ loop-row-preserved c =
     let groups = c.in_ok-groups.groups.items in
     let all = subst (λ (gs : List ExitGroup). AreAllIn rows gs) c.as_slice.ensures.value (OnTrue_at c.if-not-stay.false c.in_ok-stay.ensures.stay) in
     let here : StaysAt app (sets_of (plain_table first rows)) row.point = stays_there app first rows c.requires.rows pool longer k row lt is after c.row_groups.ensures.pool groups exits all in
-    let its = subst (λ (gs : List ExitGroup). AreExitsOf app (plain_row pool row) (all_exits after gs)) (sym c.as_slice-2.ensures.value) exits in
+    let its = subst (λ (gs : List ExitGroup). AreExitsOf app (plain_row pool row) (all_exits after gs)) (sym c.as_slice-in-loop-row.ensures.value) exits in
     record {
       longer = longer_onward first pool after longer c.row_groups.ensures.pool;
       levels = c.in_ok-groups.ensures.levels;

@@ -13,7 +13,7 @@ loop-end-init c = record { long = c.requires.component; alike = λ m. refl; each
 pub returns-then-not-is_in-clause-out : goal.returns-then-not-is_in-clause-out
 returns-then-not-is_in-clause-out c =
     let x : NumberEnd = get_or c.args.ends.now c.loop-end.end-index (record { number = 0; target = point.Halted }) in
-    let here_is = get_or_default c.args.ends.now c.loop-end.end-index (record { number = 0; target = point.Halted }) x c.loop-end-test.true in
+    let here_is = get_or_default c.args.ends.now c.loop-end.end-index x (record { number = 0; target = point.Halted }) c.loop-end-test.true in
     let entry = c.args.entry in
     let is = now_holds entry c.loop-end.held c.args.component x.number c.requires.component c.loop-end.invariant.alike c.hold_only.new.self c.in_ok-hold_only.ensures.set in
     some_out c.args.rows.now (λ (y : NumberEnd). end_at y.target (holding entry c.args.component y.number)) c.args.ends.now c.loop-end.end-index x c.loop-end-test.true here_is
@@ -22,7 +22,7 @@ returns-then-not-is_in-clause-out c =
 pub loop-end-preserved : goal.loop-end-preserved
 loop-end-preserved c =
     let x : NumberEnd = get_or c.args.ends.now c.loop-end.end-index (record { number = 0; target = point.Halted }) in
-    let here_is = get_or_default c.args.ends.now c.loop-end.end-index (record { number = 0; target = point.Halted }) x c.loop-end-test.true in
+    let here_is = get_or_default c.args.ends.now c.loop-end.end-index x (record { number = 0; target = point.Halted }) c.loop-end-test.true in
     let entry = c.args.entry in
     let i = c.loop-end.end-index in
     let f = λ (y : NumberEnd). end_at y.target (holding entry c.args.component y.number) in
