@@ -1,11 +1,11 @@
 -- What is said of an image and a table, by what is found of the starts, of the steps and of the sites.
-use Rattle.std.proofs.Common.{◌≡◌, ◌<◌, ℕ, List, [], length, refl, sym, ap, subst, ◌∙◌, arith}
+use Rattle.std.proofs.Common.{◌≡◌, ◌<◌, List, length, refl, sym, ap, subst, ◌∙◌, arith}
 use Rattle.std.specs.declared.option.Option.{Option}
 use Rattle.std.proofs.lemmas.List.{length-map}
 use Rattle.osek_values.specs.{Numbers.{mode_no}, declared.{event.Event.{Event}, numbers.ModeNo.{ModeNo}}}
 use Rattle.osek_standard.specs.{declared.point.Point.{Point}, Kernel.{start}, Points.{point_of}}
 use Rattle.image_model.specs.{declared.image.Image.{Image}, Laws.{IsKernelsRun}}
-use Rattle.abstract_state.specs.{declared.table.{TableRow.{TableRow}, PlainTable.{PlainTable}}, Tables.{Inductive, sets_of}, Written.{IsWritten}}
+use Rattle.abstract_state.specs.{declared.table.{PlainTable.{PlainTable}}, Tables.{Inductive, sets_of}, Written.{IsWritten}}
 use Rattle.abstract_state.proofs.{EqualityLaws.{written_entry}, ImageLaws.{fitting_run}}
 use Rattle.numbered_sets.specs.{declared.table.NumberedRow.{NumberedRow}, Pools.{Values, IsLonger}, PlainTables.{plain_row, plain_table, AreRowsFor}}
 use Rattle.flow_check.specs.{declared.{found.Findings.{Findings}, verdict.Verdict.{Verdict}}, Rows.{AreRowsFrom}, Outcomes.{AreFound}, Flows.{IsFlow}}

@@ -1,5 +1,5 @@
 -- The sites of an image by what is found over the rows of a table: which fit, and which is the first that doesn't.
-use Rattle.std.proofs.Common.{◌≡◌, ℕ, ◌<◌, ◌≤◌, Bool, true, List, length, get_or, IsTrue, Some, None, refl, sym, ap, subst, ◌∙◌, inl, inr, arith}
+use Rattle.std.proofs.Common.{◌≡◌, ℕ, ◌<◌, ◌≤◌, List, length, get_or, Some, None, refl, sym, ap, subst, ◌∙◌, inl, inr, arith}
 use Rattle.std.specs.{Prelude.{option_map}, declared.option.Option.{Option}}
 use Rattle.std.proofs.lemmas.{Bool.{cases_lt}, List.{get_or_past}}
 use Rattle.osek_values.specs.declared.numbers.BlockNo.{BlockNo}

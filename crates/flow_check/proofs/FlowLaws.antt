@@ -1,14 +1,14 @@
 -- The rows of a table one after another: whether the steps from the first ones stay in it, and what is found over them.
-use Rattle.std.proofs.Common.{◌≡◌, ℕ, ◌+◌, ◌<◌, ◌≤◌, List, [], ◌∷◌, ◌++◌, length, map, take, get_or, IsTrue, refl, sym, ap, subst, ◌∙◌, inl, inr, arith, All}
+use Rattle.std.proofs.Common.{◌≡◌, ℕ, ◌+◌, ◌<◌, ◌≤◌, List, [], ◌∷◌, ◌++◌, length, map, take, get_or, IsTrue, sym, ap, subst, ◌∙◌, inl, inr, arith, All}
 use Rattle.std.specs.{Prelude.{Contains}, declared.option.Option.{Option}}
 use Rattle.std.proofs.lemmas.{Bool.{cases_lt, cases_order}, List.{get_or-map, get_or_default, length-map, take_all}}
 use Rattle.osek_standard.specs.{declared.{app.App.{App}, point.Point.{Point}}, Points.{point_of, point_number}}
-use Rattle.abstract_state.specs.{declared.table.{TableRow.{TableRow}, PlainTable.{PlainTable}}, Tables.{sets_of, HasRow}}
+use Rattle.abstract_state.specs.{declared.table.{TableRow.{TableRow}, PlainTable.{PlainTable}}, Tables.{sets_of}}
 use Rattle.abstract_state.proofs.EqualityLaws.{written_entry}
 use Rattle.numbered_sets.specs.{declared.table.NumberedRow.{NumberedRow}, Pools.{Values, AreValues, IsLonger}, Views.{AreNumbersOf}, PlainTables.{plain_row, plain_rows, plain_table}}
 use Rattle.numbered_sets.proofs.NumberingLaws.{longer_onward}
 use Rattle.flow_rules.specs.{declared.{group.ExitGroup.{ExitGroup}, levels.Levels.{Levels}}, Groups.{all_exits, AreKnownGroups}, Levels.{AreLevels}, Rows.{IsProperRow}}
-use Rattle.flow_check.specs.{declared.{found.Findings.{Findings}, flow.Flow.{Flow}}, Rows.{number_of, AreRowsFrom, AreExitsOf}, Staying.{AreAllIn, IsSomeGroupOut}}
+use Rattle.flow_check.specs.{declared.{found.Findings.{Findings}}, Rows.{number_of, AreRowsFrom, AreExitsOf}, Staying.{AreAllIn, IsSomeGroupOut}}
 use Rattle.flow_check.specs.declared.flow.Flow.TheVariants as flow
 use Rattle.flow_check.specs.{Outcomes.{AreFound}, Verdicts.{Leaves}, Flows.{StaysAt, IsFlow}}
 use Rattle.flow_check.proofs.{RowOutcomes.{rows_more}, TableRows.{same_row_then, same_table, rows_grown, listed_plain, in_order, plain_proper}, StayLaws.{row_stays, row_leaves}}

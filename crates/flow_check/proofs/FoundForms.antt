@@ -1,10 +1,10 @@
 -- What is found at a block over the rows of a written table is what the table dictates there.
-use Rattle.std.proofs.Common.{◌≡◌, ℕ, Bool, IsTrue, Some, None, refl, sym, ap, subst, inl, inr}
+use Rattle.std.proofs.Common.{◌≡◌, ℕ, Bool, Some, None, refl, sym, ap, subst, inl, inr}
 use Rattle.std.specs.declared.option.Option.{Option}
 use Rattle.osek_values.specs.{Numbers.{block_no}, declared.{status.Status.{Status}, numbers.BlockNo.{BlockNo}}}
 use Rattle.osek_standard.specs.declared.{app.App.{App}, state.{State.{State}, Processor.{Processor}}, point.Point.{Point}}
 use Rattle.osek_standard.specs.declared.state.Processor.TheVariants as processor
-use Rattle.osek_standard.specs.{States.{here}, Effects.{effect}, Dispatch.{Outcome, outcome}, Points.{StandsAt, point_at, point_of}, Well.{IsActive}}
+use Rattle.osek_standard.specs.{States.{here}, Dispatch.{Outcome, outcome}, Points.{StandsAt, point_at, point_of}, Well.{IsActive}}
 use Rattle.image_model.specs.declared.site.Known.{Known}
 use Rattle.image_model.specs.declared.site.Known.TheVariants as known
 use Rattle.abstract_state.specs.{declared.table.PlainTable.{PlainTable}, Tables.{Sets, In, sets_of}, Written.{IsWritten}, Forms.{Occurs, FormOf, Noted, KnownOf}}

@@ -1,12 +1,12 @@
 -- The exits of groups by the ends of the groups.
-use Rattle.std.proofs.Common.{◌≡◌, ℕ, ◌<◌, List, [], ◌∷◌, length, map, get_or, refl, sym, ap, ap₂, subst, ◌∙◌}
-use Rattle.std.specs.{Prelude.{Contains}, List.{flat_map}}
+use Rattle.std.proofs.Common.{◌≡◌, ℕ, ◌<◌, List, [], ◌∷◌, length, map, get_or, refl, sym, ap, subst, ◌∙◌}
+use Rattle.std.specs.{Prelude.{Contains}}
 use Rattle.std.proofs.lemmas.List.{get_or_default}
 use Rattle.osek_standard.specs.declared.point.Point.{Point}
 use Rattle.osek_standard.proofs.Members.{contained_among, among_contained, among_map, map_among, among_flat_map, flat_map_among}
 use Rattle.flow_exits.specs.declared.exit.Exit.{Exit}
 use Rattle.numbered_sets.specs.{declared.table.NumberedRow.{NumberedRow}, Pools.{Values}, Views.{AreNumbersOf}}
-use Rattle.flow_rules.specs.{declared.group.{NumberEnd.{NumberEnd}, Ends.{Ends}, ExitGroup.{ExitGroup}}, Groups.{holding, exit_at, exits_by, exits_of, all_exits, IsKnownGroup, AreKnownEnds}}
+use Rattle.flow_rules.specs.{declared.group.{NumberEnd.{NumberEnd}, Ends.{Ends}, ExitGroup.{ExitGroup}}, Groups.{holding, exit_at, exits_by, exits_of, all_exits, AreKnownEnds}}
 use Rattle.flow_rules.specs.declared.group.Ends.TheVariants as ends
 use Rattle.flow_rules.proofs.GrowingPools.{held_known}
 use Rattle.flow_check.specs.Staying.{NumberedEnd, end_at, ends_by, IsIn, IsOut, AreIn, IsSomeOut, HasSetFor}

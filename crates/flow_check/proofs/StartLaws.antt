@@ -1,5 +1,5 @@
 -- The starts against the rows of a table.
-use Rattle.std.proofs.Common.{◌≡◌, ℕ, ◌<◌, Bool, true, false, List, length, IsTrue, refl, sym, ap, subst, ◌∙◌, inl, inr, All}
+use Rattle.std.proofs.Common.{◌≡◌, ◌<◌, Bool, true, false, List, length, IsTrue, sym, subst, inl, inr, All}
 use Rattle.std.specs.{Prelude.{Contains}, Bool.{OnTrue, OnFalse}}
 use Rattle.osek_values.specs.declared.numbers.ModeNo.{ModeNo}
 use Rattle.osek_standard.specs.{declared.{app.App.{App}, state.State.{State}, point.Point.{Point}}, Kernel.{start}, Points.{point_of}}

@@ -6,17 +6,17 @@ use Rattle.osek_values.specs.declared.event.Event.{Event}
 use Rattle.osek_standard.specs.{declared.{app.App.{App}, state.State.{State}, point.Point.{Point}}, Kernel.{step}, Outcomes.{Mark, Silent, Arrived, Did, shows}, Points.{point_of, point_number, IsPoint}}
 use Rattle.osek_standard.proofs.StepKeeps.{step_keeps}
 use Rattle.abstract_state.specs.declared.{value.PartValue.{PartValue, TheVariants.{OfAlarm}}, table.{PlainEntry.{PlainEntry}, TableRow.{TableRow}, PlainTable.{PlainTable}}}
-use Rattle.abstract_state.specs.{Components.{component_count, abstract_of}, Tables.{Sets, In, set_at, is_member, sets_of}, Written.{IsWritten}}
+use Rattle.abstract_state.specs.{Components.{component_count, abstract_of}, Tables.{In, set_at, is_member, sets_of}, Written.{IsWritten}}
 use Rattle.abstract_state.proofs.{EqualityLaws.{written_entry}, AlikeLaws.{in_alike}, MarkLaws.{shown_silent}, AllowedLaws.{well_point}}
 use Rattle.flow_model.specs.Effects.{AreIn, IsAt}
-use Rattle.flow_exits.specs.{declared.exit.Exit.{Exit}, Exits.{CoverSteps, IsFilled, AreExact, IsStepTo}}
-use Rattle.numbered_sets.specs.{declared.{numbered_entry.NumberedEntry.{NumberedEntry}, table.NumberedRow.{NumberedRow}}, Numbers.{has_number}, NumberedEntries.{numbers_at}}
+use Rattle.flow_exits.specs.{declared.exit.Exit.{Exit}, Exits.{IsFilled, IsStepTo}}
+use Rattle.numbered_sets.specs.{declared.{table.NumberedRow.{NumberedRow}}, Numbers.{has_number}, NumberedEntries.{numbers_at}}
 use Rattle.numbered_sets.specs.{Pools.{Values, values_at, AreValues, IsNumberOf}, Views.{plain_entry, AreNumbersOf}, PlainTables.{row_at, plain_row, plain_table}}
 use Rattle.numbered_sets.proofs.{KnownNumbers.{order_onward, one_number}, ViewLaws.{values_of, same_domains}, WrittenRows.{row_entered, row_value, only_there}}
 use Rattle.flow_rules.specs.{declared.group.ExitGroup.{ExitGroup}, Groups.{all_exits, AreKnownGroups}, Rows.{IsRowIn}}
 use Rattle.flow_rules.proofs.{ProperRows.{set_known}, NumberLaws.{member_number, number_member}}
-use Rattle.flow_check.specs.{Rows.{AreRowsFrom, AreExitsOf}, Staying.{LacksValue, IsRowOut, exit_row, NumberedEnd, end_at, IsIn, IsOut, AreAllIn, IsSomeGroupOut}, Verdicts.{Leaves}, Flows.{StaysAt}}
-use Rattle.flow_check.proofs.{TableRows.{in_row, row_in, plain_listed, listed_plain, plain_proper, pool_is, row_point}, GroupEnds.{HasEnd, exit_end, end_exit, exit_by, end_known}}
+use Rattle.flow_check.specs.{Rows.{AreRowsFrom, AreExitsOf}, Staying.{IsRowOut, exit_row, NumberedEnd, IsIn, IsOut, AreAllIn, IsSomeGroupOut}, Verdicts.{Leaves}, Flows.{StaysAt}}
+use Rattle.flow_check.proofs.{TableRows.{in_row, row_in, plain_listed, listed_plain, pool_is, row_point}, GroupEnds.{HasEnd, exit_end, end_exit, exit_by, end_known}}
 
 -- ---- by number
 

@@ -1,17 +1,17 @@
 -- The rows of a written table by number, in the order of their points, beside a pool that grows.
-use Rattle.std.proofs.Common.{◌≡◌, ◌≢◌, ℕ, ◌+◌, ◌<◌, ◌≤◌, Bool, true, false, List, [], ◌∷◌, length, map, get_or, ltb, IsTrue, refl, sym, ap, ap₂, subst, ◌∙◌, inl, inr, arith}
+use Rattle.std.proofs.Common.{◌≡◌, ℕ, ◌<◌, true, false, List, [], ◌∷◌, length, get_or, ltb, IsTrue, refl, sym, ap, ap₂, subst, ◌∙◌, inl, inr, arith}
 use Rattle.std.specs.{Prelude.{Contains}, List.Sorted.{IsPartitionedBy, IsPartitionPoint}}
-use Rattle.std.proofs.lemmas.{Bool.{cases_eq, cases_lt, cases_order, lt-ltb, ltb-true, ltb-false}, List.{length-map, get_or-map, get_or_default}}
+use Rattle.std.proofs.lemmas.{Bool.{cases_eq, cases_order, lt-ltb, ltb-true, ltb-false}, List.{length-map, get_or-map, get_or_default}}
 use Rattle.osek_standard.specs.{declared.{app.App.{App}, state.State.{State}, point.Point.{Point}}, Points.{point_of, point_number, IsPoint}}
 use Rattle.osek_standard.proofs.{Members.{Among, contained_among, among_contained, among_map, map_among}, PointLaws.{one_number}}
-use Rattle.abstract_state.specs.declared.{value.{Domain.{Domain}, PartValue.{PartValue}}, table.{TableRow.{TableRow}, PlainTable.{PlainTable}}}
+use Rattle.abstract_state.specs.declared.{table.{TableRow.{TableRow}, PlainTable.{PlainTable}}}
 use Rattle.abstract_state.specs.{Components.{abstract_of}, Domains.{domains_of}, Tables.{In, sets_of}, Written.{IsWritten}}
 use Rattle.flow_model.specs.Effects.{IsAt}
-use Rattle.numbered_sets.specs.{declared.table.NumberedRow.{NumberedRow}, Pools.{Values, pool_domains, IsLonger}, Views.{plain_entry}, PlainTables.{row_at, plain_row, plain_rows, plain_table, AreRowsOf}}
+use Rattle.numbered_sets.specs.{declared.table.NumberedRow.{NumberedRow}, Pools.{Values, pool_domains, IsLonger}, PlainTables.{row_at, plain_row, plain_rows, plain_table, AreRowsOf}}
 use Rattle.numbered_sets.proofs.{ViewLaws.{same_view, still_known}, WrittenRows.{rows_ascend, row_there, row_entered, row_value, only_there, row_allowed, row_filled, number_domains_of}}
 use Rattle.flow_exits.specs.Exits.{IsFilled}
 use Rattle.flow_rules.specs.Rows.{IsProperRow}
-use Rattle.flow_check.specs.Rows.{number_of, AreInOrder, IsRowWith, HasNoRowWith, AreRowsFrom}
+use Rattle.flow_check.specs.Rows.{number_of, AreInOrder, HasNoRowWith, AreRowsFrom}
 
 -- ---- by value
 

@@ -1,5 +1,5 @@
 -- Whether the exits of a point lead into a table.
-use Rattle.std.specs.Prelude.{◌≡◌, ◌⊎◌, ⊤, ℕ, ◌<◌, List, length, map, IsTrue, Contains}
+use Rattle.std.specs.Prelude.{◌⊎◌, ⊤, ℕ, ◌<◌, List, length, map, IsTrue, Contains}
 use Rattle.osek_standard.specs.{declared.{app.App.{App}, point.Point.{Point}}, Points.{point_number}}
 use Rattle.abstract_state.specs.declared.{value.PartValue.{PartValue}, table.TableRow.{TableRow}}
 use Rattle.abstract_state.specs.{Components.{component_count}, Tables.{Sets, set_at, is_member}}

@@ -1,11 +1,11 @@
-use Rattle.std.proofs.Common.{◌≡◌, ◌∙◌, ◌<◌, List, length, Option, Some, None, sym, ap, subst}
+use Rattle.std.proofs.Common.{◌∙◌, List, length, Option, sym, ap, subst}
 use Rattle.std.specs.Prelude.{IfSome, IfNone}
 use Rattle.osek_values.specs.declared.numbers.ModeNo.{ModeNo}
 use Rattle.abstract_state.specs.Tables.{sets_of}
-use Rattle.numbered_sets.specs.{declared.table.NumberedRow.{NumberedRow}, PlainTables.{plain_table, AreRowsFor}}
-use Rattle.flow_check.specs.{declared.{flow.Flow.{Flow}, found.Findings.{Findings}}, Outcomes.{AreFound}, Flows.{IsFlow}, Verdicts.{StartsIn, IsFirstStartOut}}
+use Rattle.numbered_sets.specs.{PlainTables.{plain_table, AreRowsFor}}
+use Rattle.flow_check.specs.{declared.{found.Findings.{Findings}}, Outcomes.{AreFound}, Flows.{IsFlow}, Verdicts.{StartsIn, IsFirstStartOut}}
 use Rattle.flow_check.proofs.TableRows.{rows_grown}
-use Rattle.flow_check.proofs.CheckLaws.{rows_from, none_in, first_out, left, inductive, all_found, kernel_by}
+use Rattle.flow_check.proofs.CheckLaws.{rows_from, first_out, left, inductive, all_found, kernel_by}
 use Rattle.flow_check.proofs.checking.check.Goals as goal
 
 pub first_start_out-requires-clause-rows : goal.first_start_out-requires-clause-rows

@@ -1,6 +1,5 @@
 use Rattle.std.proofs.{Common.{◌≡◌, ◌<◌, ◌++◌, ◌∷◌, [], ℕ, List, length, take, get_or, inl, inr, refl, sym, ap, subst, ◌∙◌, arith}, lemmas.{Bool.{cases_lt, OnTrue_at, OnFalse_at}, List.{get_or_default}}}
 use Rattle.std.specs.Prelude.{Contains}
-use Rattle.osek_standard.specs.declared.point.Point.{Point}
 use Rattle.abstract_state.specs.{declared.table.TableRow.{TableRow}, Tables.{sets_of}}
 use Rattle.numbered_sets.specs.{declared.table.NumberedRow.{NumberedRow}, PlainTables.{plain_row, plain_rows, plain_table}}
 use Rattle.numbered_sets.proofs.{NumberingLaws.{longer_itself, longer_onward}, WrittenRows.{pool_has_tasks}}

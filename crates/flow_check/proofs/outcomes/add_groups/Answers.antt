@@ -1,4 +1,4 @@
-use Rattle.std.proofs.Common.{◌≡◌, ◌<◌, ◌++◌, ◌∷◌, [], ◌∙◌, ℕ, length, get_or, set, Some, None, sym, ap, subst, arith}
+use Rattle.std.proofs.Common.{◌≡◌, ◌<◌, ◌++◌, ◌∷◌, [], ◌∙◌, ℕ, length, get_or, set, Some, None, sym, ap, subst}
 use Rattle.osek_values.specs.{Numbers.{block_no}, declared.numbers.BlockNo.{BlockNo}}
 use Rattle.osek_standard.specs.{declared.point.Point.{Point}, Points.{StandsAt}}
 use Rattle.flow_rules.specs.Groups.{all_exits}

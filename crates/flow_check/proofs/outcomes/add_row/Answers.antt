@@ -1,4 +1,4 @@
-use Rattle.std.proofs.{Common.{◌≡◌, ◌<◌, List, length, refl, sym, subst, arith}, lemmas.Bool.{OnFalse_at}}
+use Rattle.std.proofs.{Common.{List, refl, sym, subst, arith}, lemmas.Bool.{OnFalse_at}}
 use Rattle.osek_values.specs.Numbers.{block_no}
 use Rattle.numbered_sets.specs.PlainTables.{plain_row}
 use Rattle.flow_rules.specs.{declared.group.ExitGroup.{ExitGroup}, Groups.{all_exits}}

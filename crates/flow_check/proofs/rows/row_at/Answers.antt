@@ -1,4 +1,4 @@
-use Rattle.std.proofs.{Common.{rules, ◌≡◌, ◌∙◌, ltb, sym, ap, arith}, lemmas.List.{get_or_default, Sorted.{IsPartitionPoint-from_clause}}}
+use Rattle.std.proofs.{Common.{rules, ◌∙◌, ltb, sym, ap, arith}, lemmas.List.{get_or_default, Sorted.{IsPartitionPoint-from_clause}}}
 use Rattle.osek_standard.specs.Points.{point_number}
 use Rattle.numbered_sets.specs.declared.table.NumberedRow.{NumberedRow}
 use Rattle.flow_check.specs.Rows.{number_of}

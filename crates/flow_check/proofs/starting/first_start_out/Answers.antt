@@ -1,5 +1,5 @@
-use Rattle.std.proofs.{Common.{◌≡◌, ℕ, ◌<◌, length, inl, inr, sym, subst, arith}, lemmas.Bool.{cases_lt, OnTrue_at, OnFalse_at}}
-use Rattle.osek_values.specs.{Numbers.{mode_no}, declared.numbers.ModeNo.{ModeNo}}
+use Rattle.std.proofs.{Common.{◌≡◌, ℕ, inl, inr, sym, subst, arith}, lemmas.Bool.{cases_lt, OnTrue_at, OnFalse_at}}
+use Rattle.osek_values.specs.{Numbers.{mode_no}}
 use Rattle.osek_standard.specs.Kernel.{start}
 use Rattle.abstract_state.specs.{declared.table.PlainTable.{PlainTable}, Tables.{In, sets_of}}
 use Rattle.numbered_sets.specs.PlainTables.{plain_table}

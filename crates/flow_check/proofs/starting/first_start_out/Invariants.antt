@@ -1,4 +1,3 @@
-use Rattle.osek_values.specs.declared.numbers.ModeNo.{ModeNo}
 use Rattle.abstract_state.specs.Tables.{sets_of}
 use Rattle.numbered_sets.specs.{Pools.{IsLonger}, PlainTables.{plain_table}}
 use Rattle.flow_check.specs.Verdicts.{StartsIn}

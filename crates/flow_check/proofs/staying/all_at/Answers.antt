@@ -1,4 +1,4 @@
-use Rattle.std.proofs.{Common.{◌≡◌, ℕ, get_or, inl, inr, sym, ap, subst, ◌∙◌, arith}, lemmas.{Bool.{cases_lt, OnTrue_at, OnFalse_at}, List.{get_or_default}}}
+use Rattle.std.proofs.{Common.{◌≡◌, ℕ, get_or, inl, inr, sym, subst, arith}, lemmas.{Bool.{cases_lt, OnTrue_at, OnFalse_at}, List.{get_or_default}}}
 use Rattle.osek_standard.specs.declared.point.Point.{Point}
 use Rattle.osek_standard.specs.declared.point.Point.TheVariants as point
 use Rattle.flow_check.specs.Staying.{IsIn, end_at}

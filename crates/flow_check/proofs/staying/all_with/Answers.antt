@@ -1,4 +1,4 @@
-use Rattle.std.proofs.{Common.{◌≡◌, ℕ, get_or, inl, inr, refl, sym, ap, subst, ◌∙◌, arith}, lemmas.{Bool.{cases_lt, OnTrue_at, OnFalse_at}, List.{get_or_default}}}
+use Rattle.std.proofs.{Common.{◌≡◌, ℕ, get_or, inl, inr, refl, sym, subst, arith}, lemmas.{Bool.{cases_lt, OnTrue_at, OnFalse_at}, List.{get_or_default}}}
 use Rattle.osek_standard.specs.declared.point.Point.TheVariants as point
 use Rattle.numbered_sets.specs.declared.numbered_entry.NumberedEntry.{NumberedEntry}
 use Rattle.flow_rules.specs.{declared.group.NumberEnd.{NumberEnd}, Groups.{holding}}
