@@ -1,11 +1,13 @@
 //! What is said of the images that are tailored to worked applications, and of their general images, with the least tables.
 ghost use Rattle.std.specs.Prelude.{◌≡◌, ◌<◌, IfOk};
 ghost use Rattle.osek_standard.specs.Versions.{FitsVersion1};
+ghost use Rattle.abstract_state.specs.Written.{IsWritten};
 
 use call_tailor::tailor;
 use flow_check::{Verdict, check};
 use front_end::{TextError, read_app, read_system};
 use image_model::{Image, general};
+use numbered_sets::Table;
 use osek_standard::App;
 use osek_values::{Memory, Steps};
 use state_flow::solve;
@@ -62,6 +64,18 @@ fn read(alloc: Global, case: &Case) -> Result<App, TextError>
     read_app(alloc, system, case.code)
 }
 
+/// The image of an application by its table, or the general one.
+fn image_of(alloc: Global, app: App, table: &Table, kind: Kind) -> Result<Image, Memory>
+    requires written { IsWritten app table.now }
+    requires version { FitsVersion1 app.tasks }
+    ensures { IfOk result (λ image. image.app ≡ app) }
+{
+    match kind {
+        Kind::Tailored => tailor(alloc, app, table),
+        Kind::General => general(alloc, app),
+    }
+}
+
 /// What is said with the least table of an application.
 fn said_by<L: Ledger>(alloc: Global, app: App, kind: Kind, blank: Blank) -> Result<Verdict, Memory>
     requires name { blank.name ≡ L.name }
@@ -71,10 +85,7 @@ fn said_by<L: Ledger>(alloc: Global, app: App, kind: Kind, blank: Blank) -> Resu
 {
     let mut steps = Steps::<L>::of(blank);
     let table = solve(alloc, &app, &mut steps)?;
-    let image = match kind {
-        Kind::Tailored => tailor(alloc, app, &table)?,
-        Kind::General => general(alloc, app)?,
-    };
+    let image = image_of(alloc, app, &table, kind)?;
     let said = check(alloc, &image, &table)?;
     drop(image);
     drop(table);
