@@ -1,4 +1,1 @@
-pub mod Joining
-pub mod ExitOutcomes
-pub mod RowOutcomes
 pub mod DictatedForms

@@ -5,10 +5,9 @@ ghost use Rattle.osek_standard.specs.Versions.{FitsVersion1};
 ghost use Rattle.image_model.specs.declared.image.Version.TheVariants as version;
 ghost use Rattle.image_model.specs.Laws.{IsKernelsRun};
 ghost use Rattle.abstract_state.specs.{Tables.{Inductive, sets_of}, Written.{IsWritten}, Forms.{HasDictatedForms, HasDictatedStatuses}};
-ghost use Rattle.call_tailor.specs.Found.{site_of as site_by};
+ghost use Rattle.call_tailor.specs.Tailored.{site_of as site_by};
 
-use crate::found::Findings;
-use crate::outcomes::findings;
+use flow_check::{Findings, findings};
 use image_model::{Image, Site, Version};
 use numbered_sets::Table;
 use osek_standard::App;

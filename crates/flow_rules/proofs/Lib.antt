@@ -12,6 +12,7 @@ pub mod SetValues
 pub mod GroupLaws
 pub mod NumberLaws
 pub mod HeldLaws
+pub mod HeldNumbers
 pub mod ExitLaws
 pub mod BlockLaws
 pub mod LeftLaws

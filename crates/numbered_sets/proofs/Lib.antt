@@ -14,3 +14,4 @@ pub mod GrownPools
 pub mod CountedNumbers
 pub mod RowsByNumber
 pub mod WrittenRows
+pub mod WithinLaws

@@ -8,3 +8,4 @@ pub mod SetLists
 pub mod Views
 pub mod PlainTables
 pub mod Counts
+pub mod Within

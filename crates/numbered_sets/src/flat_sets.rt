@@ -13,11 +13,11 @@ use std::marker::Model;
 /// a word for each component: most tasks have no more values, and events and alarms have two. Further words are few.
 #[derive(Drop)]
 pub struct NumberedSets {
-    domains: Vec<Domain>,
-    low: Vec<u64>,
-    high: Vec<u64>,
+    pub(crate) domains: Vec<Domain>,
+    pub(crate) low: Vec<u64>,
+    pub(crate) high: Vec<u64>,
     // empty as long as no number is past the first 128
-    more: Seq<Vec<u64>>,
+    pub(crate) more: Seq<Vec<u64>>,
 }
 
 impl Model for NumberedSets {

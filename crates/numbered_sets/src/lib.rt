@@ -13,6 +13,7 @@ mod plain_form;
 mod pool;
 mod seen;
 mod table;
+mod within;
 
 pub use flat_sets::NumberedSets;
 pub use numbered_entry::NumberedEntry;

@@ -3,7 +3,8 @@ use Rattle.osek_values.specs.declared.{event.Event.{Event}, numbers.ModeNo.{Mode
 use Rattle.image_model.specs.{declared.{image.Image.{Image}, site.Site.{Site}}, Laws.{IsKernelsRun}, Sites.{AreSites}}
 use Rattle.abstract_state.specs.{Tables.{Sets, Inductive, sets_of}, Forms.{HasDictatedForms, HasDictatedStatuses}}
 use Rattle.abstract_state.proofs.ImageLaws.{runs_as_kernel, dictated_statuses as no_more_than_dictated}
-use Rattle.call_tailor.specs.{declared.found.Findings.{Findings}, Found.{site_of}}
+use Rattle.flow_check.specs.declared.found.Findings.{Findings}
+use Rattle.call_tailor.specs.Tailored.{site_of}
 use Rattle.call_tailor.proofs.DictatedForms.{are_sites, dictated_forms, dictated_statuses}
 use Rattle.call_tailor.proofs.tailoring.tailor.Goals as goal
 

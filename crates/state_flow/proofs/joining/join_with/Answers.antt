@@ -3,10 +3,10 @@ use Rattle.osek_standard.specs.declared.point.Point.TheVariants as point
 use Rattle.abstract_state.specs.declared.table.TableRow.{TableRow}
 use Rattle.numbered_sets.specs.{declared.numbered_entry.NumberedEntry.{NumberedEntry}, Views.{plain_entry, AreNumbersOf}, PlainTables.{row_at}}
 use Rattle.flow_rules.specs.declared.group.NumberEnd.{NumberEnd}
-use Rattle.flow_rules.proofs.GrowingPools.{held_known}
 use Rattle.flow_rules.specs.Rows.{IsProperRow}
 use Rattle.state_flow.specs.{Progress.{AreJoined}, PlainCells.{plain_cells}, ExitRows.{rows_with, AreRowsJoined}}
-use Rattle.state_flow.proofs.{HeldNumbers.{now_holds, still_alike, still_long}, ExitJoins.{joined_nothing, joined_more, cells_after, end_row, end_more, end_proper, end_listed}}
+use Rattle.flow_rules.proofs.{GrowingPools.{held_known}, HeldNumbers.{now_holds, still_alike, still_long}}
+use Rattle.state_flow.proofs.ExitJoins.{joined_nothing, joined_more, cells_after, end_row, end_more, end_proper, end_listed}
 use Rattle.state_flow.proofs.joining.join_with.Goals as goal
 
 pub loop-end-init : goal.loop-end-init

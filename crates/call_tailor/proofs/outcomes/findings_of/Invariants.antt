@@ -1,8 +1,0 @@
-use Rattle.std.proofs.Common.{List, take}
-use Rattle.numbered_sets.specs.Pools.{Values}
-use Rattle.flow_rules.specs.Groups.{all_exits}
-use Rattle.call_tailor.specs.Outcomes.{AreOfExits}
-use Rattle.call_tailor.proofs.outcomes.findings_of.Given as goal
-
-abbrev pub invariant-loop-group : goal.invariant-loop-group
-invariant-loop-group l = (pool : List Values) → AreOfExits (all_exits pool (take l.group-index l.group-items)) l.found

@@ -1,0 +1,119 @@
+//! What is said of the images that are tailored to worked applications, and of their general images, with the least tables.
+ghost use Rattle.std.specs.Prelude.{◌≡◌, ◌<◌, IfOk};
+ghost use Rattle.osek_standard.specs.Versions.{FitsVersion1};
+ghost use Rattle.abstract_state.specs.Written.{IsWritten};
+
+use call_tailor::tailor;
+use flow_check::{Verdict, check};
+use front_end::{TextError, read_app, read_system};
+use image_model::{Image, general};
+use numbered_sets::Table;
+use osek_standard::App;
+use osek_values::{Memory, Steps};
+use state_flow::solve;
+use std::alloc::Global;
+use std::marker::Brand;
+use std::sync::ledger::{Blank, Ledger};
+use std::test::*;
+
+/// Two texts of an application.
+struct Case {
+    oil: &'static [u8],
+    code: &'static [u8],
+}
+
+/// A task alone, a preemption, an interrupt, an event, alarms at one tick, a resource.
+const CASES: [Case; 6] = [
+    Case {
+        oil: b"CPU c { OS os; TASK T1 { PRIORITY = 1; AUTOSTART = TRUE; }; };",
+        code: b"TASK(T1) { TerminateTask(); }",
+    },
+    Case {
+        oil: b"CPU c { OS os; TASK T1 { PRIORITY = 1; AUTOSTART = TRUE; }; TASK T2 { PRIORITY = 2; }; };",
+        code: b"TASK(T1) { ActivateTask(T2); TerminateTask(); } TASK(T2) { TerminateTask(); }",
+    },
+    Case {
+        oil: b"CPU c { OS os; TASK T1 { PRIORITY = 2; AUTOSTART = TRUE; }; TASK T2 { PRIORITY = 1; }; ISR I { CATEGORY = 2; }; };",
+        code: b"TASK(T1) { TerminateTask(); } TASK(T2) { TerminateTask(); } ISR(I) { ActivateTask(T2); }",
+    },
+    Case {
+        oil: b"CPU c { OS os; EVENT E; TASK T1 { PRIORITY = 1; AUTOSTART = TRUE; }; TASK T2 { PRIORITY = 2; EVENT = E; }; };",
+        code: b"TASK(T1) { SetEvent(T2, E); ActivateTask(T2); SetEvent(T2, E); TerminateTask(); } TASK(T2) { if (?) { SetEvent(T2, E); } WaitEvent(E); TerminateTask(); }",
+    },
+    Case {
+        oil: b"CPU c { OS os; COUNTER C { MAXALLOWEDVALUE = 9; }; EVENT E; ALARM A1 { COUNTER = C; ACTION = ACTIVATETASK { TASK = T2; }; AUTOSTART = TRUE { ALARMTIME = 1; CYCLETIME = 0; }; }; ALARM A2 { COUNTER = C; ACTION = SETEVENT { TASK = T2; EVENT = E; }; AUTOSTART = TRUE { ALARMTIME = 1; CYCLETIME = 0; }; }; TASK T1 { PRIORITY = 1; AUTOSTART = TRUE; }; TASK T2 { PRIORITY = 2; EVENT = E; }; };",
+        code: b"TASK(T1) { while (1) { } } TASK(T2) { WaitEvent(E); }",
+    },
+    Case {
+        oil: b"CPU c { OS os; RESOURCE R { RESOURCEPROPERTY = STANDARD; }; TASK T1 { PRIORITY = 1; AUTOSTART = TRUE; RESOURCE = R; }; TASK T2 { PRIORITY = 2; RESOURCE = R; }; };",
+        code: b"TASK(T1) { GetResource(R); ActivateTask(T2); ReleaseResource(R); TerminateTask(); } TASK(T2) { GetResource(R); ReleaseResource(R); TerminateTask(); }",
+    },
+];
+
+/// The two images of an application.
+#[derive(Clone, Copy, PartialEq, Eq, Debug)]
+enum Kind {
+    Tailored,
+    General,
+}
+
+fn read(alloc: Global, case: &Case) -> Result<App, TextError>
+    ensures { IfOk result (λ app. FitsVersion1 app.tasks) }
+{
+    let system = read_system(alloc, case.oil)?;
+    read_app(alloc, system, case.code)
+}
+
+/// The image of an application by its table, or the general one.
+fn image_of(alloc: Global, app: App, table: &Table, kind: Kind) -> Result<Image, Memory>
+    requires written { IsWritten app table.now }
+    requires version { FitsVersion1 app.tasks }
+    ensures { IfOk result (λ image. image.app ≡ app) }
+{
+    match kind {
+        Kind::Tailored => tailor(alloc, app, table),
+        Kind::General => general(alloc, app),
+    }
+}
+
+/// What is said with the least table of an application.
+fn said_by<L: Ledger>(alloc: Global, app: App, kind: Kind, blank: Blank) -> Result<Verdict, Memory>
+    requires name { blank.name ≡ L.name }
+    requires parts { blank.parts ≡ L.parts }
+    requires some { 0 < L.parts }
+    requires version { FitsVersion1 app.tasks }
+{
+    let mut steps = Steps::<L>::of(blank);
+    let table = solve(alloc, &app, &mut steps)?;
+    let image = image_of(alloc, app, &table, kind)?;
+    let said = check(alloc, &image, &table)?;
+    drop(image);
+    drop(table);
+    Ok(said)
+}
+
+fn said_of(alloc: Global, case: &Case, kind: Kind) -> Result<Verdict, TextError> {
+    let app = read(alloc, case)?;
+    Ok(said_by::<Brand>(alloc, app, kind, Blank::new(1))?)
+}
+
+/// The number of the first case of which something else is said than yes, and that.
+fn first_denied(alloc: Global, kind: Kind) -> Option<(usize, Result<Verdict, TextError>)> {
+    for (number, case) in CASES.iter().enumerate() {
+        let said = said_of(alloc, case, kind);
+        if said != Ok(Verdict::Yes) {
+            return Some((number, said));
+        }
+    }
+    None
+}
+
+#[test]
+fn what_is_tailored_fits(rt: HostRuntime) {
+    assert_eq!(rt; first_denied(rt.alloc(), Kind::Tailored), None);
+}
+
+#[test]
+fn general_images_fit(rt: HostRuntime) {
+    assert_eq!(rt; first_denied(rt.alloc(), Kind::General), None);
+}

@@ -1,0 +1,12 @@
+pub mod Joining
+pub mod ExitOutcomes
+pub mod RowOutcomes
+pub mod TableRows
+pub mod FoundForms
+pub mod GroupEnds
+pub mod StayLaws
+pub mod FlowLaws
+pub mod StartLaws
+pub mod FitLaws
+pub mod VerdictLaws
+pub mod CheckLaws

@@ -1,0 +1,163 @@
+//! The outcomes and the statuses at the sites, over the rows of a table.
+ghost use Rattle.std.specs.{Prelude.{◌≡◌, ◌++◌, ◌∷◌, [], ◌<◌, List, length, slice_index_or, None, IfOk, OnOk, IfSome, IfNone}, Bool.{OnTrue, OnFalse}};
+ghost use Rattle.osek_standard.specs.{declared.app.App.{App}, Apps.{is_site}, Points.{StandsAt}};
+ghost use Rattle.osek_values.specs.declared.numbers.BlockNo.{BlockNo};
+ghost use Rattle.abstract_state.specs.{declared.table.TableRow.{TableRow}, Written.{IsWritten}};
+ghost use Rattle.flow_exits.specs.declared.exit.Exit.{Exit};
+ghost use Rattle.numbered_sets.specs.{Pools.{Values, IsLonger}, Views.{AreNumbersOf}, PlainTables.{plain_row}};
+ghost use Rattle.flow_rules.specs.{Levels.{AreLevels}, Rows.{IsProperRow}, Groups.{exits_of, all_exits}};
+ghost use Rattle.flow_check.specs.{Rows.{AreExitsOf}, Outcomes.{end_count, AreOfExits, AreFound, first_found}};
+
+use crate::found::Findings;
+use crate::rows::row_groups;
+use abstract_state::Point;
+use flow_rules::{Ends, ExitGroup, Levels};
+use image_model::is_site;
+use numbered_sets::{NumberedRow, Pool, Table};
+use osek_standard::App;
+use osek_values::{BlockNo, Memory, Seq};
+use std::alloc::Global;
+
+/// What is found at each block that is a site, over the rows of a table.
+pub fn findings(alloc: Global, app: &App, table: &Table) -> Result<Seq<Option<Findings>>, Memory>
+    requires { IsWritten app.now table.now }
+    ensures { IfOk result (AreFound app.now table.now.rows) }
+{
+    let mut sites = no_findings(alloc, app)?;
+    let numbered = table.numbered_rows(alloc)?;
+    let rows = numbered.rows;
+    let mut pool = numbered.pool;
+    if rows.len() == 0 {
+        return Ok(sites);
+    }
+    let mut levels = Levels::new(alloc, app, &pool)?;
+    for row in rows.as_slice() {
+        add_row(alloc, app, row, &mut pool, &mut levels, &mut sites)?;
+    }
+    Ok(sites)
+}
+
+/// Nothing is found yet at any site.
+pub(crate) fn no_findings(alloc: Global, app: &App) -> Result<Seq<Option<Findings>>, Memory>
+    ensures { IfOk result (AreFound app.now []) }
+{
+    let mut sites = Seq::new(alloc);
+    for block in 0..app.blocks.len() {
+        sites.push(no_finding(app, BlockNo(block as u16)))?;
+    }
+    Ok(sites)
+}
+
+fn no_finding(app: &App, block: BlockNo) -> Option<Findings>
+    requires { block.0 < length app.now.blocks }
+    ensures { result ≡ first_found app.now block.0 }
+{
+    if is_site(app.tasks.as_slice(), block.0, app.block(block).kind) {
+        Some(Findings::none())
+    } else {
+        None
+    }
+}
+
+// adds what the states of a row show, where it stands at a site
+fn add_row(
+    alloc: Global,
+    app: &App,
+    row: &NumberedRow,
+    pool: &mut Pool,
+    levels: &mut Levels,
+    sites: &mut Seq<Option<Findings>>,
+) -> Result<(), Memory>
+    requires numbers { AreNumbersOf pool.old row.now.entry }
+    requires proper { IsProperRow app.now (plain_row pool.old row.now) }
+    requires levels { AreLevels app.now pool.old levels.old }
+    requires count { length sites.old ≡ length app.now.blocks }
+    ensures pool { IsLonger pool.old pool.new }
+    ensures levels { OnOk result (AreLevels app.now pool.new levels.new) }
+    ensures found { OnOk result ((rows : List TableRow) → AreFound app.now rows sites.old → AreFound app.now (rows ++ plain_row pool.old row.now ∷ []) sites.new) }
+{
+    if !is_at_site(row.point, sites) {
+        return Ok(());
+    }
+    let groups = row_groups(alloc, app, row, pool, levels)?;
+    add_groups(row.point, groups.as_slice(), sites);
+    Ok(())
+}
+
+fn is_at_site(point: Point, sites: &Seq<Option<Findings>>) -> bool
+    requires { (b : BlockNo) → StandsAt point b → b.0 < length sites.now }
+    ensures { OnFalse result ((b : BlockNo) → StandsAt point b → slice_index_or sites.now b.0 None ≡ None) }
+{
+    match block_of(point) {
+        None => false,
+        Some(block) => sites.at(block.index()).is_some(),
+    }
+}
+
+/// Adds what the exits of a row show, where its point stands at a site.
+pub(crate) fn add_groups(
+    point: Point,
+    groups: &[ExitGroup],
+    sites: &mut Seq<Option<Findings>>,
+)
+    requires { (b : BlockNo) → StandsAt point b → b.0 < length sites.old }
+    ensures { (app : App) (pool : List Values) (rows : List TableRow) (row : TableRow) → row.point ≡ point → AreExitsOf app row (all_exits pool groups.now) → AreFound app rows sites.old → AreFound app (rows ++ row ∷ []) sites.new }
+{
+    match block_of(point) {
+        None => {}
+        Some(block) => match *sites.at(block.index()) {
+            None => {}
+            Some(before) => {
+                let more = found_in(groups);
+                sites.put(block.index(), Some(before.join(more)));
+            }
+        },
+    }
+}
+
+fn block_of(point: Point) -> Option<BlockNo>
+    ensures some { IfSome result (StandsAt point) }
+    ensures none { IfNone result ((b : BlockNo) → StandsAt point b → ⊥) }
+{
+    match point {
+        Point::Halted | Point::Idle => None,
+        Point::Task(block) => Some(block),
+        Point::Routine { block, .. } => Some(block),
+    }
+}
+
+// what exits tell
+fn found_in(groups: &[ExitGroup]) -> Findings
+    ensures { (pool : List Values) → AreOfExits (all_exits pool groups.now) result }
+{
+    let mut found = Findings::none();
+    for group in groups {
+        found = with_group(found, group);
+    }
+    found
+}
+
+// What was found, and what the exits of a group tell, which all tell the same. The begin of a routine tells nothing.
+fn with_group(found: Findings, group: &ExitGroup) -> Findings
+    ensures { (pool : List Values) (done : List Exit) → AreOfExits done found → AreOfExits (done ++ exits_of pool group.now) result }
+{
+    match group.decision {
+        None => found,
+        Some(decision) => {
+            if found.tells(decision, group.status) || !has_end(&group.ends) {
+                return found;
+            }
+            found.join(Findings::one(decision, group.status))
+        }
+    }
+}
+
+fn has_end(ends: &Ends) -> bool
+    ensures some { OnTrue result (0 < end_count ends.now) }
+    ensures none { OnFalse result (end_count ends.now ≡ 0) }
+{
+    match ends {
+        Ends::At(points) => points.len() > 0,
+        Ends::With { ends, .. } => ends.len() > 0,
+    }
+}
