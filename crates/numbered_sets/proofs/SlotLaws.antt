@@ -10,6 +10,7 @@ use Rattle.abstract_state.specs.declared.value.Domain.TheVariants as domain
 use Rattle.abstract_state.specs.Components.{live_val}
 use Rattle.abstract_state.specs.{Domains.{IsWithin}, ValueOrder.{same_part}}
 use Rattle.abstract_state.proofs.OrderLaws.{part_right}
+use Rattle.flow_model.specs.{Values.{at_block}, Tests.{on_task}}
 use Rattle.numbered_sets.specs.{Pools.{with_value, AreNumbered, IsNumberOf}, Slots.{in_row, val_in, value_in, slot_values, IsTaskSlot, IsSlot, AreSlots, IsSlotInRow, IsTaskSlotOf, IsSlotOf, IsStackNumber, AreMoreStacks}}
 use Rattle.numbered_sets.specs.Slots.{IsPlaceOf, IsUnused, none, AreNumbersBySlot}
 use Rattle.numbered_sets.proofs.{PoolLaws.{numbered_with}, ViewLaws.{false_unless}}
@@ -139,6 +140,27 @@ live_slot first count stacks x k (Some s) number small at =
     let row : k + 1 ≡ suc k = omega arith in
     slot_of_row first count (suc k) s x.block stacks (Live x) (subst (λ r. IsSlotInRow first count r x.block.0 s) row at) (omega (arith, number.known)) small (in_live_row stacks x k number) (live_row stacks x k number)
 
+-- ---- slots at another block
+
+moved_row : (stacks : List (List ResNo)) (r : ℕ) (b c : BlockNo) → (r ≡ 0 → ⊥) → in_row stacks r b ≡ at_block b (in_row stacks r c)
+moved_row stacks zero b c some = absurd (some refl)
+moved_row stacks (suc k) b c some = refl
+
+pub moved_slot : (first count row slot : ℕ) (block : BlockNo) (stacks : List (List ResNo)) (found : Option ℕ) → (slot ≡ 0 → ⊥) → row ≡ (slot - 1) / count → (row ≡ 0 → ⊥) → IfSome found (IsSlotInRow first count row block.0)
+    → IfSome found (λ t. val_in first count stacks t ≡ at_block block (val_in first count stacks slot))
+moved_slot first count row slot block stacks None some is live at = tt
+moved_slot first count row zero block stacks (Some t) some is live at = absurd (some refl)
+moved_slot first count row (suc n) block stacks (Some t) some is live at =
+    let less : suc n - 1 ≡ n = omega arith in
+    let same : n / count ≡ row = sym (is ∙ ap (λ (m : ℕ). m / count) less) in
+    in_slot first count row block.0 t stacks at ∙ moved_row stacks row block (block_no (first + n % count)) live
+    ∙ ap (λ (r : ℕ). at_block block (in_row stacks r (block_no (first + n % count)))) (sym same)
+
+pub moved_value : (first : BlockNo) (count resources slot : ℕ) (block : BlockNo) (stacks : List (List ResNo)) (found : Option ℕ) → IfSome found (λ t. val_in first.0 count stacks t ≡ at_block block (val_in first.0 count stacks slot))
+    → IfSome found (λ t. value_in (domain.Task first count resources) stacks t ≡ on_task (at_block block) (value_in (domain.Task first count resources) stacks slot))
+moved_value first count resources slot block stacks None at = tt
+moved_value first count resources slot block stacks (Some t) at = ap OfTask at
+
 -- ---- values without a slot
 
 no_slot : (first count : ℕ) (stacks : List (List ResNo)) (v : Val) → ((r : ℕ) (b : BlockNo) → r < 1 + length stacks → IsAmong b.0 first count → in_row stacks r b ≡ v → ⊥) → (v ≡ Suspended → ⊥)
@@ -204,6 +226,14 @@ value_numbered d stacks slots s n v place is = record {
 pub some_number : (d : Domain) (stacks : List (List ResNo)) (slots : List ℕ) (s : ℕ) (v : PartValue) (found : Option ℕ) → IfSome found (IsPlaceOf slots s) → value_in d stacks s ≡ v → IfSome found (IsNumberOf (slot_values d stacks slots) v)
 some_number d stacks slots s v None at is = tt
 some_number d stacks slots s v (Some n) at is = value_numbered d stacks slots s n v at is
+
+-- the number of what becomes of a value, by its slot
+pub moved_number : (d : Domain) (stacks : List (List ResNo)) (slots : List ℕ) (becomes : PartValue → PartValue) (s t n : ℕ) (found : Option ℕ) → IsPlaceOf slots s n → value_in d stacks t ≡ becomes (value_in d stacks s) → IfSome found (IsPlaceOf slots t)
+    → IfSome found (λ m. (v : PartValue) → IsNumberOf (slot_values d stacks slots) v n → IsNumberOf (slot_values d stacks slots) (becomes v) m)
+moved_number d stacks slots becomes s t n None at is there = tt
+moved_number d stacks slots becomes s t n (Some m) at is there = λ v number.
+    let same : value_in d stacks s ≡ v = sym ((value_numbered d stacks slots s n (value_in d stacks s) at refl).is v) ∙ number.is v in
+    value_numbered d stacks slots t m (becomes v) there (is ∙ ap becomes same)
 
 -- a value that no slot has is none of them
 pub value_absent : (d : Domain) (stacks : List (List ResNo)) (slots : List ℕ) (v : PartValue) → ((n : ℕ) → n < length slots → value_in d stacks (get_or slots n 0) ≡ v → ⊥) → list_any (same_part v) (slot_values d stacks slots) ≡ false

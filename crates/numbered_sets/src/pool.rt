@@ -6,7 +6,7 @@ use crate::numbered_entry::NumberedEntry;
 use crate::numbered_set::NumberedSet;
 use crate::seen_values::SeenValues;
 use abstract_state::{Domain, PartValue};
-use flow_model::Test;
+use flow_model::{Test, Update};
 use osek_values::{Memory, Seq};
 use std::alloc::Global;
 use std::marker::Model;
@@ -31,7 +31,9 @@ impl Model for Numbering {
 impl Numbering {
     ghost use Rattle.std.specs.Prelude.{◌≡◌, ◌<◌, length, slice_set, IfOk, OnOk, OnErr};
     ghost use Rattle.abstract_state.specs.{Domains.{IsWithin, domain_size}, Tables.{is_member}};
+    ghost use Rattle.abstract_state.specs.declared.value.PartValue.{PartValue};
     ghost use Rattle.flow_model.specs.declared.test.Test.TheVariants as Test;
+    ghost use Rattle.flow_model.specs.Tests.{updated};
     ghost use Rattle.numbered_sets.specs.{Filters.{IsNumberAlone, IsSifted}, NumberedEntries.{numbers_at}, Pools.{no_values, value_seen, AreValues, IsNumberOf}, Views.{plain_set}};
 
     /// No value yet.
@@ -54,6 +56,18 @@ impl Numbering {
     {
         let number = self.seen.number(value)?;
         Ok(number)
+    }
+
+    /// The number of what an update makes of the value with a number, which comes in last where it is new.
+    fn number_after(&mut self, number: usize, update: &Update) -> Result<usize, Memory>
+        requires known { number < length self.old.values }
+        requires within { (v : PartValue) → IsNumberOf self.old.values v number → IsWithin self.old.domain (updated update.now v) }
+        ensures values { OnOk result ((v : PartValue) → IsNumberOf self.old.values v number → self.new ≡ value_seen self.old (updated update.now v)) }
+        ensures number { IfOk result (λ n. (v : PartValue) → IsNumberOf self.old.values v number → IsNumberOf self.new.values (updated update.now v) n) }
+        ensures err { OnErr result (self.new ≡ self.old) }
+    {
+        let after = self.seen.number_after(number, update)?;
+        Ok(after)
     }
 
     /// Leaves out the numbers of a component's values that don't pass a test.
@@ -171,7 +185,8 @@ impl Model for Pool {
 
 impl Pool {
     ghost use Rattle.std.specs.Prelude.{◌≡◌, ◌<◌, length, map, slice_set, IfOk, OnOk, OnErr, All};
-    ghost use Rattle.abstract_state.specs.{Domains.{IsWithin, domain_size}, Tables.{is_member}};
+    ghost use Rattle.abstract_state.specs.{declared.value.PartValue.{PartValue}, Domains.{IsWithin, domain_size}, Tables.{is_member}};
+    ghost use Rattle.flow_model.specs.Tests.{updated};
     ghost use Rattle.numbered_sets.specs.{Filters.{IsSifted}, NumberedEntries.{numbers_at}, Pools.{no_values, value_seen, seen_at, values_at, domain_at, AreValues, IsNumberOf}};
     ghost use Rattle.numbered_sets.specs.Views.{plain_set};
 
@@ -198,6 +213,25 @@ impl Pool {
         let numbering = self.numberings.at_mut(component);
         let number = numbering.number(&value)?;
         Ok(number)
+    }
+
+    /// The number of what an update makes of a component's value with a number, which comes in last where it is new.
+    pub fn number_after(
+        &mut self,
+        component: usize,
+        number: usize,
+        update: &Update,
+    ) -> Result<usize, Memory>
+        requires known { component < length self.old }
+        requires given { number < length (values_at self.old component) }
+        requires within { (v : PartValue) → IsNumberOf (values_at self.old component) v number → IsWithin (domain_at self.old component) (updated update.now v) }
+        ensures pool { OnOk result ((v : PartValue) → IsNumberOf (values_at self.old component) v number → self.new ≡ slice_set self.old component (value_seen (seen_at self.old component) (updated update.now v))) }
+        ensures number { IfOk result (λ n. (v : PartValue) → IsNumberOf (values_at self.old component) v number → IsNumberOf (values_at self.new component) (updated update.now v) n) }
+        ensures err { OnErr result (self.new ≡ self.old) }
+    {
+        let numbering = self.numberings.at_mut(component);
+        let after = numbering.number_after(number, update)?;
+        Ok(after)
     }
 
     /// How many values a component was seen with.

@@ -1,11 +1,12 @@
 //! The values of one domain that were seen, by number.
 ghost use Rattle.std.specs.Prelude.{◌≡◌};
 
-use crate::slot_values::{slot_for, slot_of, value_at};
+use crate::slot_values::{slot_at_block, slot_for, slot_of, value_at};
 use crate::slots::Slots;
 use crate::stacks::Stacks;
 use abstract_state::{Domain, PartValue};
-use osek_values::Memory;
+use flow_model::Update;
+use osek_values::{BlockNo, Memory};
 use std::alloc::Global;
 use std::marker::Model;
 
@@ -30,7 +31,8 @@ impl Model for SeenValues {
 
 impl SeenValues {
     ghost use Rattle.std.specs.{Prelude.{◌≡◌, ◌<◌, false, length, IfOk, OnOk, OnErr, IfSome, IfNone}, List.{list_any}};
-    ghost use Rattle.abstract_state.specs.{Domains.{IsWithin, domain_size}, ValueOrder.{same_part}};
+    ghost use Rattle.abstract_state.specs.{declared.value.PartValue.{PartValue}, Domains.{IsWithin, domain_size}, ValueOrder.{same_part}};
+    ghost use Rattle.flow_model.specs.{declared.change.Update.TheVariants.{Block}, Tests.{updated}};
     ghost use Rattle.numbered_sets.specs.Pools.{no_values, value_seen, AreValues, IsNumberOf};
 
     /// No value yet.
@@ -92,6 +94,34 @@ impl SeenValues {
         let number = self.slots.len();
         self.slots.push(slot)?;
         Ok(number)
+    }
+
+    /// The number of what an update makes of the value with a number, which comes in last where it is new.
+    pub fn number_after(&mut self, number: usize, update: &Update) -> Result<usize, Memory>
+        requires known { number < length self.old.values }
+        requires within { (v : PartValue) → IsNumberOf self.old.values v number → IsWithin self.old.domain (updated update.now v) }
+        ensures values { OnOk result ((v : PartValue) → IsNumberOf self.old.values v number → self.new ≡ value_seen self.old (updated update.now v)) }
+        ensures number { IfOk result (λ n. (v : PartValue) → IsNumberOf self.old.values v number → IsNumberOf self.new.values (updated update.now v) n) }
+        ensures err { OnErr result (self.new ≡ self.old) }
+    {
+        if let Update::Block(block) = update {
+            if let Some(moved) = self.number_at_block(number, *block) {
+                return Ok(moved);
+            }
+        }
+        let value = update.of(&self.value(number));
+        self.number(&value)
+    }
+
+    // the number of what the value with a number becomes at a block, if it was found without making it
+    fn number_at_block(&self, number: usize, block: BlockNo) -> Option<usize>
+        requires { number < length self.now.values }
+        ensures { IfSome result (λ n. (v : PartValue) → IsNumberOf self.now.values v number → IsNumberOf self.now.values (updated (Block block) v) n) }
+    {
+        match slot_at_block(self.domain, self.slots.at(number), block) {
+            None => None,
+            Some(slot) => self.slots.find(slot),
+        }
     }
 
     /// The same values under the same numbers.

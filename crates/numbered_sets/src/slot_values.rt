@@ -1,6 +1,8 @@
 //! The slots of a domain's values, by arithmetic.
-ghost use Rattle.std.specs.Prelude.{ℕ, ◌≡◌, ◌≢◌, ◌<◌, ◌≤◌, ◌^◌, IfOk, IfSome, IfNone};
+ghost use Rattle.std.specs.Prelude.{ℕ, List, ◌≡◌, ◌≢◌, ◌<◌, ◌≤◌, ◌^◌, IfOk, IfSome, IfNone};
+ghost use Rattle.osek_values.specs.declared.numbers.ResNo.{ResNo};
 ghost use Rattle.osek_standard.specs.Validity.{IsAmong};
+ghost use Rattle.flow_model.specs.{declared.change.Update.TheVariants.{Block}, Values.{at_block}, Tests.{updated}};
 ghost use Rattle.abstract_state.specs.declared.value.Val.TheVariants.{Live};
 ghost use Rattle.numbered_sets.specs.Slots.{val_in, value_in, IsTaskSlot, IsSlot, IsSlotOf, IsTaskSlotOf, IsSlotInRow, AreMoreStacks};
 
@@ -81,6 +83,31 @@ fn slot_in_row(first: BlockNo, count: u16, row: usize, block: BlockNo) -> Option
     }
     let offset = (block.0 - first.0) as usize;
     Some(1 + row * count as usize + offset)
+}
+
+/// The slot of what a Live task's value becomes at a block.
+pub fn slot_at_block(domain: Domain, slot: usize, block: BlockNo) -> Option<usize>
+    requires { slot < 2 ^ 32 }
+    ensures { (stacks : List (List ResNo)) → IfSome result (λ t. value_in domain stacks t ≡ updated (Block block) (value_in domain stacks slot)) }
+{
+    match domain {
+        Domain::Task { first, count, .. } => live_slot_at_block(first, count, slot, block),
+        Domain::Event | Domain::Alarm => None,
+    }
+}
+
+fn live_slot_at_block(first: BlockNo, count: u16, slot: usize, block: BlockNo) -> Option<usize>
+    requires { slot < 2 ^ 32 }
+    ensures { (stacks : List (List ResNo)) → IfSome result (λ t. val_in first.0 count stacks t ≡ at_block block (val_in first.0 count stacks slot)) }
+{
+    if slot == 0 || count == 0 {
+        return None;
+    }
+    let row = (slot - 1) / count as usize;
+    if row == 0 {
+        return None;
+    }
+    slot_in_row(first, count, row, block)
 }
 
 /// The slot of a value, whose stack comes in where it is new. Each value of the domain has one.

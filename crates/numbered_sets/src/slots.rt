@@ -28,7 +28,7 @@ impl Model for Slots {
 }
 
 impl Slots {
-    ghost use Rattle.std.specs.Prelude.{ℕ, ◌≡◌, ◌≢◌, ◌<◌, [], ◌∷◌, ◌++◌, length, slice_index_or, IfOk, OnOk, OnErr, IfSome, IfNone};
+    ghost use Rattle.std.specs.Prelude.{ℕ, ◌≡◌, ◌≢◌, ◌<◌, ◌^◌, [], ◌∷◌, ◌++◌, length, slice_index_or, IfOk, OnOk, OnErr, IfSome, IfNone};
     ghost use Rattle.numbered_sets.specs.Slots.{IsUnused, IsPlaceOf};
 
     /// No slot yet.
@@ -51,7 +51,8 @@ impl Slots {
     /// The slot with a number.
     pub fn at(&self, number: usize) -> usize
         requires { number < length self.now }
-        ensures { IsPlaceOf self.now result number }
+        ensures slot { IsPlaceOf self.now result number }
+        ensures small { result < 2 ^ 32 }
     {
         self.used[number] as usize
     }
