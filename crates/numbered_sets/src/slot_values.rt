@@ -2,7 +2,7 @@
 ghost use Rattle.std.specs.Prelude.{ℕ, List, ◌≡◌, ◌≢◌, ◌<◌, ◌≤◌, ◌^◌, IfOk, IfSome, IfNone};
 ghost use Rattle.osek_values.specs.declared.numbers.ResNo.{ResNo};
 ghost use Rattle.osek_standard.specs.Validity.{IsAmong};
-ghost use Rattle.flow_model.specs.{declared.change.Update.TheVariants.{Block}, Values.{at_block}, Tests.{updated}};
+ghost use Rattle.flow_model.specs.{declared.change.Update.TheVariants.{Block}, Tests.{updated}};
 ghost use Rattle.abstract_state.specs.declared.value.Val.TheVariants.{Live};
 ghost use Rattle.numbered_sets.specs.Slots.{val_in, value_in, IsTaskSlot, IsSlot, IsSlotOf, IsTaskSlotOf, IsSlotInRow, AreMoreStacks};
 
@@ -90,16 +90,9 @@ pub fn slot_at_block(domain: Domain, slot: usize, block: BlockNo) -> Option<usiz
     requires { slot < 2 ^ 32 }
     ensures { (stacks : List (List ResNo)) → IfSome result (λ t. value_in domain stacks t ≡ updated (Block block) (value_in domain stacks slot)) }
 {
-    match domain {
-        Domain::Task { first, count, .. } => live_slot_at_block(first, count, slot, block),
-        Domain::Event | Domain::Alarm => None,
-    }
-}
-
-fn live_slot_at_block(first: BlockNo, count: u16, slot: usize, block: BlockNo) -> Option<usize>
-    requires { slot < 2 ^ 32 }
-    ensures { (stacks : List (List ResNo)) → IfSome result (λ t. val_in first.0 count stacks t ≡ at_block block (val_in first.0 count stacks slot)) }
-{
+    let Domain::Task { first, count, .. } = domain else {
+        return None;
+    };
     if slot == 0 || count == 0 {
         return None;
     }

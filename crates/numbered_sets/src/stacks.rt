@@ -49,8 +49,6 @@ impl Hash for Stack {
 #[derive(Drop)]
 pub struct Stacks {
     seen: IndexSet<Stack>,
-    // where the stack that is asked for next stands most likely: behind the one that was asked for last
-    next: usize,
 }
 
 const MOST: usize = 4294967296;
@@ -78,7 +76,6 @@ impl Stacks {
     {
         Stacks {
             seen: IndexSet::new(alloc),
-            next: 0,
         }
     }
 
@@ -109,23 +106,6 @@ impl Stacks {
 
     /// The number of a stack, which comes in last where it is new.
     pub fn number(&mut self, held: &Held) -> Result<usize, Memory>
-        ensures stacks { OnOk result (IsGrownBy held.now self.old self.new) }
-        ensures number { IfOk result (IsStackNumber self.new held.now) }
-        ensures few { IfOk result (λ k. k < 2 ^ 32) }
-        ensures err { OnErr result (self.new ≡ self.old) }
-    {
-        let next = self.next;
-        if next < self.len() && self.at(next).as_slice() == held.as_slice() {
-            self.next = next + 1;
-            return Ok(next);
-        }
-        let number = self.number_by_search(held)?;
-        self.next = number.saturating_add(1);
-        Ok(number)
-    }
-
-    // the same by a search
-    fn number_by_search(&mut self, held: &Held) -> Result<usize, Memory>
         ensures stacks { OnOk result (IsGrownBy held.now self.old self.new) }
         ensures number { IfOk result (IsStackNumber self.new held.now) }
         ensures few { IfOk result (λ k. k < 2 ^ 32) }
