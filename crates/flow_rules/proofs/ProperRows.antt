@@ -13,7 +13,6 @@ use Rattle.numbered_sets.specs.PlainTables.{row_at}
 use Rattle.flow_exits.specs.Exits.{IsFilled}
 use Rattle.flow_rules.specs.Rows.{IsProperRow}
 use Rattle.std.proofs.lemmas.Bool.{cases_lt}
-use Rattle.osek_standard.specs.declared.point.Point.TheVariants as point
 use Rattle.abstract_state.specs.declared.value.PartValue.{PartValue}
 
 -- an entry has a set for each component

@@ -210,7 +210,7 @@ fn at_blocks(
     let mut ends = Seq::new(alloc);
     let mut number = entry.next(component, 0, count);
     while number < count {
-        let target = Point::Task(block_of(pool.value(component, number)));
+        let target = Point::Task(block_of(&pool.value(component, number)));
         ends.push(NumberEnd { number, target })?;
         number = entry.next(component, number + 1, count);
     }

@@ -59,7 +59,7 @@ impl TaskLevels {
     {
         let component = task.index();
         for number in self.judged..pool.len(component) {
-            self.judge(alloc, app, task, pool.value(component, number))?;
+            self.judge(alloc, app, task, &pool.value(component, number))?;
         }
         Ok(())
     }

@@ -103,8 +103,7 @@ fn put_updated(
     ensures passed { OnOk result ((before : List Values) (d : Domain) (done : List PartValue) (v : PartValue) → IsNumberOf (values_at pool.old component) v number →
         IsPassedSoFar (alone change.now) before component d done pool.old new.old → IsPassedSoFar (alone change.now) before component d (done ++ v ∷ []) pool.new new.new) }
 {
-    let value = change.update.of(pool.value(component, number));
-    let made = pool.number(component, value)?;
+    let made = pool.number_after(component, number, &change.update)?;
     new.insert(made)?;
     Ok(())
 }

@@ -1,31 +1,16 @@
 -- Tests for one value, by the set of its number.
-use Rattle.std.proofs.Common.{◌≡◌, ℕ, ◌^◌, Bool, true, false, ◌||◌, List, get_or, sym, ap, ap₂, ◌∙◌, inl, inr, arith}
-use Rattle.std.specs.{Prelude.{Option, Some, None, is_some, IfSome, IfNone, position}, List.{list_any, IsDistinct}}
-use Rattle.std.proofs.{lemmas.{Bool.{cases_Bool, cases_eq, eq-eqb, ne_eqb}, List.{get_or_default, length-map, Folds.{list_any_at}}}, Math.ListN.{get_or-map}}
-use Rattle.std.proofs.lemmas.List.Quantifiers.{position-Some}
+use Rattle.std.proofs.Common.{◌≡◌, ℕ, ◌^◌, Bool, true, false, ◌||◌, List, get_or, sym, ap, ap₂, ◌∙◌, inl, inr}
+use Rattle.std.specs.{List.{list_any, IsDistinct}}
+use Rattle.std.proofs.{lemmas.{Bool.{cases_Bool, cases_eq, eq-eqb, ne_eqb}, List.{get_or_default, Folds.{list_any_at}}}}
 use Rattle.bit_words.proofs.BitCounts.{has_either, has_one}
 use Rattle.osek_values.specs.Bits.{has_bit}
 use Rattle.abstract_state.specs.{declared.value.{Domain.{Domain}, PartValue.{PartValue}}, ValueOrder.{same_part}}
 use Rattle.abstract_state.proofs.OrderLaws.{part_itself, part_right}
-use Rattle.numbered_sets.specs.{declared.seen.Seen.{Seen}, SeenLaws.{same_seen}, Filters.{seen_values, IsNumberAlone}, Numbers.{numbers, with_number}, Pools.{IsNumberOf}}
-use Rattle.numbered_sets.proofs.{PlainLaws.{has_value, value_with_number}, PoolLaws.{any_seen}, ViewLaws.{false_unless}, KnownNumbers.{no_bit_of_none, one_number, found}}
+use Rattle.numbered_sets.specs.{Filters.{IsNumberAlone}, Numbers.{numbers, with_number}, Pools.{IsNumberOf}}
+use Rattle.numbered_sets.proofs.{PlainLaws.{has_value, value_with_number}, ViewLaws.{false_unless}, KnownNumbers.{no_bit_of_none, one_number, found}}
 
 no_bit : (n : ℕ) → has_bit 0 n ≡ false
 no_bit n = false_unless (has_bit 0 n) ⊥ (no_bit_of_none n) (λ no. no)
-
--- what a search among the keys says of the values
-pub found_number : (ks : List Seen) (v : PartValue) (found : Option ℕ) → found ≡ position (same_seen (record { value = v })) ks → IfSome found (IsNumberOf (seen_values ks) v)
-found_number ks v None e = tt
-found_number ks v (Some n) e = record {
-  known = (let at = position-Some (same_seen (record { value = v })) ks n (record { value = v }) (sym e) in omega (arith, at.0, length-map ks (λ (s : Seen). s.value)));
-  is = λ d.
-      get_or-map (λ (s : Seen). s.value) ks n (record { value = d })
-      ∙ (let at = position-Some (same_seen (record { value = v })) ks n (record { value = d }) (sym e) in sym (part_right v (get_or ks n (record { value = d })).value at.1));
-}
-
-pub absent_number : (ks : List Seen) (v : PartValue) (found : Option ℕ) → is_some found ≡ list_any (same_seen (record { value = v })) ks → IfNone found (list_any (same_part v) (seen_values ks) ≡ false)
-absent_number ks v None e = sym (any_seen (record { value = v }) ks) ∙ sym e
-absent_number ks v (Some n) e = tt
 
 -- no value with another number is the same
 pub number_alone : (d : Domain) (vs : List PartValue) (v : PartValue) (n : ℕ) → IsDistinct same_part vs → IsNumberOf vs v n → IsNumberAlone vs v (with_number (numbers d 0) n)

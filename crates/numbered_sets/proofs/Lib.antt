@@ -8,7 +8,8 @@ pub mod MeetLaws
 pub mod SiftLaws
 pub mod AloneLaws
 pub mod FlatLaws
-pub mod CopiedPools
+pub mod SlotLaws
+pub mod StackLaws
 pub mod CopiedEntries
 pub mod GrownPools
 pub mod CountedNumbers

@@ -1,33 +1,15 @@
 -- The values of a pool: what comes in, and how many there can be.
-use Rattle.std.proofs.Common.{◌≡◌, ℕ, ◌<◌, ◌≤◌, Bool, true, false, ◌||◌, List, [], ◌∷◌, ◌++◌, length, cond, refl, sym, ap, ap₂, subst, ◌∙◌, inl, inr, arith}
-use Rattle.std.specs.{Prelude.{Some, slice_get}, List.{list_any, IsDistinct}}
-use Rattle.std.proofs.{Math.ListN.{get_or-map}, lemmas.{Bool.{cases_Bool}, List.{length-map, Folds.{list_any_at}, Elements.{All-nil, All-cons, All-append, All-contains}}}}
-use Rattle.std.proofs.lemmas.{Map.{Keys.{IsDistinct-push}, Made.{length-le_from_is_member}, Views.{Contains-from_any, list_any-from_Contains}}, Option.{get_or_from_slice_get}}
-use Rattle.indexmap.specs.IndexSet.{insert_key}
+use Rattle.std.proofs.Common.{◌≡◌, ℕ, ◌≤◌, Bool, true, List, [], ◌∷◌, ◌++◌, length, cond, sym, ap, subst, ◌∙◌, inl, inr, arith}
+use Rattle.std.specs.{List.{list_any, IsDistinct}}
+use Rattle.std.proofs.{lemmas.{Bool.{cases_Bool}, List.{Folds.{list_any_at}, Elements.{All-nil, All-cons, All-append, All-contains}}}}
+use Rattle.std.proofs.lemmas.{Map.{Keys.{IsDistinct-push}, Made.{length-le_from_is_member}, Views.{Contains-from_any, list_any-from_Contains}}}
 use Rattle.abstract_state.specs.{declared.value.{Domain.{Domain}, PartValue.{PartValue}}, ValueOrder.{same_part}, Domains.{IsWithin, domain_size}}
 use Rattle.abstract_state.proofs.{DomainValues.{domain_counted}, OrderLaws.{part_itself, part_laws, part_right}}
-use Rattle.numbered_sets.specs.{declared.seen.Seen.{Seen}, SeenLaws.{same_seen}, Filters.{seen_values}, Pools.{Values, value_seen, with_value, AreNumbered, IsNumberOf}}
+use Rattle.numbered_sets.specs.Pools.{Values, value_seen, with_value, AreNumbered, IsNumberOf}
 
 pub none_numbered : (d : Domain) → AreNumbered d []
 unfolding IsDistinct
 none_numbered d = record { distinct = tt; within = All-nil (IsWithin d) }
-
-pub any_seen : (k : Seen) (ks : List Seen) → list_any (same_seen k) ks ≡ list_any (same_part k.value) (seen_values ks)
-any_seen k [] = refl
-any_seen k (x ∷ xs) = ap (λ (b : Bool). same_part k.value x.value || b) (any_seen k xs)
-
-values_pushed : (ks : List Seen) (k : Seen) → seen_values (ks ++ k ∷ []) ≡ seen_values ks ++ k.value ∷ []
-values_pushed [] k = refl
-values_pushed (x ∷ xs) k = ap (λ (vs : List PartValue). x.value ∷ vs) (values_pushed xs k)
-
-either_list : (b : Bool) (ks ls : List Seen) → seen_values (cond b ks ls) ≡ cond b (seen_values ks) (seen_values ls)
-either_list true ks ls = refl
-either_list false ks ls = refl
-
-pub values_with_seen : (ks : List Seen) (k : Seen) → seen_values (insert_key same_seen ks k) ≡ with_value (seen_values ks) k.value
-values_with_seen ks k =
-    either_list (list_any (same_seen k) ks) ks (ks ++ k ∷ [])
-    ∙ ap₂ (λ (b : Bool) (vs : List PartValue). cond b (seen_values ks) vs) (any_seen k ks) (values_pushed ks k)
 
 -- a value that has a number is no new one
 pub seen_already : (x : Values) (v : PartValue) (n : ℕ) → IsNumberOf x.values v n → value_seen x v ≡ x
@@ -57,12 +39,3 @@ few_values d vs numbered =
     length-le_from_is_member part_laws vs counted.values numbered.distinct
     (λ v h. list_any-from_Contains part_laws v counted.values ((counted.whole v).1 (All-contains (IsWithin d) vs v numbered.within (Contains-from_any part_right v vs h)))) in
     omega (arith, few, counted.count)
-
-pub number_of_seen : (ks : List Seen) (v : PartValue) (n : ℕ) → n < length ks → (k : Seen) × (slice_get ks n ≡ Some k) × (same_part v k.value ≡ true) → IsNumberOf (seen_values ks) v n
-number_of_seen ks v n lt stored = record {
-  known = omega (arith, lt, length-map ks (λ (s : Seen). s.value));
-  is = λ d.
-      get_or-map (λ (s : Seen). s.value) ks n (record { value = d })
-      ∙ ap (λ (s : Seen). s.value) (get_or_from_slice_get ks n stored.0 (record { value = d }) stored.1)
-      ∙ sym (part_right v stored.0.value stored.2);
-}

@@ -1,12 +1,8 @@
 -- Tests of values, as the numbers of those that pass.
-use Rattle.std.specs.Prelude.{◌≡◌, ℕ, ◌<◌, ◌≤◌, false, ◌&&◌, List, length, map, slice_index_or, IsTrue, All}
+use Rattle.std.specs.Prelude.{◌≡◌, ℕ, ◌<◌, ◌≤◌, false, ◌&&◌, List, length, slice_index_or, IsTrue, All}
 use Rattle.abstract_state.specs.{declared.value.PartValue.{PartValue}, ValueOrder.{same_part}, Tables.{is_member}}
 use Rattle.flow_model.specs.{declared.test.Test.{Test}, Tests.{passes}}
-use Rattle.numbered_sets.specs.{declared.{seen.Seen.{Seen}, filter.{Filter.{Filter}, Filters.{Filters}}}, Numbers.{Numbers, has_number}, Views.{plain_set}}
-
--- the values of keys
-abbrev pub seen_values : List Seen → List PartValue
-seen_values = map (λ (s : Seen). s.value)
+use Rattle.numbered_sets.specs.{declared.filter.{Filter.{Filter}, Filters.{Filters}}, Numbers.{Numbers, has_number}, Views.{plain_set}}
 
 -- Its numbers are those of the values that pass, of the first ones.
 pub record IsFilter (vs : List PartValue) (f : Filter) : Type 0 where

@@ -3,7 +3,8 @@ pub mod FlatSets
 pub mod NumberedEntries
 pub mod Numbers
 pub mod Pools
-pub mod SeenLaws
+pub mod Slots
+pub mod StackKeys
 pub mod SetLists
 pub mod Views
 pub mod PlainTables

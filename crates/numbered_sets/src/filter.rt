@@ -3,7 +3,7 @@ ghost use Rattle.std.specs.{Prelude.{◌≡◌, ◌<◌, ◌≤◌, length}, Boo
 
 use crate::numbered_entry::NumberedEntry;
 use crate::numbered_set::NumberedSet;
-use crate::seen::Seen;
+use crate::seen_values::SeenValues;
 use abstract_state::Domain;
 use flow_model::Test;
 use osek_values::{Memory, Seq};
@@ -30,7 +30,7 @@ const SLOTS: usize = 64;
 impl Filter {
     ghost use Rattle.std.specs.Prelude.{◌≡◌, ◌≤◌, length, List, OnOk};
     ghost use Rattle.abstract_state.specs.declared.value.PartValue.{PartValue};
-    ghost use Rattle.numbered_sets.specs.Filters.{seen_values, IsFilter};
+    ghost use Rattle.numbered_sets.specs.Filters.{IsFilter};
 
     /// A test that no value was asked yet.
     fn new(alloc: Global, test: &Test, domain: Domain) -> Filter
@@ -45,14 +45,14 @@ impl Filter {
     }
 
     /// Judges the values that came since.
-    fn renew(&mut self, seen: &[Seen]) -> Result<(), Memory>
-        requires { IsFilter (seen_values seen.now) self.old }
-        ensures filter { IsFilter (seen_values seen.now) self.new }
+    fn renew(&mut self, seen: &SeenValues) -> Result<(), Memory>
+        requires { IsFilter seen.now.values self.old }
+        ensures filter { IsFilter seen.now.values self.new }
         ensures test { self.new.test ≡ self.old.test }
-        ensures whole { OnOk result (length seen.now ≤ self.new.judged) }
+        ensures whole { OnOk result (length seen.now.values ≤ self.new.judged) }
     {
         for number in self.judged..seen.len() {
-            if self.test.passes(&seen[number].value) {
+            if self.test.passes(&seen.value(number)) {
                 self.passing.insert(number)?;
             }
             self.judged = number + 1;
@@ -65,7 +65,7 @@ impl Filters {
     ghost use Rattle.std.specs.Prelude.{◌≡◌, ◌<◌, ◌≤◌, List, length, IfOk, OnOk, OnErr, slice_index_or, slice_set};
     ghost use Rattle.abstract_state.specs.declared.value.PartValue.{PartValue};
     ghost use Rattle.std.specs.Bool.{OnTrue};
-    ghost use Rattle.numbered_sets.specs.{declared.filter.Filter.{Filter}, Filters.{seen_values, AreFilters, IsSifted}, NumberedEntries.{numbers_at}};
+    ghost use Rattle.numbered_sets.specs.{declared.filter.Filter.{Filter}, Filters.{AreFilters, IsSifted}, NumberedEntries.{numbers_at}};
 
     /// No test yet.
     pub fn new(alloc: Global) -> Filters
@@ -118,13 +118,13 @@ impl Filters {
     }
 
     // judges the values that came since for the filter at a place
-    fn renew(&mut self, place: usize, seen: &[Seen]) -> Result<(), Memory>
+    fn renew(&mut self, place: usize, seen: &SeenValues) -> Result<(), Memory>
         requires known { place < length self.old.all }
-        requires filters { AreFilters (seen_values seen.now) self.old }
-        ensures filters { AreFilters (seen_values seen.now) self.new }
+        requires filters { AreFilters seen.now.values self.old }
+        ensures filters { AreFilters seen.now.values self.new }
         ensures as_many { length self.new.all ≡ length self.old.all }
         ensures test { (none : Filter) → (slice_index_or self.new.all place none).test ≡ (slice_index_or self.old.all place none).test }
-        ensures whole { OnOk result ((none : Filter) → length seen.now ≤ (slice_index_or self.new.all place none).judged) }
+        ensures whole { OnOk result ((none : Filter) → length seen.now.values ≤ (slice_index_or self.new.all place none).judged) }
     {
         let filter = self.all.at_mut(place);
         filter.renew(seen)?;
@@ -135,15 +135,15 @@ impl Filters {
     pub fn keep_passing(
         &mut self,
         alloc: Global,
-        seen: &[Seen],
+        seen: &SeenValues,
         test: &Test,
         component: usize,
         entry: &mut NumberedEntry,
     ) -> Result<(), Memory>
-        requires filters { AreFilters (seen_values seen.now) self.old }
+        requires filters { AreFilters seen.now.values self.old }
         requires known { component < length entry.old.sets }
-        ensures filters { AreFilters (seen_values seen.now) self.new }
-        ensures passing { OnOk result (IsSifted (seen_values seen.now) test.now (numbers_at entry.old component) (numbers_at entry.new component)) }
+        ensures filters { AreFilters seen.now.values self.new }
+        ensures passing { OnOk result (IsSifted seen.now.values test.now (numbers_at entry.old component) (numbers_at entry.new component)) }
         ensures others { OnOk result (entry.new.sets ≡ slice_set entry.old.sets component (numbers_at entry.new component)) }
         ensures err { OnErr result (entry.new ≡ entry.old) }
     {

@@ -11,7 +11,10 @@ mod numbered_form;
 mod numbered_set;
 mod plain_form;
 mod pool;
-mod seen;
+mod seen_values;
+mod slot_values;
+mod slots;
+mod stacks;
 mod table;
 mod within;
 

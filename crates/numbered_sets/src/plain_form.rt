@@ -37,7 +37,7 @@ fn plain_set(
     let count = pool.len(component);
     let mut number = numbers.next(0, count);
     while number < count {
-        set.insert(pool.value(component, number).copy())?;
+        set.insert(pool.value(component, number))?;
         number = numbers.next(number + 1, count);
     }
     Ok(set)

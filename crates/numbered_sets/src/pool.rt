@@ -4,10 +4,9 @@ ghost use Rattle.std.specs.Prelude.{◌≡◌};
 use crate::filter::Filters;
 use crate::numbered_entry::NumberedEntry;
 use crate::numbered_set::NumberedSet;
-use crate::seen::Seen;
+use crate::seen_values::SeenValues;
 use abstract_state::{Domain, PartValue};
-use flow_model::Test;
-use indexmap::IndexSet;
+use flow_model::{Test, Update};
 use osek_values::{Memory, Seq};
 use std::alloc::Global;
 use std::marker::Model;
@@ -15,27 +14,26 @@ use std::marker::Model;
 /// The values that a component was seen with, and the tests that were asked of them.
 #[derive(Drop)]
 struct Numbering {
-    domain: Domain,
-    seen: IndexSet<Seen>,
+    seen: SeenValues,
     filters: Filters,
-    // where the value that is asked for next stands most likely: behind the one that was asked for last
-    next: usize,
 }
 
 impl Model for Numbering {
-    ghost use Rattle.numbered_sets.specs.{Filters.{seen_values, AreFilters}, Pools.{Values, AreNumbered}};
+    ghost use Rattle.numbered_sets.specs.{Filters.{AreFilters}, Pools.{Values}};
 
     ghost Value = { Values };
 
-    ghost view = { λ n. record { domain = n.domain; values = seen_values n.seen.keys } };
+    ghost view = { λ n. n.seen };
 
-    ghost invariant = { λ n. AreNumbered n.domain (seen_values n.seen.keys) × AreFilters (seen_values n.seen.keys) n.filters };
+    ghost invariant = { λ n. AreFilters n.seen.values n.filters };
 }
 
 impl Numbering {
-    ghost use Rattle.std.specs.{Prelude.{◌≡◌, ◌<◌, false, length, slice_set, IfOk, OnOk, OnErr, IfSome, IfNone}, List.{list_any}};
-    ghost use Rattle.abstract_state.specs.{Domains.{IsWithin, domain_size}, ValueOrder.{same_part}, Tables.{is_member}};
+    ghost use Rattle.std.specs.Prelude.{◌≡◌, ◌<◌, length, slice_set, IfOk, OnOk, OnErr};
+    ghost use Rattle.abstract_state.specs.{Domains.{IsWithin, domain_size}, Tables.{is_member}};
+    ghost use Rattle.abstract_state.specs.declared.value.PartValue.{PartValue};
     ghost use Rattle.flow_model.specs.declared.test.Test.TheVariants as Test;
+    ghost use Rattle.flow_model.specs.Tests.{updated};
     ghost use Rattle.numbered_sets.specs.{Filters.{IsNumberAlone, IsSifted}, NumberedEntries.{numbers_at}, Pools.{no_values, value_seen, AreValues, IsNumberOf}, Views.{plain_set}};
 
     /// No value yet.
@@ -43,63 +41,33 @@ impl Numbering {
         ensures { result ≡ no_values domain }
     {
         Numbering {
-            domain,
-            seen: IndexSet::new(alloc),
+            seen: SeenValues::new(alloc, domain),
             filters: Filters::new(alloc),
-            next: 0,
         }
     }
 
     /// The number of a value, which comes in last where it is new.
-    fn number(&mut self, value: PartValue) -> Result<usize, Memory>
-        requires { IsWithin self.old.domain value }
-        ensures values { OnOk result (self.new ≡ value_seen self.old value) }
-        ensures number { IfOk result (IsNumberOf self.new.values value) }
+    fn number(&mut self, value: &PartValue) -> Result<usize, Memory>
+        requires { IsWithin self.old.domain value.now }
+        ensures values { OnOk result (self.new ≡ value_seen self.old value.now) }
+        ensures number { IfOk result (IsNumberOf self.new.values value.now) }
         ensures below { IfOk result (λ n. n < domain_size self.old.domain) }
         ensures err { OnErr result (self.new ≡ self.old) }
     {
-        let next = self.next;
-        if next < self.len() && self.value(next).is(&value) {
-            self.next = next + 1;
-            return Ok(next);
-        }
-        let number = self.number_by_search(value)?;
-        self.next = number.saturating_add(1);
+        let number = self.seen.number(value)?;
         Ok(number)
     }
 
-    // the same by a search
-    fn number_by_search(&mut self, value: PartValue) -> Result<usize, Memory>
-        requires { IsWithin self.old.domain value }
-        ensures values { OnOk result (self.new ≡ value_seen self.old value) }
-        ensures number { IfOk result (IsNumberOf self.new.values value) }
-        ensures below { IfOk result (λ n. n < domain_size self.old.domain) }
+    /// The number of what an update makes of the value with a number, which comes in last where it is new.
+    fn number_after(&mut self, number: usize, update: &Update) -> Result<usize, Memory>
+        requires known { number < length self.old.values }
+        requires within { (v : PartValue) → IsNumberOf self.old.values v number → IsWithin self.old.domain (updated update.now v) }
+        ensures values { OnOk result ((v : PartValue) → IsNumberOf self.old.values v number → self.new ≡ value_seen self.old (updated update.now v)) }
+        ensures number { IfOk result (λ n. (v : PartValue) → IsNumberOf self.old.values v number → IsNumberOf self.new.values (updated update.now v) n) }
         ensures err { OnErr result (self.new ≡ self.old) }
     {
-        let (number, _is_new) = self.seen.insert_full(Seen { value })?;
-        Ok(number)
-    }
-
-    /// How many values there are.
-    fn len(&self) -> usize
-        ensures { result ≡ length self.now.values }
-    {
-        self.seen.len()
-    }
-
-    /// What its values are values of.
-    fn domain(&self) -> Domain
-        ensures { result ≡ self.now.domain }
-    {
-        self.domain
-    }
-
-    /// The value with a number.
-    fn value(&self, number: usize) -> &PartValue
-        requires { number < length self.now.values }
-        ensures { IsNumberOf self.now.values result.now number }
-    {
-        &self.seen.as_slice()[number].value
+        let after = self.seen.number_after(number, update)?;
+        Ok(after)
     }
 
     /// Leaves out the numbers of a component's values that don't pass a test.
@@ -120,9 +88,8 @@ impl Numbering {
             Test::Is(value) => self.keep_value(alloc, value, component, entry),
             Test::IsNot(value) => self.leave_value(alloc, value, component, entry),
             _ => {
-                let seen = self.seen.as_slice();
                 self.filters
-                    .keep_passing(alloc, seen, test, component, entry)?;
+                    .keep_passing(alloc, &self.seen, test, component, entry)?;
                 Ok(())
             }
         }
@@ -168,8 +135,8 @@ impl Numbering {
     fn has_value(&self, value: &PartValue, component: usize, entry: &NumberedEntry) -> bool
         ensures { result ≡ is_member (plain_set self.now.values (numbers_at entry.now component)) value.now }
     {
-        self.are_values();
-        match self.number_of(value) {
+        self.seen.are_values();
+        match self.seen.number_of(value) {
             None => false,
             Some(number) => entry.sets.has(component, number),
         }
@@ -179,8 +146,9 @@ impl Numbering {
     fn alone(&self, alloc: Global, value: &PartValue) -> Result<NumberedSet, Memory>
         ensures { IfOk result (IsNumberAlone self.now.values value.now) }
     {
-        let mut alone = NumberedSet::new(alloc, self.domain);
-        match self.number_of(value) {
+        self.seen.are_values();
+        let mut alone = NumberedSet::new(alloc, self.seen.domain());
+        match self.seen.number_of(value) {
             None => Ok(alone),
             Some(number) => {
                 alone.insert(number)?;
@@ -189,43 +157,14 @@ impl Numbering {
         }
     }
 
-    // the number of a value, if it has one
-    fn number_of(&self, value: &PartValue) -> Option<usize>
-        ensures number { IfSome result (IsNumberOf self.now.values value.now) }
-        ensures none { IfNone result (list_any (same_part value.now) self.now.values ≡ false) }
-    {
-        let key = Seen {
-            value: value.copy(),
-        };
-        self.seen.get_index_of(&key)
-    }
-
-    // takes the memory for so many more values at once
-    fn make_room(&mut self, count: usize) -> Result<(), Memory>
-        ensures { self.new ≡ self.old }
-    {
-        self.seen.reserve_exact(count)?;
-        Ok(())
-    }
-
     /// The same values under the same numbers. No test was asked of them yet.
     fn copy(&self, alloc: Global) -> Result<Numbering, Memory>
         ensures { IfOk result (λ copy. copy ≡ self.now) }
     {
-        self.are_values();
-        let mut copy = Numbering::new(alloc, self.domain());
-        copy.make_room(self.len())?;
-        for number in 0..self.len() {
-            copy.number(self.value(number).copy())?;
-        }
-        Ok(copy)
-    }
-
-    /// None stands twice, and each is one of the domain's.
-    fn are_values(&self)
-        ensures { AreValues self.now }
-    {
-        let _domain = self.domain;
+        Ok(Numbering {
+            seen: self.seen.copy(alloc)?,
+            filters: Filters::new(alloc),
+        })
     }
 }
 
@@ -246,7 +185,8 @@ impl Model for Pool {
 
 impl Pool {
     ghost use Rattle.std.specs.Prelude.{◌≡◌, ◌<◌, length, map, slice_set, IfOk, OnOk, OnErr, All};
-    ghost use Rattle.abstract_state.specs.{Domains.{IsWithin, domain_size}, Tables.{is_member}};
+    ghost use Rattle.abstract_state.specs.{declared.value.PartValue.{PartValue}, Domains.{IsWithin, domain_size}, Tables.{is_member}};
+    ghost use Rattle.flow_model.specs.Tests.{updated};
     ghost use Rattle.numbered_sets.specs.{Filters.{IsSifted}, NumberedEntries.{numbers_at}, Pools.{no_values, value_seen, seen_at, values_at, domain_at, AreValues, IsNumberOf}};
     ghost use Rattle.numbered_sets.specs.Views.{plain_set};
 
@@ -271,8 +211,27 @@ impl Pool {
         ensures err { OnErr result (self.new ≡ self.old) }
     {
         let numbering = self.numberings.at_mut(component);
-        let number = numbering.number(value)?;
+        let number = numbering.number(&value)?;
         Ok(number)
+    }
+
+    /// The number of what an update makes of a component's value with a number, which comes in last where it is new.
+    pub fn number_after(
+        &mut self,
+        component: usize,
+        number: usize,
+        update: &Update,
+    ) -> Result<usize, Memory>
+        requires known { component < length self.old }
+        requires given { number < length (values_at self.old component) }
+        requires within { (v : PartValue) → IsNumberOf (values_at self.old component) v number → IsWithin (domain_at self.old component) (updated update.now v) }
+        ensures pool { OnOk result ((v : PartValue) → IsNumberOf (values_at self.old component) v number → self.new ≡ slice_set self.old component (value_seen (seen_at self.old component) (updated update.now v))) }
+        ensures number { IfOk result (λ n. (v : PartValue) → IsNumberOf (values_at self.old component) v number → IsNumberOf (values_at self.new component) (updated update.now v) n) }
+        ensures err { OnErr result (self.new ≡ self.old) }
+    {
+        let numbering = self.numberings.at_mut(component);
+        let after = numbering.number_after(number, update)?;
+        Ok(after)
     }
 
     /// How many values a component was seen with.
@@ -280,7 +239,7 @@ impl Pool {
         requires { component < length self.now }
         ensures { result ≡ length (values_at self.now component) }
     {
-        self.numberings.at(component).len()
+        self.numberings.at(component).seen.len()
     }
 
     /// What a component's values are values of.
@@ -288,16 +247,16 @@ impl Pool {
         requires { component < length self.now }
         ensures { result ≡ domain_at self.now component }
     {
-        self.numberings.at(component).domain()
+        self.numberings.at(component).seen.domain()
     }
 
     /// A component's value with a number.
-    pub fn value(&self, component: usize, number: usize) -> &PartValue
+    pub fn value(&self, component: usize, number: usize) -> PartValue
         requires known { component < length self.now }
         requires given { number < length (values_at self.now component) }
-        ensures { IsNumberOf (values_at self.now component) result.now number }
+        ensures { IsNumberOf (values_at self.now component) result number }
     {
-        self.numberings.at(component).value(number)
+        self.numberings.at(component).seen.value(number)
     }
 
     /// Whether a component's set has the number of a value.
@@ -346,7 +305,7 @@ impl Pool {
         ensures { All AreValues self.now }
     {
         for numbering in self.numberings.as_slice() {
-            numbering.are_values();
+            numbering.seen.are_values();
         }
     }
 }

@@ -21,7 +21,7 @@ loop-number-init c = (
 pub loop-number-preserved : goal.loop-number-preserved
 loop-number-preserved c = (
   more_blocks c.args.pool.now c.args.entry.now c.index-component.result c.loop-number.number c.next-number-in-loop-number.result c.loop-number.ends c.push.new.self
-      (record { number = c.loop-number.number; target = point.Task c.block_of.result }) c.value.result.now c.in_ok-push.ensures.ok (c.loop-number.invariant.2 c.loop-number-test.true) c.value.ensures refl
+      (record { number = c.loop-number.number; target = point.Task c.block_of.result }) c.value.result c.in_ok-push.ensures.ok (c.loop-number.invariant.2 c.loop-number-test.true) c.value.ensures refl
       (ap (λ (b : BlockNo). point.Task b) c.block_of.ensures) c.next-number-in-loop-number.ensures.none c.loop-number.invariant.0,
   c.next-number-in-loop-number.ensures.few,
   c.next-number-in-loop-number.ensures.has,

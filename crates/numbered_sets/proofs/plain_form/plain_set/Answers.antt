@@ -1,4 +1,4 @@
-use Rattle.std.proofs.Common.{◌<◌, ◌+◌, length, sym, ap, ◌∙◌, arith}
+use Rattle.std.proofs.Common.{◌<◌, ◌+◌, length, ap, ◌∙◌, arith}
 use Rattle.abstract_state.specs.Tables.{empty_of}
 use Rattle.numbered_sets.specs.Pools.{values_at}
 use Rattle.numbered_sets.proofs.PlainLaws.{plain_begun, plain_put, plain_whole, plain_skip_to}
@@ -20,7 +20,7 @@ loop-number-preserved c =
     let numbers = c.args.numbers.now in
     let number = c.loop-number.number in
     let known : number < length values = omega (arith, c.loop-number-test.true, c.len-count.ensures) in
-    let put = plain_put values numbers number c.loop-number.set c.insert.new.self c.copy.result known (c.value.ensures.is c.copy.result ∙ sym c.copy.ensures) c.loop-number.invariant.0
+    let put = plain_put values numbers number c.loop-number.set c.insert.new.self c.value.result known (c.value.ensures.is c.value.result) c.loop-number.invariant.0
     (c.loop-number.invariant.2 c.loop-number-test.true) c.in_ok-insert.ensures.domain c.in_ok-insert.ensures.ascending c.in_ok-insert.ensures.members in (
       plain_skip_to values numbers (number + 1) c.insert.new.self c.next-number-in-loop-number.result c.next-number-in-loop-number.ensures.up
           (omega (arith, c.next-number-in-loop-number.ensures.few, c.len-count.ensures)) put c.next-number-in-loop-number.ensures.none,

@@ -1,0 +1,348 @@
+-- Slots of values: each is the only one of its value, and stays as more stacks come in.
+use Rattle.std.proofs.Common.{◌≡◌, ◌≢◌, ◌⊎◌, ℕ, zero, suc, ◌+◌, ◌-◌, ◌*◌, ◌/◌, ◌%◌, ◌^◌, ◌<◌, Bool, false, List, [], ◌∷◌, ◌++◌, length, get_or, set, cond, refl, sym, ap, ap₂, subst, ◌∙◌, inl, inr, arith, get_or-set_same, get_or-set_other}
+use Rattle.std.specs.{Prelude.{Option, Some, None, IfSome, IfNone}, List.{list_any}}
+use Rattle.std.proofs.Math.{Nat.{div-lt_iff_lt-mul, div-add-mod, mod-lt, mul_comm}, Seq.{get_or-append_seam}}
+use Rattle.std.proofs.lemmas.{Bool.{cases_eq, cases_lt}, Nat.{div-mul-add, mod-mul-add}, List.{length-append, length-map, map-append, get_or-map, get_or_append_left}, Map.Views.{Contains-from_any}}
+use Rattle.osek_values.specs.{Numbers.{block_no}, declared.numbers.{BlockNo.{BlockNo}, ResNo.{ResNo}}}
+use Rattle.osek_standard.specs.Validity.{IsAmong}
+use Rattle.abstract_state.specs.declared.value.{Val.{Val, TheVariants.{Suspended, Live, Waiting}}, LiveVal.{LiveVal}, Domain.{Domain}, PartValue.{PartValue, TheVariants.{OfTask}}}
+use Rattle.abstract_state.specs.declared.value.Domain.TheVariants as domain
+use Rattle.abstract_state.specs.Components.{live_val}
+use Rattle.abstract_state.specs.{Domains.{IsWithin}, ValueOrder.{same_part}}
+use Rattle.abstract_state.proofs.OrderLaws.{part_right}
+use Rattle.flow_model.specs.{Values.{at_block}, Tests.{on_task}}
+use Rattle.numbered_sets.specs.{Pools.{with_value, AreNumbered, IsNumberOf}, Slots.{in_row, val_in, value_in, slot_values, IsTaskSlot, IsSlot, AreSlots, IsSlotInRow, IsTaskSlotOf, IsSlotOf, IsStackNumber, AreMoreStacks}}
+use Rattle.numbered_sets.specs.Slots.{IsPlaceOf, IsUnused, none, AreNumbersBySlot}
+use Rattle.numbered_sets.proofs.{PoolLaws.{numbered_with}, ViewLaws.{false_unless}}
+
+-- ---- what stands in a row
+
+abbrev block_in : Val → BlockNo
+block_in Suspended = block_no 0
+block_in (Live x) = x.block
+block_in (Waiting b) = b
+
+abbrev held_in : Val → List ResNo
+held_in Suspended = []
+held_in (Live x) = x.held
+held_in (Waiting b) = []
+
+never_suspended : (stacks : List (List ResNo)) (r : ℕ) (b : BlockNo) → in_row stacks r b ≡ Suspended → ⊥
+never_suspended stacks zero b e = absurd (cc)
+never_suspended stacks (suc k) b e = absurd (cc)
+
+block_of_row : (stacks : List (List ResNo)) (r : ℕ) (b : BlockNo) → block_in (in_row stacks r b) ≡ b
+block_of_row stacks zero b = refl
+block_of_row stacks (suc k) b = refl
+
+first_row : (stacks : List (List ResNo)) (r : ℕ) (b c : BlockNo) → in_row stacks r b ≡ Waiting c → r ≡ 0
+first_row stacks zero b c e = refl
+first_row stacks (suc k) b c e = absurd (cc)
+
+-- the row of a stack
+stack_of_row : (stacks : List (List ResNo)) (r : ℕ) (b : BlockNo) (x : LiveVal) → in_row stacks r b ≡ Live x → (k : ℕ) × (r ≡ suc k) × (get_or stacks k [] ≡ x.held)
+stack_of_row stacks zero b x e = absurd (cc)
+stack_of_row stacks (suc k) b x e = (k, refl, ap held_in e)
+
+row_stays : (stacks more : List (List ResNo)) (r : ℕ) (b : BlockNo) → r < 1 + length stacks → in_row (stacks ++ more) r b ≡ in_row stacks r b
+row_stays stacks more zero b lt = refl
+row_stays stacks more (suc k) b lt = ap (λ (held : List ResNo). Live (live_val b held)) (get_or_append_left stacks more [] k (omega (arith, lt)))
+
+-- ---- the row and the block of a slot
+
+some_block : (n rows count : ℕ) → n < rows * count → 0 < count
+some_block n rows zero lt = absurd (omega (arith, lt))
+some_block n rows (suc c) lt = omega arith
+
+row_known : (n rows count : ℕ) → n < rows * count → n / count < rows
+row_known n rows count lt = (div-lt_iff_lt-mul {k = count} {x = n} {y = rows} (some_block n rows count lt)).1 lt
+
+module _ (first count row block n : ℕ) (at : IsSlotInRow first count row block (suc n)) where
+  short : block - first < count
+  short = omega (arith, at.low, at.high)
+
+  place : n ≡ row * count + (block - first)
+  place = omega (arith, at.low, at.is)
+
+  its_row : n / count ≡ row
+  its_row = ap (λ (m : ℕ). m / count) place ∙ div-mul-add row count (block - first) short
+
+  its_block : first + n % count ≡ block
+  its_block = (let rest : n % count ≡ block - first = ap (λ (m : ℕ). m % count) place ∙ mod-mul-add row count (block - first) short in omega (arith, rest, at.low))
+
+known_slot : (first count row block s : ℕ) (stacks : List (List ResNo)) → IsSlotInRow first count row block s → row < 1 + length stacks → block < 2 ^ 16 → IsTaskSlot first count stacks s
+known_slot first count row block zero stacks at few small = tt
+known_slot first count row block (suc n) stacks at few small =
+    let some : 0 < count = (let short = short first count row block n at in omega (arith, short)) in
+    let below : n / count < 1 + length stacks = (let same = its_row first count row block n at in omega (arith, same, few)) in
+    ((div-lt_iff_lt-mul {k = count} {x = n} {y = 1 + length stacks} some).0 below, (let same = its_block first count row block n at in omega (arith, same, small)))
+
+in_slot : (first count row block s : ℕ) (stacks : List (List ResNo)) → IsSlotInRow first count row block s → val_in first count stacks s ≡ in_row stacks row (block_no block)
+in_slot first count row block zero stacks at = absurd (omega (arith, at.low, at.is))
+in_slot first count row block (suc n) stacks at = ap₂ (λ (r b : ℕ). in_row stacks r (block_no b)) (its_row first count row block n at) (its_block first count row block n at)
+
+-- the only row in which the value stands
+abbrev pub IsOnlyRow : List (List ResNo) → Val → ℕ → Type 0
+IsOnlyRow stacks v row = (r : ℕ) (b : BlockNo) → r < 1 + length stacks → in_row stacks r b ≡ v → r ≡ row
+
+only_slot : (first count row : ℕ) (block : BlockNo) (s t : ℕ) (stacks : List (List ResNo)) (v : Val) → IsSlotInRow first count row block.0 s → in_row stacks row block ≡ v → IsOnlyRow stacks v row
+    → IsTaskSlot first count stacks t → val_in first count stacks t ≡ v → t ≡ s
+only_slot first count row block s zero stacks v at is only known e = absurd (never_suspended stacks row block (is ∙ sym e))
+only_slot first count row block s (suc m) stacks v at is only known e =
+    let r = m / count in
+    let b = block_no (first + m % count) in
+    let same_row : r ≡ row = only r b (row_known m (1 + length stacks) count known.0) e in
+    let same_block : b ≡ block = sym (block_of_row stacks r b) ∙ ap block_in (e ∙ sym is) ∙ block_of_row stacks row block in
+    let low : first + m % count ≡ block.0 = ap (λ (x : BlockNo). x.0) same_block in
+    let parts : count * (m / count) + m % count ≡ m = div-add-mod m count in
+    let product : count * (m / count) ≡ row * count = ap (λ (k : ℕ). count * k) same_row ∙ mul_comm count row in
+    omega (arith, low, parts, product, at.is, at.low)
+
+pub slot_of_row : (first count row s : ℕ) (block : BlockNo) (stacks : List (List ResNo)) (v : Val) → IsSlotInRow first count row block.0 s → row < 1 + length stacks → block.0 < 2 ^ 16 → in_row stacks row block ≡ v → IsOnlyRow stacks v row
+    → IsTaskSlotOf first count stacks v s
+slot_of_row first count row s block stacks v at few small is only = record {
+  known = known_slot first count row block.0 s stacks at few small;
+  is = in_slot first count row block.0 s stacks at ∙ is;
+  only = λ t known e. only_slot first count row block s t stacks v at is only known e;
+}
+
+pub waiting_row : (stacks : List (List ResNo)) (block : BlockNo) → IsOnlyRow stacks (Waiting block) 0
+waiting_row stacks block r b lt e = first_row stacks r b block e
+
+pub live_row : (stacks : List (List ResNo)) (x : LiveVal) (k : ℕ) → IsStackNumber stacks x.held k → IsOnlyRow stacks (Live x) (suc k)
+live_row stacks x k number r b lt e =
+    let row = stack_of_row stacks r b x e in
+    let same = number.only row.0 (omega (arith, lt, row.1)) row.2 in
+    omega (arith, same, row.1)
+
+pub in_live_row : (stacks : List (List ResNo)) (x : LiveVal) (k : ℕ) → IsStackNumber stacks x.held k → in_row stacks (suc k) x.block ≡ Live x
+in_live_row stacks x k number = ap (λ (held : List ResNo). Live (live_val x.block held)) number.is
+
+pub suspended_slot : (first count : ℕ) (stacks : List (List ResNo)) → IsTaskSlotOf first count stacks Suspended 0
+suspended_slot first count stacks = record {
+  known = tt;
+  is = refl;
+  only = λ t known e. first_slot t e;
+}
+  where
+    first_slot : (t : ℕ) → val_in first count stacks t ≡ Suspended → t ≡ 0
+    first_slot zero e = refl
+    first_slot (suc m) e = absurd (never_suspended stacks (m / count) (block_no (first + m % count)) e)
+
+-- what a search for the slot found
+pub waiting_slot : (first count : ℕ) (stacks : List (List ResNo)) (block : BlockNo) (found : Option ℕ) → block.0 < 2 ^ 16 → IfSome found (IsSlotInRow first count 0 block.0) → IfSome found (IsTaskSlotOf first count stacks (Waiting block))
+waiting_slot first count stacks block None small at = tt
+waiting_slot first count stacks block (Some s) small at = slot_of_row first count 0 s block stacks (Waiting block) at (omega arith) small refl (waiting_row stacks block)
+
+pub live_slot : (first count : ℕ) (stacks : List (List ResNo)) (x : LiveVal) (k : ℕ) (found : Option ℕ) → IsStackNumber stacks x.held k → x.block.0 < 2 ^ 16 → IfSome found (IsSlotInRow first count (k + 1) x.block.0) → IfSome found (IsTaskSlotOf first count stacks (Live x))
+live_slot first count stacks x k None number small at = tt
+live_slot first count stacks x k (Some s) number small at =
+    let row : k + 1 ≡ suc k = omega arith in
+    slot_of_row first count (suc k) s x.block stacks (Live x) (subst (λ r. IsSlotInRow first count r x.block.0 s) row at) (omega (arith, number.known)) small (in_live_row stacks x k number) (live_row stacks x k number)
+
+-- ---- slots at another block
+
+moved_row : (stacks : List (List ResNo)) (r : ℕ) (b c : BlockNo) → (r ≡ 0 → ⊥) → in_row stacks r b ≡ at_block b (in_row stacks r c)
+moved_row stacks zero b c some = absurd (some refl)
+moved_row stacks (suc k) b c some = refl
+
+pub moved_slot : (first count row slot : ℕ) (block : BlockNo) (stacks : List (List ResNo)) (found : Option ℕ) → (slot ≡ 0 → ⊥) → row ≡ (slot - 1) / count → (row ≡ 0 → ⊥) → IfSome found (IsSlotInRow first count row block.0)
+    → IfSome found (λ t. val_in first count stacks t ≡ at_block block (val_in first count stacks slot))
+moved_slot first count row slot block stacks None some is live at = tt
+moved_slot first count row zero block stacks (Some t) some is live at = absurd (some refl)
+moved_slot first count row (suc n) block stacks (Some t) some is live at =
+    let less : suc n - 1 ≡ n = omega arith in
+    let same : n / count ≡ row = sym (is ∙ ap (λ (m : ℕ). m / count) less) in
+    in_slot first count row block.0 t stacks at ∙ moved_row stacks row block (block_no (first + n % count)) live
+    ∙ ap (λ (r : ℕ). at_block block (in_row stacks r (block_no (first + n % count)))) (sym same)
+
+pub moved_value : (first : BlockNo) (count resources slot : ℕ) (block : BlockNo) (stacks : List (List ResNo)) (found : Option ℕ) → IfSome found (λ t. val_in first.0 count stacks t ≡ at_block block (val_in first.0 count stacks slot))
+    → IfSome found (λ t. value_in (domain.Task first count resources) stacks t ≡ on_task (at_block block) (value_in (domain.Task first count resources) stacks slot))
+moved_value first count resources slot block stacks None at = tt
+moved_value first count resources slot block stacks (Some t) at = ap OfTask at
+
+-- ---- values without a slot
+
+no_slot : (first count : ℕ) (stacks : List (List ResNo)) (v : Val) → ((r : ℕ) (b : BlockNo) → r < 1 + length stacks → IsAmong b.0 first count → in_row stacks r b ≡ v → ⊥) → (v ≡ Suspended → ⊥)
+    → (s : ℕ) → IsTaskSlot first count stacks s → val_in first count stacks s ≢ v
+no_slot first count stacks v none other zero known e = other (sym e)
+no_slot first count stacks v none other (suc n) known e =
+    let rest = mod-lt n {m = count} (some_block n (1 + length stacks) count known.0) in
+    none (n / count) (block_no (first + n % count)) (row_known n (1 + length stacks) count known.0) (omega arith, omega (arith, rest)) e
+
+pub waits_elsewhere : (first count : ℕ) (stacks : List (List ResNo)) (block : BlockNo) → (IsAmong block.0 first count → ⊥) → (s : ℕ) → IsTaskSlot first count stacks s → val_in first count stacks s ≢ Waiting block
+waits_elsewhere first count stacks block out =
+    no_slot first count stacks (Waiting block)
+    (λ r b lt among e. out (subst (λ (c : BlockNo). IsAmong c.0 first count) (sym (block_of_row stacks r b) ∙ ap block_in e) among)) (λ e. absurd (cc))
+
+pub lives_elsewhere : (first count : ℕ) (stacks : List (List ResNo)) (x : LiveVal) → (IsAmong x.block.0 first count → ⊥) → (s : ℕ) → IsTaskSlot first count stacks s → val_in first count stacks s ≢ Live x
+lives_elsewhere first count stacks x out =
+    no_slot first count stacks (Live x)
+    (λ r b lt among e. out (subst (λ (c : BlockNo). IsAmong c.0 first count) (sym (block_of_row stacks r b) ∙ ap block_in e) among)) (λ e. absurd (cc))
+
+pub unseen_stack : (first count : ℕ) (stacks : List (List ResNo)) (x : LiveVal) → ((k : ℕ) → k < length stacks → get_or stacks k [] ≢ x.held) → (s : ℕ) → IsTaskSlot first count stacks s → val_in first count stacks s ≢ Live x
+unseen_stack first count stacks x none =
+    no_slot first count stacks (Live x)
+    (λ r b lt among e. let row = stack_of_row stacks r b x e in none row.0 (omega (arith, lt, row.1)) row.2) (λ e. absurd (cc))
+
+-- ---- slots as more stacks come in
+
+slot_stays : (d : Domain) (stacks more : List (List ResNo)) (s : ℕ) → IsSlot d stacks s → IsSlot d (stacks ++ more) s
+slot_stays (domain.Task first count resources) stacks more zero known = tt
+slot_stays (domain.Task first count resources) stacks more (suc n) known =
+    let below = row_known n (1 + length stacks) count known.0 in
+    ((div-lt_iff_lt-mul {k = count} {x = n} {y = 1 + length (stacks ++ more)} (some_block n (1 + length stacks) count known.0)).0 (omega (arith, below, length-append stacks more)), known.1)
+slot_stays domain.Event stacks more s known = known
+slot_stays domain.Alarm stacks more s known = known
+
+value_stays : (d : Domain) (stacks more : List (List ResNo)) (s : ℕ) → IsSlot d stacks s → value_in d (stacks ++ more) s ≡ value_in d stacks s
+value_stays (domain.Task first count resources) stacks more zero known = refl
+value_stays (domain.Task first count resources) stacks more (suc n) known = ap OfTask (row_stays stacks more (n / count) (block_no (first.0 + n % count)) (row_known n (1 + length stacks) count known.0))
+value_stays domain.Event stacks more s known = refl
+value_stays domain.Alarm stacks more s known = refl
+
+pub slots_stay : (d : Domain) (stacks after : List (List ResNo)) (slots : List ℕ) → AreMoreStacks stacks after → AreSlots d stacks slots → AreSlots d after slots
+slots_stay d stacks after slots grown known = record {
+  each = λ n e lt. subst (λ (all : List (List ResNo)). IsSlot d all (get_or slots n e)) (sym grown.is) (slot_stays d stacks grown.more (get_or slots n e) (known.each n e lt));
+}
+
+values_stay_with : (d : Domain) (stacks more : List (List ResNo)) (slots : List ℕ) → AreSlots d stacks slots → slot_values d (stacks ++ more) slots ≡ slot_values d stacks slots
+values_stay_with d stacks more [] known = refl
+values_stay_with d stacks more (s ∷ ss) known =
+    ap₂ (λ (v : PartValue) (vs : List PartValue). v ∷ vs) (value_stays d stacks more s (known.each 0 0 (omega arith)))
+    (values_stay_with d stacks more ss (record { each = λ n e lt. known.each (suc n) e (omega (arith, lt)) }))
+
+pub values_stay : (d : Domain) (stacks after : List (List ResNo)) (slots : List ℕ) → AreMoreStacks stacks after → AreSlots d stacks slots → slot_values d after slots ≡ slot_values d stacks slots
+values_stay d stacks after slots grown known = ap (λ (all : List (List ResNo)). slot_values d all slots) grown.is ∙ values_stay_with d stacks grown.more slots known
+
+-- ---- values by number
+
+pub value_numbered : (d : Domain) (stacks : List (List ResNo)) (slots : List ℕ) (s n : ℕ) (v : PartValue) → IsPlaceOf slots s n → value_in d stacks s ≡ v → IsNumberOf (slot_values d stacks slots) v n
+value_numbered d stacks slots s n v place is = record {
+  known = omega (arith, place.known, length-map slots (value_in d stacks));
+  is = λ w. get_or-map (value_in d stacks) slots n 0 w place.known ∙ ap (value_in d stacks) (place.is 0) ∙ is;
+}
+
+pub some_number : (d : Domain) (stacks : List (List ResNo)) (slots : List ℕ) (s : ℕ) (v : PartValue) (found : Option ℕ) → IfSome found (IsPlaceOf slots s) → value_in d stacks s ≡ v → IfSome found (IsNumberOf (slot_values d stacks slots) v)
+some_number d stacks slots s v None at is = tt
+some_number d stacks slots s v (Some n) at is = value_numbered d stacks slots s n v at is
+
+-- the number of what becomes of a value, by its slot
+pub moved_number : (d : Domain) (stacks : List (List ResNo)) (slots : List ℕ) (becomes : PartValue → PartValue) (s t n : ℕ) (found : Option ℕ) → IsPlaceOf slots s n → value_in d stacks t ≡ becomes (value_in d stacks s) → IfSome found (IsPlaceOf slots t)
+    → IfSome found (λ m. (v : PartValue) → IsNumberOf (slot_values d stacks slots) v n → IsNumberOf (slot_values d stacks slots) (becomes v) m)
+moved_number d stacks slots becomes s t n None at is there = tt
+moved_number d stacks slots becomes s t n (Some m) at is there = λ v number.
+    let same : value_in d stacks s ≡ v = sym ((value_numbered d stacks slots s n (value_in d stacks s) at refl).is v) ∙ number.is v in
+    value_numbered d stacks slots t m (becomes v) there (is ∙ ap becomes same)
+
+-- a value that no slot has is none of them
+pub value_absent : (d : Domain) (stacks : List (List ResNo)) (slots : List ℕ) (v : PartValue) → ((n : ℕ) → n < length slots → value_in d stacks (get_or slots n 0) ≡ v → ⊥) → list_any (same_part v) (slot_values d stacks slots) ≡ false
+value_absent d stacks slots v none = false_unless (list_any (same_part v) (slot_values d stacks slots)) ⊥
+    (λ any.
+    let there = Contains-from_any part_right v (slot_values d stacks slots) any in
+    let lt : there.0 < length slots = omega (arith, there.1, length-map slots (value_in d stacks)) in
+    none there.0 lt (sym (get_or-map (value_in d stacks) slots there.0 0 v lt) ∙ there.2))
+    (λ no. no)
+
+pub value_without_slot : (d : Domain) (stacks : List (List ResNo)) (slots : List ℕ) (v : PartValue) → AreSlots d stacks slots → ((s : ℕ) → IsSlot d stacks s → value_in d stacks s ≢ v) → list_any (same_part v) (slot_values d stacks slots) ≡ false
+value_without_slot d stacks slots v known none = value_absent d stacks slots v (λ n lt e. none (get_or slots n 0) (known.each n 0 lt) e)
+
+-- neither is one whose slot has no number
+pub value_unused : (d : Domain) (stacks : List (List ResNo)) (slots : List ℕ) (s : ℕ) (v : PartValue) → AreSlots d stacks slots → IsUnused slots s → IsSlotOf d stacks v s → list_any (same_part v) (slot_values d stacks slots) ≡ false
+value_unused d stacks slots s v known unused slot =
+    value_absent d stacks slots v (λ n lt e. unused.each n 0 lt (slot.only (get_or slots n 0) (known.each n 0 lt) e))
+
+pub none_found : (d : Domain) (stacks : List (List ResNo)) (slots : List ℕ) (s : ℕ) (v : PartValue) (found : Option ℕ) → AreSlots d stacks slots → IfNone found (IsUnused slots s) → IsSlotOf d stacks v s → IfNone found (list_any (same_part v) (slot_values d stacks slots) ≡ false)
+none_found d stacks slots s v (Some n) known unused slot = tt
+none_found d stacks slots s v None known unused slot = value_unused d stacks slots s v known unused slot
+
+-- a slot comes in last
+pub value_pushed : (d : Domain) (stacks : List (List ResNo)) (slots : List ℕ) (s : ℕ) (v : PartValue) → list_any (same_part v) (slot_values d stacks slots) ≡ false → value_in d stacks s ≡ v → slot_values d stacks (slots ++ s ∷ []) ≡ with_value (slot_values d stacks slots) v
+value_pushed d stacks slots s v new is =
+    map-append (value_in d stacks) slots (s ∷ []) ∙ ap (λ (w : PartValue). slot_values d stacks slots ++ w ∷ []) is
+    ∙ sym (ap (λ (b : Bool). cond b (slot_values d stacks slots) (slot_values d stacks slots ++ v ∷ [])) new)
+
+pub slots_pushed : (d : Domain) (stacks : List (List ResNo)) (slots : List ℕ) (s : ℕ) → AreSlots d stacks slots → IsSlot d stacks s → AreSlots d stacks (slots ++ s ∷ [])
+slots_pushed d stacks slots s known its = record {
+  each = λ n e lt. elim (cases_lt n (length slots)) [
+    | inl before ↦ subst (IsSlot d stacks) (sym (get_or_append_left slots (s ∷ []) e n before)) (known.each n e before)
+    | inr le ↦
+        (let last : n ≡ length slots = omega (arith, lt, le, length-append slots (s ∷ [])) in
+        subst (IsSlot d stacks) (sym (ap (λ (k : ℕ). get_or (slots ++ s ∷ []) k e) last ∙ get_or-append_seam slots s [] e)) its)
+  ];
+}
+
+-- what is kept of values and slots
+abbrev pub AreSeen : Domain → List (List ResNo) → List ℕ → Type 0
+AreSeen d stacks slots = AreNumbered d (slot_values d stacks slots) × AreSlots d stacks slots
+
+pub seen_stay : (d : Domain) (stacks after : List (List ResNo)) (slots : List ℕ) → AreMoreStacks stacks after → AreSeen d stacks slots → AreSeen d after slots
+seen_stay d stacks after slots grown h = (subst (AreNumbered d) (sym (values_stay d stacks after slots grown h.1)) h.0, slots_stay d stacks after slots grown h.1)
+
+module _ (d : Domain) (stacks after : List (List ResNo)) (slots more : List ℕ) (s : ℕ) (v : PartValue) (grown : AreMoreStacks stacks after) (h : AreSeen d stacks slots) (slot : IsSlotOf d after v s) (unused : IsUnused slots s) (pushed : more ≡ slots ++ s ∷ []) where
+  pub values_pushed : slot_values d after more ≡ with_value (slot_values d stacks slots) v
+  values_pushed =
+      ap (slot_values d after) pushed ∙ value_pushed d after slots s v (value_unused d after slots s v (slots_stay d stacks after slots grown h.1) unused slot) slot.is
+      ∙ ap (λ (vs : List PartValue). with_value vs v) (values_stay d stacks after slots grown h.1)
+
+  pub seen_pushed : IsWithin d v → AreSeen d after more
+  seen_pushed within = (
+    subst (AreNumbered d) (sym values_pushed) (numbered_with d (slot_values d stacks slots) v h.0 within),
+    subst (AreSlots d after) (sym pushed) (slots_pushed d after slots s (slots_stay d stacks after slots grown h.1) slot.known),
+  )
+
+-- ---- numbers by slot
+
+pub no_numbers : AreNumbersBySlot [] []
+no_numbers = record {
+  few = omega arith;
+  each = λ n d lt. absurd (omega (arith, lt));
+  only = λ s differs. absurd (differs refl);
+}
+
+-- room for one number more
+room_more : (numbers : List ℕ) (s : ℕ) → get_or (numbers ++ none ∷ []) s none ≡ get_or numbers s none
+room_more [] zero = refl
+room_more [] (suc s) = refl
+room_more (x ∷ xs) zero = refl
+room_more (x ∷ xs) (suc s) = room_more xs s
+
+pub numbers_widened : (used numbers : List ℕ) → AreNumbersBySlot used numbers → AreNumbersBySlot used (numbers ++ none ∷ [])
+numbers_widened used numbers h = record {
+  few = h.few;
+  each = λ n d lt. room_more numbers (get_or used n d) ∙ h.each n d lt;
+  only = λ s differs.
+      (let same = room_more numbers s in subst (IsPlaceOf used s) (sym same) (h.only s (λ e. differs (same ∙ e))));
+}
+
+-- a slot without a number gets the next one
+module _ (used numbers : List ℕ) (s : ℕ) (h : AreNumbersBySlot used numbers) (unused : IsUnused used s) (room : s < length numbers) (few : length used < none) where
+  last_used : (n d : ℕ) → n < length (used ++ s ∷ []) → ((n < length used) × (get_or (used ++ s ∷ []) n d ≡ get_or used n d)) ⊎ ((n ≡ length used) × (get_or (used ++ s ∷ []) n d ≡ s))
+  last_used n d lt = elim (cases_lt n (length used)) [
+    | inl before ↦ inl (before, get_or_append_left used (s ∷ []) d n before)
+    | inr le ↦
+        (let last : n ≡ length used = omega (arith, lt, le, length-append used (s ∷ [])) in
+        inr (last, ap (λ (k : ℕ). get_or (used ++ s ∷ []) k d) last ∙ get_or-append_seam used s [] d))
+  ]
+
+  pub number_pushed : AreNumbersBySlot (used ++ s ∷ []) (set numbers s (length used))
+  number_pushed = record {
+    few = omega (arith, few, length-append used (s ∷ []));
+    each = λ n d lt. elim (last_used n d lt) [
+      | inl old ↦
+          (let other : get_or used n d ≢ s = unused.each n d old.0 in
+          ap (λ (t : ℕ). get_or (set numbers s (length used)) t none) old.1 ∙ get_or-set_other numbers s (get_or used n d) (length used) none other ∙ h.each n d old.0)
+      | inr new ↦ ap (λ (t : ℕ). get_or (set numbers s (length used)) t none) new.1 ∙ get_or-set_same numbers s (length used) none room ∙ sym new.0
+    ];
+    only = λ t differs. elim (cases_eq t s) [
+      | inl same ↦
+          (let number : get_or (set numbers s (length used)) t none ≡ length used = ap (λ (k : ℕ). get_or (set numbers s (length used)) k none) same ∙ get_or-set_same numbers s (length used) none room in
+          subst (IsPlaceOf (used ++ s ∷ []) t) (sym number)
+          (record { known = omega (arith, length-append used (s ∷ [])); is = λ d. get_or-append_seam used s [] d ∙ sym same }))
+      | inr other ↦
+          (let number : get_or (set numbers s (length used)) t none ≡ get_or numbers t none = get_or-set_other numbers s t (length used) none other in
+          let old = h.only t (λ e. differs (number ∙ e)) in
+          subst (IsPlaceOf (used ++ s ∷ []) t) (sym number)
+          (record { known = omega (arith, old.known, length-append used (s ∷ [])); is = λ d. get_or_append_left used (s ∷ []) d (get_or numbers t none) old.known ∙ old.is d }))
+    ];
+  }

@@ -1,0 +1,144 @@
+//! The values of one domain that were seen, by number.
+ghost use Rattle.std.specs.Prelude.{◌≡◌};
+
+use crate::slot_values::{slot_at_block, slot_for, slot_of, value_at};
+use crate::slots::Slots;
+use crate::stacks::Stacks;
+use abstract_state::{Domain, PartValue};
+use flow_model::Update;
+use osek_values::{BlockNo, Memory};
+use std::alloc::Global;
+use std::marker::Model;
+
+/// Different values of a domain in the order of first use: each has its place as its number. A value takes eight bytes: its slot
+/// is told by its block and the number of its stack, and tells them.
+#[derive(Drop)]
+pub struct SeenValues {
+    domain: Domain,
+    stacks: Stacks,
+    slots: Slots,
+}
+
+impl Model for SeenValues {
+    ghost use Rattle.numbered_sets.specs.{Pools.{Values, AreNumbered}, Slots.{slot_values, AreSlots}};
+
+    ghost Value = { Values };
+
+    ghost view = { λ s. record { domain = s.domain; values = slot_values s.domain s.stacks s.slots } };
+
+    ghost invariant = { λ s. AreNumbered s.domain (slot_values s.domain s.stacks s.slots) × AreSlots s.domain s.stacks s.slots };
+}
+
+impl SeenValues {
+    ghost use Rattle.std.specs.{Prelude.{◌≡◌, ◌<◌, false, length, IfOk, OnOk, OnErr, IfSome, IfNone}, List.{list_any}};
+    ghost use Rattle.abstract_state.specs.{declared.value.PartValue.{PartValue}, Domains.{IsWithin, domain_size}, ValueOrder.{same_part}};
+    ghost use Rattle.flow_model.specs.{declared.change.Update.TheVariants.{Block}, Tests.{updated}};
+    ghost use Rattle.numbered_sets.specs.Pools.{no_values, value_seen, AreValues, IsNumberOf};
+
+    /// No value yet.
+    pub fn new(alloc: Global, domain: Domain) -> SeenValues
+        ensures { result ≡ no_values domain }
+    {
+        SeenValues {
+            domain,
+            stacks: Stacks::new(alloc),
+            slots: Slots::new(alloc),
+        }
+    }
+
+    /// How many values there are.
+    pub fn len(&self) -> usize
+        ensures { result ≡ length self.now.values }
+    {
+        self.slots.len()
+    }
+
+    /// What its values are values of.
+    pub fn domain(&self) -> Domain
+        ensures { result ≡ self.now.domain }
+    {
+        self.domain
+    }
+
+    /// The value with a number.
+    pub fn value(&self, number: usize) -> PartValue
+        requires { number < length self.now.values }
+        ensures { IsNumberOf self.now.values result number }
+    {
+        value_at(self.domain, &self.stacks, self.slots.at(number))
+    }
+
+    /// The number of a value, if it has one.
+    pub fn number_of(&self, value: &PartValue) -> Option<usize>
+        ensures number { IfSome result (IsNumberOf self.now.values value.now) }
+        ensures none { IfNone result (list_any (same_part value.now) self.now.values ≡ false) }
+    {
+        match slot_of(self.domain, &self.stacks, value) {
+            None => None,
+            Some(slot) => self.slots.find(slot),
+        }
+    }
+
+    /// The number of a value, which comes in last where it is new.
+    pub fn number(&mut self, value: &PartValue) -> Result<usize, Memory>
+        requires { IsWithin self.old.domain value.now }
+        ensures values { OnOk result (self.new ≡ value_seen self.old value.now) }
+        ensures number { IfOk result (IsNumberOf self.new.values value.now) }
+        ensures below { IfOk result (λ n. n < domain_size self.old.domain) }
+        ensures err { OnErr result (self.new ≡ self.old) }
+    {
+        let slot = slot_for(self.domain, &mut self.stacks, value)?;
+        if let Some(number) = self.slots.find(slot) {
+            return Ok(number);
+        }
+        let number = self.slots.len();
+        self.slots.push(slot)?;
+        Ok(number)
+    }
+
+    /// The number of what an update makes of the value with a number, which comes in last where it is new.
+    pub fn number_after(&mut self, number: usize, update: &Update) -> Result<usize, Memory>
+        requires known { number < length self.old.values }
+        requires within { (v : PartValue) → IsNumberOf self.old.values v number → IsWithin self.old.domain (updated update.now v) }
+        ensures values { OnOk result ((v : PartValue) → IsNumberOf self.old.values v number → self.new ≡ value_seen self.old (updated update.now v)) }
+        ensures number { IfOk result (λ n. (v : PartValue) → IsNumberOf self.old.values v number → IsNumberOf self.new.values (updated update.now v) n) }
+        ensures err { OnErr result (self.new ≡ self.old) }
+    {
+        if let Update::Block(block) = update {
+            if let Some(moved) = self.number_at_block(number, *block) {
+                return Ok(moved);
+            }
+        }
+        let value = update.of(&self.value(number));
+        self.number(&value)
+    }
+
+    // the number of what the value with a number becomes at a block, if it was found without making it
+    fn number_at_block(&self, number: usize, block: BlockNo) -> Option<usize>
+        requires { number < length self.now.values }
+        ensures { IfSome result (λ n. (v : PartValue) → IsNumberOf self.now.values v number → IsNumberOf self.now.values (updated (Block block) v) n) }
+    {
+        match slot_at_block(self.domain, self.slots.at(number), block) {
+            None => None,
+            Some(slot) => self.slots.find(slot),
+        }
+    }
+
+    /// The same values under the same numbers.
+    pub fn copy(&self, alloc: Global) -> Result<SeenValues, Memory>
+        ensures { IfOk result (λ copy. copy ≡ self.now) }
+    {
+        Ok(SeenValues {
+            domain: self.domain,
+            stacks: self.stacks.copy(alloc)?,
+            slots: self.slots.copy(alloc)?,
+        })
+    }
+
+    /// None stands twice, and each is one of the domain's.
+    pub fn are_values(&self)
+        ensures { AreValues self.now }
+    {
+        let _domain = self.domain;
+    }
+}

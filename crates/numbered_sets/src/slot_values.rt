@@ -1,0 +1,136 @@
+//! The slots of a domain's values, by arithmetic.
+ghost use Rattle.std.specs.Prelude.{ℕ, List, ◌≡◌, ◌≢◌, ◌<◌, ◌≤◌, ◌^◌, IfOk, IfSome, IfNone};
+ghost use Rattle.osek_values.specs.declared.numbers.ResNo.{ResNo};
+ghost use Rattle.osek_standard.specs.Validity.{IsAmong};
+ghost use Rattle.flow_model.specs.{declared.change.Update.TheVariants.{Block}, Tests.{updated}};
+ghost use Rattle.abstract_state.specs.declared.value.Val.TheVariants.{Live};
+ghost use Rattle.numbered_sets.specs.Slots.{val_in, value_in, IsTaskSlot, IsSlot, IsSlotOf, IsTaskSlotOf, IsSlotInRow, AreMoreStacks};
+
+use crate::stacks::Stacks;
+use abstract_state::{Domain, LiveVal, PartValue, Val};
+use osek_values::{BlockNo, Memory};
+
+/// The value of a domain that has a slot.
+pub fn value_at(domain: Domain, stacks: &Stacks, slot: usize) -> PartValue
+    requires { IsSlot domain stacks.now slot }
+    ensures { result ≡ value_in domain stacks.now slot }
+{
+    match domain {
+        Domain::Task { first, count, .. } => {
+            PartValue::OfTask(val_at(first, count, stacks, slot))
+        }
+        Domain::Event => PartValue::OfEvent(slot == 1),
+        Domain::Alarm => PartValue::OfAlarm(slot == 1),
+    }
+}
+
+// what a task with these blocks is in a slot
+fn val_at(first: BlockNo, count: u16, stacks: &Stacks, slot: usize) -> Val
+    requires { IsTaskSlot first.0 count stacks.now slot }
+    ensures { result ≡ val_in first.0 count stacks.now slot }
+{
+    if slot == 0 {
+        return Val::Suspended;
+    }
+    let place = slot - 1;
+    let block = BlockNo((first.0 as usize + place % count as usize) as u16);
+    let row = place / count as usize;
+    if row == 0 {
+        return Val::Waiting(block);
+    }
+    let held = stacks.at(row - 1).copy();
+    Val::Live(LiveVal { block, held })
+}
+
+/// The slot of a value, if its stack was seen and it is one of the domain's.
+pub fn slot_of(domain: Domain, stacks: &Stacks, value: &PartValue) -> Option<usize>
+    ensures slot { IfSome result (IsSlotOf domain stacks.now value.now) }
+    ensures none { IfNone result ((s : ℕ) → IsSlot domain stacks.now s → value_in domain stacks.now s ≢ value.now) }
+{
+    match (domain, value) {
+        (Domain::Task { first, count, .. }, PartValue::OfTask(val)) => {
+            slot_of_val(first, count, stacks, val)
+        }
+        (Domain::Event, PartValue::OfEvent(flag)) => Some(*flag as usize),
+        (Domain::Alarm, PartValue::OfAlarm(flag)) => Some(*flag as usize),
+        _ => None,
+    }
+}
+
+fn slot_of_val(first: BlockNo, count: u16, stacks: &Stacks, val: &Val) -> Option<usize>
+    ensures slot { IfSome result (IsTaskSlotOf first.0 count stacks.now val.now) }
+    ensures none { IfNone result ((s : ℕ) → IsTaskSlot first.0 count stacks.now s → val_in first.0 count stacks.now s ≢ val.now) }
+{
+    match val {
+        Val::Suspended => Some(0),
+        Val::Waiting(block) => slot_in_row(first, count, 0, *block),
+        Val::Live(live) => match stacks.find(&live.held) {
+            None => None,
+            Some(stack) => slot_in_row(first, count, stack + 1, live.block),
+        },
+    }
+}
+
+// the slot in a row, where the block is one of the task's
+fn slot_in_row(first: BlockNo, count: u16, row: usize, block: BlockNo) -> Option<usize>
+    requires { row ≤ 2 ^ 32 }
+    ensures small { block.0 < 2 ^ 16 }
+    ensures slot { IfSome result (IsSlotInRow first.0 count row block.0) }
+    ensures none { IfNone result (IsAmong block.0 first.0 count → ⊥) }
+{
+    if block.0 < first.0 || block.0 - first.0 >= count {
+        return None;
+    }
+    let offset = (block.0 - first.0) as usize;
+    Some(1 + row * count as usize + offset)
+}
+
+/// The slot of what a Live task's value becomes at a block.
+pub fn slot_at_block(domain: Domain, slot: usize, block: BlockNo) -> Option<usize>
+    requires { slot < 2 ^ 32 }
+    ensures { (stacks : List (List ResNo)) → IfSome result (λ t. value_in domain stacks t ≡ updated (Block block) (value_in domain stacks slot)) }
+{
+    let Domain::Task { first, count, .. } = domain else {
+        return None;
+    };
+    if slot == 0 || count == 0 {
+        return None;
+    }
+    let row = (slot - 1) / count as usize;
+    if row == 0 {
+        return None;
+    }
+    slot_in_row(first, count, row, block)
+}
+
+/// The slot of a value, whose stack comes in where it is new. Each value of the domain has one.
+pub fn slot_for(domain: Domain, stacks: &mut Stacks, value: &PartValue) -> Result<usize, Memory>
+    ensures stacks { AreMoreStacks stacks.old stacks.new }
+    ensures slot { IfOk result (IsSlotOf domain stacks.new value.now) }
+{
+    match (domain, value) {
+        (Domain::Task { first, count, .. }, PartValue::OfTask(Val::Live(live))) => {
+            slot_for_live(first, count, stacks, live)
+        }
+        _ => match slot_of(domain, stacks, value) {
+            None => Err(Memory),
+            Some(slot) => Ok(slot),
+        },
+    }
+}
+
+fn slot_for_live(
+    first: BlockNo,
+    count: u16,
+    stacks: &mut Stacks,
+    live: &LiveVal,
+) -> Result<usize, Memory>
+    ensures stacks { AreMoreStacks stacks.old stacks.new }
+    ensures slot { IfOk result (IsTaskSlotOf first.0 count stacks.new (Live live.now)) }
+{
+    let stack = stacks.number(&live.held)?;
+    match slot_in_row(first, count, stack + 1, live.block) {
+        None => Err(Memory),
+        Some(slot) => Ok(slot),
+    }
+}
