@@ -9,19 +9,14 @@ use Rattle.abstract_state.specs.{Components.{abstract_of}, Domains.{domains_of},
 use Rattle.flow_model.specs.Effects.{IsAt}
 use Rattle.numbered_sets.specs.{declared.table.NumberedRow.{NumberedRow}, Pools.{Values, pool_domains, IsLonger}, PlainTables.{row_at, plain_row, plain_rows, plain_table, AreRowsOf}}
 use Rattle.numbered_sets.proofs.{ViewLaws.{same_view, still_known}, WrittenRows.{rows_ascend, row_there, row_entered, row_value, only_there, row_allowed, row_filled, number_domains_of}}
-use Rattle.flow_exits.specs.Exits.{IsFilled}
 use Rattle.flow_rules.specs.Rows.{IsProperRow}
 use Rattle.flow_check.specs.Rows.{number_of, AreInOrder, HasNoRowWith, AreRowsFrom}
 
 -- ---- by value
 
--- each component has a value in a proper row
-pub each_filled : (app : App) (row : TableRow) → IsProperRow app row → IsFilled app row.entry
-each_filled app row proper c lt = (let some = proper.filled c lt in record { value = some.0; member = some.1 })
-
 module _ (app : App) (table : PlainTable) (written : IsWritten app table) (row : TableRow) (listed : Contains table.rows row) where
   pub row_proper : IsProperRow app row
-  row_proper = record { row = row_there app table written row listed; allowed = row_allowed app table written row listed; filled = row_filled app table written row listed }
+  row_proper = record { row = row_there app table written row listed; allowed = row_allowed app table written row listed; filled = λ c lt. let some = row_filled app table written row listed c lt in record { value = some.0; member = some.1 } }
 
   -- a state in the table at the point is one of the row, and the other way round
   pub in_row : (s : State) → In app (sets_of table) s → point_of s ≡ row.point → IsAt app row.point row.entry s

@@ -1,7 +1,6 @@
 use Rattle.flow_rules.proofs.LeavingPoints.{filled_numbers}
 use Rattle.numbered_sets.{specs.PlainTables.{plain_row}, proofs.WrittenRows.{number_domains_of}}
 use Rattle.flow_rules.specs.Groups.{all_exits}
-use Rattle.flow_check.proofs.TableRows.{each_filled}
 use Rattle.flow_check.proofs.rows.row_groups.Goals as goal
 
 pub exit_groups-requires-clause-point : goal.exit_groups-requires-clause-point
@@ -13,7 +12,7 @@ exit_groups-requires-clause-domains c = number_domains_of c.args.app.now c.args.
 pub exit_groups-requires-clause-filled : goal.exit_groups-requires-clause-filled
 exit_groups-requires-clause-filled c =
     filled_numbers c.args.app.now c.args.pool.now c.args.row.now.entry (number_domains_of c.args.app.now c.args.pool.now c.args.row.now c.requires.proper.row)
-    (each_filled c.args.app.now (plain_row c.args.pool.now c.args.row.now) c.requires.proper)
+    c.requires.proper.filled
 
 pub exit_groups-requires-clause-allowed : goal.exit_groups-requires-clause-allowed
 exit_groups-requires-clause-allowed c = c.requires.proper.allowed
@@ -28,5 +27,5 @@ returns-clause-exits c =
     record {
       steps = c.steps_end_at_exits.ensures.steps app row.point row.entry exits point are;
       instructions = c.steps_end_at_exits.ensures.instructions app row.point row.entry exits point are;
-      exact = c.steps_end_at_exits.ensures.exact app row.point row.entry exits point are c.requires.proper.allowed (each_filled app row c.requires.proper);
+      exact = c.steps_end_at_exits.ensures.exact app row.point row.entry exits point are c.requires.proper.allowed c.requires.proper.filled;
     }
