@@ -139,7 +139,7 @@ groups_more pool items i x lt e =
     ∙ ap (all_exits pool) (ap (λ (y : ExitGroup). take i items ++ y ∷ []) e ∙ sym (take_more items i x lt))
 
 -- a value of each set
-some_value : (app : App) (entry : PlainEntry) → IsFilled app entry → (c : ℕ) → (v : PartValue) × (c < component_count app → IsTrue (is_member (set_at entry c) v))
+pub some_value : (app : App) (entry : PlainEntry) → IsFilled app entry → (c : ℕ) → (v : PartValue) × (c < component_count app → IsTrue (is_member (set_at entry c) v))
 some_value app entry filled c = elim (cases_lt c (component_count app)) [
   | inl below ↦ (let some = filled c below in (some.value, λ lt. some.member))
   | inr above ↦ (OfAlarm false, λ lt. absurd (omega (arith, lt, above)))

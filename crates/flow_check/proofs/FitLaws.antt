@@ -7,12 +7,14 @@ use Rattle.osek_standard.specs.Apps.{is_site}
 use Rattle.image_model.specs.declared.{image.Image.{Image}, site.{Form.{Form}, Known.{Known}, Site.{Site}}}
 use Rattle.image_model.specs.declared.site.Form.TheVariants as form
 use Rattle.image_model.specs.Sites.{IsSiteAt}
-use Rattle.abstract_state.specs.{declared.table.PlainTable.{PlainTable}, Tables.{Inductive, sets_of}, Written.{IsWritten}, Forms.{FormOf, KnownOf, IsUnreached, FormFits, KnownFits}}
+use Rattle.abstract_state.specs.{declared.table.PlainTable.{PlainTable}, Tables.{Inductive, sets_of}, Written.{IsWritten}}
+use Rattle.abstract_state.specs.Forms.{FormOf, KnownOf, IsUnreached, FormFits, KnownFits}
 use Rattle.abstract_state.proofs.FormLaws.{one_form, one_known}
 use Rattle.flow_model.specs.declared.case.Decision.TheVariants as decision
 use Rattle.flow_check.specs.declared.found.{Found.{Found}, Findings.{Findings}}
 use Rattle.flow_check.specs.declared.found.Found.TheVariants as found
-use Rattle.flow_check.specs.{Found.{form_of, known_of}, Outcomes.{IsFoundAt, AreFound}, Fitting.{IsFormFit, IsKnownFit, AreFit, IsFirstUnfit}, Verdicts.{FormsFit, StatusesFit, IsFirstForm, IsFirstKnown}}
+use Rattle.flow_check.specs.{Found.{form_of, known_of}, Outcomes.{IsFoundAt, AreFound}, Fitting.{IsFormFit, IsKnownFit, AreFit, IsFirstUnfit}}
+use Rattle.flow_check.specs.Verdicts.{FormsFit, StatusesFit, IsFirstForm, IsFirstKnown}
 use Rattle.flow_check.proofs.FoundForms.{form_found, known_found}
 
 -- the form is Never where no outcome is found alone

@@ -5,7 +5,8 @@ use Rattle.std.proofs.lemmas.{Bool.{cases_lt, cases_order}, List.{get_or-map, ge
 use Rattle.osek_standard.specs.{declared.{app.App.{App}, point.Point.{Point}}, Points.{point_of, point_number}}
 use Rattle.abstract_state.specs.{declared.table.{TableRow.{TableRow}, PlainTable.{PlainTable}}, Tables.{sets_of}}
 use Rattle.abstract_state.proofs.EqualityLaws.{written_entry}
-use Rattle.numbered_sets.specs.{declared.table.NumberedRow.{NumberedRow}, Pools.{Values, AreValues, IsLonger}, Views.{AreNumbersOf}, PlainTables.{plain_row, plain_rows, plain_table}}
+use Rattle.numbered_sets.specs.{declared.table.NumberedRow.{NumberedRow}, Pools.{Values, AreValues, IsLonger}, Views.{AreNumbersOf}}
+use Rattle.numbered_sets.specs.PlainTables.{plain_row, plain_rows, plain_table}
 use Rattle.numbered_sets.proofs.NumberingLaws.{longer_onward}
 use Rattle.flow_rules.specs.{declared.{group.ExitGroup.{ExitGroup}, levels.Levels.{Levels}}, Groups.{all_exits, AreKnownGroups}, Levels.{AreLevels}, Rows.{IsProperRow}}
 use Rattle.flow_check.specs.{declared.{found.Findings.{Findings}}, Rows.{number_of, AreRowsFrom, AreExitsOf}, Staying.{AreAllIn, IsSomeGroupOut}}

@@ -6,7 +6,8 @@ use Rattle.osek_standard.specs.{declared.{app.App.{App}, state.State.{State}, po
 use Rattle.osek_standard.proofs.StepKeeps.{start_is_well}
 use Rattle.abstract_state.specs.declared.{value.PartValue.{PartValue}, table.{PlainEntry.{PlainEntry}, TableRow.{TableRow}, PlainTable.{PlainTable}}}
 use Rattle.abstract_state.specs.{Components.{abstract_of}, Tables.{In, set_at, is_member, sets_of}}
-use Rattle.numbered_sets.specs.{declared.{numbered_entry.NumberedEntry.{NumberedEntry}, table.NumberedRow.{NumberedRow}}, Pools.{Values, AreValues, IsLonger}, Views.{plain_entry, AreNumbersOf}, PlainTables.{row_at, plain_table}}
+use Rattle.numbered_sets.specs.{declared.{numbered_entry.NumberedEntry.{NumberedEntry}, table.NumberedRow.{NumberedRow}}, Pools.{Values, AreValues, IsLonger}}
+use Rattle.numbered_sets.specs.{Views.{plain_entry, AreNumbersOf}, PlainTables.{row_at, plain_table}}
 use Rattle.flow_rules.specs.{Rows.{IsRowIn}, Starts.{entry_of, IsStartRow}}
 use Rattle.flow_rules.proofs.StartEntry.{entry_only}
 use Rattle.flow_check.specs.{Rows.{AreRowsFrom}, Staying.{IsRowOut, end_at, IsIn, IsOut}}

@@ -3,7 +3,8 @@ use Rattle.std.proofs.Common.{◌≡◌, ℕ, ◌<◌, Bool, true, false, List, 
 use Rattle.std.specs.Prelude.{Contains, if◌then◌else◌, ◌==◌}
 use Rattle.std.proofs.lemmas.{Bool.{cases_lt, eq-eqb, eqb-true}, List.{get_or_default}}
 use Rattle.osek_values.specs.declared.event.Event.{Event}
-use Rattle.osek_standard.specs.{declared.{app.App.{App}, state.State.{State}, point.Point.{Point}}, Kernel.{step}, Outcomes.{Mark, Silent, Arrived, Did, shows}, Points.{point_of, point_number, IsPoint}}
+use Rattle.osek_standard.specs.{declared.{app.App.{App}, state.State.{State}, point.Point.{Point}}, Kernel.{step}, Outcomes.{Mark, Silent, Arrived, Did, shows}}
+use Rattle.osek_standard.specs.Points.{point_of, point_number, IsPoint}
 use Rattle.osek_standard.proofs.StepKeeps.{step_keeps}
 use Rattle.abstract_state.specs.declared.{value.PartValue.{PartValue, TheVariants.{OfAlarm}}, table.{PlainEntry.{PlainEntry}, TableRow.{TableRow}, PlainTable.{PlainTable}}}
 use Rattle.abstract_state.specs.{Components.{component_count, abstract_of}, Tables.{In, set_at, is_member, sets_of}, Written.{IsWritten}}
@@ -16,7 +17,8 @@ use Rattle.numbered_sets.proofs.{KnownNumbers.{order_onward, one_number}, ViewLa
 use Rattle.flow_rules.specs.{declared.group.ExitGroup.{ExitGroup}, Groups.{all_exits, AreKnownGroups}, Rows.{IsRowIn}}
 use Rattle.flow_rules.proofs.{ProperRows.{set_known}, NumberLaws.{member_number, number_member}}
 use Rattle.flow_check.specs.{Rows.{AreRowsFrom, AreExitsOf}, Staying.{IsRowOut, exit_row, NumberedEnd, IsIn, IsOut, AreAllIn, IsSomeGroupOut}, Verdicts.{Leaves}, Flows.{StaysAt}}
-use Rattle.flow_check.proofs.{TableRows.{in_row, row_in, plain_listed, listed_plain, pool_is, row_point}, GroupEnds.{HasEnd, exit_end, end_exit, exit_by, end_known}}
+use Rattle.flow_check.proofs.{ExitOutcomes.{some_value}, TableRows.{in_row, row_in, plain_listed, listed_plain, pool_is, row_point}}
+use Rattle.flow_check.proofs.GroupEnds.{HasEnd, exit_end, end_exit, exit_by, end_known}
 
 -- ---- by number
 
@@ -66,12 +68,6 @@ module _ (app : App) (pool : List Values) (rows : List NumberedRow) (from : AreR
       })
 
 -- ---- by value
-
-some_value : (app : App) (entry : PlainEntry) → IsFilled app entry → (c : ℕ) → (v : PartValue) × (c < component_count app → IsTrue (is_member (set_at entry c) v))
-some_value app entry filled c = elim (cases_lt c (component_count app)) [
-  | inl below ↦ (let some = filled c below in (some.value, λ lt. some.member))
-  | inr above ↦ (OfAlarm false, λ lt. absurd (omega (arith, lt, above)))
-]
 
 -- a value at one component, and any at the others
 abbrev chosen : (app : App) (entry : PlainEntry) → IsFilled app entry → ℕ → PartValue → ℕ → PartValue

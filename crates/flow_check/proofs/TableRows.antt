@@ -7,8 +7,10 @@ use Rattle.osek_standard.proofs.{Members.{Among, contained_among, among_containe
 use Rattle.abstract_state.specs.declared.{table.{TableRow.{TableRow}, PlainTable.{PlainTable}}}
 use Rattle.abstract_state.specs.{Components.{abstract_of}, Domains.{domains_of}, Tables.{In, sets_of}, Written.{IsWritten}}
 use Rattle.flow_model.specs.Effects.{IsAt}
-use Rattle.numbered_sets.specs.{declared.table.NumberedRow.{NumberedRow}, Pools.{Values, pool_domains, IsLonger}, PlainTables.{row_at, plain_row, plain_rows, plain_table, AreRowsOf}}
-use Rattle.numbered_sets.proofs.{ViewLaws.{same_view, still_known}, WrittenRows.{rows_ascend, row_there, row_entered, row_value, only_there, row_allowed, row_filled, number_domains_of}}
+use Rattle.numbered_sets.specs.{declared.table.NumberedRow.{NumberedRow}, Pools.{Values, pool_domains, IsLonger}}
+use Rattle.numbered_sets.specs.PlainTables.{row_at, plain_row, plain_rows, plain_table, AreRowsOf}
+use Rattle.numbered_sets.proofs.ViewLaws.{same_view, still_known}
+use Rattle.numbered_sets.proofs.WrittenRows.{rows_ascend, row_there, row_entered, row_value, only_there, row_allowed, row_filled, number_domains_of}
 use Rattle.flow_rules.specs.Rows.{IsProperRow}
 use Rattle.flow_check.specs.Rows.{number_of, AreInOrder, HasNoRowWith, AreRowsFrom}
 

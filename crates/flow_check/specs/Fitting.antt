@@ -1,11 +1,12 @@
 -- Which sites fit what is found of the instructions at their blocks.
 use Rattle.std.specs.{Prelude.{◌≡◌, ◌⊎◌, ⊤, ℕ, ◌<◌, List, length, slice_index_or, Some, None}, declared.option.Option.{Option}}
-use Rattle.image_model.specs.declared.site.Site.{Site}
+use Rattle.image_model.specs.declared.{site.Site.{Site}, image.Image.{Image}}
 use Rattle.image_model.specs.declared.site.Form.TheVariants as form
 use Rattle.image_model.specs.declared.site.Known.TheVariants as known
+use Rattle.abstract_state.specs.{declared.table.PlainTable.{PlainTable}, Tables.{Inductive, sets_of}, Written.{IsWritten}}
 use Rattle.flow_check.specs.declared.found.Findings.{Findings}
 use Rattle.flow_check.specs.declared.found.Found.TheVariants as found
-use Rattle.flow_check.specs.Found.{form_of, known_of}
+use Rattle.flow_check.specs.{declared.verdict.Verdict.{Verdict}, Found.{form_of, known_of}, Outcomes.{AreFound}, Verdicts.{IsVerdict}}
 
 -- no instruction is found, or the form is the general one or that of what is found
 abbrev pub IsFormFit : Option Findings → Option Site → Type 0
@@ -41,3 +42,8 @@ IsFirstFormUnfit sites found b = IsFirstUnfit IsFormFit sites found b
 
 abbrev pub IsFirstKnownUnfit : List (Option Site) → List (Option Findings) → ℕ → Type 0
 IsFirstKnownUnfit sites found b = IsFirstUnfit IsKnownFit sites found b
+
+-- where this is found over the rows of an inductive table, this is said of the image and the table
+abbrev pub IsSaidBy : Image → List (Option Findings) → Verdict → Type 0
+IsSaidBy i found said =
+    (table : PlainTable) → IsWritten i.app table → Inductive i.app (sets_of table) → AreFound i.app table.rows found → IsVerdict i (sets_of table) said

@@ -1,15 +1,17 @@
 -- The outcomes and the statuses of the instructions at a block, by the rows of a table.
-use Rattle.std.specs.{Prelude.{◌≡◌, ℕ, ◌<◌, Bool, not, List, length, slice_index_or, IsTrue, Some, None, Contains, if◌then◌else◌}, declared.option.Option.{Option}}
+use Rattle.std.specs.{Prelude.{◌≡◌, ℕ, ◌<◌, Bool, not, List, [], ◌∷◌, ◌++◌, length, slice_index_or, IsTrue, Some, None, Contains, if◌then◌else◌}, declared.option.Option.{Option}}
 use Rattle.osek_values.specs.{Numbers.{block_no}, declared.status.Status.{Status}}
-use Rattle.osek_standard.specs.{declared.{app.App.{App}, state.State.{State}}, Apps.{is_site}, Effects.{effect}, Dispatch.{outcome}, Points.{StandsAt}, Well.{IsActive}}
+use Rattle.osek_standard.specs.{declared.{app.App.{App}, state.State.{State}, point.Point.{Point}}, Apps.{is_site}, Effects.{effect}, Dispatch.{outcome}, Points.{StandsAt}}
+use Rattle.osek_standard.specs.Well.{IsActive}
 use Rattle.abstract_state.specs.declared.table.TableRow.{TableRow}
 use Rattle.flow_model.specs.{declared.case.Decision.{Decision}, Effects.{IsAt}, Scheduling.{outcome_of_decision}}
 use Rattle.flow_exits.specs.declared.exit.Exit.{Exit}
-use Rattle.flow_rules.specs.declared.group.Ends.{Ends}
+use Rattle.numbered_sets.specs.Pools.{Values}
+use Rattle.flow_rules.specs.{declared.group.{Ends.{Ends}, ExitGroup.{ExitGroup}}, Groups.{all_exits}}
 use Rattle.flow_rules.specs.declared.group.Ends.TheVariants as ends
 use Rattle.flow_check.specs.declared.found.Findings.{Findings}
 use Rattle.flow_check.specs.declared.found.Found.TheVariants as found
-use Rattle.flow_check.specs.Found.{AreFindings}
+use Rattle.flow_check.specs.{Found.{AreFindings}, Rows.{AreExitsOf}}
 
 -- the status that an instruction notes, if it notes one
 abbrev pub status_noted : App → State → Bool → Option Status
@@ -66,6 +68,12 @@ IsFoundAt app rows b (Some x) = IsTrue (is_site app b) × AreFindings (ArisesAt 
 pub record AreFound (app : App) (rows : List TableRow) (sites : List (Option Findings)) : Type 0 where
   pub count : length sites ≡ length app.blocks
   pub each : (b : ℕ) → b < length app.blocks → IsFoundAt app rows b (slice_index_or sites b None)
+
+-- with a row more at the point, whose exits are those of these groups, this is found at each block
+abbrev pub IsFoundBeside : Point → List ExitGroup → List (Option Findings) → List (Option Findings) → Type 0
+IsFoundBeside point groups before after =
+    (app : App) (pool : List Values) (rows : List TableRow) (row : TableRow) → row.point ≡ point → AreExitsOf app row (all_exits pool groups)
+    → AreFound app rows before → AreFound app (rows ++ row ∷ []) after
 
 -- what is found at a block before the first row
 abbrev pub first_found : App → ℕ → Option Findings

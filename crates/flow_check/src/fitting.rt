@@ -1,7 +1,6 @@
 //! Whether the sites of an image fit what is found over the rows of a table.
 ghost use Rattle.std.specs.{Prelude.{◌≡◌, length, IfSome, IfNone}, Bool.{OnTrue, OnFalse}};
-ghost use Rattle.abstract_state.specs.{declared.table.PlainTable.{PlainTable}, Tables.{Inductive, sets_of}, Written.{IsWritten}};
-ghost use Rattle.flow_check.specs.{Outcomes.{AreFound}, Fitting.{IsFormFit, IsKnownFit, AreFormsFit, AreKnownsFit, IsFirstFormUnfit, IsFirstKnownUnfit}, Verdicts.{IsVerdict}};
+ghost use Rattle.flow_check.specs.Fitting.{IsFormFit, IsKnownFit, AreFormsFit, AreKnownsFit, IsFirstFormUnfit, IsFirstKnownUnfit, IsSaidBy};
 
 use crate::found::{Findings, Found};
 use crate::verdict::Verdict;
@@ -11,7 +10,7 @@ use osek_values::BlockNo;
 /// What is said of an image where its table is inductive: the first site that doesn't fit, or that all fit.
 pub(crate) fn verdict_by(image: &Image, found: &[Option<Findings>]) -> Verdict
     requires { length found.now ≡ length image.now.app.blocks }
-    ensures { (table : PlainTable) → IsWritten image.now.app table → Inductive image.now.app (sets_of table) → AreFound image.now.app table.rows found.now → IsVerdict image.now (sets_of table) result }
+    ensures { IsSaidBy image.now found.now result }
 {
     if let Some(block) = first_form_unfit(image, found) {
         return Verdict::N3(block);
@@ -70,9 +69,7 @@ fn is_known_fit(found: Option<Findings>, site: Option<Site>) -> bool
 {
     match (found, site) {
         (Some(found), Some(site)) => {
-            found.outcome == Found::None
-                || site.known == Known::Any
-                || site.known == found.known()
+            found.outcome == Found::None || site.known == Known::Any || site.known == found.known()
         }
         (None, _) | (_, None) => true,
     }

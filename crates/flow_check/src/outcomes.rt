@@ -1,12 +1,12 @@
 //! The outcomes and the statuses at the sites, over the rows of a table.
 ghost use Rattle.std.specs.{Prelude.{◌≡◌, ◌++◌, ◌∷◌, [], ◌<◌, List, length, slice_index_or, None, IfOk, OnOk, IfSome, IfNone}, Bool.{OnTrue, OnFalse}};
-ghost use Rattle.osek_standard.specs.{declared.app.App.{App}, Apps.{is_site}, Points.{StandsAt}};
+ghost use Rattle.osek_standard.specs.{Apps.{is_site}, Points.{StandsAt}};
 ghost use Rattle.osek_values.specs.declared.numbers.BlockNo.{BlockNo};
 ghost use Rattle.abstract_state.specs.{declared.table.TableRow.{TableRow}, Written.{IsWritten}};
 ghost use Rattle.flow_exits.specs.declared.exit.Exit.{Exit};
 ghost use Rattle.numbered_sets.specs.{Pools.{Values, IsLonger}, Views.{AreNumbersOf}, PlainTables.{plain_row}};
 ghost use Rattle.flow_rules.specs.{Levels.{AreLevels}, Rows.{IsProperRow}, Groups.{exits_of, all_exits}};
-ghost use Rattle.flow_check.specs.{Rows.{AreExitsOf}, Outcomes.{end_count, AreOfExits, AreFound, first_found}};
+ghost use Rattle.flow_check.specs.Outcomes.{end_count, AreOfExits, AreFound, IsFoundBeside, first_found};
 
 use crate::found::Findings;
 use crate::rows::row_groups;
@@ -95,13 +95,9 @@ fn is_at_site(point: Point, sites: &Seq<Option<Findings>>) -> bool
 }
 
 /// Adds what the exits of a row show, where its point stands at a site.
-pub(crate) fn add_groups(
-    point: Point,
-    groups: &[ExitGroup],
-    sites: &mut Seq<Option<Findings>>,
-)
+pub(crate) fn add_groups(point: Point, groups: &[ExitGroup], sites: &mut Seq<Option<Findings>>)
     requires { (b : BlockNo) → StandsAt point b → b.0 < length sites.old }
-    ensures { (app : App) (pool : List Values) (rows : List TableRow) (row : TableRow) → row.point ≡ point → AreExitsOf app row (all_exits pool groups.now) → AreFound app rows sites.old → AreFound app (rows ++ row ∷ []) sites.new }
+    ensures { IsFoundBeside point groups.now sites.old sites.new }
 {
     match block_of(point) {
         None => {}
