@@ -1,7 +1,8 @@
 -- Tests of values, as the numbers of those that pass.
-use Rattle.std.specs.Prelude.{◌≡◌, ℕ, ◌<◌, ◌≤◌, false, ◌&&◌, List, length, slice_index_or, IsTrue, All}
+use Rattle.std.specs.Prelude.{◌≡◌, ℕ, ◌<◌, ◌≤◌, Bool, true, false, ◌&&◌, List, length, slice_index_or, IsTrue, All}
 use Rattle.abstract_state.specs.{declared.value.PartValue.{PartValue}, ValueOrder.{same_part}, Tables.{is_member}}
 use Rattle.flow_model.specs.{declared.test.Test.{Test}, Tests.{passes}}
+use Rattle.flow_model.specs.declared.test.Test.TheVariants as test
 use Rattle.numbered_sets.specs.{declared.filter.{Filter.{Filter}, Filters.{Filters}}, Numbers.{Numbers, has_number}, Views.{plain_set}}
 
 -- Its numbers are those of the values that pass, of the first ones.
@@ -9,6 +10,12 @@ pub record IsFilter (vs : List PartValue) (f : Filter) : Type 0 where
   pub few : f.judged ≤ length vs
   pub each : (n : ℕ) (none : PartValue) → n < f.judged → has_number f.passing n ≡ passes f.test (slice_index_or vs n none)
   pub past : (n : ℕ) → f.judged ≤ n → has_number f.passing n ≡ false
+
+-- A test of what a task does and holds, wherever it stands.
+abbrev pub reads_no_block : Test → Bool
+reads_no_block (test.Is w) = false
+reads_no_block (test.IsNot w) = false
+reads_no_block _ = true
 
 abbrev pub AreFilters : List PartValue → Filters → Type 0
 AreFilters vs fs = All (IsFilter vs) fs.all

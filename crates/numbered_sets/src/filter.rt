@@ -1,5 +1,6 @@
 //! Tests of a component's values, each with the numbers of the values that pass.
 ghost use Rattle.std.specs.{Prelude.{◌≡◌, ◌<◌, ◌≤◌, length}, Bool.{OnTrue}};
+ghost use Rattle.numbered_sets.specs.Filters.{reads_no_block};
 
 use crate::numbered_entry::NumberedEntry;
 use crate::numbered_set::NumberedSet;
@@ -28,9 +29,10 @@ pub struct Filters {
 const SLOTS: usize = 64;
 
 impl Filter {
-    ghost use Rattle.std.specs.Prelude.{◌≡◌, ◌≤◌, length, List, OnOk};
+    ghost use Rattle.std.specs.Prelude.{◌≡◌, ◌<◌, ◌≤◌, length, List, OnOk};
     ghost use Rattle.abstract_state.specs.declared.value.PartValue.{PartValue};
-    ghost use Rattle.numbered_sets.specs.Filters.{IsFilter};
+    ghost use Rattle.flow_model.specs.Tests.{passes};
+    ghost use Rattle.numbered_sets.specs.{Filters.{IsFilter}, Pools.{IsNumberOf}};
 
     /// A test that no value was asked yet.
     fn new(alloc: Global, test: &Test, domain: Domain) -> Filter
@@ -44,6 +46,23 @@ impl Filter {
         }
     }
 
+    // Whether the next value passes. What a task holds tells it mostly, so a value at another block may have been judged already.
+    fn passes_next(&self, seen: &SeenValues) -> bool
+        requires filter { IsFilter seen.now.values self.now }
+        requires given { self.now.judged < length seen.now.values }
+        ensures { (v : PartValue) → IsNumberOf seen.now.values v self.now.judged → result ≡ passes self.now.test v }
+    {
+        let next = self.judged;
+        if reads_no_block(&self.test) {
+            if let Some(alike) = seen.number_beside(next) {
+                if alike < next {
+                    return self.passing.has(alike);
+                }
+            }
+        }
+        self.test.passes(&seen.value(next))
+    }
+
     /// Judges the values that came since.
     fn renew(&mut self, seen: &SeenValues) -> Result<(), Memory>
         requires { IsFilter seen.now.values self.old }
@@ -52,7 +71,7 @@ impl Filter {
         ensures whole { OnOk result (length seen.now.values ≤ self.new.judged) }
     {
         for number in self.judged..seen.len() {
-            if self.test.passes(&seen.value(number)) {
+            if self.passes_next(seen) {
                 self.passing.insert(number)?;
             }
             self.judged = number + 1;
@@ -152,6 +171,13 @@ impl Filters {
         entry.keep(component, &self.all.at(place).passing);
         Ok(())
     }
+}
+
+// whether a test passes alike at each block
+fn reads_no_block(test: &Test) -> bool
+    ensures { result ≡ reads_no_block test.now }
+{
+    !matches!(test, Test::Is(_) | Test::IsNot(_))
 }
 
 // whether two tests are the same

@@ -103,6 +103,19 @@ pub fn slot_at_block(domain: Domain, slot: usize, block: BlockNo) -> Option<usiz
     slot_in_row(first, count, row, block)
 }
 
+/// The block before that of a slot, if the task has one; what it gives is tried, and no more.
+pub fn block_before(domain: Domain, slot: usize) -> BlockNo
+    ensures { result.0 < 2 ^ 16 }
+{
+    match domain {
+        Domain::Task { first, count, .. } if slot > 0 && count > 0 => {
+            let block = first.0 as usize + (slot - 1) % count as usize;
+            BlockNo((block.saturating_sub(1) % 65536) as u16)
+        }
+        _ => BlockNo(0),
+    }
+}
+
 /// The slot of a value, whose stack comes in where it is new. Each value of the domain has one.
 pub fn slot_for(domain: Domain, stacks: &mut Stacks, value: &PartValue) -> Result<usize, Memory>
     ensures stacks { AreMoreStacks stacks.old stacks.new }
