@@ -76,6 +76,7 @@ def searched(site, most):
 
 
 def outcome_order(outcome):
+    """The order in which outcomes are told: the caller goes on, idle, then tasks in order of declaration."""
     return -2 if outcome == KEEP else -1 if outcome.task is None else outcome.task
 
 
