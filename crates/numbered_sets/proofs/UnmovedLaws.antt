@@ -21,7 +21,6 @@ unmoved (test.Is w) b v e = absurd (cc)
 unmoved (test.IsNot w) b v e = absurd (cc)
 unmoved test.Suspended b v e = by_stack is_suspended_value b (λ x. refl) v
 unmoved test.NotSuspended b v e = by_stack (λ x. not (is_suspended_value x)) b (λ x. refl) v
-unmoved test.NotLive b v e = by_stack (λ x. not (is_live_value x)) b (λ x. refl) v
 unmoved (test.Holds r) b v e = by_stack (λ x. holds (held_of x) r.0) b (λ x. refl) v
 unmoved (test.HoldsNoneOf m) b v e = by_stack (holds_none_of m.0) b (λ x. refl) v
 unmoved test.HoldsSome b v e = by_stack (λ x. not (holds_nothing x)) b (λ x. refl) v
