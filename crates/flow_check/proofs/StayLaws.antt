@@ -1,13 +1,13 @@
 -- Whether steps stay in a table, by the exits of a row: of their numbers, and of their values.
-use Rattle.std.proofs.Common.{◌≡◌, ℕ, ◌<◌, Bool, true, false, List, length, get_or, IsTrue, refl, sym, ap, subst, ◌∙◌, inl, inr, arith, All}
+use Rattle.std.proofs.Common.{◌≡◌, ℕ, ◌<◌, Bool, true, false, List, length, get_or, IsTrue, refl, sym, ap, subst, ◌∙◌, inl, inr, All}
 use Rattle.std.specs.Prelude.{Contains, if◌then◌else◌, ◌==◌}
-use Rattle.std.proofs.lemmas.{Bool.{cases_lt, eq-eqb, eqb-true}, List.{get_or_default}}
+use Rattle.std.proofs.lemmas.{Bool.{eq-eqb, eqb-true}, List.{get_or_default}}
 use Rattle.osek_values.specs.declared.event.Event.{Event}
 use Rattle.osek_standard.specs.{declared.{app.App.{App}, state.State.{State}, point.Point.{Point}}, Kernel.{step}, Outcomes.{Mark, Silent, Arrived, Did, shows}}
 use Rattle.osek_standard.specs.Points.{point_of, point_number, IsPoint}
 use Rattle.osek_standard.proofs.StepKeeps.{step_keeps}
 use Rattle.abstract_state.specs.declared.{value.PartValue.{PartValue, TheVariants.{OfAlarm}}, table.{PlainEntry.{PlainEntry}, TableRow.{TableRow}, PlainTable.{PlainTable}}}
-use Rattle.abstract_state.specs.{Components.{component_count, abstract_of}, Tables.{In, set_at, is_member, sets_of}, Written.{IsWritten}}
+use Rattle.abstract_state.specs.{Components.{abstract_of}, Tables.{In, set_at, is_member, sets_of}, Written.{IsWritten}}
 use Rattle.abstract_state.proofs.{EqualityLaws.{written_entry}, AlikeLaws.{in_alike}, MarkLaws.{shown_silent}, AllowedLaws.{well_point}}
 use Rattle.flow_model.specs.Effects.{AreIn, IsAt}
 use Rattle.flow_exits.specs.{declared.exit.Exit.{Exit}, Exits.{IsFilled, IsStepTo}}
