@@ -1,5 +1,5 @@
 -- all of the text was told, or not all
-use Rattle.std.proofs.Common.{refl, inl, inr, subst, Ok, Err}
+use Rattle.std.proofs.Common.{refl, inl, inr, subst, Ok}
 use Rattle.osek_io.specs.Sunk.{sunk}
 use Rattle.command_runs.specs.Telling.{TellsText, Breaks}
 use Rattle.commands.specs.{Names.{Names}, Statuses.{stop_text}}
