@@ -16,17 +16,21 @@ from given import Wrong, contents, run
 
 DOCS = os.path.join(os.path.dirname(os.path.dirname(os.path.abspath(__file__))), 'docs')
 
-REFUSAL = re.compile(r'(?P<file>.+):(?P<place>\d+): (?P<rule>[LSOCEI]\d+)')
+REFUSAL = re.compile(r'(?P<file>.+):(?P<place>\d+): (?P<rule>[LSOCEIK]\d+)')
+
+DENIAL = re.compile(r'(?P<file>.+): (?P<rule>N\d) (?P<place>\S+)')
+"""What is said of a table that doesn't certify an image."""
 
 STATUSES = {
     2: 'the words are none of the forms; osekfit has: build OIL CODE IMAGE, replay IMAGE MODE EVENTS, trace OIL CODE MODE EVENTS, '
-       'show OIL CODE, info IMAGE, upgrade IN OUT, gen SEED TASKS',
+       'show OIL CODE, info IMAGE, upgrade IN OUT, certify OIL CODE IMAGE TABLE, check IMAGE TABLE, gen SEED TASKS',
     5: 'a read failed: the file is there and a regular file? A pipe or a device is none',
     6: 'a write failed: the folder is there, and the disk has room?',
     7: 'memory ran out',
     8: 'the image traps at the event that the last line names: no image that build stores does, so these bytes were changed',
     9: 'there is no mode of this name: modes are the APPMODE objects of the OIL text, and OSDEFAULTAPPMODE',
     10: 'the image is of version 2 already',
+    13: 'the table would be over 16 MiB, and no file was changed: tasks that take many resources in any order have many values',
 }
 """What a status says, where no rule does."""
 
@@ -40,7 +44,7 @@ def rules_of(guide):
     found = {}
     for line in guide.splitlines():
         cells = [cell.strip() for cell in re.split(r'(?<!\\)\|', line.strip().strip('|'))]
-        if len(cells) > 2 and re.fullmatch(r'[LSOCEI]\d+', cells[0]):
+        if len(cells) > 2 and re.fullmatch(r'[LSOCEIKN]\d+', cells[0]):
             found[cells[0] if cells[0] not in found else 'C' + cells[0]] = (cells[1], cells[-1])
     return found
 
@@ -51,12 +55,16 @@ def guide():
 
 def explained(refusal, words, rules):
     """The lines that explain a refusal."""
+    denial = DENIAL.fullmatch(refusal)
+    if denial and denial['rule'] in rules:
+        return ['%s: error: %s at %s: %s' % (denial['file'], denial['rule'], denial['place'], rules[denial['rule']][0]),
+                '    look first: ' + rules[denial['rule']][1]]
     match = REFUSAL.fullmatch(refusal)
     if not match or match['rule'] not in rules:
         return []
     is_code = words[2:3] == [match['file']]
     meaning, first = rules['C' + match['rule'] if is_code and 'C' + match['rule'] in rules else match['rule']]
-    if match['rule'].startswith('I'):
+    if match['rule'][0] in 'IK':
         place = int(match['place'])
         return ['%s: error: %s at byte %d (0x%x): %s' % (match['file'], match['rule'], place, place, meaning), '    look first: ' + first]
     lines = ['%s:%s: error: %s: %s' % (match['file'], max(1, int(match['place'])), match['rule'], meaning)]

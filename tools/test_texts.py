@@ -257,6 +257,7 @@ class Explanations(unittest.TestCase):
         rules = explain.rules_of(explain.guide())
         names = ['L%d' % k for k in range(1, 7)] + ['S1', 'S2', 'S3'] + ['O%d' % k for k in range(1, 16)]
         names += ['C%d' % k for k in (1, 2, 3, 4, 6, 7, 8, 9)] + ['E1', 'E2', 'E3', 'E4'] + ['I%d' % k for k in range(1, 8)]
+        names += ['K%d' % k for k in range(1, 7)] + ['N%d' % k for k in range(1, 5)]
         self.assertEqual(sorted(rules), sorted(names + ['CS1']))
 
     def test_a_refusal_has_its_line_and_its_cause(self):
@@ -269,6 +270,8 @@ class Explanations(unittest.TestCase):
             self.assertEqual(lines[:3], [at[1] + ":2: error: S1: the token isn't allowed here", '       1  ', '       2  int x;'])
             self.assertIn('    without code: TASK T1', explain.explained(at[2] + ':0: C1', ['build', at[0], at[2], 'i'], rules))
             self.assertIn('at byte 16 (0x10)', explain.explained('x:16: I3', [], rules)[0])
+            self.assertIn('K5 at byte 75 (0x4b)', explain.explained('x:75: K5', [], rules)[0])
+            self.assertTrue(explain.explained('x: N2 b3/T1', [], rules)[0].startswith('x: error: N2 at b3/T1: from a state'))
         self.assertEqual(explain.explained('usage', [], rules), [])
 
     def test_what_is_missing_and_what_is_not_declared_is_named(self):

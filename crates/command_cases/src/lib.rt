@@ -2,6 +2,8 @@
 #![tactic(auto)]
 
 #[cfg(test)]
+mod certificate_rows;
+#[cfg(test)]
 mod edge_rows;
 #[cfg(test)]
 mod example_rows;

@@ -1,4 +1,5 @@
 //! Whole runs of the top call over files in memory.
+use crate::certificate_rows::CERTIFICATE_ROWS;
 use crate::edge_rows::{MODE_ROWS, TEXT_ROWS};
 use crate::example_rows::EXAMPLE_ROWS;
 use crate::flow_rows::FLOW_ROWS;
@@ -262,8 +263,8 @@ fn words_of_no_form_are_refused(rt: HostRuntime) {
     assert_eq!(rt; right, Ok(true));
 }
 
-/// The names that `build` stores images under.
-const IMAGES: [&str; 2] = ["a.img", "x"];
+/// The names that images and tables are stored under.
+const PLACES: [&str; 3] = ["a.img", "a.tab", "x"];
 
 fn put_files(shelf: &mut MemShelf, files: &[(&str, &str)]) -> Result<(), Memory> {
     for (name, text) in files {
@@ -274,7 +275,7 @@ fn put_files(shelf: &mut MemShelf, files: &[(&str, &str)]) -> Result<(), Memory>
 
 /// Places for images.
 fn put_places(shelf: &mut MemShelf) -> Result<(), Memory> {
-    for name in &IMAGES {
+    for name in &PLACES {
         shelf.set(name, None, ROOM)?;
     }
     Ok(())
@@ -443,6 +444,11 @@ fn the_rows_of_texts(rt: HostRuntime) {
 #[test]
 fn the_rows_of_the_analysis(rt: HostRuntime) {
     assert_eq!(rt; first_wrong(rt.alloc(), &FLOW_ROWS), Ok(""));
+}
+
+#[test]
+fn the_rows_of_certificates(rt: HostRuntime) {
+    assert_eq!(rt; first_wrong(rt.alloc(), &CERTIFICATE_ROWS), Ok(""));
 }
 
 #[test]

@@ -1,3 +1,4 @@
+pub mod CheckRules
 pub mod Inputs
 pub mod Outside
 pub mod Playing

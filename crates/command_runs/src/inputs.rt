@@ -7,9 +7,10 @@ ghost use Rattle.command_runs.specs.{Outside.{told}, Inputs.{OfFile, ReadsOn, No
 use crate::stop::{Input, Stop};
 use image_codec::{ImageFault, ImageRule};
 use osek_io::{LoadError, Shelf, load};
-use osek_values::limits::{MAX_EVENT_LINE, MAX_EVENT_TEXT, MAX_FILE};
+use osek_values::limits::{MAX_EVENT_LINE, MAX_EVENT_TEXT, MAX_FILE, MAX_TABLE};
 use osek_values::{LexRule, Refusal, Rule, TextFile};
 use std::alloc::Global;
+use table_codec::{TableFault, TableRule};
 use trace_text::{EventFault, FaultyLine, Feed};
 
 /// How many bytes of an event text are read at once.
@@ -23,6 +24,7 @@ fn limit_of(input: Input) -> u64
         Input::Oil => MAX_FILE as u64,
         Input::Code => MAX_FILE as u64,
         Input::Image => MAX_FILE as u64,
+        Input::Table => MAX_TABLE as u64,
         Input::Events => MAX_EVENT_TEXT as u64,
     }
 }
@@ -45,6 +47,10 @@ fn over_limit(input: Input) -> Stop
         Input::Image => Stop::Image(ImageFault {
             rule: ImageRule::I7,
             offset: MAX_FILE,
+        }),
+        Input::Table => Stop::Table(TableFault {
+            rule: TableRule::K6,
+            offset: MAX_TABLE,
         }),
         Input::Events => Stop::Events(FaultyLine {
             line: 0,

@@ -14,6 +14,6 @@ mod upgrading;
 pub use inputs::load_input;
 pub use replaying::{load_image, replay};
 pub use running::{line_room, prefix, run};
-pub use stop::{Input, Output, Stop};
+pub use stop::{CheckRule, Denial, Input, Output, Stop};
 pub use tell::{put_two, tell_fault};
 pub use upgrading::upgrade;

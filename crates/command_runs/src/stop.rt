@@ -1,6 +1,10 @@
 //! Why a command stops before it is done.
+ghost use Rattle.std.specs.Prelude.{◌≡◌};
+ghost use Rattle.command_runs.specs.CheckRules.{check_rule_name};
+
 use image_codec::ImageFault;
-use osek_values::Refusal;
+use osek_values::{Refusal, Seq};
+use table_codec::TableFault;
 use trace_text::FaultyLine;
 
 /// A file that a command reads.
@@ -9,16 +13,53 @@ pub enum Input {
     Oil,
     Code,
     Image,
+    Table,
     Events,
 }
 
 /// A file that a command writes.
 #[derive(Clone, Copy)]
 pub enum Output {
-    /// The image that `build` makes.
+    /// The image that `build` and `certify` make.
     Image,
+    /// The table that `certify` makes.
+    Table,
     /// The image that `upgrade` makes.
     Upgraded,
+}
+
+/// The rules by which a table shows that an image is the kernel.
+#[derive(Clone, Copy)]
+pub enum CheckRule {
+    /// The start in each mode is in the table.
+    N1,
+    /// No step leaves the table.
+    N2,
+    /// The form of each site fits.
+    N3,
+    /// What is known of the status at each site fits.
+    N4,
+}
+
+impl CheckRule {
+    /// The rule as it is printed.
+    pub fn name(self) -> &'static [u8]
+        ensures { result.now ≡ check_rule_name self }
+    {
+        match self {
+            CheckRule::N1 => b"N1",
+            CheckRule::N2 => b"N2",
+            CheckRule::N3 => b"N3",
+            CheckRule::N4 => b"N4",
+        }
+    }
+}
+
+/// The first rule that a table and an image break, and the text of the place: a mode, a point or a block.
+#[derive(Drop)]
+pub struct Denial {
+    pub rule: CheckRule,
+    pub place: Seq<u8>,
 }
 
 /// Why a command stops, each with a status and a text on err of its own.
@@ -45,4 +86,10 @@ pub enum Stop {
     NoMode,
     /// The image is of version 2 already.
     AlreadyNew,
+    /// The table's bytes have this first fault.
+    Table(TableFault),
+    /// The table doesn't show that the image is the kernel.
+    Denied(Denial),
+    /// The table that is made is over its limit.
+    TooLong,
 }

@@ -10,7 +10,7 @@ Verb = List ℕ × ℕ
 abbrev pub verbs : List Verb
 verbs =
     (codes "build", 3) ∷ (codes "replay", 3) ∷ (codes "trace", 4) ∷ (codes "show", 2) ∷ (codes "gen", 2) ∷ (codes "info", 1)
-    ∷ (codes "upgrade", 2) ∷ []
+    ∷ (codes "upgrade", 2) ∷ (codes "certify", 4) ∷ (codes "check", 2) ∷ []
 
 -- a row of the table of forms: its verb, and how many words it names
 abbrev pub verb_of : Form → Verb

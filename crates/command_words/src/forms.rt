@@ -10,7 +10,7 @@ pub struct Form {
 }
 
 /// The table of forms: a row for each verb.
-static FORMS: [Form; 7] = [
+static FORMS: [Form; 9] = [
     Form {
         verb: "build",
         words: &["OIL", "CODE", "IMAGE"],
@@ -38,6 +38,14 @@ static FORMS: [Form; 7] = [
     Form {
         verb: "upgrade",
         words: &["IN", "OUT"],
+    },
+    Form {
+        verb: "certify",
+        words: &["OIL", "CODE", "IMAGE", "TABLE"],
+    },
+    Form {
+        verb: "check",
+        words: &["IMAGE", "TABLE"],
     },
 ];
 

@@ -1,8 +1,8 @@
 -- Where no read or write fails, the answer is the one that is due, or memory ran out.
-use Rattle.std.proofs.Common.{◌≡◌, ℕ, ◌<◌, List, [], ◌++◌, Bool, true, false, length, refl, sym, ◌∙◌, ap, subst, inl, inr, ⊎_elim, Some, None, Ok, Err, arith, nat_lt}
+use Rattle.std.proofs.Common.{◌≡◌, ℕ, ◌<◌, ◌≤◌, List, [], ◌++◌, Bool, true, false, length, refl, sym, ◌∙◌, ap, subst, inl, inr, ⊎_elim, Some, None, Ok, Err, arith, nat_lt, nat_le}
 use Rattle.std.proofs.lemmas.Bool.Decides.{nat_tests}
 use Rattle.std.specs.{Prelude.{◌⊎◌}, FinMap.{get}, declared.{option.Option.{Option}, result.Result.{Result}}}
-use Rattle.osek_values.specs.declared.{event.Event.{Event}, limits.TheConstants.{MAX_EVENT_TEXT}, numbers.ModeNo.{ModeNo}}
+use Rattle.osek_values.specs.declared.{event.Event.{Event}, limits.TheConstants.{MAX_EVENT_TEXT, MAX_TABLE}, numbers.ModeNo.{ModeNo}}
 use Rattle.osek_standard.specs.{declared.app.App.{App}, TraceText.{kernel_trace}}
 use Rattle.oil_system.specs.declared.system.System.{System}
 use Rattle.front_end.specs.Texts.{DeclaresSystem}
@@ -13,8 +13,12 @@ use Rattle.commands.specs.Answering.{CommandAnswers}
 use Rattle.commands.specs.Building as building
 use Rattle.commands.specs.Compiling.{SystemStops, CodeStops, CompileStops, OfApp}
 use Rattle.commands.specs.Due.{IsCalm, RunDue, no_mode, no_events, ends, ImageDue, no_image, bad_image, is_read, ImageRuns, IsTold, Upgrades, upgrade_end, TextsDue, no_oil, bad_oil, no_code, bad_code, goes_on, IsBuilt, IsDue}
+use Rattle.commands.specs.Due.{TableDue, no_table, bad_table, is_table, IsJudged, agreed, denied, ImageIsJudged, certify_end, IsCertifiedBy}
+use Rattle.abstract_state.specs.declared.table.PlainTable.{PlainTable}
 use Rattle.commands.specs.Generating as generating
 use Rattle.command_runs.specs.Inputs.{over_limit, unread, faulty, no_memory}
+use Rattle.commands.specs.Certifying as certifying
+use Rattle.commands.specs.Checking as checking
 use Rattle.commands.specs.Informing as informing
 use Rattle.command_runs.specs.Outside.{Outside, beside}
 use Rattle.command_runs.specs.Replaying as replaying
@@ -24,7 +28,7 @@ use Rattle.commands.specs.Showing as showing
 use Rattle.commands.specs.Printing.{PrintAnswers}
 use Rattle.commands.specs.Tracing as tracing
 use Rattle.command_runs.specs.Upgrading as upgrading
-use Rattle.commands.specs.Words.{Command, Build, Replay, Trace, Show, Info, Gen, Upgrade}
+use Rattle.commands.specs.Words.{Command, Build, Replay, Trace, Show, Info, Gen, Upgrade, Certify, Check}
 use Rattle.command_runs.specs.declared.stop.{Input.TheVariants.{Events}, Stop.{Stop}}
 use Rattle.command_runs.specs.declared.stop.Stop.TheVariants as stop
 
@@ -132,6 +136,46 @@ module _ (files : Files) (after : Outside) (reads : ReadFaults) (writes : ℕ) (
     gen_due seed tasks _ (generating.no_memory same) = inl refl
     gen_due seed tasks _ (generating.tells r (text, holds, (system, declares, (code_text, code_holds, (app, gives, (events, events_hold, (line, told, prints))))))) = inr (printed_due line r prints)
 
+    -- the end of `certify` by the length of its table's bytes
+    within_end : (n : ℕ) → n ≤ MAX_TABLE → Ok tt ≡ certify_end n
+    within_end n within = let is : nat_le n MAX_TABLE ≡ true = grind (arith, nat_tests) in rw is refl
+
+    over_end : (n : ℕ) → MAX_TABLE < n → Err stop.TooLong ≡ certify_end n
+    over_end n over = let is : nat_le n MAX_TABLE ≡ false = grind (arith, nat_tests) in rw is refl
+
+    over_certified : (app : App) → certifying.IsTableTooLong app → IsCertifiedBy app (Err stop.TooLong)
+    over_certified app (table, least, over) = record { table = table; least = least; end = over_end _ over }
+
+    -- what is stored without a fault is stored to its end
+    stored_due : (image table image_bytes table_bytes : List ℕ) (r : Result (Unit {0}) Stop) → certifying.StoreAnswers before.shelf after.shelf image table image_bytes table_bytes r → r ≡ Ok tt
+    stored_due image table a b _ (certifying.image_fails rose h) = absurd (calm.writes rose)
+    stored_due image table a b _ (certifying.table_fails rose h) = absurd (calm.writes rose)
+    stored_due image table a b _ (certifying.stored same h) = refl
+
+    certified_due : (image table : List ℕ) (r : Result (Unit {0}) Stop) (app : App) → certifying.StoresCertified before.shelf after.shelf image table r app → IsCertifiedBy app r
+    certified_due image table r app (i, t, made, stored) = record { table = t; least = made.least; end = stored_due image table _ _ r stored ∙ within_end _ made.within }
+
+    certify_due : (oil code image table : List ℕ) (r : Result (Unit {0}) Stop) → certifying.CertifyAnswers before after oil code image table r → OrMemory (TextsDue files oil code IsCertifiedBy) r
+    certify_due oil code image table _ (certifying.stops s h same) = texts_stop oil code IsCertifiedBy s h
+    certify_due oil code image table _ (certifying.too_long h same) = of_app oil code IsCertifiedBy _ (Err stop.TooLong) (λ app long. inr (over_certified app long)) h
+    certify_due oil code image table _ (certifying.stores r h) = of_app oil code IsCertifiedBy _ r (λ app stored. inr (certified_due image table r app stored)) h
+
+    table_stops : (table : List ℕ) (i : Image) (s : Stop) → checking.TableStops before.shelf after.shelf table i.app s → OrMemory (ImageIsJudged files table i) (Err s)
+    table_stops table i _ (unread (inl (at, rose))) = absurd (calm.reads table at rose)
+    table_stops table i _ (unread (inr missing)) = inr (no_table missing)
+    table_stops table i _ (faulty f (bytes, holds, first)) = inr (bad_table bytes f holds first)
+    table_stops table i _ no_memory = inl refl
+
+    of_table : (table : List ℕ) (i : Image) (P : PlainTable → Type 0) (r : Result (Unit {0}) Stop) → ((t : PlainTable) → P t → IsJudged i t r) → checking.OfTable (Some files) table i.app P → OrMemory (ImageIsJudged files table i) r
+    of_table table i P r next (bytes, holds, (t, spells, p)) = inr (is_table bytes t r holds spells (next t p))
+
+    check_due : (image table : List ℕ) (r : Result (Unit {0}) Stop) → checking.CheckAnswers before after image table r → OrMemory (ImageDue files image (ImageIsJudged files table)) r
+    check_due image table _ (checking.no_image s h same) = image_stops image _ s h
+    check_due image table _ (checking.no_table s h same) = of_image image _ _ (Err s) (λ i stops. table_stops table i s stops) h
+    check_due image table _ (checking.denied d h same) = of_image image _ _ (Err (stop.Denied d)) (λ i of. of_table table i _ (Err (stop.Denied d)) (λ t is. denied d is) of) h
+    check_due image table _ (checking.agreed r h prints) =
+        subst (OrMemory (ImageDue files image (ImageIsJudged files table))) (sym (printed_due _ r prints)) (of_image image _ _ (Ok tt) (λ i of. of_table table i _ (Ok tt) (λ t is. agreed is) of) h)
+
     pub command_due : (command : Option Command) (r : Result (Unit {0}) Stop) → CommandAnswers before after command r → OrMemory (IsDue files command) r
     command_due None r h = ⊎_elim inr inl h.0
     command_due (Some (Build oil code image)) r h = build_due oil code image r h.0
@@ -141,3 +185,5 @@ module _ (files : Files) (after : Outside) (reads : ReadFaults) (writes : ℕ) (
     command_due (Some (Info image)) r h = info_due image r h.0
     command_due (Some (Gen seed tasks)) r h = gen_due seed tasks r h.0
     command_due (Some (Upgrade image upgraded)) r h = upgrade_due image upgraded r h.0
+    command_due (Some (Certify oil code image table)) r h = certify_due oil code image table r h.0
+    command_due (Some (Check image table)) r h = check_due image table r h.0

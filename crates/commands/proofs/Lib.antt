@@ -1,4 +1,5 @@
 pub mod BuiltReplays
+pub mod CertifiedChecks
 pub mod Commands
 pub mod Compiles
 pub mod Dues
@@ -21,3 +22,4 @@ pub mod SmallImages
 pub mod SomeDue
 pub mod WantOfMemory
 pub mod UpgradedReplays
+pub mod VerdictPlaces

@@ -1,7 +1,17 @@
 -- One answer is due at most.
+use Rattle.abstract_state.specs.{declared.table.PlainTable.{PlainTable}, Tables.{sets_of}}
+use Rattle.table_codec.specs.{declared.fault.TableFault.{TableFault}, Faults.{IsFirstFault}, Spelling.{spelling as table_spelling}}
+use Rattle.table_codec.proofs.TableFaults.{spelled_once, no_first_fault, one_first_fault}
+use Rattle.flow_check.specs.declared.verdict.Verdict.{Verdict}
+use Rattle.flow_check.specs.declared.verdict.Verdict.TheVariants as verdict
+use Rattle.flow_check.proofs.VerdictLaws.{one_verdict}
+use Rattle.commands.specs.Checking.{SpellTable, IsTableFault, IsDenial, IsDenied, IsAgreed}
+use Rattle.commands.specs.Due.{TableDue, no_table, bad_table, is_table, IsJudged, agreed, denied, ImageIsJudged, certify_end, IsCertifiedBy}
+use Rattle.commands.proofs.OneTable.{one_table}
+use Rattle.command_runs.specs.declared.stop.Denial.{Denial}
 use Rattle.std.proofs.Common.{◌≡◌, ℕ, ◌≤◌, List, [], ◌++◌, Bool, length, refl, sym, ◌∙◌, ap, subst, inl, inr, Some, None, Ok, Err, arith}
 use Rattle.std.specs.declared.{option.Option.{Option}, result.Result.{Result}}
-use Rattle.osek_values.specs.declared.{event.Event.{Event}, limits.TheConstants.{MAX_FILE}, numbers.ModeNo.{ModeNo}, refusal.Refusal.{Refusal}}
+use Rattle.osek_values.specs.declared.{event.Event.{Event}, limits.TheConstants.{MAX_FILE, MAX_TABLE}, numbers.ModeNo.{ModeNo}, refusal.Refusal.{Refusal}}
 use Rattle.osek_standard.specs.declared.app.App.{App}
 use Rattle.oil_system.specs.declared.system.System.{System}
 use Rattle.front_end.specs.{Texts.{DeclaresSystem, GivesApp}, Answers.{IsOilRefusal, IsCodeRefusal}}
@@ -15,7 +25,7 @@ use Rattle.osek_io.specs.Files.{Files}
 use Rattle.command_runs.specs.Running.{end_of}
 use Rattle.commands.specs.Due.{RunDue, no_mode, no_events, ends, ImageDue, no_image, bad_image, is_read, ImageRuns, IsTold, Upgrades, TextsDue, no_oil, bad_oil, no_code, bad_code, goes_on, IsBuilt, OwnDue, IsDue}
 use Rattle.command_runs.specs.Replaying.{SpellImage, IsImageFault}
-use Rattle.commands.specs.{Tracing.{never}, GeneratedFiles.{oil_name, code_name, events_name, default_mode}, Words.{Command, Build, Replay, Trace, Show, Info, Gen, Upgrade}}
+use Rattle.commands.specs.{Tracing.{never}, GeneratedFiles.{oil_name, code_name, events_name, default_mode}, Words.{Command, Build, Replay, Trace, Show, Info, Gen, Upgrade, Certify, Check}}
 use Rattle.command_runs.specs.declared.stop.Stop.{Stop}
 use Rattle.command_runs.specs.declared.stop.Stop.TheVariants as stop
 
@@ -71,6 +81,54 @@ module _ (files : Files) where
     one_image _ _ (is_read b i r x p d) (is_read c j q y s e) =
         let images : j ≡ i = same_image c b j i (same_found _ c b y x) s p in
         one_next i r q d (subst (λ (k : Image). Next k q) images e)
+
+  -- a table, and what is said of it and an image
+  module _ (app : App) where
+    same_table : (b c : List ℕ) (t u : PlainTable) → b ≡ c → SpellTable app b t → SpellTable app c u → t ≡ u
+    same_table b c t u e x y = (spelled_once app t u [] [] x.written y.written (ap (λ (l : List ℕ). l ++ []) (x.spelled ∙ e ∙ sym y.spelled))).0
+
+    -- bytes that spell a table have no fault
+    no_table_fault : (b c : List ℕ) (t : PlainTable) (f : TableFault) → b ≡ c → SpellTable app b t → IsTableFault app c f → ⊥
+    no_table_fault b c t f e x (inl (over, is)) = let within = subst (λ (l : List ℕ). length l ≤ MAX_TABLE) e x.within in omega (arith, over, within)
+    no_table_fault b c t f e x (inr (within, first)) = no_first_fault app t f x.written (subst (λ (l : List ℕ). IsFirstFault app l f) (sym (x.spelled ∙ e)) first)
+
+    same_table_fault : (b c : List ℕ) (f g : TableFault) → b ≡ c → IsTableFault app b f → IsTableFault app c g → f ≡ g
+    same_table_fault b c f g e (inl (over, x)) (inl (more, y)) = x ∙ sym y
+    same_table_fault b c f g e (inl (over, x)) (inr (within, y)) = let same : length b ≡ length c = ap (λ (l : List ℕ). length l) e in absurd (omega (arith, over, within, same))
+    same_table_fault b c f g e (inr (within, x)) (inl (over, y)) = let same : length b ≡ length c = ap (λ (l : List ℕ). length l) e in absurd (omega (arith, over, within, same))
+    same_table_fault b c f g e (inr (within, x)) (inr (inside, y)) = one_first_fault app c f g (subst (λ (l : List ℕ). IsFirstFault app l f) e x) y
+
+    module _ (table : List ℕ) (Next : PlainTable → Result (Unit {0}) Stop → Type 0) (one_next : (t : PlainTable) (a b : Result (Unit {0}) Stop) → Next t a → Next t b → a ≡ b) where
+      one_table_due : (a b : Result (Unit {0}) Stop) → TableDue files table app Next a → TableDue files table app Next b → a ≡ b
+      one_table_due _ _ (no_table x) (no_table y) = refl
+      one_table_due _ _ (no_table x) (bad_table b f y p) = absurd (not_found _ b x y)
+      one_table_due _ _ (no_table x) (is_table b t r y p d) = absurd (not_found _ b x y)
+      one_table_due _ _ (bad_table b f x p) (no_table y) = absurd (not_found _ b y x)
+      one_table_due _ _ (bad_table b f x p) (bad_table c g y q) = ap (λ (k : TableFault). Err (stop.Table k)) (same_table_fault b c f g (same_found _ b c x y) p q)
+      one_table_due _ _ (bad_table b f x p) (is_table c t r y q d) = absurd (no_table_fault c b t f (same_found _ c b y x) q p)
+      one_table_due _ _ (is_table b t r x p d) (no_table y) = absurd (not_found _ b y x)
+      one_table_due _ _ (is_table b t r x p d) (bad_table c g y q) = absurd (no_table_fault b c t g (same_found _ b c x y) p q)
+      one_table_due _ _ (is_table b t r x p d) (is_table c u q y s e) =
+          let tables : u ≡ t = same_table c b u t (same_found _ c b y x) s p in
+          one_next t r q d (subst (λ (k : PlainTable). Next k q) tables e)
+
+  same_denial : (app : App) (v : Verdict) (d e : Denial) → IsDenial app v d → IsDenial app v e → d ≡ e
+  same_denial app verdict.Yes d e x y = absurd x
+  same_denial app (verdict.N1 m) d e x y = x ∙ sym y
+  same_denial app (verdict.N2 p) d e x y = x ∙ sym y
+  same_denial app (verdict.N3 b) d e x y = x ∙ sym y
+  same_denial app (verdict.N4 b) d e x y = x ∙ sym y
+
+  one_judged : (i : Image) (t : PlainTable) (a b : Result (Unit {0}) Stop) → IsJudged i t a → IsJudged i t b → a ≡ b
+  one_judged i t _ _ (agreed x) (agreed y) = refl
+  one_judged i t _ _ (agreed x) (denied d y) = let same : verdict.Yes ≡ y.verdict = one_verdict i (sets_of t) verdict.Yes y.verdict x y.is in absurd (subst (λ (v : Verdict). IsDenial i.app v d) (sym same) y.told)
+  one_judged i t _ _ (denied d x) (agreed y) = let same : verdict.Yes ≡ x.verdict = one_verdict i (sets_of t) verdict.Yes x.verdict y x.is in absurd (subst (λ (v : Verdict). IsDenial i.app v d) (sym same) x.told)
+  one_judged i t _ _ (denied d x) (denied e y) =
+      let same : y.verdict ≡ x.verdict = one_verdict i (sets_of t) y.verdict x.verdict y.is x.is in
+      ap (λ (k : Denial). Err (stop.Denied k)) (same_denial i.app x.verdict d e x.told (subst (λ (v : Verdict). IsDenial i.app v e) same y.told))
+
+  one_certified : (app : App) (a b : Result (Unit {0}) Stop) → IsCertifiedBy app a → IsCertifiedBy app b → a ≡ b
+  one_certified app a b x y = x.end ∙ ap (λ (t : PlainTable). certify_end (length (table_spelling app t))) (one_table app x.table y.table x.least y.least) ∙ sym y.end
 
   -- the two texts: an answer of the OIL text, and of the code beside its system
   same_system : (t u : List ℕ) (s r : System) → t ≡ u → DeclaresSystem t s → DeclaresSystem u r → s ≡ r
@@ -133,6 +191,8 @@ one_due files (Some (Show oil code)) a b x y = one_texts files oil code IsBuilt 
 one_due files (Some (Info image)) a b x y = one_image files image IsTold (λ i a b x y. x ∙ sym y) a b x y
 one_due files (Some (Upgrade image upgraded)) a b x y = one_image files image Upgrades (λ i a b x y. x ∙ sym y) a b x y
 one_due files (Some (Gen seed tasks)) a b x y = x ∙ sym y
+one_due files (Some (Certify oil code image table)) a b x y = one_texts files oil code IsCertifiedBy (one_certified files) a b x y
+one_due files (Some (Check image table)) a b x y = one_image files image (ImageIsJudged files table) (λ i. one_table_due files i.app table (IsJudged i) (one_judged files i)) a b x y
 
 -- a run in memory is due one answer
 pub one_own : (files : Files) (a b : Result (Unit {0}) Stop) → OwnDue files a → OwnDue files b → a ≡ b

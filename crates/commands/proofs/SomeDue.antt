@@ -1,4 +1,4 @@
--- Over files of bytes some answer is due.
+-- Over files of bytes some answer is due to each command that no analysis ends.
 use Rattle.std.proofs.{Common.{◌≡◌, ℕ, ◌≤◌, ◌⊎◌, inl, inr, ⊎_elim, List, Bool, length, refl, Some, None, Ok, Err}, str.Laws.{order}}
 use Rattle.std.specs.{FinMap.{get}, declared.{option.Option.{Option}, result.Result.{Result}}}
 use Rattle.osek_values.specs.declared.{event.Event.{Event}, limits.TheConstants.{MAX_FILE}, numbers.ModeNo.{ModeNo}, refusal.Refusal.{Refusal}}
@@ -13,9 +13,9 @@ use Rattle.image_codec.specs.Spelling.{spelling}
 use Rattle.image_codec.proofs.SomeImage.{spell_or_fail}
 use Rattle.osek_io.specs.Files.{Files}
 use Rattle.commands.specs.Due.{RunDue, no_mode, no_events, ends, ImageDue, no_image, bad_image, is_read, ImageRuns, IsTold, Upgrades, upgrade_end, TextsDue, no_oil, bad_oil, no_code, bad_code, goes_on, IsBuilt, IsDue}
-use Rattle.commands.specs.Laws.{HoldBytes}
+use Rattle.commands.specs.Laws.{HoldBytes, IsAnalyzed}
 use Rattle.command_runs.specs.Running.{mode_named}
-use Rattle.commands.specs.{Tracing.{never}, Words.{Command, Build, Replay, Trace, Show, Info, Gen, Upgrade}}
+use Rattle.commands.specs.{Tracing.{never}, Words.{Command, Build, Replay, Trace, Show, Info, Gen, Upgrade, Certify, Check}}
 use Rattle.command_runs.specs.declared.stop.Stop.{Stop}
 
 module _ (files : Files) where
@@ -77,12 +77,14 @@ module _ (files : Files) where
     some_texts : Given
     some_texts = of_texts (get files oil) refl
 
-pub some_due : (files : Files) → HoldBytes files → (command : Option Command) → (r : Result (Unit {0}) Stop) × IsDue files command r
-some_due files hold None = (_, refl)
-some_due files hold (Some (Build oil code image)) = some_texts files oil code IsBuilt (λ app. (Ok tt, refl))
-some_due files hold (Some (Replay image mode events)) = some_image files image (ImageRuns files mode events) (λ i. some_run files i.app (has_trap i) mode events) hold
-some_due files hold (Some (Trace oil code mode events)) = some_texts files oil code (λ app. RunDue files app never mode events) (λ app. some_run files app never mode events)
-some_due files hold (Some (Show oil code)) = some_texts files oil code IsBuilt (λ app. (Ok tt, refl))
-some_due files hold (Some (Info image)) = some_image files image IsTold (λ i. (Ok tt, refl)) hold
-some_due files hold (Some (Upgrade image upgraded)) = some_image files image Upgrades (λ i. (upgrade_end i.version, refl)) hold
-some_due files hold (Some (Gen seed tasks)) = (Ok tt, refl)
+pub some_due : (files : Files) → HoldBytes files → (command : Option Command) → (IsAnalyzed command → ⊥) → (r : Result (Unit {0}) Stop) × IsDue files command r
+some_due files hold None other = (_, refl)
+some_due files hold (Some (Build oil code image)) other = some_texts files oil code IsBuilt (λ app. (Ok tt, refl))
+some_due files hold (Some (Replay image mode events)) other = some_image files image (ImageRuns files mode events) (λ i. some_run files i.app (has_trap i) mode events) hold
+some_due files hold (Some (Trace oil code mode events)) other = some_texts files oil code (λ app. RunDue files app never mode events) (λ app. some_run files app never mode events)
+some_due files hold (Some (Show oil code)) other = some_texts files oil code IsBuilt (λ app. (Ok tt, refl))
+some_due files hold (Some (Info image)) other = some_image files image IsTold (λ i. (Ok tt, refl)) hold
+some_due files hold (Some (Upgrade image upgraded)) other = some_image files image Upgrades (λ i. (upgrade_end i.version, refl)) hold
+some_due files hold (Some (Gen seed tasks)) other = (Ok tt, refl)
+some_due files hold (Some (Certify oil code image table)) other = absurd (other tt)
+some_due files hold (Some (Check image table)) other = absurd (other tt)

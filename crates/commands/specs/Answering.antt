@@ -3,11 +3,11 @@ use Rattle.std.specs.Prelude.{◌≡◌, ◌⊎◌, ℕ, List, Option, Some, Non
 use Rattle.osek_io.specs.{Counts.{Rose}, Files.{Files}, Sunk.{Sunk, Writes}}
 use Rattle.command_runs.specs.declared.stop.Stop.{Stop}
 use Rattle.command_runs.specs.declared.stop.Stop.TheVariants as stop
-use Rattle.commands.specs.{Building.{BuildAnswers}, Due.{IsCalm, IsDue}, Generating.{GenAnswers}, Informing.{InfoAnswers}}
+use Rattle.commands.specs.{Building.{BuildAnswers}, Certifying.{CertifyAnswers}, Checking.{CheckAnswers}, Due.{IsCalm, IsDue}, Generating.{GenAnswers}, Informing.{InfoAnswers}}
 use Rattle.command_runs.specs.{Outside.{Outside, SameFiles}, Replaying.{ReplayAnswers}}
 use Rattle.commands.specs.{Showing.{ShowAnswers}, Statuses.{status_of, text_due}}
 use Rattle.command_runs.specs.{Telling.{Breaks}, Upgrading.{UpgradeAnswers}}
-use Rattle.commands.specs.{Tracing.{TraceAnswers}, Words.{Command, Build, Replay, Trace, Show, Info, Gen, Upgrade}}
+use Rattle.commands.specs.{Tracing.{TraceAnswers}, Words.{Command, Build, Replay, Trace, Show, Info, Gen, Upgrade, Certify, Check}}
 
 -- err gained the text, no write on it failed, and the status is as given; or one failed: it gained a prefix, and the status is 6
 abbrev pub Tells : (err err_after : Sunk) → (text : List ℕ) → (status answered : ℕ) → Type 0
@@ -15,7 +15,7 @@ Tells err err_after text status answered =
     ((answered ≡ status) × Writes err err_after text)
     ⊎ ((answered ≡ 6) × Breaks err err_after text)
 
--- Words of no stated form leave all as it was, also where memory ran out as they were read; `build` and `upgrade` print nothing;
+-- Words of no stated form leave all as it was, also where memory ran out as they were read; `build`, `upgrade` and `certify` print nothing;
 -- the others write no file.
 abbrev pub CommandAnswers : (before after : Outside) → Option Command → Result (Unit {0}) Stop → Type 0
 CommandAnswers before after None r = ((r ≡ Err stop.Usage) ⊎ (r ≡ Err stop.Memory)) × (after ≡ before)
@@ -26,6 +26,8 @@ CommandAnswers before after (Some (Show oil code)) r = ShowAnswers before after 
 CommandAnswers before after (Some (Info image)) r = InfoAnswers before after image r × SameFiles before.shelf after.shelf
 CommandAnswers before after (Some (Gen seed tasks)) r = GenAnswers before after seed tasks r × (after.shelf ≡ before.shelf)
 CommandAnswers before after (Some (Upgrade image upgraded)) r = UpgradeAnswers before after image upgraded r × (after.out ≡ before.out)
+CommandAnswers before after (Some (Certify oil code image table)) r = CertifyAnswers before after oil code image table r × (after.out ≡ before.out)
+CommandAnswers before after (Some (Check image table)) r = CheckAnswers before after image table r × SameFiles before.shelf after.shelf
 
 -- The command of the words answers r, of which err has the text and the call the status.
 pub record Does (command : Option Command) (answers : Result (Unit {0}) Stop → Type 0) (tells : List ℕ → ℕ → Type 0) : Type 0 where

@@ -1,7 +1,7 @@
 -- Which answer is due over files that the shelf tells, where no read or write fails and memory suffices: the first cause
 -- in the order in which a command reads and judges its inputs.
-use Rattle.std.specs.{Prelude.{◌≡◌, ℕ, Bool, List, Option, Some, None, Result, Ok, Err}, FinMap.{get}}
-use Rattle.osek_values.specs.declared.{event.Event.{Event}, numbers.ModeNo.{ModeNo}, refusal.Refusal.{Refusal}}
+use Rattle.std.specs.{Prelude.{◌≡◌, ℕ, nat_le, Bool, List, length, Option, Some, None, Result, Ok, Err, if◌then◌else◌}, FinMap.{get}}
+use Rattle.osek_values.specs.declared.{event.Event.{Event}, limits.TheConstants.{MAX_TABLE}, numbers.ModeNo.{ModeNo}, refusal.Refusal.{Refusal}}
 use Rattle.osek_standard.specs.declared.app.App.{App}
 use Rattle.oil_system.specs.declared.system.System.{System}
 use Rattle.front_end.specs.{Texts.{DeclaresSystem, GivesApp}, Answers.{IsOilRefusal, IsCodeRefusal}}
@@ -11,10 +11,13 @@ use Rattle.image_codec.specs.declared.fault.ImageFault.{ImageFault}
 use Rattle.image_model.specs.ImageTrace.{has_trap}
 use Rattle.trace_text.specs.EventText.{read_text}
 use Rattle.osek_io.specs.{Counts.{Rose}, Files.{Files}}
+use Rattle.abstract_state.specs.declared.table.PlainTable.{PlainTable}
+use Rattle.table_codec.specs.{declared.fault.TableFault.{TableFault}, Spelling.{spelling as table_spelling}}
+use Rattle.commands.specs.{Checking.{SpellTable, IsTableFault, IsDenied, IsAgreed}, Fitting.{IsLeastTable}}
 use Rattle.commands.specs.GeneratedFiles.{oil_name, code_name, events_name, default_mode}
 use Rattle.command_runs.specs.{Outside.{Outside}, Replaying.{SpellImage, IsImageFault}, Running.{mode_named, end_of}}
-use Rattle.commands.specs.{Tracing.{never}, Words.{Command, Build, Replay, Trace, Show, Info, Gen, Upgrade}}
-use Rattle.command_runs.specs.declared.stop.{Input.TheVariants.{Oil, Code, Image as image_file, Events}, Stop.{Stop}}
+use Rattle.commands.specs.{Tracing.{never}, Words.{Command, Build, Replay, Trace, Show, Info, Gen, Upgrade, Certify, Check}}
+use Rattle.command_runs.specs.declared.stop.{Denial.{Denial}, Input.TheVariants.{Oil, Code, Image as image_file, Table as table_file, Events}, Stop.{Stop}}
 use Rattle.command_runs.specs.declared.stop.Stop.TheVariants as stop
 
 -- no count of faults rose
@@ -50,6 +53,29 @@ Upgrades i r = r ≡ upgrade_end i.version
 abbrev pub IsTold : Image → Result (Unit {0}) Stop → Type 0
 IsTold i r = r ≡ Ok tt
 
+-- the table of an application, and what comes behind it
+pub data TableDue (files : Files) (table : List ℕ) (app : App) (Next : PlainTable → Result (Unit {0}) Stop → Type 0) : Result (Unit {0}) Stop → Type 0 where
+  no_table : get files table ≡ None → TableDue files table app Next (Err (stop.Unread table_file))
+  bad_table : (bytes : List ℕ) (fault : TableFault) → get files table ≡ Some bytes → IsTableFault app bytes fault → TableDue files table app Next (Err (stop.Table fault))
+  is_table : (bytes : List ℕ) (t : PlainTable) (r : Result (Unit {0}) Stop) → get files table ≡ Some bytes → SpellTable app bytes t → Next t r → TableDue files table app Next r
+
+-- what the check says of an image and a table
+pub data IsJudged (i : Image) (table : PlainTable) : Result (Unit {0}) Stop → Type 0 where
+  agreed : IsAgreed i table → IsJudged i table (Ok tt)
+  denied : (d : Denial) → IsDenied i table d → IsJudged i table (Err (stop.Denied d))
+
+abbrev pub ImageIsJudged : Files → (table : List ℕ) → Image → Result (Unit {0}) Stop → Type 0
+ImageIsJudged files table i r = TableDue files table i.app (IsJudged i) r
+
+-- a table is stored where its bytes are within the limit
+abbrev pub certify_end : (length : ℕ) → Result (Unit {0}) Stop
+certify_end n = if nat_le n MAX_TABLE then Ok tt else Err stop.TooLong
+
+pub record IsCertifiedBy (app : App) (r : Result (Unit {0}) Stop) : Type 0 where
+  pub table : PlainTable
+  pub least : IsLeastTable app table
+  pub end : r ≡ certify_end (length (table_spelling app table))
+
 -- the OIL text, the task code, and what comes behind them
 pub data TextsDue (files : Files) (oil code : List ℕ) (Next : App → Result (Unit {0}) Stop → Type 0) : Result (Unit {0}) Stop → Type 0 where
   no_oil : get files oil ≡ None → TextsDue files oil code Next (Err (stop.Unread Oil))
@@ -76,5 +102,7 @@ IsDue files (Some (Trace oil code mode events)) r = TextsDue files oil code (λ 
 IsDue files (Some (Show oil code)) r = TextsDue files oil code IsBuilt r
 IsDue files (Some (Info image)) r = ImageDue files image IsTold r
 IsDue files (Some (Upgrade image upgraded)) r = ImageDue files image Upgrades r
+IsDue files (Some (Certify oil code image table)) r = TextsDue files oil code IsCertifiedBy r
+IsDue files (Some (Check image table)) r = ImageDue files image (ImageIsJudged files table) r
 -- the own texts of `gen` have no fault
 IsDue files (Some (Gen seed tasks)) r = r ≡ Ok tt

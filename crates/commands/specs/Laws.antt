@@ -1,5 +1,5 @@
 -- What holds of the answers that are due, of what is built and then replayed, and of what is upgraded.
-use Rattle.std.specs.{Prelude.{◌≡◌, ◌<◌, ℕ, List, length, Option, Some, None, Result, Ok}, FinMap.{get}}
+use Rattle.std.specs.{Prelude.{◌≡◌, ◌<◌, ⊤, ℕ, List, length, Option, Some, None, Result, Ok}, FinMap.{get}}
 use Rattle.osek_values.specs.declared.numbers.ModeNo.{ModeNo}
 use Rattle.osek_standard.specs.{declared.app.App.{App}, TraceText.{kernel_trace}}
 use Rattle.oil_system.specs.declared.system.System.{System}
@@ -12,7 +12,9 @@ use Rattle.trace_text.specs.EventText.{read_text}
 use Rattle.osek_io.specs.Files.{Files}
 use Rattle.commands.specs.{Fitting.{IsKernelImage, IsFitted}, Due.{ImageDue, ImageRuns, IsDue}}
 use Rattle.command_runs.specs.{Replaying.{SpellImage}, Running.{mode_named, whole_run}}
-use Rattle.commands.specs.Words.{Command}
+use Rattle.commands.specs.{Certifying.{IsCertified}, Words.{Command, Certify, Check}}
+use Rattle.table_codec.specs.Spelling.{spelling as table_spelling}
+use Rattle.abstract_state.specs.declared.table.PlainTable.{PlainTable}
 use Rattle.command_runs.specs.declared.stop.Stop.{Stop}
 
 -- Where the image's file holds what `build` stores, the mode is named, and the event text has no fault, `replay` is done.
@@ -51,14 +53,30 @@ pub record AreBuiltFrom (oil code bytes : List ℕ) : Type 0 where
 abbrev pub OneImageIsBuilt : Type 0
 OneImageIsBuilt = (oil code bytes others : List ℕ) → AreBuiltFrom oil code bytes → AreBuiltFrom oil code others → bytes ≡ others
 
+-- Where two files hold what `certify` stores, `check` of the two says yes.
+abbrev pub WhatIsCertifiedIsChecked : Type 0
+WhatIsCertifiedIsChecked = (files : Files) (image table : List ℕ) (app : App) (i : Image) (t : PlainTable)
+    → IsCertified app i t → get files image ≡ Some (spelling i) → get files table ≡ Some (table_spelling app t) → IsDue files (Some (Check image table)) (Ok tt)
+
+-- An image of which `check` says yes is the kernel of its application, whoever made it and the table.
+abbrev pub WhatIsCheckedIsAKernelImage : Type 0
+WhatIsCheckedIsAKernelImage = (files : Files) (image table bytes : List ℕ) (i : Image)
+    → IsDue files (Some (Check image table)) (Ok tt) → get files image ≡ Some bytes → SpellImage bytes i → IsKernelImage i.app i
+
 -- the files hold bytes
 abbrev pub HoldBytes : Files → Type 0
 HoldBytes files = (name bytes : List ℕ) → get files name ≡ Some bytes → AreBytes bytes
 
--- Over files of bytes some answer is due,
-abbrev pub SomeIsDue : Type 0
-SomeIsDue = (files : Files) (command : Option Command) → HoldBytes files → (answer : Result (Unit {0}) Stop) × IsDue files command answer
+-- what ends these commands is known by an analysis alone
+abbrev pub IsAnalyzed : Option Command → Type 0
+IsAnalyzed (Some (Certify oil code image table)) = ⊤
+IsAnalyzed (Some (Check image table)) = ⊤
+IsAnalyzed other = ⊥
 
--- and one at most.
+-- Over files of bytes some answer is due to each other command,
+abbrev pub SomeIsDue : Type 0
+SomeIsDue = (files : Files) (command : Option Command) → HoldBytes files → (IsAnalyzed command → ⊥) → (answer : Result (Unit {0}) Stop) × IsDue files command answer
+
+-- and one at most to any.
 abbrev pub OneIsDue : Type 0
 OneIsDue = (files : Files) (command : Option Command) (a b : Result (Unit {0}) Stop) → IsDue files command a → IsDue files command b → a ≡ b

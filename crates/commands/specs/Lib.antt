@@ -1,5 +1,7 @@
 pub mod Answering
 pub mod Building
+pub mod Certifying
+pub mod Checking
 pub mod Compiling
 pub mod Due
 pub mod Fitting

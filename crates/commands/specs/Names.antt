@@ -3,19 +3,20 @@ use Rattle.std.specs.Prelude.{ℕ, List, [], Option, Some, None}
 use Rattle.command_runs.specs.declared.stop.{Input.{Input}, Output.{Output}}
 use Rattle.command_runs.specs.declared.stop.Input.TheVariants as input
 use Rattle.command_runs.specs.declared.stop.Output.TheVariants as output
-use Rattle.commands.specs.Words.{Command, Build, Replay, Trace, Show, Info, Gen, Upgrade}
+use Rattle.commands.specs.Words.{Command, Build, Replay, Trace, Show, Info, Gen, Upgrade, Certify, Check}
 
 -- the words; an empty one where the command has none of the kind
 pub record Names : Type 0 where
   pub oil : List ℕ
   pub code : List ℕ
   pub image : List ℕ
+  pub table : List ℕ
   pub upgraded : List ℕ
   pub mode : List ℕ
   pub events : List ℕ
 
 abbrev pub no_names : Names
-no_names = record { oil = []; code = []; image = []; upgraded = []; mode = []; events = [] }
+no_names = record { oil = []; code = []; image = []; table = []; upgraded = []; mode = []; events = [] }
 
 abbrev pub command_names : Command → Names
 command_names (Build oil code image) = record no_names { oil = oil; code = code; image = image }
@@ -25,6 +26,8 @@ command_names (Show oil code) = record no_names { oil = oil; code = code }
 command_names (Info image) = record no_names { image = image }
 command_names (Gen seed tasks) = no_names
 command_names (Upgrade image upgraded) = record no_names { image = image; upgraded = upgraded }
+command_names (Certify oil code image table) = record no_names { oil = oil; code = code; image = image; table = table }
+command_names (Check image table) = record no_names { image = image; table = table }
 
 -- words of no stated form name nothing
 abbrev pub names_of : Option Command → Names
@@ -36,9 +39,11 @@ abbrev pub input_name : Names → Input → List ℕ
 input_name names input.Oil = names.oil
 input_name names input.Code = names.code
 input_name names input.Image = names.image
+input_name names input.Table = names.table
 input_name names input.Events = names.events
 
 -- the word that names a file that is written
 abbrev pub output_name : Names → Output → List ℕ
 output_name names output.Image = names.image
+output_name names output.Table = names.table
 output_name names output.Upgraded = names.upgraded

@@ -12,6 +12,8 @@ seen (command.Show oil code) = words.Show oil.now code.now
 seen (command.Info image) = words.Info image.now
 seen (command.Gen seed tasks) = words.Gen seed tasks
 seen (command.Upgrade image upgraded) = words.Upgrade image.now upgraded.now
+seen (command.Certify oil code image table) = words.Certify oil.now code.now image.now table.now
+seen (command.Check image table) = words.Check image.now table.now
 
 abbrev pub seen_names : Names → names.Names
-seen_names n = record { oil = n.oil.now; code = n.code.now; image = n.image.now; upgraded = n.upgraded.now; mode = n.mode.now; events = n.events.now }
+seen_names n = record { oil = n.oil.now; code = n.code.now; image = n.image.now; table = n.table.now; upgraded = n.upgraded.now; mode = n.mode.now; events = n.events.now }

@@ -4,11 +4,12 @@ use Rattle.osek_values.specs.declared.refusal.TextFile.{TextFile}
 use Rattle.osek_values.specs.declared.refusal.TextFile.TheVariants as file
 use Rattle.osek_values.specs.Rules.{rule_name}
 use Rattle.image_codec.specs.Rules.{image_rule_name}
+use Rattle.table_codec.specs.Rules.{table_rule_name}
 use Rattle.trace_text.specs.EventFaults.{event_fault_name}
 use Rattle.command_runs.specs.declared.stop.{Input.{Input}, Stop.{Stop}}
 use Rattle.command_runs.specs.declared.stop.Input.TheVariants as input
 use Rattle.command_runs.specs.declared.stop.Stop.TheVariants as stop
-use Rattle.command_runs.specs.Telling.{fault_text}
+use Rattle.command_runs.specs.{CheckRules.{check_rule_name}, Telling.{fault_text}}
 use Rattle.commands.specs.{Names.{Names, input_name, output_name, names_of}, Words.{Command}}
 
 abbrev pub stop_status : Stop → ℕ
@@ -23,6 +24,9 @@ stop_status stop.Memory = 7
 stop_status stop.Trapped = 8
 stop_status stop.NoMode = 9
 stop_status stop.AlreadyNew = 10
+stop_status (stop.Table f) = 11
+stop_status (stop.Denied d) = 12
+stop_status stop.TooLong = 13
 
 abbrev pub status_of : Result (Unit {0}) Stop → ℕ
 status_of (Ok done) = 0
@@ -46,6 +50,9 @@ stop_text names stop.Memory = codes "memory" ++ codes "\n"
 stop_text names stop.Trapped = []
 stop_text names stop.NoMode = names.mode ++ codes ": no such mode\n"
 stop_text names stop.AlreadyNew = names.image ++ codes ": version 2\n"
+stop_text names (stop.Table f) = fault_text names.table f.offset (table_rule_name f.rule)
+stop_text names (stop.Denied d) = (names.table ++ codes ": ") ++ (check_rule_name d.rule ++ codes " ") ++ (d.place ++ codes "\n")
+stop_text names stop.TooLong = names.table ++ codes ": too long\n"
 
 -- the text that is due on err, by the words and what the command answers
 abbrev pub text_due : Option Command → Result (Unit {0}) Stop → List ℕ

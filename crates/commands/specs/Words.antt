@@ -10,6 +10,8 @@ pub data Command : Type 0 where
   Info : (image : List ℕ) → Command
   Gen : (seed tasks : ℕ) → Command
   Upgrade : (image upgraded : List ℕ) → Command
+  Certify : (oil code image table : List ℕ) → Command
+  Check : (image table : List ℕ) → Command
 
 -- `gen` of two numbers
 abbrev pub gen_of : Option ℕ → Option ℕ → Option Command
@@ -17,13 +19,18 @@ gen_of None tasks = None
 gen_of (Some seed) None = None
 gen_of (Some seed) (Some tasks) = Some (Gen seed tasks)
 
+-- `certify`, whose image and table are not one file
+abbrev pub certify_of : (oil code image table : List ℕ) → Option Command
+certify_of oil code image table = if bytes_eq image table then None else Some (Certify oil code image table)
+
 -- the command of a verb, which takes these words
 abbrev pub command_of_words : (verb : List ℕ) → List (List ℕ) → Option Command
 command_of_words verb (a ∷ []) = Some (Info a)
 command_of_words verb (a ∷ b ∷ []) =
-    if bytes_eq verb (codes "show") then Some (Show a b) else (if bytes_eq verb (codes "upgrade") then Some (Upgrade a b) else gen_of (seed_of a) (tasks_of b))
+    if bytes_eq verb (codes "show") then Some (Show a b)
+    else (if bytes_eq verb (codes "upgrade") then Some (Upgrade a b) else (if bytes_eq verb (codes "check") then Some (Check a b) else gen_of (seed_of a) (tasks_of b)))
 command_of_words verb (a ∷ b ∷ c ∷ []) = if bytes_eq verb (codes "build") then Some (Build a b c) else Some (Replay a b c)
-command_of_words verb (a ∷ b ∷ c ∷ d ∷ []) = Some (Trace a b c d)
+command_of_words verb (a ∷ b ∷ c ∷ d ∷ []) = if bytes_eq verb (codes "trace") then Some (Trace a b c d) else certify_of a b c d
 command_of_words verb other = None
 
 -- the first word is the program's name, and isn't looked at

@@ -1,7 +1,7 @@
 //! The image of an application, fitted to it by its least table of possible states.
 ghost use Rattle.std.specs.Prelude.{◌≡◌, ◌<◌, IfOk};
 ghost use Rattle.osek_standard.specs.Versions.{FitsVersion1};
-ghost use Rattle.abstract_state.specs.{Forms.{HasDictatedForms}, Tables.{sets_of}};
+ghost use Rattle.abstract_state.specs.{Forms.{HasDictatedForms, HasDictatedStatuses}, Tables.{sets_of}};
 ghost use Rattle.commands.specs.Fitting.{IsLeastTable, IsFitted};
 
 use crate::ranges::read_numbers;
@@ -40,6 +40,7 @@ pub fn fitted(alloc: Global, app: App, table: &Table) -> Result<Image, Memory>
     requires table { IsLeastTable app table.now }
     ensures fitted { IfOk result (IsFitted app) }
     ensures forms { IfOk result (HasDictatedForms (sets_of table.now)) }
+    ensures statuses { IfOk result (HasDictatedStatuses (sets_of table.now)) }
 {
     let image = tailor(alloc, app, table)?;
     read_numbers(&image);

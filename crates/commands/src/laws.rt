@@ -1,8 +1,9 @@
 //! Laws over the definitions.
-ghost use Rattle.commands.specs.Laws.{SomeIsDue, OneIsDue, OneImageIsBuilt, WhatIsBuiltReplays, WhatIsBuiltIsTheKernel, WhatIsUpgradedReplays, WhatIsUpgradedPrintsTheSame};
+ghost use Rattle.commands.specs.Laws.{SomeIsDue, OneIsDue, OneImageIsBuilt, WhatIsBuiltReplays, WhatIsBuiltIsTheKernel, WhatIsCertifiedIsChecked, WhatIsCheckedIsAKernelImage, WhatIsUpgradedReplays, WhatIsUpgradedPrintsTheSame};
 ghost use Rattle.commands.specs.OneText.{OneTableIsWritten, OneTextIsShown, OneLineIsGenerated};
 
-/// Over files of bytes one answer is due to each command, and no other.
+/// Over files of bytes one answer at most is due to each command, and one is to each but `certify` and `check`: what ends these
+/// is known by an analysis alone.
 pub fn one_answer()
     ensures some { SomeIsDue }
     ensures one { OneIsDue }
@@ -38,4 +39,14 @@ pub fn what_is_built_replays()
 pub fn what_is_upgraded_replays()
     ensures replays { WhatIsUpgradedReplays }
     ensures prints_the_same { WhatIsUpgradedPrintsTheSame }
+{}
+
+/// What `certify` stores, `check` agrees to.
+pub fn what_is_certified_is_checked()
+    ensures { WhatIsCertifiedIsChecked }
+{}
+
+/// What `check` agrees to runs as the kernel, whoever made it.
+pub fn what_is_checked_is_a_kernel_image()
+    ensures { WhatIsCheckedIsAKernelImage }
 {}

@@ -2,6 +2,8 @@
 #![tactic(auto)]
 
 mod building;
+mod certifying;
+mod checking;
 mod compiling;
 mod fitting;
 mod generating;
@@ -18,11 +20,14 @@ mod tracing;
 mod words;
 
 pub use building::build;
+pub use certifying::certify;
+pub use checking::check;
 pub use generating::generate_and_run;
 pub use informing::info;
 pub use laws::{
     one_answer, one_image_is_built, one_line_is_generated, one_table_is_written, one_text_is_shown,
-    what_is_built_replays, what_is_upgraded_replays,
+    what_is_built_replays, what_is_certified_is_checked, what_is_checked_is_a_kernel_image,
+    what_is_upgraded_replays,
 };
 pub use showing::{Dictated, show};
 pub use top::osekfit;

@@ -11,6 +11,7 @@ pub struct Names<'a> {
     pub oil: &'a str,
     pub code: &'a str,
     pub image: &'a str,
+    pub table: &'a str,
     pub upgraded: &'a str,
     pub mode: &'a str,
     pub events: &'a str,
@@ -20,6 +21,7 @@ const NO_NAMES: Names<'static> = Names {
     oil: "",
     code: "",
     image: "",
+    table: "",
     upgraded: "",
     mode: "",
     events: "",
@@ -69,6 +71,23 @@ fn command_names_of<'a>(command: &Command<'a>) -> Names<'a>
             upgraded,
             ..NO_NAMES
         },
+        Command::Certify {
+            oil,
+            code,
+            image,
+            table,
+        } => Names {
+            oil,
+            code,
+            image,
+            table,
+            ..NO_NAMES
+        },
+        Command::Check { image, table } => Names {
+            image,
+            table,
+            ..NO_NAMES
+        },
     }
 }
 
@@ -91,6 +110,7 @@ impl<'a> Names<'a> {
             Input::Oil => self.oil,
             Input::Code => self.code,
             Input::Image => self.image,
+            Input::Table => self.table,
             Input::Events => self.events,
         }
     }
@@ -101,6 +121,7 @@ impl<'a> Names<'a> {
     {
         match output {
             Output::Image => self.image,
+            Output::Table => self.table,
             Output::Upgraded => self.upgraded,
         }
     }

@@ -1,12 +1,12 @@
 //! The answer of a command: its text on err, and its status.
-ghost use Rattle.std.specs.Prelude.{◌≡◌, ◌++◌, option_map};
+ghost use Rattle.std.specs.Prelude.{◌≡◌, ◌++◌, option_map, codes};
 ghost use Rattle.osek_io.specs.Sunk.{sunk};
 ghost use Rattle.commands.specs.{Answering.{Tells}, Names.{input_name, names_of as the_names}, Seen.{seen, seen_names}, Statuses.{stop_status, stop_text, text_input as the_text_input}};
-ghost use Rattle.command_runs.specs.Telling.{TellsText, fault_text};
+ghost use Rattle.command_runs.specs.{CheckRules.{check_rule_name}, Telling.{TellsText, fault_text}};
 
 use crate::names::{Names, names_of};
 use crate::words::Command;
-use command_runs::{Input, Stop, put_two, tell_fault};
+use command_runs::{Denial, Input, Stop, put_two, tell_fault};
 use osek_io::{PutError, Sink};
 use osek_values::TextFile;
 
@@ -29,6 +29,9 @@ fn status(stop: &Stop) -> u8
         Stop::Trapped => 8,
         Stop::NoMode => 9,
         Stop::AlreadyNew => 10,
+        Stop::Table(_) => 11,
+        Stop::Denied(_) => 12,
+        Stop::TooLong => 13,
     }
 }
 
@@ -60,6 +63,15 @@ fn tell_of<E: Sink>(err: &mut E, word: &str, said: &[u8]) -> Result<(), PutError
     ensures { TellsText (sunk E.Sink err.old) (sunk E.Sink err.new) (word.now ++ said.now) result }
 {
     put_two(err, word.as_bytes(), said)
+}
+
+/// Tells which rule of a check is broken, and where.
+fn tell_denial<E: Sink>(err: &mut E, table: &str, denial: &Denial) -> Result<(), PutError>
+    ensures { TellsText (sunk E.Sink err.old) (sunk E.Sink err.new) ((table.now ++ codes ": ") ++ (check_rule_name denial.now.rule ++ codes " ") ++ (denial.now.place ++ codes "\n")) result }
+{
+    put_two(err, table.as_bytes(), b": ")?;
+    put_two(err, denial.rule.name(), b" ")?;
+    put_two(err, denial.place.as_slice(), b"\n")
 }
 
 /// Tells the text of a stop.
@@ -97,6 +109,15 @@ fn tell_stop<E: Sink>(err: &mut E, names: &Names<'_>, stop: &Stop) -> Result<(),
         Stop::Trapped => Ok(()),
         Stop::NoMode => tell_of(err, names.mode, b": no such mode\n"),
         Stop::AlreadyNew => tell_of(err, names.image, b": version 2\n"),
+        Stop::Table(fault) => tell_fault_in(
+            err,
+            names,
+            Input::Table,
+            fault.offset as u64,
+            fault.rule.name(),
+        ),
+        Stop::Denied(denial) => tell_denial(err, names.table, denial),
+        Stop::TooLong => tell_of(err, names.table, b": too long\n"),
     }
 }
 

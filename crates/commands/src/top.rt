@@ -6,6 +6,8 @@ ghost use Rattle.command_runs.specs.Outside.{outside};
 ghost use Rattle.commands.specs.{Seen.{seen}, Words.{command_of}};
 
 use crate::building::build;
+use crate::certifying::certify;
+use crate::checking::check;
 use crate::generating::generate_and_run;
 use crate::informing::info;
 use crate::showing::show;
@@ -42,6 +44,13 @@ fn carry_out<F: Shelf, O: Sink>(
         Command::Info { image } => info(alloc, shelf, out, image),
         Command::Gen { seed, tasks } => generate_and_run(alloc, out, *seed, *tasks),
         Command::Upgrade { image, upgraded } => upgrade(alloc, shelf, image, upgraded),
+        Command::Certify {
+            oil,
+            code,
+            image,
+            table,
+        } => certify(alloc, shelf, oil, code, image, table),
+        Command::Check { image, table } => check(alloc, shelf, out, image, table),
     }
 }
 
@@ -85,6 +94,8 @@ fn run_command<F: Shelf, O: Sink, E: Sink>(
 /// `info IMAGE` prints the forms of an image, and of version 2 what it knows of statuses;
 /// `gen SEED TASKS` makes a system from a number, runs it in memory, and prints what its analysis counts and how long its trace is;
 /// `upgrade IN OUT` stores the image of version 2 that becomes of an image of version 1.
+/// `certify OIL CODE IMAGE TABLE` stores what `build` does, and the least table of the application;
+/// `check IMAGE TABLE` prints `yes` where the table shows that the image is the kernel of its application.
 /// It tells on `err` why the status isn't 0.
 pub fn osekfit<F: Shelf, O: Sink, E: Sink>(
     alloc: Global,

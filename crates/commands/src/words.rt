@@ -47,6 +47,18 @@ pub enum Command<'a> {
         image: &'a str,
         upgraded: &'a str,
     },
+    /// `certify OIL CODE IMAGE TABLE`, which are not one file
+    Certify {
+        oil: &'a str,
+        code: &'a str,
+        image: &'a str,
+        table: &'a str,
+    },
+    /// `check IMAGE TABLE`
+    Check {
+        image: &'a str,
+        table: &'a str,
+    },
 }
 
 fn gen_of<'a>(seed: Option<u64>, tasks: Option<u32>) -> Option<Command<'a>>
@@ -68,6 +80,8 @@ fn command_of_two<'a>(verb: &str, a: &'a str, b: &'a str) -> Option<Command<'a>>
             image: a,
             upgraded: b,
         })
+    } else if verb == "check" {
+        Some(Command::Check { image: a, table: b })
     } else {
         gen_of(seed_of(a), tasks_of(b))
     }
@@ -91,6 +105,34 @@ fn command_of_three<'a>(verb: &str, a: &'a str, b: &'a str, c: &'a str) -> Optio
     }
 }
 
+fn command_of_four<'a>(
+    verb: &str,
+    a: &'a str,
+    b: &'a str,
+    c: &'a str,
+    d: &'a str,
+) -> Option<Command<'a>>
+    ensures { option_map seen result ≡ the_command_of_words verb.now (a.now ∷ b.now ∷ c.now ∷ d.now ∷ []) }
+{
+    if verb == "trace" {
+        Some(Command::Trace {
+            oil: a,
+            code: b,
+            mode: c,
+            events: d,
+        })
+    } else if c == d {
+        None
+    } else {
+        Some(Command::Certify {
+            oil: a,
+            code: b,
+            image: c,
+            table: d,
+        })
+    }
+}
+
 /// The command of a verb, which takes these words.
 fn command_of_words<'a>(verb: &str, words: &[&'a str]) -> Option<Command<'a>>
     ensures { option_map seen result ≡ the_command_of_words verb.now (map (λ (w : Bor (List ℕ)). w.now) words.now) }
@@ -99,12 +141,7 @@ fn command_of_words<'a>(verb: &str, words: &[&'a str]) -> Option<Command<'a>>
         [image] => Some(Command::Info { image }),
         [a, b] => command_of_two(verb, a, b),
         [a, b, c] => command_of_three(verb, a, b, c),
-        [oil, code, mode, events] => Some(Command::Trace {
-            oil,
-            code,
-            mode,
-            events,
-        }),
+        [a, b, c, d] => command_of_four(verb, a, b, c, d),
         _ => None,
     }
 }

@@ -1,19 +1,19 @@
 //! The least table, by numbered entries: each point that is reached is evaluated until no entry grows.
-ghost use Rattle.std.specs.Prelude.{◌≡◌, ◌+◌, ◌*◌, ◌≤◌, ℕ, length, map, IfOk, OnOk};
+ghost use Rattle.std.specs.Prelude.{◌≡◌, ◌+◌, ◌*◌, ◌<◌, ◌≤◌, ℕ, length, IfOk, OnOk};
 ghost use Rattle.osek_standard.specs.Counts.{points, height};
 ghost use Rattle.abstract_state.specs.{Domains.{HasMasks, domains as domains_of_entry, domains_of}, Tables.{Least, sets_of, value_count}, Written.{IsWritten}};
-ghost use Rattle.numbered_sets.specs.Pools.{no_values, pool_domains, IsLonger};
+ghost use Rattle.numbered_sets.specs.Pools.{pool_domains, IsLonger};
 ghost use Rattle.flow_rules.specs.Levels.{AreLevels};
 ghost use Rattle.state_flow.specs.{Cells.{IsWaitingAt}, Progress.{Progress}, PlainCells.{plain_cells, AreCellsOf}, Numbering.{AreNumberedCells, HasProgress}};
 
 use crate::cells::{Cell, next_waiting, place_behind};
 use crate::evaluation::evaluate;
 use crate::numbered_cells::{put_in, rows};
-use abstract_state::{Domain, PlainEntry, masks_are_few};
+use abstract_state::{Domain, LiveVal, PartValue, PlainEntry, Val, masks_are_few};
 use flow_rules::{Levels, start_row};
 use numbered_sets::{NumberedEntry, Pool, Table, numbered};
 use osek_standard::App;
-use osek_values::{Memory, ModeNo, Steps};
+use osek_values::{BlockNo, Held, Memory, ModeNo, Steps};
 use std::alloc::Global;
 use std::sync::ledger::Ledger;
 
@@ -44,13 +44,35 @@ pub fn solve<L: Ledger>(alloc: Global, app: &App, steps: &mut Steps<L>) -> Resul
     Ok(Table::of(pool, rows))
 }
 
-/// A pool without values, for the application's components.
+/// A pool for the application's components. The values of a task that holds nothing have the first numbers: they stand in most
+/// entries, and a set takes the memory of its highest number.
 fn pool_of(alloc: Global, app: &App) -> Result<Pool, Memory>
-    ensures { IfOk result (λ pool. pool ≡ map no_values (domains_of app.now)) }
+    ensures { IfOk result (λ pool. pool_domains pool ≡ domains_of app.now) }
 {
     let domains = component_domains(alloc, app)?;
-    let pool = Pool::new(alloc, domains.as_slice())?;
+    let mut pool = Pool::new(alloc, domains.as_slice())?;
+    for component in 0..domains.len() {
+        number_free(&mut pool, component)?;
+    }
     Ok(pool)
+}
+
+// numbers the values with which a task stands at each of its blocks and holds nothing, where the component is a task
+fn number_free(pool: &mut Pool, component: usize) -> Result<(), Memory>
+    requires { component < length pool.old }
+    ensures { OnOk result (IsLonger pool.old pool.new) }
+{
+    let Domain::Task { first, count, .. } = pool.domain(component) else {
+        return Ok(());
+    };
+    for block in first.0..first.0.saturating_add(count) {
+        let live = Val::Live(LiveVal {
+            block: BlockNo(block),
+            held: Held::new(),
+        });
+        pool.number(component, PartValue::OfTask(live))?;
+    }
+    Ok(())
 }
 
 /// What the values of each of the application's components are values of.

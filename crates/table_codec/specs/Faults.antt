@@ -53,7 +53,8 @@ module _ (app : App) (p : Point) (k : Component) where
 -- A value is faulty, or it isn't above those before it.
 pub data IsNextFault (app : App) (p : Point) (k : Component) (before : List PartValue) (bytes : List ℕ) (f : Fault) : Type 0 where
   bad_value : IsValueFault app p k bytes f → IsNextFault app p k before bytes f
-  not_above : (v : PartValue) (more : List ℕ) → IsPart app p k v → bytes ≡ value_bytes v ++ more → (IsAscending (before ++ v ∷ []) → ⊥) → f ≡ fault_at K4 bytes → IsNextFault app p k before bytes f
+  not_above : (v : PartValue) (more : List ℕ) → IsPart app p k v → bytes ≡ value_bytes v ++ more → (IsAscending (before ++ v ∷ []) → ⊥) → f ≡ fault_at K4 bytes
+      → IsNextFault app p k before bytes f
 
 -- so many values of a set are good, fewer than its count says, and the next one isn't
 pub record IsListFault (app : App) (p : Point) (k : Component) (bytes : List ℕ) (f : Fault) : Type 0 where

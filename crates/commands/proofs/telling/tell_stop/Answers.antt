@@ -35,3 +35,12 @@ returns-in-NoMode g c = rw c.in-NoMode.is (c.tell_of-in-NoMode.ensures)
 
 pub returns-in-AlreadyNew : goal.returns-in-AlreadyNew
 returns-in-AlreadyNew g c = rw c.in-AlreadyNew.is (c.tell_of-in-AlreadyNew.ensures)
+
+pub returns-in-Table : goal.returns-in-Table
+returns-in-Table g c = rw c.in-Table.is (rw c.name-in-Table.ensures at c.tell_fault_in-in-Table.ensures)
+
+pub returns-in-Denied : goal.returns-in-Denied
+returns-in-Denied g c = rw c.in-Denied.is c.tell_denial.ensures
+
+pub returns-in-TooLong : goal.returns-in-TooLong
+returns-in-TooLong g c = rw c.in-TooLong.is (c.tell_of-in-TooLong.ensures)

@@ -33,3 +33,17 @@ returns-in-Upgrade g c =
     (outside g.F.Shelf g.O.Sink c.args.shelf.now c.args.out.now)
     (outside g.F.Shelf g.O.Sink c.upgrade.new.shelf c.args.out.now)
     (Some (seen k)) c.upgrade.result) (sym c.in-Upgrade.is) (c.upgrade.ensures.answer (sunk g.O.Sink c.args.out.now), refl)
+
+pub returns-in-Certify : goal.returns-in-Certify
+returns-in-Certify g c =
+    subst (λ (k : Command). CommandAnswers
+    (outside g.F.Shelf g.O.Sink c.args.shelf.now c.args.out.now)
+    (outside g.F.Shelf g.O.Sink c.certify.new.shelf c.args.out.now)
+    (Some (seen k)) c.certify.result) (sym c.in-Certify.is) (c.certify.ensures.answer (sunk g.O.Sink c.args.out.now), refl)
+
+pub returns-in-Check : goal.returns-in-Check
+returns-in-Check g c =
+    subst (λ (k : Command). CommandAnswers
+    (outside g.F.Shelf g.O.Sink c.args.shelf.now c.args.out.now)
+    (outside g.F.Shelf g.O.Sink c.check.new.shelf c.check.new.out)
+    (Some (seen k)) c.check.result) (sym c.in-Check.is) (c.check.ensures.answer, (c.check.ensures.same.files, c.check.ensures.same.writes))

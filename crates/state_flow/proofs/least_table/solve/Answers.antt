@@ -1,18 +1,18 @@
 use Rattle.std.proofs.Common.{◌∙◌, ◌+◌, ◌*◌, ◌<◌, ◌≤◌, List, length, sym, ap, subst, arith}
 use Rattle.osek_standard.specs.Counts.{points, height}
-use Rattle.abstract_state.specs.{Domains.{domains_of}, declared.table.PlainTable.{PlainTable}, Tables.{Least, sets_of, value_count}, Written.{IsWritten}}
-use Rattle.numbered_sets.specs.{declared.numbered_entry.NumberedEntry.{NumberedEntry}, Pools.{pool_domains}}
+use Rattle.abstract_state.specs.{declared.table.PlainTable.{PlainTable}, Tables.{Least, sets_of, value_count}, Written.{IsWritten}}
+use Rattle.numbered_sets.specs.{declared.numbered_entry.NumberedEntry.{NumberedEntry}}
 use Rattle.state_flow.specs.{declared.cells.Cell.{Cell}, Cells.{AreInOrder, IsWaitingAt, IsNextWaiting, NoneWaitsFrom}, Rows.{table_of}}
 use Rattle.state_flow.proofs.{CellLists.{next_waits}, RowLaws.{written}, Closing.{least_at_end}, Bounds.{room, values_few, rows_evaluated, evaluations_few}}
 use Rattle.state_flow.specs.PlainCells.{plain_cells}
-use Rattle.state_flow.proofs.{NumberedCells.{numbered_order, waits_plain, none_waits_plain, domains_kept, tasks_few}, CellRows.{rows_known, table_alike}}
+use Rattle.state_flow.proofs.{NumberedCells.{numbered_order, waits_plain, none_waits_plain, tasks_few}, CellRows.{rows_known, table_alike}}
 use Rattle.state_flow.proofs.least_table.solve.Goals as goal
 
 pub started-requires : goal.started-requires
-started-requires g c = ap pool_domains c.in_ok-pool.ensures ∙ domains_kept (domains_of c.args.app.now)
+started-requires g c = c.in_ok-pool.ensures
 
 pub new-requires : goal.new-requires
-new-requires g c = tasks_few c.args.app.now c.started.new.pool (c.in_ok-cells.ensures.pool.domains ∙ ap pool_domains c.in_ok-pool.ensures ∙ domains_kept (domains_of c.args.app.now))
+new-requires g c = tasks_few c.args.app.now c.started.new.pool (c.in_ok-cells.ensures.pool.domains ∙ c.in_ok-pool.ensures)
 
 pub loop-place-init : goal.loop-place-init
 loop-place-init g c = (0, omega arith, c.in_ok-cells.ensures.progress, c.in_ok-levels.ensures)
