@@ -51,6 +51,7 @@ pub fn keep(more: &mut Seq<Vec<u64>>, component: usize, other: &[u64])
     }
     let words = more.at_mut(component);
     words::keep(words.as_mut_slice(), other);
+    words::trim(words);
 }
 
 /// Clears a component's bits that other words have.

@@ -45,6 +45,15 @@ pub fn widen(words: &mut Vec<u64>, count: usize) -> Result<(), Memory>
     Ok(())
 }
 
+/// Takes off the words without a bit at the end. No bit changes.
+pub fn trim(words: &mut Vec<u64>)
+    ensures { bits_of_words words.new.items ≡ bits_of_words words.old.items }
+{
+    'words: while !words.is_empty() && words[words.len() - 1] == 0 {
+        words.pop();
+    }
+}
+
 /// Sets a number's bit.
 pub fn put(words: &mut [u64], number: usize)
     requires { number / 64 < length words.old }
