@@ -138,7 +138,7 @@ fn widen_at(more: &mut Seq<Vec<u64>>, component: usize, count: usize) -> Result<
     ensures room { OnOk result (count ≤ length (further_at more.new component)) }
 {
     let words = more.at_mut(component);
-    words::widen(words, count)?;
+    words::widen_exactly(words, count)?;
     Ok(())
 }
 

@@ -45,6 +45,17 @@ pub fn widen(words: &mut Vec<u64>, count: usize) -> Result<(), Memory>
     Ok(())
 }
 
+/// The same for words that seldom grow: it takes no more memory than they need.
+pub fn widen_exactly(words: &mut Vec<u64>, count: usize) -> Result<(), Memory>
+    ensures room { OnOk result (count ≤ length words.new.items) }
+    ensures same { bits_of_words words.new.items ≡ bits_of_words words.old.items }
+{
+    if count > words.len() {
+        words.reserve_exact(count - words.len())?;
+    }
+    widen(words, count)
+}
+
 /// Takes off the words without a bit at the end. No bit changes.
 pub fn trim(words: &mut Vec<u64>)
     ensures { bits_of_words words.new.items ≡ bits_of_words words.old.items }
