@@ -119,7 +119,7 @@ def one_set(app, most):
 def late(app, most):
     """So many values in the first row that each later one, which has the last of them alone, needs a word for each 64 of them."""
     points = points_of(app)
-    values = within(live_values(app), most - 110 * len(points))
+    values = within(live_values(app), most - 99 * len(points))
     return [row(app, points[0], listed(values))] + [row(app, point, listed(values[-1:])) for point in points[1:]]
 
 
@@ -134,12 +134,13 @@ def repeated(app, most):
 
 
 def new_values(app, most):
-    """The first value is the last in order and the longest, and each row has values that none before it has."""
+    """The first value is the last in order and the longest, and as long as there are any each row has values that none before it has."""
     points, values = points_of(app), live_values(app)
     last = alone(LIVE, app.blocks_of_task(0)[-1], 0, 0, RESOURCES, *range(RESOURCES - 1, -1, -1))
     yield row(app, points[0], last)
     for point in points[1:]:
-        yield row(app, point, listed(list(itertools.islice(values, 64))))
+        found = list(itertools.islice(values, 72))
+        yield row(app, point, listed(found) if found else None)
 
 
 TABLES = [
@@ -147,7 +148,7 @@ TABLES = [
     ('one set', False, one_set),
     ('values numbered late', False, late),
     ('the same values in each row', False, repeated),
-    ('the longest value first', False, new_values),
+    ('new values in each row', False, new_values),
 ]
 
 
@@ -189,8 +190,8 @@ class Runs:
                                           ('STATUS', done.status not in (0, 7, 11, 12))) if holds]
         self.runs += 1
         self.wrong += bool(wrong)
-        print('%-32s %8d %4s  %-20s %6.2f s %7.1f MB %s' % (name, size, done.status, ''.join(text)[:20], done.seconds, done.megabytes, ' '.join(wrong)),
-              flush=True)
+        print('%-32s %8d %4s  %-20s %6.2f s %7.1f MB %s'
+              % (name, size, done.status, ''.join(text)[:20], done.seconds, done.megabytes, ' '.join(wrong)), flush=True)
 
 
 def run_all(runs, words):

@@ -10,8 +10,8 @@ loop-value-init c =
     subst (IsNumberedUpTo c.args.pool.now c.args.component c.args.set.now.domain c.as_slice-value-items.result.now 0 c.args.pool.now) (sym c.new-numbers.ensures)
     (numbered_begun c.args.pool.now c.args.component c.args.set.now.domain c.as_slice-value-items.result.now)
 
-pub number-requires-clause-within : goal.number-requires-clause-within
-number-requires-clause-within c =
+pub number_of-requires-clause-within : goal.number_of-requires-clause-within
+number_of-requires-clause-within c =
     let items = c.as_slice-value-items.result.now in
     let index = c.loop-value.value-index in
     let domain = c.args.set.now.domain in
@@ -26,7 +26,7 @@ returns-in_err-insert-clause-pool c =
     let index = c.loop-value.value-index in
     let at = sym c.value-item.is in
     let known : c.args.component < length c.loop-value.pool = omega (arith, c.requires.known, as_long c.args.pool.now c.loop-value.pool c.loop-value.invariant.longer) in
-    grows_on c.args.pool.now c.args.component c.args.set.now.domain items index c.loop-value.pool c.loop-value.numbers c.value-item.result c.in_ok-number.number c.number.new.self
+    grows_on c.args.pool.now c.args.component c.args.set.now.domain items index c.loop-value.pool c.loop-value.numbers c.value-item.result c.in_ok-number.number c.number_of.new.self
     c.loop-value.invariant c.loop-value-test.true at known c.in_ok-number.ensures.pool c.in_ok-number.ensures.number
 
 pub loop-value-preserved : goal.loop-value-preserved
@@ -35,8 +35,8 @@ loop-value-preserved c =
     let index = c.loop-value.value-index in
     let at = sym c.value-item.is in
     let known : c.args.component < length c.loop-value.pool = omega (arith, c.requires.known, as_long c.args.pool.now c.loop-value.pool c.loop-value.invariant.longer) in
-    subst (IsNumberedUpTo c.args.pool.now c.args.component c.args.set.now.domain items (index + 1) c.number.new.self) (sym c.in_ok-insert.ensures.set)
-    (numbered_more c.args.pool.now c.args.component c.args.set.now.domain items index c.loop-value.pool c.loop-value.numbers c.value-item.result c.in_ok-number.number c.number.new.self
+    subst (IsNumberedUpTo c.args.pool.now c.args.component c.args.set.now.domain items (index + 1) c.number_of.new.self) (sym c.in_ok-insert.ensures.set)
+    (numbered_more c.args.pool.now c.args.component c.args.set.now.domain items index c.loop-value.pool c.loop-value.numbers c.value-item.result c.in_ok-number.number c.number_of.new.self
     c.loop-value.invariant c.loop-value-test.true at known c.in_ok-number.ensures.pool c.in_ok-number.ensures.number)
 
 pub returns-clause-set : goal.returns-clause-set
