@@ -13,15 +13,14 @@ use std::alloc::Global;
 pub fn sift(
     alloc: Global,
     conditions: &[Condition],
-    pool: &mut Pool,
+    pool: &Pool,
     entry: &mut NumberedEntry,
 ) -> Result<bool, Memory>
-    requires { length entry.old.sets ≤ length pool.old }
-    ensures same { pool.new ≡ pool.old }
+    requires { length entry.old.sets ≤ length pool.now }
     ensures alike { number_domains entry.new ≡ number_domains entry.old }
-    ensures sifted { IfOk result (λ is_filled. OnTrue is_filled (AreSifted pool.old conditions.now entry.old entry.new)) }
+    ensures sifted { IfOk result (λ is_filled. OnTrue is_filled (AreSifted pool.now conditions.now entry.old entry.new)) }
     ensures filled { IfOk result (λ is_filled. OnTrue is_filled (AreFilled entry.new)) }
-    ensures none { IfOk result (λ is_filled. OnFalse is_filled (LeavesNone pool.old conditions.now entry.old)) }
+    ensures none { IfOk result (λ is_filled. OnFalse is_filled (LeavesNone pool.now conditions.now entry.old)) }
 {
     for condition in conditions {
         if !keep_passing(alloc, condition, pool, entry)? {
@@ -35,13 +34,12 @@ pub fn sift(
 fn keep_passing(
     alloc: Global,
     condition: &Condition,
-    pool: &mut Pool,
+    pool: &Pool,
     entry: &mut NumberedEntry,
 ) -> Result<bool, Memory>
-    requires { length entry.old.sets ≤ length pool.old }
-    ensures same { pool.new ≡ pool.old }
+    requires { length entry.old.sets ≤ length pool.now }
     ensures alike { number_domains entry.new ≡ number_domains entry.old }
-    ensures sifted { OnOk result (AreSifted pool.old (condition.now ∷ []) entry.old entry.new) }
+    ensures sifted { OnOk result (AreSifted pool.now (condition.now ∷ []) entry.old entry.new) }
     ensures none { IfOk result (λ is_left. OnFalse is_left (HasEmptySet entry.new)) }
 {
     let component = condition.component.index();

@@ -6,7 +6,7 @@ use Rattle.bit_words.proofs.BitCounts.{has_either, has_one}
 use Rattle.osek_values.specs.Bits.{has_bit}
 use Rattle.abstract_state.specs.{declared.value.{Domain.{Domain}, PartValue.{PartValue}}, ValueOrder.{same_part}}
 use Rattle.abstract_state.proofs.OrderLaws.{part_itself, part_right}
-use Rattle.numbered_sets.specs.{Filters.{IsNumberAlone}, Numbers.{numbers, with_number}, Pools.{IsNumberOf}}
+use Rattle.numbered_sets.specs.{Passing.{IsNumberAlone}, Numbers.{numbers, with_number}, Pools.{IsNumberOf}}
 use Rattle.numbered_sets.proofs.{PlainLaws.{has_value, value_with_number}, ViewLaws.{false_unless}, KnownNumbers.{no_bit_of_none, one_number, found}}
 
 no_bit : (n : ℕ) → has_bit 0 n ≡ false

@@ -1,17 +1,17 @@
 -- Tests of values as numbers: what is left of a set, and that an entry's numbers have values.
 use Rattle.std.proofs.Common.{◌≡◌, ℕ, zero, suc, ◌+◌, ◌/◌, ◌%◌, ◌^◌, ◌<◌, ◌≤◌, Bool, true, false, ◌||◌, ◌&&◌, not, List, [], ◌∷◌, length, get_or, set, refl, sym, ap, ap₂, subst, ◌∙◌, inl, inr, arith, IsTrue, get_or-set_same}
 use Rattle.std.specs.Prelude.{◌==◌}
-use Rattle.std.proofs.{Math.Nat.{pow-suc}, lemmas.{Bool.{cases_eq, and_parts, eq-eqb, ne_eqb}, List.{length-append, get_or_append_left, get_or_default}}}
+use Rattle.std.proofs.{Math.Nat.{pow-suc}, lemmas.{Bool.{cases_eq, cases_lt, and_parts, eq-eqb, ne_eqb}, List.{get_or_default}}}
 use Rattle.std.proofs.lemmas.Nat.Bits.{bit_at_lowest, bit_at-suc}
 use Rattle.bit_words.proofs.{BitCounts.{has_either, has_one}, KeptWords.{has_both}, OtherWords.{has_alone}}
 use Rattle.osek_values.specs.Bits.{has_bit}
-use Rattle.abstract_state.specs.{declared.value.PartValue.{PartValue, TheVariants.{OfAlarm}}, ValueOrder.{same_part}, Tables.{is_member}}
+use Rattle.abstract_state.specs.{declared.value.{Domain.{Domain}, PartValue.{PartValue, TheVariants.{OfAlarm}}}, ValueOrder.{same_part}, Tables.{is_member}}
 use Rattle.abstract_state.proofs.OrderLaws.{part_right}
 use Rattle.flow_model.specs.{declared.test.Test.{Test}, Tests.{passes}}
-use Rattle.numbered_sets.specs.{declared.filter.{Filter.{Filter}, Filters.{Filters}}, Filters.{IsFilter, AreFilters, IsSifted}}
-use Rattle.numbered_sets.specs.{Numbers.{Numbers, has_number, with_number, kept_numbers, other_numbers}, NumberedEntries.{no_set}, Pools.{IsExtended, with_value}}
+use Rattle.numbered_sets.specs.Passing.{ArePassing, IsSifted}
+use Rattle.numbered_sets.specs.{Numbers.{Numbers, numbers, has_number, with_number, kept_numbers, other_numbers}, NumberedEntries.{no_set}}
 use Rattle.numbered_sets.specs.Views.{values_with, plain_set}
-use Rattle.numbered_sets.proofs.{PlainLaws.{has_value, member_of_plain, any_first, value_with_number}, ViewLaws.{extended_with, below_power}}
+use Rattle.numbered_sets.proofs.{PlainLaws.{has_value, member_of_plain, any_first, value_with_number}, ViewLaws.{false_unless, below_power}, KnownNumbers.{no_bit_of_none}}
 
 -- ---- what is left of a set
 
@@ -61,48 +61,58 @@ left_by vs t x mask h = record {
       ∙ ap (λ (b : Bool). b && passes t v) (sym (member_of_plain vs x v));
 }
 
-pub sifted : (vs : List PartValue) (f : Filter) (t : Test) (x : Numbers) → IsFilter vs f → f.test ≡ t → length vs ≤ f.judged → IsSifted vs t x (kept_numbers x f.passing)
-sifted vs f t x h same whole = kept_by vs t x f.passing (λ n d lt. h.each n d (omega (arith, lt, whole)) ∙ ap (λ (u : Test). passes u (get_or vs n d)) same)
+and_again : (a b : Bool) → (a && (a && b)) ≡ (a && b)
+and_again true b = refl
+and_again false b = refl
 
--- ---- filters
-
-pub filter_longer : (vs ws : List PartValue) (f : Filter) → IsExtended vs ws → IsFilter vs f → IsFilter ws f
-filter_longer vs ws f more h = record {
-  few = omega (arith, h.few, ap length more.is, length-append vs more.more);
-  each = λ n d lt.
-      h.each n d lt
-      ∙ sym (ap (passes f.test) (ap (λ (us : List PartValue). get_or us n d) more.is ∙ get_or_append_left vs more.more d n (omega (arith, lt, h.few))));
-  past = h.past;
+pub passing_kept : (vs : List PartValue) (t : Test) (x mask : Numbers) → ArePassing vs t x mask → IsSifted vs t x (kept_numbers x mask)
+passing_kept vs t x mask h = record {
+  domain = refl;
+  fewer = λ n has. (and_parts (has_number x n) (has_number mask n) (sym (has_both x.bits mask.bits n) ∙ has)).0;
+  values = λ v.
+      member_of_plain vs (kept_numbers x mask) v
+      ∙ value_sifted vs (has_number x) (has_number (kept_numbers x mask)) (passes t) v
+      (λ n d lt. has_both x.bits mask.bits n ∙ ap (λ (b : Bool). has_number x n && b) (h.each n d lt) ∙ and_again (has_number x n) (passes t (get_or vs n d)))
+      ∙ ap (λ (b : Bool). b && passes t v) (sym (member_of_plain vs x v));
 }
 
-module _ (vs : List PartValue) (f g : Filter) (n : ℕ) (v : PartValue) (h : IsFilter vs f) (at : f.judged ≡ n) (lt : n < length vs) (is : get_or vs n v ≡ v) (next : g.judged ≡ n + 1) (same : g.test ≡ f.test) where
-  its_value : (d : PartValue) → v ≡ get_or vs n d
-  its_value d = sym is ∙ get_or_default vs n v d lt
+-- ---- the numbers of a set below one whose values pass
 
-  pub filter_taken : passes f.test v ≡ true → g.passing ≡ with_number f.passing n → IsFilter vs g
-  filter_taken passed put = record {
-    few = omega (arith, lt, next);
-    each = λ k d less. elim (cases_eq k n) [
+pub record ArePassingBelow (vs : List PartValue) (t : Test) (x mask : Numbers) (k : ℕ) : Type 0 where
+  pub each : (n : ℕ) (d : PartValue) → n < k → n < length vs → has_number mask n ≡ (has_number x n && passes t (get_or vs n d))
+  pub past : (n : ℕ) → k ≤ n → has_number mask n ≡ false
+
+pub none_passing : (vs : List PartValue) (t : Test) (x : Numbers) (d : Domain) → ArePassingBelow vs t x (numbers d 0) 0
+none_passing vs t x d = record {
+  each = λ n e lt known. absurd (omega (arith, lt));
+  past = λ n le. false_unless (has_bit 0 n) ⊥ (no_bit_of_none n) (λ no. no);
+}
+
+-- the set has no number from there to a later one
+pub passing_on : (vs : List PartValue) (t : Test) (x mask : Numbers) (k j : ℕ) → k ≤ j → ((n : ℕ) → k ≤ n → n < j → has_number x n ≡ false) → ArePassingBelow vs t x mask k → ArePassingBelow vs t x mask j
+passing_on vs t x mask k j up none h = record {
+  each = λ n d lt known. elim (cases_lt n k) [
+    | inl below ↦ h.each n d below known
+    | inr from ↦ h.past n from ∙ ap (λ (b : Bool). b && passes t (get_or vs n d)) (sym (none n from lt))
+  ];
+  past = λ n le. h.past n (omega (arith, le, up));
+}
+
+module _ (vs : List PartValue) (t : Test) (x mask : Numbers) (k : ℕ) (there : IsTrue (has_number x k)) (h : ArePassingBelow vs t x mask k) where
+  pub passing_taken : ((d : PartValue) → k < length vs → passes t (get_or vs k d) ≡ true) → ArePassingBelow vs t x (with_number mask k) (k + 1)
+  passing_taken passed = record {
+    each = λ n d lt known. elim (cases_eq n k) [
       | inl last ↦
-          ap (λ (x : Numbers). has_number x k) put ∙ has_either f.passing.bits (2 ^ n) k
-          ∙ ap (λ (b : Bool). has_number f.passing k || b) (has_one n k ∙ is_last k last) ∙ or_true (has_number f.passing k)
-          ∙ sym (ap₂ (λ (t : Test) (w : PartValue). passes t w) same (ap (λ j. get_or vs j d) last ∙ sym (its_value d)) ∙ passed)
+          has_either mask.bits (2 ^ k) n ∙ ap (λ (b : Bool). has_number mask n || b) (has_one k n ∙ eq-eqb n k last) ∙ or_true (has_number mask n)
+          ∙ sym (ap₂ (λ (a b : Bool). a && b) (ap (has_number x) last ∙ there) (ap (λ j. passes t (get_or vs j d)) last ∙ passed d (omega (arith, last, known))))
       | inr other ↦
-          ap (λ (x : Numbers). has_number x k) put ∙ has_either f.passing.bits (2 ^ n) k
-          ∙ ap (λ (b : Bool). has_number f.passing k || b) (has_one n k ∙ is_other k other) ∙ or_false (has_number f.passing k)
-          ∙ h.each k d (omega (arith, less, next, at, other)) ∙ ap (λ (t : Test). passes t (get_or vs k d)) (sym same)
+          has_either mask.bits (2 ^ k) n ∙ ap (λ (b : Bool). has_number mask n || b) (has_one k n ∙ ne_eqb n k other) ∙ or_false (has_number mask n)
+          ∙ h.each n d (omega (arith, lt, other)) known
     ];
-    past = λ k le.
-        ap (λ (x : Numbers). has_number x k) put ∙ has_either f.passing.bits (2 ^ n) k
-        ∙ ap₂ (λ (a b : Bool). a || b) (h.past k (omega (arith, le, next, at))) (has_one n k ∙ is_other k (λ e. omega (arith, e, le, next)));
+    past = λ n le.
+        has_either mask.bits (2 ^ k) n ∙ ap₂ (λ (a b : Bool). a || b) (h.past n (omega (arith, le))) (has_one k n ∙ ne_eqb n k (λ e. omega (arith, e, le)));
   }
     where
-      is_last : (k : ℕ) → k ≡ n → (k == n) ≡ true
-      is_last k e = eq-eqb k n e
-
-      is_other : (k : ℕ) → (k ≡ n → ⊥) → (k == n) ≡ false
-      is_other k e = ne_eqb k n e
-
       or_true : (b : Bool) → (b || true) ≡ true
       or_true true = refl
       or_true false = refl
@@ -111,24 +121,19 @@ module _ (vs : List PartValue) (f g : Filter) (n : ℕ) (v : PartValue) (h : IsF
       or_false true = refl
       or_false false = refl
 
-  pub filter_passed_over : passes f.test v ≡ false → g.passing ≡ f.passing → IsFilter vs g
-  filter_passed_over failed kept = record {
-    few = omega (arith, lt, next);
-    each = λ k d less. elim (cases_eq k n) [
+  pub passing_left : ((d : PartValue) → k < length vs → passes t (get_or vs k d) ≡ false) → ArePassingBelow vs t x mask (k + 1)
+  passing_left failed = record {
+    each = λ n d lt known. elim (cases_eq n k) [
       | inl last ↦
-          ap (λ (x : Numbers). has_number x k) kept ∙ h.past k (omega (arith, last, at))
-          ∙ sym (ap₂ (λ (t : Test) (w : PartValue). passes t w) same (ap (λ j. get_or vs j d) last ∙ sym (its_value d)) ∙ failed)
-      | inr other ↦
-          ap (λ (x : Numbers). has_number x k) kept ∙ h.each k d (omega (arith, less, next, at, other)) ∙ ap (λ (t : Test). passes t (get_or vs k d)) (sym same)
+          h.past n (omega (arith, last))
+          ∙ sym (ap₂ (λ (a b : Bool). a && b) (ap (has_number x) last ∙ there) (ap (λ j. passes t (get_or vs j d)) last ∙ failed d (omega (arith, last, known))))
+      | inr other ↦ h.each n d (omega (arith, lt, other)) known
     ];
-    past = λ k le. ap (λ (x : Numbers). has_number x k) kept ∙ h.past k (omega (arith, le, next, at));
+    past = λ n le. h.past n (omega (arith, le));
   }
 
-pub no_filters : (vs : List PartValue) (fs : Filters) → length fs.all ≡ 0 → AreFilters vs fs
-no_filters vs fs none k f lt = absurd (omega (arith, lt, none))
-
-pub filters_with : (vs : List PartValue) (v : PartValue) (fs : Filters) → AreFilters vs fs → AreFilters (with_value vs v) fs
-filters_with vs v fs h k f lt = filter_longer vs (with_value vs v) (get_or fs.all k f) (extended_with vs v) (h k f lt)
+pub all_passing : (vs : List PartValue) (t : Test) (x mask : Numbers) (k : ℕ) → length vs ≤ k → ArePassingBelow vs t x mask k → ArePassing vs t x mask
+all_passing vs t x mask k whole h = record { each = λ n d lt. h.each n d (omega (arith, lt, whole)) lt }
 
 -- ---- sets that aren't empty
 

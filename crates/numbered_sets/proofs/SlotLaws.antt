@@ -235,10 +235,9 @@ moved_number d stacks slots becomes s t n (Some m) at is there = λ v number.
     let same : value_in d stacks s ≡ v = sym ((value_numbered d stacks slots s n (value_in d stacks s) at refl).is v) ∙ number.is v in
     value_numbered d stacks slots t m (becomes v) there (is ∙ ap becomes same)
 
-pub some_block_beside : (vs : List PartValue) (n : ℕ) (b : BlockNo) (found : Option ℕ) → IfSome found (λ m. (v : PartValue) → IsNumberOf vs v n → IsNumberOf vs (on_task (at_block b) v) m)
-    → IfSome found (λ m. (v : PartValue) → IsNumberOf vs v n → (c : BlockNo) × IsNumberOf vs (on_task (at_block c) v) m)
-some_block_beside vs n b None at = tt
-some_block_beside vs n b (Some m) at = λ v number. (b, at v number)
+pub value_beside : (d : Domain) (stacks : List (List ResNo)) (slots : List ℕ) (s t n m : ℕ) (b : BlockNo) → IsPlaceOf slots s n → IsPlaceOf slots t m → value_in d stacks t ≡ on_task (at_block b) (value_in d stacks s)
+    → (v : PartValue) → IsNumberOf (slot_values d stacks slots) v n → (c : BlockNo) × IsNumberOf (slot_values d stacks slots) (on_task (at_block c) v) m
+value_beside d stacks slots s t n m b at there is v number = (b, moved_number d stacks slots (on_task (at_block b)) s t n (Some m) at is there v number)
 
 -- a value that no slot has is none of them
 pub value_absent : (d : Domain) (stacks : List (List ResNo)) (slots : List ℕ) (v : PartValue) → ((n : ℕ) → n < length slots → value_in d stacks (get_or slots n 0) ≡ v → ⊥) → list_any (same_part v) (slot_values d stacks slots) ≡ false

@@ -1,13 +1,13 @@
 -- Tests that pass alike wherever a task stands.
-use Rattle.std.proofs.Common.{◌≡◌, ℕ, ◌<◌, Bool, true, List, refl, ap, ◌∙◌}
+use Rattle.std.proofs.{Common.{◌≡◌, ℕ, Bool, true, List, get_or, refl, sym, ap, ◌∙◌}, lemmas.List.{get_or_default}}
 use Rattle.osek_values.specs.declared.numbers.BlockNo.{BlockNo}
 use Rattle.osek_standard.specs.{TaskStates.{holds}, Services.{is_on_top}}
 use Rattle.abstract_state.specs.{declared.value.{LiveVal.{LiveVal}, Val.{Val, TheVariants.{Suspended, Live, Waiting}}, PartValue.{PartValue, TheVariants.{OfTask, OfEvent, OfAlarm}}}, Components.{live_val}}
 use Rattle.flow_model.specs.{declared.test.Test.{Test}, Tests.{passes, of_task, on_task, holds_none_of, holds_nothing}}
 use Rattle.flow_model.specs.declared.test.Test.TheVariants as test
-use Rattle.flow_model.specs.Values.{is_suspended_value, is_live_value, held_of, at_block}
+use Rattle.flow_model.specs.Values.{is_suspended_value, held_of, at_block}
 use Rattle.std.specs.Prelude.{not}
-use Rattle.numbered_sets.specs.{Filters.{reads_no_block, IsFilter}, Numbers.{has_number}, Pools.{IsNumberOf}, declared.filter.Filter.{Filter}}
+use Rattle.numbered_sets.specs.{Passing.{reads_no_block, IsJudged}, Pools.{IsNumberOf}, declared.passing.Judged.{Judged}}
 
 by_stack : (f : Val → Bool) (b : BlockNo) → ((x : LiveVal) → f (Live (live_val b x.held)) ≡ f (Live x)) → (v : PartValue) → of_task f (on_task (at_block b) v) ≡ of_task f v
 by_stack f b h (OfTask Suspended) = refl
@@ -29,6 +29,10 @@ unmoved (test.OnTop r) b v e = by_stack (λ x. is_on_top r.0 (held_of x)) b (λ 
 unmoved (test.NotOnTop r) b v e = by_stack (λ x. not (is_on_top r.0 (held_of x))) b (λ x. refl) v
 
 -- a value that was judged tells it of one at another block
-pub judged_beside : (vs : List PartValue) (f : Filter) (b : BlockNo) (v : PartValue) (m : ℕ) → IsFilter vs f → reads_no_block f.test ≡ true → m < f.judged → IsNumberOf vs (on_task (at_block b) v) m → has_number f.passing m ≡ passes f.test v
-judged_beside vs f b v m filter reads lt number =
-    filter.each m v lt ∙ ap (passes f.test) (number.is v) ∙ unmoved f.test b v reads
+pub judged_beside : (vs : List PartValue) (t : Test) (j : Judged) (n : ℕ) (w : PartValue) → IsJudged vs t j → reads_no_block t ≡ true
+    → ((v : PartValue) → IsNumberOf vs v j.number → (b : BlockNo) × IsNumberOf vs (on_task (at_block b) v) n) → IsNumberOf vs w n → j.passes ≡ passes t w
+judged_beside vs t j n w h reads beside number =
+    let v = get_or vs j.number w in
+    let its : IsNumberOf vs v j.number = record { known = h.known; is = λ d. get_or_default vs j.number d w h.known } in
+    let moved = beside v its in
+    h.is v its ∙ sym (unmoved t moved.0 v reads) ∙ ap (passes t) (sym (moved.1.is w) ∙ number.is w)

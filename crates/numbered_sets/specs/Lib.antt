@@ -1,4 +1,4 @@
-pub mod Filters
+pub mod Passing
 pub mod FlatSets
 pub mod NumberedEntries
 pub mod Numbers

@@ -3,12 +3,12 @@
 #![tactic(auto)]
 
 mod counts;
-mod filter;
 mod flat_sets;
 pub mod laws;
 mod numbered_entry;
 mod numbered_form;
 mod numbered_set;
+mod passing;
 mod plain_form;
 mod pool;
 mod seen_values;

@@ -1,7 +1,7 @@
 //! The values of one domain that were seen, by number.
 ghost use Rattle.std.specs.Prelude.{◌≡◌};
 
-use crate::slot_values::{block_before, slot_at_block, slot_for, slot_of, value_at};
+use crate::slot_values::{block_in, slot_at_block, slot_for, slot_of, value_at};
 use crate::slots::Slots;
 use crate::stacks::Stacks;
 use abstract_state::{Domain, PartValue};
@@ -30,7 +30,7 @@ impl Model for SeenValues {
 }
 
 impl SeenValues {
-    ghost use Rattle.std.specs.{Prelude.{◌≡◌, ◌<◌, false, length, IfOk, OnOk, OnErr, IfSome, IfNone}, List.{list_any}};
+    ghost use Rattle.std.specs.{Prelude.{◌≡◌, ◌<◌, false, length, IfOk, OnOk, OnErr, IfSome, IfNone}, List.{list_any}, Bool.{OnTrue}};
     ghost use Rattle.osek_values.specs.declared.numbers.BlockNo.{BlockNo};
     ghost use Rattle.abstract_state.specs.{declared.value.PartValue.{PartValue}, Domains.{IsWithin, domain_size}, ValueOrder.{same_part}};
     ghost use Rattle.flow_model.specs.{declared.change.Update.TheVariants.{Block}, Tests.{updated}};
@@ -114,13 +114,18 @@ impl SeenValues {
         self.number(&value)
     }
 
-    /// The number of a value that differs from the one with a number at most in its block, if one was found.
-    pub fn number_beside(&self, number: usize) -> Option<usize>
-        requires { number < length self.now.values }
-        ensures { IfSome result (λ n. (v : PartValue) → IsNumberOf self.now.values v number → (b : BlockNo) × IsNumberOf self.now.values (updated (Block b) v) n) }
+    /// Whether two values are seen to be Live with one stack, so that they differ at most in their block.
+    pub fn are_beside(&self, number: usize, other: usize) -> bool
+        requires number { number < length self.now.values }
+        requires other { other < length self.now.values }
+        ensures { OnTrue result ((v : PartValue) → IsNumberOf self.now.values v number → (b : BlockNo) × IsNumberOf self.now.values (updated (Block b) v) other) }
     {
-        let block = block_before(self.domain, self.slots.at(number));
-        self.number_at_block(number, block)
+        let slot = self.slots.at(other);
+        let block = block_in(self.domain, slot);
+        match slot_at_block(self.domain, self.slots.at(number), block) {
+            None => false,
+            Some(moved) => moved == slot,
+        }
     }
 
     // the number of what the value with a number becomes at a block, if it was found without making it

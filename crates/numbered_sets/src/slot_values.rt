@@ -103,14 +103,14 @@ pub fn slot_at_block(domain: Domain, slot: usize, block: BlockNo) -> Option<usiz
     slot_in_row(first, count, row, block)
 }
 
-/// The block before that of a slot, if the task has one; what it gives is tried, and no more.
-pub fn block_before(domain: Domain, slot: usize) -> BlockNo
+/// The block of a slot, if it has one; what it gives is tried, and no more.
+pub fn block_in(domain: Domain, slot: usize) -> BlockNo
     ensures { result.0 < 2 ^ 16 }
 {
     match domain {
         Domain::Task { first, count, .. } if slot > 0 && count > 0 => {
             let block = first.0 as usize + (slot - 1) % count as usize;
-            BlockNo((block.saturating_sub(1) % 65536) as u16)
+            BlockNo((block % 65536) as u16)
         }
         _ => BlockNo(0),
     }

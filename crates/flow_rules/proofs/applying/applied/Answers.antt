@@ -1,6 +1,6 @@
 use Rattle.std.proofs.{Common.{length, refl, sym, subst, List, ◌∙◌, arith}, lemmas.Bool.{OnTrue_at, OnFalse_at}}
 use Rattle.flow_model.specs.declared.{rule.Rule.{Rule}, test.Condition.{Condition}}
-use Rattle.numbered_sets.specs.{declared.numbered_entry.NumberedEntry.{NumberedEntry}, Pools.{Values, IsLonger}}
+use Rattle.numbered_sets.specs.{declared.numbered_entry.NumberedEntry.{NumberedEntry}}
 use Rattle.numbered_sets.proofs.NumberingLaws.{longer_onward}
 use Rattle.flow_rules.specs.{Applying.{bare_rule}, Changing.{up_to, AreAllPassed}, Sifting.{AreSifted, LeavesNone}}
 use Rattle.flow_rules.proofs.{NumbersPassing.{made_applies}, SiftedSets.{all_sifted, sifted_domains, taken_of_filled, none_taken}, ChangedSets.{stays_within, all_changes}}
@@ -31,13 +31,13 @@ loop-place-init c =
     let sifted : AreSifted pool rule.conditions entry c.sift.new.entry =
     subst (λ (xs : List Condition). AreSifted pool xs entry c.sift.new.entry) c.as_slice-2.ensures
     (subst (λ (e : NumberedEntry). AreSifted pool c.as_slice-2.result.now e c.sift.new.entry) c.in_ok-made.ensures (OnTrue_at c.if-not-branch.false c.in_ok-sift.ensures.sifted)) in (
-      subst (λ (p : List Values). AreAllPassed (up_to rule 0) p entry (length entry.sets) p c.sift.new.entry.sets) (sym c.in_ok-sift.ensures.same) (all_sifted pool rule entry c.sift.new.entry c.requires.numbers sifted),
+      all_sifted pool rule entry c.sift.new.entry c.requires.numbers sifted,
       sifted_domains pool rule.conditions entry c.sift.new.entry sifted,
     )
 
 pub loop-place-preserved : goal.loop-place-preserved
 loop-place-preserved c = (
-  c.in_ok-change.ensures.passed c.args.conditions.now c.sift.new.pool c.args.entry.now c.loop-place.invariant.0,
+  c.in_ok-change.ensures.passed c.args.conditions.now c.args.pool.now c.args.entry.now c.loop-place.invariant.0,
   c.in_ok-change.ensures.alike ∙ c.loop-place.invariant.1,
 )
 
@@ -49,8 +49,7 @@ change-requires-clause-domain c =
     let sifted : AreSifted pool rule.conditions entry c.sift.new.entry =
     subst (λ (xs : List Condition). AreSifted pool xs entry c.sift.new.entry) c.as_slice-2.ensures
     (subst (λ (e : NumberedEntry). AreSifted pool c.as_slice-2.result.now e c.sift.new.entry) c.in_ok-made.ensures (OnTrue_at c.if-not-branch.false c.in_ok-sift.ensures.sifted)) in
-    let passed : AreAllPassed (up_to rule c.loop-place.place) pool entry (length entry.sets) c.loop-place.pool c.loop-place.made.sets =
-    subst (λ (p : List Values). AreAllPassed (up_to rule c.loop-place.place) p entry (length entry.sets) c.loop-place.pool c.loop-place.made.sets) c.in_ok-sift.ensures.same c.loop-place.invariant.0 in
+    let passed : AreAllPassed (up_to rule c.loop-place.place) pool entry (length entry.sets) c.loop-place.pool c.loop-place.made.sets = c.loop-place.invariant.0 in
     let taken = taken_of_filled pool rule entry c.sift.new.entry c.requires.numbers sifted (OnTrue_at c.if-not-branch.false c.in_ok-sift.ensures.filled) in
     stays_within rule pool entry c.loop-place.place c.loop-place.pool c.loop-place.made (omega (arith, c.loop-place-test.true, c.len-place-end.ensures)) c.requires.numbers (c.requires.domains.sets taken) passed
 
@@ -62,8 +61,7 @@ returns-clause-some c =
     let sifted : AreSifted pool rule.conditions entry c.sift.new.entry =
     subst (λ (xs : List Condition). AreSifted pool xs entry c.sift.new.entry) c.as_slice-2.ensures
     (subst (λ (e : NumberedEntry). AreSifted pool c.as_slice-2.result.now e c.sift.new.entry) c.in_ok-made.ensures (OnTrue_at c.if-not-branch.false c.in_ok-sift.ensures.sifted)) in
-    let passed : AreAllPassed (up_to rule c.loop-place.place) pool entry (length entry.sets) c.loop-place.pool c.loop-place.made.sets =
-    subst (λ (p : List Values). AreAllPassed (up_to rule c.loop-place.place) p entry (length entry.sets) c.loop-place.pool c.loop-place.made.sets) c.in_ok-sift.ensures.same c.loop-place.invariant.0 in
+    let passed : AreAllPassed (up_to rule c.loop-place.place) pool entry (length entry.sets) c.loop-place.pool c.loop-place.made.sets = c.loop-place.invariant.0 in
     let taken = taken_of_filled pool rule entry c.sift.new.entry c.requires.numbers sifted (OnTrue_at c.if-not-branch.false c.in_ok-sift.ensures.filled) in
     let whole : AreAllPassed rule pool entry (length entry.sets) c.loop-place.pool c.loop-place.made.sets =
     subst (λ (r : Rule). AreAllPassed r pool entry (length entry.sets) c.loop-place.pool c.loop-place.made.sets) (all_changes rule c.loop-place.place (omega (arith, c.loop-place-test.false, c.len-place-end.ensures))) passed in
@@ -71,4 +69,4 @@ returns-clause-some c =
 
 pub returns-in_err-change-clause-pool : goal.returns-in_err-change-clause-pool
 returns-in_err-change-clause-pool c =
-    longer_onward c.args.pool.now c.loop-place.pool c.change.new.pool (subst (λ (p : List Values). IsLonger p c.loop-place.pool) c.in_ok-sift.ensures.same c.loop-place.invariant.0.longer) c.change.ensures.pool
+    longer_onward c.args.pool.now c.loop-place.pool c.change.new.pool c.loop-place.invariant.0.longer c.change.ensures.pool

@@ -18,9 +18,8 @@ returns-then-not-branch-clause-none c =
     let all = c.args.conditions.now in
     let k = c.loop-condition.condition-index in
     let x = c.condition-item.result in
-    let sifted : AreSifted pool (x ∷ []) c.loop-condition.entry c.keep_passing.new.entry =
-    subst (λ (p : List Values). AreSifted p (x ∷ []) c.loop-condition.entry c.keep_passing.new.entry) c.loop-condition.invariant.0 c.in_ok-keep_passing.ensures.sifted in
-    let so_far = more pool all k x c.args.entry.now c.loop-condition.entry c.keep_passing.new.entry c.loop-condition-test.true (sym c.condition-item.is) c.loop-condition.invariant.1 sifted in
+    let sifted : AreSifted pool (x ∷ []) c.loop-condition.entry c.keep_passing.new.entry = c.in_ok-keep_passing.ensures.sifted in
+    let so_far = more pool all k x c.args.entry.now c.loop-condition.entry c.keep_passing.new.entry c.loop-condition-test.true (sym c.condition-item.is) c.loop-condition.invariant.0 sifted in
     subst (λ (xs : List Condition). LeavesNone pool xs c.args.entry.now) (take-append-drop (k + 1) all)
     (leaves_more pool (take (k + 1) all) (drop (k + 1) all) c.args.entry.now (none_left pool (take (k + 1) all) c.args.entry.now c.keep_passing.new.entry so_far
     (OnFalse_at c.if-not-branch.true c.in_ok-keep_passing.ensures.none)))
@@ -31,11 +30,9 @@ loop-condition-preserved c =
     let all = c.args.conditions.now in
     let k = c.loop-condition.condition-index in
     let x = c.condition-item.result in
-    let sifted : AreSifted pool (x ∷ []) c.loop-condition.entry c.keep_passing.new.entry =
-    subst (λ (p : List Values). AreSifted p (x ∷ []) c.loop-condition.entry c.keep_passing.new.entry) c.loop-condition.invariant.0 c.in_ok-keep_passing.ensures.sifted in (
-      c.in_ok-keep_passing.ensures.same ∙ c.loop-condition.invariant.0,
-      more pool all k x c.args.entry.now c.loop-condition.entry c.keep_passing.new.entry c.loop-condition-test.true (sym c.condition-item.is) c.loop-condition.invariant.1 sifted,
-      c.in_ok-keep_passing.ensures.alike ∙ c.loop-condition.invariant.2,
+    let sifted : AreSifted pool (x ∷ []) c.loop-condition.entry c.keep_passing.new.entry = c.in_ok-keep_passing.ensures.sifted in (
+      more pool all k x c.args.entry.now c.loop-condition.entry c.keep_passing.new.entry c.loop-condition-test.true (sym c.condition-item.is) c.loop-condition.invariant.0 sifted,
+      c.in_ok-keep_passing.ensures.alike ∙ c.loop-condition.invariant.1,
     )
 
 pub returns-clause-none : goal.returns-clause-none
@@ -43,5 +40,5 @@ returns-clause-none c =
     let pool = c.args.pool.now in
     let all = c.args.conditions.now in
     let sifted : AreSifted pool all c.args.entry.now c.loop-condition.entry =
-    subst (λ (xs : List Condition). AreSifted pool xs c.args.entry.now c.loop-condition.entry) (take_all c.loop-condition.condition-index all (omega (arith, c.loop-condition-test.false))) c.loop-condition.invariant.1 in
+    subst (λ (xs : List Condition). AreSifted pool xs c.args.entry.now c.loop-condition.entry) (take_all c.loop-condition.condition-index all (omega (arith, c.loop-condition-test.false))) c.loop-condition.invariant.0 in
     OnFalse_from c.is_filled.result (LeavesNone pool all c.args.entry.now) (λ e. none_left pool all c.args.entry.now c.loop-condition.entry sifted (OnFalse_at e c.is_filled.ensures.none))

@@ -5,5 +5,5 @@ use Rattle.flow_rules.proofs.sifting.sift.Given as goal
 
 abbrev pub invariant-loop-condition : goal.invariant-loop-condition
 invariant-loop-condition l =
-    (l.pool ≡ l.initial.pool) × AreSifted l.initial.pool (take l.condition-index l.conditions) l.initial.entry l.entry
+    AreSifted l.pool (take l.condition-index l.conditions) l.initial.entry l.entry
     × (number_domains l.entry ≡ number_domains l.initial.entry)

@@ -1,7 +1,7 @@
-use Rattle.std.proofs.{Common.{◌≡◌, ◌∷◌, ◌∙◌, ◌<◌, ◌^◌, ℕ, List, length, get_or, inl, inr, sym, ap, ap₂, subst, arith}, lemmas.Bool.{cases_lt, OnTrue_at}}
-use Rattle.bit_words.specs.{Words.{AreWords, bits_of_words}, Further.{further_at, further_bits}}
+use Rattle.std.proofs.{Common.{◌≡◌, ◌∙◌, ℕ, List, length, get_or, inl, inr, sym, ap, ap₂, subst, arith}, lemmas.Bool.{cases_lt, OnTrue_at}}
+use Rattle.bit_words.specs.{Words.{AreWords}, Further.{further_at, further_bits}}
 use Rattle.bit_words.proofs.WordLaws.{small_at}
-use Rattle.numbered_sets.specs.{Numbers.{other_numbers}, SetLists.{set_of}, Within.{bits_beside}}
+use Rattle.numbered_sets.specs.{SetLists.{set_of}, Within.{bits_beside}}
 use Rattle.numbered_sets.proofs.{FlatLaws.{as_many, bits_are}, WithinLaws.{none_in_all, none_past, within_set}}
 use Rattle.numbered_sets.proofs.flat_sets.NumberedSets.are_words_within.Goals as goal
 

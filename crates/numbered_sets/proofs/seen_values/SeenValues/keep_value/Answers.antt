@@ -1,8 +1,8 @@
 use Rattle.std.proofs.Common.{set, sym, ap, subst, ◌∙◌}
 use Rattle.flow_model.specs.declared.test.Test.TheVariants as test
-use Rattle.numbered_sets.specs.{Filters.{IsSifted}, Numbers.{kept_numbers}, NumberedEntries.{numbers_at}}
+use Rattle.numbered_sets.specs.{Passing.{IsSifted}, Numbers.{kept_numbers}, NumberedEntries.{numbers_at}}
 use Rattle.numbered_sets.proofs.SiftLaws.{put_at, kept_by}
-use Rattle.numbered_sets.proofs.pool.Numbering.keep_value.Goals as goal
+use Rattle.numbered_sets.proofs.seen_values.SeenValues.keep_value.Goals as goal
 
 pub returns-clause-passing : goal.returns-clause-passing
 returns-clause-passing c =

@@ -1,8 +1,8 @@
 use Rattle.std.proofs.Common.{not, set, sym, ap, subst, ◌∙◌}
 use Rattle.flow_model.specs.declared.test.Test.TheVariants as test
-use Rattle.numbered_sets.specs.{Filters.{IsSifted}, Numbers.{other_numbers}, NumberedEntries.{numbers_at}}
+use Rattle.numbered_sets.specs.{Passing.{IsSifted}, Numbers.{other_numbers}, NumberedEntries.{numbers_at}}
 use Rattle.numbered_sets.proofs.SiftLaws.{put_at, left_by}
-use Rattle.numbered_sets.proofs.pool.Numbering.leave_value.Goals as goal
+use Rattle.numbered_sets.proofs.seen_values.SeenValues.leave_value.Goals as goal
 
 pub returns-clause-passing : goal.returns-clause-passing
 returns-clause-passing c =

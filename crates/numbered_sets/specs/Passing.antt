@@ -1,15 +1,9 @@
--- Tests of values, as the numbers of those that pass.
-use Rattle.std.specs.Prelude.{◌≡◌, ℕ, ◌<◌, ◌≤◌, Bool, true, false, ◌&&◌, List, length, slice_index_or, IsTrue, All}
+-- Tests of values, and the numbers of those that pass.
+use Rattle.std.specs.Prelude.{◌≡◌, ℕ, ◌<◌, Bool, true, false, ◌&&◌, List, length, slice_index_or, IsTrue}
 use Rattle.abstract_state.specs.{declared.value.PartValue.{PartValue}, ValueOrder.{same_part}, Tables.{is_member}}
 use Rattle.flow_model.specs.{declared.test.Test.{Test}, Tests.{passes}}
 use Rattle.flow_model.specs.declared.test.Test.TheVariants as test
-use Rattle.numbered_sets.specs.{declared.filter.{Filter.{Filter}, Filters.{Filters}}, Numbers.{Numbers, has_number}, Views.{plain_set}}
-
--- Its numbers are those of the values that pass, of the first ones.
-pub record IsFilter (vs : List PartValue) (f : Filter) : Type 0 where
-  pub few : f.judged ≤ length vs
-  pub each : (n : ℕ) (none : PartValue) → n < f.judged → has_number f.passing n ≡ passes f.test (slice_index_or vs n none)
-  pub past : (n : ℕ) → f.judged ≤ n → has_number f.passing n ≡ false
+use Rattle.numbered_sets.specs.{declared.passing.Judged.{Judged}, Numbers.{Numbers, has_number}, Pools.{IsNumberOf}, Views.{plain_set}}
 
 -- A test of what a task does and holds, wherever it stands.
 abbrev pub reads_no_block : Test → Bool
@@ -17,8 +11,14 @@ reads_no_block (test.Is w) = false
 reads_no_block (test.IsNot w) = false
 reads_no_block _ = true
 
-abbrev pub AreFilters : List PartValue → Filters → Type 0
-AreFilters vs fs = All (IsFilter vs) fs.all
+-- It says whether the value with its number passes.
+pub record IsJudged (vs : List PartValue) (t : Test) (j : Judged) : Type 0 where
+  pub known : j.number < length vs
+  pub is : (v : PartValue) → IsNumberOf vs v j.number → j.passes ≡ passes t v
+
+-- The numbers of a set whose values pass.
+pub record ArePassing (vs : List PartValue) (t : Test) (x passing : Numbers) : Type 0 where
+  pub each : (n : ℕ) (none : PartValue) → n < length vs → has_number passing n ≡ (has_number x n && passes t (slice_index_or vs n none))
 
 -- The set has the number of this value, and no other.
 pub record IsNumberAlone (vs : List PartValue) (v : PartValue) (x : Numbers) : Type 0 where

@@ -1,0 +1,167 @@
+//! Which of a component's values pass a test.
+ghost use Rattle.std.specs.Prelude.{◌≡◌, ◌<◌, length};
+ghost use Rattle.numbered_sets.specs.Passing.{reads_no_block};
+
+use crate::numbered_entry::NumberedEntry;
+use crate::numbered_set::NumberedSet;
+use crate::seen_values::SeenValues;
+use abstract_state::PartValue;
+use flow_model::Test;
+use osek_values::Memory;
+use std::alloc::Global;
+
+/// The number of a value that was asked a test, and whether it passed.
+#[derive(Drop)]
+pub struct Judged {
+    pub number: usize,
+    pub passes: bool,
+}
+
+impl SeenValues {
+    ghost use Rattle.std.specs.Prelude.{◌≡◌, ◌<◌, length, slice_set, IfOk, OnOk, OnErr, IfSome};
+    ghost use Rattle.abstract_state.specs.{declared.value.PartValue.{PartValue}, Tables.{is_member}};
+    ghost use Rattle.flow_model.specs.declared.test.Test.TheVariants as Test;
+    ghost use Rattle.numbered_sets.specs.{Passing.{IsJudged, ArePassing, IsNumberAlone, IsSifted}, NumberedEntries.{numbers_at}, Views.{plain_set}};
+
+    /// Leaves out the numbers of a component's values that don't pass a test.
+    pub fn keep_passing(
+        &self,
+        alloc: Global,
+        test: &Test,
+        component: usize,
+        entry: &mut NumberedEntry,
+    ) -> Result<(), Memory>
+        requires { component < length entry.old.sets }
+        ensures passing { OnOk result (IsSifted self.now.values test.now (numbers_at entry.old component) (numbers_at entry.new component)) }
+        ensures others { OnOk result (entry.new.sets ≡ slice_set entry.old.sets component (numbers_at entry.new component)) }
+        ensures err { OnErr result (entry.new ≡ entry.old) }
+    {
+        match test {
+            Test::Is(value) => self.keep_value(alloc, value, component, entry),
+            Test::IsNot(value) => self.leave_value(alloc, value, component, entry),
+            _ => {
+                let passing = self.passing(alloc, test, component, entry)?;
+                entry.keep(component, &passing);
+                Ok(())
+            }
+        }
+    }
+
+    // the numbers of a component's set whose values pass a test
+    fn passing(
+        &self,
+        alloc: Global,
+        test: &Test,
+        component: usize,
+        entry: &NumberedEntry,
+    ) -> Result<NumberedSet, Memory>
+        requires { component < length entry.now.sets }
+        ensures { IfOk result (ArePassing self.now.values test.now (numbers_at entry.now component)) }
+    {
+        let mut passing = NumberedSet::new(alloc, self.domain());
+        let count = self.len();
+        let mut last = None;
+        let mut number = entry.next(component, 0, count);
+        while number < count {
+            let judged = self.judge(test, number, last);
+            if judged.passes {
+                passing.insert(number)?;
+            }
+            last = Some(judged);
+            number = entry.next(component, number + 1, count);
+        }
+        Ok(passing)
+    }
+
+    // Whether a value passes a test. What a task holds tells it mostly, and then one that holds the same and was judged last tells it too.
+    fn judge(&self, test: &Test, number: usize, last: Option<Judged>) -> Judged
+        requires given { number < length self.now.values }
+        requires last { IfSome last (IsJudged self.now.values test.now) }
+        ensures number { result.number ≡ number }
+        ensures judged { IsJudged self.now.values test.now result }
+    {
+        if reads_no_block(test) {
+            if let Some(last) = last {
+                if self.are_beside(last.number, number) {
+                    return Judged {
+                        number,
+                        passes: last.passes,
+                    };
+                }
+            }
+        }
+        Judged {
+            number,
+            passes: test.passes(&self.value(number)),
+        }
+    }
+
+    // leaves out all numbers of a component but that of a value
+    fn keep_value(
+        &self,
+        alloc: Global,
+        value: &PartValue,
+        component: usize,
+        entry: &mut NumberedEntry,
+    ) -> Result<(), Memory>
+        requires { component < length entry.old.sets }
+        ensures passing { OnOk result (IsSifted self.now.values (Test.Is value.now) (numbers_at entry.old component) (numbers_at entry.new component)) }
+        ensures others { OnOk result (entry.new.sets ≡ slice_set entry.old.sets component (numbers_at entry.new component)) }
+        ensures err { OnErr result (entry.new ≡ entry.old) }
+    {
+        let alone = self.alone(alloc, value)?;
+        entry.keep(component, &alone);
+        Ok(())
+    }
+
+    // leaves out the number of a value from those of a component
+    fn leave_value(
+        &self,
+        alloc: Global,
+        value: &PartValue,
+        component: usize,
+        entry: &mut NumberedEntry,
+    ) -> Result<(), Memory>
+        requires { component < length entry.old.sets }
+        ensures passing { OnOk result (IsSifted self.now.values (Test.IsNot value.now) (numbers_at entry.old component) (numbers_at entry.new component)) }
+        ensures others { OnOk result (entry.new.sets ≡ slice_set entry.old.sets component (numbers_at entry.new component)) }
+        ensures err { OnErr result (entry.new ≡ entry.old) }
+    {
+        let alone = self.alone(alloc, value)?;
+        entry.leave_out(component, &alone);
+        Ok(())
+    }
+
+    /// Whether a component's set has the number of a value.
+    pub fn has_value(&self, value: &PartValue, component: usize, entry: &NumberedEntry) -> bool
+        ensures { result ≡ is_member (plain_set self.now.values (numbers_at entry.now component)) value.now }
+    {
+        self.are_values();
+        match self.number_of(value) {
+            None => false,
+            Some(number) => entry.sets.has(component, number),
+        }
+    }
+
+    // the set of a value's number; it is empty where the value has none
+    fn alone(&self, alloc: Global, value: &PartValue) -> Result<NumberedSet, Memory>
+        ensures { IfOk result (IsNumberAlone self.now.values value.now) }
+    {
+        self.are_values();
+        let mut alone = NumberedSet::new(alloc, self.domain());
+        match self.number_of(value) {
+            None => Ok(alone),
+            Some(number) => {
+                alone.insert(number)?;
+                Ok(alone)
+            }
+        }
+    }
+}
+
+// whether a test passes alike at each block
+fn reads_no_block(test: &Test) -> bool
+    ensures { result ≡ reads_no_block test.now }
+{
+    !matches!(test, Test::Is(_) | Test::IsNot(_))
+}
