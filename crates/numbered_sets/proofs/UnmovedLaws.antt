@@ -5,7 +5,7 @@ use Rattle.osek_standard.specs.{TaskStates.{holds}, Services.{is_on_top}}
 use Rattle.abstract_state.specs.{declared.value.{LiveVal.{LiveVal}, Val.{Val, TheVariants.{Suspended, Live, Waiting}}, PartValue.{PartValue, TheVariants.{OfTask, OfEvent, OfAlarm}}}, Components.{live_val}}
 use Rattle.flow_model.specs.{declared.test.Test.{Test}, Tests.{passes, of_task, on_task, holds_none_of, holds_nothing}}
 use Rattle.flow_model.specs.declared.test.Test.TheVariants as test
-use Rattle.flow_model.specs.Values.{is_suspended_value, is_live_value, held_of, at_block}
+use Rattle.flow_model.specs.Values.{is_suspended_value, held_of, at_block}
 use Rattle.std.specs.Prelude.{not}
 use Rattle.numbered_sets.specs.{Filters.{reads_no_block, IsFilter}, Numbers.{has_number}, Pools.{IsNumberOf}, declared.filter.Filter.{Filter}}
 

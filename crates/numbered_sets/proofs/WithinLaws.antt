@@ -1,9 +1,9 @@
 -- The bits of words that other words lack, and sets of numbers within others.
 use Rattle.std.proofs.Common.{◌≡◌, ◌≢◌, ℕ, ◌+◌, ◌<◌, ◌^◌, Bool, true, false, ◌&&◌, not, List, [], ◌∷◌, length, get_or, map, refl, sym, ap, ap₂, ◌∙◌, inl, inr, arith, IsTrue}
-use Rattle.std.specs.{Prelude.{◌==◌}, List.{range_with_len}}
-use Rattle.std.proofs.{Math.ListN.{get_or-eq_default}, lemmas.{Bool.{cases_eq, eq-eqb, ne_eqb, and_parts}, List.FromFn.{get_or-map-range_with_len, length-map-range_with_len}}}
+use Rattle.std.specs.{Prelude.{◌==◌, bit_xor}, List.{range_with_len}, Int.Bits.{xor_zero_l}}
+use Rattle.std.proofs.{Math.ListN.{get_or-eq_default}, lemmas.{Bool.{cases_eq, eq-eqb, eqb-true, ne_eqb, and_parts}, List.FromFn.{get_or-map-range_with_len, length-map-range_with_len}}}
 use Rattle.bit_words.specs.Words.{AreWords, bits_of_words}
-use Rattle.bit_words.proofs.{KeptWords.{no_bits, some_bits}, OtherWords.{bits_left_out, alone_two}, FirstWords.{word_first}}
+use Rattle.bit_words.proofs.{KeptWords.{no_bits, some_bits}, OtherWords.{bits_left_out, alone_two, and_zero_l}, FirstWords.{word_first}}
 use Rattle.abstract_state.specs.declared.value.Domain.TheVariants as domain
 use Rattle.numbered_sets.specs.{Numbers.{Numbers, numbers, has_number, other_numbers}, SetLists.{set_of}, Within.{bits_beside}}
 use Rattle.numbered_sets.proofs.{ViewLaws.{below_power}, KnownNumbers.{no_bit_of_none}, SiftLaws.{some_bit}, MeetLaws.{has_other}}
@@ -43,6 +43,10 @@ module _ (ws us : List ℕ) (small : AreWords ws) (its : AreWords us) where
   pub some_beside : (i : ℕ) → i < length ws → beside_at i ≢ 0 → bits_beside (bits_of_words ws) (bits_of_words us) ≢ 0
   some_beside i lt some e = some_bits words_beside i (omega (arith, lt, beside_long)) (λ none. some (sym (beside_is i lt) ∙ none)) (bits_are_beside ∙ e)
 
+-- no bits lie beside others
+pub none_of_none : (m n : ℕ) → m ≡ 0 → bits_beside m n ≡ 0
+none_of_none m n none = ap (λ (k : ℕ). bits_beside k n) none ∙ ap (bit_xor 0) (and_zero_l n) ∙ xor_zero_l 0
+
 -- two words before others
 module _ (a b x y : ℕ) (ws us : List ℕ) (fits : a < 2 ^ 64) (too : b < 2 ^ 64) (fit : x < 2 ^ 64) (fit_too : y < 2 ^ 64) where
   abbrev all_beside : ℕ
@@ -75,6 +79,9 @@ module _ (a b x y : ℕ) (ws us : List ℕ) (fits : a < 2 ^ 64) (too : b < 2 ^ 6
         | inl e ↦ sym (none_there rest_beside e) ∙ none_there all_beside (omega (arith, first, second, rest_is, three_are, none, none_too, e))
         | inr differ ↦ sym (some_there rest_beside differ) ∙ some_there all_beside (λ e. differ (omega (arith, first, second, rest_is, three_are, none, none_too, e)))
       ]
+
+  pub none_in_all : bits_beside a x ≡ 0 → bits_beside b y ≡ 0 → rest_beside ≡ 0 → all_beside ≡ 0
+  none_in_all none none_too none_further = eqb-true all_beside 0 (sym (some_further none none_too) ∙ eq-eqb rest_beside 0 none_further)
 
 -- ---- sets
 

@@ -54,7 +54,7 @@ fn numbered_set(
 {
     let mut numbers = NumberedSet::new(alloc, set.domain);
     for value in set.members.as_slice() {
-        let number = pool.number(component, value.copy())?;
+        let number = pool.number_of(component, value)?;
         numbers.insert(number)?;
     }
     Ok(numbers)

@@ -210,8 +210,21 @@ impl Pool {
         ensures below { IfOk result (λ n. n < domain_size (domain_at self.old component)) }
         ensures err { OnErr result (self.new ≡ self.old) }
     {
+        let number = self.number_of(component, &value)?;
+        Ok(number)
+    }
+
+    // the same by a value that stays
+    pub(crate) fn number_of(&mut self, component: usize, value: &PartValue) -> Result<usize, Memory>
+        requires known { component < length self.old }
+        requires within { IsWithin (domain_at self.old component) value.now }
+        ensures pool { OnOk result (self.new ≡ slice_set self.old component (value_seen (seen_at self.old component) value.now)) }
+        ensures number { IfOk result (IsNumberOf (values_at self.new component) value.now) }
+        ensures below { IfOk result (λ n. n < domain_size (domain_at self.old component)) }
+        ensures err { OnErr result (self.new ≡ self.old) }
+    {
         let numbering = self.numberings.at_mut(component);
-        let number = numbering.number(&value)?;
+        let number = numbering.number(value)?;
         Ok(number)
     }
 

@@ -1,10 +1,11 @@
 //! Whether sets of numbers are within others.
-ghost use Rattle.std.specs.Prelude.{ℕ, List, ◌≡◌, ◌∷◌, ◌==◌, bit_and, bit_xor};
-ghost use Rattle.bit_words.specs.Words.{bits_of_words};
+ghost use Rattle.std.specs.{Prelude.{ℕ, List, ◌≡◌, ◌∷◌, ◌<◌, ◌==◌, length, slice_index_or, bit_and, bit_xor}, Bool.{OnTrue}};
+ghost use Rattle.bit_words.specs.{Words.{bits_of_words}, Further.{further_bits}};
 ghost use Rattle.numbered_sets.specs.Within.{bits_beside};
 
 use crate::flat_sets::NumberedSets;
 use bit_words::{further, words};
+use osek_values::Seq;
 
 impl NumberedSets {
     ghost use Rattle.std.specs.{Prelude.{◌≡◌, ◌==◌}, Bool.{OnTrue, OnFalse}};
@@ -15,10 +16,33 @@ impl NumberedSets {
         ensures within { OnTrue result (AreWithin self.now other.now) }
         ensures beside { OnFalse result (HasNumberBeside self.now other.now) }
     {
+        if self.are_words_within(other) {
+            return true;
+        }
         for component in 0..self.len() {
             if !self.is_set_within(component, other) {
                 return false;
             }
+        }
+        true
+    }
+
+    // Whether the words are within the other's, all low ones first. Mostly they are, and this looks at no set by itself.
+    fn are_words_within(&self, other: &NumberedSets) -> bool
+        ensures { OnTrue result (AreWithin self.now other.now) }
+    {
+        words::are_words(self.low.as_slice());
+        words::are_words(self.high.as_slice());
+        words::are_words(other.low.as_slice());
+        words::are_words(other.high.as_slice());
+        if !are_all_within(self.low.as_slice(), other.low.as_slice()) {
+            return false;
+        }
+        if !are_all_within(self.high.as_slice(), other.high.as_slice()) {
+            return false;
+        }
+        if !are_further_within(&self.more, &other.more) {
+            return false;
         }
         true
     }
@@ -42,6 +66,34 @@ impl NumberedSets {
             further::of(&other.more, component),
         )
     }
+}
+
+// Whether each bit of words is one of the others' at its place, of which there are as many. This has no branch for each word.
+fn are_all_within(words: &[u64], other: &[u64]) -> bool
+    ensures { OnTrue result ((i : ℕ) → i < length words.now → bits_beside (slice_index_or words.now i 0) (slice_index_or other.now i 0) ≡ 0) }
+{
+    if words.len() > other.len() {
+        return false;
+    }
+    let mut all = true;
+    for place in 0..words.len() {
+        if words::without(words[place], other[place]) != 0 {
+            all = false;
+        }
+    }
+    all
+}
+
+// whether the further words of each component are within the others'
+fn are_further_within(more: &Seq<Vec<u64>>, other: &Seq<Vec<u64>>) -> bool
+    ensures { OnTrue result ((c : ℕ) → bits_beside (further_bits more.now c) (further_bits other.now c) ≡ 0) }
+{
+    for component in 0..more.len() {
+        if !are_within(further::of(more, component), further::of(other, component)) {
+            return false;
+        }
+    }
+    true
 }
 
 // whether each bit of words is one of the others'

@@ -10,33 +10,33 @@ loop-value-init c =
     subst (IsNumberedUpTo c.args.pool.now c.args.component c.args.set.now.domain c.as_slice-value-items.result.now 0 c.args.pool.now) (sym c.new-numbers.ensures)
     (numbered_begun c.args.pool.now c.args.component c.args.set.now.domain c.as_slice-value-items.result.now)
 
-pub number-requires-clause-within : goal.number-requires-clause-within
-number-requires-clause-within c =
+pub number_of-requires-clause-within : goal.number_of-requires-clause-within
+number_of-requires-clause-within c =
     let items = c.as_slice-value-items.result.now in
     let index = c.loop-value.value-index in
     let domain = c.args.set.now.domain in
     let all : All (IsWithin domain) items = subst (All (IsWithin domain)) (sym c.as_slice-value-items.ensures) c.requires.sound.within in
     let within : IsWithin domain (get_or items index c.value-item.result) = All-get_or (IsWithin domain) items index c.value-item.result c.loop-value-test.true all in
-    subst (λ (d : Domain). IsWithin d c.copy.result) (c.requires.domain ∙ sym (same_domain c.args.pool.now c.loop-value.pool c.args.component c.loop-value.invariant.longer))
-    (subst (IsWithin domain) (sym c.value-item.is ∙ sym c.copy.ensures) within)
+    subst (λ (d : Domain). IsWithin d c.value-item.result) (c.requires.domain ∙ sym (same_domain c.args.pool.now c.loop-value.pool c.args.component c.loop-value.invariant.longer))
+    (subst (IsWithin domain) (sym c.value-item.is) within)
 
 pub returns-in_err-insert-clause-pool : goal.returns-in_err-insert-clause-pool
 returns-in_err-insert-clause-pool c =
     let items = c.as_slice-value-items.result.now in
     let index = c.loop-value.value-index in
-    let at = ap (get_or items index) c.copy.ensures ∙ sym c.value-item.is ∙ sym c.copy.ensures in
+    let at = sym c.value-item.is in
     let known : c.args.component < length c.loop-value.pool = omega (arith, c.requires.known, as_long c.args.pool.now c.loop-value.pool c.loop-value.invariant.longer) in
-    grows_on c.args.pool.now c.args.component c.args.set.now.domain items index c.loop-value.pool c.loop-value.numbers c.copy.result c.in_ok-number.number c.number.new.self
+    grows_on c.args.pool.now c.args.component c.args.set.now.domain items index c.loop-value.pool c.loop-value.numbers c.value-item.result c.in_ok-number.number c.number_of.new.self
     c.loop-value.invariant c.loop-value-test.true at known c.in_ok-number.ensures.pool c.in_ok-number.ensures.number
 
 pub loop-value-preserved : goal.loop-value-preserved
 loop-value-preserved c =
     let items = c.as_slice-value-items.result.now in
     let index = c.loop-value.value-index in
-    let at = ap (get_or items index) c.copy.ensures ∙ sym c.value-item.is ∙ sym c.copy.ensures in
+    let at = sym c.value-item.is in
     let known : c.args.component < length c.loop-value.pool = omega (arith, c.requires.known, as_long c.args.pool.now c.loop-value.pool c.loop-value.invariant.longer) in
-    subst (IsNumberedUpTo c.args.pool.now c.args.component c.args.set.now.domain items (index + 1) c.number.new.self) (sym c.in_ok-insert.ensures.set)
-    (numbered_more c.args.pool.now c.args.component c.args.set.now.domain items index c.loop-value.pool c.loop-value.numbers c.copy.result c.in_ok-number.number c.number.new.self
+    subst (IsNumberedUpTo c.args.pool.now c.args.component c.args.set.now.domain items (index + 1) c.number_of.new.self) (sym c.in_ok-insert.ensures.set)
+    (numbered_more c.args.pool.now c.args.component c.args.set.now.domain items index c.loop-value.pool c.loop-value.numbers c.value-item.result c.in_ok-number.number c.number_of.new.self
     c.loop-value.invariant c.loop-value-test.true at known c.in_ok-number.ensures.pool c.in_ok-number.ensures.number)
 
 pub returns-clause-set : goal.returns-clause-set
