@@ -11,12 +11,15 @@ from xml.etree import ElementTree
 
 sys.path.insert(0, os.path.dirname(os.path.abspath(__file__)))
 
+import application
 import btf
 import graph
 import graph_chart
+import long_tables
 import long_texts
 import oil
 import perfetto
+import table_bytes
 import task_code
 import timeline
 import timeline_chart
@@ -339,6 +342,17 @@ class LongTexts(unittest.TestCase):
 
     def test_parts_are_numbered(self):
         self.assertEqual(long_texts.filled(long_texts.Text('', '<', 'a%d;', '>'), 12), '<a0;a1;a2;>')
+
+
+class LongTables(unittest.TestCase):
+    def test_tables_fill_their_size_and_have_no_fault(self):
+        for name, many, rows in long_tables.TABLES:
+            app = application.application_of(long_tables.oil(long_tables.EVENTS if many else 0), long_tables.code())
+            most = 2000000 if rows is long_tables.late else 400000
+            data = long_tables.table_of(app, rows(app, most), most)
+            table = table_bytes.read_table(app, data)
+            self.assertTrue(9 * most // 10 < len(data) <= most, '%s: %d' % (name, len(data)))
+            self.assertTrue(table, name)
 
 
 if __name__ == '__main__':
