@@ -13,3 +13,7 @@ pub mod TextLaws
 pub mod WordLaws
 pub mod ShownLaws
 pub mod PlainLines
+pub mod PointForms
+pub mod PointParts
+pub mod PointReading
+pub mod PointAnswers

@@ -21,7 +21,7 @@ module _ (app : App) where
   abbrev pub IsKnown : Option TaskNo → Type 0
   IsKnown x = IfSome x (λ t. t.0 < length app.tasks)
 
-  named : (t : ℕ) → t < length app.tasks → is_name (task_name app t) ≡ true
+  pub named : (t : ℕ) → t < length app.tasks → is_name (task_name app t) ≡ true
   named t h =
       let name : Task → List ℕ = λ (x : Task). x.name in
       let within : t < length (map name app.tasks) = omega (arith, length-map app.tasks name, h) in
@@ -41,10 +41,10 @@ module _ (app : App) where
   pub few : (b : ℕ) → b < length app.blocks → b < 2 ^ 64
   few b h = omega (arith, h, app.valid.few_blocks)
 
-  task_block_fits : (b : BlockNo) → IsTaskBlock app b → b.0 < 2 ^ 64
+  pub task_block_fits : (b : BlockNo) → IsTaskBlock app b → b.0 < 2 ^ 64
   task_block_fits b at = few b.0 (own_known app at.task b.0 at.known at.own)
 
-  routine_block_fits : (b : BlockNo) (over : Option TaskNo) → IsRoutineBlock app b over → b.0 < 2 ^ 64
+  pub routine_block_fits : (b : BlockNo) (over : Option TaskNo) → IsRoutineBlock app b over → b.0 < 2 ^ 64
   routine_block_fits b over at = few b.0 (routine_known app at.source b.0 at.known at.own)
 
   pub point_lacks : (p : Point) → IsPoint app p → Lacks 32 (point_text app p)
