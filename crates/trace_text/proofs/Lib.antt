@@ -11,6 +11,7 @@ pub mod Parts
 pub mod PointsApart
 pub mod TextLaws
 pub mod WordLaws
+pub mod RecordLaws
 pub mod ShownLaws
 pub mod PlainLines
 pub mod PointForms

@@ -9,3 +9,4 @@ pub mod PointFaults
 pub mod PointGrammar
 pub mod PointTexts
 pub mod PointWords
+pub mod RecordText

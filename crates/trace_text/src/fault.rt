@@ -62,3 +62,10 @@ impl PointFault {
         }
     }
 }
+
+/// The first fault of a record. Lines count from 1; line 0 is the record as a whole.
+#[derive(Clone, Copy, PartialEq, Eq, Debug)]
+pub struct FaultyPoint {
+    pub line: u32,
+    pub rule: PointFault,
+}

@@ -14,7 +14,7 @@ mod trace_line;
 mod trace_notes;
 
 pub use event_words::read_event;
-pub use fault::{EventFault, FaultyLine, PointFault};
+pub use fault::{EventFault, FaultyLine, FaultyPoint, PointFault};
 pub use feed::{FEED_ROOM, Feed, FeedStep};
 pub use line_parts::LineParts;
 pub use point_words::read_point;
