@@ -19,7 +19,7 @@ struct Outcome {
 }
 
 /// The outcome of a record; None where a line is faulty.
-fn outcome(watch: &mut Watch, lines: &[&[u8]]) -> Option<Outcome> {
+fn outcome_of(watch: &mut Watch, lines: &[&[u8]]) -> Option<Outcome> {
     let mut alarm = None;
     for line in lines {
         let Ok(said) = read_point(watch.app(), line) else {
@@ -51,7 +51,7 @@ fn watched_by<L: Ledger>(
     let mut steps = Steps::<L>::of(blank);
     let table = solve(alloc, &app, &mut steps)?;
     let mut watch = Watch::new(alloc, app, &table)?;
-    let outcome = outcome(&mut watch, lines);
+    let outcome = outcome_of(&mut watch, lines);
     drop(table);
     drop(watch);
     Ok(outcome)

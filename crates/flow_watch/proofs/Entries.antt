@@ -4,10 +4,10 @@ use Rattle.std.specs.Prelude.{Contains}
 use Rattle.std.proofs.{Math.ListN.{get_or-map}, lemmas.List.{length-map, get_or-map as get_or-map_at, take_more}}
 use Rattle.osek_standard.specs.{declared.{app.App.{App}, point.Point.{Point}}, Points.{point_number}}
 use Rattle.osek_standard.proofs.Members.{among_contained, among_map, contained_among, map_among}
-use Rattle.abstract_state.specs.{declared.table.{TableRow.{TableRow}, PlainTable.{PlainTable}}, Tables.{sets_of, HasRow}, Written.{IsWritten}}
+use Rattle.abstract_state.specs.{declared.table.{TableRow.{TableRow}, PlainTable.{PlainTable}}, Tables.{sets_of}, Written.{IsWritten}}
 use Rattle.abstract_state.proofs.EqualityLaws.{written_entry}
 use Rattle.numbered_sets.specs.{declared.table.NumberedRow.{NumberedRow}, Pools.{Values}, PlainTables.{plain_row, AreRowsFor}}
-use Rattle.numbered_sets.proofs.{RowsByNumber.{as_many}, WrittenRows.{row_number, rows_ascend}}
+use Rattle.numbered_sets.proofs.{RowsByNumber.{as_many}, WrittenRows.{rows_ascend}}
 use Rattle.global_cfg.specs.PointOrder.{AreInOrder}
 
 abbrev pub row_point : TableRow → Point

@@ -1,5 +1,5 @@
 -- A watch finds the first alarm of a record, which has one at most.
-use Rattle.std.proofs.Common.{◌≡◌, ◌↔◌, ℕ, ◌+◌, ◌<◌, Bool, true, false, ◌||◌, List, [], ◌∷◌, ◌++◌, length, length-append, append_assoc, IsTrue, Option, Some, None, refl, sym, ap, subst, ◌∙◌, inl, inr, arith}
+use Rattle.std.proofs.Common.{◌≡◌, ◌↔◌, Bool, true, false, List, [], ◌∷◌, ◌++◌, length, length-append, append_assoc, IsTrue, Option, Some, None, refl, sym, ap, subst, ◌∙◌, inl, inr, arith}
 use Rattle.std.specs.{Prelude.{Contains}, List.{list_any}}
 use Rattle.std.proofs.lemmas.{Bool.{and_from, and_parts, or_cases, or_left, or_right, true≢false}, List.{append-nil, Folds.{Any-from_list_any, list_any_at}}, Map.Views.{Contains-from_any}}
 use Rattle.osek_standard.specs.declared.{app.App.{App}, point.Point.{Point}}
@@ -24,7 +24,7 @@ last_more before [] p = refl
 last_more before (q ∷ ps) p = last_more (Some q) ps p
 
 -- an alarm stays
-stays : (w : WatchState) (a : Alarm) (ps : List Point) → w.alarm ≡ Some a → all_seen w ps ≡ w
+pub stays : (w : WatchState) (a : Alarm) (ps : List Point) → w.alarm ≡ Some a → all_seen w ps ≡ w
 stays w a [] e = refl
 stays w a (p ∷ ps) e =
     let same : seen_by w p ≡ w = ap (seen_after w p) e in

@@ -1,11 +1,11 @@
 -- What is found by halving in a list in its order: a point, or an edge.
-use Rattle.std.proofs.Common.{◌≡◌, ℕ, ◌<◌, ◌≤◌, Bool, true, false, ◌||◌, ◌&&◌, eqb, ltb, List, length, get_or, refl, sym, ap, subst, ◌∙◌, ◌⊎◌, Some, None, inl, inr, arith}
+use Rattle.std.proofs.Common.{◌≡◌, ℕ, ◌<◌, ◌≤◌, Bool, true, false, ◌||◌, ◌&&◌, eqb, ltb, List, length, get_or, sym, ap, subst, ◌∙◌, ◌⊎◌, inl, inr, arith}
 use Rattle.std.specs.List.{list_any, Sorted.{IsPartitionedBy, IsPartitionPoint}}
 use Rattle.std.proofs.lemmas.{Bool.{and_from, and_parts, cases_Bool, cases_order, cases_eq, eq-eqb, eqb-true, lt-ltb, ltb-false, ltb-true, or_cases, or_left, or_right, true≢false}, List.Folds.{Any-from_list_any, list_any_at}}
 use Rattle.osek_standard.specs.{declared.point.Point.{Point}, Points.{point_number}}
 use Rattle.abstract_state.specs.{declared.edge.FlowEdge.{FlowEdge}, Tables.{same_point}}
 use Rattle.abstract_state.proofs.EqualityLaws.{point_right}
-use Rattle.global_cfg.specs.{Edges.{IsBefore, AreAscending}, PointOrder.{IsLower, AreInOrder}}
+use Rattle.global_cfg.specs.{Edges.{IsBefore, AreAscending}, PointOrder.{AreInOrder}}
 use Rattle.flow_watch.specs.Watches.{leads_to}
 
 module _ {X : Type 0} (is : X → Bool) (xs : List X) (place : ℕ) where

@@ -1,11 +1,9 @@
 -- A line of a record is answered as what it says, and in no other way.
-use Rattle.std.proofs.Common.{◌≡◌, ℕ, ◌<◌, ◌≤◌, Bool, true, false, cond, ltb, List, [], ◌∷◌, length, Option, Some, None, Ok, Err, Result, refl, sym, ◌∙◌, ap, subst}
-use Rattle.std.proofs.lemmas.Bool.{cases_Bool, le-ltb, lt-ltb, ltb-false, ltb-true, true≢false}
+use Rattle.std.proofs.Common.{◌≡◌, ℕ, ◌≤◌, Bool, true, false, cond, ltb, List, [], ◌∷◌, length, Option, Some, None, Ok, Err, Result, refl, sym, ◌∙◌, ap, subst}
+use Rattle.std.proofs.lemmas.Bool.{le-ltb, lt-ltb, ltb-false, ltb-true, true≢false}
 use Rattle.osek_standard.specs.declared.{app.App.{App}, point.Point.{Point}}
-use Rattle.osek_standard.specs.declared.point.Point.TheVariants as point
-use Rattle.osek_standard.specs.Points.{IsPoint}
 use Rattle.trace_text.specs.declared.fault.PointFault.{PointFault, TheVariants.{G1, G2, G3, G4}}
-use Rattle.trace_text.specs.{EventWords.{is_comment, words}, EventGrammar.{HasWords, SayNothing}, PointTexts.{point_text}}
+use Rattle.trace_text.specs.{EventWords.{is_comment, words}, EventGrammar.{HasWords, SayNothing}}
 use Rattle.trace_text.specs.PointWords.{is_point_form, IsPointOf, point_named, said_point, one_point, point_of_words, read_point_line}
 use Rattle.trace_text.specs.PointGrammar.{IsPointWord, halted, idle, block, over, HasWordsOf, AreOne, NamesNoPoint, HaveNoForm, IsLineAnswer}
 use Rattle.trace_text.proofs.{GrammarLaws.{words_hold, no_other_words}, PointForms.{tested_form, form_tested, text_form}, PointReading.{named_is, is_named}}

@@ -1,7 +1,7 @@
 -- Which words are of the form of a point, and that the text of each point is.
-use Rattle.std.proofs.Common.{◌≡◌, ℕ, zero, suc, ◌+◌, ◌<◌, ◌^◌, Bool, true, false, cond, ◌&&◌, ◌||◌, not, eqb, ltb, List, [], ◌∷◌, ◌++◌, length, take, drop, get_or, Option, Some, None, refl, sym, ◌∙◌, ap, subst, inl, inr, arith, one-add, add-one, append_assoc, rules}
-use Rattle.std.specs.{Prelude.{codes, IfSome}, Char.{is_ascii_digit}, Fmt.{decimal}, List.{list_all, position, position_or_len}, Str.{bytes_eq, Parse.{digits_value}}}
-use Rattle.std.proofs.Math.{Bool.{or-true}, Seq.{drop-cons, take-append_seam, drop-append_seam}}
+use Rattle.std.proofs.Common.{◌≡◌, ℕ, zero, suc, ◌+◌, ◌<◌, ◌^◌, Bool, true, false, cond, ◌||◌, not, eqb, ltb, List, [], ◌∷◌, ◌++◌, length, take, drop, get_or, Option, Some, None, refl, sym, ◌∙◌, ap, subst, inl, inr, arith, one-add, add-one, append_assoc, rules}
+use Rattle.std.specs.{Prelude.{codes}, Char.{is_ascii_digit}, Fmt.{decimal}, List.{list_all, position_or_len}, Str.{bytes_eq, Parse.{digits_value}}}
+use Rattle.std.proofs.Math.{Bool.{or-true}, Seq.{drop-cons, take-append_seam}}
 use Rattle.std.proofs.lemmas.Bool.{and_parts, and_from, cases_Bool, eqb-true, le-ltb, lt-ltb, ltb-true, or_cases, true≢false}
 use Rattle.std.proofs.lemmas.{Fmt.{decimal_nonempty, decimal_digit, digits_decimal, first_decimal}, List.{length-append, length-drop, take-append-drop, Quantifiers.{position-Some}}, Str.Parse.{IsNumeralModel, numerals_by_value}}
 use Rattle.osek_values.specs.declared.numbers.TaskNo.{TaskNo}
@@ -9,7 +9,7 @@ use Rattle.osek_standard.specs.declared.{app.App.{App}, point.Point.{Point}}
 use Rattle.osek_standard.specs.declared.point.Point.TheVariants as point
 use Rattle.osek_standard.specs.{Points.{IsPoint}, TraceText.{task_name}}
 use Rattle.text_pieces.proofs.NameLaws.{name_is}
-use Rattle.trace_text.specs.{EventWords.{is_some_word}, PointTexts.{block_text, point_text, task_or_dash}, PointWords.{is_number, slash, is_block_form, is_block_word, is_point_form}}
+use Rattle.trace_text.specs.{EventWords.{is_some_word}, PointTexts.{point_text, task_or_dash}, PointWords.{is_number, slash, is_block_form, is_block_word, is_point_form}}
 use Rattle.trace_text.specs.PointGrammar.{IsNumber, IsPointWord, halted, idle, block, over}
 use Rattle.trace_text.proofs.{EventLaws.{same_bytes}, Parting.{Lacks}, PointsApart.{IsKnown, named, task_block_fits, routine_block_fits}}
 

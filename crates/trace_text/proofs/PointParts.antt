@@ -1,6 +1,6 @@
 -- The parts of a point's word: the number of a block, and what its routine interrupted.
-use Rattle.std.proofs.Common.{◌≡◌, ◌≢◌, ℕ, suc, ◌+◌, ◌-◌, ◌*◌, ◌<◌, ◌≤◌, ◌^◌, ◌⊎◌, Bool, true, false, List, [], ◌∷◌, ◌++◌, length, drop, get_or, min, Option, Some, None, refl, sym, ◌∙◌, ap, subst, inl, inr, arith, add-one, rules}
-use Rattle.std.specs.{Prelude.{codes, IfSome}, Char.{is_ascii_digit}, Fmt.{decimal}, List.{list_all, position}, Str.{bytes_eq, Parse.{digits_value}}}
+use Rattle.std.proofs.Common.{◌≡◌, ◌≢◌, ℕ, suc, ◌+◌, ◌-◌, ◌*◌, ◌<◌, ◌≤◌, ◌^◌, ◌⊎◌, Bool, true, false, List, [], ◌∷◌, length, drop, get_or, min, Option, Some, None, sym, ◌∙◌, ap, inl, inr, arith, add-one, rules}
+use Rattle.std.specs.{Prelude.{codes}, Char.{is_ascii_digit}, Fmt.{decimal}, List.{list_all, position}, Str.{bytes_eq, Parse.{digits_value}}}
 use Rattle.std.proofs.lemmas.{Bool.{cases_lt, true≢false}, Fmt.{decimal-digits_value, digits_value-decimal}, List.{Quantifiers.{position-Some}, Sums.{fails_before_first}}, Slice.Eq.{bytes_eq-Decides}, Str.Parse.{IsNumeralModel, digit_at, numerals_by_fold}}
 use Rattle.std.proofs.Math.Seq.{drop-cons}
 use Rattle.osek_values.specs.{declared.numbers.TaskNo.{TaskNo}, Numbers.{task_no}}

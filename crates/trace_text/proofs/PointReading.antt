@@ -1,6 +1,6 @@
 -- The point of a word is the one that is read from its parts.
-use Rattle.std.proofs.Common.{◌≡◌, ◌≢◌, ℕ, ◌+◌, ◌<◌, Bool, true, false, cond, List, [], ◌∷◌, ◌++◌, length, take, drop, Option, Some, None, refl, sym, ◌∙◌, ap, subst, inl, inr, arith, append_assoc}
-use Rattle.std.specs.{Prelude.{codes, IfSome, MatchOption}, Fmt.{decimal}, List.{find, range_with_len}, Str.{bytes_eq}}
+use Rattle.std.proofs.Common.{◌≡◌, ◌≢◌, ℕ, ◌+◌, ◌<◌, Bool, true, false, List, [], ◌∷◌, ◌++◌, length, take, drop, Option, Some, None, refl, sym, ◌∙◌, ap, subst, inl, inr, arith, append_assoc}
+use Rattle.std.specs.{Prelude.{codes, MatchOption}, Fmt.{decimal}, List.{find, range_with_len}, Str.{bytes_eq}}
 use Rattle.std.proofs.lemmas.{Bool.{true≢false}, Fmt.{decimal_injective}, List.{append_cancel_left}, Slice.Eq.{bytes_eq-Decides}}
 use Rattle.osek_values.specs.{declared.numbers.{BlockNo.{BlockNo}, TaskNo.{TaskNo}}, Numbers.{block_no, task_no}}
 use Rattle.osek_standard.specs.declared.{app.App.{App}, point.Point.{Point}}

@@ -1,5 +1,5 @@
 -- A text of points reads back as these points.
-use Rattle.std.proofs.Common.{◌≡◌, ℕ, ◌+◌, ◌<◌, ◌^◌, ◌≤◌, Bool, true, false, cond, ◌&&◌, not, eqb, List, [], ◌∷◌, ◌++◌, map, length, Some, None, Ok, refl, sym, ◌∙◌, ap, arith}
+use Rattle.std.proofs.Common.{◌≡◌, ℕ, ◌+◌, ◌<◌, ◌^◌, ◌≤◌, true, cond, not, eqb, List, [], ◌∷◌, ◌++◌, map, length, Some, None, Ok, refl, sym, ◌∙◌, ap, arith}
 use Rattle.std.specs.{Prelude.{codes}, Fmt.{decimal}, List.{All, list_all, enumerate_from}, declared.option.Option.{Option}}
 use Rattle.std.proofs.lemmas.{Bool.{and_parts, and_from, le-ltb}, Fmt.{length-decimal-le}, List.{append-nil, length-append, Elements.{All-head, All-tail}}}
 use Rattle.osek_values.specs.declared.numbers.TaskNo.{TaskNo}
@@ -7,8 +7,8 @@ use Rattle.osek_standard.specs.{declared.{app.App.{App}, point.Point.{Point}}, P
 use Rattle.osek_standard.specs.declared.point.Point.TheVariants as point
 use Rattle.text_pieces.proofs.NameLaws.{name_is}
 use Rattle.trace_text.specs.{declared.fault.PointFault.TheVariants.{G4}, EventWords.{is_blank, is_some_word}, EventGrammar.{HasWords}, EventText.{text_lines, numbered_lines}}
-use Rattle.trace_text.specs.{PointTexts.{block_text, point_text, task_or_dash}, PointWords.{read_point_line}, RecordText.{RecordReading, faulty_at, with_point, read_points, read_record, record_text}}
-use Rattle.trace_text.proofs.{Parting.{Lacks}, PointAnswers.{read}, PointsApart.{IsKnown, named, few, task_block_fits, routine_block_fits, text_lacks}, TextLaws.{line_then, no_blank_by}}
+use Rattle.trace_text.specs.{PointTexts.{block_text, point_text, task_or_dash}, PointWords.{read_point_line}, RecordText.{faulty_at, with_point, read_points, read_record, record_text}}
+use Rattle.trace_text.proofs.{Parting.{Lacks}, PointAnswers.{read}, PointsApart.{IsKnown, named, task_block_fits, routine_block_fits, text_lacks}, TextLaws.{line_then, no_blank_by}}
 
 unblank : (cs : List ℕ) → Lacks 32 cs → Lacks 9 cs → list_all (λ c. not (is_blank c)) cs ≡ true
 unblank [] h k = refl

@@ -1,5 +1,5 @@
 -- What one line of a record says: a point as it is printed, or nothing (this project's profile).
-use Rattle.std.specs.{Prelude.{◌≡◌, ◌≢◌, ℕ, ◌+◌, ◌==◌, ◌&&◌, ◌||◌, not, nat_lt, Bool, true, false, List, [], ◌∷◌, length, take, if◌then◌else◌, codes, Some, None, Ok, Err}, List.{find, list_all, position}}
+use Rattle.std.specs.{Prelude.{◌≡◌, ◌≢◌, ℕ, ◌+◌, ◌==◌, ◌&&◌, ◌||◌, not, nat_lt, Bool, false, List, [], ◌∷◌, length, take, if◌then◌else◌, codes, Some, None, Ok, Err}, List.{find, list_all, position}}
 use Rattle.std.specs.{Char.{is_ascii_digit}, Str.{bytes_eq}, declared.{option.Option.{Option}, result.Result.{Result}}}
 use Rattle.osek_values.specs.declared.limits.TheConstants.{MAX_EVENT_LINE}
 use Rattle.osek_standard.specs.{declared.{app.App.{App}, point.Point.{Point}}, Points.{IsPoint, points_in_order}}

@@ -1,8 +1,7 @@
 -- the point that stands where the point belongs is it, or none is
-use Rattle.std.proofs.Common.{rules, Bool, true, false, sym, ◌∙◌}
-use Rattle.std.specs.List.Sorted.{IsPartitionPoint}
+use Rattle.std.proofs.Common.{rules, sym, ◌∙◌}
 use Rattle.std.proofs.lemmas.List.Sorted.{IsPartitionPoint-from_clause}
-use Rattle.osek_standard.specs.{declared.point.Point.{Point}, Points.{point_number}}
+use Rattle.osek_standard.specs.{Points.{point_number}}
 use Rattle.abstract_state.specs.Tables.{same_point}
 use Rattle.flow_watch.proofs.Halving.{at_place, past_end, is_lower, points_parted, only_point}
 use Rattle.flow_watch.proofs.places.has_point.Goals as goal
