@@ -16,4 +16,6 @@ mod printed_lines;
 mod rules_at_points;
 #[cfg(test)]
 mod table_bytes;
+#[cfg(test)]
+mod watched_records;
 pub mod worked_texts;

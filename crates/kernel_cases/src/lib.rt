@@ -19,6 +19,8 @@ mod lists;
 #[cfg(test)]
 mod machines;
 #[cfg(test)]
+mod point_lines;
+#[cfg(test)]
 mod points;
 #[cfg(test)]
 mod shelves_and_sinks;

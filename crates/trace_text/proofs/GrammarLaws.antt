@@ -76,7 +76,7 @@ front_by : (p : ℕ → Bool) (b : Bool) (x : ℕ) (xs : List ℕ) → p x ≡ b
 front_by p true x xs e h = refl
 front_by p false x xs e h = rw one-add (rw e h)
 
-front_fails : (p : ℕ → Bool) (xs : List ℕ) → list_all (λ c. not (p c)) (take (position_or_len p xs) xs) ≡ true
+pub front_fails : (p : ℕ → Bool) (xs : List ℕ) → list_all (λ c. not (p c)) (take (position_or_len p xs) xs) ≡ true
 front_fails p [] = refl
 front_fails p (x ∷ xs) = front_by p (p x) x xs refl (front_fails p xs)
 

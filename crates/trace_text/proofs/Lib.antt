@@ -11,5 +11,10 @@ pub mod Parts
 pub mod PointsApart
 pub mod TextLaws
 pub mod WordLaws
+pub mod RecordLaws
 pub mod ShownLaws
 pub mod PlainLines
+pub mod PointForms
+pub mod PointParts
+pub mod PointReading
+pub mod PointAnswers

@@ -1,8 +1,8 @@
 -- A point has a text of its own.
-use Rattle.std.proofs.Common.{◌≡◌, ℕ, ◌<◌, ◌^◌, true, List, [], ◌++◌, map, length, refl, sym, ◌∙◌, ap, subst, arith, append_assoc, Option, Some, None}
-use Rattle.std.specs.{Prelude.{codes, IfSome}, Fmt.{decimal}}
-use Rattle.std.proofs.{Math.ListN.{get_or-map}, lemmas.{Bool.{true≢false}, Fmt.{decimal_injective}, List.{append_cancel_left, length-map}}}
-use Rattle.osek_values.specs.{Names.{is_name}, Numbers.{task_no, block_no}, declared.numbers.{BlockNo.{BlockNo}, TaskNo.{TaskNo}}}
+use Rattle.std.proofs.Common.{◌≡◌, ℕ, ◌<◌, ◌^◌, true, false, ltb, List, [], ◌∷◌, ◌++◌, map, length, refl, sym, ◌∙◌, ap, subst, arith, append_assoc, Option, Some, None}
+use Rattle.std.specs.{Prelude.{codes, IfSome}, Fmt.{decimal}, List.{list_all}}
+use Rattle.std.proofs.{Math.ListN.{get_or-map}, lemmas.{Bool.{and_parts, ltb-true, true≢false}, Fmt.{decimal_injective}, List.{append_cancel_left, length-map}}}
+use Rattle.osek_values.specs.{Names.{is_name, is_name_byte}, Numbers.{task_no, block_no}, declared.numbers.{BlockNo.{BlockNo}, TaskNo.{TaskNo}}}
 use Rattle.osek_standard.specs.declared.{app.App.{App}, objects.Task.{Task}, point.Point.{Point}}
 use Rattle.osek_standard.specs.declared.point.Point.TheVariants as point
 use Rattle.osek_standard.specs.{Apps.{no_task}, Points.{IsPoint, IsTaskBlock, IsRoutineBlock}, TraceText.{task_name}}
@@ -17,11 +17,18 @@ block_once b c low high e = decimal_injective b c low high (append_cancel_left (
 pub block_lacks : (c b : ℕ) → c < 48 → b < 2 ^ 64 → Lacks c (block_text b)
 block_lacks c b h fits = lacks_both c (codes "b") (decimal b) (byte_lacks c 98 (omega (arith, h))) (number_lacks c b h fits)
 
+-- bytes from `-` on
+high_lack : (c : ℕ) (xs : List ℕ) → c < 45 → list_all (λ (x : ℕ). ltb 44 x) xs ≡ true → Lacks c xs
+high_lack c [] low h = refl
+high_lack c (x ∷ xs) low h =
+    let parts = and_parts (ltb 44 x) (list_all (λ (y : ℕ). ltb 44 y) xs) h in
+    lacks_both c (x ∷ []) xs (byte_lacks c x (omega (arith, low, ltb-true 44 x parts.0))) (high_lack c xs low parts.1)
+
 module _ (app : App) where
   abbrev pub IsKnown : Option TaskNo → Type 0
   IsKnown x = IfSome x (λ t. t.0 < length app.tasks)
 
-  named : (t : ℕ) → t < length app.tasks → is_name (task_name app t) ≡ true
+  pub named : (t : ℕ) → t < length app.tasks → is_name (task_name app t) ≡ true
   named t h =
       let name : Task → List ℕ = λ (x : Task). x.name in
       let within : t < length (map name app.tasks) = omega (arith, length-map app.tasks name, h) in
@@ -34,26 +41,33 @@ module _ (app : App) where
   task_once (Some t) (Some u) h k e =
       ap (λ (n : ℕ). Some (task_no n)) (name_once (λ (x : Task). x.name) app.tasks no_task app.valid.task_names.distinct t.0 u.0 h k e)
 
+  over_lacks : (c : ℕ) → c < 45 → is_name_byte c ≡ false → (x : Option TaskNo) → IsKnown x → Lacks c (task_or_dash app x)
+  over_lacks c low out None h = byte_lacks c 45 low
+  over_lacks c low out (Some t) h = lacks c (task_name app t.0) out (name_is (task_name app t.0) (named t.0 h)).bytes
+
   pub task_lacks : (x : Option TaskNo) → IsKnown x → Lacks 32 (task_or_dash app x)
-  task_lacks None h = refl
-  task_lacks (Some t) h = lacks 32 (task_name app t.0) refl (name_is (task_name app t.0) (named t.0 h)).bytes
+  task_lacks x h = over_lacks 32 (omega arith) refl x h
 
   pub few : (b : ℕ) → b < length app.blocks → b < 2 ^ 64
   few b h = omega (arith, h, app.valid.few_blocks)
 
-  task_block_fits : (b : BlockNo) → IsTaskBlock app b → b.0 < 2 ^ 64
+  pub task_block_fits : (b : BlockNo) → IsTaskBlock app b → b.0 < 2 ^ 64
   task_block_fits b at = few b.0 (own_known app at.task b.0 at.known at.own)
 
-  routine_block_fits : (b : BlockNo) (over : Option TaskNo) → IsRoutineBlock app b over → b.0 < 2 ^ 64
+  pub routine_block_fits : (b : BlockNo) (over : Option TaskNo) → IsRoutineBlock app b over → b.0 < 2 ^ 64
   routine_block_fits b over at = few b.0 (routine_known app at.source b.0 at.known at.own)
 
+  -- no point has a byte below `-` that no name has
+  pub text_lacks : (c : ℕ) → c < 45 → is_name_byte c ≡ false → (p : Point) → IsPoint app p → Lacks c (point_text app p)
+  text_lacks c low out point.Halted h = high_lack c (codes "halt") low refl
+  text_lacks c low out point.Idle h = high_lack c (codes "idle") low refl
+  text_lacks c low out (point.Task b) h = block_lacks c b.0 (omega (arith, low)) (task_block_fits b h)
+  text_lacks c low out (point.Routine b over) h =
+      let block = block_lacks c b.0 (omega (arith, low)) (routine_block_fits b over h) in
+      lacks_both c (block_text b.0 ++ codes "/") (task_or_dash app over) (lacks_both c (block_text b.0) (codes "/") block (byte_lacks c 47 (omega (arith, low)))) (over_lacks c low out over h.task)
+
   pub point_lacks : (p : Point) → IsPoint app p → Lacks 32 (point_text app p)
-  point_lacks point.Halted h = refl
-  point_lacks point.Idle h = refl
-  point_lacks (point.Task b) h = block_lacks 32 b.0 (omega arith) (task_block_fits b h)
-  point_lacks (point.Routine b over) h =
-      let block = block_lacks 32 b.0 (omega arith) (routine_block_fits b over h) in
-      lacks_both 32 (block_text b.0 ++ codes "/") (task_or_dash app over) (lacks_both 32 (block_text b.0) (codes "/") block refl) (task_lacks over h.task)
+  point_lacks p h = text_lacks 32 (omega arith) refl p h
 
   -- a block alone has no slash
   no_slash : (b : BlockNo) (h : IsTaskBlock app b) (c : BlockNo) (over : Option TaskNo) → point_text app (point.Task b) ≡ point_text app (point.Routine c over) → ⊥

@@ -11,7 +11,7 @@ use Rattle.trace_text.specs.EventText.{Reading, ended_line, lines_in, text_lines
 use Rattle.trace_text.specs.EventGrammar.{HasWords, Says, event_line, event_text}
 use Rattle.trace_text.proofs.{LineLaws.{is_lf, ended_first, some_parts}, EventLaws.{read_as_said}, GrammarLaws.{both}}
 
-no_blank_by : (a b : Bool) → not a ≡ true → not b ≡ true → not (a || b) ≡ true
+pub no_blank_by : (a b : Bool) → not a ≡ true → not b ≡ true → not (a || b) ≡ true
 no_blank_by true b h k = absurd (cc)
 no_blank_by false b h k = k
 
@@ -89,7 +89,7 @@ keeps_whole line h =
     let stays : strip_carriage_return line ≡ line = ap (λ b. cond b (take (length line - 1) line) line) (last_is_not line h) in
     either_same (ltb 256 (length line)) line (strip_carriage_return line) stays
 
-line_then : (line rest : List ℕ) → list_all (λ c. not (eqb c 10)) line ≡ true → list_all (λ c. not (eqb c 13)) line ≡ true →
+pub line_then : (line rest : List ℕ) → list_all (λ c. not (eqb c 10)) line ≡ true → list_all (λ c. not (eqb c 13)) line ≡ true →
     text_lines ((line ++ 10 ∷ []) ++ rest) ≡ line ∷ text_lines rest
 line_then line rest lf cr =
     let joined : (line ++ 10 ∷ []) ++ rest ≡ line ++ 10 ∷ rest = append_assoc line (10 ∷ []) rest in

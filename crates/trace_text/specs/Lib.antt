@@ -5,4 +5,8 @@ pub mod EventWords
 pub mod Feeds
 pub mod Labels
 pub mod LineParts
+pub mod PointFaults
+pub mod PointGrammar
 pub mod PointTexts
+pub mod PointWords
+pub mod RecordText

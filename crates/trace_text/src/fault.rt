@@ -1,6 +1,6 @@
-//! Why a line of an event text, or the text, is refused.
+//! Why a line of an event text or of a record, or the text, is refused.
 ghost use Rattle.std.specs.Prelude.{◌≡◌};
-ghost use Rattle.trace_text.specs.EventFaults.{event_fault_name};
+ghost use Rattle.trace_text.specs.{EventFaults.{event_fault_name}, PointFaults.{point_fault_name}};
 
 /// Rules on event texts (this project's profile).
 #[derive(Clone, Copy, PartialEq, Eq, Debug)]
@@ -34,4 +34,38 @@ impl EventFault {
 pub struct FaultyLine {
     pub line: u32,
     pub rule: EventFault,
+}
+
+/// Rules on records of points (this project's profile).
+#[derive(Clone, Copy, PartialEq, Eq, Debug)]
+pub enum PointFault {
+    /// Not one word of the form of a point.
+    G1,
+    /// Of that form, and no point of the application.
+    G2,
+    /// A line over `MAX_EVENT_LINE` bytes without its LF.
+    G3,
+    /// The record is over `MAX_RECORD` bytes; no line has it.
+    G4,
+}
+
+impl PointFault {
+    /// The rule as it is printed.
+    pub fn name(self) -> &'static [u8]
+        ensures { result.now ≡ point_fault_name self }
+    {
+        match self {
+            PointFault::G1 => b"G1",
+            PointFault::G2 => b"G2",
+            PointFault::G3 => b"G3",
+            PointFault::G4 => b"G4",
+        }
+    }
+}
+
+/// The first fault of a record. Lines count from 1; line 0 is the record as a whole.
+#[derive(Clone, Copy, PartialEq, Eq, Debug)]
+pub struct FaultyPoint {
+    pub line: u32,
+    pub rule: PointFault,
 }

@@ -1,10 +1,11 @@
 //! Laws of event texts, and of the texts of points.
-ghost use Rattle.std.specs.{Prelude.{◌≡◌, ℕ, ◌≤◌, ◌↔◌, true, false, List, [], ◌∷◌, ◌++◌, length, All, Some, None, Ok, Err}, List.{enumerate_from}};
-ghost use Rattle.osek_values.specs.declared.{limits.TheConstants.{MAX_EVENT_LINE, MAX_EVENT_TEXT}, event.Event.{Event}};
+ghost use Rattle.std.specs.{Prelude.{◌≡◌, ℕ, ◌≤◌, ◌↔◌, true, false, List, [], ◌∷◌, ◌++◌, length, All, Option, Some, None, Result, Ok, Err}, List.{enumerate_from}};
+ghost use Rattle.osek_values.specs.declared.{limits.TheConstants.{MAX_EVENT_LINE, MAX_EVENT_TEXT, MAX_RECORD}, event.Event.{Event}};
 ghost use Rattle.osek_standard.specs.{declared.{app.App.{App}, point.Point.{Point}}, Apps.{IsDeclared}, Points.{IsPoint}};
 ghost use Rattle.trace_text.specs.{declared.{fault.EventFault.TheVariants.{E2}, feed.FeedStep.TheVariants.{Line, End, More}}, EventWords.{words, read_line}};
 ghost use Rattle.trace_text.specs.{EventText.{text_lines, numbered_lines, read_lines, read_text}, Feeds.{FeedState, no_bytes, next_answer, after_next, ComesOut, lines_to_long}};
 ghost use Rattle.trace_text.specs.{EventGrammar.{HasWords, NamesNone, SayNothing, Says, event_text}, PointTexts.{point_text}};
+ghost use Rattle.trace_text.specs.{declared.fault.PointFault.{PointFault}, PointWords.{read_point_line}, PointGrammar.{IsLineAnswer}, RecordText.{read_record, record_text}};
 
 /// A line has the words that it is read by, and no other ones.
 pub fn a_line_has_one_list_of_words()
@@ -53,4 +54,15 @@ pub fn the_lines_of_a_text_come_out_for_every_cut()
 /// The text of a point of an application is that of no other of its points.
 pub fn a_text_tells_one_point()
     ensures { (app : App) (p q : Point) → IsPoint app p → IsPoint app q → point_text app p ≡ point_text app q → p ≡ q }
+{}
+
+/// A line of a record is answered as what it says: a point, nothing, or the fault that it has; so it says one of these, and one alone.
+pub fn a_line_says_a_point()
+    ensures said { (app : App) (line : List ℕ) → IsLineAnswer app line (read_point_line app line) }
+    ensures read { (app : App) (line : List ℕ) (r : Result (Option Point) PointFault) → IsLineAnswer app line r → read_point_line app line ≡ r }
+{}
+
+/// Points of an application that are printed, each on a line of its own, are read back as these points.
+pub fn a_record_reads_back()
+    ensures { (app : App) (points : List Point) → All (IsPoint app) points → length (record_text app points) ≤ MAX_RECORD → read_record app (record_text app points) ≡ record { points = points; fault = None } }
 {}

@@ -1,5 +1,5 @@
 -- the line of a declared source says its event
-use Rattle.std.proofs.Common.{◌≡◌, ℕ, List, Ok, Some, ◌∙◌, sym, subst}
+use Rattle.std.proofs.Common.{◌≡◌, ℕ, List, Ok, Some, sym, subst}
 use Rattle.osek_values.specs.{Numbers.{isr_no, counter_no}, declared.event.Event.TheVariants.{Irq, Tick}}
 use Rattle.trace_text.specs.EventWords.{read_line}
 use Rattle.trace_text.proofs.PlainLines.{irq_line, tick_line}

@@ -1,0 +1,4 @@
+pub mod Halving
+pub mod QuietRuns
+pub mod FirstAlarms
+pub mod Entries

@@ -1,0 +1,11 @@
+//! A monitor: records of points against the table of the application that they are of.
+#![tactic(auto)]
+
+mod alarm;
+pub mod laws;
+mod places;
+mod watch;
+
+pub use alarm::Alarm;
+pub use trace_text::{PointFault, read_point};
+pub use watch::Watch;

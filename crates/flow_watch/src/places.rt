@@ -1,0 +1,59 @@
+//! Whether a point, or an edge, is in a list in its order.
+ghost use Rattle.std.specs.{Prelude.{◌≡◌, ◌<◌, ◌==◌, ◌&&◌, ◌||◌, nat_lt}, List.{list_any}};
+ghost use Rattle.osek_standard.specs.Points.{point_number};
+ghost use Rattle.abstract_state.specs.Tables.{same_point};
+ghost use Rattle.global_cfg.specs.{Edges.{AreAscending}, PointOrder.{AreInOrder}};
+ghost use Rattle.flow_watch.specs.Watches.{leads_to};
+
+use abstract_state::FlowEdge;
+use osek_standard::Point;
+
+/// Whether two points are the same.
+pub(crate) fn is_same(one: Point, other: Point) -> bool
+    ensures { result ≡ same_point one other }
+{
+    one == other
+}
+
+/// Whether a point is among points in their order.
+pub(crate) fn has_point(points: &[Point], point: Point) -> bool
+    requires { AreInOrder points.now }
+    ensures { result ≡ list_any (same_point point) points.now }
+{
+    let number = point.number();
+    let place = points.partition_point(|other| other.number() < number);
+    match points.get(place) {
+        None => false,
+        Some(other) => is_same(point, *other),
+    }
+}
+
+// Whether an edge comes before those from a point to another.
+fn is_before(edge: FlowEdge, from: u32, to: u32) -> bool
+    ensures { result ≡ (nat_lt (point_number edge.from) from || ((point_number edge.from == from) && nat_lt (point_number edge.to) to)) }
+{
+    let at = edge.from.number();
+    let end = edge.to.number();
+    at < from || (at == from && end < to)
+}
+
+fn leads(edge: FlowEdge, from: Point, to: Point) -> bool
+    ensures { result ≡ leads_to from to edge }
+{
+    let begins = is_same(from, edge.from);
+    begins && is_same(to, edge.to)
+}
+
+/// Whether an edge from a point to another is among edges in their order.
+pub(crate) fn has_edge(edges: &[FlowEdge], from: Point, to: Point) -> bool
+    requires { AreAscending edges.now }
+    ensures { result ≡ list_any (leads_to from to) edges.now }
+{
+    let begin = from.number();
+    let end = to.number();
+    let place = edges.partition_point(|edge| is_before(*edge, begin, end));
+    match edges.get(place) {
+        None => false,
+        Some(edge) => leads(*edge, from, to),
+    }
+}
