@@ -147,7 +147,7 @@ const CASES: [Case; 12] = [
         code: b"TASK(T1) { while (1) { } } ISR(I) { ActivateTask(T1); }",
         findings: "silent PostTask\ndead b1\n",
     },
-    // a task in one mode, an alarm in another, and a hook at a start alone
+    // a task that starts in one mode alone, and the hook of starts
     Case {
         oil: b"CPU c { OS os { PRETASKHOOK = TRUE; POSTTASKHOOK = TRUE; STARTUPHOOK = TRUE; }; APPMODE M1; TASK T1 { PRIORITY = 1; AUTOSTART = TRUE { APPMODE = M1; }; }; };",
         code: b"TASK(T1) { while (1) { } }",
