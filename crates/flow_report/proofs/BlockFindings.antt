@@ -65,12 +65,24 @@ module _ (app : App) (table : Sets) (b : BlockNo) where
   no_free none h = none h.0.1 h.0.2
 
   free_by : (reached taken : Bool) (r : ResNo) → b.0 < length app.blocks → Takes app b r → Decides reached (IsReachedBlock app table b) → Decides taken (IsTakenAt app table b r) → Decides (reached && not taken) (Holds app table (finding.Free b))
-  free_by true true r known takes there on = (λ e. absurd (cc), λ h.
-      (let x = on.0 refl in absurd (h.1.1 x.state x.inside (x.stands, r, takes, x.taken))))
-  free_by true false r known takes there on = (λ e. ((known, r, takes), (there.0 refl, λ s inside d.
-      (let same : d.1 ≡ r = resource_once d.1 d.2 in
-      let wrong : false ≡ true = on.1 (record { state = s; inside = inside; stands = d.0; taken = subst (λ (q : ResNo). IsTrue (is_taken s q.0)) same d.3 }) in
-      absurd (cc)))), λ h. refl)
+  free_by true true r known takes there on = (
+    λ e. absurd (cc),
+    λ h.
+        (let x = on.0 refl in absurd (h.1.1 x.state x.inside (x.stands, r, takes, x.taken))),
+  )
+  free_by true false r known takes there on = (
+    λ e. (
+      (known, r, takes),
+      (
+        there.0 refl,
+        λ s inside d.
+            (let same : d.1 ≡ r = resource_once d.1 d.2 in
+            let wrong : false ≡ true = on.1 (record { state = s; inside = inside; stands = d.0; taken = subst (λ (q : ResNo). IsTrue (is_taken s q.0)) same d.3 }) in
+            absurd (cc)),
+      ),
+    ),
+    λ h. refl,
+  )
     where
       resource_of : Kind → ResNo
       resource_of (kind.Call (call.Resource x q)) = q

@@ -159,8 +159,10 @@ module _ (app : App) (table : Sets) where
         let below : x.1 < k + 1 = below_power x.1 (k + 1) (omega (arith, lt, x.6)) in
         elim (cases_eq x.1 k) [
           | inl last ↦
-              inr (x.2 ∙ ap (λ (u : TaskNo). finding.Unset u (mask (2 ^ x.1))) task ∙ ap (λ (j : ℕ). finding.Unset t (mask (2 ^ j))) last,
-              subst (λ (j : ℕ). IsTrue (has_bit (the_task app t.0).own.0 j)) last (subst (λ (u : TaskNo). IsTrue (has_bit (the_task app u.0).own.0 x.1)) task x.5.own))
+              inr (
+                x.2 ∙ ap (λ (u : TaskNo). finding.Unset u (mask (2 ^ x.1))) task ∙ ap (λ (j : ℕ). finding.Unset t (mask (2 ^ j))) last,
+                subst (λ (j : ℕ). IsTrue (has_bit (the_task app t.0).own.0 j)) last (subst (λ (u : TaskNo). IsTrue (has_bit (the_task app u.0).own.0 x.1)) task x.5.own),
+              )
           | inr other ↦ inl (inr (e, inr (n, omega (arith, x.6, lower_power x.1 k (omega (arith, below, other))))))
         ]
 

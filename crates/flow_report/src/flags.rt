@@ -53,11 +53,7 @@ impl<'a> Reached<'a> {
     }
 
     /// Adds the tasks that are never activated.
-    pub fn push_suspended(
-        &self,
-        alloc: Global,
-        findings: &mut Vec<Finding>,
-    ) -> Result<(), Memory>
+    pub fn push_suspended(&self, alloc: Global, findings: &mut Vec<Finding>) -> Result<(), Memory>
         requires rows { AreRowsFrom self.now.app.now self.now.pool.now self.now.rows.now }
         requires listed { AreListed self.now.app.now (table_of self.now.pool.now self.now.rows.now) (rank_at 0 0 0) findings.old.items }
         ensures { OnOk result (AreListed self.now.app.now (table_of self.now.pool.now self.now.rows.now) (rank_at 1 0 0) findings.new.items) }

@@ -96,7 +96,9 @@ fn hooks_of_group(app: &App, point: Point, group: &ExitGroup) -> HookSet
     }
     match group.decision {
         None => HookSet::none(),
-        Some(decision) => app.hooks.among(hooks_due(app, point, decision, group.status)),
+        Some(decision) => app
+            .hooks
+            .among(hooks_due(app, point, decision, group.status)),
     }
 }
 

@@ -64,12 +64,7 @@ impl<'a> Reached<'a> {
 }
 
 // the numbers of a component's values that pass a test
-fn passing(
-    alloc: Global,
-    pool: &Pool,
-    component: usize,
-    test: &Test,
-) -> Result<NumberedSet, Memory>
+fn passing(alloc: Global, pool: &Pool, component: usize, test: &Test) -> Result<NumberedSet, Memory>
     requires { component < length pool.now }
     ensures { IfOk result (ArePassingOf (values_at pool.now component) test.now) }
 {

@@ -19,12 +19,7 @@ impl<'a> Reached<'a> {
     ghost use Rattle.flow_check.specs.Rows.{AreRowsFrom};
 
     // whether some task holds a resource in some state at a block
-    fn is_taken_at(
-        &self,
-        alloc: Global,
-        block: BlockNo,
-        resource: ResNo,
-    ) -> Result<bool, Memory>
+    fn is_taken_at(&self, alloc: Global, block: BlockNo, resource: ResNo) -> Result<bool, Memory>
         requires { AreRowsFrom self.now.app.now self.now.pool.now self.now.rows.now }
         ensures { IfOk result (λ b. Decides b (IsTakenAt self.now.app.now (table_of self.now.pool.now self.now.rows.now) block resource)) }
     {

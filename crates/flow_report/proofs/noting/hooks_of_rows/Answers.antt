@@ -40,7 +40,7 @@ loop-row-preserved c =
       longer_onward first c.loop-row.pool c.hooks_of_row.new.pool c.loop-row.invariant.0 c.hooks_of_row.ensures.pool,
       c.in_ok-of_row.ensures.levels,
       subst (λ (done : List TableRow). AreHooks (λ (h : ℕ). NotesInRows c.args.app.now h done) c.with-hooks.result) (rows_more rows i row there is)
-      (rows_noted c.args.app.now (take i rows) row c.loop-row.hooks c.in_ok-of_row.of_row c.with-hooks.result c.with-hooks.ensures c.loop-row.invariant.2 c.in_ok-of_row.ensures.hooks),
+          (rows_noted c.args.app.now (take i rows) row c.loop-row.hooks c.in_ok-of_row.of_row c.with-hooks.result c.with-hooks.ensures c.loop-row.invariant.2 c.in_ok-of_row.ensures.hooks),
     )
 
 pub returns : goal.returns

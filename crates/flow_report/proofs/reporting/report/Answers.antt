@@ -15,7 +15,19 @@ pub push_suspended-requires-clause-listed : goal.push_suspended-requires-clause-
 push_suspended-requires-clause-listed c =
     let n = c.in_ok-numbered.numbered in
     let table = table_of n.pool c.as_slice.result.now in
-    subst (λ (fs : List Finding). AreListed c.args.app.now table (rank_at 0 0 0) fs) (sym c.new-findings.ensures) (none_listed c.args.app.now table)
+    subst (λ (fs : List Finding). AreListed c.args.app.now table (rank_at 0 0 0) fs) (sym c.new-findings.ensures.items) (none_listed c.args.app.now table)
+
+pub push_unarmed-requires-clause-rows : goal.push_unarmed-requires-clause-rows
+push_unarmed-requires-clause-rows c =
+    let n = c.in_ok-numbered.numbered in
+    let are = subst (AreRowsFor c.args.table.now.rows n.pool) (sym c.as_slice.ensures) c.in_ok-numbered.ensures in
+    written_rows c.args.app.now c.args.table.now n.pool c.as_slice.result.now are c.requires
+
+pub push_unset-requires-clause-rows : goal.push_unset-requires-clause-rows
+push_unset-requires-clause-rows c =
+    let n = c.in_ok-numbered.numbered in
+    let are = subst (AreRowsFor c.args.table.now.rows n.pool) (sym c.as_slice.ensures) c.in_ok-numbered.ensures in
+    written_rows c.args.app.now c.args.table.now n.pool c.as_slice.result.now are c.requires
 
 pub push_silent-requires-clause-listed : goal.push_silent-requires-clause-listed
 push_silent-requires-clause-listed c =
@@ -23,11 +35,23 @@ push_silent-requires-clause-listed c =
     let are = subst (AreRowsFor c.args.table.now.rows n.pool) (sym c.as_slice.ensures) c.in_ok-numbered.ensures in
     by_table c.args.app.now c.args.table.now n.pool c.as_slice.result.now are (rank_at 3 0 0) c.push_unset.new.findings.items c.in_ok-push_unset.ensures
 
+pub push_free-requires-clause-rows : goal.push_free-requires-clause-rows
+push_free-requires-clause-rows c =
+    let n = c.in_ok-numbered.numbered in
+    let are = subst (AreRowsFor c.args.table.now.rows n.pool) (sym c.as_slice.ensures) c.in_ok-numbered.ensures in
+    written_rows c.args.app.now c.args.table.now n.pool c.as_slice.result.now are c.requires
+
 pub push_free-requires-clause-listed : goal.push_free-requires-clause-listed
 push_free-requires-clause-listed c =
     let n = c.in_ok-numbered.numbered in
     let are = subst (AreRowsFor c.args.table.now.rows n.pool) (sym c.as_slice.ensures) c.in_ok-numbered.ensures in
     by_rows c.args.app.now c.args.table.now n.pool c.as_slice.result.now are (rank_at 4 0 0) c.push_silent.new.findings.items c.in_ok-push_silent.ensures
+
+pub push_dead-requires-clause-rows : goal.push_dead-requires-clause-rows
+push_dead-requires-clause-rows c =
+    let n = c.in_ok-numbered.numbered in
+    let are = subst (AreRowsFor c.args.table.now.rows n.pool) (sym c.as_slice.ensures) c.in_ok-numbered.ensures in
+    written_rows c.args.app.now c.args.table.now n.pool c.as_slice.result.now are c.requires
 
 pub returns-clause-exact : goal.returns-clause-exact
 returns-clause-exact c =

@@ -26,6 +26,7 @@ loop-row-preserved c =
 pub returns : goal.returns
 returns c =
     let pool = c.args.self.now.pool.now in
-    let rows = c.args.self.now.rows.now in
-    (λ e. absurd (cc),
-    λ h. absurd (none_reached c.args.self.now.app.now (plain_table pool rows) c.requires.written c.args.block c.loop-row.row-index c.loop-row.invariant (omega (arith, c.loop-row-test.false, length-map rows (plain_row pool))) h))
+    let rows = c.args.self.now.rows.now in (
+      λ e. absurd (cc),
+      λ h. absurd (none_reached c.args.self.now.app.now (plain_table pool rows) c.requires.written c.args.block c.loop-row.row-index c.loop-row.invariant (omega (arith, c.loop-row-test.false, length-map rows (plain_row pool))) h),
+    )

@@ -25,21 +25,23 @@ shows-requires c =
 
 pub returns-then-self-eq0 : goal.returns-then-self-eq0
 returns-then-self-eq0 c =
-    let self = c.args.self.now in
-    (λ e. absurd (cc),
-    λ h. absurd (none_shows self.app.now (plain_table self.pool.now self.rows.now) c.requires.rows.written c.args.at c.args.component c.args.test.now c.requires.known 0 (λ i d lt p. omega (arith, lt))
-    (omega (arith, c.if-self-eq0.true, length-map self.rows.now (plain_row self.pool.now))) h))
+    let self = c.args.self.now in (
+      λ e. absurd (cc),
+      λ h. absurd (none_shows self.app.now (plain_table self.pool.now self.rows.now) c.requires.rows.written c.args.at c.args.component c.args.test.now c.requires.known 0 (λ i d lt p. omega (arith, lt))
+          (omega (arith, c.if-self-eq0.true, length-map self.rows.now (plain_row self.pool.now))) h),
+    )
 
 pub returns-then-shows : goal.returns-then-shows
 returns-then-shows c =
     let self = c.args.self.now in
     let pool = self.pool.now in
     let row = c.row-item.result in
-    let known : AreNumbersOf pool row.entry = c.requires.rows.known.each row (c.loop-row.row-index, c.loop-row-test.true, sym c.row-item.is) in
-    (λ e. state_shows self.app.now (plain_table pool self.rows.now) c.requires.rows.written c.args.at c.args.component c.args.test.now c.requires.known (plain_row pool row)
-    (row_among pool self.rows.now c.loop-row.row-index row c.loop-row-test.true c.row-item.is)
-    (row_with_number pool row c.args.at c.args.component c.args.test.now c.in_ok-passing.passing c.in_ok-passing.ensures known (c.shows.ensures.0 c.if-shows.true)),
-    λ h. refl)
+    let known : AreNumbersOf pool row.entry = c.requires.rows.known.each row (c.loop-row.row-index, c.loop-row-test.true, sym c.row-item.is) in (
+      λ e. state_shows self.app.now (plain_table pool self.rows.now) c.requires.rows.written c.args.at c.args.component c.args.test.now c.requires.known (plain_row pool row)
+          (row_among pool self.rows.now c.loop-row.row-index row c.loop-row-test.true c.row-item.is)
+          (row_with_number pool row c.args.at c.args.component c.args.test.now c.in_ok-passing.passing c.in_ok-passing.ensures known (c.shows.ensures.0 c.if-shows.true)),
+      λ h. refl,
+    )
 
 pub loop-row-preserved : goal.loop-row-preserved
 loop-row-preserved c =
@@ -53,7 +55,8 @@ loop-row-preserved c =
 
 pub returns : goal.returns
 returns c =
-    let self = c.args.self.now in
-    (λ e. absurd (cc),
-    λ h. absurd (none_shows self.app.now (plain_table self.pool.now self.rows.now) c.requires.rows.written c.args.at c.args.component c.args.test.now c.requires.known c.loop-row.row-index c.loop-row.invariant
-    (omega (arith, c.loop-row-test.false, length-map self.rows.now (plain_row self.pool.now))) h))
+    let self = c.args.self.now in (
+      λ e. absurd (cc),
+      λ h. absurd (none_shows self.app.now (plain_table self.pool.now self.rows.now) c.requires.rows.written c.args.at c.args.component c.args.test.now c.requires.known c.loop-row.row-index c.loop-row.invariant
+          (omega (arith, c.loop-row-test.false, length-map self.rows.now (plain_row self.pool.now))) h),
+    )

@@ -26,9 +26,10 @@ loop-task-preserved c = λ t lt h. elim (cases_lt t c.loop-task.task) [
 
 pub returns : goal.returns
 returns c =
-    let self = c.args.self.now in
-    (λ e. absurd (cc),
-    λ h. absurd (none_taken self.app.now (table_of self.pool.now self.rows.now) c.args.block c.args.resource (λ t lt. c.loop-task.invariant t (omega (arith, lt, c.loop-task-test.false, c.len-task-end.ensures))) h))
+    let self = c.args.self.now in (
+      λ e. absurd (cc),
+      λ h. absurd (none_taken self.app.now (table_of self.pool.now self.rows.now) c.args.block c.args.resource (λ t lt. c.loop-task.invariant t (omega (arith, lt, c.loop-task-test.false, c.len-task-end.ensures))) h),
+    )
 
 pub loop-task-init : goal.loop-task-init
 loop-task-init c = λ t lt. absurd (omega (arith, lt))
