@@ -1,20 +1,19 @@
 -- What the rows at a block say of its resource, and that it is reached.
-use Rattle.std.proofs.Common.{◌≡◌, ◌⊎◌, ℕ, ◌+◌, ◌<◌, Bool, true, false, ◌&&◌, not, List, length, get_or, IsTrue, refl, sym, ap, subst, ◌∙◌, inl, inr, arith, Some, None}
-use Rattle.std.specs.{Bool.{Decides}, List.{list_any}}
+use Rattle.std.proofs.Common.{◌≡◌, ℕ, ◌<◌, Bool, true, false, ◌&&◌, not, List, length, IsTrue, refl, sym, ap, subst, ◌∙◌, arith, Some}
+use Rattle.std.specs.{Bool.{Decides}}
 use Rattle.std.proofs.lemmas.{List.{get_or_default}, List.Folds.{Any-from_list_any, list_any_at}}
-use Rattle.osek_values.specs.{Numbers.{task_no, block_no}, declared.numbers.{TaskNo.{TaskNo}, BlockNo.{BlockNo}, ResNo.{ResNo}}}
+use Rattle.osek_values.specs.{Numbers.{block_no}, declared.numbers.{BlockNo.{BlockNo}, ResNo.{ResNo}}}
 use Rattle.osek_standard.specs.declared.{app.App.{App}, block.Kind.{Kind}, state.State.{State}, task_state.{TaskState.{TaskState}, Activity.{Activity}}}
 use Rattle.osek_standard.specs.declared.task_state.Activity.TheVariants as activity
 use Rattle.osek_standard.specs.declared.block.Kind.TheVariants as kind
 use Rattle.image_model.specs.CallNames as call
-use Rattle.osek_standard.specs.{Apps.{the_block}, TaskStates.{held, held_in, holds, suspended}, States.{task_state, is_taken}, Dispatch.{silent}, Points.{point_of, StandsAt}, Well.{Well}}
-use Rattle.abstract_state.specs.declared.value.{PartValue.{PartValue, TheVariants.{OfTask}}}
-use Rattle.abstract_state.specs.declared.value.Component.TheVariants as component
-use Rattle.abstract_state.specs.{Components.{component_at, component_count, abstract_of, part_of, value_in}, Tables.{Sets, In}}
+use Rattle.osek_standard.specs.{TaskStates.{held, held_in, holds, suspended}, States.{task_state, is_taken}}
+use Rattle.abstract_state.specs.declared.value.{PartValue.{PartValue}}
+use Rattle.abstract_state.specs.{Components.{abstract_of, part_of, value_in}, Tables.{Sets}}
 use Rattle.abstract_state.proofs.ComponentLaws.{task_at_its_number}
-use Rattle.flow_model.specs.{declared.test.Test.{Test}, Tests.{passes}, Values.{held_of}}
+use Rattle.flow_model.specs.{Tests.{passes}, Values.{held_of}}
 use Rattle.flow_model.specs.declared.test.Test.TheVariants as test
-use Rattle.flow_report.specs.{declared.finding.Finding.{Finding}, Findings.{Takes, IsReachedBlock, Denies, NoStateIs, Holds}, FindingOrder.{rank}, Reached.{ShowsState, IsTakenAt}}
+use Rattle.flow_report.specs.{declared.finding.Finding.{Finding}, Findings.{Takes, IsReachedBlock, Holds}, FindingOrder.{rank}, Reached.{ShowsState, IsTakenAt}}
 use Rattle.flow_report.specs.declared.finding.Finding.TheVariants as finding
 
 -- ---- a resource on a stack

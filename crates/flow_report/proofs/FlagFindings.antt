@@ -1,19 +1,19 @@
 -- What the values of a component say of suspended tasks, idle alarms and clear events.
-use Rattle.std.proofs.Common.{◌≡◌, ◌⊎◌, ℕ, ◌+◌, ◌<◌, ◌≤◌, ◌^◌, Bool, true, false, not, List, [], ◌∷◌, ◌++◌, length, IsTrue, refl, sym, ap, subst, ◌∙◌, inl, inr, arith, None}
+use Rattle.std.proofs.Common.{◌≡◌, ◌⊎◌, ℕ, ◌+◌, ◌<◌, ◌^◌, Bool, true, false, not, List, [], ◌∷◌, ◌++◌, length, IsTrue, refl, sym, ap, subst, ◌∙◌, inl, inr, arith, None}
 use Rattle.std.specs.{Prelude.{if◌then◌else◌}, Bool.{Decides}}
 use Rattle.std.proofs.{lemmas.{Bool.{cases_lt, cases_eq}, Nat.{pow_pos}}, Math.Nat.{pow-le-pow_right, pow-suc}}
-use Rattle.osek_values.specs.{Bits.{has_bit}, Numbers.{task_no, event_no, alarm_no, mask}, declared.{numbers.{TaskNo.{TaskNo}, AlarmNo.{AlarmNo}}, mask.Mask.{Mask}}}
+use Rattle.osek_values.specs.{Bits.{has_bit}, Numbers.{task_no, event_no, alarm_no, mask}, declared.{numbers.{TaskNo.{TaskNo}, AlarmNo.{AlarmNo}}}}
 use Rattle.osek_standard.specs.declared.{app.App.{App}, state.{State.{State}, AlarmState.{AlarmState}}, task_state.Activity.{Activity}}
 use Rattle.osek_standard.specs.declared.task_state.Activity.TheVariants as activity
 use Rattle.osek_standard.specs.declared.state.AlarmState.TheVariants as alarm
-use Rattle.osek_standard.specs.{Apps.{the_task}, States.{task_state, alarm_state}, Services.{share}, Dispatch.{silent}}
-use Rattle.abstract_state.specs.declared.value.{Val.TheVariants.{Suspended}, PartValue.{PartValue, TheVariants.{OfTask, OfEvent, OfAlarm}}, Component.{Component}}
+use Rattle.osek_standard.specs.{Apps.{the_task}, States.{task_state, alarm_state}, Dispatch.{silent}}
+use Rattle.abstract_state.specs.declared.value.{PartValue.{TheVariants.{OfTask, OfEvent, OfAlarm}}, Component.{Component}}
 use Rattle.abstract_state.specs.declared.value.Component.TheVariants as component
-use Rattle.abstract_state.specs.{Components.{component_at, component_count, component_number, abstract_of, part_of, value_in, is_armed, IsComponent}, Tables.{Sets, In}, ValueOrder.{same_part}}
+use Rattle.abstract_state.specs.{Components.{component_number, abstract_of, part_of, value_in, is_armed, IsComponent}, Tables.{Sets}}
 use Rattle.abstract_state.proofs.{Numbers.{component_here}, OrderLaws.{part_right, part_itself}}
 use Rattle.flow_model.specs.{declared.test.Test.{Test}, Tests.{passes}}
 use Rattle.flow_model.specs.declared.test.Test.TheVariants as test
-use Rattle.flow_report.specs.{declared.finding.Finding.{Finding}, Findings.{IsOf, IsOwnEvent, Denies, NoStateIs, Holds}, FindingOrder.{Rank, rank, rank_at}, Progress.{IsBefore, AreListed}, Reached.{ShowsState}}
+use Rattle.flow_report.specs.{declared.finding.Finding.{Finding}, Findings.{IsOwnEvent, Denies, NoStateIs, Holds}, FindingOrder.{Rank, rank, rank_at}, Progress.{IsBefore, AreListed}, Reached.{ShowsState}}
 use Rattle.flow_report.specs.declared.finding.Finding.TheVariants as finding
 use Rattle.flow_report.proofs.{HookBits.{meets_bit}, Listing.{listed_onward, listed_more}}
 

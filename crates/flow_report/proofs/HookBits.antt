@@ -1,5 +1,5 @@
 -- Sets of hooks, by their bits.
-use Rattle.std.proofs.Common.{◌≡◌, ◌⊎◌, ℕ, ◌^◌, Bool, true, false, ◌||◌, ◌&&◌, not, IsTrue, refl, sym, ap, ap₂, subst, ◌∙◌, inl, inr}
+use Rattle.std.proofs.Common.{◌≡◌, ℕ, ◌^◌, Bool, true, false, ◌||◌, ◌&&◌, not, refl, sym, ap, ap₂, ◌∙◌, inl, inr}
 use Rattle.std.specs.{Prelude.{◌==◌, bit_and, bit_or}, Int.Bits.{and_zero_l, and_zero_r}}
 use Rattle.std.proofs.lemmas.Bool.{cases_Bool, eq-eqb, eqb-true}
 use Rattle.bit_words.proofs.{BitCounts.{has_either, has_one, same_bits}, KeptWords.{has_both}}

@@ -1,25 +1,24 @@
 -- The hooks of a step are those that are due, by where it begins and what it shows.
 use Rattle.std.proofs.Common.{◌≡◌, ℕ, Bool, true, false, ◌||◌, ◌&&◌, not, nat_lt, nat_eq, ◌+◌, refl, sym, ap, ap₂, subst, ◌∙◌, Some, None}
-use Rattle.std.specs.{Prelude.{⊤, is_some, bit_and, bit_or, if◌then◌else◌}, declared.option.Option.{Option}}
-use Rattle.osek_values.specs.declared.{status.Ask.{Ask}, hooks.HookSet.{HookSet}, notes.Notes.{Notes}, event.Event.{Event, TheVariants.{Run, Irq, Tick}}}
+use Rattle.std.specs.{Prelude.{⊤, is_some, bit_or}, declared.option.Option.{Option}}
+use Rattle.osek_values.specs.declared.{status.Ask.{Ask}, hooks.HookSet.{HookSet}, event.Event.{Event, TheVariants.{Run, Irq, Tick}}}
 use Rattle.osek_values.specs.declared.status.Ask.TheVariants as ask
 use Rattle.osek_values.specs.declared.numbers.{TaskNo.{TaskNo}, BlockNo.{BlockNo}, ResNo.{ResNo}, SourceNo.{SourceNo}}
 use Rattle.osek_values.specs.Hooks.{hook_set, shutdown, error, pre_task, post_task, when}
-use Rattle.oil_system.specs.declared.objects.{Schedule.{Schedule, TheVariants.{Full, Non}}, Action.{Action}}
-use Rattle.oil_system.specs.declared.objects.Action.TheVariants as action
-use Rattle.osek_standard.specs.declared.{app.App.{App}, block.{Block.{Block}, Kind.{Kind}}, call.Call.{Call}, task_state.Place.{Place}, point.Point.{Point}}
+use Rattle.oil_system.specs.declared.objects.{Schedule.{Schedule, TheVariants.{Full, Non}}}
+use Rattle.osek_standard.specs.declared.{app.App.{App}, block.{Block.{Block}, Kind.{Kind}}, call.Call.{Call}, task_state.Place.{Place}}
 use Rattle.osek_standard.specs.declared.block.Kind.TheVariants as kind
 use Rattle.image_model.specs.CallNames as call
 use Rattle.osek_standard.specs.declared.state.{State.{State}, Processor.{Processor}, Caller.{Caller, TheVariants.{Nobody, Task, Routine}}}
 use Rattle.osek_standard.specs.declared.state.Processor.TheVariants as processor
 use Rattle.osek_standard.specs.declared.state.Source.TheVariants as source
-use Rattle.osek_standard.specs.{Apps.{the_block, the_task, the_alarm, is_extended, is_cycle, max_of}, TaskStates.{held, is_suspended}, States.{task_of, caller, here, task_state, alarm_state, is_taken, with_source, with_alarm}}
-use Rattle.osek_standard.specs.{Priority.{best, base_priority, ceiling, current_priority}, Well.{IsActive}, Arrivals.{arrival, entered}, Points.{point_at, point_of}}
-use Rattle.osek_standard.specs.Services.{Answer, acted, activate_task, cancel_alarm, chain_task, clear_event, due, expire, get_alarm, get_event, get_resource, get_resource_by, holds_some, is_due_at, is_full, is_idle, is_on_top, rearmed}
+use Rattle.osek_standard.specs.{Apps.{the_block, the_task, is_extended, is_cycle, max_of}, TaskStates.{held, is_suspended}, States.{task_of, caller, here, task_state, alarm_state, is_taken, with_source}}
+use Rattle.osek_standard.specs.{Priority.{base_priority, ceiling}, Well.{IsActive}, Arrivals.{arrival}, Points.{point_at, point_of}}
+use Rattle.osek_standard.specs.Services.{Answer, activate_task, cancel_alarm, chain_task, clear_event, due, expire, get_alarm, get_event, get_resource, get_resource_by, holds_some, is_due_at, is_full, is_idle, is_on_top}
 use Rattle.osek_standard.specs.Services.{release_resource, release_resource_by, schedule, set_abs_alarm, set_event, set_rel_alarm, share, terminate_task, time_left, unnoted, value_of, wait_event, waits_for}
-use Rattle.osek_standard.specs.Effects.{Effect, effect, effect_at, effect_by, is_error, is_schedule, wanted, noted, row, called, asked_by, asked_under, asks_as, end_task, given_back, goes_on_unless_left, asked_over, moved, moved_to, place_at, returned_by}
-use Rattle.osek_standard.specs.Dispatch.{Outcome, Keep, To, Stepped, outcome, outcome_by, outcome_of, outcome_hooks, is_left, preempted_by, concluded, instruction, silent, hooks_of}
-use Rattle.osek_standard.specs.{Kernel.{step, run_by, entered_or}, Outcomes.{Mark, Silent, Did, did, arrived_or, shown_by, shows}}
+use Rattle.osek_standard.specs.Effects.{Effect, effect, effect_at, is_error, is_schedule, wanted, noted, row, called, asked_by, asked_under, asks_as, end_task, given_back, goes_on_unless_left, asked_over, moved, moved_to, place_at, returned_by}
+use Rattle.osek_standard.specs.Dispatch.{Outcome, Keep, To, Stepped, outcome, outcome_by, outcome_of, outcome_hooks, is_left, preempted_by, instruction, silent, hooks_of}
+use Rattle.osek_standard.specs.{Kernel.{step, run_by, entered_or}, Outcomes.{Mark, Silent, did, arrived_or, shown_by, shows}}
 use Rattle.osek_standard.proofs.BoolLaws.{either_way}
 use Rattle.generic_kernel.proofs.EffectLaws.{effect_here}
 use Rattle.flow_report.specs.Noting.{is_shutdown, over_some, dispatch_hooks_at, shuts_down, due_hooks}

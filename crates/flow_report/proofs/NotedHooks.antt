@@ -1,16 +1,16 @@
 -- What is noted of hooks, in sets that are joined.
-use Rattle.std.proofs.Common.{◌≡◌, ◌⊎◌, ℕ, ◌+◌, ◌<◌, Bool, true, false, ◌||◌, List, [], ◌∷◌, ◌++◌, length, IsTrue, refl, sym, ap, ap₂, subst, ◌∙◌, inl, inr, arith}
+use Rattle.std.proofs.Common.{◌≡◌, ◌⊎◌, ℕ, ◌+◌, ◌<◌, ◌||◌, List, [], ◌∷◌, ◌++◌, IsTrue, sym, ap, ap₂, subst, ◌∙◌, inl, inr, arith}
 use Rattle.std.specs.{Prelude.{Contains, bit_or}, declared.option.Option.{Option}}
 use Rattle.std.proofs.lemmas.{Bool.{or_cases, or_left, or_right, cases_lt}, List.Elements.{Contains-append_left, Contains-append_right, Contains-append_cases, Contains-push, Contains-push_cases}}
 use Rattle.osek_values.specs.{Hooks.{hook_set}, Numbers.{mode_no}, declared.{hooks.HookSet.{HookSet}, status.Status.{Status}, numbers.ModeNo.{ModeNo}}}
 use Rattle.osek_standard.specs.{declared.{app.App.{App}, point.Point.{Point}}, TraceText.{has_hook}, Kernel.{start}, Effects.{wanted}}
 use Rattle.abstract_state.specs.declared.table.TableRow.{TableRow}
-use Rattle.flow_model.specs.{declared.case.Decision.{Decision}, Rules.{mark_by}, Scheduling.{outcome_of_decision}}
+use Rattle.flow_model.specs.{declared.case.Decision.{Decision}, Rules.{mark_by}}
 use Rattle.flow_exits.specs.declared.exit.Exit.{Exit}
 use Rattle.numbered_sets.specs.Pools.{Values}
 use Rattle.flow_rules.specs.{declared.group.ExitGroup.{ExitGroup}, Groups.{exits_of}}
 use Rattle.flow_check.{specs.Outcomes.{end_count}, proofs.ExitOutcomes.{alike_in_group, some_in_group, none_in_group}}
-use Rattle.flow_report.specs.{Findings.{IsHook}, Noting.{due_hooks, exit_hooks, NotesByExit, NotesAtStart, NotesInRow, NotesInRows, AreHooks}}
+use Rattle.flow_report.specs.{Noting.{due_hooks, NotesByExit, NotesAtStart, NotesInRow, NotesInRows, AreHooks}}
 use Rattle.flow_report.proofs.HookBits.{has_hook_of_both, has_no_hook}
 
 -- ---- sets that are joined

@@ -1,11 +1,11 @@
 -- The hooks of the steps from the states of a row are those of its exits, and those of a table are its rows'.
-use Rattle.std.proofs.Common.{◌≡◌, ◌⊎◌, ℕ, ◌+◌, ◌<◌, Bool, true, false, ◌&&◌, not, List, length, IsTrue, refl, sym, ap, ap₂, subst, ◌∙◌, inl, inr, arith}
-use Rattle.std.specs.{Prelude.{Contains, ◌==◌, if◌then◌else◌}, Bool.{Decides}}
-use Rattle.osek_values.specs.{Hooks.{hook_set, startup, shutdown, error, pre_task, post_task}, declared.{hooks.HookSet.{HookSet}, event.Event.{Event}}}
-use Rattle.osek_standard.specs.declared.{app.App.{App}, state.State.{State}, point.Point.{Point}}
-use Rattle.osek_standard.specs.{TraceText.{has_hook}, Effects.{wanted}, Kernel.{start, step}, Points.{point_of}, Outcomes.{Mark, Silent, Arrived, Did, shows}}
-use Rattle.abstract_state.specs.{declared.table.{TableRow.{TableRow}, PlainTable.{PlainTable}}, Tables.{Sets, In, sets_of}, Written.{IsWritten}}
-use Rattle.flow_exits.specs.{declared.exit.Exit.{Exit}, Exits.{exit_mark, CoverSteps, AreExact}}
+use Rattle.std.proofs.Common.{◌≡◌, ◌⊎◌, ℕ, ◌<◌, Bool, true, false, ◌&&◌, not, List, length, refl, sym, ap, ap₂, subst, ◌∙◌, inl, inr, arith}
+use Rattle.std.specs.{Prelude.{◌==◌, if◌then◌else◌}, Bool.{Decides}}
+use Rattle.osek_values.specs.{Hooks.{hook_set, startup, shutdown, error, pre_task, post_task}, declared.{hooks.HookSet.{HookSet}}}
+use Rattle.osek_standard.specs.declared.{app.App.{App}, point.Point.{Point}}
+use Rattle.osek_standard.specs.{TraceText.{has_hook}, Effects.{wanted}, Kernel.{step}, Outcomes.{Mark, Silent, Arrived, Did, shows}}
+use Rattle.abstract_state.specs.{declared.table.{TableRow.{TableRow}, PlainTable.{PlainTable}}, Tables.{Sets, sets_of}, Written.{IsWritten}}
+use Rattle.flow_exits.specs.{declared.exit.Exit.{Exit}, Exits.{CoverSteps, AreExact}}
 use Rattle.flow_check.proofs.{ExitOutcomes.{some_value}, TableRows.{row_in}}
 use Rattle.flow_report.specs.{declared.finding.Finding.{Finding}, Findings.{IsHook, NoStepIs, Holds}, FindingOrder.{rank, hook_place}}
 use Rattle.flow_report.specs.Noting.{due_hooks, exit_hooks, NotesByExit, NotesAtStart, NotesInRow, NotesInRows, NotesInTable, AreHooks}

@@ -1,5 +1,5 @@
 -- The numbers of the values that pass a test, and an entry that has one of them.
-use Rattle.std.proofs.Common.{◌≡◌, ℕ, ◌+◌, ◌<◌, ◌≤◌, Bool, true, false, List, [], ◌∷◌, length, map, get_or, IsTrue, refl, sym, ap, ◌∙◌, arith}
+use Rattle.std.proofs.Common.{◌≡◌, ℕ, ◌+◌, ◌<◌, ◌≤◌, true, false, List, [], ◌∷◌, length, get_or, IsTrue, refl, sym, ap, ◌∙◌, arith}
 use Rattle.std.specs.{Prelude.{Contains}, declared.option.Option.{Option}}
 use Rattle.osek_values.specs.declared.numbers.BlockNo.{BlockNo}
 use Rattle.std.proofs.lemmas.List.{get_or_default, length-map}
@@ -9,9 +9,9 @@ use Rattle.abstract_state.specs.declared.value.Domain.TheVariants as domain
 use Rattle.abstract_state.specs.{Components.{components, component_count}, Domains.{domain_of, domains_of}, Tables.{set_at, is_member}, Written.{IsRow}}
 use Rattle.flow_model.specs.{declared.test.Test.{Test}, Tests.{passes}}
 use Rattle.numbered_sets.specs.{declared.{numbered_entry.NumberedEntry.{NumberedEntry}, table.NumberedRow.{NumberedRow}, filter.Filter.{Filter}}, Filters.{IsFilter}}
-use Rattle.numbered_sets.specs.{Numbers.{Numbers, numbers, has_number, with_number, meets}, NumberedEntries.{numbers_at, number_domains}, Pools.{Values, values_at, pool_domains, IsNumberOf}, Views.{plain_set, plain_entry, AreNumbersOf}}
+use Rattle.numbered_sets.specs.{Numbers.{Numbers, numbers, has_number, with_number, meets}, NumberedEntries.{numbers_at}, Pools.{Values, values_at, pool_domains, IsNumberOf}, Views.{plain_entry, AreNumbersOf}}
 use Rattle.numbered_sets.specs.PlainTables.{plain_row, plain_rows, plain_table}
-use Rattle.numbered_sets.proofs.{PlainLaws.{has_value, member_of_plain, plain_set_at, value_with_number}, KnownNumbers.{no_bit_of_none, Found, found}, MeetLaws.{HaveCommon, common_of, meets_at}}
+use Rattle.numbered_sets.proofs.{PlainLaws.{member_of_plain, plain_set_at, value_with_number}, KnownNumbers.{no_bit_of_none, found}, MeetLaws.{common_of, meets_at}}
 use Rattle.numbered_sets.proofs.{SiftLaws.{filter_taken, filter_passed_over}, ViewLaws.{false_unless}, WrittenRows.{row_there, number_domains_of}}
 use Rattle.flow_check.specs.Rows.{AreRowsFrom}
 use Rattle.flow_report.specs.Reached.{ArePassing, IsThere, ShowsRow}

@@ -1,9 +1,9 @@
 -- The states of a written table, and the rows that have them.
-use Rattle.std.proofs.Common.{◌≡◌, ℕ, ◌<◌, Bool, true, false, length, IsTrue, refl, sym, ap, subst, inl, inr, arith, ◌⊎◌}
-use Rattle.std.specs.Prelude.{Contains, if◌then◌else◌, ◌==◌, ◌≤◌}
-use Rattle.std.proofs.lemmas.Bool.{cases_lt, eq-eqb, eqb-true}
-use Rattle.osek_standard.specs.{declared.{app.App.{App}, point.Point.{Point}, state.State.{State}}, Points.{point_of}, Well.{Well}}
-use Rattle.abstract_state.specs.declared.{value.PartValue.{PartValue, TheVariants.{OfAlarm}}, table.{TableRow.{TableRow}, PlainTable.{PlainTable}}}
+use Rattle.std.proofs.Common.{◌≡◌, ℕ, ◌<◌, Bool, true, false, IsTrue, refl, sym, ap, subst}
+use Rattle.std.specs.Prelude.{Contains, ◌==◌}
+use Rattle.std.proofs.lemmas.Bool.{eq-eqb, eqb-true}
+use Rattle.osek_standard.specs.{declared.{app.App.{App}, point.Point.{Point}, state.State.{State}}, Points.{point_of}}
+use Rattle.abstract_state.specs.declared.{value.PartValue.{PartValue}, table.{TableRow.{TableRow}, PlainTable.{PlainTable}}}
 use Rattle.abstract_state.specs.{Components.{component_count, abstract_of}, Concrete.{AreAllowed, state_of}, Tables.{In, set_at, is_member, sets_of}, Written.{IsWritten}}
 use Rattle.abstract_state.proofs.{ConcreteLaws.{state_has_parts, choice_allowed}, EqualityLaws.{written_entry}}
 use Rattle.flow_model.specs.Effects.{AreIn, IsAt}

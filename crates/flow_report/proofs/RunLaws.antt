@@ -1,5 +1,5 @@
 -- What a finding denies never comes along a run of states in a table.
-use Rattle.std.proofs.Common.{◌≡◌, ◌<◌, List, [], ◌∷◌, length, refl, sym, ap, subst, ◌∙◌}
+use Rattle.std.proofs.Common.{◌<◌, List, [], ◌∷◌, length, sym, subst}
 use Rattle.std.specs.{Prelude.{All}, List.{AllByRecursion}, declared.option.Option.{Option}}
 use Rattle.std.proofs.lemmas.List.Elements.{All-from_recursion}
 use Rattle.osek_values.specs.declared.{event.Event.{Event}, numbers.ModeNo.{ModeNo}}
@@ -7,7 +7,7 @@ use Rattle.osek_standard.specs.{declared.{app.App.{App}, state.State.{State}}, D
 use Rattle.image_model.specs.{declared.image.Image.{Image}, ImageTrace.{after, image_steps, image_run}}
 use Rattle.abstract_state.specs.{Tables.{Sets, In, Inductive}, Forms.{Fits}}
 use Rattle.abstract_state.proofs.ImageLaws.{fitting_step}
-use Rattle.flow_report.specs.{declared.finding.Finding.{Finding}, Findings.{Denies, HoldsOf, Holds}}
+use Rattle.flow_report.specs.{declared.finding.Finding.{Finding}, Findings.{Denies, HoldsOf}}
 use Rattle.flow_report.specs.declared.finding.Finding.TheVariants as finding
 
 module _ (app : App) (table : Sets) (ind : Inductive app table) where

@@ -1,13 +1,13 @@
 -- What rows show, in a loop over them, and what it says of states.
-use Rattle.std.proofs.Common.{◌≡◌, ◌⊎◌, ℕ, ◌+◌, ◌<◌, Bool, true, false, List, [], ◌∷◌, ◌++◌, length, map, get_or, take, IsTrue, refl, sym, ap, subst, ◌∙◌, inl, inr, arith, Some, None}
+use Rattle.std.proofs.Common.{◌≡◌, ℕ, ◌+◌, ◌<◌, List, length, get_or, sym, ap, subst, ◌∙◌, inl, inr, arith}
 use Rattle.std.specs.{Prelude.{Contains}, declared.option.Option.{Option}}
 use Rattle.std.proofs.lemmas.{Bool.{cases_lt}, List.{length-map, get_or-map}}
 use Rattle.osek_values.specs.declared.numbers.BlockNo.{BlockNo}
-use Rattle.osek_standard.specs.{declared.{app.App.{App}, point.Point.{Point}, state.State.{State}}, Points.{point_of, StandsAt}}
-use Rattle.abstract_state.specs.declared.{value.PartValue.{PartValue}, table.{TableRow.{TableRow}, PlainTable.{PlainTable}}}
-use Rattle.abstract_state.specs.{Components.{component_count, abstract_of}, Tables.{In, sets_of}, Written.{IsWritten}}
+use Rattle.osek_standard.specs.{declared.{app.App.{App}, point.Point.{Point}}, Points.{point_of, StandsAt}}
+use Rattle.abstract_state.specs.declared.{table.{TableRow.{TableRow}, PlainTable.{PlainTable}}}
+use Rattle.abstract_state.specs.{Components.{component_count, abstract_of}, Tables.{sets_of}, Written.{IsWritten}}
 use Rattle.flow_model.specs.{declared.test.Test.{Test}, Tests.{passes}}
-use Rattle.numbered_sets.specs.{declared.table.NumberedRow.{NumberedRow}, Pools.{Values}, PlainTables.{plain_row, plain_rows, plain_table}}
+use Rattle.numbered_sets.specs.{declared.table.NumberedRow.{NumberedRow}, Pools.{Values}, PlainTables.{plain_row, plain_rows}}
 use Rattle.flow_report.specs.{Reached.{IsThere, ShowsRow, ShowsRows, ShowsState}, Findings.{IsReachedBlock}}
 use Rattle.flow_report.proofs.RowStates.{row_of_state, some_state, state_with_value, is_the_value}
 

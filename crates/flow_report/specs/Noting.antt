@@ -1,6 +1,6 @@
 -- Which hooks the starts and the steps of a table note.
-use Rattle.std.specs.{Prelude.{◌≡◌, ◌⊎◌, ℕ, ◌<◌, Bool, true, false, bit_or, List, length, IsTrue, is_some, Some, None, Contains}, declared.option.Option.{Option}}
-use Rattle.osek_values.specs.declared.{event.Event.{Event}, hooks.HookSet.{HookSet}, numbers.ModeNo.{ModeNo}, numbers.TaskNo.{TaskNo}, numbers.BlockNo.{BlockNo}}
+use Rattle.std.specs.{Prelude.{ℕ, ◌<◌, Bool, true, false, bit_or, List, IsTrue, is_some, Contains}}
+use Rattle.osek_values.specs.declared.{event.Event.{Event}, hooks.HookSet.{HookSet}, numbers.ModeNo.{ModeNo}}
 use Rattle.osek_values.specs.Hooks.{shutdown, error, pre_task, post_task, when}
 use Rattle.osek_standard.specs.declared.{app.App.{App}, block.Kind.{Kind}, point.Point.{Point}, state.State.{State}}
 use Rattle.osek_standard.specs.declared.block.Kind.TheVariants as kind

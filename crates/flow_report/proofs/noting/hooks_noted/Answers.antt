@@ -1,4 +1,4 @@
-use Rattle.std.proofs.Common.{◌≡◌, ◌⊎◌, ℕ, length, inl, inr}
+use Rattle.std.proofs.Common.{◌⊎◌, ℕ, length, inl, inr}
 use Rattle.abstract_state.specs.Tables.{sets_of}
 use Rattle.flow_report.specs.Noting.{NotesAtStart, NotesInRows, NotesInTable}
 use Rattle.flow_report.proofs.{NotedHooks.{both_hooks}, NotedRows.{in_table, in_rows}}

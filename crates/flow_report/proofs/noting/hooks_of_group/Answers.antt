@@ -1,4 +1,4 @@
-use Rattle.std.proofs.Common.{◌≡◌, ◌∙◌, Option, false, true, refl, sym, ap, Some}
+use Rattle.std.proofs.Common.{◌∙◌, Option, sym, ap}
 use Rattle.std.{specs.Prelude.{bit_and}, proofs.lemmas.Bool.{OnTrue_at, OnFalse_at}}
 use Rattle.osek_values.specs.{Hooks.{hook_set}, declared.hooks.HookSet.{HookSet}}
 use Rattle.osek_standard.specs.Effects.{wanted}

@@ -1,5 +1,4 @@
 use Rattle.std.proofs.{Common.{◌∙◌, ◌+◌, List, subst, take}, lemmas.List.{take_all}}
-use Rattle.flow_exits.specs.declared.exit.Exit.{Exit}
 use Rattle.flow_rules.specs.{declared.group.ExitGroup.{ExitGroup}, Groups.{exits_of, all_exits}}
 use Rattle.flow_rules.proofs.LeavingPoints.{filled_numbers}
 use Rattle.numbered_sets.specs.PlainTables.{plain_row}

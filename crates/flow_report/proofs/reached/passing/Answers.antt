@@ -1,4 +1,4 @@
-use Rattle.std.proofs.Common.{◌≡◌, ◌+◌, ◌<◌, length, sym, subst, ◌∙◌, arith}
+use Rattle.std.proofs.Common.{◌+◌, ◌<◌, length, sym, subst, ◌∙◌, arith}
 use Rattle.numbered_sets.specs.{Filters.{IsFilter}, Numbers.{Numbers}}
 use Rattle.flow_report.proofs.PassingNumbers.{filter_of, one_taken, one_passed_over}
 use Rattle.numbered_sets.specs.Pools.{values_at}

@@ -1,6 +1,6 @@
 use Rattle.std.proofs.Common.{◌≡◌, ◌∙◌, ℕ, refl, sym, ap, subst, arith}
 use Rattle.std.proofs.lemmas.Bool.{eqb-true}
-use Rattle.osek_values.specs.{Hooks.{hook_set}, declared.hooks.HookSet.{HookSet}}
+use Rattle.osek_values.specs.{Hooks.{hook_set}}
 use Rattle.abstract_state.specs.Tables.{sets_of}
 use Rattle.flow_report.specs.{FindingOrder.{rank_at}, Progress.{AreListed}}
 use Rattle.flow_report.specs.declared.finding.Finding.TheVariants as finding

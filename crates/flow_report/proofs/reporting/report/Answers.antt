@@ -1,6 +1,6 @@
-use Rattle.std.proofs.Common.{◌≡◌, List, sym, subst}
+use Rattle.std.proofs.Common.{List, sym, subst}
 use Rattle.abstract_state.specs.Tables.{sets_of}
-use Rattle.numbered_sets.specs.{declared.table.NumberedRow.{NumberedRow}, PlainTables.{AreRowsFor}}
+use Rattle.numbered_sets.specs.{PlainTables.{AreRowsFor}}
 use Rattle.flow_report.specs.{declared.finding.Finding.{Finding}, FindingOrder.{rank_at}, Progress.{AreListed}, Reached.{table_of}}
 use Rattle.flow_report.proofs.{Listing.{none_listed, all_listed}, TableRows.{written_rows, by_table, by_rows}}
 use Rattle.flow_report.proofs.reporting.report.Goals as goal

@@ -1,4 +1,4 @@
-use Rattle.std.proofs.Common.{◌≡◌, ◌∙◌, ap, true}
+use Rattle.std.proofs.Common.{◌∙◌, ap, true}
 use Rattle.osek_standard.specs.declared.block.Block.{Block}
 use Rattle.flow_report.specs.{Findings.{Takes}, Reached.{table_of}}
 use Rattle.flow_report.proofs.BlockFindings.{free_answer}

@@ -1,8 +1,6 @@
-use Rattle.std.proofs.Common.{◌≡◌, ◌+◌, ◌<◌, ℕ, false, true, length, refl, sym, ap, subst, ◌∙◌, arith}
+use Rattle.std.proofs.Common.{◌≡◌, false, true, refl, sym, subst, ◌∙◌, arith}
 use Rattle.std.proofs.lemmas.List.{length-map}
-use Rattle.std.specs.Prelude.{Contains}
-use Rattle.abstract_state.specs.declared.table.TableRow.{TableRow}
-use Rattle.numbered_sets.specs.{Pools.{values_at}, Views.{AreNumbersOf}}
+use Rattle.numbered_sets.specs.{Views.{AreNumbersOf}}
 use Rattle.numbered_sets.specs.PlainTables.{plain_row, plain_rows, plain_table}
 use Rattle.flow_report.specs.Reached.{ShowsRow}
 use Rattle.flow_report.proofs.ShownRows.{row_among, row_at_place, of_none_more, state_shows, none_shows}

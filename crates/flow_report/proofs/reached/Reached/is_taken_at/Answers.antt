@@ -1,4 +1,4 @@
-use Rattle.std.proofs.Common.{◌≡◌, ◌+◌, ◌<◌, ℕ, false, true, refl, inl, inr, arith, Some, subst, sym, ◌∙◌}
+use Rattle.std.proofs.Common.{◌≡◌, ℕ, false, true, refl, inl, inr, arith, Some, subst, sym, ◌∙◌}
 use Rattle.std.proofs.lemmas.Bool.{cases_lt}
 use Rattle.flow_model.specs.declared.test.Test.TheVariants as test
 use Rattle.flow_report.specs.Reached.{ShowsState, table_of}

@@ -1,4 +1,4 @@
-use Rattle.std.proofs.Common.{◌≡◌, ℕ, true, None, subst, ◌∙◌, arith}
+use Rattle.std.proofs.Common.{ℕ, true, None, subst, ◌∙◌, arith}
 use Rattle.std.specs.Bool.{Decides}
 use Rattle.abstract_state.specs.declared.value.PartValue.TheVariants.{OfEvent}
 use Rattle.abstract_state.specs.declared.value.Component.TheVariants as component
