@@ -13,7 +13,7 @@ use Rattle.abstract_state.specs.{Components.{component_number, abstract_of, part
 use Rattle.abstract_state.proofs.{Numbers.{component_here}, OrderLaws.{part_right, part_itself}}
 use Rattle.flow_model.specs.{declared.test.Test.{Test}, Tests.{passes}}
 use Rattle.flow_model.specs.declared.test.Test.TheVariants as test
-use Rattle.flow_report.specs.{declared.finding.Finding.{Finding}, Findings.{IsOwnEvent, Denies, NoStateIs, Holds}, FindingOrder.{Rank, rank, rank_at}, Progress.{IsBefore, AreListed}, Reached.{ShowsState}}
+use Rattle.flow_report.specs.{declared.finding.Finding.{Finding}, Findings.{IsOwnEvent, Denies, NoStateIs, Holds}, FindingOrder.{Rank, rank, rank_at, IsBefore}, Progress.{AreListed}, Reached.{ShowsState}}
 use Rattle.flow_report.specs.declared.finding.Finding.TheVariants as finding
 use Rattle.flow_report.proofs.{HookBits.{meets_bit}, Listing.{listed_onward, listed_more}}
 

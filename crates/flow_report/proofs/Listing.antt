@@ -1,17 +1,17 @@
 -- The findings that are listed so far, and one more.
-use Rattle.std.proofs.Common.{◌≡◌, ◌⊎◌, ℕ, ◌+◌, ◌<◌, Bool, true, false, List, [], ◌∷◌, ◌++◌, refl, sym, subst, inl, inr, arith}
+use Rattle.std.proofs.Common.{◌≡◌, ◌⊎◌, ℕ, ◌+◌, ◌<◌, Bool, true, false, List, [], ◌∷◌, ◌++◌, get_or, refl, sym, subst, inl, inr, arith}
 use Rattle.std.specs.{Prelude.{Contains, ◌↔◌, if◌then◌else◌}, Bool.{Decides}}
-use Rattle.std.proofs.lemmas.List.Elements.{Contains-push, Contains-push_cases, Contains-append_left}
+use Rattle.std.proofs.lemmas.List.{Elements.{Contains-push, Contains-push_cases, Contains-append_left, Contains-get_or}, Quantifiers.{all_pairs_push}}
 use Rattle.osek_standard.specs.declared.app.App.{App}
 use Rattle.abstract_state.specs.Tables.{Sets}
-use Rattle.flow_report.specs.{declared.finding.Finding.{Finding}, Findings.{Holds}, FindingOrder.{Rank, rank, rank_at, finding_order}, Progress.{IsBefore, AreListed}}
+use Rattle.flow_report.specs.{declared.finding.Finding.{Finding}, Findings.{Holds}, FindingOrder.{Rank, rank, rank_at, IsBefore}, Progress.{AreListed}}
 use Rattle.flow_report.specs.declared.finding.Finding.TheVariants as finding
-use Rattle.flow_report.proofs.OrderLaws.{before_onward, before_less, none_sorted, sorted_push, next_number, next_kind}
+use Rattle.flow_report.proofs.OrderLaws.{before_onward, next_number, next_kind}
 
 module _ (app : App) (table : Sets) where
   pub none_listed : AreListed app table (rank_at 0 0 0) []
   none_listed = record {
-    ascending = none_sorted finding_order;
+    ascending = λ i j d lt below. absurd (omega (arith, below));
     each = λ f m. absurd (omega (arith, m.1));
     whole = λ f h b. absurd (never_before (rank f) b);
   }
@@ -32,7 +32,7 @@ module _ (app : App) (table : Sets) where
   listed_by : (r s : Rank) (fs : List Finding) (f : Finding) (holds : Bool) → AreListed app table r fs → Decides holds (Holds app table f) → rank f ≡ r → IsBefore r s
       → ((g : Finding) → Holds app table g → IsBefore (rank g) s → IsBefore (rank g) r ⊎ (g ≡ f)) → AreListed app table s (if holds then fs ++ f ∷ [] else fs)
   listed_by r s fs f true l d is up next = record {
-    ascending = sorted_push finding_order fs f l.ascending (λ g m. before_less (rank g) (rank f) (subst (IsBefore (rank g)) (sym is) (l.each g m).1));
+    ascending = all_pairs_push (λ (x y : Finding). IsBefore (rank x) (rank y)) fs f l.ascending (λ k d lt. subst (IsBefore (rank (get_or fs k d))) (sym is) (l.each (get_or fs k d) (Contains-get_or fs k d lt)).1);
     each = λ g m. elim (Contains-push_cases fs f g m) [
       | inl old ↦ ((l.each g old).0, before_onward (rank g) r s (l.each g old).1 up)
       | inr same ↦ (subst (Holds app table) same (d.0 refl), subst (λ (h : Finding). IsBefore (rank h) s) same (subst (λ (q : Rank). IsBefore q s) (sym is) up))

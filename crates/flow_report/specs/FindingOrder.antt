@@ -1,6 +1,5 @@
 -- The order of findings: by kind, and then by number.
-use Rattle.std.specs.{Prelude.{ℕ, ◌==◌, List, [], ◌∷◌, if◌then◌else◌}, Cmp.Lexicographic.{slice_cmp}, List.Sorted.{IsStrictlySortedBy}, Ordering.{nat_cmp}}
-use Rattle.std.specs.declared.cmp.Ordering.{Ordering}
+use Rattle.std.specs.{Prelude.{◌≡◌, ◌⊎◌, ℕ, ◌==◌, ◌<◌, List, if◌then◌else◌}, List.{AllPairs}}
 use Rattle.osek_values.specs.Hooks.{startup, shutdown, error, post_task}
 use Rattle.flow_report.specs.declared.finding.Finding.{Finding}
 use Rattle.flow_report.specs.declared.finding.Finding.TheVariants as finding
@@ -26,13 +25,10 @@ rank (finding.Silent h) = rank_at 3 (hook_place h.0) 0
 rank (finding.Free b) = rank_at 4 b.0 0
 rank (finding.Dead b) = rank_at 5 b.0 0
 
-abbrev pub rank_fields : Rank → List ℕ
-rank_fields r = r.kind ∷ r.number ∷ r.event ∷ []
+-- it stands before the other
+abbrev pub IsBefore : Rank → Rank → Type 0
+IsBefore r s = (r.kind < s.kind) ⊎ ((r.kind ≡ s.kind) × ((r.number < s.number) ⊎ ((r.number ≡ s.number) × (r.event < s.event))))
 
--- How a finding stands to another.
-abbrev pub finding_order : Finding → Finding → Ordering
-finding_order f g = slice_cmp nat_cmp (rank_fields (rank f)) (rank_fields (rank g))
-
--- Each finding is before those after it.
-abbrev pub IsAscending : List Finding → Type 0
-IsAscending = IsStrictlySortedBy finding_order
+-- by their kinds and then by number, none twice
+abbrev pub AreAscending : List Finding → Type 0
+AreAscending findings = AllPairs (λ (f g : Finding). IsBefore (rank f) (rank g)) findings

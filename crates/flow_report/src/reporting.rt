@@ -2,7 +2,7 @@
 ghost use Rattle.std.specs.Prelude.{◌≡◌, ◌↔◌, ◌<◌, ◌&&◌, ◌==◌, not, Contains, IfOk, OnOk};
 ghost use Rattle.abstract_state.specs.{Tables.{sets_of}, Written.{IsWritten}};
 ghost use Rattle.osek_standard.specs.TraceText.{has_hook as has_hook_of};
-ghost use Rattle.flow_report.specs.{Findings.{IsHook, Holds}, FindingOrder.{IsAscending, hook_place, rank_at}, Progress.{AreListed}};
+ghost use Rattle.flow_report.specs.{Findings.{IsHook, Holds}, FindingOrder.{AreAscending, hook_place, rank_at}, Progress.{AreListed}};
 ghost use Rattle.flow_report.specs.declared.finding.Finding.{Finding};
 
 use crate::finding::Finding;
@@ -18,7 +18,7 @@ use std::alloc::Global;
 pub fn report(alloc: Global, app: &App, table: &Table) -> Result<Vec<Finding>, Memory>
     requires { IsWritten app.now table.now }
     ensures exact { IfOk result (λ findings. (f : Finding) → Contains findings.items f ↔ Holds app.now (sets_of table.now) f) }
-    ensures order { IfOk result (λ findings. IsAscending findings.items) }
+    ensures order { IfOk result (λ findings. AreAscending findings.items) }
 {
     let mut findings = Vec::new(alloc);
     let numbered = table.numbered_rows(alloc)?;
