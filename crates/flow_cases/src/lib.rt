@@ -13,6 +13,8 @@ mod point_tables;
 #[cfg(test)]
 mod printed_lines;
 #[cfg(test)]
+mod reports;
+#[cfg(test)]
 mod rules_at_points;
 #[cfg(test)]
 mod table_bytes;

@@ -1,0 +1,13 @@
+mod OrderLaws
+mod Listing
+mod RowStates
+mod PassingNumbers
+mod ShownRows
+mod FlagFindings
+mod BlockFindings
+mod HookBits
+mod HookLaws
+mod NotedHooks
+mod NotedRows
+mod TableRows
+mod RunLaws

@@ -1,0 +1,5 @@
+pub mod Findings
+pub mod FindingOrder
+pub mod Progress
+pub mod Reached
+pub mod Noting

@@ -1,0 +1,171 @@
+//! The hooks that run.
+ghost use Rattle.std.specs.{Prelude.{◌≡◌, ◌⊎◌, ◌<◌, List, length, IfOk, OnOk}, Bool.{OnTrue, OnFalse}};
+ghost use Rattle.osek_values.specs.Hooks.{hook_set};
+ghost use Rattle.osek_standard.specs.{Points.{IsPoint}, Effects.{is_error as is_error_of}, Outcomes.{Did}};
+ghost use Rattle.abstract_state.specs.{Tables.{sets_of}, Written.{IsWritten}};
+ghost use Rattle.flow_model.specs.Scheduling.{outcome_of_decision};
+ghost use Rattle.numbered_sets.specs.{Pools.{Values, IsLonger}, Views.{AreNumbersOf}, PlainTables.{plain_row}};
+ghost use Rattle.flow_rules.specs.{Levels.{AreLevels}, Rows.{IsProperRow}, Groups.{exits_of}};
+ghost use Rattle.flow_check.specs.Outcomes.{end_count};
+ghost use Rattle.flow_report.specs.Noting.{AreHooks, NotesAtStart, NotesInRow, NotesInRows, NotesInTable, NotesByExit, due_hooks};
+ghost use Rattle.flow_report.specs.Noting.{shuts_down as shuts_down_at, over_some as over_some_at, dispatch_hooks_at};
+
+use abstract_state::Point;
+use flow_exits::laws::steps_end_at_exits;
+use flow_model::Decision;
+use flow_rules::{Ends, ExitGroup, Levels, exit_groups};
+use generic_kernel::start;
+use numbered_sets::{NumberedRow, Pool, Table};
+use osek_standard::{App, Call, Kind};
+use osek_values::{HookSet, Memory, ModeNo, Status};
+use std::alloc::Global;
+
+/// The hooks that the start in some mode notes, or some step from a state in a table.
+pub fn hooks_noted(alloc: Global, app: &App, table: &Table) -> Result<HookSet, Memory>
+    requires { IsWritten app.now table.now }
+    ensures { IfOk result (AreHooks (λ h. NotesAtStart app.now h (length app.now.modes) ⊎ NotesInTable app.now h (sets_of table.now))) }
+{
+    let at_start = hooks_of_starts(alloc, app)?;
+    let of_steps = hooks_of_rows(alloc, app, table)?;
+    Ok(at_start.with(of_steps))
+}
+
+// the hooks of the starts
+fn hooks_of_starts(alloc: Global, app: &App) -> Result<HookSet, Memory>
+    ensures { IfOk result (AreHooks (λ h. NotesAtStart app.now h (length app.now.modes))) }
+{
+    let mut hooks = HookSet::none();
+    for mode in 0..app.modes.len() {
+        let (_state, notes) = start(alloc, app, ModeNo(mode as u8))?;
+        hooks = hooks.with(notes.hooks);
+    }
+    Ok(hooks)
+}
+
+// the hooks of the steps from the states of a table
+fn hooks_of_rows(alloc: Global, app: &App, table: &Table) -> Result<HookSet, Memory>
+    requires { IsWritten app.now table.now }
+    ensures { IfOk result (AreHooks (λ h. NotesInRows app.now h table.now.rows)) }
+{
+    let mut hooks = HookSet::none();
+    let numbered = table.numbered_rows(alloc)?;
+    let rows = numbered.rows;
+    let mut pool = numbered.pool;
+    if rows.len() == 0 {
+        return Ok(hooks);
+    }
+    let mut levels = Levels::new(alloc, app, &pool)?;
+    for row in rows.as_slice() {
+        let of_row = hooks_of_row(alloc, app, row, &mut pool, &mut levels)?;
+        hooks = hooks.with(of_row);
+    }
+    Ok(hooks)
+}
+
+// the hooks of the steps from the states of a row
+fn hooks_of_row(
+    alloc: Global,
+    app: &App,
+    row: &NumberedRow,
+    pool: &mut Pool,
+    levels: &mut Levels,
+) -> Result<HookSet, Memory>
+    requires numbers { AreNumbersOf pool.old row.now.entry }
+    requires proper { IsProperRow app.now (plain_row pool.old row.now) }
+    requires levels { AreLevels app.now pool.old levels.old }
+    ensures pool { IsLonger pool.old pool.new }
+    ensures levels { OnOk result (AreLevels app.now pool.new levels.new) }
+    ensures hooks { IfOk result (AreHooks (λ h. NotesInRow app.now h (plain_row pool.old row.now))) }
+{
+    steps_end_at_exits();
+    let groups = exit_groups(alloc, app, row.point, &row.entry, pool, levels)?;
+    let mut hooks = HookSet::none();
+    for group in groups.as_slice() {
+        hooks = hooks.with(hooks_of_group(app, row.point, group));
+    }
+    Ok(hooks)
+}
+
+// the hooks of the exits of a group, which all note the same
+fn hooks_of_group(app: &App, point: Point, group: &ExitGroup) -> HookSet
+    requires { IsPoint app.now point }
+    ensures { (pool : List Values) → AreHooks (NotesByExit app.now point (exits_of pool group.now)) result }
+{
+    if !has_exit(group) {
+        return HookSet::none();
+    }
+    match group.decision {
+        None => HookSet::none(),
+        Some(decision) => app
+            .hooks
+            .among(hooks_due(app, point, decision, group.status)),
+    }
+}
+
+// whether a group has an exit
+fn has_exit(group: &ExitGroup) -> bool
+    ensures some { OnTrue result (0 < end_count group.now.ends) }
+    ensures none { OnFalse result (end_count group.now.ends ≡ 0) }
+{
+    match &group.ends {
+        Ends::At(points) => points.len() > 0,
+        Ends::With { ends, .. } => ends.len() > 0,
+    }
+}
+
+// the hooks that are due at an instruction
+fn hooks_due(app: &App, point: Point, decision: Decision, status: Option<Status>) -> HookSet
+    requires { IsPoint app.now point }
+    ensures { result ≡ hook_set (due_hooks app.now point (Did (outcome_of_decision decision) status)) }
+{
+    let error = HookSet::ERROR.when(is_error(status));
+    let shutdown = HookSet::SHUTDOWN.when(shuts_down(app, point));
+    error
+        .with(shutdown)
+        .with(hooks_of_dispatch(point, decision))
+}
+
+// whether a status is an error
+fn is_error(status: Option<Status>) -> bool
+    ensures { result ≡ is_error_of status }
+{
+    match status {
+        None | Some(Status::Ok) => false,
+        Some(_) => true,
+    }
+}
+
+// whether the instruction at a point is ShutdownOS
+fn shuts_down(app: &App, point: Point) -> bool
+    requires { IsPoint app.now point }
+    ensures { result ≡ shuts_down_at app.now point }
+{
+    match point {
+        Point::Halted | Point::Idle => false,
+        Point::Task(block) | Point::Routine { block, .. } => {
+            matches!(app.block(block).kind, Kind::Call(Call::ShutdownOs))
+        }
+    }
+}
+
+// a task had the processor, or was interrupted
+fn over_some(point: Point) -> bool
+    ensures { result ≡ over_some_at point }
+{
+    match point {
+        Point::Halted | Point::Idle | Point::Routine { over: None, .. } => false,
+        Point::Task(_) | Point::Routine { over: Some(_), .. } => true,
+    }
+}
+
+fn hooks_of_dispatch(point: Point, decision: Decision) -> HookSet
+    ensures { result ≡ hook_set (dispatch_hooks_at point (outcome_of_decision decision)) }
+{
+    match decision {
+        Decision::Keep => HookSet::none(),
+        Decision::To(task) => {
+            let post_task = HookSet::POST_TASK.when(over_some(point));
+            post_task.with(HookSet::PRE_TASK.when(task.is_some()))
+        }
+    }
+}
