@@ -1,8 +1,10 @@
 //! Commands whose calls on the shelf, on out and on err fail: each stops with the status and the text of the call that
 //! failed, and leaves a prefix of what it would have written.
-use crate::gen_rows::GEN_ONE;
-use crate::rows::ACTIVATION_IMAGE;
-use crate::stored::{CODE, EVENTS, IMAGE, INFO, OIL, SHOW, TRACE, UPGRADED_IMAGE};
+use crate::certificate_rows::TABLE;
+use crate::failing_cases::{
+    BUILD, CHECKS, Case, GENERATES, INFORMS, REPLAY, SHOWS, TRACES, Turn, UPGRADES,
+};
+use crate::stored::{CODE, EVENTS, IMAGE, OIL};
 use commands::osekfit;
 use osek_io::{MemShelf, MemSink};
 use osek_values::Memory;
@@ -22,135 +24,6 @@ struct Fault {
     side: Side,
     call: u64,
 }
-
-/// Calls on the shelf, one after the other, for one file: what a fault of each of them makes of the run.
-#[derive(Clone, Copy)]
-struct Turn {
-    status: u8,
-    told: &'static str,
-    /// The bytes that the calls move: in one call, or in as many as they are where each moves one.
-    moved: &'static [u8],
-    /// How many calls besides move none: the one that finds a file's end, `create`, the one that judges an event
-    /// text's length.
-    others: u64,
-}
-
-/// A command over the files, and what it does where no call fails.
-#[derive(Clone, Copy)]
-struct Case {
-    words: &'static [&'static str],
-    turns: &'static [Turn],
-    text: &'static str,
-    /// In how many calls it writes the text: in one, but for a trace, which comes before each read of events.
-    puts: u64,
-    /// The image that it stores in `x`, in the last of its turns.
-    stored: Option<&'static [u8]>,
-}
-
-const READS_OIL: Turn = Turn {
-    status: 5,
-    told: "a.oil: read\n",
-    moved: OIL,
-    others: 1,
-};
-
-const READS_CODE: Turn = Turn {
-    status: 5,
-    told: "a.c: read\n",
-    moved: CODE,
-    others: 1,
-};
-
-const READS_IMAGE: Turn = Turn {
-    status: 5,
-    told: "i: read\n",
-    moved: IMAGE,
-    others: 1,
-};
-
-const READS_EVENTS: Turn = Turn {
-    status: 5,
-    told: "e: read\n",
-    moved: EVENTS,
-    others: 2,
-};
-
-const CREATES_IMAGE: Turn = Turn {
-    status: 6,
-    told: "x: write\n",
-    moved: b"",
-    others: 1,
-};
-
-const ADDS_IMAGE: Turn = Turn {
-    status: 6,
-    told: "x: write\n",
-    moved: ACTIVATION_IMAGE,
-    others: 0,
-};
-
-const ADDS_UPGRADED: Turn = Turn {
-    status: 6,
-    told: "x: write\n",
-    moved: UPGRADED_IMAGE,
-    others: 0,
-};
-
-const BUILD: Case = Case {
-    words: &["osekfit", "build", "a.oil", "a.c", "x"],
-    turns: &[READS_OIL, READS_CODE, CREATES_IMAGE, ADDS_IMAGE],
-    text: "",
-    puts: 0,
-    stored: Some(ACTIVATION_IMAGE),
-};
-
-const UPGRADES: Case = Case {
-    words: &["osekfit", "upgrade", "i", "x"],
-    turns: &[READS_IMAGE, CREATES_IMAGE, ADDS_UPGRADED],
-    text: "",
-    puts: 0,
-    stored: Some(UPGRADED_IMAGE),
-};
-
-const REPLAY: Case = Case {
-    words: &["osekfit", "replay", "i", "OSDEFAULTAPPMODE", "e"],
-    turns: &[READS_IMAGE, READS_EVENTS],
-    text: TRACE,
-    puts: 2,
-    stored: None,
-};
-
-const TRACES: Case = Case {
-    words: &["osekfit", "trace", "a.oil", "a.c", "OSDEFAULTAPPMODE", "e"],
-    turns: &[READS_OIL, READS_CODE, READS_EVENTS],
-    text: TRACE,
-    puts: 2,
-    stored: None,
-};
-
-const SHOWS: Case = Case {
-    words: &["osekfit", "show", "a.oil", "a.c"],
-    turns: &[READS_OIL, READS_CODE],
-    text: SHOW,
-    puts: 1,
-    stored: None,
-};
-
-const INFORMS: Case = Case {
-    words: &["osekfit", "info", "i"],
-    turns: &[READS_IMAGE],
-    text: INFO,
-    puts: 1,
-    stored: None,
-};
-
-const GENERATES: Case = Case {
-    words: &["osekfit", "gen", "1", "1"],
-    turns: &[],
-    text: GEN_ONE,
-    puts: 1,
-    stored: None,
-};
 
 /// How a case is run: what `x` holds before, and whether each call moves one byte at most.
 #[derive(Clone, Copy)]
@@ -318,7 +191,13 @@ fn fails_of(alloc: Global, faults: &[Fault], side: Side) -> Result<Vec<u64>, Mem
     Ok(calls)
 }
 
-const FILES: [(&str, &[u8]); 4] = [("a.oil", OIL), ("a.c", CODE), ("i", IMAGE), ("e", EVENTS)];
+const FILES: [(&str, &[u8]); 5] = [
+    ("a.oil", OIL),
+    ("a.c", CODE),
+    ("i", IMAGE),
+    ("e", EVENTS),
+    ("t", TABLE),
+];
 
 /// Room for an image, and for what a run writes.
 const ROOM: usize = 1_000;
@@ -449,7 +328,7 @@ fn calls_that_fail_stop_upgrade(rt: HostRuntime) {
 
 #[test]
 fn calls_that_fail_stop_what_prints(rt: HostRuntime) {
-    for case in &[REPLAY, TRACES, SHOWS, INFORMS, GENERATES] {
+    for case in &[REPLAY, TRACES, SHOWS, INFORMS, GENERATES, CHECKS] {
         assert_eq!(rt;
             first_wrong_two(rt.alloc(), case, None),
             Ok(None),
@@ -504,4 +383,9 @@ fn bytes_that_fail_stop_what_tells_of_forms(rt: HostRuntime) {
 #[test]
 fn bytes_that_fail_stop_gen(rt: HostRuntime) {
     assert_eq!(rt; first_wrong_byte(rt.alloc(), &GENERATES, None), Ok(None));
+}
+
+#[test]
+fn bytes_that_fail_stop_check(rt: HostRuntime) {
+    assert_eq!(rt; first_wrong_byte(rt.alloc(), &CHECKS, None), Ok(None));
 }

@@ -1,4 +1,9 @@
 //! Rows whose texts are long: at the limits of the profile and beyond them.
+use crate::acting::{LONG_ROOM, Wanted, gives, plays, put_files, put_places};
+use osek_io::MemShelf;
+use osek_values::Memory;
+use std::alloc::Global;
+use std::fmt::Write;
 
 /// A text of repeated parts.
 #[derive(Clone, Copy)]
@@ -108,3 +113,97 @@ pub const LONG_ROWS: [LongRow; 6] = [
         err: "a.oil:1: L4\n",
     },
 ];
+
+fn text_of(alloc: Global, text: &Repeated) -> Result<Vec<u8>, Memory> {
+    let mut bytes = Vec::from_slice(alloc, text.prefix.as_bytes())?;
+    for _ in 0..text.times {
+        bytes.extend_from_slice(text.part.as_bytes())?;
+    }
+    bytes.extend_from_slice(text.back.as_bytes())?;
+    Ok(bytes)
+}
+
+/// The two texts, and a place for a long image.
+fn put_texts(shelf: &mut MemShelf, oil: &[u8], code: &[u8]) -> Result<(), Memory> {
+    shelf.set("a.oil", Some(oil), 0)?;
+    shelf.set("a.c", Some(code), 0)?;
+    shelf.set("x", None, LONG_ROOM)
+}
+
+/// Whether a `build` of the two texts does what is wanted.
+fn build_gives(alloc: Global, oil: &[u8], code: &[u8], wanted: Wanted) -> Result<bool, Memory> {
+    let mut shelf = MemShelf::new(alloc, Vec::new(alloc));
+    put_texts(&mut shelf, oil, code)?;
+    gives(alloc, &mut shelf, &["build", "a.oil", "a.c", "x"], wanted)
+}
+
+fn long_row_holds(alloc: Global, row: &LongRow) -> Result<bool, Memory> {
+    let oil = text_of(alloc, &row.oil)?;
+    let code = text_of(alloc, &row.code)?;
+    build_gives(alloc, &oil, &code, Wanted::Exactly(row.status, "", row.err))
+}
+
+fn first_long_wrong(alloc: Global, rows: &[LongRow]) -> Result<&'static str, Memory> {
+    for row in rows {
+        if !long_row_holds(alloc, row)? {
+            return Ok(row.name);
+        }
+    }
+    Ok("")
+}
+
+#[test]
+fn the_long_rows(rt: HostRuntime) {
+    assert_eq!(rt; first_long_wrong(rt.alloc(), &LONG_ROWS), Ok(""));
+}
+
+/// A task that loops for ever.
+const LOOP: [(&str, &str); 2] = [
+    (
+        "a.oil",
+        "CPU c { OS os; TASK T1 { PRIORITY = 1; AUTOSTART = TRUE; }; };",
+    ),
+    ("a.c", "TASK(T1) { while (1) { } }\n"),
+];
+
+/// The events of a thousand runs.
+const RUNS: Repeated = Repeated {
+    prefix: "",
+    part: "run 0\n",
+    times: 1_000,
+    back: "",
+};
+
+/// Their trace: the start, and a line for each run.
+fn trace_of_runs(alloc: Global) -> Result<String, Memory> {
+    let mut text = String::new(alloc);
+    for number in 0..=RUNS.times {
+        writeln!(text, "{number} T1 T1=R")?;
+    }
+    Ok(text)
+}
+
+/// Whether the loop gives this trace over events.
+fn loop_plays(alloc: Global, events: &[u8], trace: &str) -> Result<bool, Memory> {
+    let mut shelf = MemShelf::new(alloc, Vec::new(alloc));
+    put_files(&mut shelf, &LOOP)?;
+    put_places(&mut shelf)?;
+    shelf.set("e", Some(events), 0)?;
+    plays(
+        alloc,
+        &mut shelf,
+        "OSDEFAULTAPPMODE",
+        Wanted::Exactly(0, trace, ""),
+    )
+}
+
+fn loops(alloc: Global) -> Result<bool, Memory> {
+    let events = text_of(alloc, &RUNS)?;
+    let trace = trace_of_runs(alloc)?;
+    loop_plays(alloc, &events, &trace)
+}
+
+#[test]
+fn a_loop_for_ever(rt: HostRuntime) {
+    assert_eq!(rt; loops(rt.alloc()), Ok(true));
+}
