@@ -2,7 +2,7 @@
 //! failed, and leaves a prefix of what it would have written.
 use crate::certificate_rows::TABLE;
 use crate::failing_cases::{
-    BUILD, CHECKS, Case, GENERATES, INFORMS, REPLAY, SHOWS, TRACES, Turn, UPGRADES,
+    BUILD, CERTIFIES, CHECKS, Case, GENERATES, INFORMS, REPLAY, SHOWS, TRACES, Turn, UPGRADES,
 };
 use crate::stored::{CODE, EVENTS, IMAGE, OIL};
 use commands::osekfit;
@@ -25,7 +25,7 @@ struct Fault {
     call: u64,
 }
 
-/// How a case is run: what `x` holds before, and whether each call moves one byte at most.
+/// How a case is run: what `x` and `y` hold before, and whether each call moves one byte at most.
 #[derive(Clone, Copy)]
 struct Setting {
     before: Option<&'static [u8]>,
@@ -41,11 +41,22 @@ struct Seen<'a> {
     /// Whether `x` is there, and its bytes.
     is_stored: bool,
     image: &'a [u8],
+    /// The same of `y`.
+    has_table: bool,
+    table: &'a [u8],
 }
 
 fn image_in<'a>(seen: &Seen<'a>) -> Option<&'a [u8]> {
     if seen.is_stored {
         Some(seen.image)
+    } else {
+        None
+    }
+}
+
+fn table_in<'a>(seen: &Seen<'a>) -> Option<&'a [u8]> {
+    if seen.has_table {
+        Some(seen.table)
     } else {
         None
     }
@@ -133,13 +144,20 @@ fn stopped(case: &Case, faults: &[Fault], by_bytes: bool, seen: &Seen) -> Option
     found
 }
 
-/// Whether `x` is as it was, or holds a prefix of the image.
-fn is_left(case: &Case, before: Option<&[u8]>, image: Option<&[u8]>) -> bool {
-    let begun = match (case.stored, image) {
+/// Whether a file is as it was, or holds a prefix of what is stored there.
+fn is_left(stored: Option<&[u8]>, before: Option<&[u8]>, file: Option<&[u8]>) -> bool {
+    let begun = match (stored, file) {
         (Some(stored), Some(bytes)) => stored.starts_with(bytes),
         _ => false,
     };
-    begun || image == before
+    begun || file == before
+}
+
+/// Whether both files are left so, and the table's is as it was until the image is whole.
+fn are_left(case: &Case, before: Option<&[u8]>, seen: &Seen) -> bool {
+    is_left(case.stored, before, image_in(seen))
+        && is_left(case.table, before, table_in(seen))
+        && (table_in(seen) == before || image_in(seen) == case.stored)
 }
 
 fn is_right(case: &Case, faults: &[Fault], setting: Setting, seen: &Seen) -> bool {
@@ -147,13 +165,14 @@ fn is_right(case: &Case, faults: &[Fault], setting: Setting, seen: &Seen) -> boo
         Some(right) => {
             right
                 && case.text.as_bytes().starts_with(seen.out)
-                && is_left(case, setting.before, image_in(seen))
+                && are_left(case, setting.before, seen)
         }
         None => {
             seen.status == 0
                 && seen.err.is_empty()
                 && seen.out == case.text.as_bytes()
                 && image_in(seen) == case.stored.or(setting.before)
+                && table_in(seen) == case.table.or(setting.before)
         }
     }
 }
@@ -208,6 +227,7 @@ fn shelf_of(alloc: Global, faults: &[Fault], setting: Setting) -> Result<MemShel
         shelf.set(name, Some(*bytes), 0)?;
     }
     shelf.set("x", setting.before, ROOM)?;
+    shelf.set("y", setting.before, ROOM)?;
     if setting.by_bytes {
         shelf.limit(1);
     }
@@ -244,6 +264,8 @@ fn holds(alloc: Global, case: &Case, faults: &[Fault], setting: Setting) -> Resu
         err: err.bytes(),
         is_stored: shelf.bytes("x").is_some(),
         image: shelf.bytes("x").unwrap_or(b""),
+        has_table: shelf.bytes("y").is_some(),
+        table: shelf.bytes("y").unwrap_or(b""),
     };
     let there = match faults {
         [fault] if setting.by_bytes => stops_there(case, *fault, setting.before, &seen),
@@ -313,6 +335,15 @@ fn calls_that_fail_stop_build(rt: HostRuntime) {
     assert_eq!(rt; first_wrong_two(rt.alloc(), &BUILD, None), Ok(None));
     assert_eq!(rt;
         first_wrong_two(rt.alloc(), &BUILD, Some(b"before")),
+        Ok(None)
+    );
+}
+
+#[test]
+fn calls_that_fail_stop_certify(rt: HostRuntime) {
+    assert_eq!(rt; first_wrong_two(rt.alloc(), &CERTIFIES, None), Ok(None));
+    assert_eq!(rt;
+        first_wrong_two(rt.alloc(), &CERTIFIES, Some(b"before")),
         Ok(None)
     );
 }

@@ -24,8 +24,10 @@ pub struct Case {
     pub text: &'static str,
     /// In how many calls it writes the text: in one, but for a trace, which comes before each read of events.
     pub puts: u64,
-    /// The image that it stores in `x`, in the last of its turns.
+    /// The image that it stores in `x`, in the last of its turns, but for those of the table.
     pub stored: Option<&'static [u8]>,
+    /// The table that it stores in `y` after that.
+    pub table: Option<&'static [u8]>,
 }
 
 const READS_OIL: Turn = Turn {
@@ -77,6 +79,20 @@ const ADDS_IMAGE: Turn = Turn {
     others: 0,
 };
 
+const CREATES_TABLE: Turn = Turn {
+    status: 6,
+    told: "y: write\n",
+    moved: b"",
+    others: 1,
+};
+
+const ADDS_TABLE: Turn = Turn {
+    status: 6,
+    told: "y: write\n",
+    moved: TABLE,
+    others: 0,
+};
+
 const ADDS_UPGRADED: Turn = Turn {
     status: 6,
     told: "x: write\n",
@@ -91,6 +107,7 @@ pub const BUILD: Case = Case {
     text: "",
     puts: 0,
     stored: Some(ACTIVATION_IMAGE),
+    table: None,
 };
 
 /// Stores an image of version 1 as one of version 2.
@@ -100,6 +117,7 @@ pub const UPGRADES: Case = Case {
     text: "",
     puts: 0,
     stored: Some(UPGRADED_IMAGE),
+    table: None,
 };
 
 /// Runs an image over events.
@@ -109,6 +127,7 @@ pub const REPLAY: Case = Case {
     text: TRACE,
     puts: 2,
     stored: None,
+    table: None,
 };
 
 /// Runs two texts over events.
@@ -118,6 +137,7 @@ pub const TRACES: Case = Case {
     text: TRACE,
     puts: 2,
     stored: None,
+    table: None,
 };
 
 /// Prints what the analysis finds.
@@ -127,6 +147,7 @@ pub const SHOWS: Case = Case {
     text: SHOW,
     puts: 1,
     stored: None,
+    table: None,
 };
 
 /// Prints what an image has.
@@ -136,6 +157,7 @@ pub const INFORMS: Case = Case {
     text: INFO,
     puts: 1,
     stored: None,
+    table: None,
 };
 
 /// Prints a generated application.
@@ -145,6 +167,7 @@ pub const GENERATES: Case = Case {
     text: GEN_ONE,
     puts: 1,
     stored: None,
+    table: None,
 };
 
 /// Says that a table certifies an image.
@@ -154,4 +177,22 @@ pub const CHECKS: Case = Case {
     text: "yes\n",
     puts: 1,
     stored: None,
+    table: None,
+};
+
+/// Compiles two texts, and stores the image and the table that certifies it.
+pub const CERTIFIES: Case = Case {
+    words: &["osekfit", "certify", "a.oil", "a.c", "x", "y"],
+    turns: &[
+        READS_OIL,
+        READS_CODE,
+        CREATES_IMAGE,
+        ADDS_IMAGE,
+        CREATES_TABLE,
+        ADDS_TABLE,
+    ],
+    text: "",
+    puts: 0,
+    stored: Some(ACTIVATION_IMAGE),
+    table: Some(TABLE),
 };

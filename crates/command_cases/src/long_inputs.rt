@@ -103,7 +103,7 @@ fn long_table(alloc: Global) -> Result<Vec<u8>, Memory> {
     let zeros = [0u8; 256];
     let mut table = Vec::new(alloc);
     table.extend_from_slice(TABLE)?;
-    table.extend_from_slice(&zeros[TABLE.len()..])?;
+    table.extend_from_slice(&zeros[75..])?;
     for _ in 0..65_535 {
         table.extend_from_slice(&zeros)?;
     }

@@ -207,3 +207,57 @@ fn loops(alloc: Global) -> Result<bool, Memory> {
 fn a_loop_for_ever(rt: HostRuntime) {
     assert_eq!(rt; loops(rt.alloc()), Ok(true));
 }
+
+/// Seven resources, which a task takes in any order and never gives back: its stack is one of 13,700, which hold 82,201
+/// resources in all, at each block of its loop.
+const STACKS_OIL: &str =
+    "CPU c { OS os { USERESSCHEDULER = FALSE; }; RESOURCE A; RESOURCE B; RESOURCE C; RESOURCE D; RESOURCE E; RESOURCE F; RESOURCE G; TASK T { PRIORITY = 1; AUTOSTART = TRUE; RESOURCE = A; RESOURCE = B; RESOURCE = C; RESOURCE = D; RESOURCE = E; RESOURCE = F; RESOURCE = G; }; };";
+
+const STACKS_CODE: Repeated = Repeated {
+    prefix: "TASK(T) { while (1) { if (?) { GetResource(A); } if (?) { GetResource(B); } if (?) { GetResource(C); } if (?) { GetResource(D); } if (?) { GetResource(E); } if (?) { GetResource(F); } if (?) { GetResource(G); } ",
+    part: "work 1; ",
+    times: 87,
+    back: "} }\n",
+};
+
+/// The bytes of that table: magic, halted, idle, 102 blocks in the loop, and the end. A block has a byte and four for the
+/// number of values, six for each of these, and one for each resource.
+const STACKS_SIZE: usize = 8 + 1 + 1 + 102 * (1 + 4 + 6 * 13_700 + 82_201) + 1;
+
+/// Room for a table at its limit.
+const TABLE_ROOM: usize = 16_777_216;
+
+/// What `certify` does with this code: whether that is wanted, and how many bytes the image and the table have.
+fn certified(
+    alloc: Global,
+    code: &Repeated,
+    wanted: Wanted,
+) -> Result<(bool, Option<usize>, Option<usize>), Memory> {
+    let mut shelf = MemShelf::new(alloc, Vec::new(alloc));
+    let code = text_of(alloc, code)?;
+    put_texts(&mut shelf, STACKS_OIL.as_bytes(), &code)?;
+    shelf.set("t", None, TABLE_ROOM)?;
+    let words = ["certify", "a.oil", "a.c", "x", "t"];
+    let right = gives(alloc, &mut shelf, &words, wanted)?;
+    Ok((right, size_at(&shelf, "x"), size_at(&shelf, "t")))
+}
+
+/// How many bytes a file has, where it is there.
+fn size_at(shelf: &MemShelf, name: &str) -> Option<usize> {
+    shelf.bytes(name).map(|bytes| bytes.len())
+}
+
+#[test]
+fn a_table_at_its_limit_and_one_beyond_it(rt: HostRuntime) {
+    let (right, _, table) = certified(rt.alloc(), &STACKS_CODE, Wanted::Exactly(0, "", "")).expect(
+        &rt, "memory",
+    );
+    assert_eq!(rt; (right, table), (true, Some(STACKS_SIZE)));
+    let longer = Repeated {
+        times: 88,
+        ..STACKS_CODE
+    };
+    let wanted = Wanted::Exactly(13, "", "t: too long\n");
+    let (right, image, table) = certified(rt.alloc(), &longer, wanted).expect(&rt, "memory");
+    assert_eq!(rt; (right, image, table), (true, None, None));
+}
