@@ -1,5 +1,5 @@
 //! Whole runs of the top call over files in memory.
-use crate::acting::{first_wrong, row_holds};
+use crate::acting::{all_hold, first_wrong, put_files, put_places, row_holds};
 use crate::certificate_rows::CERTIFICATE_ROWS;
 use crate::edge_rows::{MODE_ROWS, TEXT_ROWS};
 use crate::event_rows::EVENT_ROWS;
@@ -9,6 +9,7 @@ use crate::gen_rows::GEN_ROWS;
 use crate::kind_rows::KIND_ROWS;
 use crate::rows::{Act, Row};
 use crate::task_rows::TASK_ROWS;
+use osek_io::MemShelf;
 use osek_values::Memory;
 use std::alloc::Global;
 
@@ -77,7 +78,7 @@ fn a_fault_of_the_code_is_told(rt: HostRuntime) {
 /// The words of the `build` that stores a row's image.
 const BUILD: &[&str] = &["build", "a.oil", "a.c", "a.img"];
 
-/// What is certified is checked: the image and the table that `certify` stores.
+/// `certify` stores an image and a table, of which `check` says yes.
 const CERTIFIED: [Act; 2] = [
     Act::Run(&["certify", "a.oil", "a.c", "a.img", "a.tab"], 0, "", ""),
     Act::Run(&["check", "a.img", "a.tab"], 0, "yes\n", ""),
@@ -92,14 +93,18 @@ fn builds(act: &Act) -> bool {
     }
 }
 
+/// Whether `certify` and `check` do so with a row's texts.
+fn is_certified(alloc: Global, row: &Row) -> Result<bool, Memory> {
+    let mut shelf = MemShelf::new(alloc, Vec::new(alloc));
+    put_files(&mut shelf, row.files)?;
+    put_places(&mut shelf)?;
+    all_hold(alloc, &mut shelf, &CERTIFIED)
+}
+
 /// The name of the first row whose image is built, and isn't certified and checked.
 fn first_uncertified(alloc: Global, rows: &[Row]) -> Result<&'static str, Memory> {
     for row in rows {
-        let certified = Row {
-            acts: &CERTIFIED,
-            ..*row
-        };
-        if row.acts.iter().any(|act| builds(act)) && !row_holds(alloc, &certified)? {
+        if row.acts.iter().any(|act| builds(act)) && !is_certified(alloc, row)? {
             return Ok(row.name);
         }
     }
