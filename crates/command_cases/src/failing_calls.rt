@@ -1,8 +1,10 @@
 //! Commands whose calls on the shelf, on out and on err fail: each stops with the status and the text of the call that
 //! failed, and leaves a prefix of what it would have written.
-use crate::gen_rows::GEN_ONE;
-use crate::rows::ACTIVATION_IMAGE;
-use crate::stored::{CODE, EVENTS, IMAGE, INFO, OIL, SHOW, TRACE, UPGRADED_IMAGE};
+use crate::certificate_rows::TABLE;
+use crate::failing_cases::{
+    BUILD, CERTIFIES, CHECKS, Case, GENERATES, INFORMS, REPLAY, SHOWS, TRACES, Turn, UPGRADES,
+};
+use crate::stored::{CODE, EVENTS, IMAGE, OIL};
 use commands::osekfit;
 use osek_io::{MemShelf, MemSink};
 use osek_values::Memory;
@@ -23,136 +25,7 @@ struct Fault {
     call: u64,
 }
 
-/// Calls on the shelf, one after the other, for one file: what a fault of each of them makes of the run.
-#[derive(Clone, Copy)]
-struct Turn {
-    status: u8,
-    told: &'static str,
-    /// The bytes that the calls move: in one call, or in as many as they are where each moves one.
-    moved: &'static [u8],
-    /// How many calls besides move none: the one that finds a file's end, `create`, the one that judges an event
-    /// text's length.
-    others: u64,
-}
-
-/// A command over the files, and what it does where no call fails.
-#[derive(Clone, Copy)]
-struct Case {
-    words: &'static [&'static str],
-    turns: &'static [Turn],
-    text: &'static str,
-    /// In how many calls it writes the text: in one, but for a trace, which comes before each read of events.
-    puts: u64,
-    /// The image that it stores in `x`, in the last of its turns.
-    stored: Option<&'static [u8]>,
-}
-
-const READS_OIL: Turn = Turn {
-    status: 5,
-    told: "a.oil: read\n",
-    moved: OIL,
-    others: 1,
-};
-
-const READS_CODE: Turn = Turn {
-    status: 5,
-    told: "a.c: read\n",
-    moved: CODE,
-    others: 1,
-};
-
-const READS_IMAGE: Turn = Turn {
-    status: 5,
-    told: "i: read\n",
-    moved: IMAGE,
-    others: 1,
-};
-
-const READS_EVENTS: Turn = Turn {
-    status: 5,
-    told: "e: read\n",
-    moved: EVENTS,
-    others: 2,
-};
-
-const CREATES_IMAGE: Turn = Turn {
-    status: 6,
-    told: "x: write\n",
-    moved: b"",
-    others: 1,
-};
-
-const ADDS_IMAGE: Turn = Turn {
-    status: 6,
-    told: "x: write\n",
-    moved: ACTIVATION_IMAGE,
-    others: 0,
-};
-
-const ADDS_UPGRADED: Turn = Turn {
-    status: 6,
-    told: "x: write\n",
-    moved: UPGRADED_IMAGE,
-    others: 0,
-};
-
-const BUILD: Case = Case {
-    words: &["osekfit", "build", "a.oil", "a.c", "x"],
-    turns: &[READS_OIL, READS_CODE, CREATES_IMAGE, ADDS_IMAGE],
-    text: "",
-    puts: 0,
-    stored: Some(ACTIVATION_IMAGE),
-};
-
-const UPGRADES: Case = Case {
-    words: &["osekfit", "upgrade", "i", "x"],
-    turns: &[READS_IMAGE, CREATES_IMAGE, ADDS_UPGRADED],
-    text: "",
-    puts: 0,
-    stored: Some(UPGRADED_IMAGE),
-};
-
-const REPLAY: Case = Case {
-    words: &["osekfit", "replay", "i", "OSDEFAULTAPPMODE", "e"],
-    turns: &[READS_IMAGE, READS_EVENTS],
-    text: TRACE,
-    puts: 2,
-    stored: None,
-};
-
-const TRACES: Case = Case {
-    words: &["osekfit", "trace", "a.oil", "a.c", "OSDEFAULTAPPMODE", "e"],
-    turns: &[READS_OIL, READS_CODE, READS_EVENTS],
-    text: TRACE,
-    puts: 2,
-    stored: None,
-};
-
-const SHOWS: Case = Case {
-    words: &["osekfit", "show", "a.oil", "a.c"],
-    turns: &[READS_OIL, READS_CODE],
-    text: SHOW,
-    puts: 1,
-    stored: None,
-};
-
-const INFORMS: Case = Case {
-    words: &["osekfit", "info", "i"],
-    turns: &[READS_IMAGE],
-    text: INFO,
-    puts: 1,
-    stored: None,
-};
-
-const GENERATES: Case = Case {
-    words: &["osekfit", "gen", "1", "1"],
-    turns: &[],
-    text: GEN_ONE,
-    puts: 1,
-    stored: None,
-};
-
-/// How a case is run: what `x` holds before, and whether each call moves one byte at most.
+/// How a case is run: what `x` and `y` hold before, and whether each call moves one byte at most.
 #[derive(Clone, Copy)]
 struct Setting {
     before: Option<&'static [u8]>,
@@ -168,11 +41,22 @@ struct Seen<'a> {
     /// Whether `x` is there, and its bytes.
     is_stored: bool,
     image: &'a [u8],
+    /// The same of `y`.
+    has_table: bool,
+    table: &'a [u8],
 }
 
 fn image_in<'a>(seen: &Seen<'a>) -> Option<&'a [u8]> {
     if seen.is_stored {
         Some(seen.image)
+    } else {
+        None
+    }
+}
+
+fn table_in<'a>(seen: &Seen<'a>) -> Option<&'a [u8]> {
+    if seen.has_table {
+        Some(seen.table)
     } else {
         None
     }
@@ -260,13 +144,20 @@ fn stopped(case: &Case, faults: &[Fault], by_bytes: bool, seen: &Seen) -> Option
     found
 }
 
-/// Whether `x` is as it was, or holds a prefix of the image.
-fn is_left(case: &Case, before: Option<&[u8]>, image: Option<&[u8]>) -> bool {
-    let begun = match (case.stored, image) {
+/// Whether a file is as it was, or holds a prefix of what is stored there.
+fn is_left(stored: Option<&[u8]>, before: Option<&[u8]>, file: Option<&[u8]>) -> bool {
+    let begun = match (stored, file) {
         (Some(stored), Some(bytes)) => stored.starts_with(bytes),
         _ => false,
     };
-    begun || image == before
+    begun || file == before
+}
+
+/// Whether both files are left so, and the table's is as it was until the image is whole.
+fn are_left(case: &Case, before: Option<&[u8]>, seen: &Seen) -> bool {
+    is_left(case.stored, before, image_in(seen))
+        && is_left(case.table, before, table_in(seen))
+        && (table_in(seen) == before || image_in(seen) == case.stored)
 }
 
 fn is_right(case: &Case, faults: &[Fault], setting: Setting, seen: &Seen) -> bool {
@@ -274,18 +165,20 @@ fn is_right(case: &Case, faults: &[Fault], setting: Setting, seen: &Seen) -> boo
         Some(right) => {
             right
                 && case.text.as_bytes().starts_with(seen.out)
-                && is_left(case, setting.before, image_in(seen))
+                && are_left(case, setting.before, seen)
         }
         None => {
             seen.status == 0
                 && seen.err.is_empty()
                 && seen.out == case.text.as_bytes()
                 && image_in(seen) == case.stored.or(setting.before)
+                && table_in(seen) == case.table.or(setting.before)
         }
     }
 }
 
-/// Where each call moves a byte: whether a fault on out stopped the text there, and one on the shelf the image.
+/// Where each call moves a byte: whether a fault on out stopped the text there, and one on the shelf the image, which is all that
+/// is stored.
 fn stops_there(case: &Case, fault: Fault, before: Option<&[u8]>, seen: &Seen) -> bool {
     let first = match case.turns.split_last() {
         Some((_, turns)) => calls_of_all(turns, true),
@@ -318,7 +211,13 @@ fn fails_of(alloc: Global, faults: &[Fault], side: Side) -> Result<Vec<u64>, Mem
     Ok(calls)
 }
 
-const FILES: [(&str, &[u8]); 4] = [("a.oil", OIL), ("a.c", CODE), ("i", IMAGE), ("e", EVENTS)];
+const FILES: [(&str, &[u8]); 5] = [
+    ("a.oil", OIL),
+    ("a.c", CODE),
+    ("i", IMAGE),
+    ("e", EVENTS),
+    ("t", TABLE),
+];
 
 /// Room for an image, and for what a run writes.
 const ROOM: usize = 1_000;
@@ -329,6 +228,7 @@ fn shelf_of(alloc: Global, faults: &[Fault], setting: Setting) -> Result<MemShel
         shelf.set(name, Some(*bytes), 0)?;
     }
     shelf.set("x", setting.before, ROOM)?;
+    shelf.set("y", setting.before, ROOM)?;
     if setting.by_bytes {
         shelf.limit(1);
     }
@@ -365,9 +265,16 @@ fn holds(alloc: Global, case: &Case, faults: &[Fault], setting: Setting) -> Resu
         err: err.bytes(),
         is_stored: shelf.bytes("x").is_some(),
         image: shelf.bytes("x").unwrap_or(b""),
+        has_table: shelf.bytes("y").is_some(),
+        table: shelf.bytes("y").unwrap_or(b""),
     };
     let there = match faults {
-        [fault] if setting.by_bytes => stops_there(case, *fault, setting.before, &seen),
+        [fault] if setting.by_bytes && case.table.is_none() => stops_there(
+            case,
+            *fault,
+            setting.before,
+            &seen,
+        ),
         _ => true,
     };
     Ok(there && is_right(case, faults, setting, &seen))
@@ -439,6 +346,15 @@ fn calls_that_fail_stop_build(rt: HostRuntime) {
 }
 
 #[test]
+fn calls_that_fail_stop_certify(rt: HostRuntime) {
+    assert_eq!(rt; first_wrong_two(rt.alloc(), &CERTIFIES, None), Ok(None));
+    assert_eq!(rt;
+        first_wrong_two(rt.alloc(), &CERTIFIES, Some(b"before")),
+        Ok(None)
+    );
+}
+
+#[test]
 fn calls_that_fail_stop_upgrade(rt: HostRuntime) {
     assert_eq!(rt; first_wrong_two(rt.alloc(), &UPGRADES, None), Ok(None));
     assert_eq!(rt;
@@ -449,7 +365,7 @@ fn calls_that_fail_stop_upgrade(rt: HostRuntime) {
 
 #[test]
 fn calls_that_fail_stop_what_prints(rt: HostRuntime) {
-    for case in &[REPLAY, TRACES, SHOWS, INFORMS, GENERATES] {
+    for case in &[REPLAY, TRACES, SHOWS, INFORMS, GENERATES, CHECKS] {
         assert_eq!(rt;
             first_wrong_two(rt.alloc(), case, None),
             Ok(None),
@@ -464,6 +380,14 @@ fn bytes_that_fail_stop_build(rt: HostRuntime) {
     assert_eq!(rt; first_wrong_byte(rt.alloc(), &BUILD, None), Ok(None));
     assert_eq!(rt;
         first_wrong_byte(rt.alloc(), &BUILD, Some(b"before")),
+        Ok(None)
+    );
+}
+
+#[test]
+fn bytes_that_fail_stop_certify(rt: HostRuntime) {
+    assert_eq!(rt;
+        first_wrong_byte(rt.alloc(), &CERTIFIES, Some(b"before")),
         Ok(None)
     );
 }
@@ -504,4 +428,9 @@ fn bytes_that_fail_stop_what_tells_of_forms(rt: HostRuntime) {
 #[test]
 fn bytes_that_fail_stop_gen(rt: HostRuntime) {
     assert_eq!(rt; first_wrong_byte(rt.alloc(), &GENERATES, None), Ok(None));
+}
+
+#[test]
+fn bytes_that_fail_stop_check(rt: HostRuntime) {
+    assert_eq!(rt; first_wrong_byte(rt.alloc(), &CHECKS, None), Ok(None));
 }

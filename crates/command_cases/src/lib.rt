@@ -2,19 +2,27 @@
 #![tactic(auto)]
 
 #[cfg(test)]
+mod acting;
+#[cfg(test)]
 mod certificate_rows;
 #[cfg(test)]
 mod edge_rows;
 #[cfg(test)]
+mod event_rows;
+#[cfg(test)]
 mod example_rows;
 #[cfg(test)]
 mod failing_calls;
+#[cfg(test)]
+mod failing_cases;
 #[cfg(test)]
 mod flow_rows;
 #[cfg(test)]
 mod gen_rows;
 #[cfg(test)]
 mod hostile_images;
+#[cfg(test)]
+mod image_runs;
 #[cfg(test)]
 mod kind_rows;
 #[cfg(test)]
@@ -31,5 +39,7 @@ mod runs;
 mod show_texts;
 #[cfg(test)]
 mod stored;
+#[cfg(test)]
+mod task_rows;
 #[cfg(test)]
 mod told_texts;

@@ -1,5 +1,7 @@
-//! An image and an event text at their limits, and of one byte more.
+//! An image, an event text and a table at their limits, and of one byte more.
+use crate::certificate_rows::TABLE;
 use crate::failing_calls::words_of;
+use crate::rows::ACTIVATION_IMAGE;
 use crate::stored::ONE_TASK_IMAGE;
 use commands::osekfit;
 use osek_io::{MemShelf, MemSink};
@@ -94,4 +96,43 @@ fn an_event_text_of_16_megabytes_and_of_one_byte_more(rt: HostRuntime) {
     };
     assert_eq!(rt; events_give(rt.alloc(), b"", whole), Ok(true));
     assert_eq!(rt; events_give(rt.alloc(), b"\n", beyond), Ok(true));
+}
+
+/// A table with zeros behind it, up to 16 MiB.
+fn long_table(alloc: Global) -> Result<Vec<u8>, Memory> {
+    let zeros = [0u8; 256];
+    let mut table = Vec::new(alloc);
+    table.extend_from_slice(TABLE)?;
+    table.extend_from_slice(&zeros[75..])?;
+    for _ in 0..65_535 {
+        table.extend_from_slice(&zeros)?;
+    }
+    Ok(table)
+}
+
+/// What `check` tells of that table with more bytes behind it, beside its image.
+fn table_gives(alloc: Global, behind: &[u8], err: &'static str) -> Result<bool, Memory> {
+    let mut table = long_table(alloc)?;
+    table.extend_from_slice(behind)?;
+    let told = Told {
+        status: 11,
+        out: "",
+        err,
+    };
+    gives(
+        alloc,
+        &["osekfit", "check", "i", "e"],
+        ACTIVATION_IMAGE,
+        &table,
+        told,
+    )
+}
+
+#[test]
+fn a_table_of_16_megabytes_and_of_one_byte_more(rt: HostRuntime) {
+    assert_eq!(rt; table_gives(rt.alloc(), b"", "e:75: K5\n"), Ok(true));
+    assert_eq!(rt;
+        table_gives(rt.alloc(), b"\0", "e:16777216: K6\n"),
+        Ok(true)
+    );
 }

@@ -19,7 +19,7 @@ struct Refused {
     text: &'static str,
 }
 
-const REFUSED: [Refused; 10] = [
+const REFUSED: [Refused; 12] = [
     Refused {
         words: &["osekfit", "replay", "i", "e"],
         status: 2,
@@ -87,15 +87,29 @@ const REFUSED: [Refused; 10] = [
         told: "new: version 2\n",
         text: "",
     },
+    Refused {
+        words: &["osekfit", "check", "new", "t"],
+        status: 11,
+        told: "t:8: K1\n",
+        text: "",
+    },
+    Refused {
+        words: &["osekfit", "check", "new", "none at all"],
+        status: 12,
+        told: "none at all: N1 OSDEFAULTAPPMODE\n",
+        text: "",
+    },
 ];
 
-const FILES: [(&str, &[u8]); 8] = [
+const FILES: [(&str, &[u8]); 10] = [
     ("a.oil", OIL),
     ("a.c", CODE),
     ("i", IMAGE),
     ("e", EVENTS),
     ("new", UPGRADED_IMAGE),
     ("bad", b"run 0\nrun 0\nirq X\n"),
+    ("t", b"OSEKTAB\x01"),
+    ("none at all", b"OSEKTAB\x01\0\0\0\0\0\0\0"),
     (
         "five",
         b"CPU c {\nOS os;\nTASK T1 { PRIORITY = 1; };\nTASK T2 { PRIORITY = 1; };\nTASK T3 { SCHEDULE = FULL; };\n};\n",

@@ -1,8 +1,10 @@
-//! What is said of the images that are tailored to worked applications, and of their general images, with the least tables.
+//! What is said of the images that are tailored to worked applications, and of their general images, with the least tables,
+//! and the bytes of these tables.
 ghost use Rattle.std.specs.Prelude.{◌≡◌, ◌<◌, IfOk};
 ghost use Rattle.osek_standard.specs.Versions.{FitsVersion1};
 ghost use Rattle.abstract_state.specs.Written.{IsWritten};
 
+use crate::table_bytes::{least_bytes, refusal};
 use call_tailor::tailor;
 use flow_check::{Verdict, check};
 use front_end::{TextError, read_app, read_system};
@@ -108,6 +110,25 @@ fn first_denied(alloc: Global, kind: Kind) -> Option<(usize, Result<Verdict, Tex
     None
 }
 
+/// Whether the least table of an application is read, and is written again as it was.
+fn is_written_again(alloc: Global, case: &Case) -> Result<bool, TextError> {
+    let app = read(alloc, case)?;
+    Ok(match least_bytes::<Brand>(alloc, &app, Blank::new(1)) {
+        Ok(bytes) => refusal(alloc, &app, &bytes).is_none(),
+        Err(_) => false,
+    })
+}
+
+/// The number of the first case of whose table this doesn't hold.
+fn first_not_written_again(alloc: Global) -> Option<usize> {
+    for (number, case) in CASES.iter().enumerate() {
+        if is_written_again(alloc, case) != Ok(true) {
+            return Some(number);
+        }
+    }
+    None
+}
+
 #[test]
 fn what_is_tailored_fits(rt: HostRuntime) {
     assert_eq!(rt; first_denied(rt.alloc(), Kind::Tailored), None);
@@ -116,4 +137,9 @@ fn what_is_tailored_fits(rt: HostRuntime) {
 #[test]
 fn general_images_fit(rt: HostRuntime) {
     assert_eq!(rt; first_denied(rt.alloc(), Kind::General), None);
+}
+
+#[test]
+fn least_tables_are_read_and_written_again(rt: HostRuntime) {
+    assert_eq!(rt; first_not_written_again(rt.alloc()), None);
 }

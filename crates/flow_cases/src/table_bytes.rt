@@ -29,7 +29,8 @@ fn the_app(alloc: Global) -> Result<App, TextError> {
     read_app(alloc, system, CODE)
 }
 
-fn least_bytes<L: Ledger>(alloc: Global, app: &App, blank: Blank) -> Result<Vec<u8>, WriteFault>
+/// The bytes of an application's least table.
+pub fn least_bytes<L: Ledger>(alloc: Global, app: &App, blank: Blank) -> Result<Vec<u8>, WriteFault>
     requires name { blank.name ≡ L.name }
     requires parts { blank.parts ≡ L.parts }
     requires some { 0 < L.parts }
@@ -40,7 +41,7 @@ fn least_bytes<L: Ledger>(alloc: Global, app: &App, blank: Blank) -> Result<Vec<
 }
 
 /// Why bytes are refused; nothing where they are read, and what is written again is the same.
-fn refusal(alloc: Global, app: &App, bytes: &[u8]) -> Option<TableError> {
+pub fn refusal(alloc: Global, app: &App, bytes: &[u8]) -> Option<TableError> {
     match read_table(alloc, app, bytes) {
         Err(error) => Some(error),
         Ok(table) => match write_table(alloc, app, &table) {
@@ -233,7 +234,7 @@ fn cut_at(length: usize) -> usize {
     }
 }
 
-/// The number of bytes of the first front of the table that isn't refused where its field is cut.
+/// The number of bytes of the first prefix of the table that isn't refused where its field is cut.
 fn first_wrong_cut(alloc: Global, app: &App) -> Option<usize> {
     for length in 0..TABLE.len() {
         let wanted = Some(fault(TableRule::K1, cut_at(length)));

@@ -1,0 +1,198 @@
+//! Commands over stored files, each with its calls on the shelf, its text and the image that it stores.
+use crate::certificate_rows::TABLE;
+use crate::gen_rows::GEN_ONE;
+use crate::rows::ACTIVATION_IMAGE;
+use crate::stored::{CODE, EVENTS, IMAGE, INFO, OIL, SHOW, TRACE, UPGRADED_IMAGE};
+
+/// Calls on the shelf, one after the other, for one file: what a fault of each of them makes of the run.
+#[derive(Clone, Copy)]
+pub struct Turn {
+    pub status: u8,
+    pub told: &'static str,
+    /// The bytes that the calls move: in one call, or in as many as they are where each moves one.
+    pub moved: &'static [u8],
+    /// How many calls besides move none: the one that finds a file's end, `create`, the one that judges an event
+    /// text's length.
+    pub others: u64,
+}
+
+/// A command over the files, and what it does where no call fails.
+#[derive(Clone, Copy)]
+pub struct Case {
+    pub words: &'static [&'static str],
+    pub turns: &'static [Turn],
+    pub text: &'static str,
+    /// In how many calls it writes the text: in one, but for a trace, which comes before each read of events.
+    pub puts: u64,
+    /// The image that it stores in `x`, in the last of its turns, but for those of the table.
+    pub stored: Option<&'static [u8]>,
+    /// The table that it stores in `y` after that.
+    pub table: Option<&'static [u8]>,
+}
+
+const READS_OIL: Turn = Turn {
+    status: 5,
+    told: "a.oil: read\n",
+    moved: OIL,
+    others: 1,
+};
+
+const READS_CODE: Turn = Turn {
+    status: 5,
+    told: "a.c: read\n",
+    moved: CODE,
+    others: 1,
+};
+
+const READS_IMAGE: Turn = Turn {
+    status: 5,
+    told: "i: read\n",
+    moved: IMAGE,
+    others: 1,
+};
+
+const READS_EVENTS: Turn = Turn {
+    status: 5,
+    told: "e: read\n",
+    moved: EVENTS,
+    others: 2,
+};
+
+const READS_TABLE: Turn = Turn {
+    status: 5,
+    told: "t: read\n",
+    moved: TABLE,
+    others: 1,
+};
+
+const CREATES_IMAGE: Turn = Turn {
+    status: 6,
+    told: "x: write\n",
+    moved: b"",
+    others: 1,
+};
+
+const ADDS_IMAGE: Turn = Turn {
+    status: 6,
+    told: "x: write\n",
+    moved: ACTIVATION_IMAGE,
+    others: 0,
+};
+
+const CREATES_TABLE: Turn = Turn {
+    status: 6,
+    told: "y: write\n",
+    moved: b"",
+    others: 1,
+};
+
+const ADDS_TABLE: Turn = Turn {
+    status: 6,
+    told: "y: write\n",
+    moved: TABLE,
+    others: 0,
+};
+
+const ADDS_UPGRADED: Turn = Turn {
+    status: 6,
+    told: "x: write\n",
+    moved: UPGRADED_IMAGE,
+    others: 0,
+};
+
+/// Compiles two texts, and stores the image.
+pub const BUILD: Case = Case {
+    words: &["osekfit", "build", "a.oil", "a.c", "x"],
+    turns: &[READS_OIL, READS_CODE, CREATES_IMAGE, ADDS_IMAGE],
+    text: "",
+    puts: 0,
+    stored: Some(ACTIVATION_IMAGE),
+    table: None,
+};
+
+/// Stores an image of version 1 as one of version 2.
+pub const UPGRADES: Case = Case {
+    words: &["osekfit", "upgrade", "i", "x"],
+    turns: &[READS_IMAGE, CREATES_IMAGE, ADDS_UPGRADED],
+    text: "",
+    puts: 0,
+    stored: Some(UPGRADED_IMAGE),
+    table: None,
+};
+
+/// Runs an image over events.
+pub const REPLAY: Case = Case {
+    words: &["osekfit", "replay", "i", "OSDEFAULTAPPMODE", "e"],
+    turns: &[READS_IMAGE, READS_EVENTS],
+    text: TRACE,
+    puts: 2,
+    stored: None,
+    table: None,
+};
+
+/// Runs two texts over events.
+pub const TRACES: Case = Case {
+    words: &["osekfit", "trace", "a.oil", "a.c", "OSDEFAULTAPPMODE", "e"],
+    turns: &[READS_OIL, READS_CODE, READS_EVENTS],
+    text: TRACE,
+    puts: 2,
+    stored: None,
+    table: None,
+};
+
+/// Prints what the analysis finds.
+pub const SHOWS: Case = Case {
+    words: &["osekfit", "show", "a.oil", "a.c"],
+    turns: &[READS_OIL, READS_CODE],
+    text: SHOW,
+    puts: 1,
+    stored: None,
+    table: None,
+};
+
+/// Prints what an image has.
+pub const INFORMS: Case = Case {
+    words: &["osekfit", "info", "i"],
+    turns: &[READS_IMAGE],
+    text: INFO,
+    puts: 1,
+    stored: None,
+    table: None,
+};
+
+/// Prints a generated application.
+pub const GENERATES: Case = Case {
+    words: &["osekfit", "gen", "1", "1"],
+    turns: &[],
+    text: GEN_ONE,
+    puts: 1,
+    stored: None,
+    table: None,
+};
+
+/// Says that a table certifies an image.
+pub const CHECKS: Case = Case {
+    words: &["osekfit", "check", "i", "t"],
+    turns: &[READS_IMAGE, READS_TABLE],
+    text: "yes\n",
+    puts: 1,
+    stored: None,
+    table: None,
+};
+
+/// Compiles two texts, and stores the image and the table that certifies it.
+pub const CERTIFIES: Case = Case {
+    words: &["osekfit", "certify", "a.oil", "a.c", "x", "y"],
+    turns: &[
+        READS_OIL,
+        READS_CODE,
+        CREATES_IMAGE,
+        ADDS_IMAGE,
+        CREATES_TABLE,
+        ADDS_TABLE,
+    ],
+    text: "",
+    puts: 0,
+    stored: Some(ACTIVATION_IMAGE),
+    table: Some(TABLE),
+};
