@@ -1,4 +1,4 @@
-use Rattle.std.proofs.{Common.{length, refl, sym, subst, List, ◌∙◌, arith}, lemmas.Bool.{OnTrue_at, OnFalse_at}}
+use Rattle.std.proofs.{Common.{length, refl, subst, List, ◌∙◌, arith}, lemmas.Bool.{OnTrue_at, OnFalse_at}}
 use Rattle.flow_model.specs.declared.{rule.Rule.{Rule}, test.Condition.{Condition}}
 use Rattle.numbered_sets.specs.{declared.numbered_entry.NumberedEntry.{NumberedEntry}}
 use Rattle.numbered_sets.proofs.NumberingLaws.{longer_onward}
