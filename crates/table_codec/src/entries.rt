@@ -24,7 +24,8 @@ pub(crate) fn entry(
     ensures ok { IfOk result (IsReadEntry app.now point reader.old reader.new) }
     ensures err { IfErr result (λ e. Refuses e (IsEntryFault app.now point reader.old)) }
 {
-    let mut sets = Seq::new(alloc);
+    let room = Vec::with_capacity(alloc, components.len())?;
+    let mut sets = Seq::of(room);
     for component in 0..components.len() {
         let next = set(alloc, reader, app, point, *components.at(component))?;
         sets.push(next)?;

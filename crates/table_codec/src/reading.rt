@@ -1,5 +1,5 @@
 //! Tables from bytes.
-ghost use Rattle.std.specs.Prelude.{◌≡◌, ◌++◌, ◌∷◌, [], All, Ok, Err, IfOk, IfErr, OnOk};
+ghost use Rattle.std.specs.Prelude.{◌≡◌, ◌++◌, ◌∷◌, [], ◌≤◌, length, All, Ok, Err, IfOk, IfErr, OnOk};
 ghost use Rattle.osek_values.specs.Answers.{Refuses, Answers};
 ghost use Rattle.abstract_state.specs.{declared.table.PlainTable.{PlainTable as APlainTable}, Components.{components as components_of}, Domains.{domains, domains_of, IsSound}};
 ghost use Rattle.abstract_state.specs.{ValueOrder.{flag_field}, Written.{IsWritten}};
@@ -73,11 +73,27 @@ fn point_entry(
     Ok(Some(found))
 }
 
-// a row more, whose values the pool numbers
+// How many words the sets of all rows may have past the first two of each, which is half a gigabyte. A table of 16 MiB may
+// ask for more, since a set has a word for each 64 numbers up to its highest; what `solve` finds asks for far less.
+const MAX_WORDS: usize = 67_108_864;
+
+// how many words the sets of a row may have, at most
+fn row_words(pool: &Pool, components: usize) -> usize
+    requires { components ≤ length pool.now }
+{
+    let mut words: usize = 0;
+    for component in 0..components {
+        words = words.saturating_add(pool.len(component) / 64);
+    }
+    words
+}
+
+// A row more, whose values the pool numbers. Rows that would have too many words are answered by want of memory.
 fn add_row(
     alloc: Global,
     pool: &mut Pool,
     rows: &mut Seq<NumberedRow>,
+    words: &mut usize,
     point: Point,
     entry: &PlainEntry,
 ) -> Result<(), Memory>
@@ -88,7 +104,12 @@ fn add_row(
     ensures domains { pool_domains pool.new ≡ pool_domains pool.old }
     ensures plain { OnOk result (plain_rows pool.new rows.new ≡ plain_rows pool.old rows.old ++ row_at point entry.now ∷ []) }
 {
+    let count = entry.sets.len();
     let entry = numbered(alloc, pool, entry)?;
+    *words = words.saturating_add(row_words(pool, count));
+    if *words > MAX_WORDS {
+        return Err(Memory);
+    }
     rows.push(NumberedRow { point, entry })?;
     Ok(())
 }
@@ -110,10 +131,11 @@ fn read_rows(
     masks_are_few(app);
     let points = points(alloc, app)?;
     let mut rows = Seq::new(alloc);
+    let mut words = 0;
     for place in 0..points.len() {
         let point = *points.at(place);
         if let Some(entry) = point_entry(alloc, reader, app, point, components)? {
-            add_row(alloc, pool, &mut rows, point, &entry)?;
+            add_row(alloc, pool, &mut rows, &mut words, point, &entry)?;
         }
     }
     Ok(rows)

@@ -155,7 +155,7 @@ fn events(alloc: Global, number: u8) -> Result<Seq<PartValue>, Memory>
     requires { IsFlagNumber number }
     ensures { IfOk result (λ vs. vs ≡ flagged part.OfEvent number) }
 {
-    let mut values = Seq::new(alloc);
+    let mut values = Seq::of(Vec::with_capacity(alloc, 2)?);
     if number != 2 {
         values.push(PartValue::OfEvent(false))?;
     }
@@ -169,7 +169,7 @@ fn alarms(alloc: Global, number: u8) -> Result<Seq<PartValue>, Memory>
     requires { IsFlagNumber number }
     ensures { IfOk result (λ vs. vs ≡ flagged part.OfAlarm number) }
 {
-    let mut values = Seq::new(alloc);
+    let mut values = Seq::of(Vec::with_capacity(alloc, 2)?);
     if number != 2 {
         values.push(PartValue::OfAlarm(false))?;
     }

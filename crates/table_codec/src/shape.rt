@@ -136,8 +136,12 @@ fn may_wait(app: &App, task: TaskNo) -> bool
     requires { task.0 < length app.now.tasks }
     ensures { IsTrue result ↔ ((b : ABlockNo) × IsWaitingAt app.now task.0 b.0) }
 {
-    let first = app.task(task).first.0;
-    let count = app.task(task).count;
+    let owner = app.task(task);
+    if owner.own.0 == 0 {
+        return false;
+    }
+    let first = owner.first.0;
+    let count = owner.count;
     for block in first..first + count {
         if waits_at(app, task, BlockNo(block)) {
             return true;

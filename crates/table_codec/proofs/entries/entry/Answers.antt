@@ -6,10 +6,12 @@ use Rattle.table_codec.proofs.ReadSoFar.{AreSetsSoFar, component_there, no_sets,
 use Rattle.table_codec.proofs.entries.entry.Goals as goal
 
 pub loop-component-init : goal.loop-component-init
-loop-component-init c = record {
-  sets = subst (λ (xs : List ValueSet). AreSetsSoFar c.args.app.now c.args.point c.args.reader.now xs c.args.reader.now) (sym c.new-sets.ensures) (no_sets c.args.app.now c.args.point c.args.reader.now);
-  size = ap (λ (xs : List ValueSet). length xs) c.new-sets.ensures;
-}
+loop-component-init c =
+    let none = c.of-sets.ensures ∙ c.in_ok-room.ensures.items in
+    record {
+      sets = subst (λ (xs : List ValueSet). AreSetsSoFar c.args.app.now c.args.point c.args.reader.now xs c.args.reader.now) (sym none) (no_sets c.args.app.now c.args.point c.args.reader.now);
+      size = ap (λ (xs : List ValueSet). length xs) none;
+    }
 
 pub set-requires : goal.set-requires
 set-requires c =
