@@ -2,7 +2,7 @@
 use Rattle.std.proofs.Common.{◌≡◌, ◌≢◌, ◌⊎◌, ℕ, zero, suc, ◌+◌, ◌-◌, ◌*◌, ◌/◌, ◌%◌, ◌^◌, ◌<◌, Bool, false, List, [], ◌∷◌, ◌++◌, length, get_or, set, cond, refl, sym, ap, ap₂, subst, ◌∙◌, inl, inr, arith, get_or-set_same, get_or-set_other}
 use Rattle.std.specs.{Prelude.{Option, Some, None, IfSome, IfNone}, List.{list_any}}
 use Rattle.std.proofs.Math.{Nat.{div-lt_iff_lt-mul, div-add-mod, mod-lt, mul_comm}, Seq.{get_or-append_seam}}
-use Rattle.std.proofs.lemmas.{Bool.{cases_eq, cases_lt}, Nat.{div-mul-add, mod-mul-add}, List.{length-append, length-map, map-append, get_or-map, get_or_append_left}, Map.Views.{Contains-from_any}}
+use Rattle.std.proofs.lemmas.{Bool.{cases_eq, cases_lt}, Nat.{div-mul-add, mod-mul-add}, List.{append-nil, length-append, length-map, map-append, get_or-map, get_or_append_left}, Map.Views.{Contains-from_any}}
 use Rattle.osek_values.specs.{Numbers.{block_no}, declared.numbers.{BlockNo.{BlockNo}, ResNo.{ResNo}}}
 use Rattle.osek_standard.specs.Validity.{IsAmong}
 use Rattle.abstract_state.specs.declared.value.{Val.{Val, TheVariants.{Suspended, Live, Waiting}}, LiveVal.{LiveVal}, Domain.{Domain}, PartValue.{PartValue, TheVariants.{OfTask}}}
@@ -11,9 +11,9 @@ use Rattle.abstract_state.specs.Components.{live_val}
 use Rattle.abstract_state.specs.{Domains.{IsWithin}, ValueOrder.{same_part}}
 use Rattle.abstract_state.proofs.OrderLaws.{part_right}
 use Rattle.flow_model.specs.{Values.{at_block}, Tests.{on_task}}
-use Rattle.numbered_sets.specs.{Pools.{with_value, AreNumbered, IsNumberOf}, Slots.{in_row, val_in, value_in, slot_values, IsTaskSlot, IsSlot, AreSlots, IsSlotInRow, IsTaskSlotOf, IsSlotOf, IsStackNumber, AreMoreStacks}}
-use Rattle.numbered_sets.specs.Slots.{IsPlaceOf, IsUnused, none, AreNumbersBySlot}
-use Rattle.numbered_sets.proofs.{PoolLaws.{numbered_with}, ViewLaws.{false_unless}}
+use Rattle.numbered_sets.specs.{Pools.{Values, with_value, AreNumbered, IsNumberOf}, Slots.{in_row, val_in, value_in, slot_values, IsTaskSlot, IsSlot, AreSlots, IsSlotInRow, IsTaskSlotOf, IsSlotOf, IsStackNumber, AreMoreStacks}}
+use Rattle.numbered_sets.specs.Slots.{IsPlaceOf, IsUnused, IsSlotGiven, AreDistinct, none, AreNumbersBySlot}
+use Rattle.numbered_sets.proofs.{PoolLaws.{numbered_with, seen_already}, ViewLaws.{false_unless}}
 
 -- ---- what stands in a row
 
@@ -142,24 +142,41 @@ live_slot first count stacks x k (Some s) number small at =
 
 -- ---- slots at another block
 
-moved_row : (stacks : List (List ResNo)) (r : ℕ) (b c : BlockNo) → (r ≡ 0 → ⊥) → in_row stacks r b ≡ at_block b (in_row stacks r c)
-moved_row stacks zero b c some = absurd (some refl)
-moved_row stacks (suc k) b c some = refl
+in_other_block : (first count row n : ℕ) (block : BlockNo) (stacks : List (List ResNo)) (found : Option ℕ) → row ≡ n / count → AreDistinct stacks → row < 1 + length stacks → (row ≡ 0 → ⊥) → block.0 < 2 ^ 16
+    → IfSome found (IsSlotInRow first count row block.0) → IfSome found (IsTaskSlotOf first count stacks (at_block block (in_row stacks (n / count) (block_no (first + n % count)))))
+in_other_block first count zero n block stacks found same distinct few live small at = absurd (live refl)
+in_other_block first count (suc k) n block stacks None same distinct few live small at = tt
+in_other_block first count (suc k) n block stacks (Some t) same distinct few live small at =
+    let x = live_val block (get_or stacks k []) in
+    let known : k < length stacks = omega (arith, few) in
+    let number : IsStackNumber stacks x.held k = record { known = known; is = refl; only = λ j lt e. distinct.each j k lt known e } in
+    let its : IsTaskSlotOf first count stacks (Live x) t = slot_of_row first count (suc k) t block stacks (Live x) at few small (in_live_row stacks x k number) (live_row stacks x k number) in
+    subst (λ (r : ℕ). IsTaskSlotOf first count stacks (at_block block (in_row stacks r (block_no (first + n % count)))) t) same its
 
-pub moved_slot : (first count row slot : ℕ) (block : BlockNo) (stacks : List (List ResNo)) (found : Option ℕ) → (slot ≡ 0 → ⊥) → row ≡ (slot - 1) / count → (row ≡ 0 → ⊥) → IfSome found (IsSlotInRow first count row block.0)
-    → IfSome found (λ t. val_in first count stacks t ≡ at_block block (val_in first count stacks slot))
-moved_slot first count row slot block stacks None some is live at = tt
-moved_slot first count row zero block stacks (Some t) some is live at = absurd (some refl)
-moved_slot first count row (suc n) block stacks (Some t) some is live at =
-    let less : suc n - 1 ≡ n = omega arith in
-    let same : n / count ≡ row = sym (is ∙ ap (λ (m : ℕ). m / count) less) in
-    in_slot first count row block.0 t stacks at ∙ moved_row stacks row block (block_no (first + n % count)) live
-    ∙ ap (λ (r : ℕ). at_block block (in_row stacks r (block_no (first + n % count)))) (sym same)
+of_task : (first : BlockNo) (count resources : ℕ) (stacks : List (List ResNo)) (v : Val) (t : ℕ) → IsTaskSlotOf first.0 count stacks v t → IsSlotOf (domain.Task first count resources) stacks (OfTask v) t
+of_task first count resources stacks v t h = record {
+  known = h.known;
+  is = ap OfTask h.is;
+  only = λ u known e. h.only u known (ap val_in_part e);
+}
+  where
+    val_in_part : PartValue → Val
+    val_in_part (OfTask w) = w
+    val_in_part other = Suspended
 
-pub moved_value : (first : BlockNo) (count resources slot : ℕ) (block : BlockNo) (stacks : List (List ResNo)) (found : Option ℕ) → IfSome found (λ t. val_in first.0 count stacks t ≡ at_block block (val_in first.0 count stacks slot))
-    → IfSome found (λ t. value_in (domain.Task first count resources) stacks t ≡ on_task (at_block block) (value_in (domain.Task first count resources) stacks slot))
-moved_value first count resources slot block stacks None at = tt
-moved_value first count resources slot block stacks (Some t) at = ap OfTask at
+pub slot_moved : (first : BlockNo) (count resources slot : ℕ) (block : BlockNo) (stacks : List (List ResNo)) (found : Option ℕ) → AreDistinct stacks → IsTaskSlot first.0 count stacks slot → (slot ≡ 0 → ⊥) → ((slot - 1) / count ≡ 0 → ⊥)
+    → block.0 < 2 ^ 16 → IfSome found (IsSlotInRow first.0 count ((slot - 1) / count) block.0)
+    → IfSome found (IsSlotOf (domain.Task first count resources) stacks (on_task (at_block block) (value_in (domain.Task first count resources) stacks slot)))
+slot_moved first count resources zero block stacks found distinct known some live small at = absurd (some refl)
+slot_moved first count resources (suc n) block stacks found distinct known some live small at =
+    let row = (suc n - 1) / count in
+    let same : row ≡ n / count = (let less : suc n - 1 ≡ n = omega arith in ap (λ (m : ℕ). m / count) less) in
+    let below = row_known n (1 + length stacks) count known.0 in
+    lifted found (in_other_block first.0 count row n block stacks found same distinct (omega (arith, below, same)) live small at)
+  where
+    lifted : (f : Option ℕ) → IfSome f (IsTaskSlotOf first.0 count stacks (at_block block (val_in first.0 count stacks (suc n)))) → IfSome f (IsSlotOf (domain.Task first count resources) stacks (OfTask (at_block block (val_in first.0 count stacks (suc n)))))
+    lifted None h = tt
+    lifted (Some t) h = of_task first count resources stacks (at_block block (val_in first.0 count stacks (suc n))) t h
 
 -- ---- values without a slot
 
@@ -294,6 +311,29 @@ module _ (d : Domain) (stacks after : List (List ResNo)) (slots more : List ℕ)
     subst (AreNumbered d) (sym values_pushed) (numbered_with d (slot_values d stacks slots) v h.0 within),
     subst (AreSlots d after) (sym pushed) (slots_pushed d after slots s (slots_stay d stacks after slots grown h.1) slot.known),
   )
+
+-- a slot with a number stays, and another comes in last
+module _ (d : Domain) (stacks after : List (List ResNo)) (slots more : List ℕ) (s n : ℕ) (v : PartValue) (grown : AreMoreStacks stacks after) (h : AreSeen d stacks slots) (slot : IsSlotOf d after v s) (given : IsSlotGiven slots s more) (place : IsPlaceOf more s n) where
+  pub given_values : slot_values d after more ≡ with_value (slot_values d stacks slots) v
+  given_values = elim given [
+    | inl same ↦
+        (let stay = values_stay d stacks after slots grown h.1 in
+        let there : IsNumberOf (slot_values d stacks slots) v n = subst (λ (vs : List PartValue). IsNumberOf vs v n) stay (value_numbered d after slots s n v (subst (λ (us : List ℕ). IsPlaceOf us s n) same place) slot.is) in
+        ap (slot_values d after) same ∙ stay ∙ sym (ap (λ (x : Values). x.values) (seen_already (record { domain = d; values = slot_values d stacks slots }) v n there)))
+    | inr new ↦ values_pushed d stacks after slots more s v grown h slot new.0 new.1
+  ]
+
+  pub given_seen : IsWithin d v → AreSeen d after more
+  given_seen within = elim given [
+    | inl same ↦ subst (AreSeen d after) (sym same) (seen_stay d stacks after slots grown h)
+    | inr new ↦ seen_pushed d stacks after slots more s v grown h slot new.0 new.1 within
+  ]
+
+  pub given_number : IsNumberOf (slot_values d after more) v n
+  given_number = value_numbered d after more s n v place slot.is
+
+pub same_stacks : (stacks : List (List ResNo)) → AreMoreStacks stacks stacks
+same_stacks stacks = record { more = []; is = sym (append-nil stacks) }
 
 -- ---- numbers by slot
 

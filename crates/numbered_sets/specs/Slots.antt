@@ -80,6 +80,10 @@ pub record IsPlaceOf (used : List ℕ) (s n : ℕ) : Type 0 where
 pub record IsUnused (used : List ℕ) (s : ℕ) : Type 0 where
   pub each : (n d : ℕ) → n < length used → slice_index_or used n d ≢ s
 
+-- a slot has a number, or gets the next one
+abbrev pub IsSlotGiven : (used : List ℕ) → (s : ℕ) → (after : List ℕ) → Type 0
+IsSlotGiven used s after = (after ≡ used) ⊎ (IsUnused used s × (after ≡ used ++ s ∷ []))
+
 abbrev pub none : ℕ
 none = 4294967295
 

@@ -89,11 +89,7 @@ impl SeenValues {
         ensures err { OnErr result (self.new ≡ self.old) }
     {
         let slot = slot_for(self.domain, &mut self.stacks, value)?;
-        if let Some(number) = self.slots.find(slot) {
-            return Ok(number);
-        }
-        let number = self.slots.len();
-        self.slots.push(slot)?;
+        let number = self.slots.number(slot)?;
         Ok(number)
     }
 
@@ -106,8 +102,10 @@ impl SeenValues {
         ensures err { OnErr result (self.new ≡ self.old) }
     {
         if let Update::Block(block) = update {
-            if let Some(moved) = self.number_at_block(number, *block) {
-                return Ok(moved);
+            let slot = self.slots.at(number);
+            if let Some(moved) = slot_at_block(self.domain, &self.stacks, slot, *block) {
+                let number = self.slots.number(moved)?;
+                return Ok(number);
             }
         }
         let value = update.of(&self.value(number));
@@ -122,20 +120,9 @@ impl SeenValues {
     {
         let slot = self.slots.at(other);
         let block = block_in(self.domain, slot);
-        match slot_at_block(self.domain, self.slots.at(number), block) {
+        match slot_at_block(self.domain, &self.stacks, self.slots.at(number), block) {
             None => false,
             Some(moved) => moved == slot,
-        }
-    }
-
-    // the number of what the value with a number becomes at a block, if it was found without making it
-    fn number_at_block(&self, number: usize, block: BlockNo) -> Option<usize>
-        requires { number < length self.now.values }
-        ensures { IfSome result (λ n. (v : PartValue) → IsNumberOf self.now.values v number → IsNumberOf self.now.values (updated (Block block) v) n) }
-    {
-        match slot_at_block(self.domain, self.slots.at(number), block) {
-            None => None,
-            Some(slot) => self.slots.find(slot),
         }
     }
 

@@ -85,10 +85,11 @@ fn slot_in_row(first: BlockNo, count: u16, row: usize, block: BlockNo) -> Option
     Some(1 + row * count as usize + offset)
 }
 
-/// The slot of what a Live task's value becomes at a block.
-pub fn slot_at_block(domain: Domain, slot: usize, block: BlockNo) -> Option<usize>
-    requires { slot < 2 ^ 32 }
-    ensures { (stacks : List (List ResNo)) → IfSome result (λ t. value_in domain stacks t ≡ updated (Block block) (value_in domain stacks slot)) }
+/// The slot of what a Live task's value becomes at a block, if it is one of the task's.
+pub fn slot_at_block(domain: Domain, stacks: &Stacks, slot: usize, block: BlockNo) -> Option<usize>
+    requires known { IsSlot domain stacks.now slot }
+    requires small { slot < 2 ^ 32 }
+    ensures { IfSome result (IsSlotOf domain stacks.now (updated (Block block) (value_in domain stacks.now slot))) }
 {
     let Domain::Task { first, count, .. } = domain else {
         return None;
@@ -100,6 +101,7 @@ pub fn slot_at_block(domain: Domain, slot: usize, block: BlockNo) -> Option<usiz
     if row == 0 {
         return None;
     }
+    stacks.are_distinct();
     slot_in_row(first, count, row, block)
 }
 

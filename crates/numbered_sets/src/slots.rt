@@ -29,7 +29,7 @@ impl Model for Slots {
 
 impl Slots {
     ghost use Rattle.std.specs.Prelude.{ℕ, ◌≡◌, ◌≢◌, ◌<◌, ◌^◌, [], ◌∷◌, ◌++◌, length, slice_index_or, IfOk, OnOk, OnErr, IfSome, IfNone};
-    ghost use Rattle.numbered_sets.specs.Slots.{IsUnused, IsPlaceOf};
+    ghost use Rattle.numbered_sets.specs.Slots.{IsUnused, IsPlaceOf, IsSlotGiven};
 
     /// No slot yet.
     pub fn new(alloc: Global) -> Slots
@@ -72,8 +72,22 @@ impl Slots {
         Some(number as usize)
     }
 
-    /// Gives the next number to a slot. There are no slots past 32 bits.
-    pub fn push(&mut self, slot: usize) -> Result<(), Memory>
+    /// The number of a slot, which gets the next one where it has none.
+    pub fn number(&mut self, slot: usize) -> Result<usize, Memory>
+        ensures slots { OnOk result (IsSlotGiven self.old slot self.new) }
+        ensures number { IfOk result (IsPlaceOf self.new slot) }
+        ensures err { OnErr result (self.new ≡ self.old) }
+    {
+        if let Some(number) = self.find(slot) {
+            return Ok(number);
+        }
+        let number = self.used.len();
+        self.push(slot)?;
+        Ok(number)
+    }
+
+    // gives the next number to a slot; there are no slots past 32 bits
+    fn push(&mut self, slot: usize) -> Result<(), Memory>
         requires { IsUnused self.old slot }
         ensures slots { OnOk result (self.new ≡ self.old ++ slot ∷ []) }
         ensures err { OnErr result (self.new ≡ self.old) }

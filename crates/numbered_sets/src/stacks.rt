@@ -94,6 +94,13 @@ impl Stacks {
         &self.seen.as_slice()[number].held
     }
 
+    /// None stands twice.
+    pub fn are_distinct(&self)
+        ensures { AreDistinct self.now }
+    {
+        let _seen = &self.seen;
+    }
+
     /// The number of a stack, if it has one.
     pub fn find(&self, held: &Held) -> Option<usize>
         ensures number { IfSome result (IsStackNumber self.now held.now) }

@@ -1,15 +1,15 @@
-use Rattle.std.proofs.Common.{◌≡◌, refl, sym, subst}
+use Rattle.std.proofs.Common.{sym, subst}
 use Rattle.std.specs.Prelude.{IfSome}
 use Rattle.abstract_state.specs.declared.value.Domain.{Domain}
 use Rattle.flow_model.specs.{Values.{at_block}, Tests.{on_task}}
-use Rattle.numbered_sets.specs.Slots.{value_in}
-use Rattle.numbered_sets.proofs.SlotLaws.{moved_slot, moved_value}
+use Rattle.numbered_sets.specs.Slots.{value_in, IsSlot, IsSlotOf}
+use Rattle.numbered_sets.proofs.SlotLaws.{slot_moved}
 use Rattle.numbered_sets.proofs.slot_values.slot_at_block.Goals as goal
 
 pub returns : goal.returns
-returns c = λ stacks.
-    let found = c.slot_in_row.result in
+returns c =
+    let stacks = c.args.stacks.now in
     let b = c.args.block in
-    let moved = moved_slot c.in-Task.first.0 c.in-Task.count _ c.args.slot b stacks found c.if-slot-eq0.false refl c.if-row-eq0.false c.slot_in_row.ensures.slot in
-    subst (λ (d : Domain). IfSome found (λ t. value_in d stacks t ≡ on_task (at_block b) (value_in d stacks c.args.slot))) (sym c.in-Task.is)
-    (moved_value c.in-Task.first c.in-Task.count c.in-Task.resources c.args.slot b stacks found moved)
+    let known = subst (λ (d : Domain). IsSlot d stacks c.args.slot) c.in-Task.is c.requires.known in
+    subst (λ (d : Domain). IfSome c.slot_in_row.result (IsSlotOf d stacks (on_task (at_block b) (value_in d stacks c.args.slot)))) (sym c.in-Task.is)
+    (slot_moved c.in-Task.first c.in-Task.count c.in-Task.resources c.args.slot b stacks c.slot_in_row.result c.are_distinct.ensures known c.if-slot-eq0.false c.if-row-eq0.false c.slot_in_row.ensures.small c.slot_in_row.ensures.slot)
