@@ -1,18 +1,19 @@
 -- The numbers of the values that pass a test, and an entry that has one of them.
-use Rattle.std.proofs.Common.{◌≡◌, ℕ, ◌+◌, ◌<◌, ◌≤◌, true, false, List, [], ◌∷◌, length, get_or, IsTrue, refl, sym, ap, ◌∙◌, arith}
-use Rattle.std.specs.{Prelude.{Contains}, declared.option.Option.{Option}}
+use Rattle.std.proofs.Common.{◌≡◌, ℕ, ◌+◌, ◌^◌, ◌<◌, ◌≤◌, Bool, true, false, ◌||◌, List, [], ◌∷◌, length, get_or, IsTrue, refl, sym, ap, ap₂, ◌∙◌, inl, inr, arith}
+use Rattle.std.specs.{Prelude.{Contains, ◌==◌}, declared.option.Option.{Option}}
 use Rattle.osek_values.specs.declared.numbers.BlockNo.{BlockNo}
-use Rattle.std.proofs.lemmas.List.{get_or_default, length-map}
+use Rattle.std.proofs.lemmas.{Bool.{cases_eq, eq-eqb, ne_eqb}, List.{get_or_default, length-map}}
+use Rattle.bit_words.proofs.BitCounts.{has_either, has_one}
 use Rattle.osek_standard.specs.declared.app.App.{App}
 use Rattle.abstract_state.specs.declared.{value.{Domain.{Domain}, PartValue.{PartValue, TheVariants.{OfAlarm}}}, table.ValueSet.{ValueSet}}
 use Rattle.abstract_state.specs.declared.value.Domain.TheVariants as domain
 use Rattle.abstract_state.specs.{Components.{components, component_count}, Domains.{domain_of, domains_of}, Tables.{set_at, is_member}, Written.{IsRow}}
 use Rattle.flow_model.specs.{declared.test.Test.{Test}, Tests.{passes}}
-use Rattle.numbered_sets.specs.{declared.{numbered_entry.NumberedEntry.{NumberedEntry}, table.NumberedRow.{NumberedRow}, filter.Filter.{Filter}}, Filters.{IsFilter}}
+use Rattle.numbered_sets.specs.{declared.{numbered_entry.NumberedEntry.{NumberedEntry}, table.NumberedRow.{NumberedRow}}}
 use Rattle.numbered_sets.specs.{Numbers.{Numbers, numbers, has_number, with_number, meets}, NumberedEntries.{numbers_at}, Pools.{Values, values_at, pool_domains, IsNumberOf}, Views.{plain_entry, AreNumbersOf}}
 use Rattle.numbered_sets.specs.PlainTables.{plain_row, plain_rows, plain_table}
 use Rattle.numbered_sets.proofs.{PlainLaws.{member_of_plain, plain_set_at, value_with_number}, KnownNumbers.{no_bit_of_none, found}, MeetLaws.{common_of, meets_at}}
-use Rattle.numbered_sets.proofs.{SiftLaws.{filter_taken, filter_passed_over}, ViewLaws.{false_unless}, WrittenRows.{row_there, number_domains_of}}
+use Rattle.numbered_sets.proofs.{ViewLaws.{false_unless}, WrittenRows.{row_there, number_domains_of}}
 use Rattle.flow_check.specs.Rows.{AreRowsFrom}
 use Rattle.flow_report.specs.Reached.{ArePassing, IsThere, ShowsRow}
 
@@ -44,29 +45,58 @@ module _ (pool : List Values) (entry : NumberedEntry) (c : ℕ) (t : Test) (x : 
 
 -- ---- numbers in a loop over the values
 
-abbrev pub filter_of : Test → Numbers → ℕ → Filter
-filter_of t x k = record { test = t; passing = x; judged = k }
+-- the numbers of the values below one that pass
+pub record ArePassingBelow (vs : List PartValue) (t : Test) (x : Numbers) (k : ℕ) : Type 0 where
+  pub each : (n : ℕ) (none : PartValue) → n < k → n < length vs → has_number x n ≡ passes t (get_or vs n none)
+  pub past : (n : ℕ) → k ≤ n → has_number x n ≡ false
 
 no_bit : (n : ℕ) → has_number (numbers domain.Alarm 0) n ≡ false
 no_bit n = false_unless (has_number (numbers domain.Alarm 0) n) ⊥ (no_bit_of_none n) (λ no. no)
 
 module _ (vs : List PartValue) (t : Test) where
-  pub none_judged : (x : Numbers) (d : Domain) → x ≡ numbers d 0 → IsFilter vs (filter_of t x 0)
+  pub none_judged : (x : Numbers) (d : Domain) → x ≡ numbers d 0 → ArePassingBelow vs t x 0
   none_judged x d e = record {
-    few = omega arith;
-    each = λ n none lt. absurd (omega (arith, lt));
+    each = λ n none lt known. absurd (omega (arith, lt));
     past = λ n le. ap (λ (y : Numbers). has_number y n) e ∙ no_bit n;
   }
 
-  module _ (x after : Numbers) (k : ℕ) (v : PartValue) (h : IsFilter vs (filter_of t x k)) (lt : k < length vs) (is : IsNumberOf vs v k) where
-    pub one_taken : passes t v ≡ true → after ≡ with_number x k → IsFilter vs (filter_of t after (k + 1))
-    one_taken passed put = filter_taken vs (filter_of t x k) (filter_of t after (k + 1)) k v h refl lt (is.is v) refl refl passed put
+  module _ (x after : Numbers) (k : ℕ) (v : PartValue) (h : ArePassingBelow vs t x k) (is : IsNumberOf vs v k) where
+    judged_last : (n : ℕ) (none : PartValue) → n ≡ k → passes t (get_or vs n none) ≡ passes t v
+    judged_last n none last = ap (λ (j : ℕ). passes t (get_or vs j none)) last ∙ ap (passes t) (is.is none)
 
-    pub one_passed_over : passes t v ≡ false → IsFilter vs (filter_of t x (k + 1))
-    one_passed_over failed = filter_passed_over vs (filter_of t x k) (filter_of t x (k + 1)) k v h refl lt (is.is v) refl refl failed refl
+    pub one_taken : passes t v ≡ true → after ≡ with_number x k → ArePassingBelow vs t after (k + 1)
+    one_taken passed put = record {
+      each = λ n none lt known. elim (cases_eq n k) [
+        | inl last ↦
+            has_after n ∙ ap (λ (b : Bool). has_number x n || b) (eq-eqb n k last) ∙ or_true (has_number x n) ∙ sym (judged_last n none last ∙ passed)
+        | inr other ↦
+            has_after n ∙ ap (λ (b : Bool). has_number x n || b) (ne_eqb n k other) ∙ or_false (has_number x n) ∙ h.each n none (omega (arith, lt, other)) known
+      ];
+      past = λ n le. has_after n ∙ ap₂ (λ (a b : Bool). a || b) (h.past n (omega (arith, le))) (ne_eqb n k (λ e. omega (arith, e, le)));
+    }
+      where
+        has_after : (n : ℕ) → has_number after n ≡ (has_number x n || (n == k))
+        has_after n = ap (λ (y : Numbers). has_number y n) put ∙ has_either x.bits (2 ^ k) n ∙ ap (λ (b : Bool). has_number x n || b) (has_one k n)
 
-  pub all_judged : (x : Numbers) (k : ℕ) → IsFilter vs (filter_of t x k) → length vs ≤ k → ArePassing vs t x
-  all_judged x k h whole = record { each = λ n none lt. h.each n none (omega (arith, lt, whole)) }
+        or_true : (b : Bool) → (b || true) ≡ true
+        or_true true = refl
+        or_true false = refl
+
+        or_false : (b : Bool) → (b || false) ≡ b
+        or_false true = refl
+        or_false false = refl
+
+    pub one_passed_over : passes t v ≡ false → ArePassingBelow vs t x (k + 1)
+    one_passed_over failed = record {
+      each = λ n none lt known. elim (cases_eq n k) [
+        | inl last ↦ h.past n (omega (arith, last)) ∙ sym (judged_last n none last ∙ failed)
+        | inr other ↦ h.each n none (omega (arith, lt, other)) known
+      ];
+      past = λ n le. h.past n (omega (arith, le));
+    }
+
+  pub all_judged : (x : Numbers) (k : ℕ) → ArePassingBelow vs t x k → length vs ≤ k → ArePassing vs t x
+  all_judged x k h whole = record { each = λ n none lt. h.each n none (omega (arith, lt, whole)) lt }
 
 -- ---- a pool of which a row has numbers has values for each component
 

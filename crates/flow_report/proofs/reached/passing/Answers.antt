@@ -1,6 +1,6 @@
-use Rattle.std.proofs.Common.{◌+◌, ◌<◌, length, sym, subst, ◌∙◌, arith}
-use Rattle.numbered_sets.specs.{Filters.{IsFilter}, Numbers.{Numbers}}
-use Rattle.flow_report.proofs.PassingNumbers.{filter_of, one_taken, one_passed_over}
+use Rattle.std.proofs.Common.{◌+◌, sym, subst, ◌∙◌}
+use Rattle.numbered_sets.specs.Numbers.{Numbers}
+use Rattle.flow_report.proofs.PassingNumbers.{ArePassingBelow, one_taken, one_passed_over}
 use Rattle.numbered_sets.specs.Pools.{values_at}
 use Rattle.flow_report.proofs.reached.passing.Goals.{then-passes+in_ok-insert, else-passes}
 use Rattle.flow_report.proofs.reached.passing.Goals as goal
@@ -8,12 +8,11 @@ use Rattle.flow_report.proofs.reached.passing.Goals as goal
 pub loop-number-preserved : goal.loop-number-preserved
 loop-number-preserved c =
     let vs = values_at c.args.pool.now c.args.component in
-    let lt : c.loop-number.number < length vs = omega (arith, c.loop-number-test.true, c.len-number-end.ensures) in
     elim c.if-passes.branch [
       | then-passes+in_ok-insert w ↦
-          subst (λ (x : Numbers). IsFilter vs (filter_of c.args.test.now x (c.loop-number.number + 1))) (sym w.passing-is)
-          (one_taken vs c.args.test.now c.loop-number.passing w.insert.new.self c.loop-number.number c.value.result c.loop-number.invariant lt c.value.ensures (sym c.passes.ensures ∙ w.if-passes.true) w.in_ok-insert.ensures.set)
+          subst (λ (x : Numbers). ArePassingBelow vs c.args.test.now x (c.loop-number.number + 1)) (sym w.passing-is)
+          (one_taken vs c.args.test.now c.loop-number.passing w.insert.new.self c.loop-number.number c.value.result c.loop-number.invariant c.value.ensures (sym c.passes.ensures ∙ w.if-passes.true) w.in_ok-insert.ensures.set)
       | else-passes w ↦
-          subst (λ (x : Numbers). IsFilter vs (filter_of c.args.test.now x (c.loop-number.number + 1))) (sym w.passing-is)
-          (one_passed_over vs c.args.test.now c.loop-number.passing c.loop-number.passing c.loop-number.number c.value.result c.loop-number.invariant lt c.value.ensures (sym c.passes.ensures ∙ w.if-passes.false))
+          subst (λ (x : Numbers). ArePassingBelow vs c.args.test.now x (c.loop-number.number + 1)) (sym w.passing-is)
+          (one_passed_over vs c.args.test.now c.loop-number.passing c.loop-number.passing c.loop-number.number c.value.result c.loop-number.invariant c.value.ensures (sym c.passes.ensures ∙ w.if-passes.false))
     ]
