@@ -14,6 +14,9 @@ use Rattle.table_codec.proofs.AscendingValues.{values_same}
 nothing : NumberedValue
 nothing = numbered_value 0 (OfAlarm false)
 
+pub rank_there : (all : List NumberedValue) (k : ℕ) (d : NumberedValue) → k < length all → IsRank all (get_or all k d).number k
+rank_there all k d lt = record { known = lt; is = λ e. ap (λ (v : NumberedValue). v.number) (get_or_default all k e d lt) }
+
 -- ---- each number is that of one value
 
 length_numbered : (vs : List PartValue) (n : ℕ) → length (numbered_from n vs) ≡ length vs
@@ -25,7 +28,7 @@ number_at [] n i d lt = absurd (omega (arith, lt))
 number_at (v ∷ vs) n zero d lt = omega arith
 number_at (v ∷ vs) n (suc i) d lt = (let rest = number_at vs (n + 1) i d (omega (arith, lt)) in omega (arith, rest))
 
-same_number : NumberedValue → NumberedValue → Bool
+abbrev same_number : NumberedValue → NumberedValue → Bool
 same_number a b = a.number == b.number
 
 flips : (a b : NumberedValue) → same_number a b ≡ same_number b a
@@ -54,9 +57,9 @@ module _ (vs : List PartValue) (all : List NumberedValue) (moved : IsPermutation
   below n k is =
       let v = get_or all k nothing in
       let there = Contains-permutation all (numbered_from 0 vs) v (IsPermutation-sym (numbered_from 0 vs) all moved) (k, is.known, get_or_default all k v nothing is.known) in
-      let less : there.0 < length vs = omega (arith, there.1.0, length_numbered vs 0) in
+      let less : there.0 < length vs = omega (arith, there.1, length_numbered vs 0) in
       let number = number_at vs 0 there.0 v less in
-      let same : (get_or (numbered_from 0 vs) there.0 v).number ≡ v.number = ap (λ (w : NumberedValue). w.number) there.1.1 in
+      let same : (get_or (numbered_from 0 vs) there.0 v).number ≡ v.number = ap (λ (w : NumberedValue). w.number) there.2 in
       omega (arith, number, same, is.is nothing, less, as_many)
 
   some : (n : ℕ) → n < length all → (k : ℕ) × IsRank all n k
@@ -64,11 +67,13 @@ module _ (vs : List PartValue) (all : List NumberedValue) (moved : IsPermutation
       let v = get_or (numbered_from 0 vs) n nothing in
       let here : n < length (numbered_from 0 vs) = omega (arith, lt, as_many, length_numbered vs 0) in
       let there = Contains-permutation (numbered_from 0 vs) all v moved (n, here, get_or_default (numbered_from 0 vs) n v nothing here) in
-      let number : v.number ≡ 0 + n = number_at vs 0 n nothing (omega (arith, lt, as_many)) in
-      (there.0, record {
-        known = there.1.0;
-        is = λ d. ap (λ (w : NumberedValue). w.number) (get_or_default all there.0 d v there.1.0 ∙ there.1.1) ∙ omega (arith, number);
-      })
+      let number : v.number ≡ 0 + n = number_at vs 0 n nothing (omega (arith, lt, as_many)) in (
+        there.0,
+        record {
+          known = there.1;
+          is = λ d. ap (λ (w : NumberedValue). w.number) (get_or_default all there.0 d v there.1 ∙ there.2) ∙ omega (arith, number);
+        },
+      )
 
   apart : (n j k : ℕ) → IsRank all n j → IsRank all n k → j < k → ⊥
   apart n j k first second lt =
@@ -136,13 +141,13 @@ has_others y r k other = has_either y.bits (2 ^ r) k ∙ ap (λ (b : Bool). has_
 
 -- one value more passes
 one_more : (vs : List PartValue) (f g : ℕ → Bool) (r : ℕ) → r < length vs → f r ≡ false → g r ≡ true → ((k : ℕ) → k ≢ r → g k ≡ f k) → length (values_with vs g) ≡ length (values_with vs f) + 1
-one_more [] f g r lt no yes same = absurd (omega (arith, lt))
-one_more (v ∷ vs) f g zero lt no yes same =
-    let more = ap₂ (λ (b : Bool) (ws : List PartValue). length ((if b then v ∷ [] else []) ++ ws)) yes (values_same vs (λ n. g (suc n)) (λ n. f (suc n)) (λ n. same (suc n) (λ e. omega (arith, e)))) in
-    let fewer = ap (λ (b : Bool). length ((if b then v ∷ [] else []) ++ values_with vs (λ n. f (suc n)))) no in
+one_more [] f g r lt out taken same = absurd (omega (arith, lt))
+one_more (v ∷ vs) f g zero lt out taken same =
+    let more = ap₂ (λ (b : Bool) (ws : List PartValue). length ((if b then v ∷ [] else []) ++ ws)) taken (values_same vs (λ n. g (suc n)) (λ n. f (suc n)) (λ n. same (suc n) (λ e. omega (arith, e)))) in
+    let fewer = ap (λ (b : Bool). length ((if b then v ∷ [] else []) ++ values_with vs (λ n. f (suc n)))) out in
     omega (arith, more, fewer)
-one_more (v ∷ vs) f g (suc r) lt no yes same =
-    let rest = one_more vs (λ n. f (suc n)) (λ n. g (suc n)) r (omega (arith, lt)) no yes (λ k other. same (suc k) (λ e. other (omega (arith, e)))) in
+one_more (v ∷ vs) f g (suc r) lt out taken same =
+    let rest = one_more vs (λ n. f (suc n)) (λ n. g (suc n)) r (omega (arith, lt)) out taken (λ k other. same (suc k) (λ e. other (omega (arith, e)))) in
     ap (λ (b : Bool). length ((if b then v ∷ [] else []) ++ values_with vs (λ n. g (suc n)))) (same 0 (λ e. omega (arith, e))) ∙ by_test (f 0) rest
   where
     by_test : (b : Bool) → length (values_with vs (λ n. g (suc n))) ≡ length (values_with vs (λ n. f (suc n))) + 1
@@ -166,7 +171,8 @@ ranked_in (w ∷ all) f x h =
 pub record AreRankedUpTo (x : Numbers) (all : List NumberedValue) (bound : ℕ) (y : Numbers) (count : ℕ) : Type 0 where
   pub below : (n k : ℕ) → IsRank all n k → n < bound → has_number y k ≡ has_number x n
   pub past : (n k : ℕ) → IsRank all n k → bound ≤ n → has_number y k ≡ false
-  pub count : count ≡ length (values_ranked y all)
+  pub few : count ≤ bound
+  pub size : count ≡ length (values_ranked y all)
 
 no_rank : (k : ℕ) → has_bit 0 k ≡ false
 no_rank k = false_unless (has_bit 0 k) ⊥ (no_bit_of_none k) (λ no. no)
@@ -175,7 +181,8 @@ pub none_ranked : (x : Numbers) (all : List NumberedValue) (d : Domain) → AreR
 none_ranked x all d = record {
   below = λ n k is lt. absurd (omega (arith, lt));
   past = λ n k is le. no_rank k;
-  count = sym (ap (λ (vs : List PartValue). length vs) (values_with_none (only_values all) (has_bit 0) no_rank));
+  few = omega arith;
+  size = sym (ap (λ (vs : List PartValue). length vs) (values_with_none (only_values all) (has_bit 0) no_rank));
 }
 
 -- the set has no number from there to a later one
@@ -186,7 +193,8 @@ ranked_on x all k j y count up none h = record {
     | inr from ↦ h.past n r is from ∙ sym (none n from lt)
   ];
   past = λ n r is le. h.past n r is (omega (arith, le, up));
-  count = h.count;
+  few = omega (arith, h.few, up);
+  size = h.size;
 }
 
 module _ (x : Numbers) (all : List NumberedValue) (once : AreNumberedOnce all) (number rank : ℕ) (is : IsRank all number rank) where
@@ -200,10 +208,11 @@ module _ (x : Numbers) (all : List NumberedValue) (once : AreNumberedOnce all) (
       | inr other ↦ has_others y rank k (elsewhere n k at other) ∙ h.below n k at (omega (arith, lt, other))
     ];
     past = λ n k at le. has_others y rank k (elsewhere n k at (λ e. omega (arith, le, e))) ∙ h.past n k at (omega (arith, le));
-    count =
-        let size : rank < length (only_values all) = omega (arith, is.known, length-map all (λ (v : NumberedValue). v.value)) in
-        let more = one_more (only_values all) (has_number y) (has_number (with_number y rank)) rank size (h.past number rank is (omega arith)) (has_it y rank) (λ k other. has_others y rank k other) in
-        omega (arith, more, h.count);
+    few = omega (arith, h.few);
+    size =
+        let inside : rank < length (only_values all) = omega (arith, is.known, length-map all (λ (v : NumberedValue). v.value)) in
+        let more = one_more (only_values all) (has_number y) (has_number (with_number y rank)) rank inside (h.past number rank is (omega arith)) (has_it y rank) (λ k other. has_others y rank k other) in
+        omega (arith, more, h.size);
   }
     where
       elsewhere : (n k : ℕ) → IsRank all n k → n ≢ number → k ≢ rank
@@ -213,6 +222,6 @@ module _ (x : Numbers) (all : List NumberedValue) (once : AreNumberedOnce all) (
 pub all_ranks_in : (x : Numbers) (all : List NumberedValue) (once : AreNumberedOnce all) (bound : ℕ) (y : Numbers) (count : ℕ) → length all ≤ bound → AreRankedUpTo x all bound y count → AreRanksIn x all (record { ranks = y; count = count })
 all_ranks_in x all once bound y count whole h =
     let same = ranked_in all (has_number y) x (λ k d lt.
-    let is : IsRank all (get_or all k d).number k = record { known = lt; is = λ e. ap (λ (v : NumberedValue). v.number) (get_or_default all k e d lt) } in
+    let is = rank_there all k d lt in
     h.below (get_or all k d).number k is (omega (arith, once.below (get_or all k d).number k is, whole))) in
-    record { values = same; count = h.count ∙ ap (λ (vs : List PartValue). length vs) same }
+    record { values = same; count = h.size ∙ ap (λ (vs : List PartValue). length vs) same }

@@ -1,9 +1,10 @@
 -- Writing the values with some ranks, in their order: what is left to write.
 use Rattle.std.proofs.Common.{◌≡◌, ℕ, zero, suc, ◌+◌, ◌<◌, ◌≤◌, Bool, true, false, List, [], ◌∷◌, ◌++◌, length, drop, get_or, refl, sym, ap, ap₂, subst, ◌∙◌, inl, inr, arith, drop-cons}
-use Rattle.std.specs.Prelude.{if◌then◌else◌}
-use Rattle.std.proofs.{Math.ListN.{drop_of_length-le}, lemmas.{Bool.{cases_eq}, List.{get_or_default}}}
+use Rattle.std.specs.{Prelude.{if◌then◌else◌}, List.{flat_map}}
+use Rattle.std.proofs.{Math.ListN.{drop_of_length-le}, lemmas.{Bool.{cases_eq}, List.{get_or_default, get_or-map, length-map, Concat.{flat_map-cons}}}}
 use Rattle.abstract_state.specs.declared.value.PartValue.{PartValue, TheVariants.{OfAlarm}}
 use Rattle.numbered_sets.specs.Views.{values_with}
+use Rattle.table_codec.specs.{declared.ascending.NumberedValue.{NumberedValue}, Ranks.{only_values}, Spelling.{value_bytes}}
 use Rattle.table_codec.proofs.AscendingValues.{values_same}
 
 -- the values from a rank on that pass
@@ -39,3 +40,16 @@ module _ (vs : List PartValue) (has : ℕ → Bool) where
         = next_left m v less (get_or_default vs m v (OfAlarm false) less) ∙ ap (λ (b : Bool). (if b then v ∷ [] else []) ++ values_left vs has (m + 1)) (none m (omega (arith, le, differ)) (omega arith)) in
         ap (values_left vs has) more ∙ sym passed ∙ left_on k m (omega (arith, le, differ)) (omega (arith, whole)) (λ i above below. none i above (omega (arith, below))))
   ]
+
+-- the value with the next rank
+pub one_left : (all : List NumberedValue) (has : ℕ → Bool) (k : ℕ) (d : NumberedValue) → k < length all → has k ≡ true → values_left (only_values all) has k ≡ (get_or all k d).value ∷ values_left (only_values all) has (k + 1)
+one_left all has k d lt there =
+    let v = (get_or all k d).value in
+    let at : get_or (only_values all) k v ≡ v = get_or-map (λ (w : NumberedValue). w.value) all k d v lt in
+    next_left (only_values all) has k v (omega (arith, lt, length-map all (λ (w : NumberedValue). w.value))) at
+    ∙ ap (λ (b : Bool). (if b then v ∷ [] else []) ++ values_left (only_values all) has (k + 1)) there
+
+-- what is left, its values one after the other
+pub one_put : (all : List NumberedValue) (has : ℕ → Bool) (k : ℕ) (d : NumberedValue) → k < length all → has k ≡ true
+    → flat_map value_bytes (values_left (only_values all) has k) ≡ value_bytes (get_or all k d).value ++ flat_map value_bytes (values_left (only_values all) has (k + 1))
+one_put all has k d lt there = ap (flat_map value_bytes) (one_left all has k d lt there) ∙ flat_map-cons value_bytes (get_or all k d).value (values_left (only_values all) has (k + 1))

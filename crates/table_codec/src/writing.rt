@@ -255,7 +255,14 @@ pub fn write_table(alloc: Global, app: &App, table: &Table) -> Result<Vec<u8>, W
     let values = all_ascending(alloc, &numbered.pool, components.len(), numbered.rows.len())?;
     let mut out = Vec::new(alloc);
     out.extend_from_slice(magic())?;
-    put_rows(alloc, &mut out, &points, &components, &values, numbered.rows)?;
+    put_rows(
+        alloc,
+        &mut out,
+        &points,
+        &components,
+        &values,
+        numbered.rows,
+    )?;
     limited(&out)?;
     Ok(out)
 }
