@@ -1,7 +1,7 @@
 -- Ranks: each number's, and those of the numbers in a set.
 use Rattle.std.proofs.Common.{◌≡◌, ◌≢◌, ℕ, zero, suc, ◌+◌, ◌^◌, ◌<◌, ◌≤◌, Bool, true, false, ◌||◌, cond, List, [], ◌∷◌, ◌++◌, length, map, filter, set, get_or, refl, sym, ap, ap₂, subst, ◌∙◌, inl, inr, arith}
 use Rattle.std.specs.{Prelude.{if◌then◌else◌, ◌==◌}, List.{IsDistinct, Sorted.{IsPermutation}}}
-use Rattle.std.proofs.lemmas.{Bool.{cases_lt, cases_eq, eq-eqb, ne_eqb, eqb-true}, Map.Keys.{IsDistinct-IsPermutation, IsDistinct-from_apart, apart_from_distinct}}
+use Rattle.std.proofs.lemmas.{Bool.{cases_lt, cases_eq, eq-eqb, ne_eqb}, Map.Keys.{IsDistinct-IsPermutation, IsDistinct-from_apart, apart_from_distinct}}
 use Rattle.std.proofs.lemmas.List.{get_or_default, get_or-set_same, get_or-set_other, length-set, length-map, Sorted.{IsPermutation-sym, Contains-permutation, length_permutation}}
 use Rattle.bit_words.proofs.BitCounts.{has_either, has_one}
 use Rattle.abstract_state.specs.declared.value.{Domain.{Domain}, PartValue.{PartValue, TheVariants.{OfAlarm}}}

@@ -1,5 +1,5 @@
 -- Writing the values with some ranks, in their order: what is left to write.
-use Rattle.std.proofs.Common.{◌≡◌, ℕ, zero, suc, ◌+◌, ◌<◌, ◌≤◌, Bool, true, false, List, [], ◌∷◌, ◌++◌, length, drop, get_or, refl, sym, ap, ap₂, subst, ◌∙◌, inl, inr, arith, drop-cons}
+use Rattle.std.proofs.Common.{◌≡◌, ℕ, zero, suc, ◌+◌, ◌<◌, ◌≤◌, Bool, true, false, List, [], ◌∷◌, ◌++◌, length, drop, get_or, sym, ap, ap₂, ◌∙◌, inl, inr, arith, drop-cons}
 use Rattle.std.specs.{Prelude.{if◌then◌else◌}, List.{flat_map}}
 use Rattle.std.proofs.{Math.ListN.{drop_of_length-le}, lemmas.{Bool.{cases_eq}, List.{get_or_default, get_or-map, length-map, Concat.{flat_map-cons}}}}
 use Rattle.abstract_state.specs.declared.value.PartValue.{PartValue, TheVariants.{OfAlarm}}

@@ -1,9 +1,9 @@
 -- The steps of the writer's loops.
-use Rattle.std.proofs.Common.{◌≡◌, ℕ, zero, suc, ◌+◌, ◌<◌, ◌≤◌, Bool, true, false, cond, List, [], ◌∷◌, ◌++◌, length, map, filter, take, drop, get_or, refl, sym, ap, ap₂, subst, ◌∙◌, arith, append_assoc, All, drop-cons}
-use Rattle.std.specs.{Prelude.{if◌then◌else◌, sum_by, Err}, Int.{to_be_bytes, w16}, List.{AllByRecursion}}
-use Rattle.std.proofs.{Math.ListN.{drop_of_length-le}, lemmas.{Bool.{eq-eqb, ne_eqb}, List.{Elements.{recursion_from_All}, Sums.{sum_by-append, sum_by-cons}}}}
+use Rattle.std.proofs.Common.{◌≡◌, ℕ, zero, suc, ◌+◌, ◌<◌, ◌≤◌, Bool, true, false, cond, List, [], ◌∷◌, ◌++◌, length, map, filter, take, drop, get_or, refl, sym, ap, ap₂, ◌∙◌, arith, append_assoc, drop-cons}
+use Rattle.std.specs.{Prelude.{if◌then◌else◌, sum_by, Err}, Int.{to_be_bytes, w16}}
+use Rattle.std.proofs.{Math.ListN.{drop_of_length-le}, lemmas.{Bool.{eq-eqb, ne_eqb}, List.{Sums.{sum_by-append, sum_by-cons}}}}
 use Rattle.osek_standard.specs.{declared.point.Point.{Point}, Points.{point_number}}
-use Rattle.abstract_state.specs.declared.value.{Component.{Component}, LiveVal.{LiveVal}, Val.TheVariants.{Live}, PartValue.{PartValue, TheVariants.{OfTask}}}
+use Rattle.abstract_state.specs.declared.value.{Component.{Component}, LiveVal.{LiveVal}, Val.TheVariants.{Live}, PartValue.{TheVariants.{OfTask}}}
 use Rattle.numbered_sets.specs.{Numbers.{Numbers, has_number}, declared.table.NumberedRow.{NumberedRow}}
 use Rattle.table_codec.specs.{declared.ascending.NumberedValue.{NumberedValue}, Ascending.{values_in}, Spelling.{flag_number, resource_numbers, sets_bytes, value_bytes}}
 use Rattle.osek_values.specs.declared.limits.TheConstants.{MAX_TABLE}

@@ -4,7 +4,7 @@ use Rattle.std.proofs.lemmas.List.{length-map, Elements.{recursion_from_All}}
 use Rattle.abstract_state.specs.declared.value.PartValue.{PartValue}
 use Rattle.numbered_sets.specs.Numbers.{has_number}
 use Rattle.table_codec.specs.{declared.ascending.NumberedValue.{NumberedValue}, Ranks.{only_values, values_ranked}, Spelling.{value_bytes}, Writing.{CanBeWritten}}
-use Rattle.table_codec.proofs.{RankedWriting.{values_left, all_left, left_on, none_left, one_left, one_put}, WriteLaws.{put_on}}
+use Rattle.table_codec.proofs.{RankedWriting.{values_left, all_left, left_on, one_left, one_put}, WriteLaws.{put_on}}
 use Rattle.table_codec.proofs.writing.put_values.Goals as goal
 
 pub loop-rank-init : goal.loop-rank-init
