@@ -55,7 +55,7 @@ any_filtered w has (x ∷ xs) = by_test (has x.number) (any_filtered w has xs)
     by_test true rest = ap (λ (c : Bool). same_part w x.value || c) rest
     by_test false rest = rest
 
-values_same : (vs : List PartValue) (f g : ℕ → Bool) → ((n : ℕ) → f n ≡ g n) → values_with vs f ≡ values_with vs g
+pub values_same : (vs : List PartValue) (f g : ℕ → Bool) → ((n : ℕ) → f n ≡ g n) → values_with vs f ≡ values_with vs g
 values_same [] f g e = refl
 values_same (v ∷ vs) f g e = ap₂ (λ (b : Bool) (ws : List PartValue). (if b then v ∷ [] else []) ++ ws) (e 0) (values_same vs (λ n. f (suc n)) (λ n. g (suc n)) (λ n. e (suc n)))
 

@@ -10,6 +10,8 @@ pub mod FlagSets
 pub mod GrownRows
 pub mod Merging
 pub mod PointOrder
+pub mod RankLaws
+pub mod RankedWriting
 pub mod ReadSoFar
 pub mod RowsSoFar
 pub mod Sequences

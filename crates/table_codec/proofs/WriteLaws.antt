@@ -3,7 +3,7 @@ use Rattle.std.proofs.Common.{◌≡◌, ℕ, zero, suc, ◌+◌, ◌<◌, ◌�
 use Rattle.std.specs.Prelude.{◌==◌, if◌then◌else◌, sum_by, slice_get}
 use Rattle.std.proofs.{Math.Seq.{get_or-append_seam}, lemmas.List.Elements.{All-weaker}}
 use Rattle.osek_values.specs.{Numbers.{alarm_no}, declared.numbers.TaskNo.{TaskNo}}
-use Rattle.std.specs.{Global.{Vec}, List.{flat_map, AllByRecursion}}
+use Rattle.std.specs.List.{flat_map, AllByRecursion}
 use Rattle.std.proofs.lemmas.{Bool.{eq-eqb, ne_eqb}, List.{length_push, Concat.{flat_map-cons}}}
 use Rattle.osek_standard.specs.{declared.{app.App.{App}, point.Point.{Point}}, Points.{point_number}}
 use Rattle.osek_standard.proofs.StackLaws.{stack_few}
@@ -47,22 +47,22 @@ bytes_many (v ∷ vs) all =
 
 -- ---- the sets of an entry
 
-pub set_next : (xs : List Numbers) (values : List (Vec NumberedValue)) (ks : List Component) (place : ℕ) (k : Component) (v : Vec NumberedValue) → place < length ks → place < length xs → place < length values → get_or ks place k ≡ k → get_or values place v ≡ v
-    → sets_bytes (drop place ks) (drop place (all_in xs values)) ≡ set_bytes k (values_in (set_of xs place) v.items) ++ sets_bytes (drop (suc place) ks) (drop (suc place) (all_in xs values))
+pub set_next : (xs : List Numbers) (values : List (List NumberedValue)) (ks : List Component) (place : ℕ) (k : Component) (v : List NumberedValue) → place < length ks → place < length xs → place < length values → get_or ks place k ≡ k → get_or values place v ≡ v
+    → sets_bytes (drop place ks) (drop place (all_in xs values)) ≡ set_bytes k (values_in (set_of xs place) v) ++ sets_bytes (drop (suc place) ks) (drop (suc place) (all_in xs values))
 set_next xs values [] place k v a b c at is = absurd (omega (arith, a))
 set_next [] values (y ∷ ks) place k v a b c at is = absurd (omega (arith, b))
 set_next (x ∷ xs) [] (y ∷ ks) place k v a b c at is = absurd (omega (arith, c))
 set_next (x ∷ xs) (w ∷ values) (y ∷ ks) zero k v a b c at is =
-    more_sets y ks (values_in x w.items) (all_in xs values)
-    ∙ ap₂ (λ (j : Component) (u : Vec NumberedValue). set_bytes j (values_in x u.items) ++ sets_bytes ks (all_in xs values)) at is
+    more_sets y ks (values_in x w) (all_in xs values)
+    ∙ ap₂ (λ (j : Component) (u : List NumberedValue). set_bytes j (values_in x u) ++ sets_bytes ks (all_in xs values)) at is
 set_next (x ∷ xs) (w ∷ values) (y ∷ ks) (suc place) k v a b c at is = set_next xs values ks place k v (omega (arith, a)) (omega (arith, b)) (omega (arith, c)) at is
 
-pub writable_at : (xs : List Numbers) (values : List (Vec NumberedValue)) (ks : List Component) (place : ℕ) (k : Component) (v : Vec NumberedValue) → place < length ks → place < length xs → place < length values → get_or ks place k ≡ k → get_or values place v ≡ v
-    → AreWritable ks (all_in xs values) → IsWritable k (values_in (set_of xs place) v.items)
+pub writable_at : (xs : List Numbers) (values : List (List NumberedValue)) (ks : List Component) (place : ℕ) (k : Component) (v : List NumberedValue) → place < length ks → place < length xs → place < length values → get_or ks place k ≡ k → get_or values place v ≡ v
+    → AreWritable ks (all_in xs values) → IsWritable k (values_in (set_of xs place) v)
 writable_at xs values [] place k v a b c at is h = absurd (omega (arith, a))
 writable_at [] values (y ∷ ks) place k v a b c at is h = absurd (omega (arith, b))
 writable_at (x ∷ xs) [] (y ∷ ks) place k v a b c at is h = absurd (omega (arith, c))
-writable_at (x ∷ xs) (w ∷ values) (y ∷ ks) zero k v a b c at is h = subst (λ (u : Vec NumberedValue). IsWritable k (values_in x u.items)) is (subst (λ (j : Component). IsWritable j (values_in x w.items)) at h.0)
+writable_at (x ∷ xs) (w ∷ values) (y ∷ ks) zero k v a b c at is h = subst (λ (u : List NumberedValue). IsWritable k (values_in x u)) is (subst (λ (j : Component). IsWritable j (values_in x w)) at h.0)
 writable_at (x ∷ xs) (w ∷ values) (y ∷ ks) (suc place) k v a b c at is h = writable_at xs values ks place k v (omega (arith, a)) (omega (arith, b)) (omega (arith, c)) at is h.1
 
 -- ---- good sets can be written
@@ -105,20 +105,20 @@ too_many limit out piece more whole prefix e lt =
 
 -- ---- the rows
 
-module _ (app : App) (pool : List Values) (values : List (Vec NumberedValue)) (ordered : AreOrdered pool (length (components app)) values) where
+module _ (app : App) (pool : List Values) (values : List (List NumberedValue)) (ordered : AreOrdered pool (length (components app)) values) where
   -- the values of each component are those of the plain sets
-  sets_from : (c : ℕ) (xs : List Numbers) (vs : List (Vec NumberedValue)) → length vs ≡ length xs → ((i : ℕ) (none : Vec NumberedValue) → i < length vs → AreInOrder (values_at pool (c + i)) (get_or vs i none).items) → all_in xs vs ≡ map (λ (set : ValueSet). set.members) (plain_sets pool c xs)
+  sets_from : (c : ℕ) (xs : List Numbers) (vs : List (List NumberedValue)) → length vs ≡ length xs → ((i : ℕ) (none : List NumberedValue) → i < length vs → AreInOrder (values_at pool (c + i)) (get_or vs i none)) → all_in xs vs ≡ map (λ (set : ValueSet). set.members) (plain_sets pool c xs)
   sets_from c [] vs size each = refl
   sets_from c (x ∷ xs) [] size each = absurd (omega (arith, size))
   sets_from c (x ∷ xs) (v ∷ vs) size each =
       let first : c + 0 ≡ c = omega arith in
-      let here : (plain_set (values_at pool c) x).members ≡ values_in x v.items = subst (λ (n : ℕ). (plain_set (values_at pool n) x).members ≡ values_in x v.items) first (each 0 v (omega arith) x) in
+      let here : (plain_set (values_at pool c) x).members ≡ values_in x v = subst (λ (n : ℕ). (plain_set (values_at pool n) x).members ≡ values_in x v) first (each 0 v (omega arith) x) in
       ap₂ (λ (a : List PartValue) (b : List (List PartValue)). a ∷ b) (sym here)
-      (sets_from (suc c) xs vs (omega (arith, size)) (λ i none lt. let e : c + suc i ≡ suc c + i = omega arith in subst (λ (n : ℕ). AreInOrder (values_at pool n) (get_or vs i none).items) e (each (suc i) none (omega (arith, lt)))))
+      (sets_from (suc c) xs vs (omega (arith, size)) (λ i none lt. let e : c + suc i ≡ suc c + i = omega arith in subst (λ (n : ℕ). AreInOrder (values_at pool n) (get_or vs i none)) e (each (suc i) none (omega (arith, lt)))))
 
   pub sets_are : (row : NumberedRow) → length row.entry.sets ≡ length (components app) → all_in row.entry.sets values ≡ members_of (plain_entry pool row.entry)
   sets_are row size =
-      sets_from 0 row.entry.sets values (omega (arith, ordered.size, size)) (λ i none lt. let e : i ≡ 0 + i = omega arith in subst (λ (n : ℕ). AreInOrder (values_at pool n) (get_or values i none).items) e (ordered.each i none (omega (arith, lt, ordered.size))))
+      sets_from 0 row.entry.sets values (omega (arith, ordered.size, size)) (λ i none lt. let e : i ≡ 0 + i = omega arith in subst (λ (n : ℕ). AreInOrder (values_at pool n) (get_or values i none)) e (ordered.each i none (omega (arith, lt, ordered.size))))
 
   bytes_other : (row : TableRow) (rows : List TableRow) (ps : List Point) → AllByRecursion (λ (q : Point). row_number row < point_number q) ps → flat_map (point_bytes app (row ∷ rows)) ps ≡ flat_map (point_bytes app rows) ps
   bytes_other row rows [] all = refl

@@ -1,9 +1,9 @@
 -- The steps of the writer's loops.
-use Rattle.std.proofs.Common.{◌≡◌, ℕ, zero, suc, ◌+◌, ◌<◌, ◌≤◌, Bool, true, false, cond, List, [], ◌∷◌, ◌++◌, length, map, filter, take, drop, get_or, refl, sym, ap, ap₂, subst, ◌∙◌, arith, append_assoc, All, drop-cons}
-use Rattle.std.specs.{Prelude.{if◌then◌else◌, sum_by, Err}, Global.{Vec}, Int.{to_be_bytes, w16}, List.{AllByRecursion}}
-use Rattle.std.proofs.{Math.ListN.{drop_of_length-le}, lemmas.{Bool.{eq-eqb, ne_eqb}, List.{Elements.{recursion_from_All}, Sums.{sum_by-append, sum_by-cons}}}}
+use Rattle.std.proofs.Common.{◌≡◌, ℕ, zero, suc, ◌+◌, ◌<◌, ◌≤◌, Bool, true, false, cond, List, [], ◌∷◌, ◌++◌, length, map, filter, take, drop, get_or, refl, sym, ap, ap₂, ◌∙◌, arith, append_assoc, drop-cons}
+use Rattle.std.specs.{Prelude.{if◌then◌else◌, sum_by, Err}, Int.{to_be_bytes, w16}}
+use Rattle.std.proofs.{Math.ListN.{drop_of_length-le}, lemmas.{Bool.{eq-eqb, ne_eqb}, List.{Sums.{sum_by-append, sum_by-cons}}}}
 use Rattle.osek_standard.specs.{declared.point.Point.{Point}, Points.{point_number}}
-use Rattle.abstract_state.specs.declared.value.{Component.{Component}, LiveVal.{LiveVal}, Val.TheVariants.{Live}, PartValue.{PartValue, TheVariants.{OfTask}}}
+use Rattle.abstract_state.specs.declared.value.{Component.{Component}, LiveVal.{LiveVal}, Val.TheVariants.{Live}, PartValue.{TheVariants.{OfTask}}}
 use Rattle.numbered_sets.specs.{Numbers.{Numbers, has_number}, declared.table.NumberedRow.{NumberedRow}}
 use Rattle.table_codec.specs.{declared.ascending.NumberedValue.{NumberedValue}, Ascending.{values_in}, Spelling.{flag_number, resource_numbers, sets_bytes, value_bytes}}
 use Rattle.osek_values.specs.declared.limits.TheConstants.{MAX_TABLE}
@@ -12,34 +12,7 @@ use Rattle.table_codec.proofs.{Fields.{narrow_fields}, WriteLaws.{values_more, t
 
 -- ---- the values of a set
 
-module _ (P : PartValue → Type 0) (x : Numbers) where
-  value_there : (all : List NumberedValue) (i : ℕ) (v : NumberedValue) → AllByRecursion P (values_in x all) → i < length all → get_or all i v ≡ v → has_number x v.number ≡ true → P v.value
-  value_there [] i v h lt at has = absurd (omega (arith, lt))
-  value_there (w ∷ all) zero v h lt at has =
-      let here : has_number x w.number ≡ true = ap (λ (u : NumberedValue). has_number x u.number) at ∙ has in
-      let first = subst (λ (b : Bool). AllByRecursion P (map (λ (y : NumberedValue). y.value) (cond b (w ∷ filter (λ (y : NumberedValue). has_number x y.number) all) (filter (λ (y : NumberedValue). has_number x y.number) all)))) here h in
-      subst (λ (u : NumberedValue). P u.value) at first.0
-  value_there (w ∷ all) (suc i) v h lt at has = value_there all i v (rest (has_number x w.number) h) (omega (arith, lt)) at has
-    where
-      rest : (b : Bool) → AllByRecursion P (map (λ (y : NumberedValue). y.value) (cond b (w ∷ filter (λ (y : NumberedValue). has_number x y.number) all) (filter (λ (y : NumberedValue). has_number x y.number) all)))
-          → AllByRecursion P (map (λ (y : NumberedValue). y.value) (filter (λ (y : NumberedValue). has_number x y.number) all))
-      rest true h = h.1
-      rest false h = h
-
-  -- what holds of all of them holds of each
-  pub value_at : (all : List NumberedValue) (i : ℕ) (v : NumberedValue) → All P (values_in x all) → i < length all → get_or all i v ≡ v → has_number x v.number ≡ true → P v.value
-  value_at all i v h lt at has = value_there all i v (recursion_from_All P (values_in x all) h) lt at has
-
 module _ (x : Numbers) where
-  pub few_values : (all : List NumberedValue) → length (values_in x all) ≤ length all
-  few_values [] = omega arith
-  few_values (w ∷ all) = by_test (has_number x w.number) (few_values all)
-    where
-      by_test : (b : Bool) → length (values_in x all) ≤ length all
-          → length (map (λ (y : NumberedValue). y.value) (cond b (w ∷ filter (λ (y : NumberedValue). has_number x y.number) all) (filter (λ (y : NumberedValue). has_number x y.number) all))) ≤ suc (length all)
-      by_test true le = omega (arith, le)
-      by_test false le = omega (arith, le)
-
   -- the first ones' number is no greater than that of all
   pub sum_prefix : (all : List NumberedValue) (k : ℕ) → sum_by flag_number (values_in x (take k all)) ≤ sum_by flag_number (values_in x all)
   sum_prefix all zero = (let none : sum_by flag_number [] ≡ 0 = refl in omega (arith, none))
@@ -61,7 +34,7 @@ module _ (x : Numbers) where
 
 -- ---- the rows
 
-module _ (ks : List Component) (values : List (Vec NumberedValue)) (ps : List Point) (rows : List NumberedRow) (place next : ℕ) (p : Point) (lt : place < length ps) (at : get_or ps place p ≡ p) where
+module _ (ks : List Component) (values : List (List NumberedValue)) (ps : List Point) (rows : List NumberedRow) (place next : ℕ) (p : Point) (lt : place < length ps) (at : get_or ps place p ≡ p) where
   here : drop place ps ≡ p ∷ drop (place + 1) ps
   here = (let one : suc place ≡ place + 1 = omega arith in drop-cons ps place p lt ∙ ap₂ (λ (q : Point) (n : ℕ). q ∷ drop n ps) at one)
 

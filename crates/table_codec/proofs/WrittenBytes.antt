@@ -1,6 +1,6 @@
 -- The numbered rows of a written table: they have sets that can be written, and merged with the points they are spelled.
 use Rattle.std.proofs.Common.{◌≡◌, ℕ, ◌<◌, ◌≤◌, List, [], ◌∷◌, ◌++◌, length, get_or, refl, sym, ap, ap₂, subst, ◌∙◌, inl, inr, arith, All}
-use Rattle.std.specs.{Prelude.{Contains}, Global.{Vec}, List.{flat_map}}
+use Rattle.std.specs.{Prelude.{Contains}, List.{flat_map}}
 use Rattle.std.proofs.lemmas.{Bool.{cases_lt}, List.{length-map, get_or_default, Concat.{flat_map-cons}, Elements.{recursion_from_All}}}
 use Rattle.osek_standard.specs.declared.{app.App.{App}, point.Point.{Point}}
 use Rattle.osek_standard.proofs.Members.{contained_among, among_contained, among_map}
@@ -23,7 +23,7 @@ no_row : (rows : List NumberedRow) → length rows ≤ 0 → rows ≡ []
 no_row [] le = refl
 no_row (row ∷ rows) le = absurd (omega (arith, le))
 
-none_spelled : (app : App) (values : List (Vec NumberedValue)) (ps : List Point) → merged_bytes (components app) values ps [] ≡ flat_map (point_bytes app []) ps
+none_spelled : (app : App) (values : List (List NumberedValue)) (ps : List Point) → merged_bytes (components app) values ps [] ≡ flat_map (point_bytes app []) ps
 none_spelled app values [] = refl
 none_spelled app values (p ∷ ps) = ap (λ (l : List ℕ). 0 ∷ l) (none_spelled app values ps) ∙ sym (flat_map-cons (point_bytes app []) p ps)
 
@@ -54,7 +54,7 @@ module _ (app : App) (table : PlainTable) (written : IsWritten app table) (pool 
   pub each_size : All (λ (row : NumberedRow). length (components app) ≤ length row.entry.sets) rows
   each_size = λ k d lt. omega (arith, size (get_or rows k d) (listed_at k d lt))
 
-  module _ (values : List (Vec NumberedValue)) (ordered : 0 < length rows → AreOrdered pool (length (components app)) values) where
+  module _ (values : List (List NumberedValue)) (ordered : 0 < length rows → AreOrdered pool (length (components app)) values) where
     pub each_writable : All (λ (row : NumberedRow). AreWritable (components app) (all_in row.entry.sets values)) rows
     each_writable = λ k d lt.
         let row = get_or rows k d in

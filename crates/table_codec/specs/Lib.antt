@@ -1,6 +1,7 @@
 pub mod Ascending
 pub mod Faults
 pub mod Laws
+pub mod Ranks
 pub mod Rules
 pub mod Rows
 pub mod Sets

@@ -1,5 +1,5 @@
 -- What a writer answers, and what it is given: the values of each component in their order, each with its number.
-use Rattle.std.specs.{Prelude.{◌≡◌, ⊤, ℕ, ◌+◌, ◌^◌, ◌<◌, ◌≤◌, ◌==◌, List, [], ◌∷◌, ◌++◌, length, sum_by, slice_index_or, All, if◌then◌else◌, Result, Ok, Err}, Global.{Vec}}
+use Rattle.std.specs.Prelude.{◌≡◌, ⊤, ℕ, ◌+◌, ◌^◌, ◌<◌, ◌≤◌, ◌==◌, List, [], ◌∷◌, ◌++◌, length, sum_by, slice_index_or, All, if◌then◌else◌, Result, Ok, Err}
 use Rattle.osek_standard.specs.{declared.point.Point.{Point}, Points.{point_number}}
 use Rattle.abstract_state.specs.declared.value.{Component.{Component}, Val.TheVariants.{Suspended, Live, Waiting}, PartValue.{PartValue, TheVariants.{OfTask, OfEvent, OfAlarm}}}
 use Rattle.abstract_state.specs.declared.value.Component.TheVariants as component
@@ -40,18 +40,18 @@ AreWritable (k ∷ ks) [] = ⊤
 AreWritable (k ∷ ks) (vs ∷ sets) = IsWritable k vs × AreWritable ks sets
 
 -- the values of each component whose numbers are in its set
-abbrev pub all_in : List Numbers → List (Vec NumberedValue) → List (List PartValue)
-all_in (x ∷ xs) (all ∷ rest) = values_in x all.items ∷ all_in xs rest
+abbrev pub all_in : List Numbers → List (List NumberedValue) → List (List PartValue)
+all_in (x ∷ xs) (all ∷ rest) = values_in x all ∷ all_in xs rest
 all_in [] rest = []
 all_in (x ∷ xs) [] = []
 
 -- the values of the first components in their order
-pub record AreOrdered (pool : List Values) (count : ℕ) (values : List (Vec NumberedValue)) : Type 0 where
+pub record AreOrdered (pool : List Values) (count : ℕ) (values : List (List NumberedValue)) : Type 0 where
   pub size : length values ≡ count
-  pub each : (c : ℕ) (none : Vec NumberedValue) → c < count → AreInOrder (values_at pool c) (slice_index_or values c none).items
+  pub each : (c : ℕ) (none : List NumberedValue) → c < count → AreInOrder (values_at pool c) (slice_index_or values c none)
 
 -- the rows of points, each the next one where its point is the next
-abbrev pub merged_bytes : List Component → List (Vec NumberedValue) → List Point → List NumberedRow → List ℕ
+abbrev pub merged_bytes : List Component → List (List NumberedValue) → List Point → List NumberedRow → List ℕ
 merged_bytes ks values [] rows = []
 merged_bytes ks values (p ∷ ps) [] = 0 ∷ merged_bytes ks values ps []
 merged_bytes ks values (p ∷ ps) (row ∷ rows) =

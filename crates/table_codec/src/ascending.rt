@@ -3,6 +3,7 @@ ghost use Rattle.std.specs.Prelude.{◌≡◌, ◌<◌, length, IfOk};
 ghost use Rattle.numbered_sets.specs.Pools.{values_at};
 ghost use Rattle.table_codec.specs.Ascending.{AreInOrder, numbered_from};
 
+use crate::ranks::RankedValues;
 use abstract_state::PartValue;
 use numbered_sets::Pool;
 use osek_values::Memory;
@@ -15,20 +16,19 @@ pub(crate) struct NumberedValue {
     pub number: usize,
 }
 
-/// The values that a component was seen with, in ascending order, so that a set of numbers is written by running over them
-/// once.
+/// The values that a component was seen with, in ascending order: whichever numbers are asked for, their values come in it.
 pub(crate) fn ascending(
     alloc: Global,
     pool: &Pool,
     component: usize,
-) -> Result<Vec<NumberedValue>, Memory>
+) -> Result<RankedValues, Memory>
     requires { component < length pool.now }
-    ensures { IfOk result (λ all. AreInOrder (values_at pool.now component) all.items) }
+    ensures { IfOk result (AreInOrder (values_at pool.now component)) }
 {
     pool.are_values();
     let mut all = numbered_values(alloc, pool, component)?;
     all.sort_by(|one, other| one.value.order(&other.value))?;
-    Ok(all)
+    RankedValues::of(alloc, all)
 }
 
 // the same in the order of their numbers

@@ -6,6 +6,7 @@ mod entries;
 mod fault;
 mod laws;
 mod points;
+mod ranks;
 mod reader;
 mod reading;
 mod sets;

@@ -1,7 +1,7 @@
 //! The bytes of a table.
 ghost use Rattle.std.specs.{Prelude.{◌≡◌, ◌++◌, ◌∷◌, ◌^◌, ◌<◌, ◌≤◌, length, sum_by, All, IfOk, IfErr, OnOk}, List.{flat_map}};
 ghost use Rattle.abstract_state.specs.{declared.value.{Val.TheVariants.{Live}, PartValue.TheVariants.{OfTask}}, Written.{IsWritten}};
-ghost use Rattle.table_codec.specs.Ascending.{values_in};
+ghost use Rattle.table_codec.specs.{Ascending.{values_in}, Ranks.{values_ranked}};
 ghost use Rattle.numbered_sets.specs.{SetLists.{set_of}, declared.table.NumberedRow.{NumberedRow as ARow}};
 ghost use Rattle.osek_values.specs.declared.limits.TheConstants.{MAX_TABLE};
 ghost use Rattle.table_codec.specs.declared.fault.WriteFault.TheVariants.{TooLong};
@@ -11,9 +11,10 @@ ghost use Rattle.table_codec.specs.Writing.{Puts, stack_size, CanBeWritten, IsWr
 use crate::ascending::{NumberedValue, ascending};
 use crate::fault::WriteFault;
 use crate::points::points;
+use crate::ranks::RankedValues;
 use crate::reading::magic;
 use abstract_state::{Component, LiveVal, PartValue, Val, components};
-use numbered_sets::{NumberedRow, NumberedSets, Pool, Table};
+use numbered_sets::{NumberedRow, NumberedSet, NumberedSets, Pool, Table};
 use osek_standard::{App, Point};
 use osek_values::limits::MAX_TABLE;
 use osek_values::{Memory, ResNo, Seq};
@@ -67,20 +68,22 @@ fn put_stack(out: &mut Vec<u8>, held: &[ResNo]) -> Result<(), AllocError>
 
 // the values of a task, behind their number
 fn put_listed(
+    alloc: Global,
     out: &mut Vec<u8>,
-    values: &[NumberedValue],
+    values: &RankedValues,
     sets: &NumberedSets,
     component: usize,
 ) -> Result<(), WriteFault>
-    requires { All CanBeWritten (values_in (set_of sets.now component) values.now) }
+    requires known { component < length sets.now }
+    requires values { All CanBeWritten (values_in (set_of sets.now component) values.now) }
     ensures { Puts result out.old.items out.new.items (listed (values_in (set_of sets.now component) values.now)) }
 {
-    let count = count(values, sets, component);
-    if count > MAX_TABLE {
+    let found = values.ranks_in(alloc, sets, component)?;
+    if found.count > MAX_TABLE {
         return Err(WriteFault::TooLong);
     }
-    out.extend_from_slice(&(count as u32).to_be_bytes())?;
-    put_values(out, values, sets, component)?;
+    out.extend_from_slice(&(found.count as u32).to_be_bytes())?;
+    put_values(out, values.as_slice(), &found.ranks)?;
     limited(out)
 }
 
@@ -95,33 +98,22 @@ fn limited(out: &Vec<u8>) -> Result<(), WriteFault>
     Ok(())
 }
 
+// the values with these ranks
 fn put_values(
     out: &mut Vec<u8>,
     values: &[NumberedValue],
-    sets: &NumberedSets,
-    component: usize,
+    ranks: &NumberedSet,
 ) -> Result<(), AllocError>
-    requires { All CanBeWritten (values_in (set_of sets.now component) values.now) }
-    ensures { OnOk result (out.new.items ≡ out.old.items ++ flat_map value_bytes (values_in (set_of sets.now component) values.now)) }
+    requires { All CanBeWritten (values_ranked ranks.now values.now) }
+    ensures { OnOk result (out.new.items ≡ out.old.items ++ flat_map value_bytes (values_ranked ranks.now values.now)) }
 {
-    for found in values {
-        if sets.has(component, found.number) {
-            put_value(out, &found.value)?;
-        }
+    let count = values.len();
+    let mut rank = ranks.next(0, count);
+    while rank < count {
+        put_value(out, &values[rank].value)?;
+        rank = ranks.next(rank + 1, count);
     }
     Ok(())
-}
-
-fn count(values: &[NumberedValue], sets: &NumberedSets, component: usize) -> usize
-    ensures { result ≡ length (values_in (set_of sets.now component) values.now) }
-{
-    let mut count = 0;
-    for found in values {
-        if sets.has(component, found.number) {
-            count += 1;
-        }
-    }
-    count
 }
 
 fn flag_number(value: &PartValue) -> u8
@@ -148,28 +140,31 @@ fn flags(values: &[NumberedValue], sets: &NumberedSets, component: usize) -> u8
 }
 
 fn put_set(
+    alloc: Global,
     out: &mut Vec<u8>,
-    values: &[NumberedValue],
+    values: &RankedValues,
     sets: &NumberedSets,
     place: usize,
     component: Component,
 ) -> Result<(), WriteFault>
-    requires { IsWritable component (values_in (set_of sets.now place) values.now) }
+    requires known { place < length sets.now }
+    requires values { IsWritable component (values_in (set_of sets.now place) values.now) }
     ensures { Puts result out.old.items out.new.items (set_bytes component (values_in (set_of sets.now place) values.now)) }
 {
     match component {
-        Component::Task(_) => put_listed(out, values, sets, place),
+        Component::Task(_) => put_listed(alloc, out, values, sets, place),
         Component::Event { task: _, bit: _ } | Component::Alarm(_) => {
-            out.push(flags(values, sets, place))?;
+            out.push(flags(values.as_slice(), sets, place))?;
             Ok(())
         }
     }
 }
 
 fn put_entry(
+    alloc: Global,
     out: &mut Vec<u8>,
     components: &Seq<Component>,
-    values: &Seq<Vec<NumberedValue>>,
+    values: &Seq<RankedValues>,
     sets: &NumberedSets,
 ) -> Result<(), WriteFault>
     requires size { length components.now ≤ length values.now }
@@ -179,16 +174,17 @@ fn put_entry(
 {
     for place in 0..components.len() {
         let component = *components.at(place);
-        put_set(out, values.at(place).as_slice(), sets, place, component)?;
+        put_set(alloc, out, values.at(place), sets, place, component)?;
     }
     Ok(())
 }
 
 // whether a point has an entry, and the entry
 fn put_row(
+    alloc: Global,
     out: &mut Vec<u8>,
     components: &Seq<Component>,
-    values: &Seq<Vec<NumberedValue>>,
+    values: &Seq<RankedValues>,
     row: &NumberedRow,
 ) -> Result<(), WriteFault>
     requires size { length components.now ≤ length values.now }
@@ -197,15 +193,16 @@ fn put_row(
     ensures { Puts result out.old.items out.new.items (1 ∷ sets_bytes components.now (all_in row.now.entry.sets values.now)) }
 {
     out.push(PRESENT)?;
-    put_entry(out, components, values, &row.entry.sets)
+    put_entry(alloc, out, components, values, &row.entry.sets)
 }
 
 // the rows of all points, of which each is the next one's or has none
 fn put_rows(
+    alloc: Global,
     out: &mut Vec<u8>,
     points: &Seq<Point>,
     components: &Seq<Component>,
-    values: &Seq<Vec<NumberedValue>>,
+    values: &Seq<RankedValues>,
     rows: &Seq<NumberedRow>,
 ) -> Result<(), WriteFault>
     requires size { 0 < length rows.now → length components.now ≤ length values.now }
@@ -216,7 +213,7 @@ fn put_rows(
     let mut next = 0;
     for place in 0..points.len() {
         if next < rows.len() && rows.at(next).point.number() == points.at(place).number() {
-            put_row(out, components, values, rows.at(next))?;
+            put_row(alloc, out, components, values, rows.at(next))?;
             next += 1;
         } else {
             out.push(ABSENT)?;
@@ -231,7 +228,7 @@ fn all_ascending(
     pool: &Pool,
     components: usize,
     rows: usize,
-) -> Result<Seq<Vec<NumberedValue>>, Memory>
+) -> Result<Seq<RankedValues>, Memory>
     requires { 0 < rows → components ≤ length pool.now }
     ensures { IfOk result (λ values. 0 < rows → AreOrdered pool.now components values) }
 {
@@ -258,7 +255,14 @@ pub fn write_table(alloc: Global, app: &App, table: &Table) -> Result<Vec<u8>, W
     let values = all_ascending(alloc, &numbered.pool, components.len(), numbered.rows.len())?;
     let mut out = Vec::new(alloc);
     out.extend_from_slice(magic())?;
-    put_rows(&mut out, &points, &components, &values, numbered.rows)?;
+    put_rows(
+        alloc,
+        &mut out,
+        &points,
+        &components,
+        &values,
+        numbered.rows,
+    )?;
     limited(&out)?;
     Ok(out)
 }

@@ -6,7 +6,7 @@ use Rattle.table_codec.specs.{Ascending.{values_in}, Spelling.{value_bytes}, Wri
 use Rattle.table_codec.proofs.WriteLaws.{bytes_many}
 use Rattle.table_codec.proofs.writing.put_listed.Goals as goal
 
-pub returns-then-count-gt-MAX_TABLE : goal.returns-then-count-gt-MAX_TABLE
-returns-then-count-gt-MAX_TABLE c =
+pub returns-then-found-gt-MAX_TABLE : goal.returns-then-found-gt-MAX_TABLE
+returns-then-found-gt-MAX_TABLE c =
     let vs = values_in (set_of c.args.sets.now c.args.component) c.args.values.now in
-    omega (arith, c.if-count-gt-MAX_TABLE.true, c.count-count.ensures, bytes_many vs (recursion_from_All CanBeWritten vs c.requires), length-append (to_be_bytes w32 (length vs)) (flat_map value_bytes vs))
+    omega (arith, c.if-found-gt-MAX_TABLE.true, c.in_ok-found.ensures.count, bytes_many vs (recursion_from_All CanBeWritten vs c.requires.values), length-append (to_be_bytes w32 (length vs)) (flat_map value_bytes vs))
