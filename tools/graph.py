@@ -179,6 +179,15 @@ def alarms_of(ticks, system):
     return found
 
 
+class Unmarked:
+    """What stands in the place of the marks of graph_record.py where there is no record."""
+
+    alarm, is_drawn = None, False
+
+    def colour(self, _edges, usual):
+        return usual
+
+
 def label(graph, owners, point):
     lines = [text_of(point)]
     if point.block is not None:
@@ -207,7 +216,7 @@ def points_of(graph, owners):
     return sorted(points, key=lambda p: (p.block is not None, p.kind != 'task', p.block or 0, p.kind, p.over or ''))
 
 
-def dot(graph, owners, marks):
+def dot(graph, owners, marks=Unmarked()):
     """The graph in DOT; the marks say how edges are coloured."""
     lines = ['digraph osekfit {', '  rankdir=TB;',
              '  node [shape=box, style="filled,rounded", fillcolor="#ffffff", color="#d0d7de", fontname="Helvetica", fontsize=10];',
@@ -322,7 +331,6 @@ def print_drawing(words, graph, owners, marks):
 
 
 def main():
-    import graph_record
     words = arguments()
     if (words.svg or words.task or words.summary or words.oil) and not words.code:
         raise Wrong('--svg, --task, --summary and --oil need --code')
@@ -336,7 +344,7 @@ def main():
     elif words.record:
         print_recorded(words, graph, owners)
     else:
-        print_drawing(words, graph, owners, graph_record.Unmarked())
+        print_drawing(words, graph, owners, Unmarked())
 
 
 if __name__ == '__main__':

@@ -5,8 +5,8 @@ targets from the left; each source has a colour of its own. Interrupts and retur
 from collections import namedtuple
 
 from drawing import FAINT, INK, LINE, MONO, Drawing, in_lines, number, rounded
-from graph import FORM_COLOURS, Point, text_of
-from graph_record import ALARM_COLOUR, OTHER_COLOUR, TAKEN_COLOUR, Unmarked
+from graph import FORM_COLOURS, Point, Unmarked, text_of
+from graph_record import ALARM_COLOUR, OTHER_COLOUR, TAKEN_COLOUR
 
 ROW, GAP = 24, 8
 """The height of a block, and the room below it."""

@@ -56,15 +56,6 @@ class Marks:
         return '%s: alarm %d %s; may follow %s: %s' % (name, place, text_of(after), text_of(before), ', '.join(others) or 'nothing')
 
 
-class Unmarked:
-    """What stands in the place of marks where there is no record."""
-
-    alarm, is_drawn = None, False
-
-    def colour(self, _edges, usual):
-        return usual
-
-
 def points_of(text, name):
     """The points of a record, up to a trap."""
     for number, line in enumerate(lines_of(text), 1):

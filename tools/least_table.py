@@ -9,6 +9,9 @@ from kernel import Kernel
 from points import HALT_POINT, IDLE_POINT, NOBODY, block_point, points_of, shown_point
 from states import ARRIVAL, HALTED, IDLE, KEEP, NOTHING, Armed, Live, Routine, Running, State, To, at_place, place_of, with_alarm
 
+MOST_ASKED = 100000
+"""How many states are asked at most where a tool can do without the table."""
+
 
 def point_of(state):
     if state.processor in (HALTED, IDLE):

@@ -19,11 +19,11 @@ the points that an image comes to (with status 8 where it traps), and `watch` sa
 """
 import sys
 
-from application import application_of
 from given import Parser, Wrong, contents, data, run
 from kernel import Kernel
 from services import letter
 from states import HALTED, IDLE, SUSPENDED, Live, Routine
+from texts import application
 
 
 def who(app, state):
@@ -153,7 +153,7 @@ def main():
         return check(words.image, words.table)
     if words.verb == 'record':
         return record(words.image, words.mode, words.events)
-    return done(words, application_of(contents(words.oil), contents(words.code), (words.oil, words.code)))
+    return done(words, application(words))
 
 
 def done(words, app):

@@ -122,7 +122,3 @@ class Findings(unittest.TestCase):
         self.assertEqual(self.report(oil, 'TASK(T1) { } ISR(I) { ShutdownOS(E_OK); ActivateTask(T1); }'),
                          ['suspended T1', quiet[0]] + quiet[2:] + ['dead b0', 'dead b2', 'dead b3'])
         self.assertEqual((self.report('OS os;', ''), self.report('OS os { %s };' % HOOKS, '')), ([], quiet))
-
-
-if __name__ == '__main__':
-    unittest.main()
