@@ -11,9 +11,9 @@ says what event texts reached of an application.
     tools/annotate.py --coverage --show a.show a.oil a.code a.events       with outcomes of sites and edges of `osekfit show`
 
 Without what osekfit printed, the task code is annotated by the least table of the model in model.py, which is for small applications. Of a
-site the margin has its block, its form, and its known status where one is known. Which statement a line of a trace is of is told by that model, which plays the events too. A given trace has to be what the model prints, and
-each edge that is taken has to be one of `show`: where not, this is told and the status is 2. With --least N the status of --coverage is
-1 where less than N percent of some row was reached.
+site the margin has its block, its form, and its known status where one is known. Which statement did a line of a trace is told by that model,
+which plays the events too. A given trace has to be what the model prints, and each edge that is taken has to be one of `show`: where not,
+this is told and the status is 2. With --least N the status of --coverage is 1 where less than N percent of some row was reached.
 """
 import os
 import sys

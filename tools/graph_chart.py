@@ -6,7 +6,7 @@ from collections import namedtuple
 
 from drawing import FAINT, INK, LINE, MONO, Drawing, in_lines, number, rounded
 from graph import FORM_COLOURS, Point, Unmarked, text_of
-from graph_record import ALARM_COLOUR, OTHER_COLOUR, TAKEN_COLOUR
+from graph_record import ALARM_COLOUR, INSTEAD_COLOUR, OTHER_COLOUR, TAKEN_COLOUR
 
 ROW, GAP = 24, 8
 """The height of a block, and the room below it."""
@@ -31,7 +31,7 @@ STYLE = '.lines:hover .from{opacity:.12}.lines .from:hover{opacity:1}.from:hover
 
 SOURCE_COLOURS = ['#0969da', '#bf3989', '#1a7f37', '#bc4c00', '#8250df', '#1b7c83', '#9a6700', '#cf222e', '#4d2d8a', '#57606a']
 
-FRONT = [OTHER_COLOUR, TAKEN_COLOUR, ALARM_COLOUR]
+FRONT = [OTHER_COLOUR, TAKEN_COLOUR, INSTEAD_COLOUR, ALARM_COLOUR]
 """The colours of marked lines, those in front last."""
 
 Row = namedtuple('Row', 'points text form over')
@@ -354,7 +354,8 @@ class Chart:
         """What is said of the marks that are drawn, each with its mark."""
         shown = {'returns' if edges['returns'] else 'begins' for (place, owner), edges in self.circles.items()
                  if owner in self.columns[place[0]].circles}
-        said = [(self.marks.is_drawn, None, 'Green is what records took, grey what none took, and red the first step that no edge has.'),
+        said = [(self.marks.is_drawn, None, 'Green is what records took, and grey what none took.'),
+                (self.marks.alarm is not None, None, 'Red is the first step that no edge has, and amber what might have come in its place.'),
                 (bool(self.order), 'line', 'dispatch of a task, or of idle: from the block where the line begins to those at its arrows. '
                                            'The lines of one block have one colour, which others share where there are many'),
                 (bool(self.flows), 'grey', 'control flow within a task or routine'),

@@ -11,7 +11,7 @@ from records import lines_of
 Alarm = namedtuple('Alarm', 'name place edge')
 """The first step of a record that no edge has: the record's name, the place of its point, counted from 0, and the two points."""
 
-TAKEN_COLOUR, OTHER_COLOUR, ALARM_COLOUR = '#1a7f37', '#c8cfd6', '#cf222e'
+TAKEN_COLOUR, OTHER_COLOUR, ALARM_COLOUR, INSTEAD_COLOUR = '#1a7f37', '#c8cfd6', '#cf222e', '#bf8700'
 
 
 class Marks:
@@ -38,6 +38,8 @@ class Marks:
         """The colour of what stands for some edges."""
         if self.alarm and self.alarm.edge in edges:
             return ALARM_COLOUR
+        if self.alarm and any(before == self.alarm.edge[0] for before, _ in edges):
+            return INSTEAD_COLOUR
         return TAKEN_COLOUR if self.taken & set(edges) else OTHER_COLOUR
 
     def with_alarm(self):

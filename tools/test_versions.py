@@ -73,7 +73,8 @@ class Records(unittest.TestCase):
         self.assertEqual((found.told_alarm(), found.told()), ('r: alarm 1 b1; may follow b0: b3, b5/T1', 'edges 0 of 5, points 2 of 12'))
         text = graph.dot(found.with_alarm(), owners(), found)
         self.assertIn('"b0" -> "b1" [color="#cf222e", style="dashed", label="alarm"];', text)
-        self.assertIn('"b0" -> "b3" [color="#c8cfd6", label="dispatch"];', text)
+        self.assertIn('"b0" -> "b3" [color="#bf8700", label="dispatch"];', text)
+        self.assertIn('"b3" -> "b1" [color="#c8cfd6", label="dispatch"];', text)
         self.assertRaises(Wrong, graph_record.judge, marks('b0\nb99'), owners())
 
     def test_taken_edges_are_green(self):
