@@ -8,7 +8,7 @@ use std::alloc::Global;
 /// Room for an image, and for what a run writes.
 pub const ROOM: usize = 10_000;
 
-/// Room for an image of the most blocks.
+/// Room for an image of the most blocks, and for the tables of rows.
 pub const LONG_ROOM: usize = 30_000;
 
 /// What a call is to answer and to write.
@@ -153,10 +153,10 @@ pub fn put_files(shelf: &mut MemShelf, files: &[(&str, &str)]) -> Result<(), Mem
     Ok(())
 }
 
-/// Places for images.
+/// Places for images and tables.
 pub fn put_places(shelf: &mut MemShelf) -> Result<(), Memory> {
     for name in &PLACES {
-        shelf.set(name, None, ROOM)?;
+        shelf.set(name, None, LONG_ROOM)?;
     }
     Ok(())
 }
