@@ -58,12 +58,14 @@ class Blocks:
         return 'b%d' % new + (' (b%d before)' % old if old not in (None, new) else '')
 
 
-def matched(old_code, new_code, counts):
-    """The pairs of blocks that have the same statement at the same place of a body; tick routines, which stand behind all code, keep their order."""
-    old, new = (task_code.blocks_of(code) for code in (old_code, new_code))
+def matched(codes, versions):
+    """The pairs of blocks that have the same statement at the same place of a body. Tick routines stand behind all code, and keep their order
+    where both versions have as many blocks of them."""
+    old, new = map(task_code.blocks_of, codes)
     found = difflib.SequenceMatcher(None, *([(block.owner, block.text) for block in blocks] for blocks in (old, new)), autojunk=False)
     pairs = [(m.a + k, m.b + k) for m in found.get_matching_blocks() for k in range(m.size)]
-    return Blocks(pairs + [(len(old) + k, len(new) + k) for k in range(counts)])
+    ticks = [max([block + 1 for block in version.sites], default=0) - len(blocks) for version, blocks in zip(versions, (old, new))]
+    return Blocks(pairs + [(len(old) + k, len(new) + k) for k in range(ticks[0]) if ticks[0] == ticks[1]])
 
 
 def differences(old, new, blocks):
@@ -133,11 +135,7 @@ def arguments():
 def main():
     words = arguments()
     old, new = (version_of(contents(name), name) for name in (words.old, words.new))
-    blocks = Blocks()
-    if words.code:
-        texts = [contents(name) for name in words.code]
-        ticks = max([block + 1 for block in old.sites], default=0) - len(task_code.blocks_of(texts[0]))
-        blocks = matched(*texts, counts=max(0, ticks))
+    blocks = matched([contents(name) for name in words.code], (old, new)) if words.code else Blocks()
     changes = list(differences(old, new, blocks))
     sys.stdout.write(''.join(change.text + '\n' for change in changes))
     return status_of(changes, words.fail_on)

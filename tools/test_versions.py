@@ -14,6 +14,7 @@ import graph_chart
 import graph_record
 import margin
 import report_diff
+import task_code
 import texts
 from application import application_of
 from given import Wrong
@@ -124,6 +125,16 @@ class Versions(unittest.TestCase):
     def told(self, *texts):
         return [change.text for change in self.changes(*texts)]
 
+    def matched(self, new_code, ticks=(0, 0)):
+        """The blocks of CODE in another code, with so many blocks of tick routines behind each."""
+        counts = [len(task_code.blocks_of(code)) + more for code, more in zip((CODE, new_code), ticks)]
+        return report_diff.matched((CODE, new_code), [report_diff.version_of('site b%d line 0 stay\n' % (count - 1), 'v') for count in counts])
+
+    def test_tick_routines(self):
+        blocks = self.matched(CODE.replace('work 1;', ''), (3, 3))
+        self.assertEqual([blocks.moved(k) for k in (4, 5, 6, 7, 8, 9, 10)], [4, None, 5, 6, 7, 8, None])
+        self.assertEqual(self.matched(CODE, (3, 4)).moved(7), None)
+
     def test_nothing_changed(self):
         self.assertEqual(self.changes(SHOW + 'dead b2\n', SHOW + 'dead b2\n'), [])
 
@@ -141,7 +152,7 @@ class Versions(unittest.TestCase):
 
     def test_a_statement_more(self):
         new_code = CODE.replace('{ ActivateTask(T2);', '{ work 1; ActivateTask(T2);')
-        blocks = report_diff.matched(CODE, new_code, 0)
+        blocks = self.matched(new_code)
         self.assertEqual([blocks.moved(k) for k in range(7)], [1, 2, 3, 4, 5, 6, 7])
         new = ''.join('site b%d line %d %s\n' % one for one in ((1, 1, 'stay'), (2, 1, 'direct -'), (3, 1, 'never'), (4, 2, 'direct T1'), (5, 2, 'never'), (7, 3, 'stay')))
         new += 'edge idle b6/-\nedge b0 b1\nedge b1 b4\nedge b0 b6/T1\nedge b1 b6/T1\nedge b2 idle\nedge b4 b2\n'
@@ -149,7 +160,7 @@ class Versions(unittest.TestCase):
             'site b1 (b0 before): direct T2 -> stay', 'edges: 5 -> 7 (2 new, 0 gone)', 'points: 12 -> None', 'values: 8 -> None'])
 
     def test_sites_that_came_and_went(self):
-        blocks = report_diff.matched(CODE, CODE.replace(' TerminateTask(); }\nISR', ' Schedule(); }\nISR'), 0)
+        blocks = self.matched(CODE.replace(' TerminateTask(); }\nISR', ' Schedule(); }\nISR'))
         self.assertEqual([change.text for change in self.changes(SHOW, SHOW.replace('site b3 line 2 direct T1', 'site b3 line 2 stay'), blocks)][:2],
                          ['site b3: new -> stay', 'site b3 before: direct T1 -> gone'])
 
