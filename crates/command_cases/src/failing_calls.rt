@@ -177,7 +177,8 @@ fn is_right(case: &Case, faults: &[Fault], setting: Setting, seen: &Seen) -> boo
     }
 }
 
-/// Where each call moves a byte: whether a fault on out stopped the text there, and one on the shelf the image.
+/// Where each call moves a byte: whether a fault on out stopped the text there, and one on the shelf the image, which is all that
+/// is stored.
 fn stops_there(case: &Case, fault: Fault, before: Option<&[u8]>, seen: &Seen) -> bool {
     let first = match case.turns.split_last() {
         Some((_, turns)) => calls_of_all(turns, true),
@@ -268,7 +269,12 @@ fn holds(alloc: Global, case: &Case, faults: &[Fault], setting: Setting) -> Resu
         table: shelf.bytes("y").unwrap_or(b""),
     };
     let there = match faults {
-        [fault] if setting.by_bytes => stops_there(case, *fault, setting.before, &seen),
+        [fault] if setting.by_bytes && case.table.is_none() => stops_there(
+            case,
+            *fault,
+            setting.before,
+            &seen,
+        ),
         _ => true,
     };
     Ok(there && is_right(case, faults, setting, &seen))
@@ -374,6 +380,14 @@ fn bytes_that_fail_stop_build(rt: HostRuntime) {
     assert_eq!(rt; first_wrong_byte(rt.alloc(), &BUILD, None), Ok(None));
     assert_eq!(rt;
         first_wrong_byte(rt.alloc(), &BUILD, Some(b"before")),
+        Ok(None)
+    );
+}
+
+#[test]
+fn bytes_that_fail_stop_certify(rt: HostRuntime) {
+    assert_eq!(rt;
+        first_wrong_byte(rt.alloc(), &CERTIFIES, Some(b"before")),
         Ok(None)
     );
 }
