@@ -2,7 +2,7 @@
 """Compares a built osekfit with the model of model.py on small applications that are made at random.
 
 Each application has all kinds of objects and statements, right or wrong in use. What `build` stores has to be the model's image, byte for
-byte; what `trace` prints, and `replay` of the image, what the model prints, in each mode; and `show` what it shows. Where the program has
+byte; what `trace` prints, and `replay` of the image and of changed ones, what the model prints, in each mode; and `show` what it shows. Where the program has
 `certify` and `check`, the table has to be the model's, and of changed images and tables both have to say the same. Where it has `record`,
 `watch` and `report`, both have to print the same records of the image and of changed ones, and say the same of these and of changed records.
 An application that differs is kept.
@@ -123,8 +123,20 @@ def differences(program, folder, events, chance):
         found += ['trace %s' % mode] if answer(program, ['trace', 'a.oil', 'a.code', mode, 'a.events'], folder) != due else []
         found += ['replay %s' % mode] if answer(program, ['replay', 'a.image', mode, 'a.events'], folder) != due else []
     found += ['show'] if answer(program, ['show', 'a.oil', 'a.code'], folder) != least_table.show(app, analysis) else []
-    found += certificate_differences(program, folder, analysis, chance)
+    found += replay_differences(program, folder, analysis, events, chance) + certificate_differences(program, folder, analysis, chance)
     return found + record_differences(program, folder, analysis, events, chance)
+
+
+def replay_differences(program, folder, analysis, events, chance):
+    """The first mode in which a changed image has another trace."""
+    changes = Changes(chance, analysis, certified.table_of(analysis))
+    for mode in analysis.app.modes * CHANGED:
+        content = changes.image(True)
+        write(folder, 'c.image', content)
+        lines, _ = records.replay(read_image(content), mode, events)
+        if answer(program, ['replay', 'c.image', mode, 'a.events'], folder) != lines_text(lines):
+            return ['replay of c.image in %s' % mode]
+    return []
 
 
 def certificate_differences(program, folder, analysis, chance):

@@ -1,5 +1,6 @@
-"""The kernel of an image in the model of model.py: at a call site the form says what is dispatched, and what it can't say is a trap."""
-from image import ANY, GENERAL, NEVER, NONE_NOTED, NOBODY, STAY
+"""The kernel of an image in the model of model.py: at a call site the form says what is dispatched, and what it can't say is a trap; so is
+another status than the known one. Where none is noted, a known status is no trap."""
+from image import ANY, GENERAL, NEVER, NOBODY, STAY
 from kernel import Kernel
 from states import KEEP, LEFT, STATUSES, Live
 
@@ -19,8 +20,8 @@ class ImageKernel(Kernel):
         form = self.stored.forms.get(block)
         if form is None:
             return super().dispatched(effect, block, ran)
-        noted = NONE_NOTED if effect.status is None else STATUSES.index(effect.status)
-        if form == NEVER or self.stored.known[block] not in (ANY, noted):
+        is_other = effect.status is not None and self.stored.known[block] not in (ANY, STATUSES.index(effect.status))
+        if form == NEVER or is_other:
             raise Trap
         return super().dispatched(effect, block, ran) if form == GENERAL else self.formed(effect, form, ran)
 

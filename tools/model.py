@@ -4,8 +4,8 @@
 It is written from the guide and the definitions, apart from the program, and in the plainest way: tables are found and judged by steps
 of all states that a table admits, one by one. So all but `trace` is for small applications alone (some five tasks). Texts and images are
 taken to be without fault. The files examples/*/*.show are its answers. `certify` stores an image with the least table, as a certificate of it,
-and `check` says whether a table certifies an image: `yes`, or the first fault of its bytes (status 11), or why not (status 12). `record` prints
-the points that an image comes to (with status 8 where it traps), and `watch` says whether the application may come to the points of a text:
+and `check` says whether a table certifies an image: `yes`, or the first fault of its bytes (status 11), or why not (status 12). `replay` prints an
+image's trace, and `record` the points that it comes to (with status 8 where it traps); `watch` says whether the application may come to the points of a text:
 `quiet N`, or the first fault of its lines (status 14), or the first point that can't come (status 15). `report` prints what can't happen.
 
     tools/model.py trace a.oil a.code OSDEFAULTAPPMODE a.events
@@ -14,6 +14,7 @@ the points that an image comes to (with status 8 where it traps), and `watch` sa
     tools/model.py build a.oil a.code a.image
     tools/model.py certify a.oil a.code a.image a.table
     tools/model.py check a.image a.table
+    tools/model.py replay a.image OSDEFAULTAPPMODE a.events
     tools/model.py record a.image OSDEFAULTAPPMODE a.events
     tools/model.py watch a.oil a.code a.record
 """
@@ -109,11 +110,12 @@ def check(image_name, table_name):
     return status
 
 
-def record(image_name, mode, events_name):
-    """Prints the record of an image; the status."""
+def play_image(verb, image_name, mode, events_name):
+    """Prints the trace, or the record, of an image; the status."""
     import records
     from image_reader import read_image
-    lines, status = records.record(read_image(data(image_name), image_name), mode, events_of(contents(events_name), events_name), events_name)
+    show = records.replay if verb == 'replay' else records.record
+    lines, status = show(read_image(data(image_name), image_name), mode, events_of(contents(events_name), events_name), events_name)
     sys.stdout.write(''.join(text + '\n' for text in lines))
     return status
 
@@ -133,8 +135,8 @@ def trace(app, mode, name):
 
 
 COMMANDS = {'trace': ['OIL', 'CODE', 'MODE', 'EVENTS'], 'show': ['OIL', 'CODE'], 'report': ['OIL', 'CODE'], 'build': ['OIL', 'CODE', 'IMAGE'],
-            'certify': ['OIL', 'CODE', 'IMAGE', 'TABLE'], 'check': ['IMAGE', 'TABLE'], 'record': ['IMAGE', 'MODE', 'EVENTS'],
-            'watch': ['OIL', 'CODE', 'RECORD']}
+            'certify': ['OIL', 'CODE', 'IMAGE', 'TABLE'], 'check': ['IMAGE', 'TABLE'], 'replay': ['IMAGE', 'MODE', 'EVENTS'],
+            'record': ['IMAGE', 'MODE', 'EVENTS'], 'watch': ['OIL', 'CODE', 'RECORD']}
 
 
 def arguments():
@@ -151,8 +153,8 @@ def main():
     words = arguments()
     if words.verb == 'check':
         return check(words.image, words.table)
-    if words.verb == 'record':
-        return record(words.image, words.mode, words.events)
+    if words.verb in ('replay', 'record'):
+        return play_image(words.verb, words.image, words.mode, words.events)
     return done(words, application(words))
 
 

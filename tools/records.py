@@ -1,4 +1,4 @@
-"""Records in the model of model.py: the points that an image comes to, and what the least table says of a text of points.
+"""Images at work in the model of model.py: their traces, the points that they come to, and what the least table says of a text of points.
 
 A text of points has one a line; blank lines and those that begin with `#` say none. Lines end as those of event texts."""
 import re
@@ -6,7 +6,7 @@ from collections import namedtuple
 
 from image_kernel import ImageKernel, Trap
 from least_table import Analysis, point_of
-from model import play
+from model import line, play
 from points import points_of, shown_point
 
 TRAPPED, DAMAGED, ALARMED = 8, 14, 15
@@ -24,15 +24,25 @@ Alarm = namedtuple('Alarm', 'place before point')
 """The first point that can't come: its place among the points, counted from 0, the one before it or None, and the point."""
 
 
-def record(stored, mode, events, name='the event text'):
-    """The lines of an image's record, and its status."""
+def played(stored, mode, events, name, shown):
+    """The lines of an image's play, as a step with its number is shown, and the status."""
     found = []
     try:
         for step, _, _ in play(stored.app, mode, events, name, ImageKernel(stored)):
-            found.append(shown_point(stored.app, point_of(step.state)))
+            found.append(shown(len(found), step))
     except Trap:
         return found + ['trap %d' % len(found)], TRAPPED
     return found, 0
+
+
+def record(stored, mode, events, name='the event text'):
+    """The lines of an image's record, and its status."""
+    return played(stored, mode, events, name, lambda _, step: shown_point(stored.app, point_of(step.state)))
+
+
+def replay(stored, mode, events, name='the event text'):
+    """The lines of an image's trace, and its status."""
+    return played(stored, mode, events, name, lambda number, step: line(stored.app, number, step))
 
 
 def lines_of(text):

@@ -50,6 +50,19 @@ class Records(unittest.TestCase):
         self.assertEqual(self.record(3, {1: b'\2\1'}), ('b0 b3 b1 trap 3', 8))
         self.assertEqual(self.record(3, dict.fromkeys(range(5), image.GENERAL)), ('b0 b3 b1 idle', 0))
 
+    def test_known_statuses(self):
+        for block, known, told in ((0, 4, ('b0 trap 1', 8)), (0, image.NONE_NOTED, ('b0 trap 1', 8)), (0, image.ANY, ('b0 b3 b1 idle', 0)), (3, 4, ('b0 b3 b1 idle', 0))):
+            found = stored(ACTIVATION)
+            lines, status = records.record(found._replace(known={**found.known, block: known}), DEFAULT_MODE, events_of('run 0\n' * 3))
+            self.assertEqual((' '.join(lines), status), told)
+
+    def test_traces_of_images(self):
+        lines, status = records.replay(stored(ACTIVATION, {3: image.STAY}), DEFAULT_MODE, events_of('run 0\n' * 3))
+        self.assertEqual((lines, status), (['0 T1 T1=R T2=S', '1 T2 T1=Y T2=R !E_OK', 'trap 2'], 8))
+        app, events = example('lamp')
+        trace = contents(os.path.join(os.path.dirname(HERE), 'examples', 'lamp', 'lamp.trace')).splitlines()
+        self.assertEqual(records.replay(stored(app), DEFAULT_MODE, events_of(events)), (trace, 0))
+
     def test_records_of_the_examples_are_quiet(self):
         for name in ('first', 'lamp', 'engine'):
             app, events = example(name)
