@@ -1,24 +1,30 @@
 #!/usr/bin/env python3
-"""Puts beside each line of a trace the source line and the statement that did it, or says what event texts reached of an application.
+"""Puts beside each line of the task code what is known of it; beside each line of a trace the source line and the statement that did it; or
+says what event texts reached of an application.
 
+    tools/annotate.py a.oil a.code                                         the task code, with forms, known statuses, `dead` and `free`
+    tools/annotate.py --html a.oil a.code > a.html                         the same as a page
+    tools/annotate.py --show a.show --info a.info --report a.report a.oil a.code         by what osekfit printed
     tools/annotate.py a.oil a.code a.events                                the trace, annotated
     tools/annotate.py --trace a.trace a.oil a.code a.events                the same of a trace that osekfit printed
     tools/annotate.py --coverage a.oil a.code a.events b.events            statements and choices that these reached
     tools/annotate.py --coverage --show a.show a.oil a.code a.events       with outcomes of sites and edges of `osekfit show`
 
-Which statement it was is told by the model of model.py, which plays the events too. A given trace has to be what the model prints, and
-each edge that is taken has to be one of `show`: where not, this is told and the status is 2. With --least N the status of --coverage is
-1 where less than N percent of some row was reached.
+Without what osekfit printed, the task code is annotated by the least table of the model in model.py, which is for small applications. Of a
+site the margin has its block, its form, and its known status where one is known. Which statement did a line of a trace is told by that model,
+which plays the events too. A given trace has to be what the model prints, and each edge that is taken has to be one of `show`: where not,
+this is told and the status is 2. With --least N the status of --coverage is 1 where less than N percent of some row was reached.
 """
 import os
 import sys
 
 import covered
+import margin
 import model
-from application import application_of
 from given import Parser, Wrong, contents, run
 from oil import DEFAULT_MODE
 from states import ARRIVAL, HALTED, IDLE, Routine, place_of
+from texts import add_texts, application, place_text
 
 
 def told(app, before, step, words, files):
@@ -33,11 +39,7 @@ def told(app, before, step, words, files):
     if before.processor in (IDLE, HALTED):
         return 'nothing: the processor is %s' % before.processor
     block = app.blocks[place_of(before)[0]]
-    if block.owner.kind == 'TICK':
-        return 'tick routine of %s: %s' % (block.owner.name, block.text)
-    end = 'end of %s' % block.owner.name
-    chosen = ' choice %s' % words[1] if block.word == 'choice' else ''
-    return '%s:%d: %s%s' % (files.code, block.line, end if block.word == 'end' else block.text, chosen)
+    return place_text(block, files.code) + (' choice %s' % words[1] if block.word == 'choice' else '')
 
 
 def source_of(app, state):
@@ -91,27 +93,43 @@ def print_coverage(rows, least):
     return 1 if is_low else 0
 
 
+def print_margin(app, files):
+    """Prints the task code with its margin, as text or as a page."""
+    texts = [contents(name) if name else None for name in (files.show, files.info, files.report)]
+    facts = margin.facts_of_texts(*texts, names=[files.show]) if any(texts) else margin.facts_of_model(app)
+    code, notes = contents(files.code).splitlines(), margin.notes_of(app, facts)
+    if files.html:
+        sys.stdout.write(margin.page(code, notes, os.path.basename(files.code)))
+    else:
+        sys.stdout.write(''.join(line + '\n' for line in margin.lines_of(code, notes)))
+
+
 def arguments():
     parser = Parser(__doc__)
-    parser.add_argument('oil', metavar='OIL')
-    parser.add_argument('code', metavar='CODE')
-    parser.add_argument('events', nargs='+', metavar='EVENTS')
+    add_texts(parser)
+    parser.add_argument('events', nargs='*', metavar='EVENTS')
     parser.add_argument('--mode', default=DEFAULT_MODE)
     parser.add_argument('--trace', metavar='FILE', help='the trace that osekfit printed, which is compared')
     parser.add_argument('--coverage', action='store_true', help='what was reached, in place of a trace')
-    parser.add_argument('--show', metavar='FILE', help='the text of `osekfit show`, for outcomes and edges')
+    parser.add_argument('--show', metavar='FILE', help='the text of `osekfit show`: for the margin, or for outcomes and edges')
+    parser.add_argument('--info', metavar='FILE', help='the text of `osekfit info`, for known statuses')
+    parser.add_argument('--report', metavar='FILE', help='the text of `osekfit report`, for `dead` and `free`')
+    parser.add_argument('--html', action='store_true', help='the task code as a page')
     parser.add_argument('--least', type=int, default=0, metavar='N', help='the percentage of each row that has to be reached')
     return parser.parse_args()
 
 
 def main():
     files = arguments()
+    if not files.events and (files.coverage or files.trace):
+        raise Wrong('--coverage and --trace need an event text')
     if not files.coverage and len(files.events) > 1:
         raise Wrong('one event text gives one trace; several go with --coverage')
-    app = application_of(contents(files.oil), contents(files.code), (files.oil, files.code))
+    app = application(files)
+    if not files.events:
+        return print_margin(app, files)
     if not files.coverage:
-        print_annotated(annotated(app, files))
-        return 0
+        return print_annotated(annotated(app, files))
     show = contents(files.show) if files.show else None
     return print_coverage(covered.rows(app, reached(app, files), os.path.basename(files.code), show, files.show), files.least)
 

@@ -17,6 +17,7 @@ from image_reader import read_image
 from points import block_of, point_shown, points_of, shown_point
 from table_bytes import RULES, Fault, read_table
 from table_words import Wording
+from texts import source_line
 
 
 def certificate(image_data, table_data, names=('the image', 'the table')):
@@ -33,17 +34,11 @@ def lines_of(app, table, points, only=None, code=None):
     shown = [(shown_point(app, point), point) for point in points]
     width, wording = max((len(text) for text, _ in shown), default=0), Wording(app)
     for text, point in shown:
-        if code is not None and block_of(point) is not None:
-            yield from source_line(app, block_of(point), code)
+        source = source_line(app.blocks[block_of(point)], *code) if code is not None and block_of(point) is not None else None
+        if source:
+            yield '-- ' + source
         parts = [words for name, words in wording.parts(point, table[point]) if only in (None, name)]
         yield ('%-*s  %s' % (width, text, ' | '.join(parts))).rstrip()
-
-
-def source_line(app, block, code):
-    """The line of a block, whose file and lines are given; none where the block is in no text."""
-    name, lines = code
-    line = app.blocks[block].line
-    return ['-- %s:%d: %s' % (name, line, lines[line - 1].strip())] if 0 < line <= len(lines) else []
 
 
 def chosen_points(app, table, text):

@@ -2,9 +2,10 @@
 """Compares a built osekfit with the model of model.py on small applications that are made at random.
 
 Each application has all kinds of objects and statements, right or wrong in use. What `build` stores has to be the model's image, byte for
-byte; what `trace` prints, and `replay` of the image, what the model prints, in each mode; and `show` what it shows. Where the program has
-`certify` and `check`, the table has to be the model's, and of changed images and tables both have to say the same. An application that
-differs is kept.
+byte; what `trace` prints, and `replay` of the image and of changed ones, what the model prints, in each mode; and `show` what it shows. Where the program has
+`certify` and `check`, the table has to be the model's, and of changed images and tables both have to say the same. Where it has `record`,
+`watch` and `report`, both have to print the same records of the image and of changed ones, and say the same of these and of changed records.
+An application that differs is kept.
 
     tools/compare_model.py crates/osekfit/out/osekfit --count 100 --seed 7
 """
@@ -16,14 +17,18 @@ import sys
 import tempfile
 
 import certified
+import findings
 import image
 import least_table
 import model
+import records
 import table_bytes
 from application import application_of
 from certificate_changes import Changes
 from given import Parser, Wrong, data, run
+from image_reader import read_image
 from oil import HOOKS
+from points import points_of, shown_point
 from task_code import CLOSERS, OPENERS
 
 FOR_TASKS = ['ActivateTask(%(task)s)', 'ActivateTask(%(task)s)', 'ChainTask(%(task)s)', 'TerminateTask()', 'Schedule()', 'GetResource(%(resource)s)',
@@ -118,7 +123,20 @@ def differences(program, folder, events, chance):
         found += ['trace %s' % mode] if answer(program, ['trace', 'a.oil', 'a.code', mode, 'a.events'], folder) != due else []
         found += ['replay %s' % mode] if answer(program, ['replay', 'a.image', mode, 'a.events'], folder) != due else []
     found += ['show'] if answer(program, ['show', 'a.oil', 'a.code'], folder) != least_table.show(app, analysis) else []
-    return found + certificate_differences(program, folder, analysis, chance)
+    found += replay_differences(program, folder, analysis, events, chance) + certificate_differences(program, folder, analysis, chance)
+    return found + record_differences(program, folder, analysis, events, chance)
+
+
+def replay_differences(program, folder, analysis, events, chance):
+    """The first mode in which a changed image has another trace."""
+    changes = Changes(chance, analysis, certified.table_of(analysis))
+    for mode in analysis.app.modes * CHANGED:
+        content = changes.image(True)
+        write(folder, 'c.image', content)
+        lines, _ = records.replay(read_image(content), mode, events)
+        if answer(program, ['replay', 'c.image', mode, 'a.events'], folder) != lines_text(lines):
+            return ['replay of c.image in %s' % mode]
+    return []
 
 
 def certificate_differences(program, folder, analysis, chance):
@@ -133,11 +151,53 @@ def certificate_differences(program, folder, analysis, chance):
     changes = Changes(chance, analysis, table)
     for pair in [due] + [changes.pair() for _ in range(CHANGED)]:
         for name, content in zip(names, pair):
-            with open(os.path.join(folder, name), 'wb') as file:
-                file.write(content)
+            write(folder, name, content)
         if answer(program, ['check', *names], folder) != certified.told(*pair, *names)[1] + '\n':
             return ['check of b.image and b.table']
     return []
+
+
+def record_differences(program, folder, analysis, events, chance):
+    """Those of `record`, `watch` and `report`; none where the program doesn't have them."""
+    report = answer(program, ['report', 'a.oil', 'a.code'], folder)
+    if report == 'usage\n':
+        return []
+    app, found = analysis.app, ['report'] if report != findings.report(analysis.app, analysis) else []
+    changes = Changes(chance, analysis, certified.table_of(analysis))
+    for mode in app.modes:
+        for content in [changes.image(False)] + [changes.image(True) for _ in range(CHANGED)]:
+            write(folder, 'b.image', content)
+            lines, _ = records.record(read_image(content), mode, events)
+            if answer(program, ['record', 'b.image', mode, 'a.events'], folder) != lines_text(lines):
+                found.append('record of b.image in %s' % mode)
+            found += watch_differences(program, folder, analysis, [lines, changed_record(chance, app, lines)])
+    return found
+
+
+def watch_differences(program, folder, analysis, all_lines):
+    """The first record of which `watch` says something else."""
+    for lines in all_lines:
+        write(folder, 'b.record', lines_text(lines).encode('ascii'))
+        due = records.watched(analysis.app, lines_text(lines), 'b.record', analysis)[1] + '\n'
+        if answer(program, ['watch', 'a.oil', 'a.code', 'b.record'], folder) != due:
+            return ['watch of b.record']
+    return []
+
+
+def changed_record(chance, app, lines):
+    """A record with a line that is another one, or gone, or twice there."""
+    place = chance.randrange(len(lines))
+    others = [shown_point(app, chance.choice(points_of(app))), 'b%d' % len(app.blocks), 'b0/', 'b00', '# b0', '', ' idle\t', 'idle halt', 'b0/X']
+    return lines[:place] + chance.choice([[], lines[place:place + 1] * 2, [chance.choice(others)]]) + lines[place + 1:]
+
+
+def lines_text(lines):
+    return ''.join(line + '\n' for line in lines)
+
+
+def write(folder, name, content):
+    with open(os.path.join(folder, name), 'wb') as file:
+        file.write(content)
 
 
 def compare(program, seed, folder):

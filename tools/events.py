@@ -19,10 +19,10 @@ import random
 import sys
 
 import model
-from application import application_of
 from given import Parser, Wrong, contents, run
 from kernel import Kernel
 from oil import DEFAULT_MODE
+from texts import application
 
 MOST = 1000
 """After how many runs `until` gives up, where the script doesn't say."""
@@ -200,7 +200,7 @@ def main():
         raise Wrong('--oil and --code go together')
     player = None
     if words.oil:
-        player = Player(application_of(contents(words.oil), contents(words.code), (words.oil, words.code)), words.mode)
+        player = Player(application(words), words.mode)
     sys.stdout.write(event_text(contents(words.script), words.script or 'the script', player))
 
 

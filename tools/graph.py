@@ -10,6 +10,11 @@ interrupt (into a routine), a return (out of it), a restart (a task that ends an
     tools/graph.py --code a.code --oil a.oil --svg a.show > a.svg           counters and alarms have their names
     tools/graph.py --code a.code --svg --task T1 a.show > t1.svg            one column, and what it has edges with
     tools/graph.py --code a.code --summary a.show                           who dispatches whom, in numbers of edges
+    tools/graph.py --code a.code --svg --record a.record a.show > a.svg     what `osekfit record` printed took of it, in green
+    tools/graph.py --code a.code --unseen --record a.record a.show          the edges that it didn't take: a plan of tests
+    tools/graph.py --code a.code --svg --alarm --record a.record a.show     with the first step that no edge has, in red
+
+How many edges and points the records have is told on standard error, with --unseen on standard output. --record may be given several times.
 """
 import re
 import sys
@@ -108,6 +113,9 @@ class Owners:
             return self.blocks[point.block].owner
         return self.ticks.get(point.block)
 
+    def line(self, block):
+        return self.blocks[block].line if block < len(self.blocks) else 0
+
     def text(self, block):
         if block < len(self.blocks):
             return self.blocks[block].text
@@ -171,6 +179,15 @@ def alarms_of(ticks, system):
     return found
 
 
+class Unmarked:
+    """What stands in the place of the marks of graph_record.py where there is no record."""
+
+    alarm, is_drawn = None, False
+
+    def colour(self, _edges, usual):
+        return usual
+
+
 def label(graph, owners, point):
     lines = [text_of(point)]
     if point.block is not None:
@@ -199,8 +216,8 @@ def points_of(graph, owners):
     return sorted(points, key=lambda p: (p.block is not None, p.kind != 'task', p.block or 0, p.kind, p.over or ''))
 
 
-def dot(graph, owners):
-    """The graph in DOT."""
+def dot(graph, owners, marks=Unmarked()):
+    """The graph in DOT; the marks say how edges are coloured."""
     lines = ['digraph osekfit {', '  rankdir=TB;',
              '  node [shape=box, style="filled,rounded", fillcolor="#ffffff", color="#d0d7de", fontname="Helvetica", fontsize=10];',
              '  edge [fontname="Helvetica", fontsize=9];']
@@ -215,11 +232,15 @@ def dot(graph, owners):
             lines += ['  subgraph "cluster_%s_%s" {' % owner,
                       '    label="%s"; color="#8c959f"; fontname="Helvetica";' % owner.name]
             lines += ['    ' + line for line in inner] + ['  }']
-    for before, after in graph.edges:
-        kind = owners.kind_of_edge(before, after)
-        shown = '' if kind in ('flow', '') else ', label="%s"' % kind
-        lines.append('  "%s" -> "%s" [color="%s"%s];' % (text_of(before), text_of(after), EDGE_COLOURS[kind], shown))
+    lines += ['  ' + edge_line(owners, edge, marks) for edge in graph.edges]
     return '\n'.join(lines + ['}', ''])
+
+
+def edge_line(owners, edge, marks):
+    kind, is_alarm = owners.kind_of_edge(*edge), marks.alarm is not None and edge == marks.alarm.edge
+    said = 'alarm' if is_alarm else '' if kind == 'flow' else kind
+    shown = (', style="dashed"' if is_alarm else '') + (', label="%s"' % said if said else '')
+    return '"%s" -> "%s" [color="%s"%s];' % (text_of(edge[0]), text_of(edge[1]), marks.colour([edge], EDGE_COLOURS[kind]), shown)
 
 
 def around(graph, owners, name):
@@ -267,25 +288,63 @@ def arguments():
     parser.add_argument('--task', metavar='NAME', help='the edges of one task or routine alone; needs --code')
     parser.add_argument('--summary', action='store_true', help='a matrix in place of DOT; needs --code')
     parser.add_argument('--title', default='', help='a heading for the drawing')
+    parser.add_argument('--record', action='append', metavar='FILE', help='what `osekfit record` printed, or a bench logged')
+    parser.add_argument('--unseen', action='store_true', help='the edges that no record took, in place of a drawing')
+    parser.add_argument('--alarm', action='store_true', help='draws the first step that no edge has')
     return parser.parse_args()
+
+
+def marks_of(graph, words):
+    """What the records took; a step that no edge has is wrong where it isn't asked for."""
+    import graph_record
+    marks = graph_record.Marks(graph)
+    for name in words.record:
+        marks.take(contents(name), name)
+    if marks.alarm and not words.alarm:
+        raise Wrong('%s (--alarm draws it)' % marks.told_alarm())
+    if words.alarm and not marks.alarm:
+        raise Wrong('each step of these records is an edge')
+    return marks
+
+
+def print_recorded(words, graph, owners):
+    """Prints what is asked for of the graph with records."""
+    import graph_record
+    marks = marks_of(graph, words)
+    graph_record.judge(marks, owners)
+    (sys.stdout if words.unseen else sys.stderr).write(marks.told() + '\n')
+    if marks.alarm:
+        sys.stderr.write(marks.told_alarm() + '\n')
+    if words.unseen:
+        sys.stdout.write(''.join(line + '\n' for line in graph_record.unseen(marks, owners)))
+    else:
+        print_drawing(words, marks.with_alarm(), owners, marks)
+
+
+def print_drawing(words, graph, owners, marks):
+    shown = around(graph, owners, words.task) if words.task else graph
+    if words.svg:
+        import graph_chart
+        sys.stdout.write(graph_chart.chart(shown, owners, words.title, words.task, marks))
+    else:
+        sys.stdout.write(dot(shown, owners, marks))
 
 
 def main():
     words = arguments()
     if (words.svg or words.task or words.summary or words.oil) and not words.code:
         raise Wrong('--svg, --task, --summary and --oil need --code')
+    if (words.unseen or words.alarm) and not words.record:
+        raise Wrong('--unseen and --alarm need --record')
     graph = read_show(contents(words.show), words.show or 'standard input')
     system = oil.system_of(contents(words.oil), words.oil) if words.oil else None
     owners = Owners(graph, contents(words.code) if words.code else None, system)
-    if words.task:
-        graph = around(graph, owners, words.task)
     if words.summary:
-        sys.stdout.write(summary(graph, owners))
-    elif words.svg:
-        import graph_chart
-        sys.stdout.write(graph_chart.chart(graph, owners, words.title, words.task))
+        sys.stdout.write(summary(around(graph, owners, words.task) if words.task else graph, owners))
+    elif words.record:
+        print_recorded(words, graph, owners)
     else:
-        sys.stdout.write(dot(graph, owners))
+        print_drawing(words, graph, owners, Unmarked())
 
 
 if __name__ == '__main__':

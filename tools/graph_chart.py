@@ -5,7 +5,8 @@ targets from the left; each source has a colour of its own. Interrupts and retur
 from collections import namedtuple
 
 from drawing import FAINT, INK, LINE, MONO, Drawing, in_lines, number, rounded
-from graph import FORM_COLOURS, Point, text_of
+from graph import FORM_COLOURS, Point, Unmarked, text_of
+from graph_record import ALARM_COLOUR, INSTEAD_COLOUR, OTHER_COLOUR, TAKEN_COLOUR
 
 ROW, GAP = 24, 8
 """The height of a block, and the room below it."""
@@ -29,6 +30,9 @@ STYLE = '.lines:hover .from{opacity:.12}.lines .from:hover{opacity:1}.from:hover
 """What a viewer does with the lines of one block when it is pointed at: the others fade."""
 
 SOURCE_COLOURS = ['#0969da', '#bf3989', '#1a7f37', '#bc4c00', '#8250df', '#1b7c83', '#9a6700', '#cf222e', '#4d2d8a', '#57606a']
+
+FRONT = [OTHER_COLOUR, TAKEN_COLOUR, INSTEAD_COLOUR, ALARM_COLOUR]
+"""The colours of marked lines, those in front last."""
 
 Row = namedtuple('Row', 'points text form over')
 """A row of a column: the points that it stands for, what is written in it, its form or None, and, below the end of a routine,
@@ -118,8 +122,8 @@ def rows_of(graph, owners, owner, block, used):
 
 
 class Chart:
-    def __init__(self, graph, owners, whole):
-        self.graph, self.owners = graph, owners
+    def __init__(self, graph, owners, whole, marks):
+        self.graph, self.owners, self.marks = graph, owners, marks
         self.columns = columns_of(graph, owners, whole)
         self.place, self.heads = {}, {}
         for c, column in enumerate(self.columns):
@@ -127,7 +131,7 @@ class Chart:
                 head = (c, r) if row.over is None else head
                 for point in row.points:
                     self.place[point], self.heads[point] = (c, r), head
-        self.flows, self.trunks, self.circles, self.returns = set(), {}, {}, set()
+        self.flows, self.trunks, self.circles, self.returns = {}, {}, {}, set()
         for before, after in graph.edges:
             self.sort_edge(before, after)
         self.find_jumps()
@@ -136,14 +140,18 @@ class Chart:
     def sort_edge(self, before, after):
         kind = self.owners.kind_of_edge(before, after)
         if kind == 'flow':
-            self.flows.add((self.heads[before], self.heads[after]))
+            self.flows.setdefault((self.heads[before], self.heads[after]), []).append((before, after))
         elif kind == 'interrupt':
-            self.circles.setdefault((self.place[before], self.owners.owner(after)), set()).add('begins')
+            self.circle_of(self.place[before], self.owners.owner(after))['begins'].append((before, after))
         elif kind == 'return':
-            self.circles.setdefault((self.place[after], self.owners.owner(before)), set()).add('returns')
+            self.circle_of(self.place[after], self.owners.owner(before))['returns'].append((before, after))
             self.returns.add(before)
         else:
             self.trunks.setdefault(before, []).append(after)
+
+    def circle_of(self, place, owner):
+        """The edges that the circle of a routine beside a row stands for, by kind."""
+        return self.circles.setdefault((place, owner), {'begins': [], 'returns': []})
 
     def find_jumps(self):
         """Gives each flow that isn't to the next row a lane at the left of its column."""
@@ -153,6 +161,9 @@ class Chart:
                 jumps = self.columns[c].jumps
                 taken = {lane for a, b, lane in jumps if min(a, b) <= high and low <= max(a, b)}
                 jumps.append((r, r2, next(n for n in range(len(jumps) + 1) if n not in taken)))
+
+    def flow_colour(self, c, r, r2):
+        return self.marks.colour(self.flows[(c, r), (c, r2)], '#57606a')
 
     def lay_out(self):
         """Places the columns from left to right, with room for the lines between them."""
@@ -192,7 +203,7 @@ class Chart:
         for column in self.columns:
             self.paint_frame(column)
         for c, column in enumerate(self.columns):
-            self.paint_jumps(column)
+            self.paint_jumps(c, column)
             for r in range(len(column.rows)):
                 self.paint_row(c, column, r)
         self.paint_trunks()
@@ -228,7 +239,7 @@ class Chart:
         for k, owner in enumerate(column.circles):
             self.paint_circle(self.circles.get(((c, r), owner)), x + width + CELL * k + CELL / 2 + 1, y + ROW / 2)
         if ((c, r), (c, r + 1)) in self.flows:
-            self.arrow(x + 16, y + ROW, x + 16, y + ROW + GAP, '#57606a')
+            self.arrow(x + 16, y + ROW, x + 16, y + ROW + GAP, self.flow_colour(c, r, r + 1))
 
     def paint_over(self, row, x, y, width, above):
         """A row below a routine's end: whether the routine goes back to what was interrupted."""
@@ -237,17 +248,20 @@ class Chart:
         if any(p in self.returns for p in row.points):
             self.drawing.text(x + width - 8, y + 16, 'returns', size=11, fill='#8250df', anchor='end')
 
-    def paint_circle(self, kinds, x, y):
-        if kinds:
-            self.drawing.circle(x, y, 4, '#8250df' if 'returns' in kinds else '#ffffff', stroke='#8250df', stroke_width=1.4)
+    def paint_circle(self, edges, x, y):
+        if edges:
+            begins, returns = (self.marks.colour(edges[kind], '#8250df') for kind in ('begins', 'returns'))
+            is_full = bool(edges['returns'])
+            self.drawing.circle(x, y, 4, returns if is_full else '#ffffff', stroke=begins if edges['begins'] else returns, stroke_width=1.4)
 
-    def paint_jumps(self, column):
+    def paint_jumps(self, c, column):
         for r, r2, lane in column.jumps:
+            colour = self.flow_colour(c, r, r2)
             x = column.left() - 6 - LANE * lane
             points = [(column.left(), column.middle_of(r) + 4), (x, column.middle_of(r) + 4), (x, column.middle_of(r2) - 4),
                       (column.left(), column.middle_of(r2) - 4)]
-            self.drawing.path(rounded(points), '#57606a', stroke_width=1.1)
-            self.head(points[-1], 'right', '#57606a')
+            self.drawing.path(rounded(points), colour, stroke_width=1.1)
+            self.head(points[-1], 'right', colour)
 
     def paint_trunks(self):
         """The lines of dispatches, those of one block as one group."""
@@ -266,12 +280,23 @@ class Chart:
         return '%s to %s%s' % (text_of(source), ', '.join(targets[:MOST_NAMED]), more)
 
     def paint_trunk(self, source, colour):
-        """The lines from one block: out to the right, and to each column with a target along one upright line."""
+        """The lines from one block, those that were taken in front of the others."""
+        c, r = self.place[source]
+        column = self.columns[c]
+        self.drawing.rect(column.left(), column.top_of(r), column.box_width(), ROW, 'none', pointer_events='all')
+        by_colour = {}
+        for target in self.trunks[source]:
+            by_colour.setdefault(self.marks.colour([(source, target)], colour), []).append(target)
+        for one in sorted(by_colour, key=FRONT.index) if self.marks.is_drawn else by_colour:
+            self.paint_branches(source, by_colour[one], one)
+
+    def paint_branches(self, source, targets, colour):
+        """The lines from a block to some targets: out to the right, and to each column with a target along one upright line."""
         c, r = self.place[source]
         column = self.columns[c]
         x, y = self.track_x(c + 1, source), column.middle_of(r)
         by_column = {}
-        for target in self.trunks[source]:
+        for target in targets:
             by_column.setdefault(self.place[target][0], []).append(self.entry_y(source, target))
         parts, heads = ['M%s %sH%s' % (number(column.right()), number(y), number(x))], []
         if set(by_column) != {c + 1}:
@@ -282,10 +307,8 @@ class Chart:
             begin, x2 = (y, x) if c2 == c + 1 else (channel, self.track_x(c2, source))
             parts += branches(x2, begin, entries, self.columns[c2].left())
             heads += [arrow_head(self.columns[c2].left(), entry) for entry in entries]
-        d = self.drawing
-        d.rect(column.left(), column.top_of(r), column.box_width(), ROW, 'none', pointer_events='all')
-        d.path(''.join(parts), colour, stroke_width=1.6)
-        d.path(''.join(heads), 'none', fill=colour)
+        self.drawing.path(''.join(parts), colour, stroke_width=1.6)
+        self.drawing.path(''.join(heads), 'none', fill=colour)
 
     def entry_y(self, source, target):
         """Where a line comes to its target: beside those of other sources."""
@@ -329,9 +352,11 @@ class Chart:
 
     def said_below(self):
         """What is said of the marks that are drawn, each with its mark."""
-        shown = {kind for (place, owner), kinds in self.circles.items() if owner in self.columns[place[0]].circles
-                 for kind in [max(kinds)]}
-        said = [(bool(self.order), 'line', 'dispatch of a task, or of idle: from the block where the line begins to those at its arrows. '
+        shown = {'returns' if edges['returns'] else 'begins' for (place, owner), edges in self.circles.items()
+                 if owner in self.columns[place[0]].circles}
+        said = [(self.marks.is_drawn, None, 'Green is what records took, and grey what none took.'),
+                (self.marks.alarm is not None, None, 'Red is the first step that no edge has, and amber what might have come in its place.'),
+                (bool(self.order), 'line', 'dispatch of a task, or of idle: from the block where the line begins to those at its arrows. '
                                            'The lines of one block have one colour, which others share where there are many'),
                 (bool(self.flows), 'grey', 'control flow within a task or routine'),
                 ('begins' in shown, 'open', 'the routine named above may begin at this block'),
@@ -351,7 +376,7 @@ class Chart:
             d.line(18, y - 4, 48, y - 4, colour, stroke_width=1.6 if mark == 'line' else 1.1)
             self.head((50, y - 4), 'right', colour)
         elif mark:
-            self.paint_circle({'begins'} if mark == 'open' else {'begins', 'returns'}, 34, y - 4)
+            self.drawing.circle(34, y - 4, 4, '#ffffff' if mark == 'open' else '#8250df', stroke='#8250df', stroke_width=1.4)
         d.text(x, y, text, size=11)
 
 
@@ -386,6 +411,7 @@ def shortened(name):
     return name if len(name) <= 12 else name[:11] + '…'
 
 
-def chart(graph, owners, title, whole=None):
-    """The drawing of a graph whose owners are known; of one task or routine, whose name is given, and its neighbours."""
-    return Chart(graph, owners, whole).paint(title)
+def chart(graph, owners, title, whole=None, marks=Unmarked()):
+    """The drawing of a graph whose owners are known; of one task or routine, whose name is given, and its neighbours. The marks say what
+    records took of it."""
+    return Chart(graph, owners, whole, marks).paint(title)

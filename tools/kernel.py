@@ -63,7 +63,7 @@ class Kernel:
         """One instruction: its effect, then what the scheduler does with the processor."""
         block, _ = place_of(state)
         effect = self.effect(state, choice)
-        after, shown, hooks = self.dispatched(effect, self.app.blocks[block].word == 'Schedule', executing(state))
+        after, shown, hooks = self.dispatched(effect, block, executing(state))
         error = ['Error'] if effect.status not in (None, OK) else []
         shut = ['Shutdown'] if effect.shut_down else []
         return Step(after, effect.status, effect.value, self.shown_hooks(error + shut + hooks), shown)
@@ -71,10 +71,10 @@ class Kernel:
     def shown_hooks(self, hooks):
         return [hook for hook in hooks if hook in self.app.hooks]
 
-    def dispatched(self, effect, is_schedule, ran):
-        """The state after the scheduler's turn, what is shown of it, and the hooks of a dispatch; `ran` is the task that ran or was
-        interrupted before."""
-        state, best = effect.state, self.best(effect.state)
+    def dispatched(self, effect, block, ran):
+        """The state after the scheduler's turn at a block, what is shown of it, and the hooks of a dispatch; `ran` is the task that ran or
+        was interrupted before."""
+        state, best, is_schedule = effect.state, self.best(effect.state), self.app.blocks[block].word == 'Schedule'
         if effect.ask == LEFT:
             if best is None and ran is None:
                 return state, KEEP, []

@@ -9,6 +9,9 @@ from kernel import Kernel
 from points import HALT_POINT, IDLE_POINT, NOBODY, block_point, points_of, shown_point
 from states import ARRIVAL, HALTED, IDLE, KEEP, NOTHING, Armed, Live, Routine, Running, State, To, at_place, place_of, with_alarm
 
+MOST_ASKED = 100000
+"""How many states are asked at most where a tool can do without the table."""
+
 
 def point_of(state):
     if state.processor in (HALTED, IDLE):
@@ -24,7 +27,7 @@ class TableSteps:
     def __init__(self, app):
         self.app, self.kernel = app, Kernel(app)
         self.bits = app.own_bits()
-        self.edges = set()
+        self.edges, self.hooks = set(), set()
         self.shown, self.noted = ({block: set() for block in app.sites()} for _ in range(2))
 
     # Values and states.
@@ -79,8 +82,9 @@ class TableSteps:
         return [(state, False)]
 
     def note(self, point, step):
-        """What a step says of edges, and of the form and the status of its site."""
+        """What a step says of edges and of hooks, and of the form and the status of its site."""
         target = point_of(step.state)
+        self.hooks.update(step.hooks)
         if target != point or isinstance(step.shown, To):
             self.edges.add((point, target))
         if len(point) > 1 and point[1] in self.shown and step.shown not in (ARRIVAL, NOTHING):
@@ -94,8 +98,9 @@ class Analysis(TableSteps):
     def __init__(self, app):
         super().__init__(app)
         self.table, self.done, self.waiting = {}, {}, []
-        for mode in range(len(app.modes)):
-            self.join(self.kernel.start(mode).state)
+        for start in map(self.kernel.start, range(len(app.modes))):
+            self.join(start.state)
+            self.hooks.update(start.hooks)
 
     def join(self, state):
         """Puts a state's values into its point's entry."""

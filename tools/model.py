@@ -4,21 +4,27 @@
 It is written from the guide and the definitions, apart from the program, and in the plainest way: tables are found and judged by steps
 of all states that a table admits, one by one. So all but `trace` is for small applications alone (some five tasks). Texts and images are
 taken to be without fault. The files examples/*/*.show are its answers. `certify` stores an image with the least table, as a certificate of it,
-and `check` says whether a table certifies an image: `yes`, or the first fault of its bytes (status 11), or why not (status 12).
+and `check` says whether a table certifies an image: `yes`, or the first fault of its bytes (status 11), or why not (status 12). `replay` prints an
+image's trace, and `record` the points that it comes to (with status 8 where it traps); `watch` says whether the application may come to the points of a text:
+`quiet N`, or the first fault of its lines (status 14), or the first point that can't come (status 15). `report` prints what can't happen.
 
     tools/model.py trace a.oil a.code OSDEFAULTAPPMODE a.events
     tools/model.py show a.oil a.code
+    tools/model.py report a.oil a.code
     tools/model.py build a.oil a.code a.image
     tools/model.py certify a.oil a.code a.image a.table
     tools/model.py check a.image a.table
+    tools/model.py replay a.image OSDEFAULTAPPMODE a.events
+    tools/model.py record a.image OSDEFAULTAPPMODE a.events
+    tools/model.py watch a.oil a.code a.record
 """
 import sys
 
-from application import application_of
 from given import Parser, Wrong, contents, data, run
 from kernel import Kernel
 from services import letter
 from states import HALTED, IDLE, SUSPENDED, Live, Routine
+from texts import application
 
 
 def who(app, state):
@@ -73,9 +79,9 @@ def mode_number(app, mode):
     return app.modes.index(mode)
 
 
-def play(app, mode, events, name='the event text'):
-    """The start, and the step of each event, each with the event's words and line."""
-    kernel = Kernel(app)
+def play(app, mode, events, name='the event text', kernel=None):
+    """The start, and the step of each event, each with the event's words and line; by the kernel of the application, or by another."""
+    kernel = kernel or Kernel(app)
     step = kernel.start(mode_number(app, mode))
     yield step, None, 0
     for words, number in events:
@@ -104,8 +110,33 @@ def check(image_name, table_name):
     return status
 
 
-COMMANDS = {'trace': ['OIL', 'CODE', 'MODE', 'EVENTS'], 'show': ['OIL', 'CODE'], 'build': ['OIL', 'CODE', 'IMAGE'],
-            'certify': ['OIL', 'CODE', 'IMAGE', 'TABLE'], 'check': ['IMAGE', 'TABLE']}
+def play_image(verb, image_name, mode, events_name):
+    """Prints the trace, or the record, of an image; the status."""
+    import records
+    from image_reader import read_image
+    show = records.replay if verb == 'replay' else records.record
+    lines, status = show(read_image(data(image_name), image_name), mode, events_of(contents(events_name), events_name), events_name)
+    sys.stdout.write(''.join(text + '\n' for text in lines))
+    return status
+
+
+def watch(app, name):
+    """Says what the least table says of a text of points; the status."""
+    import records
+    status, told = records.watched(app, data(name).decode('latin-1'), name)
+    (sys.stderr if status == records.DAMAGED else sys.stdout).write(told + '\n')
+    return status
+
+
+def trace(app, mode, name):
+    """Prints the trace of an application over an event text."""
+    for number, (step, _, _) in enumerate(play(app, mode, events_of(contents(name), name), name)):
+        sys.stdout.write(line(app, number, step) + '\n')
+
+
+COMMANDS = {'trace': ['OIL', 'CODE', 'MODE', 'EVENTS'], 'show': ['OIL', 'CODE'], 'report': ['OIL', 'CODE'], 'build': ['OIL', 'CODE', 'IMAGE'],
+            'certify': ['OIL', 'CODE', 'IMAGE', 'TABLE'], 'check': ['IMAGE', 'TABLE'], 'replay': ['IMAGE', 'MODE', 'EVENTS'],
+            'record': ['IMAGE', 'MODE', 'EVENTS'], 'watch': ['OIL', 'CODE', 'RECORD']}
 
 
 def arguments():
@@ -122,16 +153,23 @@ def main():
     words = arguments()
     if words.verb == 'check':
         return check(words.image, words.table)
-    app = application_of(contents(words.oil), contents(words.code), (words.oil, words.code))
-    if words.verb == 'show':
+    if words.verb in ('replay', 'record'):
+        return play_image(words.verb, words.image, words.mode, words.events)
+    return done(words, application(words))
+
+
+def done(words, app):
+    """Does what the words say with the application of two texts; the status."""
+    if words.verb == 'watch':
+        return watch(app, words.record)
+    if words.verb == 'trace':
+        return trace(app, words.mode, words.events)
+    if words.verb in ('show', 'report'):
+        import findings
         import least_table
-        sys.stdout.write(least_table.show(app))
-    elif words.verb == 'trace':
-        for number, (step, _, _) in enumerate(play(app, words.mode, events_of(contents(words.events), words.events), words.events)):
-            sys.stdout.write(line(app, number, step) + '\n')
-    else:
-        store(app, words.image, words.table if words.verb == 'certify' else None)
-    return 0
+        sys.stdout.write((least_table.show if words.verb == 'show' else findings.report)(app))
+        return 0
+    return store(app, words.image, words.table if words.verb == 'certify' else None)
 
 
 if __name__ == '__main__':

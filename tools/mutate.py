@@ -4,7 +4,8 @@
 Each run has to end in time, with a status of the guide's table and the text on standard error that belongs to it; a refusal names
 the file that was changed, and a line or offset in it; no file but the image is changed, and that one only where `build` ends with
 0. What was built replays as `trace` prints it, and `info` has the sites that `show` has. Where there is `certify`, it stores the image that
-`build` stores; `check` says yes of what it stored, and yes of no image that traps. What goes wrong is said, and its files are kept. The last
+`build` stores; `check` says yes of what it stored, and yes of no image that traps. Where there is `watch`, it is quiet at the record of what was
+built, and of each image `record` ends as `replay` does. What goes wrong is said, and its files are kept. The last
 lines count how often each answer came.
 
     tools/mutate.py crates/osekfit/out/osekfit --minutes 5 --seed 7
@@ -37,7 +38,8 @@ PIECES = [b'{', b'}', b'(', b')', b';', b'=', b':', b'"', b'/*', b'*/', b'//', b
           b'TRUE', b'SuspendOSInterrupts();', b'ResumeOSInterrupts();', b'run 1', b'irq ', b'tick ', b'#', b'x' * 65, b' ' * 257]
 
 
-COUNTS = {'build': 4, 'replay': 4, 'trace': 5, 'show': 3, 'info': 2, 'gen': 3, 'upgrade': 3, 'certify': 5, 'check': 3}
+COUNTS = {'build': 4, 'replay': 4, 'trace': 5, 'show': 3, 'info': 2, 'gen': 3, 'upgrade': 3, 'certify': 5, 'check': 3, 'record': 4,
+          'watch': 4, 'report': 3}
 """How many words each command has."""
 
 WORDS = list(COUNTS) + ['a.oil', 'a.code', 'a.table', '1', '17', '-', '--help', '', 'x', '\u00e9']
@@ -148,7 +150,7 @@ class Trial:
     def see(self, words, answer):
         kind = words[0] if words and words[0] in COUNTS else 'other'
         rule = answer.err.decode('latin-1').rpartition(': ')[2].strip().partition(' ')[0]
-        self.counts[kind, answer.status, rule if answer.status in (1, 3, 4, 11, 12) else ''] += 1
+        self.counts[kind, answer.status, rule if answer.status in (1, 3, 4, 11, 12, 14) else ''] += 1
         if not is_stated(self, words, answer):
             raise Fault('%s: status %d with err %r and %d bytes on out'
                         % (' '.join(words), answer.status, answer.err[:200], len(answer.out)))
@@ -157,10 +159,15 @@ class Trial:
 REFUSALS = {1: (r'(a\.oil|a\.code):(\d+): ([LSOC])(\d+)\n', {'L': 6, 'S': 3, 'O': 15, 'C': 9}),
             3: (r'(a\.image):(\d+): (I)(\d+)\n', {'I': 7}),
             4: (r'(a\.events):(\d+): (E)(\d+)\n', {'E': 4}),
-            11: (r'(a\.table):(\d+): (K)(\d+)\n', {'K': 6})}
+            11: (r'(a\.table):(\d+): (K)(\d+)\n', {'K': 6}),
+            14: (r'(a\.record):(\d+): (G)(\d+)\n', {'G': 4})}
 
 DENIAL = r'a\.table: (N1 \w+|N2 (halt|idle|b\d+(/(-|\w+))?)|N[34] b\d+)\n'
 """What is said of a table that doesn't certify an image."""
+
+
+ALARM = rb'alarm \d+ (halt|idle|b\d+(/(-|\w+))?)\n'
+"""What is printed of a record with an alarm."""
 
 
 def is_stated(trial, words, answer):
@@ -182,6 +189,8 @@ def is_stated(trial, words, answer):
         return answer.out == b'' and re.fullmatch(DENIAL, err) is not None
     if answer.status == 13:
         return answer.out == b'' and err == 'a.table: too long\n'
+    if answer.status == 15:
+        return err == '' and re.fullmatch(ALARM, answer.out) is not None
     return False
 
 
@@ -297,6 +306,27 @@ def judge_certificate(trial):
         raise Fault('check prints %r of an image that traps, or no yes' % checked.out[:20])
 
 
+def try_record(rng, trial, texts, others, knows):
+    """A changed image, whose record is its trace's points and is quiet where it is the one that was built; and a changed record."""
+    for k, name in enumerate(('a.oil', 'a.code', 'a.events')):
+        trial.put(name, texts[k])
+    if trial.run(['build', 'a.oil', 'a.code', 'a.image'], 'a.image').status:
+        raise Fault('an example is refused')
+    recorded = trial.run(['record', 'a.image', MODE, 'a.events'])
+    trial.put('a.record', recorded.out)
+    if trial.run(['watch', 'a.oil', 'a.code', 'a.record']).out != b'quiet %d\n' % recorded.out.count(b'\n'):
+        raise Fault('watch is not quiet at a record of what was built')
+    trial.put('a.record', text_changes(rng, recorded.out, [recorded.out]))
+    watched = trial.run(['watch', 'a.oil', 'a.code', 'a.record'])
+    if watched.status not in (0, 14, 15):
+        raise Fault('watch: status %d' % watched.status)
+    image = trial.get('a.image')
+    trial.put('a.image', image_changes(rng, image, [image]))
+    recorded, replayed = (trial.run([command, 'a.image', MODE, 'a.events']) for command in ('record', 'replay'))
+    if recorded._replace(out=b'') != replayed._replace(out=b'') or recorded.out.count(b'\n') != replayed.out.count(b'\n'):
+        raise Fault('record (status %d) ends otherwise than replay (status %d)' % (recorded.status, replayed.status))
+
+
 def try_words(rng, trial, texts, others, knows):
     """Words of no stated form."""
     words = [rng.choice(WORDS) for _ in range(rng.randint(0, 6))]
@@ -311,7 +341,8 @@ def one_trial(rng, program, examples, knows, counts, keep):
     """Tries one change; what went wrong, or None."""
     folder = tempfile.mkdtemp(prefix='osekfit-mutate-')
     try:
-        attempt = rng.choices([try_texts, try_events, try_image, try_words, try_certificate], [6, 2, 6, 1, 4 if 'certify' in knows else 0])[0]
+        shares = {try_texts: 6, try_events: 2, try_image: 6, try_words: 1, try_certificate: 4 * ('certify' in knows), try_record: 3 * ('watch' in knows)}
+        attempt = rng.choices(list(shares), list(shares.values()))[0]
         texts = examples[rng.choice(sorted(examples))]
         others = [[e[k] for e in examples.values()] for k in range(3)]
         attempt(rng, Trial(program, folder, counts), texts, others, knows)
@@ -336,7 +367,7 @@ def arguments():
 def known_commands(program):
     """The commands that the program has, of those whose inputs aren't there then."""
     found = set()
-    for command in ('show', 'info', 'certify', 'check'):
+    for command in ('show', 'info', 'certify', 'check', 'record', 'watch', 'report'):
         words = [program, command] + ['a', 'b', 'c', 'd'][:COUNTS[command] - 1]
         if subprocess.run(words, cwd='/', capture_output=True, timeout=SECONDS, check=False).returncode != 2:
             found.add(command)

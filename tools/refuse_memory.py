@@ -28,9 +28,11 @@ MODE = 'OSDEFAULTAPPMODE'
 COMMANDS = [['build', 'a.oil', 'a.code', 'a.image'], ['build', 'a.oil', 'a.code', 'new.image'],
             ['replay', 'a.image', MODE, 'a.events'], ['trace', 'a.oil', 'a.code', MODE, 'a.events'],
             ['show', 'a.oil', 'a.code'], ['info', 'a.image'], ['gen', '1', '1'], ['upgrade', 'first.image', 'new.image'],
-            ['certify', 'a.oil', 'a.code', 'new.image', 'new.table'], ['check', 'a.image', 'a.table'], ['check', 'a.image', 'other.table']]
+            ['certify', 'a.oil', 'a.code', 'new.image', 'new.table'], ['check', 'a.image', 'a.table'], ['check', 'a.image', 'other.table'],
+            ['record', 'a.image', MODE, 'a.events'], ['watch', 'a.oil', 'a.code', 'a.record'], ['watch', 'a.oil', 'a.code', 'other.record'],
+            ['report', 'a.oil', 'a.code']]
 
-OF_AN_IMAGE, STORED = ('replay', 'info', 'check'), ('a.image', 'a.table', 'other.table')
+OF_AN_IMAGE, STORED = ('replay', 'info', 'check', 'record'), ('a.image', 'a.table', 'other.table')
 """The commands that read what is stored, and the names of that."""
 
 FIRST_IMAGE = bytes.fromhex(
@@ -39,7 +41,7 @@ FIRST_IMAGE = bytes.fromhex(
     '04' '00' '00000001' '0001' '02ff' '16' '00' '00000001' '0000')
 """An image of version 1: a task that ends itself."""
 
-DUE = (0, 11, 12)
+DUE = (0, 11, 12, 14, 15)
 """The statuses with ample memory."""
 
 SECONDS = 60
@@ -224,7 +226,7 @@ def texts_of(words, folder):
     texts.update({name: read(file) for name, file in stored.items() if file and os.path.exists(file)})
     if 'a.table' in texts:
         texts['other.table'] = texts['a.table'][:-1] + b'\xff'
-    texts['first.image'] = FIRST_IMAGE
+    texts.update({'first.image': FIRST_IMAGE, 'a.record': b'b0\n# a point twice\nb0\n', 'other.record': b'b0\nhalt\n'})
     return texts
 
 

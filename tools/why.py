@@ -12,19 +12,16 @@ all states of the application were looked at.
 import os
 import re
 
-from application import application_of
 from certified import table_of
-from given import Parser, Wrong, contents, run
-from least_table import Analysis, form
+from given import Parser, Wrong, run
+from least_table import MOST_ASKED, Analysis, form
 from model import events_of, line, play
 from points import block_of, shown_point
 from site_runs import Search
 from states import KEEP
 from table_bytes import HELD
 from table_words import Wording
-
-MOST_ASKED = 100000
-"""How many states the model's table may have."""
+from texts import add_texts, application
 
 
 class Site:
@@ -142,8 +139,7 @@ def site_block(app, text):
 
 def arguments():
     parser = Parser(__doc__)
-    parser.add_argument('oil', metavar='OIL')
-    parser.add_argument('code', metavar='CODE')
+    add_texts(parser)
     parser.add_argument('site', metavar='bN', help='the block of a call site, as `osekfit show` has it')
     parser.add_argument('--events', metavar='DIR', help='where the runs are stored')
     parser.add_argument('--most', type=int, default=100000, metavar='N', help='how many states are looked at for runs')
@@ -152,7 +148,7 @@ def arguments():
 
 def main():
     words = arguments()
-    app = application_of(contents(words.oil), contents(words.code), (words.oil, words.code))
+    app = application(words)
     site = Site(app, site_block(app, words.site))
     search = searched(site, words.most)
     for text in lines_of(site, search, words.code):
