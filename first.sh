@@ -1,6 +1,7 @@
 #!/usr/bin/env bash
 # Shows the two lines of trace of examples/first by a quick build, which isn't proved; then builds the proved program, several
-# crates at a time, shows the same lines by `build` and `replay` and certifies the image, and ends with what was built of what, and the program's path.
+# crates at a time, shows the same lines by `build` and `replay`, certifies the image, watches the run's record and tells what can't happen, and ends
+# with what was built of what, and the program's path.
 # ./first.sh --quick stops after the quick build; with four further words it traces files of one's own.
 set -euo pipefail
 here=$(cd "$(dirname "$0")" && pwd)
@@ -99,6 +100,11 @@ echo 'The image of examples/first, built and replayed by it:'
 echo 'Whether the table that certifies this image does so:'
 "$program" certify "${files[0]}" "${files[1]}" "$scratch/image" "$scratch/table"
 "$program" check "$scratch/image" "$scratch/table"
+echo 'Whether each point of its record may follow the one before:'
+"$program" record "$scratch/image" "$mode" "${files[2]}" >"$scratch/record"
+"$program" watch "${files[0]}" "${files[1]}" "$scratch/record"
+echo "What can't happen in it:"
+"$program" report "${files[0]}" "${files[1]}"
 echo "version $(cat "$here/VERSION"), commit $(git -C "$here" describe --always --dirty 2>/dev/null || echo unknown), $kit"
 echo "SHA-256 $(sha256sum "$program" | cut -d ' ' -f 1)"
 echo "The program is $program"

@@ -3,9 +3,11 @@
 
 For each number of tasks it makes an application by a seed, runs `build` and `show` on it, and `replay` of as many random events
 as asked for, each in a process of its own. The table gives user and system time in seconds, the largest memory in MB, and the
-numbers that the program prints; behind `replay` stands the time that md5sum needs for the trace. A second table is of applications
-whose tasks hold resources in every order (`make_stacks.py`): `show`, and how many times as long it takes as md5sum needs for 100 MB
-here. The last line is that time, to compare machines by.
+numbers that the program prints; behind `replay` stands the time that md5sum needs for the trace. A second table has the other
+commands on the same applications: `report`, `certify`, `check`, `record` of the same events, and `watch` of that record (its analysis
+apart, which is what a record of one point takes); behind both stands the time that md5sum needs for the record. A third table is of
+applications whose tasks hold resources in every order (`make_stacks.py`): `show`, and how many times as long it takes as md5sum
+needs for 100 MB here. The last line is that time, to compare machines by.
 
     bench/run.py crates/osekfit/out/osekfit
     bench/run.py --tasks 2,4 --events 10000 --stacks 5x1,5x4x72 crates/osekfit/out/osekfit
@@ -87,8 +89,28 @@ def measured(program, tasks, words, folder):
     return cells + [cell for one in runs for cell in cells_of(one)] + checked
 
 
+def first_line(whole, first):
+    """Writes the first line of a file to another one."""
+    with open(whole, 'rb') as file, open(first, 'wb') as one:
+        one.write(file.readline())
+
+
+def measured_others(program, tasks, words, folder):
+    """A line of the second table, in a folder where the first one's was measured."""
+    runs = [run([program, 'report', 'app.oil', 'app.code'], folder, 'report.out', words.limit),
+            run([program, 'certify', 'app.oil', 'app.code', 'app.image', 'app.table'], folder, 'certify.out', words.limit),
+            run([program, 'check', 'app.image', 'app.table'], folder, 'check.out', words.limit),
+            run([program, 'record', 'app.image', MODE, 'app.events'], folder, 'app.record', words.limit)]
+    first_line(os.path.join(folder, 'app.record'), os.path.join(folder, 'one.record'))
+    checked = run(['md5sum', 'app.record'], folder, 'md5sum.out', words.limit).seconds
+    one = run([program, 'watch', 'app.oil', 'app.code', 'one.record'], folder, 'one.out', words.limit)
+    whole = run([program, 'watch', 'app.oil', 'app.code', 'app.record'], folder, 'watch.out', words.limit)
+    watched = Run(whole.status, max(0.0, whole.seconds - one.seconds), whole.megabytes)
+    return [str(tasks)] + [cell for each in runs + [watched] for cell in cells_of(each)] + ['%.2f' % checked]
+
+
 def measured_stacks(program, size, words, folder, checksum):
-    """A line of the second table."""
+    """A line of the third table."""
     make_stacks.write_app(size, folder)
     shown = run([program, 'show', 'app.oil', 'app.code'], folder, 'show.out', words.limit)
     counts = counts_of(folder) if shown.status == 0 else {}
@@ -131,6 +153,8 @@ def stack_sizes(text):
 
 STACK_HEADINGS = ['resources', 'tasks', 'calls', 'points', 'values', 'edges', 'show s', 'MB', 'md5sums']
 
+OTHER_HEADINGS = ['tasks', 'report s', 'MB', 'certify s', 'MB', 'check s', 'MB', 'record s', 'MB', 'watch s', 'MB', 'md5sum s']
+
 HEADINGS = ['tasks', 'points', 'values', 'edges', 'n/s/d/g', 'build s', 'MB', 'show s', 'MB', 'replay s', 'MB', 'md5sum s']
 
 
@@ -142,9 +166,15 @@ def main():
     widths = [5, 6, 9, 7, 15, 8, 5, 8, 5, 8, 5, 8]
     print('forms: never/stay/direct/general; replay of %d events; seed %d' % (words.events, words.seed))
     printed(HEADINGS, widths)
+    sizes = [int(number) for number in words.tasks.split(',')]
     try:
-        for tasks in map(int, words.tasks.split(',')):
+        for tasks in sizes:
             printed(measured(program, tasks, words, os.path.join(folder, 'tasks%d' % tasks)), widths)
+        other_widths = [5, 8, 5, 9, 5, 8, 5, 8, 5, 8, 5, 8]
+        print()
+        printed(OTHER_HEADINGS, other_widths)
+        for tasks in sizes:
+            printed(measured_others(program, tasks, words, os.path.join(folder, 'tasks%d' % tasks)), other_widths)
         checksum = checksum_seconds(folder)
         stack_widths = [9, 5, 5, 6, 9, 7, 8, 6, 7]
         print()

@@ -9,11 +9,15 @@ import locks
 import oil
 import task_code
 from given import Wrong, contents
+from points import points_of, shown_point
 from task_code import Owner
 from tokens import HINT, is_name, number_of
 
 SIGN = re.compile(r'[^\w\s{}()\[\]=;:+\-,|?."/*]|[^\x00-\x7f]')
 """What begins no token, outside of texts and comments."""
+
+OWNERS = {'TASK': 'task', 'ISR': 'routine', 'TICK': 'tick routine'}
+"""Whose a block is."""
 
 KINDS = {'t': 'task', 'r': 'resource', 'm': 'event', 'a': 'alarm'}
 """What an argument of a call names, by the letter of its shape."""
@@ -182,7 +186,19 @@ def sources(texts, _):
         yield 'there are: ' + ', '.join(names or ['none'])
 
 
+def points_of_the_block(texts, _):
+    """How many blocks the application has, or whose the block is that the line of a record names, and the points there."""
+    app = application.application_of(contents(texts.words[1]), contents(texts.words[2]))
+    block = contents(texts.name).splitlines()[texts.place - 1].strip(' \t')[1:].partition('/')[0]
+    if int(block) >= len(app.blocks):
+        yield 'there are: halt, idle, and points of the blocks b0 to b%d' % (len(app.blocks) - 1)
+        return
+    owner = app.blocks[int(block)].owner
+    shown = [shown_point(app, point) for point in points_of(app) if point[1:2] == (int(block),)]
+    yield 'here: b%s is of the %s %s: %s' % (block, OWNERS[owner.kind], owner.name, ', '.join(shown))
+
+
 TELLERS = {'L1': signs, 'S': wanted, 'O2': second_ones, 'O4': missing, 'O6': unfit_values, 'O7': undeclared, 'O8': shared_priorities,
            'O14': counters, 'C1': bodies, 'C2': bodies, 'C4': names_in_calls,
-           'C7': locks_that_do_not_pair, 'E2': sources}
+           'C7': locks_that_do_not_pair, 'E2': sources, 'G2': points_of_the_block}
 """What tells of a rule, or of a letter of rules."""

@@ -76,7 +76,7 @@ class Chart:
 
     def draw(self, title):
         self.drawing.text(12, 20, title, 14)
-        told = 'white: no state of the table stands here; light: one value; dark: %d' % self.most
+        told = 'white: no state of the table stands here; light: one value' + ('; dark: %d' % self.most if self.most > 1 else '')
         self.drawing.text(12, 38, told, 10, FAINT)
         for task in range(len(self.app.tasks)):
             self.draw_column(task)

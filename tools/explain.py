@@ -16,14 +16,15 @@ from given import Wrong, contents, run
 
 DOCS = os.path.join(os.path.dirname(os.path.dirname(os.path.abspath(__file__))), 'docs')
 
-REFUSAL = re.compile(r'(?P<file>.+):(?P<place>\d+): (?P<rule>[LSOCEIK]\d+)')
+REFUSAL = re.compile(r'(?P<file>.+):(?P<place>\d+): (?P<rule>[LSOCEIKG]\d+)')
 
 DENIAL = re.compile(r'(?P<file>.+): (?P<rule>N\d) (?P<place>\S+)')
 """What is said of a table that doesn't certify an image."""
 
 STATUSES = {
     2: 'the words are none of the forms; osekfit has: build OIL CODE IMAGE, replay IMAGE MODE EVENTS, trace OIL CODE MODE EVENTS, '
-       'show OIL CODE, info IMAGE, upgrade IN OUT, certify OIL CODE IMAGE TABLE, check IMAGE TABLE, gen SEED TASKS',
+       'show OIL CODE, report OIL CODE, info IMAGE, upgrade IN OUT, certify OIL CODE IMAGE TABLE, check IMAGE TABLE, '
+       'record IMAGE MODE EVENTS, watch OIL CODE RECORD, gen SEED TASKS',
     5: 'a read failed: the file is there and a regular file? A pipe or a device is none',
     6: 'a write failed: the folder is there, and the disk has room?',
     7: 'memory ran out',
@@ -31,6 +32,8 @@ STATUSES = {
     9: 'there is no mode of this name: modes are the APPMODE objects of the OIL text, and OSDEFAULTAPPMODE',
     10: 'the image is of version 2 already',
     13: 'the table would be over 16 MiB, and no file was changed: tasks that take many resources in any order have many values',
+    15: 'the record has the alarm that is printed: no run of the application of these texts has it, whatever the interrupts and choices; '
+        'tools/graph.py --record says what might have come in its place',
 }
 """What a status says, where no rule does."""
 
@@ -44,7 +47,7 @@ def rules_of(guide):
     found = {}
     for line in guide.splitlines():
         cells = [cell.strip() for cell in re.split(r'(?<!\\)\|', line.strip().strip('|'))]
-        if len(cells) > 2 and re.fullmatch(r'[LSOCEIKN]\d+', cells[0]):
+        if len(cells) > 2 and re.fullmatch(r'[LSOCEIKNG]\d+', cells[0]):
             found[cells[0] if cells[0] not in found else 'C' + cells[0]] = (cells[1], cells[-1])
     return found
 

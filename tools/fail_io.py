@@ -101,7 +101,8 @@ int statx(int folder, const char *path, int flags, unsigned mask, void *into) {
 
 COMMANDS = refuse_memory.COMMANDS + [['build', 'a.oil', 'a.code', 'old.image'], ['replay', 'a.image', 'NOPE', 'a.events'], ['info', 'a.oil'],
                                      ['upgrade', 'a.image', 'new.image'], ['upgrade', 'first.image', 'old.image'],
-                                     ['certify', 'a.oil', 'a.code', 'old.image', 'old.table']]
+                                     ['certify', 'a.oil', 'a.code', 'old.image', 'old.table'],
+                                     ['record', 'a.image', 'NOPE', 'a.events'], ['watch', 'a.oil', 'a.code', 'a.events']]
 
 
 def fault_of(words, answer, ample, texts):

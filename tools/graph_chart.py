@@ -31,6 +31,9 @@ STYLE = '.lines:hover .from{opacity:.12}.lines .from:hover{opacity:1}.from:hover
 
 SOURCE_COLOURS = ['#0969da', '#bf3989', '#1a7f37', '#bc4c00', '#8250df', '#1b7c83', '#9a6700', '#cf222e', '#4d2d8a', '#57606a']
 
+FLOW_COLOUR, ROUTINE_COLOUR = '#57606a', '#8250df'
+"""The colours of control flow, and of what routines do."""
+
 FRONT = [OTHER_COLOUR, TAKEN_COLOUR, INSTEAD_COLOUR, ALARM_COLOUR]
 """The colours of marked lines, those in front last."""
 
@@ -131,7 +134,7 @@ class Chart:
                 head = (c, r) if row.over is None else head
                 for point in row.points:
                     self.place[point], self.heads[point] = (c, r), head
-        self.flows, self.trunks, self.circles, self.returns = {}, {}, {}, set()
+        self.flows, self.trunks, self.circles, self.returns = {}, {}, {}, {}
         for before, after in graph.edges:
             self.sort_edge(before, after)
         self.find_jumps()
@@ -145,7 +148,7 @@ class Chart:
             self.circle_of(self.place[before], self.owners.owner(after))['begins'].append((before, after))
         elif kind == 'return':
             self.circle_of(self.place[after], self.owners.owner(before))['returns'].append((before, after))
-            self.returns.add(before)
+            self.returns.setdefault(before, []).append((before, after))
         else:
             self.trunks.setdefault(before, []).append(after)
 
@@ -163,7 +166,7 @@ class Chart:
                 jumps.append((r, r2, next(n for n in range(len(jumps) + 1) if n not in taken)))
 
     def flow_colour(self, c, r, r2):
-        return self.marks.colour(self.flows[(c, r), (c, r2)], '#57606a')
+        return self.marks.colour(self.flows[(c, r), (c, r2)], FLOW_COLOUR)
 
     def lay_out(self):
         """Places the columns from left to right, with room for the lines between them."""
@@ -245,12 +248,13 @@ class Chart:
         """A row below a routine's end: whether the routine goes back to what was interrupted."""
         self.drawing.line(x + 8, y - GAP - above, x + 8, y + ROW / 2, LINE)
         self.drawing.line(x + 8, y + ROW / 2, x + 16, y + ROW / 2, LINE)
-        if any(p in self.returns for p in row.points):
-            self.drawing.text(x + width - 8, y + 16, 'returns', size=11, fill='#8250df', anchor='end')
+        returns = [edge for point in row.points for edge in self.returns.get(point, [])]
+        if returns:
+            self.drawing.text(x + width - 8, y + 16, 'returns', size=11, fill=self.marks.colour(returns, ROUTINE_COLOUR), anchor='end')
 
     def paint_circle(self, edges, x, y):
         if edges:
-            begins, returns = (self.marks.colour(edges[kind], '#8250df') for kind in ('begins', 'returns'))
+            begins, returns = (self.marks.colour(edges[kind], ROUTINE_COLOUR) for kind in ('begins', 'returns'))
             is_full = bool(edges['returns'])
             self.drawing.circle(x, y, 4, returns if is_full else '#ffffff', stroke=begins if edges['begins'] else returns, stroke_width=1.4)
 
@@ -356,11 +360,12 @@ class Chart:
                  if owner in self.columns[place[0]].circles}
         said = [(self.marks.is_drawn, None, 'Green is what records took, and grey what none took.'),
                 (self.marks.alarm is not None, None, 'Red is the first step that no edge has, and amber what might have come in its place.'),
-                (bool(self.order), 'line', 'dispatch of a task, or of idle: from the block where the line begins to those at its arrows. '
-                                           'The lines of one block have one colour, which others share where there are many'),
-                (bool(self.flows), 'grey', 'control flow within a task or routine'),
+                (bool(self.order), 'line', 'dispatch of a task, or of idle: from the block where the line begins to those at its arrows' + (
+                    '' if self.marks.is_drawn else '. The lines of one block have one colour, which others share where there are many')),
+                (bool(self.flows), 'flow', 'control flow within a task or routine'),
                 ('begins' in shown, 'open', 'the routine named above may begin at this block'),
-                ('returns' in shown, 'full', 'it may begin here, and also return here at its end'),
+                ('returns' in shown, 'full', 'the routine named above may begin at this block, and also return here at its end' + (
+                    ': its ring is the beginning, its inside the return' if self.marks.is_drawn else '')),
                 (True, None, 'A white block is no call site. A dashed one is never reached, and one in grey letters has no edge. '
                              'At its end a routine returns to what it was over, or dispatches.'),
                 (bool(self.graph.counts), None, self.numbers())]
@@ -371,12 +376,13 @@ class Chart:
 
     def paint_said(self, y, mark, text, x):
         d = self.drawing
-        if mark in ('line', 'grey'):
-            colour = SOURCE_COLOURS[0] if mark == 'line' else '#57606a'
+        usual = {'line': SOURCE_COLOURS[0], 'flow': FLOW_COLOUR}.get(mark, ROUTINE_COLOUR)
+        colour = INK if self.marks.is_drawn else usual
+        if mark in ('line', 'flow'):
             d.line(18, y - 4, 48, y - 4, colour, stroke_width=1.6 if mark == 'line' else 1.1)
             self.head((50, y - 4), 'right', colour)
         elif mark:
-            self.drawing.circle(34, y - 4, 4, '#ffffff' if mark == 'open' else '#8250df', stroke='#8250df', stroke_width=1.4)
+            d.circle(34, y - 4, 4, '#ffffff' if mark == 'open' else colour, stroke=colour, stroke_width=1.4)
         d.text(x, y, text, size=11)
 
 

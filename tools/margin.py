@@ -71,7 +71,7 @@ def lines_of(code, notes):
 
 
 STYLE = """body { font: 13px Helvetica, Arial, sans-serif; color: %s } table { border-collapse: collapse }
-td { padding: 1px 8px; vertical-align: top } td.line { color: %s; text-align: right } pre { margin: 0 }
+td { padding: 2px 8px; vertical-align: top } td.line { color: %s; text-align: right } pre { margin: 0 }
 span { border: 1px solid %s; border-radius: 4px; padding: 0 4px; margin-right: 4px; white-space: nowrap }""" % (INK, FAINT, LINE)
 
 

@@ -227,8 +227,12 @@ def try_texts(rng, trial, texts, others, knows):
         agree(trial)
         if 'show' in knows:
             sites_agree(trial)
-    elif 'show' in knows and trial.run(['show', 'a.oil', 'a.code']) != built:
-        raise Fault('show refuses otherwise than build')
+        if 'report' in knows and trial.run(['report', 'a.oil', 'a.code']).status:
+            raise Fault('report refuses what build takes')
+        return
+    for command, more in (('show', []), ('report', []), ('watch', ['a.record'])):
+        if command in knows and trial.run([command, 'a.oil', 'a.code'] + more) != built:
+            raise Fault('%s refuses otherwise than build' % command)
 
 
 def agree(trial):

@@ -3,11 +3,12 @@
 
 An application is a folder with one .oil file and one .code file. Each .events file there is a run, whose trace is to be the .trace file of
 the same name; `# mode: NAME` in its first line says in which mode (OSDEFAULTAPPMODE else). A .show file of the OIL file's name is to be
-what `show` prints. Of each application `build` has to accept the texts; each run is played by `replay` of the image and by `trace`.
+what `show` prints, a .report file what `report` prints. Of each application `build` has to accept the texts; each run is played by `replay` of
+the image and by `trace`, and its record has to be quiet, with a point for each line of the trace.
 
     tools/regress.py examples
     tools/regress.py --junit report.xml --program crates/osekfit/out/osekfit examples
-    tools/regress.py --write my_apps                  writes the .trace and .show files that are missing
+    tools/regress.py --write my_apps                  writes the .trace, .show and .report files that are missing
 
 The status is 0 where all is as written, and 1 else.
 """
@@ -87,13 +88,25 @@ class Tester:
         """The cases of one application."""
         texts, image = [only(folder, '.oil'), only(folder, '.code')], os.path.join(scratch, 'image')
         self.case(folder, 'build', ['build'] + texts + [image], None)
-        show = os.path.splitext(texts[0])[0] + '.show'
-        if os.path.exists(show) or self.writes:
-            self.case(folder, 'show', ['show'] + texts, show)
+        for command in ('show', 'report'):
+            told = '%s.%s' % (os.path.splitext(texts[0])[0], command)
+            if os.path.exists(told) or self.writes:
+                self.case(folder, command, [command] + texts, told)
         for events in sorted(glob.glob(os.path.join(glob.escape(folder), '*.events'))):
             stem, mode = os.path.splitext(events)[0], mode_of(events)
             self.case(folder, 'replay ' + os.path.basename(stem), ['replay', image, mode, events], stem + '.trace')
             self.case(folder, 'trace ' + os.path.basename(stem), ['trace'] + texts + [mode, events], stem + '.trace')
+            self.watch(folder, texts, ['record', image, mode, events], stem + '.trace')
+
+    def watch(self, folder, texts, words, trace):
+        """The case of a run's record, which stands beside the image."""
+        begin, record = time.monotonic(), words[1] + '.record'
+        with open(record, 'w', encoding='utf-8', errors='surrogateescape', newline='') as file:
+            file.write(self.answer(words))
+        due = 'quiet %d\n' % contents(trace).count('\n') if os.path.exists(trace) else None
+        fault = difference(due, self.answer(['watch'] + texts + [record])) if due else '%s is missing' % trace
+        name = 'watch ' + os.path.splitext(os.path.basename(trace))[0]
+        self.cases.append(Case(folder, name, time.monotonic() - begin, fault))
 
 
 def difference(expected, got):

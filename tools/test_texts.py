@@ -257,7 +257,7 @@ class Explanations(unittest.TestCase):
         rules = explain.rules_of(explain.guide())
         names = ['L%d' % k for k in range(1, 7)] + ['S1', 'S2', 'S3'] + ['O%d' % k for k in range(1, 16)]
         names += ['C%d' % k for k in (1, 2, 3, 4, 6, 7, 8, 9)] + ['E1', 'E2', 'E3', 'E4'] + ['I%d' % k for k in range(1, 8)]
-        names += ['K%d' % k for k in range(1, 7)] + ['N%d' % k for k in range(1, 5)]
+        names += ['K%d' % k for k in range(1, 7)] + ['N%d' % k for k in range(1, 5)] + ['G%d' % k for k in range(1, 5)]
         self.assertEqual(sorted(rules), sorted(names + ['CS1']))
 
     def test_a_refusal_has_its_line_and_its_cause(self):
@@ -308,6 +308,18 @@ class Explanations(unittest.TestCase):
                         file.write(content)
                 texts = causes.Texts(at[rule[0] != 'O'], line, ['build'] + at)
                 self.assertEqual(causes.told(rule, texts, explain.guide()), told)
+
+    def test_whose_the_block_of_a_record_is(self):
+        with tempfile.TemporaryDirectory() as folder:
+            at = [os.path.join(folder, name) for name in ('a.oil', 'a.code', 'a.record')]
+            record = 'b0\nb0/T1\n b1/Tl\nb1\nb9/-\n# b9\n'
+            for name, content in zip(at, ('CPU c { OS os; %s ISR I { CATEGORY = 2; }; };' % T1, 'TASK(T1) { }\nISR(I) { }\n', record)):
+                with open(name, 'w') as file:
+                    file.write(content)
+            for line, told in ((2, ['here: b0 is of the task T1: b0']), (3, ['here: b1 is of the routine I: b1/-, b1/T1']),
+                               (4, ['here: b1 is of the routine I: b1/-, b1/T1']), (5, ['there are: halt, idle, and points of the blocks b0 to b1'])):
+                with self.subTest(line=line):
+                    self.assertEqual(causes.told('G2', causes.Texts(at[2], line, ['watch'] + at), ''), told)
 
     def test_locks_that_do_not_pair(self):
         for body, told in (('SuspendAllInterrupts();\nResumeOSInterrupts();', [(3, 'ResumeOSInterrupts meets SuspendAllInterrupts of line 2 open')]),

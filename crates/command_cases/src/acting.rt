@@ -129,6 +129,14 @@ fn add_words(alloc: Global, list: &mut Vec<String>, words: &[&str]) -> Result<()
     Ok(())
 }
 
+/// The program's name, and these words behind it.
+fn words_behind(alloc: Global, words: &[&str]) -> Result<Vec<String>, Memory> {
+    let mut list = Vec::new(alloc);
+    add_word(alloc, &mut list, "osekfit")?;
+    add_words(alloc, &mut list, words)?;
+    Ok(list)
+}
+
 /// Whether a call with these words behind the program's name answers and writes what is wanted.
 pub fn gives(
     alloc: Global,
@@ -136,10 +144,24 @@ pub fn gives(
     words: &[&str],
     wanted: Wanted,
 ) -> Result<bool, Memory> {
-    let mut list = Vec::new(alloc);
-    add_word(alloc, &mut list, "osekfit")?;
-    add_words(alloc, &mut list, words)?;
+    let list = words_behind(alloc, words)?;
     answers(alloc, shelf, &list, wanted)
+}
+
+/// Whether the call with these words is done and writes so many lines, which are kept under a name.
+pub fn keeps(
+    alloc: Global,
+    shelf: &mut MemShelf,
+    words: &[&str],
+    count: usize,
+    name: &str,
+) -> Result<bool, Memory> {
+    let list = words_behind(alloc, words)?;
+    let mut out = MemSink::new(alloc, Vec::new(alloc), ROOM)?;
+    let mut err = MemSink::new(alloc, Vec::new(alloc), ROOM)?;
+    let status = osekfit(alloc, &list, shelf, &mut out, &mut err);
+    shelf.set(name, Some(out.bytes()), 0)?;
+    Ok(status == 0 && err.bytes().is_empty() && count_of_lines(out.bytes()) == count)
 }
 
 /// The names that images and tables are stored under.
@@ -261,6 +283,7 @@ fn holds(alloc: Global, shelf: &mut MemShelf, act: &Act) -> Result<bool, Memory>
         Act::Frames(words, begin, end) => gives(alloc, shelf, words, Wanted::Frame(begin, end)),
         Act::Plays(mode, count, lines) => plays(alloc, shelf, mode, Wanted::Trace(*count, lines)),
         Act::Forms(lines) => tells_forms(alloc, shelf, lines),
+        Act::Keeps(words, count, name) => keeps(alloc, shelf, words, *count, name),
         Act::Holds(name, bytes) => Ok(shelf.bytes(name) == Some(*bytes)),
         Act::Cut(from, to, len) => cut(alloc, shelf, from, to, *len).map(|()| true),
         Act::Set(from, to, place, piece) => {

@@ -429,7 +429,12 @@ const TRACE_WORDS: &[&str] = &["trace", "a.oil", "a.c", "OSDEFAULTAPPMODE", "e"]
 
 const SHOW_WORDS: &[&str] = &["show", "a.oil", "a.c"];
 
-/// Each by way of its image and from its texts, and what the analysis finds.
+const RECORD_WORDS: &[&str] = &["record", "a.img", "OSDEFAULTAPPMODE", "e"];
+
+const WATCH_WORDS: &[&str] = &["watch", "a.oil", "a.c", "r"];
+
+/// Each by way of its image and from its texts, and what the analysis finds. A record has as many points as the trace has lines, and is
+/// quiet.
 pub const EXAMPLE_ROWS: [Row; 3] = [
     Row {
         name: "a lamp and its button",
@@ -439,6 +444,8 @@ pub const EXAMPLE_ROWS: [Row; 3] = [
             Act::Run(REPLAY_WORDS, 0, LAMP_TRACE, ""),
             Act::Run(TRACE_WORDS, 0, LAMP_TRACE, ""),
             Act::Run(SHOW_WORDS, 0, LAMP_SHOW, ""),
+            Act::Keeps(RECORD_WORDS, 8, "r"),
+            Act::Run(WATCH_WORDS, 0, "quiet 8\n", ""),
         ],
     },
     Row {
@@ -449,6 +456,8 @@ pub const EXAMPLE_ROWS: [Row; 3] = [
             Act::Run(REPLAY_WORDS, 0, BODY_TRACE, ""),
             Act::Run(TRACE_WORDS, 0, BODY_TRACE, ""),
             Act::Run(SHOW_WORDS, 0, BODY_SHOW, ""),
+            Act::Keeps(RECORD_WORDS, 38, "r"),
+            Act::Run(WATCH_WORDS, 0, "quiet 38\n", ""),
         ],
     },
     Row {
@@ -463,6 +472,8 @@ pub const EXAMPLE_ROWS: [Row; 3] = [
             Act::Run(REPLAY_WORDS, 0, ENGINE_TRACE, ""),
             Act::Run(TRACE_WORDS, 0, ENGINE_TRACE, ""),
             Act::Run(SHOW_WORDS, 0, ENGINE_SHOW, ""),
+            Act::Keeps(RECORD_WORDS, 50, "r"),
+            Act::Run(WATCH_WORDS, 0, "quiet 50\n", ""),
         ],
     },
 ];

@@ -2,9 +2,10 @@
 //! failed, and leaves a prefix of what it would have written.
 use crate::certificate_rows::TABLE;
 use crate::failing_cases::{
-    BUILD, CERTIFIES, CHECKS, Case, GENERATES, INFORMS, REPLAY, SHOWS, TRACES, Turn, UPGRADES,
+    ALARMS, BUILD, CERTIFIES, CHECKS, Case, GENERATES, INFORMS, RECORDS, REPLAY, REPORTS, SHOWS,
+    TRACES, Turn, UPGRADES, WATCHES,
 };
-use crate::stored::{CODE, EVENTS, IMAGE, OIL};
+use crate::stored::{CODE, EVENTS, IMAGE, JUMP, OIL, RECORD};
 use commands::osekfit;
 use osek_io::{MemShelf, MemSink};
 use osek_values::Memory;
@@ -168,7 +169,7 @@ fn is_right(case: &Case, faults: &[Fault], setting: Setting, seen: &Seen) -> boo
                 && are_left(case, setting.before, seen)
         }
         None => {
-            seen.status == 0
+            seen.status == case.status
                 && seen.err.is_empty()
                 && seen.out == case.text.as_bytes()
                 && image_in(seen) == case.stored.or(setting.before)
@@ -211,12 +212,14 @@ fn fails_of(alloc: Global, faults: &[Fault], side: Side) -> Result<Vec<u64>, Mem
     Ok(calls)
 }
 
-const FILES: [(&str, &[u8]); 5] = [
+const FILES: [(&str, &[u8]); 7] = [
     ("a.oil", OIL),
     ("a.c", CODE),
     ("i", IMAGE),
     ("e", EVENTS),
     ("t", TABLE),
+    ("r", RECORD),
+    ("j", JUMP),
 ];
 
 /// Room for an image, and for what a run writes.
@@ -365,7 +368,9 @@ fn calls_that_fail_stop_upgrade(rt: HostRuntime) {
 
 #[test]
 fn calls_that_fail_stop_what_prints(rt: HostRuntime) {
-    for case in &[REPLAY, TRACES, SHOWS, INFORMS, GENERATES, CHECKS] {
+    for case in &[
+        REPLAY, TRACES, RECORDS, WATCHES, ALARMS, SHOWS, REPORTS, INFORMS, GENERATES, CHECKS,
+    ] {
         assert_eq!(rt;
             first_wrong_two(rt.alloc(), case, None),
             Ok(None),
@@ -403,7 +408,7 @@ fn bytes_that_fail_stop_upgrade(rt: HostRuntime) {
 
 #[test]
 fn bytes_that_fail_stop_what_runs(rt: HostRuntime) {
-    for case in &[REPLAY, TRACES] {
+    for case in &[REPLAY, TRACES, RECORDS] {
         assert_eq!(rt;
             first_wrong_byte(rt.alloc(), case, None),
             Ok(None),
@@ -415,7 +420,7 @@ fn bytes_that_fail_stop_what_runs(rt: HostRuntime) {
 
 #[test]
 fn bytes_that_fail_stop_what_tells_of_forms(rt: HostRuntime) {
-    for case in &[SHOWS, INFORMS] {
+    for case in &[SHOWS, REPORTS, INFORMS] {
         assert_eq!(rt;
             first_wrong_byte(rt.alloc(), case, None),
             Ok(None),
@@ -423,6 +428,12 @@ fn bytes_that_fail_stop_what_tells_of_forms(rt: HostRuntime) {
             case.words
         );
     }
+}
+
+#[test]
+fn bytes_that_fail_stop_watch(rt: HostRuntime) {
+    assert_eq!(rt; first_wrong_byte(rt.alloc(), &WATCHES, None), Ok(None));
+    assert_eq!(rt; first_wrong_byte(rt.alloc(), &ALARMS, None), Ok(None));
 }
 
 #[test]

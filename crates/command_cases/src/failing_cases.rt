@@ -2,7 +2,9 @@
 use crate::certificate_rows::TABLE;
 use crate::gen_rows::GEN_ONE;
 use crate::rows::ACTIVATION_IMAGE;
-use crate::stored::{CODE, EVENTS, IMAGE, INFO, OIL, SHOW, TRACE, UPGRADED_IMAGE};
+use crate::stored::{
+    CODE, EVENTS, IMAGE, INFO, JUMP, OIL, POINTS, RECORD, SHOW, TRACE, UPGRADED_IMAGE,
+};
 
 /// Calls on the shelf, one after the other, for one file: what a fault of each of them makes of the run.
 #[derive(Clone, Copy)]
@@ -11,18 +13,21 @@ pub struct Turn {
     pub told: &'static str,
     /// The bytes that the calls move: in one call, or in as many as they are where each moves one.
     pub moved: &'static [u8],
-    /// How many calls besides move none: the one that finds a file's end, `create`, the one that judges an event
-    /// text's length.
+    /// How many calls besides move none: the one that finds a file's end, `create`, the one that judges the length of
+    /// an event text or of a record.
     pub others: u64,
 }
 
-/// A command over the files, and what it does where no call fails.
+/// A command over the files.
 #[derive(Clone, Copy)]
 pub struct Case {
     pub words: &'static [&'static str],
     pub turns: &'static [Turn],
+    /// Its status and its text where no call fails.
+    pub status: u8,
     pub text: &'static str,
-    /// In how many calls it writes the text: in one, but for a trace, which comes before each read of events.
+    /// In how many calls it writes the text: a trace and points come before each read of events, what `watch` says in
+    /// its parts.
     pub puts: u64,
     /// The image that it stores in `x`, in the last of its turns, but for those of the table.
     pub stored: Option<&'static [u8]>,
@@ -56,6 +61,21 @@ const READS_EVENTS: Turn = Turn {
     told: "e: read\n",
     moved: EVENTS,
     others: 2,
+};
+
+const READS_RECORD: Turn = Turn {
+    status: 5,
+    told: "r: read\n",
+    moved: RECORD,
+    others: 2,
+};
+
+/// No call finds this file's end: the alarm comes before it.
+const READS_JUMP: Turn = Turn {
+    status: 5,
+    told: "j: read\n",
+    moved: JUMP,
+    others: 1,
 };
 
 const READS_TABLE: Turn = Turn {
@@ -104,6 +124,7 @@ const ADDS_UPGRADED: Turn = Turn {
 pub const BUILD: Case = Case {
     words: &["osekfit", "build", "a.oil", "a.c", "x"],
     turns: &[READS_OIL, READS_CODE, CREATES_IMAGE, ADDS_IMAGE],
+    status: 0,
     text: "",
     puts: 0,
     stored: Some(ACTIVATION_IMAGE),
@@ -114,6 +135,7 @@ pub const BUILD: Case = Case {
 pub const UPGRADES: Case = Case {
     words: &["osekfit", "upgrade", "i", "x"],
     turns: &[READS_IMAGE, CREATES_IMAGE, ADDS_UPGRADED],
+    status: 0,
     text: "",
     puts: 0,
     stored: Some(UPGRADED_IMAGE),
@@ -124,6 +146,7 @@ pub const UPGRADES: Case = Case {
 pub const REPLAY: Case = Case {
     words: &["osekfit", "replay", "i", "OSDEFAULTAPPMODE", "e"],
     turns: &[READS_IMAGE, READS_EVENTS],
+    status: 0,
     text: TRACE,
     puts: 2,
     stored: None,
@@ -134,8 +157,42 @@ pub const REPLAY: Case = Case {
 pub const TRACES: Case = Case {
     words: &["osekfit", "trace", "a.oil", "a.c", "OSDEFAULTAPPMODE", "e"],
     turns: &[READS_OIL, READS_CODE, READS_EVENTS],
+    status: 0,
     text: TRACE,
     puts: 2,
+    stored: None,
+    table: None,
+};
+
+/// Prints where an image is under events.
+pub const RECORDS: Case = Case {
+    words: &["osekfit", "record", "i", "OSDEFAULTAPPMODE", "e"],
+    turns: &[READS_IMAGE, READS_EVENTS],
+    status: 0,
+    text: POINTS,
+    puts: 2,
+    stored: None,
+    table: None,
+};
+
+/// Watches a record of a run.
+pub const WATCHES: Case = Case {
+    words: &["osekfit", "watch", "a.oil", "a.c", "r"],
+    turns: &[READS_OIL, READS_CODE, READS_RECORD],
+    status: 0,
+    text: "quiet 4\n",
+    puts: 3,
+    stored: None,
+    table: None,
+};
+
+/// Watches a record that no run has.
+pub const ALARMS: Case = Case {
+    words: &["osekfit", "watch", "a.oil", "a.c", "j"],
+    turns: &[READS_OIL, READS_CODE, READS_JUMP],
+    status: 15,
+    text: "alarm 1 b1\n",
+    puts: 5,
     stored: None,
     table: None,
 };
@@ -144,7 +201,18 @@ pub const TRACES: Case = Case {
 pub const SHOWS: Case = Case {
     words: &["osekfit", "show", "a.oil", "a.c"],
     turns: &[READS_OIL, READS_CODE],
+    status: 0,
     text: SHOW,
+    puts: 1,
+    stored: None,
+    table: None,
+};
+
+pub const REPORTS: Case = Case {
+    words: &["osekfit", "report", "a.oil", "a.c"],
+    turns: &[READS_OIL, READS_CODE],
+    status: 0,
+    text: "dead b2\ndead b4\n",
     puts: 1,
     stored: None,
     table: None,
@@ -154,6 +222,7 @@ pub const SHOWS: Case = Case {
 pub const INFORMS: Case = Case {
     words: &["osekfit", "info", "i"],
     turns: &[READS_IMAGE],
+    status: 0,
     text: INFO,
     puts: 1,
     stored: None,
@@ -164,6 +233,7 @@ pub const INFORMS: Case = Case {
 pub const GENERATES: Case = Case {
     words: &["osekfit", "gen", "1", "1"],
     turns: &[],
+    status: 0,
     text: GEN_ONE,
     puts: 1,
     stored: None,
@@ -174,6 +244,7 @@ pub const GENERATES: Case = Case {
 pub const CHECKS: Case = Case {
     words: &["osekfit", "check", "i", "t"],
     turns: &[READS_IMAGE, READS_TABLE],
+    status: 0,
     text: "yes\n",
     puts: 1,
     stored: None,
@@ -191,6 +262,7 @@ pub const CERTIFIES: Case = Case {
         CREATES_TABLE,
         ADDS_TABLE,
     ],
+    status: 0,
     text: "",
     puts: 0,
     stored: Some(ACTIVATION_IMAGE),

@@ -71,7 +71,7 @@ pub const GEN_ROWS: [Row; 4] = [
             Act::Run(&["gen", "+1", "1"], 2, "", "usage\n"),
             Act::Run(&["gen", "1"], 2, "", "usage\n"),
             Act::Run(&["gen", "1", "1", "1"], 2, "", "usage\n"),
-            Act::Run(&["report", "a.oil", "a.c"], 2, "", "usage\n"),
+            Act::Run(&["reports", "a.oil", "a.c"], 2, "", "usage\n"),
         ],
     },
 ];

@@ -32,6 +32,10 @@ mod long_rows;
 #[cfg(test)]
 mod real_files;
 #[cfg(test)]
+mod record_rows;
+#[cfg(test)]
+mod report_rows;
+#[cfg(test)]
 mod rows;
 #[cfg(test)]
 mod runs;

@@ -1,4 +1,4 @@
-//! An image, an event text and a table at their limits, and of one byte more.
+//! An image, an event text, a table and a record at their limits, and of one byte more.
 use crate::certificate_rows::TABLE;
 use crate::failing_calls::words_of;
 use crate::rows::ACTIVATION_IMAGE;
@@ -16,17 +16,17 @@ struct Told {
     err: &'static str,
 }
 
-/// Whether a run with these words, over an image `i` and an event text `e`, is so.
+/// Whether a run with these words over these files is so.
 fn gives(
     alloc: Global,
     words: &[&str],
-    image: &[u8],
-    events: &[u8],
+    files: &[(&str, &[u8])],
     told: Told,
 ) -> Result<bool, Memory> {
     let mut shelf = MemShelf::new(alloc, Vec::new(alloc));
-    shelf.set("i", Some(image), 0)?;
-    shelf.set("e", Some(events), 0)?;
+    for (name, bytes) in files {
+        shelf.set(name, Some(*bytes), 0)?;
+    }
     let words = words_of(alloc, words)?;
     let mut out = MemSink::new(alloc, Vec::new(alloc), 100)?;
     let mut err = MemSink::new(alloc, Vec::new(alloc), 100)?;
@@ -50,7 +50,7 @@ fn image_gives(alloc: Global, size: usize, err: &'static str) -> Result<bool, Me
         out: "",
         err,
     };
-    gives(alloc, &["osekfit", "info", "i"], &image, b"", told)
+    gives(alloc, &["osekfit", "info", "i"], &[("i", &image)], told)
 }
 
 #[test]
@@ -62,24 +62,25 @@ fn an_image_of_a_megabyte_and_of_one_byte_more(rt: HostRuntime) {
     );
 }
 
-/// Comments of 256 bytes with their LFs, and one event at the end: 16 MiB in all, and what comes behind.
-fn events_of(alloc: Global, behind: &[u8]) -> Result<Vec<u8>, Memory> {
+/// Comments of 256 bytes with their LFs, and this line at the end: 16 MiB in all, and what comes behind.
+fn comments_and(alloc: Global, line: &[u8], behind: &[u8]) -> Result<Vec<u8>, Memory> {
     let mut comment = [b'#'; 256];
     comment[255] = b'\n';
     let mut text = Vec::new(alloc);
     for _ in 0..65_535 {
         text.extend_from_slice(&comment)?;
     }
-    text.extend_from_slice(&comment[6..])?;
-    text.extend_from_slice(b"run 0\n")?;
+    text.extend_from_slice(comment.get(line.len()..).unwrap_or(b""))?;
+    text.extend_from_slice(line)?;
     text.extend_from_slice(behind)?;
     Ok(text)
 }
 
 fn events_give(alloc: Global, behind: &[u8], told: Told) -> Result<bool, Memory> {
-    let events = events_of(alloc, behind)?;
+    let events = comments_and(alloc, b"run 0\n", behind)?;
     let words = ["osekfit", "replay", "i", "OSDEFAULTAPPMODE", "e"];
-    gives(alloc, &words, ONE_TASK_IMAGE, &events, told)
+    let files: [(&str, &[u8]); 2] = [("i", ONE_TASK_IMAGE), ("e", &events)];
+    gives(alloc, &words, &files, told)
 }
 
 #[test]
@@ -119,13 +120,8 @@ fn table_gives(alloc: Global, behind: &[u8], err: &'static str) -> Result<bool, 
         out: "",
         err,
     };
-    gives(
-        alloc,
-        &["osekfit", "check", "i", "e"],
-        ACTIVATION_IMAGE,
-        &table,
-        told,
-    )
+    let files: [(&str, &[u8]); 2] = [("i", ACTIVATION_IMAGE), ("e", &table)];
+    gives(alloc, &["osekfit", "check", "i", "e"], &files, told)
 }
 
 #[test]
@@ -135,4 +131,57 @@ fn a_table_of_16_megabytes_and_of_one_byte_more(rt: HostRuntime) {
         table_gives(rt.alloc(), b"\0", "e:16777216: K6\n"),
         Ok(true)
     );
+}
+
+/// What `watch` tells of a record, beside the texts of one task.
+fn record_gives(alloc: Global, points: &[u8], told: Told) -> Result<bool, Memory> {
+    let oil: &[u8] = b"CPU c { OS os; TASK T1 { PRIORITY = 1; AUTOSTART = TRUE; }; };";
+    let code: &[u8] = b"TASK(T1) { TerminateTask(); }";
+    let files: [(&str, &[u8]); 3] = [("o", oil), ("c", code), ("r", points)];
+    gives(alloc, &["osekfit", "watch", "o", "c", "r"], &files, told)
+}
+
+fn comments_give(alloc: Global, behind: &[u8], told: Told) -> Result<bool, Memory> {
+    let points = comments_and(alloc, b"b0\n", behind)?;
+    record_gives(alloc, &points, told)
+}
+
+/// A record of blank lines alone: 16 MiB, and what comes behind.
+fn blank_lines_give(alloc: Global, behind: &[u8], told: Told) -> Result<bool, Memory> {
+    let lines = [b'\n'; 256];
+    let mut points = Vec::new(alloc);
+    for _ in 0..65_536 {
+        points.extend_from_slice(&lines)?;
+    }
+    points.extend_from_slice(behind)?;
+    record_gives(alloc, &points, told)
+}
+
+/// What is told of a record over its limit.
+const BEYOND: Told = Told {
+    status: 14,
+    out: "",
+    err: "r:0: G4\n",
+};
+
+#[test]
+fn a_record_of_16_megabytes_and_of_one_byte_more(rt: HostRuntime) {
+    let whole = Told {
+        status: 0,
+        out: "quiet 1\n",
+        err: "",
+    };
+    assert_eq!(rt; comments_give(rt.alloc(), b"", whole), Ok(true));
+    assert_eq!(rt; comments_give(rt.alloc(), b"\n", BEYOND), Ok(true));
+}
+
+#[test]
+fn a_record_of_16_megabytes_of_blank_lines_and_of_one_more(rt: HostRuntime) {
+    let whole = Told {
+        status: 0,
+        out: "quiet 0\n",
+        err: "",
+    };
+    assert_eq!(rt; blank_lines_give(rt.alloc(), b"", whole), Ok(true));
+    assert_eq!(rt; blank_lines_give(rt.alloc(), b"\n", BEYOND), Ok(true));
 }

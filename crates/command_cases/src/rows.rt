@@ -22,6 +22,8 @@ pub enum Act {
     /// `show` of `a.oil` and `a.c`, and `info` of `a.img`, which was built: each has these lines, and others; those of `info`
     /// go on with what is known of the status.
     Forms(&'static [&'static str]),
+    /// A run that is done: its words, how many lines it writes, and the name that they are kept under.
+    Keeps(&'static [&'static str], usize, &'static str),
     /// A file is there, of exactly these bytes.
     Holds(&'static str, &'static [u8]),
     /// A second file of so many first bytes of a first.

@@ -1,5 +1,7 @@
 //! Whole runs of the top call over files in memory.
-use crate::acting::{all_hold, first_wrong, put_files, put_places, row_holds};
+use crate::acting::{
+    Wanted, all_hold, first_wrong, gives, keeps, put_files, put_places, row_holds,
+};
 use crate::certificate_rows::CERTIFICATE_ROWS;
 use crate::edge_rows::{MODE_ROWS, TEXT_ROWS};
 use crate::event_rows::EVENT_ROWS;
@@ -7,6 +9,8 @@ use crate::example_rows::EXAMPLE_ROWS;
 use crate::flow_rows::FLOW_ROWS;
 use crate::gen_rows::GEN_ROWS;
 use crate::kind_rows::KIND_ROWS;
+use crate::record_rows::RECORD_ROWS;
+use crate::report_rows::REPORT_ROWS;
 use crate::rows::{Act, Row};
 use crate::task_rows::TASK_ROWS;
 use osek_io::MemShelf;
@@ -41,6 +45,16 @@ fn the_rows_of_the_analysis(rt: HostRuntime) {
 #[test]
 fn the_rows_of_certificates(rt: HostRuntime) {
     assert_eq!(rt; first_wrong(rt.alloc(), &CERTIFICATE_ROWS), Ok(""));
+}
+
+#[test]
+fn the_rows_of_records(rt: HostRuntime) {
+    assert_eq!(rt; first_wrong(rt.alloc(), &RECORD_ROWS), Ok(""));
+}
+
+#[test]
+fn the_rows_of_findings(rt: HostRuntime) {
+    assert_eq!(rt; first_wrong(rt.alloc(), &REPORT_ROWS), Ok(""));
 }
 
 #[test]
@@ -123,4 +137,54 @@ fn what_rows_build_is_certified_and_checked(rt: HostRuntime) {
 #[test]
 fn examples_are_certified_and_checked(rt: HostRuntime) {
     assert_eq!(rt; first_uncertified(rt.alloc(), &EXAMPLE_ROWS), Ok(""));
+}
+
+/// Whether what is built of a row's texts has a record in this mode of so many points, and the record is quiet.
+fn is_quiet(alloc: Global, row: &Row, mode: &str, count: usize) -> Result<bool, Memory> {
+    let mut shelf = MemShelf::new(alloc, Vec::new(alloc));
+    put_files(&mut shelf, row.files)?;
+    put_places(&mut shelf)?;
+    let quiet = format!(in alloc; "quiet {count}\n")?;
+    let built = gives(alloc, &mut shelf, BUILD, Wanted::Exactly(0, "", ""))?;
+    let kept = keeps(
+        alloc,
+        &mut shelf,
+        &["record", "a.img", mode, "e"],
+        count,
+        "r",
+    )?;
+    let watch = ["watch", "a.oil", "a.c", "r"];
+    let watched = gives(alloc, &mut shelf, &watch, Wanted::Exactly(0, &quiet, ""))?;
+    Ok(built && kept && watched)
+}
+
+/// Whether each run of a row has a point for each line of its trace, and is quiet.
+fn are_quiet(alloc: Global, row: &Row) -> Result<bool, Memory> {
+    for act in row.acts {
+        if let Act::Plays(mode, count, _) = act {
+            if !is_quiet(alloc, row, mode, *count)? {
+                return Ok(false);
+            }
+        }
+    }
+    Ok(true)
+}
+
+/// The name of the first row with a run that isn't quiet.
+fn first_with_alarm(alloc: Global, rows: &[Row]) -> Result<&'static str, Memory> {
+    for row in rows {
+        if !are_quiet(alloc, row)? {
+            return Ok(row.name);
+        }
+    }
+    Ok("")
+}
+
+#[test]
+fn records_of_runs_are_quiet(rt: HostRuntime) {
+    assert_eq!(rt; first_with_alarm(rt.alloc(), &TASK_ROWS), Ok(""));
+    assert_eq!(rt; first_with_alarm(rt.alloc(), &EVENT_ROWS), Ok(""));
+    assert_eq!(rt; first_with_alarm(rt.alloc(), &MODE_ROWS), Ok(""));
+    assert_eq!(rt; first_with_alarm(rt.alloc(), &TEXT_ROWS), Ok(""));
+    assert_eq!(rt; first_with_alarm(rt.alloc(), &KIND_ROWS), Ok(""));
 }

@@ -49,6 +49,14 @@ pub const ONE_TASK_IMAGE: &[u8] = b"\
 /// What `replay` and `trace` print over its events.
 pub const TRACE: &str = "0 T1 T1=R T2=S\n1 T2 T1=Y T2=R !E_OK\n2 T1 T1=R T2=S\n3 - T1=S T2=S\n";
 
+/// Its points under the same events: what `record` prints, and a file that `watch` reads.
+pub const POINTS: &str = "b0\nb3\nb1\nidle\n";
+
+pub const RECORD: &[u8] = b"b0\nb3\nb1\nidle\n";
+
+/// Points of which the second can't follow the first.
+pub const JUMP: &[u8] = b"b0\nb1\n";
+
 /// What `show` prints of its texts.
 pub const SHOW: &str = "\
 site b0 line 1 direct T2

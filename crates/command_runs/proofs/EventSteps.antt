@@ -5,7 +5,7 @@ use Rattle.osek_values.specs.declared.{event.Event.{Event}, notes.Notes.{Notes}}
 use Rattle.osek_standard.specs.{declared.state.State.{State}, Dispatch.{Stepped, stepped}}
 use Rattle.image_model.specs.{declared.image.Image.{Image}, ImageStep.{image_step}}
 use Rattle.image_run.specs.{Machines.{AtWork, Turn, turned, turned_by, turn}, Noted.{noted_if}}
-use Rattle.command_runs.specs.{Playing.{Given, played, line_of, HeldAnswers, AnswersEvent}, declared.stop.Stop.{Stop}}
+use Rattle.command_runs.specs.{Playing.{Given, played, line_of, HeldAnswers, AnswersEvent}, declared.{showing.Showing.{Showing}, stop.Stop.{Stop}}}
 
 -- a turn of a machine that didn't trap is a step of its image
 pub turn_is : (m : AtWork) (e : Event) (t : Turn) → m.trapped ≡ false → turn m e ≡ t → turned_by m (image_step m.image m.state e) ≡ t
@@ -35,12 +35,12 @@ steps_as m new o true n e = stepped_on m new o n e
 steps_as m new o false n e = trapped_on m new o e
 
 -- the line of a step that is no trap was put, or not, from where the play stood before it
-pub event_put : (old mid new : Given) (i j : Image) (n k : ℕ) (s : State) (o : Option Stepped) (x : Stepped) (r : Result (Unit {0}) Stop) → o ≡ Some x → mid ≡ old → j ≡ i → k ≡ n → s ≡ x.state →
-    HeldAnswers mid new (played (line_of j k x) (Ok tt)) r → AnswersEvent old new i n s o r
-event_put old mid new i j n k s o x r is held image number state h =
-    subst (λ (y : Option Stepped). AnswersEvent old new i n s y r) (sym is) (
+pub event_put : (old mid new : Given) (w : Showing) (i j : Image) (n k : ℕ) (s : State) (o : Option Stepped) (x : Stepped) (r : Result (Unit {0}) Stop) → o ≡ Some x → mid ≡ old → j ≡ i → k ≡ n → s ≡ x.state →
+    HeldAnswers mid new (played (line_of w j k x) (Ok tt)) r → AnswersEvent old new w i n s o r
+event_put old mid new w i j n k s o x r is held image number state h =
+    subst (λ (y : Option Stepped). AnswersEvent old new w i n s y r) (sym is) (
       state,
-      subst (λ (p : Given). HeldAnswers p new (played (line_of i n x) (Ok tt)) r) held
-          (subst (λ (m : ℕ). HeldAnswers mid new (played (line_of i m x) (Ok tt)) r) number
-          (subst (λ (l : Image). HeldAnswers mid new (played (line_of l k x) (Ok tt)) r) image h)),
+      subst (λ (p : Given). HeldAnswers p new (played (line_of w i n x) (Ok tt)) r) held
+          (subst (λ (m : ℕ). HeldAnswers mid new (played (line_of w i m x) (Ok tt)) r) number
+          (subst (λ (l : Image). HeldAnswers mid new (played (line_of w l k x) (Ok tt)) r) image h)),
     )

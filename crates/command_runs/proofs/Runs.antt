@@ -3,11 +3,11 @@ use Rattle.std.proofs.{Common.{◌≡◌, ℕ, ◌≤◌, List, ◌++◌, length
 use Rattle.std.specs.declared.result.Result.{Result}
 use Rattle.osek_values.specs.declared.{limits.TheConstants.{MAX_EVENT_TEXT}, notes.Notes.{Notes}, numbers.ModeNo.{ModeNo}}
 use Rattle.osek_standard.specs.{declared.state.State.{State}, Dispatch.{Stepped, stepped}, Kernel.{start}}
-use Rattle.image_model.specs.{declared.image.Image.{Image}, ImageTrace.{image_trace, has_trap}}
+use Rattle.image_model.specs.{declared.image.Image.{Image}, ImageTrace.{has_trap}}
 use Rattle.trace_text.specs.EventText.{numbered_lines}
 use Rattle.osek_io.specs.Sunk.{Writes}
 use Rattle.command_runs.specs.{Inputs.{no_memory}, Outside.{Outside}, Playing.{Played, printing, plays as plays_lines, line_of, PlayAnswers, StopsBehind, whole_play, PlaysWhole}}
-use Rattle.command_runs.specs.{Running.{mode_named, whole_run, RunAnswers, stops, plays, unread_on}, declared.stop.Stop.{Stop}}
+use Rattle.command_runs.specs.{Running.{mode_named, whole_run, RunAnswers, stops, plays, unread_on}, Shown.{shown_trace}, declared.{showing.Showing.{Showing}, stop.Stop.{Stop}}}
 use Rattle.command_runs.proofs.{InputFiles.{of_map}, PlayedTrace.{whole_is}}
 
 -- what stops behind lines that were played stops so of another spelling of the play
@@ -30,20 +30,20 @@ stops_as reads reads_after Prints p q same text short s =
     }
 
 -- the run of the image under the text that was read
-pub image_runs : (before after : Outside) (i : Image) (mode events : List ℕ) (m : ModeNo) → mode_named i.app mode ≡ Some m → (r : Result (Unit {0}) Stop) →
-    PlaysWhole before.shelf.files events (before.shelf.reads events) (after.shelf.reads events) before.out after.out i m r → RunAnswers before after i.app (image_trace i) (has_trap i) mode events r
-image_runs before after i mode events m named r (inl h) = subst (RunAnswers before after i.app (image_trace i) (has_trap i) mode events) (sym h.0) (stops m _ named no_memory h.1)
-image_runs before after i mode events m named r (inr (inl h)) =
+pub image_runs : (before after : Outside) (w : Showing) (i : Image) (mode events : List ℕ) (m : ModeNo) → mode_named i.app mode ≡ Some m → (r : Result (Unit {0}) Stop) →
+    PlaysWhole before.shelf.files events (before.shelf.reads events) (after.shelf.reads events) before.out after.out w i m r → RunAnswers before after i.app (shown_trace w i) (has_trap i) mode events r
+image_runs before after w i mode events m named r (inl h) = subst (RunAnswers before after i.app (shown_trace w i) (has_trap i) mode events) (sym h.0) (stops m _ named no_memory h.1)
+image_runs before after w i mode events m named r (inr (inl h)) =
     plays m r named h.0 (of_map before.shelf.files events _ _
-    (λ text x. (x.0, subst (λ (p : Played). PlayAnswers before.out after.out p r) (whole_is i m text x.0) x.1)) h.1)
-image_runs before after i mode events m named r (inr (inr h)) =
-    subst (RunAnswers before after i.app (image_trace i) (has_trap i) mode events) (sym h.0)
+    (λ text x. (x.0, subst (λ (p : Played). PlayAnswers before.out after.out p r) (whole_is w i m text x.0) x.1)) h.1)
+image_runs before after w i mode events m named r (inr (inr h)) =
+    subst (RunAnswers before after i.app (shown_trace w i) (has_trap i) mode events) (sym h.0)
     (unread_on m named (of_map before.shelf.files events _ _
-    (λ text x. (x.0, stops_as (before.shelf.reads events) (after.shelf.reads events) (Writes before.out after.out) (whole_play i m) (whole_run i.app (image_trace i) (has_trap i) m) (whole_is i m) text x.0 x.1)) h.1))
+    (λ text x. (x.0, stops_as (before.shelf.reads events) (after.shelf.reads events) (Writes before.out after.out) (whole_play w i m) (whole_run i.app (shown_trace w i) (has_trap i) m) (whole_is w i m) text x.0 x.1)) h.1))
 
 -- the play of a machine that has just started is the whole play
-pub whole_started : (i j : Image) (m : ModeNo) (s : State) (n : Notes) → j ≡ i → start i.app m ≡ stepped s n → (text : List ℕ) →
-    printing (line_of j 0 (stepped s n)) (plays_lines j (numbered_lines text) 1 s) ≡ whole_play i m text
-whole_started i j m s n same is text =
-    ap (λ (k : Image). printing (line_of k 0 (stepped s n)) (plays_lines k (numbered_lines text) 1 s)) same
-    ∙ ap (λ (x : Stepped). printing (line_of i 0 x) (plays_lines i (numbered_lines text) 1 x.state)) (sym is)
+pub whole_started : (w : Showing) (i j : Image) (m : ModeNo) (s : State) (n : Notes) → j ≡ i → start i.app m ≡ stepped s n → (text : List ℕ) →
+    printing (line_of w j 0 (stepped s n)) (plays_lines w j (numbered_lines text) 1 s) ≡ whole_play w i m text
+whole_started w i j m s n same is text =
+    ap (λ (k : Image). printing (line_of w k 0 (stepped s n)) (plays_lines w k (numbered_lines text) 1 s)) same
+    ∙ ap (λ (x : Stepped). printing (line_of w i 0 x) (plays_lines w i (numbered_lines text) 1 x.state)) (sym is)

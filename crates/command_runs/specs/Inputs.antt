@@ -1,10 +1,10 @@
 -- The inputs of a command: what is true of one of which a shelf may tell nothing, and why one stops the command.
 use Rattle.std.specs.{Prelude.{◌≡◌, ◌<◌, ◌≤◌, ◌+◌, ◌⊎◌, ⊤, ℕ, List, ◌++◌, length, take, drop, Option, Some, None}, FinMap.{get}}
-use Rattle.osek_values.specs.declared.{limits.TheConstants.{MAX_FILE, MAX_TABLE, MAX_EVENT_TEXT}, refusal.LexRule.TheVariants.{L6}}
+use Rattle.osek_values.specs.declared.{limits.TheConstants.{MAX_FILE, MAX_TABLE, MAX_EVENT_TEXT, MAX_RECORD}, refusal.LexRule.TheVariants.{L6}}
 use Rattle.osek_values.specs.declared.refusal.Rule.TheVariants as rule
 use Rattle.osek_values.specs.declared.refusal.TextFile.TheVariants as file
 use Rattle.image_codec.specs.declared.fault.ImageRule.TheVariants.{I7}
-use Rattle.trace_text.specs.declared.fault.EventFault.TheVariants.{E4}
+use Rattle.trace_text.specs.declared.fault.{EventFault.TheVariants.{E4}, PointFault.TheVariants.{G4}}
 use Rattle.table_codec.specs.declared.fault.TableRule.TheVariants.{K6}
 use Rattle.osek_io.specs.{Counts.{RoseSomewhere}, Files.{Files, Holds, IsMissing}, declared.loading.LoadError.{LoadError}}
 use Rattle.osek_io.specs.declared.loading.LoadError.TheVariants as load_error
@@ -37,6 +37,7 @@ limit_of input.Code = MAX_FILE
 limit_of input.Image = MAX_FILE
 limit_of input.Table = MAX_TABLE
 limit_of input.Events = MAX_EVENT_TEXT
+limit_of input.Record = MAX_RECORD
 
 -- why an input over its limit stops a command
 abbrev pub over_limit : Input → Stop
@@ -45,6 +46,7 @@ over_limit input.Code = stop.Refused (record { file = file.Code; line = 0; rule 
 over_limit input.Image = stop.Image (record { rule = I7; offset = MAX_FILE })
 over_limit input.Table = stop.Table (record { rule = K6; offset = MAX_TABLE })
 over_limit input.Events = stop.Events (record { line = 0; rule = E4 })
+over_limit input.Record = stop.Record (record { line = 0; rule = G4 })
 
 -- why an input that isn't loaded stops a command
 abbrev pub unloaded : Input → LoadError → Stop

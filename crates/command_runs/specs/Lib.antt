@@ -4,5 +4,6 @@ pub mod Outside
 pub mod Playing
 pub mod Replaying
 pub mod Running
+pub mod Shown
 pub mod Telling
 pub mod Upgrading

@@ -1,11 +1,12 @@
--- The answers of `replay`, each with its cause and what it leaves.
+-- The answers of `replay` and of `record`, each with its cause and what it leaves.
 use Rattle.std.specs.Prelude.{◌≡◌, ◌⊎◌, ℕ, ◌<◌, ◌≤◌, List, length, Option, Result, Err}
 use Rattle.osek_values.specs.declared.limits.TheConstants.{MAX_FILE}
 use Rattle.image_model.specs.declared.image.Image.{Image}
 use Rattle.image_codec.specs.{declared.fault.{ImageFault.{ImageFault}, ImageRule.TheVariants.{I7}}, Spelling.{spelling}, Fits.{FitsFormat}, ImageReading.{read_image}}
-use Rattle.image_model.specs.ImageTrace.{image_trace, has_trap}
+use Rattle.image_model.specs.ImageTrace.{has_trap}
 use Rattle.osek_io.specs.Files.{Files}
-use Rattle.command_runs.specs.{Inputs.{OfFile, InputStops}, Outside.{Told, Outside}, Running.{RunAnswers}}
+use Rattle.command_runs.specs.{Inputs.{OfFile, InputStops}, Outside.{Told, Outside}, Running.{RunAnswers}, Shown.{shown_trace}}
+use Rattle.command_runs.specs.declared.showing.Showing.{Showing}
 use Rattle.command_runs.specs.declared.stop.Input.TheVariants as input
 use Rattle.command_runs.specs.declared.stop.Stop.{Stop}
 use Rattle.command_runs.specs.declared.stop.Stop.TheVariants as stop
@@ -30,7 +31,8 @@ OfImage files image P = OfFile files image (λ b. (i : Image) × SpellImage b i 
 abbrev pub ImageStops : (before after : Told) → (image : List ℕ) → Stop → Type 0
 ImageStops before after image = InputStops before after input.Image image stop.Image IsImageFault
 
--- `replay` stops at the image and prints nothing, or the image runs and its trace is printed.
-pub data ReplayAnswers (before after : Outside) (image mode events : List ℕ) : Result (Unit {0}) Stop → Type 0 where
-  stops : (s : Stop) → ImageStops before.shelf after.shelf image s → after.out ≡ before.out → ReplayAnswers before after image mode events (Err s)
-  runs : (r : Result (Unit {0}) Stop) → OfImage before.shelf.files image (λ i. RunAnswers before after i.app (image_trace i) (has_trap i) mode events r) → ReplayAnswers before after image mode events r
+-- The command stops at the image and prints nothing, or the image runs and what is shown of it is printed: its trace for `replay`, its
+-- points for `record`.
+pub data ReplayAnswers (w : Showing) (before after : Outside) (image mode events : List ℕ) : Result (Unit {0}) Stop → Type 0 where
+  stops : (s : Stop) → ImageStops before.shelf after.shelf image s → after.out ≡ before.out → ReplayAnswers w before after image mode events (Err s)
+  runs : (r : Result (Unit {0}) Stop) → OfImage before.shelf.files image (λ i. RunAnswers before after i.app (shown_trace w i) (has_trap i) mode events r) → ReplayAnswers w before after image mode events r

@@ -1,5 +1,5 @@
-//! The inputs of the commands: each is loaded within its limit, or read piece by piece as an event text is, or stops the
-//! command.
+//! The inputs of the commands: each is loaded within its limit, or read piece by piece as event texts and records are, or stops
+//! the command.
 ghost use Rattle.std.specs.Prelude.{◌≡◌, ◌≤◌, ◌==◌, ◌⊎◌, false, length, IfOk, IfErr, OnOk, OnErr, Err};
 ghost use Rattle.osek_io.specs.{Counts.{Rose, Same}, Files.{IsMissing}, Reads.{OnlyReads}};
 ghost use Rattle.command_runs.specs.{Outside.{told}, Inputs.{OfFile, ReadsOn, NotLoaded, limit_of as the_limit, over_limit as the_stop_over_limit, unloaded as unloaded_stop}};
@@ -7,13 +7,13 @@ ghost use Rattle.command_runs.specs.{Outside.{told}, Inputs.{OfFile, ReadsOn, No
 use crate::stop::{Input, Stop};
 use image_codec::{ImageFault, ImageRule};
 use osek_io::{LoadError, Shelf, load};
-use osek_values::limits::{MAX_EVENT_LINE, MAX_EVENT_TEXT, MAX_FILE, MAX_TABLE};
+use osek_values::limits::{MAX_EVENT_LINE, MAX_EVENT_TEXT, MAX_FILE, MAX_RECORD, MAX_TABLE};
 use osek_values::{LexRule, Refusal, Rule, TextFile};
 use std::alloc::Global;
 use table_codec::{TableFault, TableRule};
-use trace_text::{EventFault, FaultyLine, Feed};
+use trace_text::{EventFault, FaultyLine, FaultyPoint, Feed, PointFault};
 
-/// How many bytes of an event text are read at once.
+/// How many bytes of a text of lines are read at once.
 const PIECE: usize = 4096;
 
 /// How many bytes an input has at most.
@@ -26,6 +26,7 @@ fn limit_of(input: Input) -> u64
         Input::Image => MAX_FILE as u64,
         Input::Table => MAX_TABLE as u64,
         Input::Events => MAX_EVENT_TEXT as u64,
+        Input::Record => MAX_RECORD as u64,
     }
 }
 
@@ -55,6 +56,10 @@ fn over_limit(input: Input) -> Stop
         Input::Events => Stop::Events(FaultyLine {
             line: 0,
             rule: EventFault::E4,
+        }),
+        Input::Record => Stop::Record(FaultyPoint {
+            line: 0,
+            rule: PointFault::G4,
         }),
     }
 }
@@ -89,25 +94,26 @@ pub fn load_input<F: Shelf>(
     }
 }
 
-/// Judges the length of an event text, by the one byte that none within its limit has.
-pub fn judge_length<F: Shelf>(shelf: &mut F, name: &str) -> Result<(), Stop>
-    ensures within { OnOk result (OfFile (F.contents shelf.old) name.now (λ text. length text ≤ MAX_EVENT_TEXT)) }
-    ensures stop { IfErr result (NotLoaded (told F.Shelf shelf.old) (told F.Shelf shelf.new) Input.Events name.now) }
+/// Judges the length of an input, by the one byte that none within its limit has.
+pub fn judge_length<F: Shelf>(shelf: &mut F, input: Input, name: &str) -> Result<(), Stop>
+    ensures within { OnOk result (OfFile (F.contents shelf.old) name.now (λ text. length text ≤ the_limit input)) }
+    ensures stop { IfErr result (NotLoaded (told F.Shelf shelf.old) (told F.Shelf shelf.new) input name.now) }
     ensures same { OnlyReads F.Shelf shelf.old shelf.new }
     ensures no_fault { OnOk result (Same (F.read_faults shelf.old) (F.read_faults shelf.new)) }
 {
     let mut byte = [0u8; 1];
-    match shelf.read(name, MAX_EVENT_TEXT as u64, &mut byte) {
+    match shelf.read(name, limit_of(input), &mut byte) {
         Ok(0) => Ok(()),
-        Ok(_) => Err(over_limit(Input::Events)),
-        Err(_) => Err(Stop::Unread(Input::Events)),
+        Ok(_) => Err(over_limit(input)),
+        Err(_) => Err(Stop::Unread(input)),
     }
 }
 
-/// Gives a feed the next bytes of an event text of which so many were taken, or finishes it behind the last. It answers
+/// Gives a feed the next bytes of a text of lines of which so many were taken, or finishes it behind the last. It answers
 /// how many they are.
 pub fn read_on<F: Shelf>(
     shelf: &mut F,
+    input: Input,
     name: &str,
     taken: usize,
     feed: &mut Feed,
@@ -117,7 +123,7 @@ pub fn read_on<F: Shelf>(
     requires room { length feed.old.ahead ≤ MAX_EVENT_LINE }
     ensures more { IfOk result (ReadsOn (F.contents shelf.old) name.now taken feed.old.ahead feed.new.ahead) }
     ensures finished { IfOk result (λ n. feed.new.finished ≡ (n == 0)) }
-    ensures stop { OnErr result (result ≡ Err (Stop.Unread Input.Events)) }
+    ensures stop { OnErr result (result ≡ Err (Stop.Unread input)) }
     ensures cause { OnErr result (Rose (F.read_faults shelf.old name.now taken) (F.read_faults shelf.new name.now taken) ⊎ IsMissing (F.contents shelf.old) name.now) }
     ensures same { OnlyReads F.Shelf shelf.old shelf.new }
     ensures no_fault { OnOk result (Same (F.read_faults shelf.old) (F.read_faults shelf.new)) }
@@ -130,6 +136,6 @@ pub fn read_on<F: Shelf>(
             Ok(0)
         }
         Ok(count) => Ok(feed.give(&piece[..count])),
-        Err(_) => Err(Stop::Unread(Input::Events)),
+        Err(_) => Err(Stop::Unread(input)),
     }
 }

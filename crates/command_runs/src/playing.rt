@@ -1,24 +1,31 @@
-//! An image at work: each line of an event text as it is read, and the line of the trace that comes of it.
+//! An image at work: each line of an event text as it is read, and the line that is printed of it.
 ghost use Rattle.std.specs.Prelude.{◌≡◌, ◌≤◌, ◌+◌, ◌++◌, ◌∷◌, [], ℕ, List, length, true, false, if◌then◌else◌, Some, None, OnOk, OnErr, IfErr, Err};
 ghost use Rattle.osek_standard.specs.{Apps.{IsDeclared}, Dispatch.{stepped}};
 ghost use Rattle.osek_io.specs.{Counts.{Rose}, Reads.{OnlyReads}, Stored.{WritesProperPrefix}, Sunk.{sunk, Writes}};
 ghost use Rattle.image_model.specs.{ImageStep.{image_step}, ImageTrace.{trap_line}};
 ghost use Rattle.command_runs.specs.Inputs.{OfFile};
-ghost use Rattle.command_runs.specs.Playing.{played, plays, plays_fed, played_line, printing, line_of, given, MayFollow, HasNoEnd, PlaysOn, HeldAnswers, HeldReadAnswers, ReadAnswers, AnswersEvent, AnswersLine};
+ghost use Rattle.command_runs.specs.Playing.{played, plays, plays_fed, played_line, printing, line_of, point_line, given, MayFollow, HasNoEnd, PlaysOn, HeldAnswers, HeldReadAnswers, ReadAnswers, AnswersEvent, AnswersLine};
 ghost use Rattle.trace_text.specs.{EventWords.{read_line}, EventText.{numbered_lines}, Feeds.{no_bytes}, LineParts.{ArePartsOf}};
-ghost use Rattle.command_runs.specs.declared.stop.Stop.TheVariants.{Trapped, Unprinted};
+ghost use Rattle.command_runs.specs.declared.{showing.Showing.TheVariants.{Trace}, stop.Stop.TheVariants.{Trapped, Unprinted}};
 
 use crate::inputs::read_on;
-use crate::stop::Stop;
+use crate::running::Run;
+use crate::showing::Showing;
+use crate::stop::{Input, Stop};
 use crate::tell::put_three;
 use crate::trace_line::TraceLine;
+use generic_kernel::point_of;
 use image_run::Machine;
 use itoa::Buffer;
 use osek_io::{PutBuffer, PutError, Shelf, Sink};
 use osek_values::limits::{MAX_EVENT_LINE, MAX_EVENT_TEXT};
 use osek_values::{Event, HookSet, Notes, Steps};
 use std::sync::ledger::Ledger;
-use trace_text::{FaultyLine, Feed, FeedStep, LineParts, read_event};
+use text_pieces::put_byte;
+use trace_text::{FaultyLine, Feed, FeedStep, LineParts, MAX_POINT, put_point, read_event};
+
+/// The most bytes of a point and its LF.
+const POINT_LINE: usize = MAX_POINT + 1;
 
 /// Which event and which line of its text come next, each by its number.
 #[derive(Clone, Copy)]
@@ -27,12 +34,12 @@ pub struct Place {
     pub line: u32,
 }
 
-/// A machine at work, and what its trace is printed by.
+/// A machine at work, and what its lines are printed by.
 #[derive(Drop)]
 pub struct Play<L: Ledger> {
     pub machine: Machine,
     pub parts: LineParts,
-    /// What is held back of the trace.
+    /// What is held back of what is printed.
     pub buffer: PutBuffer,
     pub place: Place,
     /// How often the machine compared priorities.
@@ -45,10 +52,10 @@ pub struct Play<L: Ledger> {
 impl<L: Ledger> Play<L> {
     /// Prints the line of the trace that has the number of the next event, or holds it back.
     #[inline(always)]
-    fn print_line<O: Sink>(&mut self, out: &mut O, notes: &Notes) -> Result<(), Stop>
+    fn print_step<O: Sink>(&mut self, out: &mut O, notes: &Notes) -> Result<(), Stop>
         ensures machine { self.new.machine ≡ self.old.machine }
         ensures place { self.new.place ≡ self.old.place }
-        ensures line { HeldAnswers (given (sunk O.Sink out.old) self.old.buffer) (given (sunk O.Sink out.new) self.new.buffer) (played (line_of self.old.machine.image self.old.place.event (stepped self.old.machine.state notes.now)) (Ok tt)) result }
+        ensures line { HeldAnswers (given (sunk O.Sink out.old) self.old.buffer) (given (sunk O.Sink out.new) self.new.buffer) (played (line_of Trace self.old.machine.image self.old.place.event (stepped self.old.machine.state notes.now)) (Ok tt)) result }
     {
         self.parts.show(self.machine.app(), self.machine.state());
         self.parts.count(self.place.event);
@@ -61,6 +68,40 @@ impl<L: Ledger> Play<L> {
         match self.buffer.put_piece(out, &line) {
             Ok(()) => Ok(()),
             Err(PutError::Write) => Err(Stop::Unprinted),
+        }
+    }
+
+    /// Prints the point of the state, or holds it back.
+    fn print_point<O: Sink>(&mut self, out: &mut O) -> Result<(), Stop>
+        ensures machine { self.new.machine ≡ self.old.machine }
+        ensures place { self.new.place ≡ self.old.place }
+        ensures line { HeldAnswers (given (sunk O.Sink out.old) self.old.buffer) (given (sunk O.Sink out.new) self.new.buffer) (played (point_line self.old.machine.image self.old.machine.state) (Ok tt)) result }
+    {
+        let mut line = [0u8; POINT_LINE];
+        let app = self.machine.app();
+        let end = put_point(&mut line, 0, app, point_of(app, self.machine.state()));
+        let end = put_byte(&mut line, end, b'\n');
+        match self.buffer.put(out, &line[..end]) {
+            Ok(()) => Ok(()),
+            Err(PutError::Write) => Err(Stop::Unprinted),
+        }
+    }
+
+    /// Prints what is shown after a step, as that of the next event, or holds it back.
+    #[inline(always)]
+    fn print_line<O: Sink>(
+        &mut self,
+        out: &mut O,
+        showing: Showing,
+        notes: &Notes,
+    ) -> Result<(), Stop>
+        ensures machine { self.new.machine ≡ self.old.machine }
+        ensures place { self.new.place ≡ self.old.place }
+        ensures line { HeldAnswers (given (sunk O.Sink out.old) self.old.buffer) (given (sunk O.Sink out.new) self.new.buffer) (played (line_of showing self.old.machine.image self.old.place.event (stepped self.old.machine.state notes.now)) (Ok tt)) result }
+    {
+        match showing {
+            Showing::Trace => self.print_step(out, notes),
+            Showing::Points => self.print_point(out),
         }
     }
 
@@ -112,13 +153,18 @@ impl<L: Ledger> Play<L> {
     }
 
     /// Plays one event: a step of the machine, and its line.
-    fn play_event<O: Sink>(&mut self, out: &mut O, event: Event) -> Result<(), Stop>
+    fn play_event<O: Sink>(
+        &mut self,
+        out: &mut O,
+        showing: Showing,
+        event: Event,
+    ) -> Result<(), Stop>
         requires declared { IsDeclared self.old.machine.image.app event }
         requires running { self.old.machine.trapped ≡ false }
         ensures image { self.new.machine.image ≡ self.old.machine.image }
         ensures running { OnOk result (self.new.machine.trapped ≡ false) }
         ensures place { OnOk result (self.new.place ≡ self.old.place) }
-        ensures event { AnswersEvent (given (sunk O.Sink out.old) self.old.buffer) (given (sunk O.Sink out.new) self.new.buffer) self.old.machine.image self.old.place.event self.new.machine.state (image_step self.old.machine.image self.old.machine.state event) result }
+        ensures event { AnswersEvent (given (sunk O.Sink out.old) self.old.buffer) (given (sunk O.Sink out.new) self.new.buffer) showing self.old.machine.image self.old.place.event self.new.machine.state (image_step self.old.machine.image self.old.machine.state event) result }
     {
         let mut notes = Notes {
             status: None,
@@ -126,20 +172,20 @@ impl<L: Ledger> Play<L> {
             hooks: HookSet::none(),
         };
         if self.step(event, &mut notes) {
-            self.print_line(out, &notes)
+            self.print_line(out, showing, &notes)
         } else {
             self.print_trap(out)
         }
     }
 
     /// Plays the next line of the event text: none or one event.
-    fn play_line<O: Sink>(&mut self, out: &mut O, line: &[u8]) -> Result<(), Stop>
+    fn play_line<O: Sink>(&mut self, out: &mut O, showing: Showing, line: &[u8]) -> Result<(), Stop>
         requires running { self.old.machine.trapped ≡ false }
         requires fits { self.old.place.line ≤ MAX_EVENT_TEXT }
         ensures image { self.new.machine.image ≡ self.old.machine.image }
         ensures running { OnOk result (self.new.machine.trapped ≡ false) }
         ensures next { OnOk result (self.new.place.line ≡ self.old.place.line + 1) }
-        ensures line { AnswersLine (given (sunk O.Sink out.old) self.old.buffer) (given (sunk O.Sink out.new) self.new.buffer) (λ more. played_line self.old.machine.image self.old.place.event self.old.machine.state self.old.place.line more (read_line self.old.machine.image.app line.now)) self.new.place.event self.new.machine.state result }
+        ensures line { AnswersLine (given (sunk O.Sink out.old) self.old.buffer) (given (sunk O.Sink out.new) self.new.buffer) (λ more. played_line showing self.old.machine.image self.old.place.event self.old.machine.state self.old.place.line more (read_line self.old.machine.image.app line.now)) self.new.place.event self.new.machine.state result }
     {
         match read_event(self.machine.app(), line) {
             Ok(None) => {
@@ -147,7 +193,7 @@ impl<L: Ledger> Play<L> {
                 Ok(())
             }
             Ok(Some(event)) => {
-                self.play_event(out, event)?;
+                self.play_event(out, showing, event)?;
                 self.place.event += 1;
                 self.place.line += 1;
                 Ok(())
@@ -160,7 +206,12 @@ impl<L: Ledger> Play<L> {
     }
 
     /// Plays the lines that come out of a feed.
-    fn play_ahead<O: Sink>(&mut self, out: &mut O, feed: &mut Feed) -> Result<(), Stop>
+    fn play_ahead<O: Sink>(
+        &mut self,
+        out: &mut O,
+        showing: Showing,
+        feed: &mut Feed,
+    ) -> Result<(), Stop>
         requires running { self.old.machine.trapped ≡ false }
         requires fits { self.old.place.line + length feed.old.ahead ≤ MAX_EVENT_TEXT + 1 }
         ensures image { self.new.machine.image ≡ self.old.machine.image }
@@ -172,11 +223,11 @@ impl<L: Ledger> Play<L> {
         ensures ended { OnOk result (feed.new.finished ≡ true → feed.new.ahead ≡ []) }
         ensures no_more { OnOk result (HasNoEnd feed.new.ahead) }
 
-        ensures plays { OnOk result (PlaysOn (given (sunk O.Sink out.old) self.old.buffer) (given (sunk O.Sink out.new) self.new.buffer) self.old.machine.image feed.old feed.new self.old.place.line self.old.place.event self.old.machine.state self.new.place.line self.new.place.event self.new.machine.state) }
-        ensures stops { IfErr result (λ e. (rest : List ℕ) → MayFollow feed.old rest → HeldAnswers (given (sunk O.Sink out.old) self.old.buffer) (given (sunk O.Sink out.new) self.new.buffer) (plays_fed self.old.machine.image feed.old rest self.old.place.line self.old.place.event self.old.machine.state) (Err e)) }
+        ensures plays { OnOk result (PlaysOn (given (sunk O.Sink out.old) self.old.buffer) (given (sunk O.Sink out.new) self.new.buffer) showing self.old.machine.image feed.old feed.new self.old.place.line self.old.place.event self.old.machine.state self.new.place.line self.new.place.event self.new.machine.state) }
+        ensures stops { IfErr result (λ e. (rest : List ℕ) → MayFollow feed.old rest → HeldAnswers (given (sunk O.Sink out.old) self.old.buffer) (given (sunk O.Sink out.new) self.new.buffer) (plays_fed showing self.old.machine.image feed.old rest self.old.place.line self.old.place.event self.old.machine.state) (Err e)) }
     {
         'lines: while let FeedStep::Line = feed.next() {
-            self.play_line(out, feed.line())?;
+            self.play_line(out, showing, feed.line())?;
         }
         Ok(())
     }
@@ -186,22 +237,22 @@ impl<L: Ledger> Play<L> {
         &mut self,
         out: &mut O,
         shelf: &mut F,
-        events: &str,
+        run: &Run<'_>,
         feed: &mut Feed,
     ) -> Result<(), Stop>
         requires running { self.old.machine.trapped ≡ false }
         requires first { self.old.place ≡ record { event = 1; line = 1 } }
         requires empty { feed.old ≡ no_bytes }
-        requires text { OfFile (F.contents shelf.old) events.now (λ t. length t ≤ MAX_EVENT_TEXT) }
-        ensures answer { HeldReadAnswers (F.contents shelf.old) events.now (F.read_faults shelf.old events.now) (F.read_faults shelf.new events.now) (given (sunk O.Sink out.old) self.old.buffer) (given (sunk O.Sink out.new) self.new.buffer) (λ t. plays self.old.machine.image (numbered_lines t) 1 self.old.machine.state) result }
+        requires text { OfFile (F.contents shelf.old) run.now.events.now (λ t. length t ≤ MAX_EVENT_TEXT) }
+        ensures answer { HeldReadAnswers (F.contents shelf.old) run.now.events.now (F.read_faults shelf.old run.now.events.now) (F.read_faults shelf.new run.now.events.now) (given (sunk O.Sink out.old) self.old.buffer) (given (sunk O.Sink out.new) self.new.buffer) (λ t. plays run.now.showing self.old.machine.image (numbered_lines t) 1 self.old.machine.state) result }
         ensures same { OnlyReads F.Shelf shelf.old shelf.new }
     {
         let mut taken = 0;
         'pieces: loop {
             // No line is held back while the text is waited for.
             self.print_held(out)?;
-            let count = read_on(shelf, events, taken, feed)?;
-            self.play_ahead(out, feed)?;
+            let count = read_on(shelf, Input::Events, run.events, taken, feed)?;
+            self.play_ahead(out, run.showing, feed)?;
             if count == 0 {
                 return Ok(());
             }
@@ -216,39 +267,39 @@ impl<L: Ledger> Play<L> {
         notes: &Notes,
         out: &mut O,
         shelf: &mut F,
-        events: &str,
+        run: &Run<'_>,
         feed: &mut Feed,
     ) -> Result<(), Stop>
         requires running { self.old.machine.trapped ≡ false }
         requires start { self.old.place ≡ record { event = 0; line = 0 } }
         requires empty { feed.old ≡ no_bytes }
-        requires text { OfFile (F.contents shelf.old) events.now (λ t. length t ≤ MAX_EVENT_TEXT) }
-        ensures answer { HeldReadAnswers (F.contents shelf.old) events.now (F.read_faults shelf.old events.now) (F.read_faults shelf.new events.now) (given (sunk O.Sink out.old) self.old.buffer) (given (sunk O.Sink out.new) self.new.buffer) (λ t. printing (line_of self.old.machine.image 0 (stepped self.old.machine.state notes.now)) (plays self.old.machine.image (numbered_lines t) 1 self.old.machine.state)) result }
+        requires text { OfFile (F.contents shelf.old) run.now.events.now (λ t. length t ≤ MAX_EVENT_TEXT) }
+        ensures answer { HeldReadAnswers (F.contents shelf.old) run.now.events.now (F.read_faults shelf.old run.now.events.now) (F.read_faults shelf.new run.now.events.now) (given (sunk O.Sink out.old) self.old.buffer) (given (sunk O.Sink out.new) self.new.buffer) (λ t. printing (line_of run.now.showing self.old.machine.image 0 (stepped self.old.machine.state notes.now)) (plays run.now.showing self.old.machine.image (numbered_lines t) 1 self.old.machine.state)) result }
         ensures same { OnlyReads F.Shelf shelf.old shelf.new }
     {
-        self.print_line(out, notes)?;
+        self.print_line(out, run.showing, notes)?;
         self.place = Place { event: 1, line: 1 };
-        self.play_text(out, shelf, events, feed)
+        self.play_text(out, shelf, run, feed)
     }
 
-    /// Prints the trace of a machine that has just started, all of it.
+    /// Prints what is shown of a machine that has just started, all of it.
     pub fn print_trace<F: Shelf, O: Sink>(
         &mut self,
         notes: &Notes,
         out: &mut O,
         shelf: &mut F,
-        events: &str,
+        run: &Run<'_>,
         feed: &mut Feed,
     ) -> Result<(), Stop>
         requires running { self.old.machine.trapped ≡ false }
         requires start { self.old.place ≡ record { event = 0; line = 0 } }
         requires nothing_held { self.old.buffer ≡ [] }
         requires empty { feed.old ≡ no_bytes }
-        requires text { OfFile (F.contents shelf.old) events.now (λ t. length t ≤ MAX_EVENT_TEXT) }
-        ensures answer { ReadAnswers (F.contents shelf.old) events.now (F.read_faults shelf.old events.now) (F.read_faults shelf.new events.now) (sunk O.Sink out.old) (sunk O.Sink out.new) (λ t. printing (line_of self.old.machine.image 0 (stepped self.old.machine.state notes.now)) (plays self.old.machine.image (numbered_lines t) 1 self.old.machine.state)) result }
+        requires text { OfFile (F.contents shelf.old) run.now.events.now (λ t. length t ≤ MAX_EVENT_TEXT) }
+        ensures answer { ReadAnswers (F.contents shelf.old) run.now.events.now (F.read_faults shelf.old run.now.events.now) (F.read_faults shelf.new run.now.events.now) (sunk O.Sink out.old) (sunk O.Sink out.new) (λ t. printing (line_of run.now.showing self.old.machine.image 0 (stepped self.old.machine.state notes.now)) (plays run.now.showing self.old.machine.image (numbered_lines t) 1 self.old.machine.state)) result }
         ensures same { OnlyReads F.Shelf shelf.old shelf.new }
     {
-        let played = self.play(notes, out, shelf, events, feed);
+        let played = self.play(notes, out, shelf, run, feed);
         self.print_held(out)?;
         played
     }

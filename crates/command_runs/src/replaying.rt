@@ -1,10 +1,10 @@
-//! The command `replay`: the trace of an image under an event text.
+//! The commands `replay` and `record`: the trace or the points of an image under an event text.
 ghost use Rattle.std.specs.Prelude.{IfOk, IfErr, OnOk};
 ghost use Rattle.osek_io.specs.{Counts.{Same}, Reads.{OnlyReads}};
 ghost use Rattle.command_runs.specs.{Inputs.{OfFile}, Outside.{outside, told}, Replaying.{SpellImage, ImageStops, ReplayAnswers}};
 
 use crate::inputs::load_input;
-use crate::running::run;
+use crate::running::{Run, run_image};
 use crate::stop::{Input, Stop};
 use image_codec::{ImageError, decode};
 use image_model::Image;
@@ -29,21 +29,20 @@ pub fn load_image<F: Shelf>(alloc: Global, shelf: &mut F, image: &str) -> Result
     }
 }
 
-/// Prints the trace of the image that a file's bytes spell, in a mode under an event text.
+/// Prints what is shown of the image that a file's bytes spell, as it runs.
 pub fn replay<F: Shelf, O: Sink>(
     alloc: Global,
     shelf: &mut F,
     out: &mut O,
     image: &str,
-    mode: &str,
-    events: &str,
+    run: &Run<'_>,
 ) -> Result<(), Stop>
-    ensures answer { ReplayAnswers (outside F.Shelf O.Sink shelf.old out.old) (outside F.Shelf O.Sink shelf.new out.new) image.now mode.now events.now result }
+    ensures answer { ReplayAnswers run.now.showing (outside F.Shelf O.Sink shelf.old out.old) (outside F.Shelf O.Sink shelf.new out.new) image.now run.now.mode.now run.now.events.now result }
     ensures same { OnlyReads F.Shelf shelf.old shelf.new }
 {
     let image = match load_image(alloc, shelf, image) {
         Ok(image) => image,
         Err(stop) => return Err(stop),
     };
-    run(alloc, shelf, out, image, mode, events)
+    run_image(alloc, shelf, out, image, run)
 }

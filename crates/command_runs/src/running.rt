@@ -1,16 +1,17 @@
-//! An image that runs in a mode under an event text, and its trace that is printed.
+//! An image that runs in a mode under an event text, and its trace or its points that are printed.
 ghost use Rattle.std.specs.{Prelude.{◌≡◌, ◌≤◌, ◌<◌, [], length, take, false, IfOk, IfSome}, List.{position}, Str.{bytes_eq}};
 ghost use Rattle.osek_io.specs.{Reads.{OnlyReads}, Sunk.{sunk}};
 ghost use Rattle.trace_text.specs.{EventText.{numbered_lines}, Feeds.{no_bytes}, LineParts.{ArePartsOf}};
 ghost use Rattle.osek_standard.specs.{Dispatch.{stepped}, Kernel.{start as start_of}};
 ghost use Rattle.image_run.specs.Machines.{at_work};
-ghost use Rattle.image_model.specs.ImageTrace.{image_trace, has_trap};
+ghost use Rattle.image_model.specs.ImageTrace.{has_trap};
 ghost use Rattle.command_runs.specs.{Outside.{outside}, Inputs.{OfFile}, Playing.{ReadAnswers, PlaysWhole, plays, printing, line_of}};
-ghost use Rattle.command_runs.specs.Running.{mode_named as mode_of_name, RunAnswers};
+ghost use Rattle.command_runs.specs.{Running.{mode_named as mode_of_name, RunAnswers}, Shown.{shown_trace}};
 
 use crate::inputs::judge_length;
 use crate::playing::{Place, Play};
-use crate::stop::Stop;
+use crate::showing::Showing;
+use crate::stop::{Input, Stop};
 use image_model::Image;
 use image_run::Machine;
 use osek_io::{PutBuffer, Shelf, Sink};
@@ -40,13 +41,15 @@ fn mode_named(app: &App, name: &str) -> Option<ModeNo>
     }
 }
 
-/// The name of an event text.
+/// How an image runs: from its start in which mode, under which event text, and what is printed of it.
 #[derive(Clone, Copy)]
-struct EventFile<'a> {
-    name: &'a str,
+pub struct Run<'a> {
+    pub mode: &'a str,
+    pub events: &'a str,
+    pub showing: Showing,
 }
 
-/// A machine that has just started, what its start noted, and what its trace is printed by.
+/// A machine that has just started, what its start noted, and what its lines are printed by.
 #[derive(Drop)]
 struct Started {
     machine: Machine,
@@ -80,7 +83,7 @@ fn play_started<L: Ledger, F: Shelf, O: Sink>(
     started: Started,
     out: &mut O,
     shelf: &mut F,
-    events: EventFile<'_>,
+    run: &Run<'_>,
     feed: &mut Feed,
 ) -> Result<(), Stop>
     requires name { blank.name ≡ L.name }
@@ -90,8 +93,8 @@ fn play_started<L: Ledger, F: Shelf, O: Sink>(
     requires of_app { ArePartsOf started.machine.image.app started.parts }
     requires nothing_held { started.buffer ≡ [] }
     requires empty { feed.old ≡ no_bytes }
-    requires text { OfFile (F.contents shelf.old) events.name.now (λ t. length t ≤ MAX_EVENT_TEXT) }
-    ensures answer { ReadAnswers (F.contents shelf.old) events.entry.name.now (F.read_faults shelf.old events.entry.name.now) (F.read_faults shelf.new events.entry.name.now) (sunk O.Sink out.old) (sunk O.Sink out.new) (λ t. printing (line_of started.machine.image 0 (stepped started.machine.state started.notes)) (plays started.machine.image (numbered_lines t) 1 started.machine.state)) result }
+    requires text { OfFile (F.contents shelf.old) run.now.events.now (λ t. length t ≤ MAX_EVENT_TEXT) }
+    ensures answer { ReadAnswers (F.contents shelf.old) run.now.events.now (F.read_faults shelf.old run.now.events.now) (F.read_faults shelf.new run.now.events.now) (sunk O.Sink out.old) (sunk O.Sink out.new) (λ t. printing (line_of run.now.showing started.machine.image 0 (stepped started.machine.state started.notes)) (plays run.now.showing started.machine.image (numbered_lines t) 1 started.machine.state)) result }
     ensures same { OnlyReads F.Shelf shelf.old shelf.new }
 {
     let Started {
@@ -107,21 +110,21 @@ fn play_started<L: Ledger, F: Shelf, O: Sink>(
         place: Place { event: 0, line: 0 },
         scans: Steps::<L>::of(blank),
     };
-    play.print_trace(&notes, out, shelf, events.name, feed)
+    play.print_trace(&notes, out, shelf, run, feed)
 }
 
 /// Plays an image from its start in a mode. All memory is taken before the first line is printed.
 fn play_image<F: Shelf, O: Sink>(
     alloc: Global,
     shelf: &mut F,
-    events: &str,
     out: &mut O,
     image: Image,
     mode: ModeNo,
+    run: &Run<'_>,
 ) -> Result<(), Stop>
     requires known { mode.0 < length image.app.modes }
-    requires text { OfFile (F.contents shelf.old) events.now (λ t. length t ≤ MAX_EVENT_TEXT) }
-    ensures answer { PlaysWhole (F.contents shelf.old) events.now (F.read_faults shelf.old events.now) (F.read_faults shelf.new events.now) (sunk O.Sink out.old) (sunk O.Sink out.new) image mode result }
+    requires text { OfFile (F.contents shelf.old) run.now.events.now (λ t. length t ≤ MAX_EVENT_TEXT) }
+    ensures answer { PlaysWhole (F.contents shelf.old) run.now.events.now (F.read_faults shelf.old run.now.events.now) (F.read_faults shelf.new run.now.events.now) (sunk O.Sink out.old) (sunk O.Sink out.new) run.now.showing image mode result }
     ensures same { OnlyReads F.Shelf shelf.old shelf.new }
 {
     let Ok(started) = start(alloc, image, mode) else {
@@ -130,8 +133,7 @@ fn play_image<F: Shelf, O: Sink>(
     let Ok(mut feed) = Feed::new(alloc) else {
         return Err(Stop::Memory);
     };
-    let events = EventFile { name: events };
-    play_started::<Brand, F, O>(Blank::new(1), started, out, shelf, events, &mut feed)
+    play_started::<Brand, F, O>(Blank::new(1), started, out, shelf, run, &mut feed)
 }
 
 /// Room for a line of the trace.
@@ -149,24 +151,23 @@ pub fn prefix(buffer: &[u8], size: usize) -> &[u8]
     &buffer[..size]
 }
 
-/// Prints the trace of an image in a mode under an event text.
-pub fn run<F: Shelf, O: Sink>(
+/// Prints what is shown of an image that runs.
+pub fn run_image<F: Shelf, O: Sink>(
     alloc: Global,
     shelf: &mut F,
     out: &mut O,
     image: Image,
-    mode: &str,
-    events: &str,
+    run: &Run<'_>,
 ) -> Result<(), Stop>
-    ensures answer { RunAnswers (outside F.Shelf O.Sink shelf.old out.old) (outside F.Shelf O.Sink shelf.new out.new) image.app (image_trace image) (has_trap image) mode.now events.now result }
+    ensures answer { RunAnswers (outside F.Shelf O.Sink shelf.old out.old) (outside F.Shelf O.Sink shelf.new out.new) image.app (shown_trace run.now.showing image) (has_trap image) run.now.mode.now run.now.events.now result }
     ensures same { OnlyReads F.Shelf shelf.old shelf.new }
 {
-    let Some(mode) = mode_named(&image.app, mode) else {
+    let Some(mode) = mode_named(&image.app, run.mode) else {
         drop(image);
         return Err(Stop::NoMode);
     };
-    match judge_length(shelf, events) {
-        Ok(()) => play_image(alloc, shelf, events, out, image, mode),
+    match judge_length(shelf, Input::Events, run.events) {
+        Ok(()) => play_image(alloc, shelf, out, image, mode, run),
         Err(stop) => {
             drop(image);
             Err(stop)

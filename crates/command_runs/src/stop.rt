@@ -5,7 +5,7 @@ ghost use Rattle.command_runs.specs.CheckRules.{check_rule_name};
 use image_codec::ImageFault;
 use osek_values::{Refusal, Seq};
 use table_codec::TableFault;
-use trace_text::FaultyLine;
+use trace_text::{FaultyLine, FaultyPoint};
 
 /// A file that a command reads.
 #[derive(Clone, Copy)]
@@ -15,6 +15,7 @@ pub enum Input {
     Image,
     Table,
     Events,
+    Record,
 }
 
 /// A file that a command writes.
@@ -92,4 +93,8 @@ pub enum Stop {
     Denied(Denial),
     /// The table that is made is over its limit.
     TooLong,
+    /// The record has this fault, and no alarm before it.
+    Record(FaultyPoint),
+    /// The record has the alarm that is printed.
+    Alarmed,
 }

@@ -9,8 +9,8 @@ Verb = List ℕ × ℕ
 -- the stated forms
 abbrev pub verbs : List Verb
 verbs =
-    (codes "build", 3) ∷ (codes "replay", 3) ∷ (codes "trace", 4) ∷ (codes "show", 2) ∷ (codes "gen", 2) ∷ (codes "info", 1)
-    ∷ (codes "upgrade", 2) ∷ (codes "certify", 4) ∷ (codes "check", 2) ∷ []
+    (codes "build", 3) ∷ (codes "replay", 3) ∷ (codes "trace", 4) ∷ (codes "show", 2) ∷ (codes "report", 2) ∷ (codes "gen", 2) ∷ (codes "info", 1)
+    ∷ (codes "upgrade", 2) ∷ (codes "certify", 4) ∷ (codes "check", 2) ∷ (codes "record", 3) ∷ (codes "watch", 3) ∷ []
 
 -- a row of the table of forms: its verb, and how many words it names
 abbrev pub verb_of : Form → Verb

@@ -10,7 +10,7 @@ pub struct Form {
 }
 
 /// The table of forms: a row for each verb.
-static FORMS: [Form; 9] = [
+static FORMS: [Form; 12] = [
     Form {
         verb: "build",
         words: &["OIL", "CODE", "IMAGE"],
@@ -25,6 +25,10 @@ static FORMS: [Form; 9] = [
     },
     Form {
         verb: "show",
+        words: &["OIL", "CODE"],
+    },
+    Form {
+        verb: "report",
         words: &["OIL", "CODE"],
     },
     Form {
@@ -46,6 +50,14 @@ static FORMS: [Form; 9] = [
     Form {
         verb: "check",
         words: &["IMAGE", "TABLE"],
+    },
+    Form {
+        verb: "record",
+        words: &["IMAGE", "MODE", "EVENTS"],
+    },
+    Form {
+        verb: "watch",
+        words: &["OIL", "CODE", "RECORD"],
     },
 ];
 

@@ -6,14 +6,14 @@ use Rattle.osek_values.specs.declared.{event.Event.{Event}, limits.TheConstants.
 use Rattle.osek_standard.specs.{declared.app.App.{App}, TraceText.{kernel_trace}}
 use Rattle.oil_system.specs.declared.system.System.{System}
 use Rattle.front_end.specs.Texts.{DeclaresSystem}
-use Rattle.image_model.specs.{declared.image.Image.{Image}, ImageTrace.{image_trace, has_trap, image_run}}
+use Rattle.image_model.specs.{declared.image.Image.{Image}, ImageTrace.{has_trap, image_run}}
 use Rattle.trace_text.specs.{EventText.{Reading, fault_at, read_text}, declared.fault.EventFault.TheVariants.{E4}}
 use Rattle.osek_io.specs.{Counts.{ReadFaults}, Files.{Files}, Sunk.{Sunk}}
 use Rattle.commands.specs.Answering.{CommandAnswers}
 use Rattle.commands.specs.Building as building
 use Rattle.commands.specs.Compiling.{SystemStops, CodeStops, CompileStops, OfApp}
 use Rattle.commands.specs.Due.{IsCalm, RunDue, no_mode, no_events, ends, ImageDue, no_image, bad_image, is_read, ImageRuns, IsTold, Upgrades, upgrade_end, TextsDue, no_oil, bad_oil, no_code, bad_code, goes_on, IsBuilt, IsDue}
-use Rattle.commands.specs.Due.{TableDue, no_table, bad_table, is_table, IsJudged, agreed, denied, ImageIsJudged, certify_end, IsCertifiedBy}
+use Rattle.commands.specs.Due.{no_table, bad_table, is_table, IsJudged, agreed, denied, ImageIsJudged, certify_end, IsCertifiedBy, WatchDue, no_record, too_long, is_watched}
 use Rattle.abstract_state.specs.declared.table.PlainTable.{PlainTable}
 use Rattle.commands.specs.Generating as generating
 use Rattle.command_runs.specs.Inputs.{over_limit, unread, faulty, no_memory}
@@ -23,12 +23,15 @@ use Rattle.commands.specs.Informing as informing
 use Rattle.command_runs.specs.Outside.{Outside, beside}
 use Rattle.command_runs.specs.Replaying as replaying
 use Rattle.command_runs.specs.Running as running
-use Rattle.command_runs.specs.Running.{end_of, RunAnswers}
+use Rattle.command_runs.specs.{Inputs.{OfFile}, Running.{end_of, RunAnswers}, Shown.{shown_trace}, declared.showing.Showing.{Showing}}
+use Rattle.command_runs.specs.declared.showing.Showing.TheVariants as showing_of
+use Rattle.commands.specs.Reporting as reporting
 use Rattle.commands.specs.Showing as showing
 use Rattle.commands.specs.Printing.{PrintAnswers}
 use Rattle.commands.specs.Tracing as tracing
 use Rattle.command_runs.specs.Upgrading as upgrading
-use Rattle.commands.specs.Words.{Command, Build, Replay, Trace, Show, Info, Gen, Upgrade, Certify, Check}
+use Rattle.commands.specs.Watching as watching
+use Rattle.commands.specs.Words.{Command, Build, Replay, Trace, Show, Report, Info, Gen, Upgrade, Certify, Check, Record, Watch}
 use Rattle.command_runs.specs.declared.stop.{Input.TheVariants.{Events}, Stop.{Stop}}
 use Rattle.command_runs.specs.declared.stop.Stop.TheVariants as stop
 
@@ -75,9 +78,9 @@ module _ (files : Files) (after : Outside) (reads : ReadFaults) (writes : ℕ) (
       of_image : (P : Image → Type 0) (r : Result (Unit {0}) Stop) → ((i : Image) → P i → OrMemory (Next i) r) → replaying.OfImage (Some files) image P → OrMemory (ImageDue files image Next) r
       of_image P r next (bytes, holds, (i, spells, p)) = ⊎_elim inl (λ due. inr (is_read bytes i r holds spells due)) (next i p)
 
-    replay_due : (image mode events : List ℕ) (r : Result (Unit {0}) Stop) → replaying.ReplayAnswers before after image mode events r → OrMemory (ImageDue files image (ImageRuns files mode events)) r
-    replay_due image mode events _ (replaying.stops s h same) = image_stops image _ s h
-    replay_due image mode events _ (replaying.runs r h) = of_image image _ _ r (λ i answers. run_due i.app (image_trace i) (has_trap i) mode events (image_starts i) r answers) h
+    replay_due : (w : Showing) (image mode events : List ℕ) (r : Result (Unit {0}) Stop) → replaying.ReplayAnswers w before after image mode events r → OrMemory (ImageDue files image (ImageRuns files mode events)) r
+    replay_due w image mode events _ (replaying.stops s h same) = image_stops image _ s h
+    replay_due w image mode events _ (replaying.runs r h) = of_image image _ _ r (λ i answers. run_due i.app (shown_trace w i) (has_trap i) mode events (image_starts i) r answers) h
 
     -- what is printed without a fault is printed to its end
     printed_due : (text : List ℕ) (r : Result (Unit {0}) Stop) → PrintAnswers before after text r → r ≡ Ok tt
@@ -132,6 +135,10 @@ module _ (files : Files) (after : Outside) (reads : ReadFaults) (writes : ℕ) (
     show_due oil code _ (showing.stops s h same) = texts_stop oil code IsBuilt s h
     show_due oil code _ (showing.tells r h) = of_app oil code IsBuilt _ r (λ app told. inr (printed_due _ r told.2)) h
 
+    report_due : (oil code : List ℕ) (r : Result (Unit {0}) Stop) → reporting.ReportAnswers before after oil code r → OrMemory (TextsDue files oil code IsBuilt) r
+    report_due oil code _ (reporting.stops s h same) = texts_stop oil code IsBuilt s h
+    report_due oil code _ (reporting.tells r h) = of_app oil code IsBuilt _ r (λ app told. inr (printed_due _ r told.2)) h
+
     gen_due : (seed tasks : ℕ) (r : Result (Unit {0}) Stop) → generating.GenAnswers before after seed tasks r → OrMemory (λ (x : Result (Unit {0}) Stop). x ≡ Ok tt) r
     gen_due seed tasks _ (generating.no_memory same) = inl refl
     gen_due seed tasks _ (generating.tells r (text, holds, (system, declares, (code_text, code_holds, (app, gives, (events, events_hold, (line, told, prints))))))) = inr (printed_due line r prints)
@@ -153,7 +160,7 @@ module _ (files : Files) (after : Outside) (reads : ReadFaults) (writes : ℕ) (
     stored_due image table a b _ (certifying.stored same h) = refl
 
     certified_due : (image table : List ℕ) (r : Result (Unit {0}) Stop) (app : App) → certifying.StoresCertified before.shelf after.shelf image table r app → IsCertifiedBy app r
-    certified_due image table r app (i, t, made, stored) = record { table = t; least = made.least; end = stored_due image table _ _ r stored ∙ within_end _ made.within }
+    certified_due image table r app (i, t, made, answers) = record { table = t; least = made.least; end = stored_due image table _ _ r answers ∙ within_end _ made.within }
 
     certify_due : (oil code image table : List ℕ) (r : Result (Unit {0}) Stop) → certifying.CertifyAnswers before after oil code image table r → OrMemory (TextsDue files oil code IsCertifiedBy) r
     certify_due oil code image table _ (certifying.stops s h same) = texts_stop oil code IsCertifiedBy s h
@@ -176,14 +183,32 @@ module _ (files : Files) (after : Outside) (reads : ReadFaults) (writes : ℕ) (
     check_due image table _ (checking.agreed r h prints) =
         subst (OrMemory (ImageDue files image (ImageIsJudged files table))) (sym (printed_due _ r prints)) (of_image image _ _ (Ok tt) (λ i of. of_table table i _ (Ok tt) (λ t is. agreed is) of) h)
 
+    record_due : (points : List ℕ) (app : App) (s : Stop) → watching.RecordStops before.shelf after.shelf points s → OrMemory (WatchDue files points app) (Err s)
+    record_due points app _ (unread (inl (at, rose))) = absurd (calm.reads points at rose)
+    record_due points app _ (unread (inr missing)) = inr (no_record missing)
+    record_due points app _ (faulty u (text, holds, over)) = inr (too_long text holds over)
+    record_due points app _ no_memory = inl refl
+
+    watched_due : (points : List ℕ) (app : App) (r : Result (Unit {0}) Stop) → OfFile (Some files) points (λ text. watching.Watches before.out after.out app text r) → WatchDue files points app r
+    watched_due points app r (text, holds, h) =
+        ⊎_elim (λ printed. subst (WatchDue files points app) (sym printed.0) (is_watched text h.table h.play holds h.within h.least h.watched)) (λ broken. absurd (calm.out broken.1.0)) h.prints
+
+    watch_due : (oil code points : List ℕ) (r : Result (Unit {0}) Stop) → watching.WatchAnswers before after oil code points r → OrMemory (TextsDue files oil code (WatchDue files points)) r
+    watch_due oil code points _ (watching.stops s h same) = texts_stop oil code _ s h
+    watch_due oil code points _ (watching.no_record s h same) = of_app oil code _ _ (Err s) (λ app stops. record_due points app s stops) h
+    watch_due oil code points _ (watching.watches r h) = of_app oil code _ _ r (λ app of. inr (watched_due points app r of)) h
+
     pub command_due : (command : Option Command) (r : Result (Unit {0}) Stop) → CommandAnswers before after command r → OrMemory (IsDue files command) r
     command_due None r h = ⊎_elim inr inl h.0
     command_due (Some (Build oil code image)) r h = build_due oil code image r h.0
-    command_due (Some (Replay image mode events)) r h = replay_due image mode events r h.0
+    command_due (Some (Replay image mode events)) r h = replay_due showing_of.Trace image mode events r h.0
     command_due (Some (Trace oil code mode events)) r h = trace_due oil code mode events r h.0
     command_due (Some (Show oil code)) r h = show_due oil code r h.0
+    command_due (Some (Report oil code)) r h = report_due oil code r h.0
     command_due (Some (Info image)) r h = info_due image r h.0
     command_due (Some (Gen seed tasks)) r h = gen_due seed tasks r h.0
     command_due (Some (Upgrade image upgraded)) r h = upgrade_due image upgraded r h.0
     command_due (Some (Certify oil code image table)) r h = certify_due oil code image table r h.0
     command_due (Some (Check image table)) r h = check_due image table r h.0
+    command_due (Some (Record image mode events)) r h = replay_due showing_of.Points image mode events r h.0
+    command_due (Some (Watch oil code points)) r h = watch_due oil code points r h.0

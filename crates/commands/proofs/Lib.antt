@@ -16,6 +16,7 @@ pub mod OneText
 pub mod OwnRuns
 pub mod OwnTexts
 pub mod Printed
+pub mod ReportedRuns
 pub mod ShownEdges
 pub mod SameForms
 pub mod SmallImages
@@ -23,3 +24,8 @@ pub mod SomeDue
 pub mod WantOfMemory
 pub mod UpgradedReplays
 pub mod VerdictPlaces
+pub mod FedWatches
+pub mod RecordedRuns
+pub mod WatchedRecords
+pub mod SeenPoints
+pub mod WatchEnds

@@ -5,13 +5,15 @@ use Rattle.table_codec.proofs.TableFaults.{spelled_once, no_first_fault, one_fir
 use Rattle.flow_check.specs.declared.verdict.Verdict.{Verdict}
 use Rattle.flow_check.specs.declared.verdict.Verdict.TheVariants as verdict
 use Rattle.flow_check.proofs.VerdictLaws.{one_verdict}
-use Rattle.commands.specs.Checking.{SpellTable, IsTableFault, IsDenial, IsDenied, IsAgreed}
-use Rattle.commands.specs.Due.{TableDue, no_table, bad_table, is_table, IsJudged, agreed, denied, ImageIsJudged, certify_end, IsCertifiedBy}
+use Rattle.commands.specs.Checking.{SpellTable, IsTableFault, IsDenial}
+use Rattle.commands.specs.Due.{TableDue, no_table, bad_table, is_table, IsJudged, agreed, denied, ImageIsJudged, certify_end, IsCertifiedBy, WatchDue, no_record, too_long, is_watched}
 use Rattle.commands.proofs.OneTable.{one_table}
+use Rattle.commands.specs.Watching.{IsWatched, watched_by}
+use Rattle.flow_watch.proofs.FirstAlarms.{one_alarm}
 use Rattle.command_runs.specs.declared.stop.Denial.{Denial}
-use Rattle.std.proofs.Common.{◌≡◌, ℕ, ◌≤◌, List, [], ◌++◌, Bool, length, refl, sym, ◌∙◌, ap, subst, inl, inr, Some, None, Ok, Err, arith}
+use Rattle.std.proofs.Common.{◌≡◌, ℕ, ◌<◌, ◌≤◌, List, [], ◌++◌, Bool, length, refl, sym, ◌∙◌, ap, subst, inl, inr, Some, None, Ok, Err, arith}
 use Rattle.std.specs.declared.{option.Option.{Option}, result.Result.{Result}}
-use Rattle.osek_values.specs.declared.{event.Event.{Event}, limits.TheConstants.{MAX_FILE, MAX_TABLE}, numbers.ModeNo.{ModeNo}, refusal.Refusal.{Refusal}}
+use Rattle.osek_values.specs.declared.{event.Event.{Event}, limits.TheConstants.{MAX_FILE, MAX_RECORD, MAX_TABLE}, numbers.ModeNo.{ModeNo}, refusal.Refusal.{Refusal}}
 use Rattle.osek_standard.specs.declared.app.App.{App}
 use Rattle.oil_system.specs.declared.system.System.{System}
 use Rattle.front_end.specs.{Texts.{DeclaresSystem, GivesApp}, Answers.{IsOilRefusal, IsCodeRefusal}}
@@ -20,12 +22,12 @@ use Rattle.image_model.specs.declared.image.Image.{Image}
 use Rattle.image_codec.specs.{declared.fault.ImageFault.{ImageFault}, Spelling.{spelling}, ImageReading.{read_image, parts_of}}
 use Rattle.image_model.specs.ImageTrace.{has_trap}
 use Rattle.image_codec.proofs.{DecodeLaws.{its_reading}, GoodOfValid.{one_spelling_holds, read_again}}
-use Rattle.trace_text.specs.EventText.{read_text}
+use Rattle.trace_text.specs.{EventText.{read_text}, RecordText.{read_record}}
 use Rattle.osek_io.specs.Files.{Files}
-use Rattle.command_runs.specs.Running.{end_of}
+use Rattle.command_runs.specs.{Playing.{Played}, Running.{end_of}}
 use Rattle.commands.specs.Due.{RunDue, no_mode, no_events, ends, ImageDue, no_image, bad_image, is_read, ImageRuns, IsTold, Upgrades, TextsDue, no_oil, bad_oil, no_code, bad_code, goes_on, IsBuilt, OwnDue, IsDue}
 use Rattle.command_runs.specs.Replaying.{SpellImage, IsImageFault}
-use Rattle.commands.specs.{Tracing.{never}, GeneratedFiles.{oil_name, code_name, events_name, default_mode}, Words.{Command, Build, Replay, Trace, Show, Info, Gen, Upgrade, Certify, Check}}
+use Rattle.commands.specs.{Tracing.{never}, GeneratedFiles.{oil_name, code_name, events_name, default_mode}, Words.{Command, Build, Replay, Trace, Show, Report, Info, Gen, Upgrade, Certify, Check, Record, Watch}}
 use Rattle.command_runs.specs.declared.stop.Stop.{Stop}
 use Rattle.command_runs.specs.declared.stop.Stop.TheVariants as stop
 
@@ -130,6 +132,28 @@ module _ (files : Files) where
   one_certified : (app : App) (a b : Result (Unit {0}) Stop) → IsCertifiedBy app a → IsCertifiedBy app b → a ≡ b
   one_certified app a b x y = x.end ∙ ap (λ (t : PlainTable). certify_end (length (table_spelling app t))) (one_table app x.table y.table x.least y.least) ∙ sym y.end
 
+  -- a record over a table has one first alarm, so what is printed of it is one text
+  one_play : (app : App) (t u : PlainTable) (x y : List ℕ) (p q : Played) → t ≡ u → x ≡ y → IsWatched app (sets_of t) x p → IsWatched app (sets_of u) y q → p ≡ q
+  one_play app t u x y p q same texts h k =
+      let w : IsWatched app (sets_of u) y p = subst (λ (l : List ℕ). IsWatched app (sets_of u) l p) texts (subst (λ (s : PlainTable). IsWatched app (sets_of s) x p) same h) in
+      let read = read_record app y in
+      w.is ∙ ap (watched_by app read) (one_alarm app (sets_of u) read.points w.alarm k.alarm w.first k.first) ∙ sym k.is
+
+  too_many : (x y : List ℕ) → x ≡ y → MAX_RECORD < length x → length y ≤ MAX_RECORD → ⊥
+  too_many x y e over within = omega (arith, over, within, ap (λ (l : List ℕ). length l) e)
+
+  one_watched : (points : List ℕ) (app : App) (a b : Result (Unit {0}) Stop) → WatchDue files points app a → WatchDue files points app b → a ≡ b
+  one_watched points app _ _ (no_record x) (no_record y) = refl
+  one_watched points app _ _ (no_record x) (too_long t y over) = absurd (not_found _ t x y)
+  one_watched points app _ _ (no_record x) (is_watched t u p y within l h) = absurd (not_found _ t x y)
+  one_watched points app _ _ (too_long t x over) (no_record y) = absurd (not_found _ t y x)
+  one_watched points app _ _ (too_long t x over) (too_long u y more) = refl
+  one_watched points app _ _ (too_long t x over) (is_watched v u p y within l h) = absurd (too_many t v (same_found _ t v x y) over within)
+  one_watched points app _ _ (is_watched t u p x within l h) (no_record y) = absurd (not_found _ t y x)
+  one_watched points app _ _ (is_watched t u p x within l h) (too_long v y over) = absurd (too_many v t (same_found _ v t y x) over within)
+  one_watched points app _ _ (is_watched t u p x within l h) (is_watched v z q y inside m k) =
+      ap (λ (r : Played). r.end) (one_play app u z t v p q (one_table app u z l m) (same_found _ t v x y) h k)
+
   -- the two texts: an answer of the OIL text, and of the code beside its system
   same_system : (t u : List ℕ) (s r : System) → t ≡ u → DeclaresSystem t s → DeclaresSystem u r → s ≡ r
   same_system t u s r e x y = let both = one_oil u (Ok s) (Ok r) (subst (λ (l : List ℕ). DeclaresSystem l s) e x) y in cc both
@@ -188,11 +212,14 @@ one_due files (Some (Build oil code image)) a b x y = one_texts files oil code I
 one_due files (Some (Replay image mode events)) a b x y = one_image files image (ImageRuns files mode events) (λ i. one_run files i.app (has_trap i) mode events) a b x y
 one_due files (Some (Trace oil code mode events)) a b x y = one_texts files oil code (λ app. RunDue files app never mode events) (λ app. one_run files app never mode events) a b x y
 one_due files (Some (Show oil code)) a b x y = one_texts files oil code IsBuilt (λ app a b x y. x ∙ sym y) a b x y
+one_due files (Some (Report oil code)) a b x y = one_texts files oil code IsBuilt (λ app a b x y. x ∙ sym y) a b x y
 one_due files (Some (Info image)) a b x y = one_image files image IsTold (λ i a b x y. x ∙ sym y) a b x y
 one_due files (Some (Upgrade image upgraded)) a b x y = one_image files image Upgrades (λ i a b x y. x ∙ sym y) a b x y
 one_due files (Some (Gen seed tasks)) a b x y = x ∙ sym y
 one_due files (Some (Certify oil code image table)) a b x y = one_texts files oil code IsCertifiedBy (one_certified files) a b x y
 one_due files (Some (Check image table)) a b x y = one_image files image (ImageIsJudged files table) (λ i. one_table_due files i.app table (IsJudged i) (one_judged files i)) a b x y
+one_due files (Some (Record image mode events)) a b x y = one_image files image (ImageRuns files mode events) (λ i. one_run files i.app (has_trap i) mode events) a b x y
+one_due files (Some (Watch oil code points)) a b x y = one_texts files oil code (WatchDue files points) (one_watched files points) a b x y
 
 -- a run in memory is due one answer
 pub one_own : (files : Files) (a b : Result (Unit {0}) Stop) → OwnDue files a → OwnDue files b → a ≡ b

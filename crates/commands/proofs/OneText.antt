@@ -1,4 +1,4 @@
--- One text tells what the least table of an application dictates, and one line tells of a generated run.
+-- One text tells what the least table of an application dictates, one tells its findings, and one line tells of a generated run.
 use Rattle.std.proofs.Common.{◌≡◌, ℕ, List, ◌++◌, length, sym, ap, subst, ◌∙◌, Some, inl, inr, arith}
 use Rattle.std.specs.Prelude.{Ok}
 use Rattle.osek_standard.specs.{declared.app.App.{App}, Counts.{points, height}, TraceText.{kernel_trace}}
@@ -7,9 +7,11 @@ use Rattle.front_end.specs.Texts.{DeclaresSystem, GivesApp}
 use Rattle.front_end.proofs.OneAnswer.{one_oil, one_code}
 use Rattle.abstract_state.specs.{declared.{table.PlainTable.{PlainTable}, edge.FlowEdge.{FlowEdge}}, Forms.{HasDictatedForms}, Tables.{sets_of, value_count}}
 use Rattle.global_cfg.specs.Edges.{IsBefore}
+use Rattle.flow_report.specs.{declared.finding.Finding.{Finding}, Findings.{Holds}, FindingOrder.{Rank, rank}}
+use Rattle.flow_report.specs.FindingOrder.{IsBefore as IsBeforeRank}
 use Rattle.trace_text.specs.EventText.{read_text}
-use Rattle.flow_text.specs.{declared.gen_line.AnalysisCounts.{AnalysisCounts}, FlowLines.{counts_line}, GeneratedLine.{gen_line, text_size}, Texts.{edges_text}}
-use Rattle.commands.specs.{Generating.{AreLeastCounts, TellsRun}, OneText.{OneTextIsShown, OneLineIsGenerated}, Showing.{AreEdges, TellsLeast}}
+use Rattle.flow_text.specs.{declared.gen_line.AnalysisCounts.{AnalysisCounts}, FlowLines.{counts_line}, GeneratedLine.{gen_line, text_size}, Texts.{edges_text, report_text}}
+use Rattle.commands.specs.{Generating.{AreLeastCounts, TellsRun}, OneText.{OneTextIsOf, OneTextIsShown, OneReportIsPrinted, OneLineIsGenerated}, Reporting.{AreLeastFindings, TellsFindings}, Showing.{AreEdges, TellsLeast}}
 use Rattle.commands.proofs.{InOrder.{one_in_order}, OneTable.{one_table}, SameForms.{same_texts, same_counts, same_forms}}
 
 never_both : (x y : FlowEdge) → IsBefore x y → IsBefore y x → ⊥
@@ -55,10 +57,38 @@ one_app oil code s t a b one other x y =
     let both = one_code t code (Ok a) (Ok b) (subst (λ (s : System). GivesApp s code a) systems x) y in
     cc
 
-pub one_shown : OneTextIsShown
-one_shown oil code text other x y =
+-- where one text tells of an application, one tells of two texts
+one_text : (Tells : App → List ℕ → Type 0) → ((app : App) (text other : List ℕ) → Tells app text → Tells app other → text ≡ other) → OneTextIsOf Tells
+one_text Tells one oil code text other x y =
     let apps = one_app oil code x.system y.system x.app y.app x.declares y.declares x.gives y.gives in
-    one_told y.app text other (subst (λ (a : App). TellsLeast a text) apps x.tells) y.tells
+    one y.app text other (subst (λ (a : App). Tells a text) apps x.tells) y.tells
+
+pub one_shown : OneTextIsShown
+one_shown = one_text TellsLeast one_told
+
+-- ---- findings
+
+never_each : (r s : Rank) → IsBeforeRank r s → IsBeforeRank s r → ⊥
+never_each r s (inl h) (inl k) = omega (arith, h, k)
+never_each r s (inl h) (inr k) = omega (arith, h, k.0)
+never_each r s (inr h) (inl k) = omega (arith, h.0, k)
+never_each r s (inr (e, inl h)) (inr (o, inl k)) = omega (arith, h, k)
+never_each r s (inr (e, inl h)) (inr (o, inr k)) = omega (arith, h, k.0)
+never_each r s (inr (e, inr h)) (inr (o, inl k)) = omega (arith, h.0, k)
+never_each r s (inr (e, inr h)) (inr (o, inr k)) = omega (arith, h.1, k.1)
+
+one_list_of_findings : (app : App) (xs ys : List Finding) → AreLeastFindings app xs → AreLeastFindings app ys → xs ≡ ys
+one_list_of_findings app xs ys a b =
+    let tables : a.table ≡ b.table = one_table app a.table b.table a.least b.least in
+    one_in_order (λ (f g : Finding). IsBeforeRank (rank f) (rank g)) (λ f g h k. never_each (rank f) (rank g) h k) xs ys a.ascending b.ascending
+    (λ f h. (b.exact f).1 (subst (λ (t : PlainTable). Holds app (sets_of t) f) tables ((a.exact f).0 h)))
+    (λ f h. (a.exact f).1 (subst (λ (t : PlainTable). Holds app (sets_of t) f) (sym tables) ((b.exact f).0 h)))
+
+one_reported : (app : App) (text other : List ℕ) → TellsFindings app text → TellsFindings app other → text ≡ other
+one_reported app text other x y = x.told ∙ ap (report_text app) (one_list_of_findings app x.findings y.findings x.are y.are) ∙ sym y.told
+
+pub one_report : OneReportIsPrinted
+one_report = one_text TellsFindings one_reported
 
 pub one_generated : OneLineIsGenerated
 one_generated seed tasks line other (oil, oil_holds, (s, declares, (code, code_holds, (a, gives, (text, text_holds, x))))) (oil_too, oil_holds_too, (t, declares_too, (code_too, code_holds_too, (b, gives_too, (text_too, text_holds_too, y))))) =

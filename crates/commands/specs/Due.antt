@@ -1,7 +1,7 @@
 -- Which answer is due over files that the shelf tells, where no read or write fails and memory suffices: the first cause
 -- in the order in which a command reads and judges its inputs.
-use Rattle.std.specs.{Prelude.{◌≡◌, ℕ, nat_le, Bool, List, length, Option, Some, None, Result, Ok, Err, if◌then◌else◌}, FinMap.{get}}
-use Rattle.osek_values.specs.declared.{event.Event.{Event}, limits.TheConstants.{MAX_TABLE}, numbers.ModeNo.{ModeNo}, refusal.Refusal.{Refusal}}
+use Rattle.std.specs.{Prelude.{◌≡◌, ℕ, ◌<◌, ◌≤◌, nat_le, Bool, List, length, Option, Some, None, Result, Ok, Err, if◌then◌else◌}, FinMap.{get}}
+use Rattle.osek_values.specs.declared.{event.Event.{Event}, limits.TheConstants.{MAX_RECORD, MAX_TABLE}, numbers.ModeNo.{ModeNo}, refusal.Refusal.{Refusal}}
 use Rattle.osek_standard.specs.declared.app.App.{App}
 use Rattle.oil_system.specs.declared.system.System.{System}
 use Rattle.front_end.specs.{Texts.{DeclaresSystem, GivesApp}, Answers.{IsOilRefusal, IsCodeRefusal}}
@@ -11,13 +11,13 @@ use Rattle.image_codec.specs.declared.fault.ImageFault.{ImageFault}
 use Rattle.image_model.specs.ImageTrace.{has_trap}
 use Rattle.trace_text.specs.EventText.{read_text}
 use Rattle.osek_io.specs.{Counts.{Rose}, Files.{Files}}
-use Rattle.abstract_state.specs.declared.table.PlainTable.{PlainTable}
+use Rattle.abstract_state.specs.{declared.table.PlainTable.{PlainTable}, Tables.{sets_of}}
 use Rattle.table_codec.specs.{declared.fault.TableFault.{TableFault}, Spelling.{spelling as table_spelling}}
 use Rattle.commands.specs.{Checking.{SpellTable, IsTableFault, IsDenied, IsAgreed}, Fitting.{IsLeastTable}}
 use Rattle.commands.specs.GeneratedFiles.{oil_name, code_name, events_name, default_mode}
-use Rattle.command_runs.specs.{Outside.{Outside}, Replaying.{SpellImage, IsImageFault}, Running.{mode_named, end_of}}
-use Rattle.commands.specs.{Tracing.{never}, Words.{Command, Build, Replay, Trace, Show, Info, Gen, Upgrade, Certify, Check}}
-use Rattle.command_runs.specs.declared.stop.{Denial.{Denial}, Input.TheVariants.{Oil, Code, Image as image_file, Table as table_file, Events}, Stop.{Stop}}
+use Rattle.command_runs.specs.{Inputs.{over_limit}, Outside.{Outside}, Playing.{Played}, Replaying.{SpellImage, IsImageFault}, Running.{mode_named, end_of}}
+use Rattle.commands.specs.{Tracing.{never}, Watching.{IsWatched}, Words.{Command, Build, Replay, Trace, Show, Report, Info, Gen, Upgrade, Certify, Check, Record, Watch}}
+use Rattle.command_runs.specs.declared.stop.{Denial.{Denial}, Input.TheVariants.{Oil, Code, Image as image_file, Table as table_file, Events, Record as record_file}, Stop.{Stop}}
 use Rattle.command_runs.specs.declared.stop.Stop.TheVariants as stop
 
 -- no count of faults rose
@@ -38,7 +38,7 @@ pub data ImageDue (files : Files) (image : List ℕ) (Next : Image → Result (U
   bad_image : (bytes : List ℕ) (fault : ImageFault) → get files image ≡ Some bytes → IsImageFault bytes fault → ImageDue files image Next (Err (stop.Image fault))
   is_read : (bytes : List ℕ) (i : Image) (r : Result (Unit {0}) Stop) → get files image ≡ Some bytes → SpellImage bytes i → Next i r → ImageDue files image Next r
 
--- `replay` runs the image, `info` is done, `upgrade` is done where it is of version 1
+-- `replay` and `record` run the image, `info` is done, `upgrade` is done where it is of version 1
 abbrev pub ImageRuns : Files → (mode events : List ℕ) → Image → Result (Unit {0}) Stop → Type 0
 ImageRuns files mode events i r = RunDue files i.app (has_trap i) mode events r
 
@@ -86,7 +86,14 @@ pub data TextsDue (files : Files) (oil code : List ℕ) (Next : App → Result (
   goes_on : (text : List ℕ) (s : System) (code_text : List ℕ) (app : App) (r : Result (Unit {0}) Stop) → get files oil ≡ Some text → DeclaresSystem text s → get files code ≡ Some code_text →
       GivesApp s code_text app → Next app r → TextsDue files oil code Next r
 
--- `build` and `show` are done where both texts give an application; `trace` runs it, and never traps
+-- the record, its length, and then its points by the least table
+pub data WatchDue (files : Files) (points : List ℕ) (app : App) : Result (Unit {0}) Stop → Type 0 where
+  no_record : get files points ≡ None → WatchDue files points app (Err (stop.Unread record_file))
+  too_long : (text : List ℕ) → get files points ≡ Some text → MAX_RECORD < length text → WatchDue files points app (Err (over_limit record_file))
+  is_watched : (text : List ℕ) (table : PlainTable) (p : Played) → get files points ≡ Some text → length text ≤ MAX_RECORD → IsLeastTable app table → IsWatched app (sets_of table) text p →
+      WatchDue files points app p.end
+
+-- `build`, `show` and `report` are done where both texts give an application; `trace` runs it, and never traps
 abbrev pub IsBuilt : App → Result (Unit {0}) Stop → Type 0
 IsBuilt app r = r ≡ Ok tt
 
@@ -100,9 +107,12 @@ IsDue files (Some (Build oil code image)) r = TextsDue files oil code IsBuilt r
 IsDue files (Some (Replay image mode events)) r = ImageDue files image (ImageRuns files mode events) r
 IsDue files (Some (Trace oil code mode events)) r = TextsDue files oil code (λ app. RunDue files app never mode events) r
 IsDue files (Some (Show oil code)) r = TextsDue files oil code IsBuilt r
+IsDue files (Some (Report oil code)) r = TextsDue files oil code IsBuilt r
 IsDue files (Some (Info image)) r = ImageDue files image IsTold r
 IsDue files (Some (Upgrade image upgraded)) r = ImageDue files image Upgrades r
 IsDue files (Some (Certify oil code image table)) r = TextsDue files oil code IsCertifiedBy r
 IsDue files (Some (Check image table)) r = ImageDue files image (ImageIsJudged files table) r
+IsDue files (Some (Record image mode events)) r = ImageDue files image (ImageRuns files mode events) r
+IsDue files (Some (Watch oil code points)) r = TextsDue files oil code (WatchDue files points) r
 -- the own texts of `gen` have no fault
 IsDue files (Some (Gen seed tasks)) r = r ≡ Ok tt

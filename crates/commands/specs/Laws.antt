@@ -1,18 +1,20 @@
--- What holds of the answers that are due, of what is built and then replayed, and of what is upgraded.
-use Rattle.std.specs.{Prelude.{◌≡◌, ◌<◌, ⊤, ℕ, List, length, Option, Some, None, Result, Ok}, FinMap.{get}}
-use Rattle.osek_values.specs.declared.numbers.ModeNo.{ModeNo}
+-- What holds of the answers that are due, of what is built and then replayed, of what is upgraded, certified, recorded and reported.
+use Rattle.std.specs.{Prelude.{◌≡◌, ◌<◌, ◌≤◌, ⊤, ℕ, List, length, All, Contains, Option, Some, None, Result, Ok}, FinMap.{get}}
+use Rattle.osek_values.specs.declared.{event.Event.{Event}, limits.TheConstants.{MAX_RECORD}, numbers.ModeNo.{ModeNo}}
 use Rattle.osek_standard.specs.{declared.app.App.{App}, TraceText.{kernel_trace}}
 use Rattle.oil_system.specs.declared.system.System.{System}
 use Rattle.front_end.specs.Texts.{DeclaresSystem, GivesApp}
 use Rattle.image_model.specs.declared.image.Image.{Image}
 use Rattle.image_codec.specs.Spelling.{spelling}
-use Rattle.image_model.specs.{ImageTrace.{image_trace, has_trap}, Upgrades.{IsUpgraded}}
+use Rattle.image_model.specs.{ImageTrace.{image_run, image_trace, has_trap}, Upgrades.{IsUpgraded}}
 use Rattle.image_codec.specs.Reading.{AreBytes}
-use Rattle.trace_text.specs.EventText.{read_text}
+use Rattle.trace_text.specs.{EventText.{read_text}, RecordText.{record_text}}
 use Rattle.osek_io.specs.Files.{Files}
-use Rattle.commands.specs.{Fitting.{IsKernelImage, IsFitted}, Due.{ImageDue, ImageRuns, IsDue}}
-use Rattle.command_runs.specs.{Replaying.{SpellImage}, Running.{mode_named, whole_run}}
-use Rattle.commands.specs.{Certifying.{IsCertified}, Words.{Command, Certify, Check}}
+use Rattle.commands.specs.{Fitting.{IsKernelImage, IsFitted, IsLeastTable}, Due.{ImageDue, ImageRuns, WatchDue, IsDue}}
+use Rattle.command_runs.specs.{Replaying.{SpellImage}, Running.{mode_named, whole_run}, Shown.{image_points}}
+use Rattle.commands.specs.{Certifying.{IsCertified}, Reporting.{AreLeastFindings}, Words.{Command, Certify, Check, Watch}}
+use Rattle.flow_report.specs.{declared.finding.Finding.{Finding}, Findings.{Denies}}
+use Rattle.flow_watch.specs.Records.{record_of}
 use Rattle.table_codec.specs.Spelling.{spelling as table_spelling}
 use Rattle.abstract_state.specs.declared.table.PlainTable.{PlainTable}
 use Rattle.command_runs.specs.declared.stop.Stop.{Stop}
@@ -63,6 +65,22 @@ abbrev pub WhatIsCheckedIsAKernelImage : Type 0
 WhatIsCheckedIsAKernelImage = (files : Files) (image table bytes : List ℕ) (i : Image)
     → IsDue files (Some (Check image table)) (Ok tt) → get files image ≡ Some bytes → SpellImage bytes i → IsKernelImage i.app i
 
+-- What `record` prints of an image that `build` stores is the record of the kernel's run.
+abbrev pub WhatIsRecordedIsTheKernels : Type 0
+WhatIsRecordedIsTheKernels = (app : App) (i : Image) (m : ModeNo) (events : List Event) → IsFitted app i → m.0 < length app.modes
+    → image_points i m events ≡ record_text app (record_of app m events)
+
+-- Where a file holds it, within the limit of a record, it is quiet.
+abbrev pub WhatIsRecordedIsQuiet : Type 0
+WhatIsRecordedIsQuiet = (files : Files) (points : List ℕ) (app : App) (i : Image) (m : ModeNo) (events : List Event)
+    → IsFitted app i → m.0 < length app.modes → get files points ≡ Some (image_points i m events) → length (image_points i m events) ≤ MAX_RECORD
+    → (table : PlainTable) → IsLeastTable app table → WatchDue files points app (Ok tt)
+
+-- What a finding of the least table of an application denies never comes in a run of the image that `build` stores of it.
+abbrev pub WhatIsReportedNeverComes : Type 0
+WhatIsReportedNeverComes = (app : App) (findings : List Finding) (f : Finding) (i : Image) (mode : ModeNo) (es : List Event)
+    → AreLeastFindings app findings → Contains findings f → IsFitted app i → mode.0 < length app.modes → All (λ x. Denies app f x → ⊥) (image_run i mode es).steps
+
 -- the files hold bytes
 abbrev pub HoldBytes : Files → Type 0
 HoldBytes files = (name bytes : List ℕ) → get files name ≡ Some bytes → AreBytes bytes
@@ -71,6 +89,7 @@ HoldBytes files = (name bytes : List ℕ) → get files name ≡ Some bytes → 
 abbrev pub IsAnalyzed : Option Command → Type 0
 IsAnalyzed (Some (Certify oil code image table)) = ⊤
 IsAnalyzed (Some (Check image table)) = ⊤
+IsAnalyzed (Some (Watch oil code points)) = ⊤
 IsAnalyzed other = ⊥
 
 -- Over files of bytes some answer is due to each other command,

@@ -13,8 +13,11 @@ pub mod Laws
 pub mod Names
 pub mod OneText
 pub mod Printing
+pub mod Reporting
 pub mod Seen
 pub mod Showing
 pub mod Statuses
 pub mod Tracing
+pub mod WatchedLines
+pub mod Watching
 pub mod Words

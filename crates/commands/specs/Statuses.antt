@@ -5,7 +5,7 @@ use Rattle.osek_values.specs.declared.refusal.TextFile.TheVariants as file
 use Rattle.osek_values.specs.Rules.{rule_name}
 use Rattle.image_codec.specs.Rules.{image_rule_name}
 use Rattle.table_codec.specs.Rules.{table_rule_name}
-use Rattle.trace_text.specs.EventFaults.{event_fault_name}
+use Rattle.trace_text.specs.{EventFaults.{event_fault_name}, PointFaults.{point_fault_name}}
 use Rattle.command_runs.specs.declared.stop.{Input.{Input}, Stop.{Stop}}
 use Rattle.command_runs.specs.declared.stop.Input.TheVariants as input
 use Rattle.command_runs.specs.declared.stop.Stop.TheVariants as stop
@@ -27,6 +27,8 @@ stop_status stop.AlreadyNew = 10
 stop_status (stop.Table f) = 11
 stop_status (stop.Denied d) = 12
 stop_status stop.TooLong = 13
+stop_status (stop.Record f) = 14
+stop_status stop.Alarmed = 15
 
 abbrev pub status_of : Result (Unit {0}) Stop → ℕ
 status_of (Ok done) = 0
@@ -53,6 +55,8 @@ stop_text names stop.AlreadyNew = names.image ++ codes ": version 2\n"
 stop_text names (stop.Table f) = fault_text names.table f.offset (table_rule_name f.rule)
 stop_text names (stop.Denied d) = (names.table ++ codes ": ") ++ (check_rule_name d.rule ++ codes " ") ++ (d.place ++ codes "\n")
 stop_text names stop.TooLong = names.table ++ codes ": too long\n"
+stop_text names (stop.Record f) = fault_text names.points f.line (point_fault_name f.rule)
+stop_text names stop.Alarmed = []
 
 -- the text that is due on err, by the words and what the command answers
 abbrev pub text_due : Option Command → Result (Unit {0}) Stop → List ℕ

@@ -13,7 +13,7 @@ ghost use Rattle.commands.specs.Printing.{PrintAnswers};
 use crate::compiling::compile;
 use crate::fitting::{fitted, least_table};
 use crate::kept_text::KeptText;
-use command_runs::{Stop, line_room, run};
+use command_runs::{Run, Showing, Stop, line_room, run_image};
 use flow_text::{AnalysisCounts, TextSize, analysis_counts, write_gen_line};
 use image_model::Image;
 use osek_io::{MemShelf, PutError, Shelf, Sink, put_all};
@@ -110,7 +110,12 @@ fn run_system<F: Shelf>(alloc: Global, shelf: &mut F) -> Result<Ran, Stop>
     };
     let Analyzed { image, counts } = analyzed;
     let mut trace = KeptText::new(alloc);
-    match run(alloc, shelf, &mut trace, image, DEFAULT_MODE, EVENTS) {
+    let run = Run {
+        mode: DEFAULT_MODE,
+        events: EVENTS,
+        showing: Showing::Trace,
+    };
+    match run_image(alloc, shelf, &mut trace, image, &run) {
         Ok(()) => Ok(Ran { counts, trace }),
         Err(stop) => {
             drop(trace);

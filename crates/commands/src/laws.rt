@@ -1,9 +1,12 @@
 //! Laws over the definitions.
-ghost use Rattle.commands.specs.Laws.{SomeIsDue, OneIsDue, OneImageIsBuilt, WhatIsBuiltReplays, WhatIsBuiltIsTheKernel, WhatIsCertifiedIsChecked, WhatIsCheckedIsAKernelImage, WhatIsUpgradedReplays, WhatIsUpgradedPrintsTheSame};
-ghost use Rattle.commands.specs.OneText.{OneTableIsWritten, OneTextIsShown, OneLineIsGenerated};
+ghost use Rattle.commands.specs.Laws.{SomeIsDue, OneIsDue, OneImageIsBuilt, WhatIsBuiltReplays, WhatIsBuiltIsTheKernel, WhatIsCertifiedIsChecked, WhatIsCheckedIsAKernelImage};
+ghost use Rattle.commands.specs.Laws.{WhatIsRecordedIsQuiet, WhatIsRecordedIsTheKernels, WhatIsReportedNeverComes, WhatIsUpgradedReplays, WhatIsUpgradedPrintsTheSame};
+ghost use Rattle.commands.specs.OneText.{OneTableIsWritten, OneTextIsShown, OneReportIsPrinted, OneLineIsGenerated};
 
-/// Over files of bytes one answer at most is due to each command, and one is to each but `certify` and `check`: what ends these
-/// is known by an analysis alone.
+use flow_report::laws::what_is_denied_never_comes;
+
+/// Over files of bytes one answer at most is due to each command, and one is to each but `certify`, `check` and `watch`: what ends
+/// these is known by an analysis alone.
 pub fn one_answer()
     ensures some { SomeIsDue }
     ensures one { OneIsDue }
@@ -22,6 +25,11 @@ pub fn one_table_is_written()
 /// What `show` prints is a function of its two texts.
 pub fn one_text_is_shown()
     ensures { OneTextIsShown }
+{}
+
+/// What `report` prints is a function of its two texts.
+pub fn one_report_is_printed()
+    ensures { OneReportIsPrinted }
 {}
 
 /// What `gen` prints is a function of its two numbers.
@@ -50,3 +58,16 @@ pub fn what_is_certified_is_checked()
 pub fn what_is_checked_is_a_kernel_image()
     ensures { WhatIsCheckedIsAKernelImage }
 {}
+
+/// What `record` prints of an image that `build` stores is the record of the kernel's run, and `watch` finds it quiet.
+pub fn what_is_recorded_is_quiet()
+    ensures as_the_kernel { WhatIsRecordedIsTheKernels }
+    ensures quiet { WhatIsRecordedIsQuiet }
+{}
+
+/// What a finding that `report` prints denies never comes in a run of what `build` stores.
+pub fn what_is_reported_never_comes()
+    ensures { WhatIsReportedNeverComes }
+{
+    what_is_denied_never_comes();
+}

@@ -15,6 +15,7 @@ pub struct Names<'a> {
     pub upgraded: &'a str,
     pub mode: &'a str,
     pub events: &'a str,
+    pub points: &'a str,
 }
 
 const NO_NAMES: Names<'static> = Names {
@@ -25,6 +26,7 @@ const NO_NAMES: Names<'static> = Names {
     upgraded: "",
     mode: "",
     events: "",
+    points: "",
 };
 
 fn command_names_of<'a>(command: &Command<'a>) -> Names<'a>
@@ -64,6 +66,11 @@ fn command_names_of<'a>(command: &Command<'a>) -> Names<'a>
             code,
             ..NO_NAMES
         },
+        Command::Report { oil, code } => Names {
+            oil,
+            code,
+            ..NO_NAMES
+        },
         Command::Info { image } => Names { image, ..NO_NAMES },
         Command::Gen { seed: _, tasks: _ } => NO_NAMES,
         Command::Upgrade { image, upgraded } => Names {
@@ -86,6 +93,22 @@ fn command_names_of<'a>(command: &Command<'a>) -> Names<'a>
         Command::Check { image, table } => Names {
             image,
             table,
+            ..NO_NAMES
+        },
+        Command::Record {
+            image,
+            mode,
+            events,
+        } => Names {
+            image,
+            mode,
+            events,
+            ..NO_NAMES
+        },
+        Command::Watch { oil, code, points } => Names {
+            oil,
+            code,
+            points,
             ..NO_NAMES
         },
     }
@@ -112,6 +135,7 @@ impl<'a> Names<'a> {
             Input::Image => self.image,
             Input::Table => self.table,
             Input::Events => self.events,
+            Input::Record => self.points,
         }
     }
 

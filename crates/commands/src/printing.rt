@@ -17,7 +17,7 @@ use osek_values::BlockNo;
 use osek_values::limits::LINE_MAX;
 
 /// Prints a line, or holds it back.
-fn put_line<O: Sink>(out: &mut O, buffer: &mut PutBuffer, line: &[u8]) -> Result<(), PutError>
+pub fn put_line<O: Sink>(out: &mut O, buffer: &mut PutBuffer, line: &[u8]) -> Result<(), PutError>
     ensures ok { OnOk result (Puts (given (sunk O.Sink out.old) buffer.old) (given (sunk O.Sink out.new) buffer.new) line.now) }
     ensures prefix { OnErr result (PutsPrefix (given (sunk O.Sink out.old) buffer.old) (given (sunk O.Sink out.new) buffer.new) line.now) }
 {

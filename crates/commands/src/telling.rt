@@ -32,6 +32,8 @@ fn status(stop: &Stop) -> u8
         Stop::Table(_) => 11,
         Stop::Denied(_) => 12,
         Stop::TooLong => 13,
+        Stop::Record(_) => 14,
+        Stop::Alarmed => 15,
     }
 }
 
@@ -118,6 +120,16 @@ fn tell_stop<E: Sink>(err: &mut E, names: &Names<'_>, stop: &Stop) -> Result<(),
         ),
         Stop::Denied(denial) => tell_denial(err, names.table, denial),
         Stop::TooLong => tell_of(err, names.table, b": too long\n"),
+        Stop::Record(fault) => {
+            tell_fault_in(
+                err,
+                names,
+                Input::Record,
+                fault.line as u64,
+                fault.rule.name(),
+            )
+        }
+        Stop::Alarmed => Ok(()),
     }
 }
 

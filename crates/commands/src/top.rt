@@ -10,11 +10,13 @@ use crate::certifying::certify;
 use crate::checking::check;
 use crate::generating::generate_and_run;
 use crate::informing::info;
+use crate::reporting::report;
 use crate::showing::show;
 use crate::telling::refuse;
-use crate::tracing::trace;
+use crate::tracing::{Texts, trace};
+use crate::watching::watch;
 use crate::words::{Command, command_from};
-use command_runs::{Stop, replay, upgrade};
+use command_runs::{Run, Showing, Stop, replay, upgrade};
 use osek_io::{Shelf, Sink};
 use std::alloc::Global;
 
@@ -33,14 +35,22 @@ fn carry_out<F: Shelf, O: Sink>(
             image,
             mode,
             events,
-        } => replay(alloc, shelf, out, image, mode, events),
+        } => {
+            let run = Run {
+                mode,
+                events,
+                showing: Showing::Trace,
+            };
+            replay(alloc, shelf, out, image, &run)
+        }
         Command::Trace {
             oil,
             code,
             mode,
             events,
-        } => trace(alloc, shelf, out, oil, code, mode, events),
+        } => trace(alloc, shelf, out, &Texts { oil, code }, mode, events),
         Command::Show { oil, code } => show(alloc, shelf, out, oil, code),
+        Command::Report { oil, code } => report(alloc, shelf, out, oil, code),
         Command::Info { image } => info(alloc, shelf, out, image),
         Command::Gen { seed, tasks } => generate_and_run(alloc, out, *seed, *tasks),
         Command::Upgrade { image, upgraded } => upgrade(alloc, shelf, image, upgraded),
@@ -51,6 +61,19 @@ fn carry_out<F: Shelf, O: Sink>(
             table,
         } => certify(alloc, shelf, oil, code, image, table),
         Command::Check { image, table } => check(alloc, shelf, out, image, table),
+        Command::Record {
+            image,
+            mode,
+            events,
+        } => {
+            let run = Run {
+                mode,
+                events,
+                showing: Showing::Points,
+            };
+            replay(alloc, shelf, out, image, &run)
+        }
+        Command::Watch { oil, code, points } => watch(alloc, shelf, out, oil, code, points),
     }
 }
 
@@ -91,11 +114,15 @@ fn run_command<F: Shelf, O: Sink, E: Sink>(
 /// `replay IMAGE MODE EVENTS` prints on `out` the trace of an image, from a start in a mode, under an event text;
 /// `trace OIL CODE MODE EVENTS` prints the kernel's trace of the application of the two texts;
 /// `show OIL CODE` prints the form of each of its call sites, its control-flow graph and its counts;
+/// `report OIL CODE` prints what can't happen in any run of it;
 /// `info IMAGE` prints the forms of an image, and of version 2 what it knows of statuses;
 /// `gen SEED TASKS` makes a system from a number, runs it in memory, and prints what its analysis counts and how long its trace is;
 /// `upgrade IN OUT` stores the image of version 2 that becomes of an image of version 1.
 /// `certify OIL CODE IMAGE TABLE` stores what `build` does, and the least table of the application;
-/// `check IMAGE TABLE` prints `yes` where the table shows that the image is the kernel of its application.
+/// `check IMAGE TABLE` prints `yes` where the table shows that the image is the kernel of its application;
+/// `record IMAGE MODE EVENTS` prints the points of an image as it runs: where the processor is after the start and after each event;
+/// `watch OIL CODE RECORD` prints of such points whether each may follow the one before it in a run of the application, or the first that
+/// may not.
 /// It tells on `err` why the status isn't 0.
 pub fn osekfit<F: Shelf, O: Sink, E: Sink>(
     alloc: Global,

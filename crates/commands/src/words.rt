@@ -1,6 +1,6 @@
 //! The words of the command line.
 ghost use Rattle.std.specs.{Prelude.{◌≡◌, ◌∷◌, [], ℕ, List, IfOk, map, option_map}, Borrow.{Bor}, String.{string_bytes}};
-ghost use Rattle.commands.specs.{Words.{command_of, gen_of as the_gen_of, command_of_words as the_command_of_words}, Seen.{seen}};
+ghost use Rattle.commands.specs.{Words.{command_of, gen_of as the_gen_of, command_of_others as the_command_of_others, command_of_words as the_command_of_words}, Seen.{seen}};
 
 use command_words::{has_form, parse_words, seed_of, tasks_of};
 use osek_values::Memory;
@@ -33,6 +33,11 @@ pub enum Command<'a> {
         oil: &'a str,
         code: &'a str,
     },
+    /// `report OIL CODE`
+    Report {
+        oil: &'a str,
+        code: &'a str,
+    },
     /// `info IMAGE`
     Info {
         image: &'a str,
@@ -59,6 +64,18 @@ pub enum Command<'a> {
         image: &'a str,
         table: &'a str,
     },
+    /// `record IMAGE MODE EVENTS`
+    Record {
+        image: &'a str,
+        mode: &'a str,
+        events: &'a str,
+    },
+    /// `watch OIL CODE RECORD`
+    Watch {
+        oil: &'a str,
+        code: &'a str,
+        points: &'a str,
+    },
 }
 
 fn gen_of<'a>(seed: Option<u64>, tasks: Option<u32>) -> Option<Command<'a>>
@@ -75,7 +92,18 @@ fn command_of_two<'a>(verb: &str, a: &'a str, b: &'a str) -> Option<Command<'a>>
 {
     if verb == "show" {
         Some(Command::Show { oil: a, code: b })
-    } else if verb == "upgrade" {
+    } else if verb == "report" {
+        Some(Command::Report { oil: a, code: b })
+    } else {
+        command_of_others(verb, a, b)
+    }
+}
+
+// the command of another verb that takes two words
+fn command_of_others<'a>(verb: &str, a: &'a str, b: &'a str) -> Option<Command<'a>>
+    ensures { option_map seen result ≡ the_command_of_others verb.now a.now b.now }
+{
+    if verb == "upgrade" {
         Some(Command::Upgrade {
             image: a,
             upgraded: b,
@@ -96,11 +124,23 @@ fn command_of_three<'a>(verb: &str, a: &'a str, b: &'a str, c: &'a str) -> Optio
             code: b,
             image: c,
         })
-    } else {
+    } else if verb == "replay" {
         Some(Command::Replay {
             image: a,
             mode: b,
             events: c,
+        })
+    } else if verb == "record" {
+        Some(Command::Record {
+            image: a,
+            mode: b,
+            events: c,
+        })
+    } else {
+        Some(Command::Watch {
+            oil: a,
+            code: b,
+            points: c,
         })
     }
 }

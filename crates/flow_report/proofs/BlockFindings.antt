@@ -63,6 +63,9 @@ module _ (app : App) (table : Sets) (b : BlockNo) where
   pub no_free : ((r : ResNo) → Takes app b r → ⊥) → Holds app table (finding.Free b) → ⊥
   no_free none h = none h.0.1 h.0.2
 
+  pub unreached_answer : Decides false (IsReachedBlock app table b) → Decides false (Holds app table (finding.Free b))
+  unreached_answer there = (λ e. absurd (cc), λ h. (let wrong : false ≡ true = there.1 h.1.0 in absurd (cc)))
+
   free_by : (reached taken : Bool) (r : ResNo) → b.0 < length app.blocks → Takes app b r → Decides reached (IsReachedBlock app table b) → Decides taken (IsTakenAt app table b r) → Decides (reached && not taken) (Holds app table (finding.Free b))
   free_by true true r known takes there on = (
     λ e. absurd (cc),

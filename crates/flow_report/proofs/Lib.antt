@@ -5,6 +5,7 @@ mod PassingNumbers
 mod ShownRows
 mod FlagFindings
 mod BlockFindings
+mod HolderLaws
 mod HookBits
 mod HookLaws
 mod NotedHooks

@@ -4,6 +4,7 @@
 mod finding;
 mod finding_list;
 mod flags;
+mod holders;
 pub mod laws;
 mod noting;
 mod reached;

@@ -21,8 +21,9 @@ pub struct Reached<'a> {
 impl<'a> Reached<'a> {
     ghost use Rattle.std.specs.{Prelude.{◌≡◌, ◌<◌, length, IfOk, None, Some}, Bool.{Decides}};
     ghost use Rattle.abstract_state.specs.Components.{component_count};
-    ghost use Rattle.flow_model.specs.declared.test.Test.TheVariants as Test;
-    ghost use Rattle.flow_report.specs.{Reached.{ShowsState, table_of}, Findings.{IsReachedBlock}};
+    ghost use Rattle.flow_model.specs.declared.test.Test.{Test as ATest};
+    ghost use Rattle.numbered_sets.specs.Pools.{values_at};
+    ghost use Rattle.flow_report.specs.{Reached.{ShowsState, ArePassing, table_of}, Findings.{IsReachedBlock}};
     ghost use Rattle.flow_check.specs.Rows.{AreRowsFrom};
 
     /// Whether a component's value passes a test in some state, at a block where one is given.
@@ -41,12 +42,21 @@ impl<'a> Reached<'a> {
             return Ok(false);
         }
         let passing = passing(alloc, self.pool, component, test)?;
+        Ok(self.is_met(at, component, &passing))
+    }
+
+    /// Whether a component's value is one of the numbers that pass a test, in some state, at a block where one is given.
+    pub fn is_met(&self, at: Option<BlockNo>, component: usize, passing: &NumberedSet) -> bool
+        requires rows { AreRowsFrom self.now.app.now self.now.pool.now self.now.rows.now }
+        requires known { component < component_count self.now.app.now }
+        ensures { (t : ATest) → ArePassing (values_at self.now.pool.now component) t passing.now → Decides result (ShowsState at component t self.now.app.now (table_of self.now.pool.now self.now.rows.now)) }
+    {
         for row in self.rows {
-            if shows(row, at, component, &passing) {
-                return Ok(true);
+            if shows(row, at, component, passing) {
+                return true;
             }
         }
-        Ok(false)
+        false
     }
 
     /// Whether some state stands at a block.
@@ -63,8 +73,13 @@ impl<'a> Reached<'a> {
     }
 }
 
-// the numbers of a component's values that pass a test
-fn passing(alloc: Global, pool: &Pool, component: usize, test: &Test) -> Result<NumberedSet, Memory>
+/// The numbers of a component's values that pass a test.
+pub fn passing(
+    alloc: Global,
+    pool: &Pool,
+    component: usize,
+    test: &Test,
+) -> Result<NumberedSet, Memory>
     requires { component < length pool.now }
     ensures { IfOk result (ArePassingOf (values_at pool.now component) test.now) }
 {

@@ -1,14 +1,14 @@
 -- What becomes of the levels of a task as its values are judged, one after the other.
 use Rattle.std.proofs.Common.{◌≡◌, ◌⊎◌, ℕ, ◌+◌, ◌^◌, ◌<◌, Bool, true, false, ◌||◌, List, [], ◌∷◌, ◌++◌, length, get_or, set, refl, sym, ap, subst, ◌∙◌, inl, inr, arith, IsTrue, get_or-set_same, get_or-set_other}
-use Rattle.std.specs.{Prelude.{Contains, Some, None}, declared.option.Option.{Option}}
+use Rattle.std.specs.{Prelude.{Contains, Some, None, IfSome}, declared.option.Option.{Option}}
 use Rattle.std.proofs.{Math.Bool.{or-true}, lemmas.{Bool.{cases_eq, or_cases, eq-eqb, eqb-true}, List.{length-set, get_or_default}}}
 use Rattle.std.proofs.lemmas.List.Elements.{All-set, All-contains, Contains-get_or, Contains-append_left, Contains-push_cases}
 use Rattle.bit_words.proofs.BitCounts.{has_either, has_one}
-use Rattle.osek_values.specs.Bits.{has_bit}
+use Rattle.osek_values.specs.{Bits.{has_bit}, declared.numbers.BlockNo.{BlockNo}}
 use Rattle.osek_standard.specs.declared.app.App.{App}
-use Rattle.abstract_state.specs.{declared.value.{Domain.{Domain}, Val.{Val, TheVariants.{Suspended, Live, Waiting}}, PartValue.{PartValue}}, Concrete.{val_of}}
-use Rattle.flow_model.specs.Values.{is_live_value, value_priority}
-use Rattle.numbered_sets.specs.{Numbers.{Numbers, numbers, has_number, with_number}, Pools.{IsNumberOf}}
+use Rattle.abstract_state.specs.{declared.value.{Domain.{Domain}, Val.{Val, TheVariants.{Suspended, Live, Waiting}}, PartValue.{PartValue, TheVariants.{OfTask, OfEvent, OfAlarm}}}, Concrete.{val_of}}
+use Rattle.flow_model.specs.{Values.{is_live_value, value_priority, at_block}, Tests.{on_task}}
+use Rattle.numbered_sets.specs.{Numbers.{Numbers, numbers, has_number, with_number}, Pools.{IsNumberOf, IsBeside}}
 use Rattle.numbered_sets.proofs.KnownNumbers.{no_bit_of_none}
 use Rattle.flow_exits.specs.{declared.priority.Candidate.{Candidate}, Candidates.{candidate_of}}
 use Rattle.flow_rules.specs.{declared.task_levels.{Level.{Level}, TaskLevels.{TaskLevels}}, Levels.{IsLiveAt, AreOf, IsDead, IsLevel, HasLevel, AreTaskLevels, with_next}}
@@ -49,6 +49,26 @@ live_if_some app u (Waiting b) own e = absurd (cc)
 
 pub is_live_at : (app : App) (u : ℕ) (v : PartValue) (o : Option Candidate) (own : Candidate) → o ≡ candidate_of app u (val_of v) → o ≡ Some own → IsLiveAt app u own.priority v
 is_live_at app u v o own read some = (let live = live_if_some app u (val_of v) own (sym read ∙ some) in record { live = live.0; priority = live.1 })
+
+-- ---- a value beside another
+
+live_unmoved : (app : App) (u p : ℕ) (b : BlockNo) (v : PartValue) → IsLiveAt app u p (on_task (at_block b) v) → IsLiveAt app u p v
+live_unmoved app u p b (OfTask Suspended) h = h
+live_unmoved app u p b (OfTask (Live x)) h = record { live = refl; priority = h.priority }
+live_unmoved app u p b (OfTask (Waiting c)) h = h
+live_unmoved app u p b (OfEvent x) h = h
+live_unmoved app u p b (OfAlarm x) h = h
+
+-- it is at the level of that one
+pub placed_beside : (vs : List PartValue) (x : TaskLevels) (n m : ℕ) (found : Option ℕ) → IsBeside vs n m → IfSome found (λ k. k < length x.levels)
+    → IfSome found (λ k. (d : Level) → IsTrue (has_number (get_or x.levels k d).numbers m))
+    → IfSome found (λ k. (app : App) (u : ℕ) (d : Level) (v : PartValue) → AreTaskLevels app u vs x → IsNumberOf vs v n → IsLiveAt app u (get_or x.levels k d).priority v)
+placed_beside vs x n m None beside known has = tt
+placed_beside vs x n m (Some k) beside known has = λ app u d v h is.
+    let level = get_or x.levels k d in
+    let moved = beside v is in
+    let live = h.levels level (Contains-get_or x.levels k d known) m v (has d) in
+    live_unmoved app u level.priority moved.0 v (subst (IsLiveAt app u level.priority) (moved.1.is v) live.1)
 
 module _ (app : App) (u : ℕ) (vs : List PartValue) where
   -- a level without a number

@@ -25,10 +25,10 @@ pub struct TaskLevels {
 }
 
 impl TaskLevels {
-    ghost use Rattle.std.specs.Prelude.{ℕ, List, ◌≡◌, ◌<◌, ◌≤◌, ◌+◌, ◌^◌, length, slice_index_or, IfOk, OnOk};
+    ghost use Rattle.std.specs.Prelude.{ℕ, List, ◌≡◌, ◌<◌, ◌≤◌, ◌+◌, ◌^◌, length, slice_index_or, IfOk, OnOk, IfSome, IsTrue};
     ghost use Rattle.osek_standard.specs.declared.app.App.{App};
     ghost use Rattle.abstract_state.specs.declared.value.PartValue.{PartValue};
-    ghost use Rattle.numbered_sets.specs.Pools.{values_at, IsNumberOf};
+    ghost use Rattle.numbered_sets.specs.{Numbers.{has_number}, Pools.{values_at, IsNumberOf}};
     ghost use Rattle.flow_rules.specs.{declared.task_levels.Level.{Level}, Levels.{IsLiveAt, AreTaskLevels, with_next}};
 
     /// No value was judged yet.
@@ -57,11 +57,63 @@ impl TaskLevels {
         ensures levels { OnOk result (AreTaskLevels app.now task.0 (values_at pool.now task.0) self.new) }
         ensures all { OnOk result (self.new.judged ≡ length (values_at pool.now task.0)) }
     {
-        let component = task.index();
-        for number in self.judged..pool.len(component) {
-            self.judge(alloc, app, task, &pool.value(component, number))?;
+        for _number in self.judged..pool.len(task.index()) {
+            self.judge_next(alloc, app, task, pool)?;
         }
         Ok(())
+    }
+
+    // judges the next value, by one at another block where it can
+    fn judge_next(
+        &mut self,
+        alloc: Global,
+        app: &App,
+        task: TaskNo,
+        pool: &Pool,
+    ) -> Result<(), Memory>
+        requires known { task.0 < length app.now.tasks }
+        requires pool { task.0 < length pool.now }
+        requires next { self.old.judged < length (values_at pool.now task.0) }
+        requires room { self.old.judged + 1 < 2 ^ 64 }
+        requires levels { AreTaskLevels app.now task.0 (values_at pool.now task.0) self.old }
+        ensures levels { OnOk result (AreTaskLevels app.now task.0 (values_at pool.now task.0) self.new) }
+        ensures judged { OnOk result (self.new.judged ≡ self.old.judged + 1) }
+    {
+        let component = task.index();
+        let number = self.judged;
+        if let Some(place) = self.place_beside(pool, component) {
+            self.put_at(place, number)?;
+            self.judged = number + 1;
+            return Ok(());
+        }
+        self.judge(alloc, app, task, &pool.value(component, number))
+    }
+
+    // The place of the level of the next value, by what it would be at the block before: there a task mostly held the same.
+    fn place_beside(&self, pool: &Pool, component: usize) -> Option<usize>
+        requires pool { component < length pool.now }
+        requires next { self.now.judged < length (values_at pool.now component) }
+        ensures known { IfSome result (λ place. place < length self.now.levels) }
+        ensures level { IfSome result (λ place. (app : App) (u : ℕ) (d : Level) (v : PartValue) → AreTaskLevels app u (values_at pool.now component) self.now →
+            IsNumberOf (values_at pool.now component) v self.now.judged → IsLiveAt app u (slice_index_or self.now.levels place d).priority v) }
+    {
+        match pool.beside(component, self.judged) {
+            None => None,
+            Some(beside) => self.place_with(beside),
+        }
+    }
+
+    // the place of the level that has a number
+    fn place_with(&self, number: usize) -> Option<usize>
+        ensures known { IfSome result (λ place. place < length self.now.levels) }
+        ensures has { IfSome result (λ place. (d : Level) → IsTrue (has_number (slice_index_or self.now.levels place d).numbers number)) }
+    {
+        for place in 0..self.levels.len() {
+            if self.levels.at(place).numbers.has(number) {
+                return Some(place);
+            }
+        }
+        None
     }
 
     // judges the next value
@@ -95,6 +147,18 @@ impl TaskLevels {
         ensures judged { OnOk result (self.new.judged ≡ self.old.judged) }
     {
         let place = self.place_for(alloc, priority)?;
+        self.put_at(place, number)?;
+        Ok(())
+    }
+
+    // puts the next number in the level at a place
+    fn put_at(&mut self, place: usize, number: usize) -> Result<(), Memory>
+        requires known { place < length self.old.levels }
+        requires next { number ≡ self.old.judged }
+        ensures levels { OnOk result ((app : App) (u : ℕ) (vs : List PartValue) (v : PartValue) → AreTaskLevels app u vs self.old → IsNumberOf vs v number →
+            ((d : Level) → IsLiveAt app u (slice_index_or self.old.levels place d).priority v) → AreTaskLevels app u vs (with_next self.new)) }
+        ensures judged { OnOk result (self.new.judged ≡ self.old.judged) }
+    {
         let level = self.levels.at_mut(place);
         level.numbers.insert(number)?;
         Ok(())

@@ -1,3 +1,4 @@
 pub mod FormsApart
 pub mod KnownTexts
 pub mod LinesApart
+pub mod FindingsApart

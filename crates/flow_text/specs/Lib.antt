@@ -2,3 +2,4 @@ pub mod FlowLines
 pub mod FormCounts
 pub mod GeneratedLine
 pub mod Texts
+pub mod FindingLines

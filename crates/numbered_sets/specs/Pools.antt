@@ -1,8 +1,11 @@
 -- The values that components were seen with, each with a number.
 use Rattle.std.specs.{Prelude.{◌≡◌, ℕ, ◌<◌, List, [], ◌∷◌, ◌++◌, length, map, slice_index_or, if◌then◌else◌, All}, List.{list_any, IsDistinct}}
+use Rattle.osek_values.specs.declared.numbers.BlockNo.{BlockNo}
 use Rattle.abstract_state.specs.declared.value.{Domain.{Domain}, PartValue.{PartValue}}
 use Rattle.abstract_state.specs.declared.value.Domain.TheVariants as domain
 use Rattle.abstract_state.specs.{ValueOrder.{same_part}, Domains.{IsWithin}}
+use Rattle.flow_model.specs.declared.change.Update.TheVariants as update
+use Rattle.flow_model.specs.Tests.{updated}
 
 -- Values of a domain, in the order in which they were first seen: each has its place as its number.
 pub record Values : Type 0 where
@@ -44,6 +47,10 @@ AreValues x = AreNumbered x.domain x.values
 pub record IsNumberOf (vs : List PartValue) (v : PartValue) (n : ℕ) : Type 0 where
   pub known : n < length vs
   pub is : (d : PartValue) → slice_index_or vs n d ≡ v
+
+-- the value with the second number is the one with the first at some block, if that is Live; else it is the same
+abbrev pub IsBeside : List PartValue → ℕ → ℕ → Type 0
+IsBeside vs n m = (v : PartValue) → IsNumberOf vs v n → (b : BlockNo) × IsNumberOf vs (updated (update.Block b) v) m
 
 -- the second has the values of the first under their numbers, and maybe more
 pub record IsExtended (vs ws : List PartValue) : Type 0 where

@@ -96,6 +96,11 @@ impl NumberedSet {
             return Ok(());
         }
         let further = number - 128;
+        // mostly there is room
+        if further / 64 < self.more.len() {
+            words::put(self.more.as_mut_slice(), further);
+            return Ok(());
+        }
         words::widen(&mut self.more, further / 64 + 1)?;
         words::put(self.more.as_mut_slice(), further);
         Ok(())

@@ -25,11 +25,11 @@ impl Model for Pool {
 }
 
 impl Pool {
-    ghost use Rattle.std.specs.Prelude.{◌≡◌, ◌<◌, length, map, slice_set, IfOk, OnOk, OnErr, All};
+    ghost use Rattle.std.specs.Prelude.{◌≡◌, ◌<◌, length, map, slice_set, IfOk, OnOk, OnErr, IfSome, All};
     ghost use Rattle.abstract_state.specs.{declared.value.PartValue.{PartValue}, Domains.{IsWithin, domain_size}, Tables.{is_member}};
     ghost use Rattle.flow_model.specs.Tests.{updated};
-    ghost use Rattle.numbered_sets.specs.{Passing.{IsSifted}, NumberedEntries.{numbers_at}, Pools.{no_values, value_seen, seen_at, values_at, domain_at, AreValues, IsNumberOf}};
-    ghost use Rattle.numbered_sets.specs.Views.{plain_set};
+    ghost use Rattle.numbered_sets.specs.{Passing.{IsSifted}, Pools.{no_values, value_seen, seen_at, values_at, domain_at, AreValues, IsNumberOf, IsBeside}};
+    ghost use Rattle.numbered_sets.specs.{NumberedEntries.{numbers_at}, Views.{plain_set}};
 
     /// A pool without values, for a component of each domain.
     pub fn new(alloc: Global, domains: &[Domain]) -> Result<Pool, Memory>
@@ -111,6 +111,15 @@ impl Pool {
         ensures { IsNumberOf (values_at self.now component) result number }
     {
         self.components.at(component).value(number)
+    }
+
+    /// The number of what a component's value would be at the block before its own, if that was seen.
+    pub fn beside(&self, component: usize, number: usize) -> Option<usize>
+        requires known { component < length self.now }
+        requires given { number < length (values_at self.now component) }
+        ensures { IfSome result (IsBeside (values_at self.now component) number) }
+    {
+        self.components.at(component).beside(number)
     }
 
     /// Whether a component's set has the number of a value.

@@ -31,10 +31,9 @@ impl Model for SeenValues {
 
 impl SeenValues {
     ghost use Rattle.std.specs.{Prelude.{◌≡◌, ◌<◌, false, length, IfOk, OnOk, OnErr, IfSome, IfNone}, List.{list_any}, Bool.{OnTrue}};
-    ghost use Rattle.osek_values.specs.declared.numbers.BlockNo.{BlockNo};
     ghost use Rattle.abstract_state.specs.{declared.value.PartValue.{PartValue}, Domains.{IsWithin, domain_size}, ValueOrder.{same_part}};
-    ghost use Rattle.flow_model.specs.{declared.change.Update.TheVariants.{Block}, Tests.{updated}};
-    ghost use Rattle.numbered_sets.specs.Pools.{no_values, value_seen, AreValues, IsNumberOf};
+    ghost use Rattle.flow_model.specs.Tests.{updated};
+    ghost use Rattle.numbered_sets.specs.Pools.{no_values, value_seen, AreValues, IsNumberOf, IsBeside};
 
     /// No value yet.
     pub fn new(alloc: Global, domain: Domain) -> SeenValues
@@ -112,11 +111,24 @@ impl SeenValues {
         self.number(&value)
     }
 
+    /// The number of what a Live value would be at the block before its own, if it was seen.
+    pub fn beside(&self, number: usize) -> Option<usize>
+        requires { number < length self.now.values }
+        ensures { IfSome result (IsBeside self.now.values number) }
+    {
+        let slot = self.slots.at(number);
+        let block = BlockNo(block_in(self.domain, slot).0.saturating_sub(1));
+        match slot_at_block(self.domain, &self.stacks, slot, block) {
+            None => None,
+            Some(moved) => self.slots.find(moved),
+        }
+    }
+
     /// Whether two values are seen to be Live with one stack, so that they differ at most in their block.
     pub fn are_beside(&self, number: usize, other: usize) -> bool
         requires number { number < length self.now.values }
         requires other { other < length self.now.values }
-        ensures { OnTrue result ((v : PartValue) → IsNumberOf self.now.values v number → (b : BlockNo) × IsNumberOf self.now.values (updated (Block b) v) other) }
+        ensures { OnTrue result (IsBeside self.now.values number other) }
     {
         let slot = self.slots.at(other);
         let block = block_in(self.domain, slot);

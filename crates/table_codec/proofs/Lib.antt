@@ -8,6 +8,8 @@ pub mod Fields
 pub mod FlagReads
 pub mod FlagSets
 pub mod GrownRows
+pub mod KeptNumbers
+pub mod KeptSets
 pub mod Merging
 pub mod PointOrder
 pub mod RankLaws

@@ -1,5 +1,6 @@
 pub mod Ascending
 pub mod Faults
+pub mod Kept
 pub mod Laws
 pub mod Ranks
 pub mod Rules

@@ -18,6 +18,38 @@ impl<'a> Model for Reader<'a> {
     ghost view = { λ r. r.rest.now };
 }
 
+/// Bytes that spelled a set, to be found again; none where none were read yet.
+#[derive(Drop)]
+pub(crate) struct Spelled<'a> {
+    bytes: &'a [u8],
+}
+
+impl<'a> Model for Spelled<'a> {
+    ghost use Rattle.std.specs.Prelude.{List, ℕ};
+
+    ghost Value = { List ℕ };
+
+    ghost view = { λ s. s.bytes.now };
+}
+
+impl<'a> Spelled<'a> {
+    ghost use Rattle.std.specs.Prelude.{◌≡◌, ◌==◌, [], length};
+
+    /// No bytes.
+    pub fn none() -> Spelled<'a>
+        ensures { result ≡ [] }
+    {
+        Spelled { bytes: b"" }
+    }
+
+    /// Whether there are none.
+    pub fn is_empty(&self) -> bool
+        ensures { result ≡ (length self.now == 0) }
+    {
+        self.bytes.is_empty()
+    }
+}
+
 /// A fault of a rule, at a field before which so many bytes are left.
 pub(crate) fn fault(rule: TableRule, left: usize) -> Fault
     ensures { result ≡ record { rule = rule; left = left } }
@@ -26,7 +58,7 @@ pub(crate) fn fault(rule: TableRule, left: usize) -> Fault
 }
 
 impl<'a> Reader<'a> {
-    ghost use Rattle.std.specs.{Prelude.{◌≡◌, ◌∷◌, ◌++◌, ◌<◌, ◌≤◌, ◌^◌, [], IfSome, IfNone, length, take, drop}, Int.{to_be_bytes, w16, w32}};
+    ghost use Rattle.std.specs.{Prelude.{◌≡◌, ◌∷◌, ◌++◌, ◌<◌, ◌≤◌, ◌^◌, [], IfSome, IfNone, List, ℕ, length, take, drop}, Bool.{OnTrue, OnFalse}, Int.{to_be_bytes, w16, w32}};
 
     /// Reads these bytes.
     pub fn new(bytes: &'a [u8]) -> Reader<'a>
@@ -95,5 +127,33 @@ impl<'a> Reader<'a> {
         let (text, rest) = self.rest.split_at(count);
         self.rest = rest;
         text
+    }
+    /// Takes such bytes, if they stand at the start.
+    pub fn skip(&mut self, spelled: &Spelled) -> bool
+        ensures skipped { OnTrue result (self.old ≡ spelled.now ++ self.new) }
+        ensures same { OnFalse result (self.new ≡ self.old) }
+    {
+        if !self.rest.starts_with(spelled.bytes) {
+            return false;
+        }
+        let (_spelled, rest) = self.rest.split_at(spelled.bytes.len());
+        self.rest = rest;
+        true
+    }
+
+    /// All bytes that are left.
+    pub fn all(&self) -> Spelled<'a>
+        ensures { result ≡ self.now }
+    {
+        Spelled { bytes: self.rest }
+    }
+
+    /// Of bytes that were left before, those that were read since.
+    pub fn since(&self, before: &Spelled<'a>) -> Spelled<'a>
+        ensures { (bytes : List ℕ) → before.now ≡ bytes ++ self.now → result ≡ bytes }
+    {
+        let count = before.bytes.len().saturating_sub(self.rest.len());
+        let (bytes, _rest) = before.bytes.split_at(count);
+        Spelled { bytes }
     }
 }

@@ -2,8 +2,12 @@
 ghost use Rattle.std.specs.Prelude.{◌≡◌, ◌≢◌, ◌↔◌, ◌<◌, IsTrue, IfSome, IfNone, length};
 ghost use Rattle.osek_values.specs.declared.numbers.BlockNo.{BlockNo as ABlockNo};
 ghost use Rattle.osek_standard.specs.{Apps.{the_block}, Well.{IsOwn, IsWaitEvent, IsWaitingAt}};
-ghost use Rattle.table_codec.specs.Shapes.{IsShape, is_over, RunsAt, RunsNowhere};
+ghost use Rattle.std.specs.Bool.{OnTrue};
+ghost use Rattle.abstract_state.specs.Components.{IsComponent};
+ghost use Rattle.abstract_state.specs.declared.value.Component.TheVariants as component;
+ghost use Rattle.table_codec.specs.{Kept.{IsFree}, Shapes.{IsShape, is_over, RunsAt, RunsNowhere}};
 
+use abstract_state::Component;
 use image_model::is_within;
 use osek_standard::{App, Call, Kind, MaskService, Point};
 use osek_values::{BlockNo, TaskNo};
@@ -54,6 +58,24 @@ impl Shape {
             }
         }
     }
+}
+
+/// Whether a component can be at a point what it can be at any other one.
+pub(crate) fn is_free(app: &App, point: Point, component: Component) -> bool
+    requires { IsComponent app.now component }
+    ensures { OnTrue result (IsFree app.now point component) }
+{
+    match component {
+        Component::Task(task) => is_free_task(app, point, task),
+        Component::Event { task: _, bit: _ } | Component::Alarm(_) => true,
+    }
+}
+
+fn is_free_task(app: &App, point: Point, task: TaskNo) -> bool
+    requires { task.0 < length app.now.tasks }
+    ensures { OnTrue result (IsFree app.now point (component.Task task)) }
+{
+    running_at(app, point, task).is_none() && !is_interrupted(point, task)
 }
 
 // the block at which a task has the processor

@@ -12,9 +12,10 @@ pub returns-clause-answer : goal.returns-clause-answer
 returns-clause-answer g c =
     let x = c.in-Ok.started in
     let m = x.machine in
-    let name = c.args.events.now in
-    let same : ◌≡◌ {A = List ℕ → Played} (λ t. printing (line_of m.image 0 (stepped m.state x.notes)) (plays m.image (numbered_lines t) 1 m.state)) (whole_play c.args.image c.args.mode) =
-    (λ j t. whole_started c.args.image m.image c.args.mode m.state x.notes (ap (λ (w : AtWork). w.image) c.in-Ok.ensures.machine) c.in-Ok.ensures.start t j) in
+    let w = c.args.run.now.showing in
+    let name = c.args.run.now.events.now in
+    let same : ◌≡◌ {A = List ℕ → Played} (λ t. printing (line_of w m.image 0 (stepped m.state x.notes)) (plays w m.image (numbered_lines t) 1 m.state)) (whole_play w c.args.image c.args.mode) =
+    (λ j t. whole_started w c.args.image m.image c.args.mode m.state x.notes (ap (λ (w : AtWork). w.image) c.in-Ok.ensures.machine) c.in-Ok.ensures.start t j) in
     inr (subst (λ (p : List ℕ → Played). ReadAnswers (g.F.Shelf.contents c.args.shelf.now) name (g.F.Shelf.read_faults c.args.shelf.now name) (g.F.Shelf.read_faults c.play_started.new.shelf name)
     (sunk g.O.Sink c.args.out.now) (sunk g.O.Sink c.play_started.new.out) p c.play_started.result) same c.play_started.ensures.answer)
 

@@ -1,10 +1,10 @@
 -- the image and the table that were loaded, and what is said of them
-use Rattle.std.proofs.Common.{◌≡◌, List, ℕ, Ok, Err, refl, inl, inr, ⊎_elim, subst, sym, codes}
+use Rattle.std.proofs.Common.{◌≡◌, List, ℕ, Ok, Err, refl, inl, inr, subst, sym, codes}
 use Rattle.std.specs.{Prelude.{◌⊎◌}, declared.{option.Option.{Option}, result.Result.{Result}}}
 use Rattle.osek_standard.specs.declared.app.App.{App}
 use Rattle.image_model.specs.declared.image.Image.{Image}
 use Rattle.abstract_state.specs.declared.table.PlainTable.{PlainTable}
-use Rattle.osek_io.specs.{Files.{Files}, Sunk.{sunk}}
+use Rattle.osek_io.specs.Files.{Files}
 use Rattle.command_runs.specs.{Inputs.{OfFile, no_memory}, Outside.{Outside, Told, outside, told}, Replaying.{SpellImage, OfImage}, declared.stop.Stop.{Stop}}
 use Rattle.command_runs.specs.declared.stop.Stop.TheVariants as stop
 use Rattle.command_runs.proofs.{InputFiles.{of_map}, FaultlessReads.{earlier, then_reads}}

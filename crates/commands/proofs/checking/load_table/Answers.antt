@@ -1,5 +1,5 @@
 -- the table is spelled by what the file holds
-use Rattle.std.proofs.Common.{List, ℕ, Err, inl, inr, refl, subst, ◌∙◌}
+use Rattle.std.proofs.Common.{List, ℕ, inl, inr, refl, subst, ◌∙◌}
 use Rattle.osek_values.specs.{Answers.{Refuses}, declared.refused.Refused.{Refused}}
 use Rattle.table_codec.specs.{declared.fault.TableFault.{TableFault}, Faults.{IsFirstFault}}
 use Rattle.command_runs.specs.{Inputs.{faulty, no_memory}, Outside.{told}, declared.stop.Input.TheVariants.{Table}}

@@ -44,3 +44,9 @@ returns-in-Denied g c = rw c.in-Denied.is c.tell_denial.ensures
 
 pub returns-in-TooLong : goal.returns-in-TooLong
 returns-in-TooLong g c = rw c.in-TooLong.is (c.tell_of-in-TooLong.ensures)
+
+pub returns-in-Record : goal.returns-in-Record
+returns-in-Record g c = rw c.in-Record.is (rw c.name-in-Record.ensures at c.tell_fault_in-in-Record.ensures)
+
+pub returns-in-Alarmed : goal.returns-in-Alarmed
+returns-in-Alarmed g c = rw c.in-Alarmed.is (refl, grown-nil (g.E.Sink.written c.args.err.now))

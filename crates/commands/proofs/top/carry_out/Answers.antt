@@ -27,6 +27,13 @@ returns-in-Trace g c =
     (outside g.F.Shelf g.O.Sink c.trace.new.shelf c.trace.new.out)
     (Some (seen k)) c.trace.result) (sym c.in-Trace.is) (c.trace.ensures.answer, (c.trace.ensures.same.files, c.trace.ensures.same.writes))
 
+pub returns-in-Report : goal.returns-in-Report
+returns-in-Report g c =
+    subst (λ (k : Command). CommandAnswers
+    (outside g.F.Shelf g.O.Sink c.args.shelf.now c.args.out.now)
+    (outside g.F.Shelf g.O.Sink c.report.new.shelf c.report.new.out)
+    (Some (seen k)) c.report.result) (sym c.in-Report.is) (c.report.ensures.answer, (c.report.ensures.same.files, c.report.ensures.same.writes))
+
 pub returns-in-Upgrade : goal.returns-in-Upgrade
 returns-in-Upgrade g c =
     subst (λ (k : Command). CommandAnswers
@@ -47,3 +54,17 @@ returns-in-Check g c =
     (outside g.F.Shelf g.O.Sink c.args.shelf.now c.args.out.now)
     (outside g.F.Shelf g.O.Sink c.check.new.shelf c.check.new.out)
     (Some (seen k)) c.check.result) (sym c.in-Check.is) (c.check.ensures.answer, (c.check.ensures.same.files, c.check.ensures.same.writes))
+
+pub returns-in-Record : goal.returns-in-Record
+returns-in-Record g c =
+    subst (λ (k : Command). CommandAnswers
+    (outside g.F.Shelf g.O.Sink c.args.shelf.now c.args.out.now)
+    (outside g.F.Shelf g.O.Sink c.replay-in-Record.new.shelf c.replay-in-Record.new.out)
+    (Some (seen k)) c.replay-in-Record.result) (sym c.in-Record.is) (c.replay-in-Record.ensures.answer, (c.replay-in-Record.ensures.same.files, c.replay-in-Record.ensures.same.writes))
+
+pub returns-in-Watch : goal.returns-in-Watch
+returns-in-Watch g c =
+    subst (λ (k : Command). CommandAnswers
+    (outside g.F.Shelf g.O.Sink c.args.shelf.now c.args.out.now)
+    (outside g.F.Shelf g.O.Sink c.watch.new.shelf c.watch.new.out)
+    (Some (seen k)) c.watch.result) (sym c.in-Watch.is) (c.watch.ensures.answer, (c.watch.ensures.same.files, c.watch.ensures.same.writes))

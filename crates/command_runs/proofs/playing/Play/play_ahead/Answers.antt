@@ -19,7 +19,7 @@ lines-init g c =
       image = refl;
       fits = fits;
       finished = refl;
-      on = starts_on (given (sunk g.O.Sink c.args.out.now) play.buffer) play.machine.image feed play.place.line play.place.event play.machine.state;
+      on = starts_on (given (sunk g.O.Sink c.args.out.now) play.buffer) c.args.showing play.machine.image feed play.place.line play.place.event play.machine.state;
     }
 
 pub play_line-requires-clause-fits : goal.play_line-requires-clause-fits
@@ -51,17 +51,18 @@ lines-preserved g c =
     let first = given (sunk g.O.Sink c.args.out.now) start.buffer in
     let now = given (sunk g.O.Sink c.lines.out) play.buffer in
     let next = given (sunk g.O.Sink c.play_line.new.out) after_it.buffer in
+    let w = c.args.showing in
     let i = start.machine.image in
-    let goes : GoesOn now next (λ more. played_line i play.place.event play.machine.state play.place.line more (read_line i.app c.line.result.now)) after_it.place.event after_it.machine.state =
-    subst (λ (j : Image). GoesOn now next (λ (more : ℕ → State → Played). played_line j play.place.event play.machine.state play.place.line more (read_line j.app c.line.result.now)) after_it.place.event after_it.machine.state) inv.image c.in_ok-play_line.ensures.line in
+    let goes : GoesOn now next (λ more. played_line w i play.place.event play.machine.state play.place.line more (read_line i.app c.line.result.now)) after_it.place.event after_it.machine.state =
+    subst (λ (j : Image). GoesOn now next (λ (more : ℕ → State → Played). played_line w j play.place.event play.machine.state play.place.line more (read_line j.app c.line.result.now)) after_it.place.event after_it.machine.state) inv.image c.in_ok-play_line.ensures.line in
     record {
       running = c.in_ok-play_line.ensures.running;
       image = c.in_ok-play_line.ensures.image ∙ inv.image;
       fits = omega (arith, next_line, shorter, fits);
       finished = ap (λ (f : FeedState). f.finished) after ∙ stays_finished feed (peeled feed.finished feed.ahead) ∙ inv.finished;
-      on = subst (λ (l : ℕ). PlaysOn first next i c.args.feed.now c.next.new.self start.place.line start.place.event start.machine.state l after_it.place.event after_it.machine.state) (sym next_line)
-          (subst (λ (f : FeedState). PlaysOn first next i c.args.feed.now f start.place.line start.place.event start.machine.state (play.place.line + 1) after_it.place.event after_it.machine.state) (sym after)
-          (one_line_on first now next i c.args.feed.now feed start.place.line start.place.event start.machine.state play.place.line play.place.event play.machine.state c.line.result.now after_it.place.event after_it.machine.state inv.finished is line goes inv.on));
+      on = subst (λ (l : ℕ). PlaysOn first next w i c.args.feed.now c.next.new.self start.place.line start.place.event start.machine.state l after_it.place.event after_it.machine.state) (sym next_line)
+          (subst (λ (f : FeedState). PlaysOn first next w i c.args.feed.now f start.place.line start.place.event start.machine.state (play.place.line + 1) after_it.place.event after_it.machine.state) (sym after)
+          (one_line_on first now next w i c.args.feed.now feed start.place.line start.place.event start.machine.state play.place.line play.place.event play.machine.state c.line.result.now after_it.place.event after_it.machine.state inv.finished is line goes inv.on));
     }
 
 pub returns-in_err-play_line-clause-stops : goal.returns-in_err-play_line-clause-stops
@@ -76,10 +77,10 @@ returns-in_err-play_line-clause-stops g c =
     let now = given (sunk g.O.Sink c.lines.out) play.buffer in
     let next = given (sunk g.O.Sink c.play_line.new.out) c.play_line.new.self.buffer in
     let end = c.in_err-play_line.field-0.0 in
-    let answers : (more : ℕ → State → Played) → HeldAnswers now next (played_line start.machine.image play.place.event play.machine.state play.place.line more (read_line start.machine.image.app c.line.result.now)) (Err end) =
-    subst (λ (j : Image). (more : ℕ → State → Played) → HeldAnswers now next (played_line j play.place.event play.machine.state play.place.line more (read_line j.app c.line.result.now)) (Err end)) inv.image c.in_err-play_line.ensures.line in
+    let answers : (more : ℕ → State → Played) → HeldAnswers now next (played_line c.args.showing start.machine.image play.place.event play.machine.state play.place.line more (read_line start.machine.image.app c.line.result.now)) (Err end) =
+    subst (λ (j : Image). (more : ℕ → State → Played) → HeldAnswers now next (played_line c.args.showing j play.place.event play.machine.state play.place.line more (read_line j.app c.line.result.now)) (Err end)) inv.image c.in_err-play_line.ensures.line in
     let p = err_from_is_err_and c.from_residual.result c.from_residual.ensures.1 in
-    rw (p.1, p.2) (line_ends_on first now next start.machine.image c.args.feed.now feed start.place.line start.place.event start.machine.state play.place.line play.place.event play.machine.state c.line.result.now end inv.finished is line answers inv.on)
+    rw (p.1, p.2) (line_ends_on first now next c.args.showing start.machine.image c.args.feed.now feed start.place.line start.place.event start.machine.state play.place.line play.place.event play.machine.state c.line.result.now end inv.finished is line answers inv.on)
 
 -- no line came out: the bytes ahead stay
 pub returns-clause-plays : goal.returns-clause-plays
@@ -89,7 +90,7 @@ returns-clause-plays g c =
     let start = c.args.self.now in
     let never : next_answer feed ≡ Line → ⊥ = (λ e. c.in_default.not-Line (c.next.ensures.answer ∙ e)) in
     let same : c.next.new.self.ahead ≡ feed.ahead = ap (λ (f : FeedState). f.ahead) c.next.ensures.after ∙ (no_line_ahead feed never).2 in
-    kept_on (given (sunk g.O.Sink c.args.out.now) start.buffer) (given (sunk g.O.Sink c.lines.out) c.lines.self.buffer) start.machine.image c.args.feed.now feed c.next.new.self
+    kept_on (given (sunk g.O.Sink c.args.out.now) start.buffer) (given (sunk g.O.Sink c.lines.out) c.lines.self.buffer) c.args.showing start.machine.image c.args.feed.now feed c.next.new.self
     start.place.line start.place.event start.machine.state c.lines.self.place.line c.lines.self.place.event c.lines.self.machine.state same inv.on
 
 pub returns-clause-no_more : goal.returns-clause-no_more

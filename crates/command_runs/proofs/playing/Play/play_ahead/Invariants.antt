@@ -10,7 +10,7 @@ invariant-lines g l = record {
   image : l.self.machine.image ≡ l.fn.self.machine.image;
   fits : l.self.place.line + length l.feed.ahead ≤ l.fn.self.place.line + length l.fn.feed.ahead;
   finished : l.feed.finished ≡ l.fn.feed.finished;
-  on : PlaysOn (given (sunk g.O.Sink l.initial.out) l.initial.self.buffer) (given (sunk g.O.Sink l.out) l.self.buffer) l.fn.self.machine.image l.fn.feed l.feed l.fn.self.place.line l.fn.self.place.event l.fn.self.machine.state l.self.place.line l.self.place.event l.self.machine.state;
+  on : PlaysOn (given (sunk g.O.Sink l.initial.out) l.initial.self.buffer) (given (sunk g.O.Sink l.out) l.self.buffer) l.showing l.fn.self.machine.image l.fn.feed l.feed l.fn.self.place.line l.fn.self.place.event l.fn.self.machine.state l.self.place.line l.self.place.event l.self.machine.state;
 }
 
 abbrev pub decreases-lines : goal.decreases-lines

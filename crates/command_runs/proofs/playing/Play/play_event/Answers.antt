@@ -13,5 +13,5 @@ returns-then-step-clause-event g c =
     let now = c.step.new.self in
     let out = sunk g.O.Sink c.args.out.now in
     event_put (given out start.buffer) (given out now.buffer) (given (sunk g.O.Sink c.print_line.new.out) c.print_line.new.self.buffer)
-    start.machine.image now.machine.image start.place.event now.place.event c.print_line.new.self.machine.state _ (stepped now.machine.state c.step.new.notes) c.print_line.result
+    c.args.showing start.machine.image now.machine.image start.place.event now.place.event c.print_line.new.self.machine.state _ (stepped now.machine.state c.step.new.notes) c.print_line.result
     c.if-step.ensures.step (ap (given out) c.step.ensures.buffer) c.step.ensures.image (ap (λ (p : Place). p.event) c.step.ensures.place) (ap (λ (m : AtWork). m.state) c.print_line.ensures.machine) c.print_line.ensures.line

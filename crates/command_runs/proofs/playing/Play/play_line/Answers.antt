@@ -20,20 +20,20 @@ returns-in_ok-play_event-in-Ok-Some-clause-line g c =
     let m = c.args.self.now.machine in
     let at = c.args.self.now.place in
     let t = c.play_event.new.self.machine.state in
-    subst (λ (p : Place). GoesOn old new (λ (more : ℕ → State → Played). played_line m.image at.event m.state at.line more (read_line m.image.app c.args.line.now)) (p.event + 1) t) (sym c.in_ok-play_event-in-Ok-Some.ensures.place)
-    (line_played old new m.image at.event m.state t at.line _ c.in-Ok-Some.event _ is refl c.in_ok-play_event-in-Ok-Some.ensures.event)
+    subst (λ (p : Place). GoesOn old new (λ (more : ℕ → State → Played). played_line c.args.showing m.image at.event m.state at.line more (read_line m.image.app c.args.line.now)) (p.event + 1) t) (sym c.in_ok-play_event-in-Ok-Some.ensures.place)
+    (line_played old new c.args.showing m.image at.event m.state t at.line _ c.in-Ok-Some.event _ is refl c.in_ok-play_event-in-Ok-Some.ensures.event)
 
 pub returns-in_err-play_event-in-Ok-Some-clause-line : goal.returns-in_err-play_event-in-Ok-Some-clause-line
 returns-in_err-play_event-in-Ok-Some-clause-line g c =
     let is = read_is c.app.result.now c.args.self.now.machine.image.app c.args.line.now c.in-Ok-Some.field-0 _ c.in-Ok-Some.ensures c.app.ensures c.in-Ok-Some.field-0-is in
     let p = err_from_is_err_and c.from_residual.result c.from_residual.ensures.1 in
     rw (p.1, p.2) (line_ends (given (sunk g.O.Sink c.args.out.now) c.args.self.now.buffer) (given (sunk g.O.Sink c.play_event.new.out) c.play_event.new.self.buffer)
-    c.args.self.now.machine.image c.args.self.now.place.event c.args.self.now.machine.state c.play_event.new.self.machine.state c.args.self.now.place.line _ c.in-Ok-Some.event _ c.in_err-play_event-in-Ok-Some.field-0.0 is refl c.in_err-play_event-in-Ok-Some.ensures.event)
+    c.args.showing c.args.self.now.machine.image c.args.self.now.place.event c.args.self.now.machine.state c.play_event.new.self.machine.state c.args.self.now.place.line _ c.in-Ok-Some.event _ c.in_err-play_event-in-Ok-Some.field-0.0 is refl c.in_err-play_event-in-Ok-Some.ensures.event)
 
 pub returns-in-Ok-None-clause-line : goal.returns-in-Ok-None-clause-line
 returns-in-Ok-None-clause-line g c =
     let is = read_is c.app.result.now c.args.self.now.machine.image.app c.args.line.now c.in-Ok-None.field-0 _ c.in-Ok-None.ensures c.app.ensures c.in-Ok-None.field-0-is in
-    line_skipped (given (sunk g.O.Sink c.args.out.now) c.args.self.now.buffer) c.args.self.now.machine.image c.args.self.now.place.event c.args.self.now.machine.state c.args.self.now.place.line _ is
+    line_skipped (given (sunk g.O.Sink c.args.out.now) c.args.self.now.buffer) c.args.showing c.args.self.now.machine.image c.args.self.now.place.event c.args.self.now.machine.state c.args.self.now.place.line _ is
 
 pub returns-in-Ok-None-clause-image : goal.returns-in-Ok-None-clause-image
 returns-in-Ok-None-clause-image g c = refl

@@ -16,7 +16,7 @@ invariant-pieces g l = record {
   no_more : HasNoEnd l.feed.ahead;
   same : OnlyReads g.F.Shelf l.initial.shelf l.shelf;
   no_fault : Same (g.F.Shelf.read_faults l.initial.shelf) (g.F.Shelf.read_faults l.shelf);
-  come : HasCome (g.F.Shelf.contents l.initial.shelf) l.events (given (sunk g.O.Sink l.initial.out) l.initial.self.buffer) (given (sunk g.O.Sink l.out) l.self.buffer) l.fn.self.machine.image l.fn.self.machine.state l.taken l.feed l.self.place.line l.self.place.event l.self.machine.state;
+  come : HasCome (g.F.Shelf.contents l.initial.shelf) l.run.events.now (given (sunk g.O.Sink l.initial.out) l.initial.self.buffer) (given (sunk g.O.Sink l.out) l.self.buffer) l.run.showing l.fn.self.machine.image l.fn.self.machine.state l.taken l.feed l.self.place.line l.self.place.event l.self.machine.state;
 }
 
 abbrev pub decreases-pieces : goal.decreases-pieces

@@ -10,14 +10,14 @@ use Rattle.command_runs.proofs.playing.Play.print_trace.Goals as goal
 pub returns-clause-answer : goal.returns-clause-answer
 returns-clause-answer g c =
     let files = g.F.Shelf.contents c.args.shelf.now in
-    let name = c.args.events.now in
+    let name = c.args.run.now.events.now in
     let reads = g.F.Shelf.read_faults c.args.shelf.now name in
     let reads_after = g.F.Shelf.read_faults c.play-played.new.shelf name in
     let first = sunk g.O.Sink c.args.out.now in
     let mid = given (sunk g.O.Sink c.play-played.new.out) c.play-played.new.self.buffer in
     let last = sunk g.O.Sink c.print_held.new.out in
     let m = c.args.self.now.machine in
-    let play : List ℕ → Played = (λ t. printing (line_of m.image 0 (stepped m.state c.args.notes.now)) (plays m.image (numbered_lines t) 1 m.state)) in
+    let play : List ℕ → Played = (λ t. printing (line_of c.args.run.now.showing m.image 0 (stepped m.state c.args.notes.now)) (plays c.args.run.now.showing m.image (numbered_lines t) 1 m.state)) in
     let r = c.play-played.result in
     let held : HeldReadAnswers files name reads reads_after (given first []) mid play r =
     subst (λ (xs : List ℕ). HeldReadAnswers files name reads reads_after (given first xs) mid play r) c.requires.nothing_held c.play-played.ensures.answer in
@@ -26,14 +26,14 @@ returns-clause-answer g c =
 pub returns-in_err-print_held-clause-answer : goal.returns-in_err-print_held-clause-answer
 returns-in_err-print_held-clause-answer g c =
     let files = g.F.Shelf.contents c.args.shelf.now in
-    let name = c.args.events.now in
+    let name = c.args.run.now.events.now in
     let reads = g.F.Shelf.read_faults c.args.shelf.now name in
     let reads_after = g.F.Shelf.read_faults c.play-played.new.shelf name in
     let first = sunk g.O.Sink c.args.out.now in
     let mid = given (sunk g.O.Sink c.play-played.new.out) c.play-played.new.self.buffer in
     let last = sunk g.O.Sink c.print_held.new.out in
     let m = c.args.self.now.machine in
-    let play : List ℕ → Played = (λ t. printing (line_of m.image 0 (stepped m.state c.args.notes.now)) (plays m.image (numbered_lines t) 1 m.state)) in
+    let play : List ℕ → Played = (λ t. printing (line_of c.args.run.now.showing m.image 0 (stepped m.state c.args.notes.now)) (plays c.args.run.now.showing m.image (numbered_lines t) 1 m.state)) in
     let r = c.play-played.result in
     let held : HeldReadAnswers files name reads reads_after (given first []) mid play r =
     subst (λ (xs : List ℕ). HeldReadAnswers files name reads reads_after (given first xs) mid play r) c.requires.nothing_held c.play-played.ensures.answer in

@@ -10,7 +10,7 @@ loop-block-preserved c =
     let self = c.args.self.now in
     let table = table_of self.pool.now self.rows.now in
     let i = c.loop-block.block in
-    listed_number self.app.now table 4 i c.loop-block.findings.items c.push_if.new.findings.items (finding.Free (block_no i)) c.in_ok-holds.holds c.loop-block.invariant c.in_ok-holds.ensures refl (free_once self.app.now table (block_no i) i refl) c.in_ok-push_if.ensures
+    listed_number self.app.now table 4 i c.loop-block.findings.items c.push_if.new.findings.items (finding.Free (block_no i)) c.is_free-holds.result c.loop-block.invariant c.is_free-holds.ensures refl (free_once self.app.now table (block_no i) i refl) c.in_ok-push_if.ensures
 
 pub returns : goal.returns
 returns c =
