@@ -12,6 +12,7 @@ mod passing;
 mod plain_form;
 mod pool;
 mod seen_values;
+mod shared_values;
 mod slot_values;
 mod slots;
 mod stacks;

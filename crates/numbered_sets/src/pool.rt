@@ -2,7 +2,7 @@
 ghost use Rattle.std.specs.Prelude.{◌≡◌};
 
 use crate::numbered_entry::NumberedEntry;
-use crate::seen_values::SeenValues;
+use crate::shared_values::SharedValues;
 use abstract_state::{Domain, PartValue};
 use flow_model::{Test, Update};
 use osek_values::{Memory, Seq};
@@ -12,7 +12,7 @@ use std::marker::Model;
 /// The values that each component was seen with, in the order of first use. A value keeps its number as more come in.
 #[derive(Drop)]
 pub struct Pool {
-    components: Seq<SeenValues>,
+    components: Seq<SharedValues>,
 }
 
 impl Model for Pool {
@@ -37,7 +37,7 @@ impl Pool {
     {
         let mut components = Seq::new(alloc);
         for domain in domains {
-            components.push(SeenValues::new(alloc, *domain))?;
+            components.push(SharedValues::new(alloc, *domain)?)?;
         }
         Ok(Pool { components })
     }
@@ -93,7 +93,7 @@ impl Pool {
         requires { component < length self.now }
         ensures { result ≡ length (values_at self.now component) }
     {
-        self.components.at(component).len()
+        self.components.at(component).seen().len()
     }
 
     /// What a component's values are values of.
@@ -101,7 +101,7 @@ impl Pool {
         requires { component < length self.now }
         ensures { result ≡ domain_at self.now component }
     {
-        self.components.at(component).domain()
+        self.components.at(component).seen().domain()
     }
 
     /// A component's value with a number.
@@ -110,7 +110,7 @@ impl Pool {
         requires given { number < length (values_at self.now component) }
         ensures { IsNumberOf (values_at self.now component) result number }
     {
-        self.components.at(component).value(number)
+        self.components.at(component).seen().value(number)
     }
 
     /// The number of what a component's value would be at the block before its own, if that was seen.
@@ -119,7 +119,7 @@ impl Pool {
         requires given { number < length (values_at self.now component) }
         ensures { IfSome result (IsBeside (values_at self.now component) number) }
     {
-        self.components.at(component).beside(number)
+        self.components.at(component).seen().beside(number)
     }
 
     /// Whether a component's set has the number of a value.
@@ -129,6 +129,7 @@ impl Pool {
     {
         self.components
             .at(component)
+            .seen()
             .has_value(value, component, entry)
     }
 
@@ -148,16 +149,17 @@ impl Pool {
     {
         self.components
             .at(component)
+            .seen()
             .keep_passing(alloc, test, component, entry)
     }
 
-    /// Another pool with the same values under the same numbers.
+    /// Another pool with the same values under the same numbers. The two share a component's values until either gets a new one there.
     pub fn copy(&self, alloc: Global) -> Result<Pool, Memory>
         ensures { IfOk result (λ pool. pool ≡ self.now) }
     {
         let mut components = Seq::new(alloc);
         for seen in self.components.as_slice() {
-            components.push(seen.copy(alloc)?)?;
+            components.push(seen.share()?)?;
         }
         Ok(Pool { components })
     }
@@ -167,7 +169,7 @@ impl Pool {
         ensures { All AreValues self.now }
     {
         for seen in self.components.as_slice() {
-            seen.are_values();
+            seen.seen().are_values();
         }
     }
 }

@@ -7,7 +7,7 @@ use crate::stacks::Stacks;
 use abstract_state::{Domain, PartValue};
 use flow_model::Update;
 use osek_values::{BlockNo, Memory};
-use std::alloc::Global;
+use std::alloc::{AllocError, Global};
 use std::marker::Model;
 
 /// Different values of a domain in the order of first use: each has its place as its number. A value takes eight bytes: its slot
@@ -27,6 +27,21 @@ impl Model for SeenValues {
     ghost view = { λ s. record { domain = s.domain; values = slot_values s.domain s.stacks s.slots } };
 
     ghost invariant = { λ s. AreNumbered s.domain (slot_values s.domain s.stacks s.slots) × AreSlots s.domain s.stacks s.slots };
+}
+
+impl Clone for SeenValues {
+    ghost is_clone = { λ seen copy. copy ≡ seen };
+
+    fn clone(&self) -> Result<SeenValues, AllocError> {
+        let domain = self.domain;
+        let stacks = self.stacks.clone()?;
+        let slots = self.slots.clone()?;
+        Ok(SeenValues {
+            domain,
+            stacks,
+            slots,
+        })
+    }
 }
 
 impl SeenValues {
@@ -111,6 +126,21 @@ impl SeenValues {
         self.number(&value)
     }
 
+    /// The number of what an update makes of the value with a number, if it was seen.
+    pub fn found_after(&self, number: usize, update: &Update) -> Option<usize>
+        requires { number < length self.now.values }
+        ensures { IfSome result (λ n. (v : PartValue) → IsNumberOf self.now.values v number → IsNumberOf self.now.values (updated update.now v) n) }
+    {
+        if let Update::Block(block) = update {
+            let slot = self.slots.at(number);
+            if let Some(moved) = slot_at_block(self.domain, &self.stacks, slot, *block) {
+                return self.slots.find(moved);
+            }
+        }
+        let value = update.of(&self.value(number));
+        self.number_of(&value)
+    }
+
     /// The number of what a Live value would be at the block before its own, if it was seen.
     pub fn beside(&self, number: usize) -> Option<usize>
         requires { number < length self.now.values }
@@ -136,17 +166,6 @@ impl SeenValues {
             None => false,
             Some(moved) => moved == slot,
         }
-    }
-
-    /// The same values under the same numbers.
-    pub fn copy(&self, alloc: Global) -> Result<SeenValues, Memory>
-        ensures { IfOk result (λ copy. copy ≡ self.now) }
-    {
-        Ok(SeenValues {
-            domain: self.domain,
-            stacks: self.stacks.copy(alloc)?,
-            slots: self.slots.copy(alloc)?,
-        })
     }
 
     /// None stands twice, and each is one of the domain's.

@@ -3,7 +3,7 @@ ghost use Rattle.std.specs.Prelude.{ℕ, ◌≡◌, ◌≤◌, List, length, OnO
 ghost use Rattle.numbered_sets.specs.Slots.{AreNumbersBySlot};
 
 use osek_values::Memory;
-use std::alloc::Global;
+use std::alloc::{AllocError, Global};
 use std::marker::Model;
 
 /// Different slots in the order of first use: each has its place as its number. Both are found by the other without a search.
@@ -25,6 +25,17 @@ impl Model for Slots {
     ghost view = { λ s. s.used.items };
 
     ghost invariant = { λ s. AreNumbersBySlot s.used.items s.numbers.items };
+}
+
+impl Clone for Slots {
+    ghost is_clone = { λ slots copy. copy ≡ slots };
+
+    fn clone(&self) -> Result<Slots, AllocError> {
+        let alloc = *self.used.allocator();
+        let used = Vec::from_slice(alloc, self.used.as_slice())?;
+        let numbers = Vec::from_slice(alloc, self.numbers.as_slice())?;
+        Ok(Slots { used, numbers })
+    }
 }
 
 impl Slots {
@@ -100,15 +111,6 @@ impl Slots {
         self.used.push(slot as u32)?;
         self.numbers[slot] = number as u32;
         Ok(())
-    }
-
-    /// The same slots under the same numbers.
-    pub fn copy(&self, alloc: Global) -> Result<Slots, Memory>
-        ensures { IfOk result (λ copy. copy ≡ self.now) }
-    {
-        let used = Vec::from_slice(alloc, self.used.as_slice())?;
-        let numbers = Vec::from_slice(alloc, self.numbers.as_slice())?;
-        Ok(Slots { used, numbers })
     }
 }
 

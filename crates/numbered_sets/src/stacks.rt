@@ -3,7 +3,7 @@ ghost use Rattle.std.specs.Prelude.{◌≡◌};
 
 use indexmap::IndexSet;
 use osek_values::{Held, Memory};
-use std::alloc::Global;
+use std::alloc::{AllocError, Global};
 use std::hash::{Hash, Hasher};
 use std::marker::Model;
 
@@ -63,6 +63,20 @@ impl Model for Stacks {
     ghost view = { λ s. key_stacks s.seen.keys };
 
     ghost invariant = { λ s. AreDistinct (key_stacks s.seen.keys) × (length (key_stacks s.seen.keys) ≤ 2 ^ 32) };
+}
+
+impl Clone for Stacks {
+    ghost is_clone = { λ stacks copy. copy ≡ stacks };
+
+    fn clone(&self) -> Result<Stacks, AllocError> {
+        let mut copy = Stacks::new(*self.seen.allocator());
+        for number in 0..self.len() {
+            let Ok(_number) = copy.number(self.at(number)) else {
+                return Err(AllocError);
+            };
+        }
+        Ok(copy)
+    }
 }
 
 impl Stacks {
@@ -125,16 +139,5 @@ impl Stacks {
         let key = Stack { held: held.copy() };
         let (number, _is_new) = self.seen.insert_full(key)?;
         Ok(number)
-    }
-
-    /// The same stacks under the same numbers.
-    pub fn copy(&self, alloc: Global) -> Result<Stacks, Memory>
-        ensures { IfOk result (λ copy. copy ≡ self.now) }
-    {
-        let mut copy = Stacks::new(alloc);
-        for number in 0..self.len() {
-            copy.number(self.at(number))?;
-        }
-        Ok(copy)
     }
 }
