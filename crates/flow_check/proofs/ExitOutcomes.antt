@@ -112,7 +112,7 @@ alike_in_group pool g (ends.At points) x m =
     let is = map_among f x points (contained_among (map f points) x m) in
     (ap (λ (y : Exit). y.decision) is.2, ap (λ (y : Exit). y.status) is.2)
 alike_in_group pool g (ends.With c ns) x m =
-    let f = λ (n : NumberEnd). exit_at pool g (holding g.entry c n.number) n.target in
+    let f = λ (n : NumberEnd). exit_at pool g (holding g.entry c n.numbers) n.target in
     let is = map_among f x ns (contained_among (map f ns) x m) in
     (ap (λ (y : Exit). y.decision) is.2, ap (λ (y : Exit). y.status) is.2)
 
@@ -123,7 +123,7 @@ some_in_group pool g (ends.At (p ∷ ps)) some =
     (f p, among_contained (map f (p ∷ ps)) (f p) (inl refl))
 some_in_group pool g (ends.With c []) some = absurd (omega (arith, some))
 some_in_group pool g (ends.With c (n ∷ ns)) some =
-    let f = λ (x : NumberEnd). exit_at pool g (holding g.entry c x.number) x.target in
+    let f = λ (x : NumberEnd). exit_at pool g (holding g.entry c x.numbers) x.target in
     (f n, among_contained (map f (n ∷ ns)) (f n) (inl refl))
 
 pub none_in_group : (pool : List Values) (g : ExitGroup) (xs : Ends) → end_count xs ≡ 0 → (x : Exit) → Contains (exits_by pool g xs) x → ⊥

@@ -22,7 +22,7 @@ module _ (pool : List Values) (g : ExitGroup) where
 
   exits_with : (c : ℕ) (xs : List NumberEnd) → exits_by pool g (ends.With c xs) ≡ map (exit_by pool g) (ends_by g.entry (ends.With c xs))
   exits_with c [] = refl
-  exits_with c (x ∷ xs) = ap (λ (ys : List Exit). exit_at pool g (holding g.entry c x.number) x.target ∷ ys) (exits_with c xs)
+  exits_with c (x ∷ xs) = ap (λ (ys : List Exit). exit_at pool g (holding g.entry c x.numbers) x.target ∷ ys) (exits_with c xs)
 
   pub exits_are : (e : Ends) → exits_by pool g e ≡ map (exit_by pool g) (ends_by g.entry e)
   exits_are (ends.At points) = exits_at points
@@ -34,13 +34,13 @@ module _ (pool : List Values) (g : ExitGroup) where
       let at = map_among (λ (p : Point). end_at p g.entry) x points (contained_among (map (λ (p : Point). end_at p g.entry) points) x m) in
       subst (λ (y : NumberedEnd). AreNumbersOf pool y.entry) (sym at.2) numbers
   end_known (ends.With c xs) numbers known x m =
-      let f = λ (y : NumberEnd). end_at y.target (holding g.entry c y.number) in
+      let f = λ (y : NumberEnd). end_at y.target (holding g.entry c y.numbers) in
       let at = map_among f x xs (contained_among (map f xs) x m) in
-      subst (λ (y : NumberedEnd). AreNumbersOf pool y.entry) (sym at.2) (held_known pool g.entry c at.0.number known.0 numbers (known.1 at.0 (among_contained xs at.0 at.1)))
+      subst (λ (y : NumberedEnd). AreNumbersOf pool y.entry) (sym at.2) (held_known pool g.entry c at.0.numbers known.0 numbers (known.1 at.0 (among_contained xs at.0 at.1)))
 
   pub set_for : (e : Ends) → AreKnownEnds pool g.entry e → HasSetFor g.entry e
   set_for (ends.At points) known = tt
-  set_for (ends.With c xs) known = known.0
+  set_for (ends.With c xs) known = (known.0, λ x m. (known.1 x m).domain)
 
 -- an exit of groups is one of their ends, and the other way round
 pub record HasEnd (pool : List Values) (groups : List ExitGroup) (x : Exit) : Type 0 where

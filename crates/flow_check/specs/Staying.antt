@@ -1,11 +1,11 @@
 -- Whether the exits of a point lead into a table.
-use Rattle.std.specs.Prelude.{◌⊎◌, ⊤, ℕ, ◌<◌, List, length, map, IsTrue, Contains}
+use Rattle.std.specs.Prelude.{◌≡◌, ◌⊎◌, ⊤, ℕ, ◌<◌, List, length, map, IsTrue, Contains}
 use Rattle.osek_standard.specs.{declared.{app.App.{App}, point.Point.{Point}}, Points.{point_number}}
 use Rattle.abstract_state.specs.declared.{value.PartValue.{PartValue}, table.TableRow.{TableRow}}
 use Rattle.abstract_state.specs.{Components.{component_count}, Tables.{Sets, set_at, is_member}}
 use Rattle.flow_exits.specs.declared.exit.Exit.{Exit}
 use Rattle.numbered_sets.specs.declared.{numbered_entry.NumberedEntry.{NumberedEntry}, table.NumberedRow.{NumberedRow}}
-use Rattle.numbered_sets.specs.{NumberedEntries.{IsBelowNumbers}, Within.{HasNumberBeside}, PlainTables.{row_at}}
+use Rattle.numbered_sets.specs.{NumberedEntries.{numbers_at, IsBelowNumbers}, Within.{HasNumberBeside}, PlainTables.{row_at}}
 use Rattle.flow_rules.specs.{declared.group.{NumberEnd.{NumberEnd}, Ends.{Ends}, ExitGroup.{ExitGroup}}, Groups.{holding}}
 use Rattle.flow_rules.specs.declared.group.Ends.TheVariants as ends
 use Rattle.flow_check.specs.Rows.{IsRowWith, HasNoRowWith}
@@ -41,12 +41,12 @@ end_at p entry = record { target = p; entry = entry }
 -- the ends of a group of exits
 abbrev pub ends_by : NumberedEntry → Ends → List NumberedEnd
 ends_by entry (ends.At points) = map (λ (p : Point). end_at p entry) points
-ends_by entry (ends.With c xs) = map (λ (x : NumberEnd). end_at x.target (holding entry c x.number)) xs
+ends_by entry (ends.With c xs) = map (λ (x : NumberEnd). end_at x.target (holding entry c x.numbers)) xs
 
--- the component whose values the ends tell apart has a set
+-- the component whose values the ends tell apart has a set, of the same domain as theirs
 abbrev pub HasSetFor : NumberedEntry → Ends → Type 0
 HasSetFor entry (ends.At points) = ⊤
-HasSetFor entry (ends.With c xs) = c < length entry.sets
+HasSetFor entry (ends.With c xs) = (c < length entry.sets) × ((x : NumberEnd) → Contains xs x → x.numbers.domain ≡ (numbers_at entry c).domain)
 
 -- its point has a row, with all of its numbers
 pub record IsIn (rows : List NumberedRow) (x : NumberedEnd) : Type 0 where

@@ -60,21 +60,21 @@ fn all_at(points: &[Point], entry: &NumberedEntry, rows: &[NumberedRow]) -> bool
     true
 }
 
-// with each of these numbers of a component alone, at its point
+// with the numbers of each end of a component alone, at its point
 fn all_with(
     component: usize,
     ends: &[NumberEnd],
     entry: NumberedEntry,
     rows: &[NumberedRow],
 ) -> Result<bool, Memory>
-    requires component { component < length entry.sets }
+    requires set { HasSetFor entry (ends_of.With component ends.now) }
     requires order { AreInOrder rows.now }
     ensures stay { IfOk result (λ stay. OnTrue stay (AreIn rows.now (ends_by entry (ends_of.With component ends.now)))) }
     ensures out { IfOk result (λ stay. OnFalse stay (IsSomeOut rows.now (ends_by entry (ends_of.With component ends.now)))) }
 {
     let mut held = entry;
     for end in ends {
-        held.hold_only(component, end.number)?;
+        held.sets.put(component, &end.numbers)?;
         if !is_in(end.target, &held, rows) {
             return Ok(false);
         }

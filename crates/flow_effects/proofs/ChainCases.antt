@@ -21,7 +21,7 @@ use Rattle.flow_model.specs.declared.runner.Runner.{Runner}
 use Rattle.flow_model.specs.declared.runner.Runner.TheVariants as runner
 use Rattle.flow_model.specs.{Changes.{activating}, Tests.{passes, PassesAll, value_after}, Runners.{Stands, OwnsBlock, runner_point}, Effects.{HasEffect, AreCasesOf}}
 use Rattle.flow_model.specs.Cases.{goes_on}
-use Rattle.flow_model.proofs.{Activations.{activated_parts, activating_sets}, ChangeLaws.{each_passes, passes_each, sets_first}, Standing.{next_owned, task_calls, routine_calls}}
+use Rattle.flow_model.proofs.{Activations.{activated_parts}, ChangeLaws.{each_passes, passes_each}, Standing.{next_owned, task_calls, routine_calls}}
 use Rattle.flow_model.proofs.{Moves.{moved_suspended, went_on}, Calls.{asked_none, call_goes_on, call_has}}
 use Rattle.flow_effects.specs.{Conditions.{of_task}, TaskEnds.{suspends, refused_holding, chains, holding_nothing, chain_to_itself, chain_to_another, chain_cases}}
 use Rattle.flow_effects.proofs.Listed.{IsEffect, IsTaken, are_cases, more_listed, one_listed}
@@ -79,13 +79,12 @@ module _ (app : App) (t : TaskNo) (b : BlockNo) (owns : OwnsBlock app (runner.Ta
   full_after s h = ap (λ (a : Bool). not a) (moved_suspended app s h.well (place_at next 0) x.0)
 
   -- the components after a chain
-  chained_parts : (s : State) → Stands app s r b → (c : ℕ) → c < component_count app → abstract_of app (chained (after s)) c ≡ value_after (activating app x.0 ++ suspends t ∷ []) c (abstract_of app s c)
+  chained_parts : (s : State) → Stands app s r b → (c : ℕ) → c < component_count app → abstract_of app (chained (after s)) c ≡ value_after (suspends t ∷ activating app x.0) c (abstract_of app s c)
   chained_parts s h c lt =
       let on = went_on app s r b next h (next_owned app s r b h) in
       let here : x.0 < length (left (ended app (after s) t.0)).tasks = (let lx = known in omega (arith, lx, on.well.tasks_len, length-set (after s).tasks t.0 (record (task_state (after s) t.0) { activity = activity.Suspended }))) in
       activated_parts app (left (ended app (after s) t.0)) x.0 here known c lt
       ∙ ap (value_after (activating app x.0) c) (ended_after app t b owns s h c lt)
-      ∙ sym (sets_first (activating app x.0) (suspends t ∷ []) c (abstract_of app s c) (activating_sets app x.0))
 
   chains_has : (s : State) (choice : Bool) (conditions : List Condition) → Stands app s r b → holds_some (after s) t.0 ≡ false → (not (nat_eq x.0 t.0) && is_full app (after s) x.0) ≡ false → PassesAll app conditions (abstract_of app s) →
       HasEffect app (chains app t x conditions) s choice
@@ -165,5 +164,5 @@ module _ (app : App) (b : BlockNo) (x : TaskNo) (is : (the_block app b.0).kind �
 
   pub all_chains : (r : Runner) → OwnsBlock app r b → AreCasesOf app (runner_point r b) (chain_cases app r (the_block app b.0).next x)
   all_chains (runner.Task t) owns = chain_task_cases app t b owns x is
-  all_chains (runner.Routine over) owns = goes_on_cases app (runner.Routine over) b owns (kind.Call (call.Task call.ChainTask x)) (Some status.CallLevel) (λ u ch p y. refl) is
-      (λ s h. at_interrupt (moved_to s (the_block app b.0).next) (caller s.processor) h.runs.source (routine_calls app s over b h))
+  all_chains (runner.Routine k over) owns = goes_on_cases app (runner.Routine k over) b owns (kind.Call (call.Task call.ChainTask x)) (Some status.CallLevel) (λ u ch p y. refl) is
+      (λ s h. at_interrupt (moved_to s (the_block app b.0).next) (caller s.processor) k (routine_calls app s k over b h))

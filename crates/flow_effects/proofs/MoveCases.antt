@@ -113,7 +113,7 @@ stays_put app s (runner.Task t) b h c = elim (cases_eq c t.0) [
       change_here t.0 (update.Block b) c (abstract_of app s c) same ∙ ap (on_task (at_block b)) is ∙ sym is)
   | inr other ↦ change_there t.0 (update.Block b) c (abstract_of app s c) other
 ]
-stays_put app s (runner.Routine over) b h c = refl
+stays_put app s (runner.Routine k over) b h c = refl
 
 module _ (app : App) (r : Runner) (b : BlockNo) (owns : OwnsBlock app r b) where
   abbrev next : BlockNo
@@ -196,7 +196,7 @@ module _ (app : App) (r : Runner) (b : BlockNo) (owns : OwnsBlock app r b) where
 
   stands_point : (q : Runner) → StandsAt (runner_point q b) b
   stands_point (runner.Task t) = refl
-  stands_point (runner.Routine over) = refl
+  stands_point (runner.Routine k over) = refl
 
   module _ (count : ℕ) (is : (the_block app b.0).kind ≡ kind.Work count) where
     work_effect : (s : State) (choice : Bool) → Stands app s r b → effect app s choice ≡ noted app (if nat_lt ((here s).offset + 1) count then unnoted (moved s (place_at (here s).block ((here s).offset + 1))) ask.No else unnoted (moved_to s next) ask.No)

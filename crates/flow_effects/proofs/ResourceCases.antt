@@ -349,10 +349,10 @@ module _ (app : App) (b : BlockNo) (res : ResNo) where
 
   pub all_gets : (r : Runner) → OwnsBlock app r b → (the_block app b.0).kind ≡ kind.Call (call.Resource call.GetResource res) → AreCasesOf app (runner_point r b) (get_cases app r (the_block app b.0).next res)
   all_gets (runner.Task t) owns is = get_task_cases app t b owns res is
-  all_gets (runner.Routine over) owns is = goes_on_cases app (runner.Routine over) b owns (kind.Call (call.Resource call.GetResource res)) None (λ u ch p x. refl) is
-      (λ s h. at_interrupt (moved_to s (the_block app b.0).next) (caller s.processor) h.runs.source (routine_calls app s over b h))
+  all_gets (runner.Routine k over) owns is = goes_on_cases app (runner.Routine k over) b owns (kind.Call (call.Resource call.GetResource res)) None (λ u ch p x. refl) is
+      (λ s h. at_interrupt (moved_to s (the_block app b.0).next) (caller s.processor) k (routine_calls app s k over b h))
 
   pub all_releases : (r : Runner) → OwnsBlock app r b → (the_block app b.0).kind ≡ kind.Call (call.Resource call.ReleaseResource res) → AreCasesOf app (runner_point r b) (release_cases app r (the_block app b.0).next res)
   all_releases (runner.Task t) owns is = release_task_cases app t b owns res is
-  all_releases (runner.Routine over) owns is = goes_on_cases app (runner.Routine over) b owns (kind.Call (call.Resource call.ReleaseResource res)) None (λ u ch p x. refl) is
-      (λ s h. at_interrupt_too (moved_to s (the_block app b.0).next) (caller s.processor) h.runs.source (routine_calls app s over b h))
+  all_releases (runner.Routine k over) owns is = goes_on_cases app (runner.Routine k over) b owns (kind.Call (call.Resource call.ReleaseResource res)) None (λ u ch p x. refl) is
+      (λ s h. at_interrupt_too (moved_to s (the_block app b.0).next) (caller s.processor) k (routine_calls app s k over b h))

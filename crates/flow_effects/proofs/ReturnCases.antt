@@ -1,6 +1,6 @@
 -- The cases of the end of a routine are its effects.
 use Rattle.std.proofs.Common.{◌≡◌, ℕ, ◌<◌, Bool, [], ◌∷◌, length, refl, sym, ap, subst, ◌∙◌, Some, None}
-use Rattle.osek_values.specs.declared.numbers.{TaskNo.{TaskNo}, BlockNo.{BlockNo}}
+use Rattle.osek_values.specs.declared.numbers.{TaskNo.{TaskNo}, BlockNo.{BlockNo}, SourceNo.{SourceNo}}
 use Rattle.osek_values.specs.declared.status.Ask.TheVariants as ask
 use Rattle.oil_system.specs.declared.objects.Schedule.{Schedule, TheVariants.{Non, Full}}
 use Rattle.osek_standard.specs.declared.app.App.{App}
@@ -37,27 +37,26 @@ module _ (app : App) (b : BlockNo) (is : (the_block app b.0).kind ≡ kind.IsrEn
   return_effect r s choice p h e = effect_there app s r b kind.IsrEnd choice h is ∙ ap (λ (q : Processor). noted app (returned_by app s q)) e
 
   -- over none
-  none_returns : OwnsBlock app (runner.Routine None) b → AreCasesOf app (runner_point (runner.Routine None) b) (leaves_idle ∷ [])
-  none_returns owns = one_case app (runner.Routine None) b owns leaves_idle refl (
+  none_returns : (k : SourceNo) → OwnsBlock app (runner.Routine k None) b → AreCasesOf app (runner_point (runner.Routine k None) b) (leaves_idle ∷ [])
+  none_returns k owns = one_case app (runner.Routine k None) b owns leaves_idle refl (
     tt,
     λ s choice h passing.
-        let k = h.runs.source in
         has_effect app leaves_idle s choice (noted app (unnoted (with_processor (with_source s k.0 source.Out) processor.Idle) ask.Free))
-        (return_effect (runner.Routine None) s choice (processor.Interrupted k None) h h.runs.runs) passing refl
+        (return_effect (runner.Routine k None) s choice (processor.Interrupted k None) h h.runs.runs) passing refl
         (λ c lt. back_parts s k.0 processor.Idle (component_at app c)) refl refl,
   )
 
   -- over a task
-  module _ (t : TaskNo) (owns : OwnsBlock app (runner.Routine (Some t)) b) where
+  module _ (k : SourceNo) (t : TaskNo) (owns : OwnsBlock app (runner.Routine k (Some t)) b) where
     abbrev r : Runner
-    r = runner.Routine (Some t)
+    r = runner.Routine k (Some t)
 
     known : t.0 < length app.tasks
     known = owns.task
 
     -- the interrupted task is Live
     interrupted : (s : State) → Stands app s r b → HasProcessor app s t
-    interrupted s h = let has : IsRoutine app s h.runs.source (Some t) = subst (IsProcessor app s) h.runs.runs h.well.processor in has.over
+    interrupted s h = let has : IsRoutine app s k (Some t) = subst (IsProcessor app s) h.runs.runs h.well.processor in has.over
 
     -- and stands at the block of its value
     stands_there : (s : State) → Stands app s r b → point.Task (block_of (val_of (abstract_of app s t.0))) ≡ point.Task (place_in (task_state s t.0).activity).block
@@ -67,7 +66,6 @@ module _ (app : App) (b : BlockNo) (is : (the_block app b.0).kind ≡ kind.IsrEn
 
     returns : IsEffect app r b (goes_back app t)
     returns s choice h passing =
-        let k = h.runs.source in
         let after : State = with_source s k.0 source.Out in
         has_effect app (goes_back app t) s choice (noted app (unnoted (with_processor after (processor.Running t)) (asked_over (the_task app t.0).schedule)))
         (return_effect r s choice (processor.Interrupted k (Some t)) h h.runs.runs) passing
@@ -77,5 +75,5 @@ module _ (app : App) (b : BlockNo) (is : (the_block app b.0).kind ≡ kind.IsrEn
 
   pub all_returns : (r : Runner) → OwnsBlock app r b → AreCasesOf app (runner_point r b) (return_cases app r b)
   all_returns (runner.Task t) owns = idle_cases app (runner.Task t) b owns (λ s choice h. return_effect (runner.Task t) s choice (processor.Running t) h h.runs.runs)
-  all_returns (runner.Routine None) owns = none_returns owns
-  all_returns (runner.Routine (Some t)) owns = one_case app (runner.Routine (Some t)) b owns (goes_back app t) refl (owns.task, returns t owns)
+  all_returns (runner.Routine k None) owns = none_returns k owns
+  all_returns (runner.Routine k (Some t)) owns = one_case app (runner.Routine k (Some t)) b owns (goes_back app t) refl (owns.task, returns k t owns)

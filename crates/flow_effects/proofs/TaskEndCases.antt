@@ -172,45 +172,45 @@ module _ (app : App) (t : TaskNo) (b : BlockNo) (owns : OwnsBlock app (runner.Ta
         (λ s h. either_held rescheduled refl s)
 
 -- a routine's calls of these are refused, and it has no task's end
-module _ (app : App) (over : Option TaskNo) (b : BlockNo) (owns : OwnsBlock app (runner.Routine over) b) where
+module _ (app : App) (k : SourceNo) (over : Option TaskNo) (b : BlockNo) (owns : OwnsBlock app (runner.Routine k over) b) where
   abbrev q : Runner
-  q = runner.Routine over
+  q = runner.Routine k over
 
   abbrev onto : BlockNo
   onto = (the_block app b.0).next
 
-  terminate_at_interrupt : (s : State) (c : Caller) (k : SourceNo) → c ≡ Routine k → terminate_task app s c ≡ refused s status.CallLevel
+  terminate_at_interrupt : (s : State) (c : Caller) → c ≡ Routine k → terminate_task app s c ≡ refused s status.CallLevel
   unfolding terminate_task
-  terminate_at_interrupt s c k e = ap (terminate_task app s) e
+  terminate_at_interrupt s c e = ap (terminate_task app s) e
 
-  schedule_at_interrupt : (s : State) (c : Caller) (k : SourceNo) → c ≡ Routine k → schedule s c ≡ refused s status.CallLevel
+  schedule_at_interrupt : (s : State) (c : Caller) → c ≡ Routine k → schedule s c ≡ refused s status.CallLevel
   unfolding schedule
-  schedule_at_interrupt s c k e = ap (schedule s) e
+  schedule_at_interrupt s c e = ap (schedule s) e
 
   pub terminate_routine_cases : (the_block app b.0).kind ≡ kind.Call (call.Plain call.TerminateTask) → AreCasesOf app (runner_point q b) (terminate_cases q onto)
   terminate_routine_cases is = goes_on_cases app q b owns (kind.Call (call.Plain call.TerminateTask)) (Some status.CallLevel) (λ u ch p x. refl) is
-      (λ s h. terminate_at_interrupt (moved_to s onto) (caller s.processor) h.runs.source (routine_calls app s over b h))
+      (λ s h. terminate_at_interrupt (moved_to s onto) (caller s.processor) (routine_calls app s k over b h))
 
   pub schedule_routine_cases : (the_block app b.0).kind ≡ kind.Call (call.Plain call.Schedule) → AreCasesOf app (runner_point q b) (schedule_cases q onto)
   schedule_routine_cases is = goes_on_cases app q b owns (kind.Call (call.Plain call.Schedule)) (Some status.CallLevel) (λ u ch p x. refl) is
-      (λ s h. schedule_at_interrupt (moved_to s onto) (caller s.processor) h.runs.source (routine_calls app s over b h))
+      (λ s h. schedule_at_interrupt (moved_to s onto) (caller s.processor) (routine_calls app s k over b h))
 
-  end_at_interrupt : (s : State) (c : Caller) (k : SourceNo) → c ≡ Routine k → end_task app s c ≡ unnoted s ask.No
-  end_at_interrupt s c k e = ap (end_task app s) e
+  end_at_interrupt : (s : State) (c : Caller) → c ≡ Routine k → end_task app s c ≡ unnoted s ask.No
+  end_at_interrupt s c e = ap (end_task app s) e
 
   pub routine_task_end : (the_block app b.0).kind ≡ kind.TaskEnd → AreCasesOf app (runner_point q b) (task_end_cases q b)
   routine_task_end is = idle_cases app q b owns (λ s choice h.
-      effect_there app s q b kind.TaskEnd choice h is ∙ ap (noted app) (end_at_interrupt s (caller s.processor) h.runs.source (routine_calls app s over b h)))
+      effect_there app s q b kind.TaskEnd choice h is ∙ ap (noted app) (end_at_interrupt s (caller s.processor) (routine_calls app s k over b h)))
 
 module _ (app : App) (b : BlockNo) where
   pub all_task_ends : (r : Runner) → OwnsBlock app r b → (the_block app b.0).kind ≡ kind.TaskEnd → AreCasesOf app (runner_point r b) (task_end_cases r b)
   all_task_ends (runner.Task t) owns is = task_end app t b owns is
-  all_task_ends (runner.Routine over) owns is = routine_task_end app over b owns is
+  all_task_ends (runner.Routine k over) owns is = routine_task_end app k over b owns is
 
   pub all_terminates : (r : Runner) → OwnsBlock app r b → (the_block app b.0).kind ≡ kind.Call (call.Plain call.TerminateTask) → AreCasesOf app (runner_point r b) (terminate_cases r (the_block app b.0).next)
   all_terminates (runner.Task t) owns is = terminate_task_cases app t b owns is
-  all_terminates (runner.Routine over) owns is = terminate_routine_cases app over b owns is
+  all_terminates (runner.Routine k over) owns is = terminate_routine_cases app k over b owns is
 
   pub all_schedules : (r : Runner) → OwnsBlock app r b → (the_block app b.0).kind ≡ kind.Call (call.Plain call.Schedule) → AreCasesOf app (runner_point r b) (schedule_cases r (the_block app b.0).next)
   all_schedules (runner.Task t) owns is = schedule_task_cases app t b owns is
-  all_schedules (runner.Routine over) owns is = schedule_routine_cases app over b owns is
+  all_schedules (runner.Routine k over) owns is = schedule_routine_cases app k over b owns is

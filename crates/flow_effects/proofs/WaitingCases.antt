@@ -230,25 +230,25 @@ module _ (app : App) (t : TaskNo) (b : BlockNo) (owns : OwnsBlock app (runner.Ta
 
 -- a routine's call is refused
 module _ (app : App) (b : BlockNo) (m : Mask) (is : (the_block app b.0).kind ≡ kind.Call (call.Mask call.WaitEvent m)) where
-  module _ (over : Option TaskNo) (owns : OwnsBlock app (runner.Routine over) b) where
+  module _ (k : SourceNo) (over : Option TaskNo) (owns : OwnsBlock app (runner.Routine k over) b) where
     abbrev onto : BlockNo
     onto = (the_block app b.0).next
 
-    at_interrupt : (s : State) (c : Caller) (k : SourceNo) → c ≡ Routine k → wait_event app s c m.0 ≡ refused s status.CallLevel
+    at_interrupt : (s : State) (c : Caller) → c ≡ Routine k → wait_event app s c m.0 ≡ refused s status.CallLevel
     unfolding wait_event
-    at_interrupt s c k e = ap (λ (d : Caller). wait_event app s d m.0) e
+    at_interrupt s c e = ap (λ (d : Caller). wait_event app s d m.0) e
 
-    wait_routine_cases : AreCasesOf app (runner_point (runner.Routine over) b) (refuses (runner.Routine over) onto status.CallLevel)
-    wait_routine_cases = one_case app (runner.Routine over) b owns (goes_on (runner.Routine over) onto [] asked.No (Some status.CallLevel)) refl (
+    wait_routine_cases : AreCasesOf app (runner_point (runner.Routine k over) b) (refuses (runner.Routine k over) onto status.CallLevel)
+    wait_routine_cases = one_case app (runner.Routine k over) b owns (goes_on (runner.Routine k over) onto [] asked.No (Some status.CallLevel)) refl (
       tt,
       λ s choice h passing.
-          has_effect app (goes_on (runner.Routine over) onto [] asked.No (Some status.CallLevel)) s choice (noted app (answer (moved_to s onto) (Some status.CallLevel) None ask.No))
-          (effect_there app s (runner.Routine over) b (kind.Call (call.Mask call.WaitEvent m)) choice h is
-          ∙ ap (λ (y : Answer). noted app (goes_on_unless_left onto y)) (at_interrupt s (caller s.processor) h.runs.source (routine_calls app s over b h)))
-          passing (point_there app (moved_to s onto) (runner.Routine over) onto (went_on app s (runner.Routine over) b onto h (next_owned app s (runner.Routine over) b h)))
-          (λ c lt. moved_parts app s onto 0 (runner.Routine over) b h c lt) refl refl,
+          has_effect app (goes_on (runner.Routine k over) onto [] asked.No (Some status.CallLevel)) s choice (noted app (answer (moved_to s onto) (Some status.CallLevel) None ask.No))
+          (effect_there app s (runner.Routine k over) b (kind.Call (call.Mask call.WaitEvent m)) choice h is
+          ∙ ap (λ (y : Answer). noted app (goes_on_unless_left onto y)) (at_interrupt s (caller s.processor) (routine_calls app s k over b h)))
+          passing (point_there app (moved_to s onto) (runner.Routine k over) onto (went_on app s (runner.Routine k over) b onto h (next_owned app s (runner.Routine k over) b h)))
+          (λ c lt. moved_parts app s onto 0 (runner.Routine k over) b h c lt) refl refl,
     )
 
   pub all_waits : (r : Runner) → HasMasks app → OwnsBlock app r b → AreCasesOf app (runner_point r b) (wait_cases app r b (the_block app b.0).next m)
   all_waits (runner.Task t) few owns = wait_task_cases app t b owns m is few
-  all_waits (runner.Routine over) few owns = wait_routine_cases over owns
+  all_waits (runner.Routine k over) few owns = wait_routine_cases k over owns

@@ -50,9 +50,9 @@ abbrev pub get_cases : App → Runner → BlockNo → ResNo → List EffectCase
 get_cases app (runner.Task t) n r =
     if is_barred app t r then refuses (runner.Task t) n status.Access
     else taken_cases t n r (length app.tasks) ++ takes t n r (length app.tasks) ∷ []
-get_cases app (runner.Routine over) n r = onward (runner.Routine over) n
+get_cases app (runner.Routine k over) n r = onward (runner.Routine k over) n
 
 abbrev pub release_cases : App → Runner → BlockNo → ResNo → List EffectCase
 release_cases app (runner.Task t) n r =
     if is_barred app t r then refuses (runner.Task t) n status.Access else gives_back app t n r ∷ isnt_on_top t n r ∷ []
-release_cases app (runner.Routine over) n r = onward (runner.Routine over) n
+release_cases app (runner.Routine k over) n r = onward (runner.Routine k over) n

@@ -14,7 +14,7 @@ use Rattle.flow_effects.specs.Moves.{stays}
 -- what a routine interrupted is a task of the application
 abbrev pub IsOverKnown : App → Runner → Type 0
 IsOverKnown app (runner.Task t) = ⊤
-IsOverKnown app (runner.Routine over) = IfSome over (λ (t : TaskNo). t.0 < length app.tasks)
+IsOverKnown app (runner.Routine k over) = IfSome over (λ (t : TaskNo). t.0 < length app.tasks)
 
 -- the processor goes back to the task, where that stands
 abbrev pub goes_back : App → TaskNo → EffectCase
@@ -26,5 +26,5 @@ leaves_idle = effect_case [] [] asked.Free None point.Idle
 
 abbrev pub return_cases : App → Runner → BlockNo → List EffectCase
 return_cases app (runner.Task t) b = stays (runner.Task t) b ∷ []
-return_cases app (runner.Routine None) b = leaves_idle ∷ []
-return_cases app (runner.Routine (Some t)) b = goes_back app t ∷ []
+return_cases app (runner.Routine k None) b = leaves_idle ∷ []
+return_cases app (runner.Routine k (Some t)) b = goes_back app t ∷ []

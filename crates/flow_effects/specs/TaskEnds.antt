@@ -27,7 +27,7 @@ ends t conditions = effect_case conditions (suspends t ∷ []) asked.Left None p
 
 abbrev pub task_end_cases : Runner → BlockNo → List EffectCase
 task_end_cases (runner.Task t) b = ends t [] ∷ []
-task_end_cases (runner.Routine over) b = stays (runner.Routine over) b ∷ []
+task_end_cases (runner.Routine k over) b = stays (runner.Routine k over) b ∷ []
 
 -- RESOURCE where the task holds one
 abbrev pub refused_holding : TaskNo → BlockNo → EffectCase
@@ -35,11 +35,11 @@ refused_holding t n = goes_on (runner.Task t) n (of_task t test.HoldsSome ∷ []
 
 abbrev pub terminate_cases : Runner → BlockNo → List EffectCase
 terminate_cases (runner.Task t) n = refused_holding t n ∷ ends t (of_task t test.HoldsNothing ∷ []) ∷ []
-terminate_cases (runner.Routine over) n = refuses (runner.Routine over) n status.CallLevel
+terminate_cases (runner.Routine k over) n = refuses (runner.Routine k over) n status.CallLevel
 
--- the task ends, and then the other one begins: what it becomes stands first, since a task may be chained to itself
+-- the task ends, and then the other one begins, which may be the same
 abbrev pub chains : App → TaskNo → TaskNo → List Condition → EffectCase
-chains app t x conditions = effect_case conditions (activating app x.0 ++ suspends t ∷ []) asked.Left None point.Idle
+chains app t x conditions = effect_case conditions (suspends t ∷ activating app x.0) asked.Left None point.Idle
 
 abbrev pub holding_nothing : TaskNo → List Condition
 holding_nothing t = of_task t test.HoldsNothing ∷ []
@@ -55,9 +55,9 @@ chain_to_another app t n x =
 
 abbrev pub chain_cases : App → Runner → BlockNo → TaskNo → List EffectCase
 chain_cases app (runner.Task t) n x = if x.0 == t.0 then chain_to_itself app t n x else chain_to_another app t n x
-chain_cases app (runner.Routine over) n x = refuses (runner.Routine over) n status.CallLevel
+chain_cases app (runner.Routine k over) n x = refuses (runner.Routine k over) n status.CallLevel
 
 -- a non-preemptive task asks here too
 abbrev pub schedule_cases : Runner → BlockNo → List EffectCase
 schedule_cases (runner.Task t) n = refused_holding t n ∷ goes_on (runner.Task t) n (of_task t test.HoldsNothing ∷ []) (asked.Maybe t) (Some status.Ok) ∷ []
-schedule_cases (runner.Routine over) n = refuses (runner.Routine over) n status.CallLevel
+schedule_cases (runner.Routine k over) n = refuses (runner.Routine k over) n status.CallLevel

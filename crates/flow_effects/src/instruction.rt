@@ -13,7 +13,7 @@ use crate::returns::return_cases;
 use crate::task_ends::{chain_cases, schedule_cases, task_end_cases, terminate_cases};
 use crate::waiting::wait_cases;
 use abstract_state::{Point, masks_are_few};
-use flow_model::{EffectCase, Runner, task_of};
+use flow_model::{EffectCase, Runner, routine_of, task_of};
 use flow_services::{is_service, service_cases};
 use osek_standard::{App, Call, Kind, MaskService, PlainService, ResourceService, TaskService};
 use osek_values::{BlockNo, Mask, Memory, ResNo, Seq, TaskNo};
@@ -184,7 +184,7 @@ pub fn effect_cases(alloc: Global, app: &App, point: Point) -> Result<Seq<Effect
         Point::Halted | Point::Idle => Ok(Seq::new(alloc)),
         Point::Task(block) => block_cases(alloc, app, Runner::Task(task_of(app, block)), block),
         Point::Routine { block, over } => {
-            block_cases(alloc, app, Runner::Routine { over }, block)
+            block_cases(alloc, app, routine_of(app, block, over), block)
         }
     }
 }

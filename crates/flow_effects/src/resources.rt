@@ -149,7 +149,7 @@ pub fn get_cases(
             }
             free_cases(alloc, app, task, next, resource)
         }
-        Runner::Routine { over: _ } => onward(alloc, runner, next),
+        Runner::Routine { .. } => onward(alloc, runner, next),
     }
 }
 
@@ -204,6 +204,6 @@ pub fn release_cases(
             cases.push(isnt_on_top(alloc, task, next, resource)?)?;
             Ok(cases)
         }
-        Runner::Routine { over: _ } => onward(alloc, runner, next),
+        Runner::Routine { .. } => onward(alloc, runner, next),
     }
 }

@@ -49,7 +49,10 @@ pub fn return_cases(
 {
     match runner {
         Runner::Task(_) => one(alloc, stays(alloc, runner, block)),
-        Runner::Routine { over: None } => one(alloc, leaves_idle(alloc)),
-        Runner::Routine { over: Some(task) } => one(alloc, goes_back(alloc, app, task)),
+        Runner::Routine { over: None, .. } => one(alloc, leaves_idle(alloc)),
+        Runner::Routine {
+            over: Some(task),
+            ..
+        } => one(alloc, goes_back(alloc, app, task)),
     }
 }

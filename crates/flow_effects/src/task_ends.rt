@@ -7,7 +7,7 @@ use crate::conditions::{if_task, of_task};
 use crate::moves::{refuses, stays};
 use abstract_state::{ComponentNo, PartValue, Point, Val};
 use flow_model::{Asked, Change, Condition, EffectCase, Leaving, Runner, Test, Update};
-use flow_services::{activating, one};
+use flow_services::{add_activating, one};
 use osek_standard::App;
 use osek_values::{BlockNo, Memory, Seq, Status, TaskNo};
 use std::alloc::Global;
@@ -45,7 +45,7 @@ pub fn task_end_cases(
 {
     match runner {
         Runner::Task(task) => one(alloc, ends(alloc, task, Seq::new(alloc))?),
-        Runner::Routine { over: _ } => one(alloc, stays(alloc, runner, block)),
+        Runner::Routine { .. } => one(alloc, stays(alloc, runner, block)),
     }
 }
 
@@ -71,7 +71,7 @@ pub fn terminate_cases(
             cases.push(ends(alloc, task, if_task(alloc, task, Test::HoldsNothing)?)?)?;
             Ok(cases)
         }
-        Runner::Routine { over: _ } => refuses(alloc, runner, next, Status::CallLevel),
+        Runner::Routine { .. } => refuses(alloc, runner, next, Status::CallLevel),
     }
 }
 
@@ -86,8 +86,9 @@ fn chains(
     requires { chained.0 < length app.now.tasks }
     ensures { IfOk result (λ case. case ≡ chains app.now task chained conditions) }
 {
-    let mut changes = activating(alloc, app, chained)?;
+    let mut changes = Seq::new(alloc);
     changes.push(suspends(task))?;
+    add_activating(app, chained, &mut changes)?;
     Ok(EffectCase {
         conditions,
         changes,
@@ -164,7 +165,7 @@ pub fn chain_cases(
             }
             chain_to_another(alloc, app, task, next, chained)
         }
-        Runner::Routine { over: _ } => refuses(alloc, runner, next, Status::CallLevel),
+        Runner::Routine { .. } => refuses(alloc, runner, next, Status::CallLevel),
     }
 }
 
@@ -184,6 +185,6 @@ pub fn schedule_cases(
             cases.push(runner.goes_on(alloc, next, conditions, asked, Some(Status::Ok))?)?;
             Ok(cases)
         }
-        Runner::Routine { over: _ } => refuses(alloc, runner, next, Status::CallLevel),
+        Runner::Routine { .. } => refuses(alloc, runner, next, Status::CallLevel),
     }
 }

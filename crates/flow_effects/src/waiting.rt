@@ -160,6 +160,6 @@ pub fn wait_cases(
             }
             extended_cases(alloc, app, task, block, next, mask)
         }
-        Runner::Routine { over: _ } => refuses(alloc, runner, next, Status::CallLevel),
+        Runner::Routine { .. } => refuses(alloc, runner, next, Status::CallLevel),
     }
 }

@@ -1,6 +1,6 @@
 -- What changes make of a value, and which values pass conditions.
 use Rattle.std.proofs.Common.{◌≡◌, ◌≢◌, ℕ, ◌<◌, Bool, List, [], ◌∷◌, ◌++◌, refl, sym, ap, subst, ◌∙◌, inl, inr, ⊎_elim, IsTrue}
-use Rattle.std.specs.Prelude.{if◌then◌else◌}
+use Rattle.std.specs.Prelude.{if◌then◌else◌, ◌==◌}
 use Rattle.std.proofs.lemmas.Bool.{cases_eq, eq-eqb, ne_eqb}
 use Rattle.osek_standard.specs.declared.app.App.{App}
 use Rattle.osek_standard.proofs.Members.{Among, among_left, among_right, among_cases, contained_among, among_contained}
@@ -9,43 +9,41 @@ use Rattle.flow_model.specs.{declared.{change.Change.{Change}, test.Condition.{C
 
 module _ (x : Change) (xs : List Change) (c : ℕ) (v : PartValue) where
   -- the first change, at its component and at another
-  pub change_here : x.component.0 ≡ c → value_after (x ∷ xs) c v ≡ updated x.update v
-  change_here same = ap (λ (b : Bool). if b then updated x.update v else value_after xs c v) (eq-eqb x.component.0 c same)
+  pub change_here : x.component.0 ≡ c → value_after (x ∷ xs) c v ≡ value_after xs c (updated x.update v)
+  change_here same = ap (λ (b : Bool). value_after xs c (if b then updated x.update v else v)) (eq-eqb x.component.0 c same)
 
   pub change_there : x.component.0 ≢ c → value_after (x ∷ xs) c v ≡ value_after xs c v
-  change_there other = ap (λ (b : Bool). if b then updated x.update v else value_after xs c v) (ne_eqb x.component.0 c other)
+  change_there other = ap (λ (b : Bool). value_after xs c (if b then updated x.update v else v)) (ne_eqb x.component.0 c other)
+
+-- changes after others
+pub after_both : (xs ys : List Change) (c : ℕ) (v : PartValue) → value_after (xs ++ ys) c v ≡ value_after ys c (value_after xs c v)
+after_both [] ys c v = refl
+after_both (x ∷ xs) ys c v = after_both xs ys c (if x.component.0 == c then updated x.update v else v)
 
 -- a component that no change names stays as it is
 pub elsewhere : (xs : List Change) (c : ℕ) (v : PartValue) → ((x : Change) → Among x xs → x.component.0 ≢ c) → value_after xs c v ≡ v
 elsewhere [] c v other = refl
 elsewhere (x ∷ xs) c v other = change_there x xs c v (other x (inl refl)) ∙ elsewhere xs c v (λ y m. other y (inr m))
 
--- where each change that names a component makes it one value, and some change does
-pub made : (xs : List Change) (c : ℕ) (v w : PartValue) (x : Change) → Among x xs → x.component.0 ≡ c → ((y : Change) → Among y xs → y.component.0 ≡ c → updated y.update v ≡ w) → value_after xs c v ≡ w
+-- each change that names the component makes it this value, whatever it was
+abbrev Make : List Change → ℕ → PartValue → Type 0
+Make xs c w = (y : Change) → Among y xs → y.component.0 ≡ c → (v : PartValue) → updated y.update v ≡ w
+
+stays_made : (xs : List Change) (c : ℕ) (w : PartValue) → Make xs c w → value_after xs c w ≡ w
+stays_made [] c w each = refl
+stays_made (y ∷ xs) c w each = elim (cases_eq y.component.0 c) [
+  | inl here ↦ change_here y xs c w here ∙ ap (value_after xs c) (each y (inl refl) here w) ∙ stays_made xs c w (λ z n. each z (inr n))
+  | inr there ↦ change_there y xs c w there ∙ stays_made xs c w (λ z n. each z (inr n))
+]
+
+-- so it becomes that where some change names it
+pub made : (xs : List Change) (c : ℕ) (v w : PartValue) (x : Change) → Among x xs → x.component.0 ≡ c → Make xs c w → value_after xs c v ≡ w
 made [] c v w x m same each = absurd m
 made (y ∷ xs) c v w x m same each = elim (cases_eq y.component.0 c) [
-  | inl here ↦ change_here y xs c v here ∙ each y (inl refl) here
+  | inl here ↦ change_here y xs c v here ∙ ap (value_after xs c) (each y (inl refl) here v) ∙ stays_made xs c w (λ z n. each z (inr n))
   | inr there ↦ change_there y xs c v there ∙ made xs c v w x
       (⊎_elim (λ e. absurd (there (ap (λ (z : Change). z.component.0) (sym e) ∙ same))) (λ n. n) m) same (λ z n. each z (inr n))
 ]
-
--- what a component becomes doesn't depend on what it was
-abbrev pub AreSets : List Change → Type 0
-AreSets xs = (x : Change) → Among x xs → (v w : PartValue) → updated x.update v ≡ updated x.update w
-
--- such changes after others are as these and then the others in one list
-pub sets_first : (xs ys : List Change) (c : ℕ) (v : PartValue) → AreSets xs → value_after (xs ++ ys) c v ≡ value_after xs c (value_after ys c v)
-sets_first [] ys c v sets = refl
-sets_first (x ∷ xs) ys c v sets = elim (cases_eq x.component.0 c) [
-  | inl here ↦ change_here x (xs ++ ys) c v here ∙ sets x (inl refl) v (value_after ys c v) ∙ sym (change_here x xs c (value_after ys c v) here)
-  | inr there ↦ change_there x (xs ++ ys) c v there ∙ sets_first xs ys c v (λ y m. sets y (inr m)) ∙ sym (change_there x xs c (value_after ys c v) there)
-]
-
-pub sets_none : AreSets []
-sets_none x m = absurd m
-
-pub sets_both : (xs ys : List Change) → AreSets xs → AreSets ys → AreSets (xs ++ ys)
-sets_both xs ys left right x m = ⊎_elim (left x) (right x) (among_cases x xs ys m)
 
 module _ (app : App) (value : ℕ → PartValue) where
   abbrev Passes : Condition → Type 0

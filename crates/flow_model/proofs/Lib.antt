@@ -2,6 +2,7 @@ pub mod ChangeLaws
 pub mod BitsOf
 pub mod Writes
 pub mod Activations
+mod RoutineOwners
 pub mod Standing
 pub mod Instructions
 pub mod Moves

@@ -146,9 +146,9 @@ module _ (app : App) (s : State) (n : BlockNo) (o : ℕ) where
       let there : t.0 < length s.tasks = let known = h.has.0 in omega (arith, known, w.tasks_len) in
       ap (λ (r : State). abstract_of app r c) (task_moved t h.runs)
       ∙ activity_parts app s t.0 (task_at (task_state s t.0) to) there refl (update.Block n) h.has.0 (ap OfTask (sym (value_at_place n o (task_state s t.0).activity))) c lt
-  parts_by (runner.Routine over) b w h c lt =
-      ap (λ (r : State). abstract_of app r c) (routine_moved h.source over h.runs)
-      ∙ source_part s h.source.0 (source_at (source_state s h.source.0) to) (component_at app c)
+  parts_by (runner.Routine k over) b w h c lt =
+      ap (λ (r : State). abstract_of app r c) (routine_moved k over h.runs)
+      ∙ source_part s k.0 (source_at (source_state s k.0) to) (component_at app c)
 
   block_by : (r : Runner) (b : BlockNo) → Well app s → Runs app s r b → (here (moved s to)).block ≡ n
   block_by (runner.Task t) b w h =
@@ -158,8 +158,7 @@ module _ (app : App) (s : State) (n : BlockNo) (o : ℕ) where
       ∙ ap (λ (p : Processor). (place_by after p).block) h.runs
       ∙ ap (λ (y : TaskState). (place_in y.activity).block) (get_or-set_same s.tasks t.0 (task_at (task_state s t.0) to) suspended there)
       ∙ block_at n o (task_state s t.0).activity h.has.1
-  block_by (runner.Routine over) b w h =
-      let k = h.source in
+  block_by (runner.Routine k over) b w h =
       let there : k.0 < length s.sources = let known = h.known in omega (arith, known, w.sources_len) in
       let has : IsProcessor app s (processor.Interrupted k over) = subst (IsProcessor app s) h.runs w.processor in
       let after : State = with_source s k.0 (source_at (source_state s k.0) to) in
@@ -174,8 +173,7 @@ module _ (app : App) (s : State) (n : BlockNo) (o : ℕ) where
     has = (h.has.0, moved_live app s w to t.0 ∙ h.has.1);
     own = subst (λ (p : Processor). InOwner app p n.0) h.runs own;
   }
-  runs_by (runner.Routine over) b w h own = record {
-    source = h.source;
+  runs_by (runner.Routine k over) b w h own = record {
     known = h.known;
     runs = moved_has app s w to ∙ h.runs;
     own = subst (λ (p : Processor). InOwner app p n.0) h.runs own;

@@ -1,7 +1,7 @@
 -- Who executes at a point, and what is known of the block there.
 use Rattle.std.proofs.Common.{◌≡◌, refl, sym, ap, subst, ◌∙◌}
 use Rattle.std.specs.declared.option.Option.{Option}
-use Rattle.osek_values.specs.{Numbers.{task_no}, declared.numbers.{TaskNo.{TaskNo}, BlockNo.{BlockNo}, SourceNo.{SourceNo}}}
+use Rattle.osek_values.specs.{Numbers.{task_no, source_no}, declared.numbers.{TaskNo.{TaskNo}, BlockNo.{BlockNo}, SourceNo.{SourceNo}}}
 use Rattle.osek_standard.specs.declared.app.App.{App}
 use Rattle.osek_standard.specs.declared.block.Kind.TheVariants as kind
 use Rattle.osek_standard.specs.declared.state.{State.{State}, Processor.{Processor}, Caller.TheVariants.{Task, Routine}}
@@ -10,6 +10,7 @@ use Rattle.osek_standard.specs.declared.point.Point.TheVariants as point
 use Rattle.osek_standard.specs.{Apps.{the_block}, States.{place_by, here, caller}, Points.{point_at, point_of, IsPoint}}
 use Rattle.osek_standard.specs.Well.{Well, InOwner, IsActive, IsOfRoutine, IsOwn, IsProcessor}
 use Rattle.osek_standard.proofs.{Callers.{BlockHere, block_here}, Keeps.{here_own}, OwnerLaws.{own_once}}
+use Rattle.flow_model.proofs.RoutineOwners.{routine_once}
 use Rattle.flow_model.specs.declared.runner.Runner.{Runner}
 use Rattle.flow_model.specs.declared.runner.Runner.TheVariants as runner
 use Rattle.flow_model.specs.Runners.{Stands, Runs, OwnsBlock, runner_point}
@@ -55,17 +56,19 @@ module _ (app : App) (s : State) (b : BlockNo) (w : Well app s) where
       )
 
   -- a routine that runs at a routine's point stands there
-  pub stands_in : (over : Option TaskNo) → point_of s ≡ point.Routine b over → Stands app s (runner.Routine over) b
+  pub stands_in : (over : Option TaskNo) → point_of s ≡ point.Routine b over → (k : SourceNo) × Stands app s (runner.Routine k over) b
   stands_in over e =
       let r = routine_runs s s.processor b over e in
       let has : IsProcessor app s (processor.Interrupted r.source over) = subst (IsProcessor app s) r.runs w.processor in
       let active : IsActive s.processor = subst IsActive (sym r.runs) tt in
-      let here_owned : InOwner app (processor.Interrupted r.source over) (here s).block.0 = subst (λ (p : Processor). InOwner app p (here s).block.0) r.runs (here_own app s w active) in
-      record {
-        well = w;
-        runs = record { source = r.source; known = has.known; runs = r.runs; own = subst (λ (c : BlockNo). IsOfRoutine app r.source.0 c.0) r.block here_owned };
-        block = r.block;
-      }
+      let here_owned : InOwner app (processor.Interrupted r.source over) (here s).block.0 = subst (λ (p : Processor). InOwner app p (here s).block.0) r.runs (here_own app s w active) in (
+        r.source,
+        record {
+          well = w;
+          runs = record { known = has.known; runs = r.runs; own = subst (λ (c : BlockNo). IsOfRoutine app r.source.0 c.0) r.block here_owned };
+          block = r.block;
+        },
+      )
 
 -- a task or a routine has the processor at such points
 pub active_there : (app : App) (s : State) (b : BlockNo) → Well app s → point_of s ≡ point.Task b → IsActive s.processor
@@ -80,25 +83,28 @@ stands_here app s (runner.Task t) b owns w e =
     let h = stands_at app s b w e in
     let same : h.0.0 ≡ t.0 = own_once app h.0.0 t.0 b.0 h.1.runs.has.0 owns.0 h.1.runs.own owns.1 in
     subst (λ (u : TaskNo). Stands app s (runner.Task u) b) (ap task_no same) h.1
-stands_here app s (runner.Routine over) b owns w e = stands_in app s b w over e
+stands_here app s (runner.Routine k over) b owns w e =
+    let h = stands_in app s b w over e in
+    let same : h.0.0 ≡ k.0 = routine_once app h.0.0 k.0 b.0 h.1.runs.known owns.known h.1.runs.own owns.own in
+    subst (λ (l : SourceNo). Stands app s (runner.Routine l over) b) (ap source_no same) h.1
 
 -- the point of a runner at its block is the application's
 pub owned_point : (app : App) (r : Runner) (b : BlockNo) → OwnsBlock app r b → IsPoint app (runner_point r b)
 owned_point app (runner.Task t) b owns = record { task = t.0; known = owns.0; own = owns.1 }
-owned_point app (runner.Routine over) b owns = owns
+owned_point app (runner.Routine k over) b owns = record { source = k.0; known = owns.known; own = owns.own; task = owns.task }
 
 module _ (app : App) (s : State) where
   runs_active : (r : Runner) (b : BlockNo) → Runs app s r b → IsActive s.processor
   runs_active (runner.Task t) b h = subst IsActive (sym h.runs) tt
-  runs_active (runner.Routine over) b h = subst IsActive (sym h.runs) tt
+  runs_active (runner.Routine k over) b h = subst IsActive (sym h.runs) tt
 
   runs_own : (r : Runner) (b : BlockNo) → Runs app s r b → InOwner app s.processor b.0
   runs_own (runner.Task t) b h = subst (λ (p : Processor). InOwner app p b.0) (sym h.runs) h.own
-  runs_own (runner.Routine over) b h = subst (λ (p : Processor). InOwner app p b.0) (sym h.runs) h.own
+  runs_own (runner.Routine k over) b h = subst (λ (p : Processor). InOwner app p b.0) (sym h.runs) h.own
 
   runs_point : (r : Runner) (b c : BlockNo) → Runs app s r b → c ≡ b → point_at c s.processor ≡ runner_point r b
   runs_point (runner.Task t) b c h e = ap (point_at c) h.runs ∙ ap point.Task e
-  runs_point (runner.Routine over) b c h e = ap (point_at c) h.runs ∙ ap (λ (d : BlockNo). point.Routine d over) e
+  runs_point (runner.Routine k over) b c h e = ap (point_at c) h.runs ∙ ap (λ (d : BlockNo). point.Routine d over) e
 
   module _ (r : Runner) (b : BlockNo) (h : Stands app s r b) where
     pub is_active : IsActive s.processor
@@ -126,5 +132,5 @@ module _ (app : App) (s : State) where
   pub task_calls : (t : TaskNo) (b : BlockNo) → Stands app s (runner.Task t) b → caller s.processor ≡ Task t
   task_calls t b h = ap caller h.runs.runs
 
-  pub routine_calls : (over : Option TaskNo) (b : BlockNo) (h : Stands app s (runner.Routine over) b) → caller s.processor ≡ Routine h.runs.source
-  routine_calls over b h = ap caller h.runs.runs
+  pub routine_calls : (k : SourceNo) (over : Option TaskNo) (b : BlockNo) → Stands app s (runner.Routine k over) b → caller s.processor ≡ Routine k
+  routine_calls k over b h = ap caller h.runs.runs

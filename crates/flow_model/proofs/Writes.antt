@@ -12,7 +12,7 @@ use Rattle.abstract_state.specs.declared.value.Component.TheVariants as componen
 use Rattle.abstract_state.specs.Components.{component_count, component_at, component_number, part_of, abstract_of, value_in, is_armed, IsComponent}
 use Rattle.abstract_state.proofs.{ComponentLaws.{component_numbered, component_known, task_at_its_number}, Numbers.{component_here}}
 use Rattle.flow_model.specs.{declared.change.Change.{Change}, Tests.{updated, value_after}, Changes.{task_change, alarm_change, event_change, event_changes}}
-use Rattle.flow_model.proofs.{ChangeLaws.{change_here, change_there, elsewhere, made, AreSets}, BitsOf.{bits_among, among_bits}}
+use Rattle.flow_model.proofs.{ChangeLaws.{change_here, change_there, elsewhere, made}, BitsOf.{bits_among, among_bits}}
 
 -- the task of an event
 abbrev event_task : Component → ℕ
@@ -25,20 +25,7 @@ event_bit (component.Task t) = 0
 event_bit (component.Event t k) = k.0
 event_bit (component.Alarm a) = 0
 
-pub task_changes_set : (t : ℕ) (v : _) → AreSets (task_change t v ∷ [])
-task_changes_set t v x (inl e) a b = ap (λ (y : Change). updated y.update a) e ∙ sym (ap (λ (y : Change). updated y.update b) e)
-task_changes_set t v x (inr m) a b = absurd m
-
 module _ (app : App) where
-  pub alarm_changes_set : (a : ℕ) (armed : Bool) → AreSets (alarm_change app a armed ∷ [])
-  alarm_changes_set n armed x (inl e) a b = ap (λ (y : Change). updated y.update a) e ∙ sym (ap (λ (y : Change). updated y.update b) e)
-  alarm_changes_set n armed x (inr m) a b = absurd m
-
-  pub event_changes_set : (t bits : ℕ) (flag : Bool) → AreSets (event_changes app t bits flag)
-  event_changes_set t bits flag x m a b =
-      let h = map_among (event_change app t flag) x (bits_of bits) m in
-      ap (λ (y : Change). updated y.update a) h.2 ∙ sym (ap (λ (y : Change). updated y.update b) h.2)
-
   module _ (t bits : ℕ) (flag : Bool) (known : t < length app.tasks) (within : (k : ℕ) → has_bit bits k ≡ true → has_bit (the_task app t).own.0 k ≡ true) where
     -- what is no event of these bits stays
     pub other_events : (c : ℕ) (v : PartValue) → ((k : ℕ) → component_at app c ≡ component.Event (task_no t) (event_no k) → has_bit bits k ≡ true → ⊥) → value_after (event_changes app t bits flag) c v ≡ v
@@ -53,7 +40,7 @@ module _ (app : App) where
     these_events c v k lt at below set = made (event_changes app t bits flag) c v (OfEvent flag) (event_change app t flag k)
         (among_map (event_change app t flag) k (bits_of bits) (bits_among bits k below set))
         (ap (component_number app) (sym at) ∙ component_numbered app c lt)
-        (λ y m same. let h = map_among (event_change app t flag) y (bits_of bits) m in ap (λ (z : Change). updated z.update v) h.2)
+        (λ y m same w. let h = map_among (event_change app t flag) y (bits_of bits) m in ap (λ (z : Change). updated z.update w) h.2)
 
     module _ (s : State) (x : TaskState) (here : t < length s.tasks)
         (events : (k : ℕ) → k < 64 → has_bit (the_task app t).own.0 k ≡ true → has_bit x.events.0 k ≡ (if has_bit bits k then flag else has_bit (task_state s t).events.0 k)) where
@@ -71,6 +58,7 @@ module _ (app : App) where
               | inl same ↦
                   (ap (λ (n : ℕ). OfTask (value_in (task_state (with_task s t x) n).activity)) same
                   ∙ ap (λ (y : TaskState). OfTask (value_in y.activity)) (get_or-set_same s.tasks t x suspended here)
+                  ∙ sym (other_events c (OfTask (value_in x.activity)) (λ k e set. absurd (cc)))
                   ∙ sym (change_here (task_change t (value_in x.activity)) (event_changes app t bits flag) c (part_of s (component.Task u)) (sym same ∙ number)))
               | inr other ↦
                   (ap (λ (y : TaskState). OfTask (value_in y.activity)) (get_or-set_other s.tasks t u.0 x suspended other)
@@ -118,9 +106,7 @@ module _ (app : App) where
           | inl same ↦
               (let at : component_at app c ≡ component.Task (task_no t) = ap (component_at app) (sym same) ∙ task_at_its_number app t known in
               change_here (task_change t (value_in x.activity)) (event_changes app t bits flag) c (abstract_of app s c) same
-              ∙ ap OfTask kept
-              ∙ sym (ap (part_of s) at)
-              ∙ sym (other_events c (abstract_of app s c) (λ k e set. absurd (cc (at, e)))))
+              ∙ ap (value_after (event_changes app t bits flag) c) (ap OfTask kept ∙ sym (ap (part_of s) at)))
           | inr other ↦ change_there (task_change t (value_in x.activity)) (event_changes app t bits flag) c (abstract_of app s c) other
         ]
 

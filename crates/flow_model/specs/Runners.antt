@@ -1,11 +1,11 @@
 -- Who executes at a point, and the states in which it does.
-use Rattle.std.specs.{Prelude.{◌≡◌, ⊤, ℕ, ◌<◌, List, [], ◌∷◌, length}, declared.option.Option.{Option}}
+use Rattle.std.specs.{Prelude.{◌≡◌, ⊤, ℕ, ◌<◌, List, [], ◌∷◌, length, IfSome}, declared.option.Option.{Option}}
 use Rattle.osek_values.specs.declared.numbers.{TaskNo.{TaskNo}, BlockNo.{BlockNo}, SourceNo.{SourceNo}}
 use Rattle.osek_standard.specs.declared.{app.App.{App}, state.State.{State}}
 use Rattle.osek_standard.specs.declared.state.Processor.TheVariants as processor
 use Rattle.osek_standard.specs.declared.point.Point.{Point}
 use Rattle.osek_standard.specs.declared.point.Point.TheVariants as point
-use Rattle.osek_standard.specs.{Apps.{source_count}, States.{here}, Points.{IsRoutineBlock}, Well.{Well, IsOwn, IsOfRoutine, HasProcessor}}
+use Rattle.osek_standard.specs.{Apps.{source_count}, States.{here}, Well.{Well, IsOwn, IsOfRoutine, HasProcessor}}
 use Rattle.abstract_state.specs.Components.{component_no}
 use Rattle.flow_model.specs.declared.change.{Update.{Update}, Change.{Change}}
 use Rattle.flow_model.specs.declared.change.Update.TheVariants as update
@@ -14,7 +14,7 @@ use Rattle.flow_model.specs.declared.runner.Runner.TheVariants as runner
 
 abbrev pub runner_point : Runner → BlockNo → Point
 runner_point (runner.Task t) b = point.Task b
-runner_point (runner.Routine over) b = point.Routine b over
+runner_point (runner.Routine k over) b = point.Routine b over
 
 abbrev pub change : ℕ → Update → Change
 change c u = record { component = component_no c; update = u }
@@ -22,24 +22,34 @@ change c u = record { component = component_no c; update = u }
 -- A task that goes on stands at another block; where a routine stands is no component's.
 abbrev pub moving : Runner → BlockNo → List Change
 moving (runner.Task t) b = change t.0 (update.Block b) ∷ []
-moving (runner.Routine over) b = []
+moving (runner.Routine k over) b = []
+
+-- the block is one of the source's routine, and what it interrupted is a task
+pub record IsBlockOfRoutine (app : App) (k : SourceNo) (over : Option TaskNo) (b : BlockNo) : Type 0 where
+  pub known : k.0 < source_count app
+  pub own : IsOfRoutine app k.0 b.0
+  pub task : IfSome over (λ (t : TaskNo). t.0 < length app.tasks)
 
 -- the block is one of the runner's
 abbrev pub OwnsBlock : App → Runner → BlockNo → Type 0
 OwnsBlock app (runner.Task t) b = (t.0 < length app.tasks) × IsOwn app t.0 b.0
-OwnsBlock app (runner.Routine over) b = IsRoutineBlock app b over
+OwnsBlock app (runner.Routine k over) b = IsBlockOfRoutine app k over b
 
 -- it executes at the point, at this block
 pub record ExecutesAt (app : App) (p : Point) (r : Runner) (b : BlockNo) : Type 0 where
   pub point : runner_point r b ≡ p
   pub owns : OwnsBlock app r b
 
+-- the routine that executes at a block, over what it interrupted
+abbrev pub IsRoutineOf : App → BlockNo → Option TaskNo → Runner → Type 0
+IsRoutineOf app b over r = ExecutesAt app (point.Routine b over) r b
+
 -- who executes at a point
 abbrev pub Executes : App → Point → Runner → Type 0
 Executes app point.Halted r = ⊥
 Executes app point.Idle r = ⊥
 Executes app (point.Task b) r = ExecutesAt app (point.Task b) r b
-Executes app (point.Routine b over) r = ExecutesAt app (point.Routine b over) r b
+Executes app (point.Routine b over) r = IsRoutineOf app b over r
 
 abbrev pub IsNobodys : Point → Type 0
 IsNobodys point.Halted = ⊤
@@ -50,7 +60,7 @@ IsNobodys (point.Routine b over) = ⊥
 -- a runner that is a task is one of the application's
 abbrev pub IsKnown : App → Runner → Type 0
 IsKnown app (runner.Task t) = t.0 < length app.tasks
-IsKnown app (runner.Routine over) = ⊤
+IsKnown app (runner.Routine k over) = ⊤
 
 -- the task runs, at a block of its own
 pub record RunsTask (app : App) (s : State) (t : TaskNo) (b : BlockNo) : Type 0 where
@@ -58,16 +68,15 @@ pub record RunsTask (app : App) (s : State) (t : TaskNo) (b : BlockNo) : Type 0 
   pub has : HasProcessor app s t
   pub own : IsOwn app t.0 b.0
 
--- a source's routine runs, at a block of its own
-pub record RunsRoutine (app : App) (s : State) (over : Option TaskNo) (b : BlockNo) : Type 0 where
-  pub source : SourceNo
-  pub known : source.0 < source_count app
-  pub runs : s.processor ≡ processor.Interrupted source over
-  pub own : IsOfRoutine app source.0 b.0
+-- the source's routine runs, at a block of its own
+pub record RunsRoutine (app : App) (s : State) (k : SourceNo) (over : Option TaskNo) (b : BlockNo) : Type 0 where
+  pub known : k.0 < source_count app
+  pub runs : s.processor ≡ processor.Interrupted k over
+  pub own : IsOfRoutine app k.0 b.0
 
 abbrev pub Runs : App → State → Runner → BlockNo → Type 0
 Runs app s (runner.Task t) b = RunsTask app s t b
-Runs app s (runner.Routine over) b = RunsRoutine app s over b
+Runs app s (runner.Routine k over) b = RunsRoutine app s k over b
 
 -- It executes block b: the state is well-formed, and the processor stands there.
 pub record Stands (app : App) (s : State) (r : Runner) (b : BlockNo) : Type 0 where

@@ -48,10 +48,10 @@ updated (update.Block b) v = on_task (at_block b) v
 updated (update.Take r b) v = on_task (restacked (λ h. with_top h r) b) v
 updated (update.Give b) v = on_task (restacked without_top b) v
 
--- What becomes of a value of component c: what the first change that names it says, or else it stays.
+-- What becomes of a value of component c: what the changes that name it say, one after another.
 abbrev pub value_after : List Change → ℕ → PartValue → PartValue
 value_after [] c v = v
-value_after (x ∷ xs) c v = if x.component.0 == c then updated x.update v else value_after xs c v
+value_after (x ∷ xs) c v = value_after xs c (if x.component.0 == c then updated x.update v else v)
 
 -- the values of all components after the changes
 abbrev pub values_after : List Change → (ℕ → PartValue) → ℕ → PartValue

@@ -53,8 +53,8 @@ impl Leaving {
 }
 
 /// A case of the effect of an instruction: the values of components that it takes, and what it does then. A component
-/// passes where it passes each condition on it; the first change that names it says what becomes of it, and where none
-/// does it stays as it is.
+/// passes where it passes each condition on it; the changes that name it say, one after another, what becomes of it, and
+/// where none does it stays as it is.
 #[derive(Drop)]
 pub struct EffectCase {
     pub conditions: Seq<Condition>,

@@ -107,14 +107,15 @@ fn without_top(held: &Held) -> Held
     stack
 }
 
-/// What becomes of a component's value: what the first change that names it says, or else it stays. It takes no memory.
+/// What becomes of a component's value: what the changes that name it say, one after another. It takes no memory.
 pub fn value_after(changes: &[Change], component: usize, value: &PartValue) -> PartValue
     ensures { result ≡ value_after_of changes.now component value.now }
 {
+    let mut becoming = value.copy();
     for change in changes {
         if change.component.index() == component {
-            return change.update.of(value);
+            becoming = change.update.of(&becoming);
         }
     }
-    value.copy()
+    becoming
 }

@@ -11,5 +11,5 @@ mod test;
 pub use case::{Asked, Decision, EffectCase, Leaving, OutcomeCase, Stay};
 pub use change::{Change, Update, value_after};
 pub use rule::Rule;
-pub use runner::{Runner, task_of};
+pub use runner::{Runner, routine_of, task_of};
 pub use test::{Condition, Test};

@@ -7,8 +7,8 @@ use abstract_state::Point;
 use osek_values::{Seq, Status};
 
 /// A case of a step that does something: the values of components that it takes, and what it does then. A component
-/// passes where it passes each condition on it; the first change that names it says what becomes of it, and where none
-/// does it stays as it is.
+/// passes where it passes each condition on it; the changes that name it say, one after another, what becomes of it, and
+/// where none does it stays as it is.
 #[derive(Drop)]
 pub struct Rule {
     pub conditions: Seq<Condition>,

@@ -1,14 +1,15 @@
 -- The blocks of a task's values, one number after another.
-use Rattle.std.proofs.Common.{◌≡◌, ℕ, ◌+◌, ◌<◌, ◌≤◌, false, List, [], ◌∷◌, ◌++◌, length, sym, ap, subst, ◌∙◌, inl, inr, arith, IsTrue}
-use Rattle.std.specs.Prelude.{slice_index_or, Contains}
-use Rattle.std.proofs.lemmas.{Bool.{cases_eq, cases_lt}, List.{length-map, Elements.{Contains-append_left, Contains-push, Contains-push_cases}}}
+use Rattle.std.proofs.Common.{◌≡◌, ℕ, ◌+◌, ◌<◌, ◌≤◌, false, List, [], length, sym, ap, subst, ◌∙◌, inl, inr, arith, IsTrue}
+use Rattle.std.specs.Prelude.{Contains}
+use Rattle.std.proofs.lemmas.{Bool.{cases_eq, cases_lt}, List.{length-map}}
+use Rattle.osek_standard.specs.declared.point.Point.{Point}
 use Rattle.osek_standard.specs.declared.point.Point.TheVariants as point
 use Rattle.osek_standard.proofs.Members.{contained_among}
 use Rattle.abstract_state.specs.{declared.value.PartValue.{PartValue}, Concrete.{val_of}}
 use Rattle.flow_model.specs.Values.{block_of}
 use Rattle.numbered_sets.specs.{declared.numbered_entry.NumberedEntry.{NumberedEntry}, Numbers.{Numbers, has_number}, NumberedEntries.{numbers_at}}
 use Rattle.numbered_sets.specs.{Pools.{Values, values_at, IsNumberOf}, Views.{AreNumbersOf}}
-use Rattle.flow_rules.specs.{declared.group.NumberEnd.{NumberEnd}, Deciding.{AreBlockEnds}}
+use Rattle.flow_rules.specs.{declared.group.NumberEnd.{NumberEnd}, Deciding.{HaveNumbersOf, IsNumberAt, IsNumberPut, block_with, AreBlockEnds}}
 
 -- the pool has the components of the entry
 pub pool_has : (pool : List Values) (entry : NumberedEntry) (t c : ℕ) → AreNumbersOf pool entry → t < length entry.sets → c ≡ t → c < length pool
@@ -19,33 +20,40 @@ pool_has pool entry t c known lt same =
 module _ (pool : List Values) (entry : NumberedEntry) (c : ℕ) where
   -- those of the numbers below one
   pub record AreBlocksBelow (k : ℕ) (xs : List NumberEnd) : Type 0 where
-    pub each : (x : NumberEnd) (d : PartValue) → Contains xs x → IsTrue (has_number (numbers_at entry c) x.number) × (x.target ≡ point.Task (block_of (val_of (slice_index_or (values_at pool c) x.number d))))
-    pub whole : (n : ℕ) → n < k → IsTrue (has_number (numbers_at entry c) n) → (x : NumberEnd) × Contains xs x × (x.number ≡ n)
+    pub some : HaveNumbersOf (numbers_at entry c).domain xs
+    pub each : (p : Point) (n : ℕ) (d : PartValue) → IsNumberAt xs p n → IsTrue (has_number (numbers_at entry c) n) × (p ≡ block_with pool c n d)
+    pub whole : (n : ℕ) (d : PartValue) → n < k → IsTrue (has_number (numbers_at entry c) n) → IsNumberAt xs (block_with pool c n d) n
 
   pub no_blocks : (k : ℕ) (xs : List NumberEnd) → xs ≡ [] → ((n : ℕ) → 0 ≤ n → n < k → has_number (numbers_at entry c) n ≡ false) → AreBlocksBelow k xs
   no_blocks k xs empty none = record {
-    each = λ x d m. absurd (contained_among [] x (subst (λ (ys : List NumberEnd). Contains ys x) empty m));
-    whole = λ n lt has. (let not = none n (omega arith) lt in absurd (cc));
+    some = λ x m. absurd (nothing x m);
+    each = λ p n d at. absurd (nothing at.end at.listed);
+    whole = λ n d lt has. (let not = none n (omega arith) lt in absurd (cc));
   }
+    where
+      nothing : (x : NumberEnd) → Contains xs x → ⊥
+      nothing x m = contained_among [] x (subst (λ (ys : List NumberEnd). Contains ys x) empty m)
 
-  pub more_blocks : (m k : ℕ) (xs ys : List NumberEnd) (x : NumberEnd) (v : PartValue) → ys ≡ xs ++ x ∷ [] → IsTrue (has_number (numbers_at entry c) m) → IsNumberOf (values_at pool c) v m → x.number ≡ m → x.target ≡ point.Task (block_of (val_of v))
-      → ((n : ℕ) → m + 1 ≤ n → n < k → has_number (numbers_at entry c) n ≡ false) → AreBlocksBelow m xs → AreBlocksBelow k ys
-  more_blocks m k xs ys x v pushed has is number target none h = subst (AreBlocksBelow k) (sym pushed) (record {
-    each = λ y d there. elim (Contains-push_cases xs x y there) [
-      | inl old ↦ h.each y d old
-      | inr same ↦ subst (λ (z : NumberEnd). IsTrue (has_number (numbers_at entry c) z.number) × (z.target ≡ point.Task (block_of (val_of (slice_index_or (values_at pool c) z.number d))))) same (
-        ap (has_number (numbers_at entry c)) number ∙ has,
-        target ∙ ap (λ (w : PartValue). point.Task (block_of (val_of w))) (sym (is.is d)) ∙ ap (λ (n : ℕ). point.Task (block_of (val_of (slice_index_or (values_at pool c) n d)))) (sym number),
-      )
-    ];
-    whole = λ n lt there. elim (cases_lt n m) [
-      | inl below ↦ (let old = h.whole n below there in (old.0, Contains-append_left xs (x ∷ []) old.0 old.1, old.2))
-      | inr above ↦ elim (cases_eq n m) [
-        | inl same ↦ (x, Contains-push xs x, number ∙ sym same)
-        | inr differ ↦ (let not = none n (omega (arith, above, differ)) lt in absurd (cc))
-      ]
-    ];
-  })
+  module _ (m k : ℕ) (xs ys : List NumberEnd) (target : Point) (v : PartValue) (put : IsNumberPut target m xs ys) (has : IsTrue (has_number (numbers_at entry c) m)) (is : IsNumberOf (values_at pool c) v m)
+      (goes : target ≡ point.Task (block_of (val_of v))) (none : (n : ℕ) → m + 1 ≤ n → n < k → has_number (numbers_at entry c) n ≡ false) (h : AreBlocksBelow m xs) where
+    at_block : (n : ℕ) (d : PartValue) → n ≡ m → target ≡ block_with pool c n d
+    at_block n d same = goes ∙ ap (λ (w : PartValue). point.Task (block_of (val_of w))) (sym (is.is d)) ∙ ap (λ (i : ℕ). block_with pool c i d) (sym same)
+
+    pub more_blocks : (HaveNumbersOf (numbers_at entry c).domain xs → HaveNumbersOf (numbers_at entry c).domain ys) → AreBlocksBelow k ys
+    more_blocks keeps = record {
+      some = keeps h.some;
+      each = λ p n d at. elim (put.from p n at) [
+        | inl old ↦ h.each p n d old
+        | inr new ↦ (ap (has_number (numbers_at entry c)) new.1 ∙ has, new.0 ∙ at_block n d new.1)
+      ];
+      whole = λ n d lt there. elim (cases_lt n m) [
+        | inl below ↦ put.kept (block_with pool c n d) n (h.whole n d below there)
+        | inr above ↦ elim (cases_eq n m) [
+          | inl same ↦ subst (λ (p : Point). IsNumberAt ys p n) (at_block n d same) (subst (IsNumberAt ys target) (sym same) put.there)
+          | inr differ ↦ (let not = none n (omega (arith, above, differ)) lt in absurd (cc))
+        ]
+      ];
+    }
 
   pub all_blocks : (k : ℕ) (xs : List NumberEnd) → length (values_at pool c) ≤ k → AreNumbersOf pool entry → AreBlocksBelow k xs → AreBlockEnds pool entry c xs
-  all_blocks k xs all known h = record { each = h.each; whole = λ n has. (let lt = known.known c n has in h.whole n (omega (arith, lt, all)) has) }
+  all_blocks k xs all known h = record { some = h.some; each = h.each; whole = λ n d has. (let lt = known.known c n has in h.whole n d (omega (arith, lt, all)) has) }

@@ -1,70 +1,62 @@
--- What changes do to sets of numbers, one after another.
+-- What changes do to sets of numbers, one component after another.
 use Rattle.std.proofs.Common.{◌≡◌, ◌≢◌, ℕ, ◌+◌, ◌<◌, ◌≤◌, Bool, true, false, ◌||◌, List, [], ◌∷◌, ◌++◌, length, get_or, set, take, drop, refl, sym, ap, subst, ◌∙◌, inl, inr, arith, IsTrue, get_or-set_same, get_or-set_other}
 use Rattle.std.specs.{Prelude.{◌==◌, if◌then◌else◌}, List.{list_any}}
-use Rattle.std.proofs.lemmas.{Bool.{cases_Bool, cases_eq, eq-eqb, ne_eqb}, List.{length-set, take_more, take_all, take-append-drop, append-nil, Folds.{list_any-append}}}
+use Rattle.std.proofs.lemmas.{Bool.{cases_Bool, cases_eq, eq-eqb, ne_eqb, true≢false}, List.{length-set, take_more, take_all, take-append-drop, Folds.{list_any-append}}}
 use Rattle.abstract_state.specs.{declared.{value.{Domain.{Domain}, PartValue.{PartValue}}, table.ValueSet.{ValueSet}}, Domains.{IsWithin}, Tables.{set_at, is_member}}
 use Rattle.flow_model.specs.{declared.{change.Change.{Change}, test.Condition.{Condition}, rule.Rule.{Rule}}, Tests.{PassesAt, updated, value_after}}
 use Rattle.numbered_sets.specs.{declared.numbered_entry.NumberedEntry.{NumberedEntry}, Numbers.{Numbers}, NumberedEntries.{no_set, numbers_at}, Pools.{Values, values_at, IsLonger}}
 use Rattle.numbered_sets.specs.Views.{plain_set, plain_entry, AreNumbersOf}
 use Rattle.numbered_sets.proofs.{PlainLaws.{plain_set_at, length_plain}, NumberingLaws.{longer_onward}}
-use Rattle.flow_rules.specs.{Applying.{KeepsDomain, IsPassedSet}, Changing.{names, is_named, up_to, alone, StaysWithin, AreAllPassed}}
+use Rattle.flow_model.proofs.ChangeLaws.{after_both, change_here}
+use Rattle.flow_rules.specs.{Applying.{KeepsDomain, IsPassedSet}, Changing.{names, is_named, up_to, making, StaysWithin, AreAllPassed}}
 use Rattle.flow_rules.proofs.NumbersPassing.{passed_on, alike_there}
 
 -- ---- what becomes of a value
 
-after_append : (xs ys : List Change) (c : ℕ) (v : PartValue) → value_after (xs ++ ys) c v ≡ (if list_any (names c) xs then value_after xs c v else value_after ys c v)
-after_append [] ys c v = refl
-after_append (x ∷ xs) ys c v = elim (cases_Bool (x.component.0 == c)) [
-  | inl e ↦ (rw e refl)
-  | inr e ↦ (rw e (after_append xs ys c v))
+-- changes that don't name a component
+pub unnamed_stays : (xs : List Change) (c : ℕ) (v : PartValue) → list_any (names c) xs ≡ false → value_after xs c v ≡ v
+unnamed_stays [] c v none = refl
+unnamed_stays (x ∷ xs) c v none = elim (cases_Bool (x.component.0 == c)) [
+  | inl e ↦ absurd (true≢false (sym (ap (λ (b : Bool). b || list_any (names c) xs) e) ∙ none))
+  | inr e ↦ ap (λ (b : Bool). value_after xs c (if b then updated x.update v else v)) e ∙ unnamed_stays xs c v (sym (ap (λ (b : Bool). b || list_any (names c) xs) e) ∙ none)
 ]
 
-after_named : (xs ys : List Change) (c : ℕ) (v : PartValue) → list_any (names c) xs ≡ true → value_after (xs ++ ys) c v ≡ value_after xs c v
-after_named xs ys c v named = after_append xs ys c v ∙ ap (λ (b : Bool). if b then value_after xs c v else value_after ys c v) named
-
-after_unnamed : (xs ys : List Change) (c : ℕ) (v : PartValue) → list_any (names c) xs ≡ false → value_after (xs ++ ys) c v ≡ value_after ys c v
-after_unnamed xs ys c v none = after_append xs ys c v ∙ ap (λ (b : Bool). if b then value_after xs c v else value_after ys c v) none
-
-pub stays_unnamed : (xs : List Change) (c : ℕ) (v : PartValue) → list_any (names c) xs ≡ false → value_after xs c v ≡ v
-stays_unnamed xs c v none = ap (λ (ys : List Change). value_after ys c v) (sym (append-nil xs)) ∙ after_unnamed xs [] c v none
-
-pub after_one : (x : Change) (ys : List Change) (c : ℕ) (v : PartValue) → x.component.0 ≡ c → value_after (x ∷ ys) c v ≡ updated x.update v
-after_one x ys c v same = ap (λ (b : Bool). if b then updated x.update v else value_after ys c v) (eq-eqb x.component.0 c same)
-
-after_other : (x : Change) (c : ℕ) (v : PartValue) → x.component.0 ≢ c → value_after (x ∷ []) c v ≡ v
-after_other x c v differ = ap (λ (b : Bool). if b then updated x.update v else v) (ne_eqb x.component.0 c differ)
+or_false : (b : Bool) → (b || false) ≡ b
+or_false true = refl
+or_false false = refl
 
 module _ (xs : List Change) (k : ℕ) (x : Change) (lt : k < length xs) (at : get_or xs k x ≡ x) where
   next : take (k + 1) xs ≡ take k xs ++ x ∷ []
   next = take_more xs k x lt ∙ ap (λ (y : Change). take k xs ++ y ∷ []) at
 
-  -- the change at the place changes nothing there, or it is the first to do so
-  pub next_stays : (c : ℕ) (v : PartValue) → (x.component.0 ≡ c → is_named xs k c ≡ true) → value_after (take (k + 1) xs) c v ≡ value_after (take k xs) c v
-  next_stays c v h =
-      ap (λ (ys : List Change). value_after ys c v) next ∙ elim (cases_Bool (is_named xs k c)) [
-        | inl named ↦ after_named (take k xs) (x ∷ []) c v named
-        | inr none ↦
-            after_unnamed (take k xs) (x ∷ []) c v none
-            ∙ after_other x c v (λ e. (let named = h e in absurd (cc)))
-            ∙ sym (stays_unnamed (take k xs) c v none)
-      ]
+  -- no other change names its component
+  pub alone_there : (c : ℕ) (v : PartValue) → x.component.0 ≡ c → is_named xs k c ≡ false → list_any (names c) (drop (k + 1) xs) ≡ false → value_after xs c v ≡ updated x.update v
+  alone_there c v here before rest =
+      ap (λ (ys : List Change). value_after ys c v) (sym (take-append-drop (k + 1) xs))
+      ∙ after_both (take (k + 1) xs) (drop (k + 1) xs) c v
+      ∙ unnamed_stays (drop (k + 1) xs) c (value_after (take (k + 1) xs) c v) rest
+      ∙ ap (λ (ys : List Change). value_after ys c v) next
+      ∙ after_both (take k xs) (x ∷ []) c v
+      ∙ change_here x [] c (value_after (take k xs) c v) here
+      ∙ ap (updated x.update) (unnamed_stays (take k xs) c v before)
 
-  pub next_is : (c : ℕ) (v : PartValue) → x.component.0 ≡ c → is_named xs k c ≡ false → value_after (take (k + 1) xs) c v ≡ updated x.update v
-  next_is c v same none = ap (λ (ys : List Change). value_after ys c v) next ∙ after_unnamed (take k xs) (x ∷ []) c v none ∙ after_one x [] c v same
+  named_next : (c : ℕ) → is_named xs (k + 1) c ≡ (is_named xs k c || ((x.component.0 == c) || false))
+  named_next c = ap (list_any (names c)) next ∙ list_any-append (names c) (take k xs) (x ∷ [])
 
-  named_next : (c : ℕ) → x.component.0 ≡ c → list_any (names c) (take (k + 1) xs) ≡ true
-  named_next c same =
-      ap (list_any (names c)) next ∙ list_any-append (names c) (take k xs) (x ∷ []) ∙ ap (λ (b : Bool). is_named xs k c || (b || false)) (eq-eqb x.component.0 c same) ∙ or_true (is_named xs k c)
+  -- its component is named now
+  pub named_now : (c : ℕ) → x.component.0 ≡ c → is_named xs (k + 1) c ≡ true
+  named_now c same = named_next c ∙ ap (λ (b : Bool). is_named xs k c || (b || false)) (eq-eqb x.component.0 c same) ∙ or_true (is_named xs k c)
     where
       or_true : (b : Bool) → (b || true) ≡ true
       or_true true = refl
       or_true false = refl
 
-  -- the first that names a component says what becomes of it
-  pub first_is : (c : ℕ) (v : PartValue) → x.component.0 ≡ c → is_named xs k c ≡ false → value_after xs c v ≡ updated x.update v
-  first_is c v same none =
-      ap (λ (ys : List Change). value_after ys c v) (sym (take-append-drop (k + 1) xs))
-      ∙ after_named (take (k + 1) xs) (drop (k + 1) xs) c v (named_next c same) ∙ next_is c v same none
+  -- another is as before, and so is one that was named
+  pub named_as_before : (c : ℕ) → (x.component.0 ≡ c → is_named xs k c ≡ true) → is_named xs (k + 1) c ≡ is_named xs k c
+  named_as_before c h = elim (cases_eq x.component.0 c) [
+    | inl same ↦ named_now c same ∙ sym (h same)
+    | inr other ↦ named_next c ∙ ap (λ (b : Bool). is_named xs k c || (b || false)) (ne_eqb x.component.0 c other) ∙ or_false (is_named xs k c)
+  ]
 
 -- ---- what becomes of a set
 
@@ -84,11 +76,10 @@ passed_alike r q before c old pool new same alike h = record {
   };
 }
 
--- a rule that changes nothing there, and then a change of it
-pub passed_then : (r q : Rule) (x : Change) (before : List Values) (c : ℕ) (old : Numbers) (pool : List Values) (new : Numbers) (after : List Values) (last : Numbers) → x.component.0 ≡ c → r.conditions ≡ q.conditions
-    → ((v : PartValue) → value_after r.changes c v ≡ v) → ((v : PartValue) → value_after q.changes c v ≡ updated x.update v)
-    → IsPassedSet r before c old pool new → IsPassedSet (alone x) pool c new after last → IsPassedSet q before c old after last
-passed_then r q x before c old pool new after last here same stays becomes h k = record {
+-- conditions, and then changes
+pub passed_then : (rule : Rule) (before : List Values) (c : ℕ) (old : Numbers) (pool : List Values) (new : Numbers) (after : List Values) (last : Numbers)
+    → IsPassedSet (record rule { changes = [] }) before c old pool new → IsPassedSet (making rule.changes) pool c new after last → IsPassedSet rule before c old after last
+passed_then rule before c old pool new after last h k = record {
   domain = k.domain ∙ h.domain;
   known = k.known;
   passed = record {
@@ -97,18 +88,8 @@ passed_then r q x before c old pool new after last here same stays becomes h k =
     from = λ w m.
         (let o = k.passed.from w m in
         let p = h.passed.from o.was o.there in
-        let was : p.was ≡ o.was = sym (stays p.was) ∙ p.becomes in
-        record {
-          was = p.was;
-          there = p.there;
-          passes = subst (λ (xs : List Condition). PassesAt xs c p.was) same p.passes;
-          becomes = becomes p.was ∙ ap (updated x.update) was ∙ sym (after_one x [] c o.was here) ∙ o.becomes;
-        });
-    to = λ v m p.
-        (let there : IsTrue (is_member (plain_set (values_at pool c) new) v) =
-        subst (λ (w : PartValue). IsTrue (is_member (plain_set (values_at pool c) new) w)) (stays v) (h.passed.to v m (subst (λ (xs : List Condition). PassesAt xs c v) (sym same) p)) in
-        subst (λ (w : PartValue). IsTrue (is_member (plain_set (values_at after c) last) w)) (after_one x [] c v here ∙ sym (becomes v))
-        (k.passed.to v there (λ y listed _. absurd (let none = listed.1 in omega (arith, none)))));
+        record { was = p.was; there = p.there; passes = p.passes; becomes = ap (value_after rule.changes c) p.becomes ∙ o.becomes });
+    to = λ v m p. k.passed.to v (h.passed.to v m p) (λ y listed _. absurd (let none = listed.1 in omega (arith, none)));
   };
 }
 
@@ -116,62 +97,80 @@ passed_then r q x before c old pool new after last here same stays becomes h k =
 
 module _ (rule : Rule) (k : ℕ) (x : Change) (lt : k < length rule.changes) (at : get_or rule.changes k x ≡ x) (before : List Values) (was : NumberedEntry) (pool : List Values) (sets : List Numbers)
     (h : AreAllPassed (up_to rule k) before was (length was.sets) pool sets) where
+  abbrev Passed : ℕ → Bool → List Values → Numbers → Type 0
+  Passed c named now s = IsPassedSet (record rule { changes = if named then rule.changes else [] }) before c (numbers_at was c) now s
+
+  -- of a component that the change doesn't name, or that was named before
+  as_before : (c : ℕ) → c < length was.sets → (x.component.0 ≡ c → is_named rule.changes k c ≡ true) → IsPassedSet (up_to rule (k + 1) c) before c (numbers_at was c) pool (get_or sets c no_set)
+  as_before c less named = subst (λ (b : Bool). Passed c b pool (get_or sets c no_set)) (sym (named_as_before rule.changes k x lt at c named)) (h.each c less)
+
   pub changed_none : is_named rule.changes k x.component.0 ≡ true → AreAllPassed (up_to rule (k + 1)) before was (length was.sets) pool sets
   changed_none named = record {
     longer = h.longer;
     size = h.size;
-    each = λ c less.
-        passed_alike (up_to rule k) (up_to rule (k + 1)) before c (numbers_at was c) pool (get_or sets c no_set) refl
-        (λ v. sym (next_stays rule.changes k x lt at c v (λ same. subst (λ (j : ℕ). is_named rule.changes k j ≡ true) same named))) (h.each c less);
+    each = λ c less. as_before c less (λ same. subst (λ (j : ℕ). is_named rule.changes k j ≡ true) same named);
   }
 
   pub changed_beyond : length was.sets ≤ x.component.0 → AreAllPassed (up_to rule (k + 1)) before was (length was.sets) pool sets
   changed_beyond beyond = record {
     longer = h.longer;
     size = h.size;
-    each = λ c less.
-        passed_alike (up_to rule k) (up_to rule (k + 1)) before c (numbers_at was c) pool (get_or sets c no_set) refl
-        (λ v. sym (next_stays rule.changes k x lt at c v (λ same. absurd (omega (arith, same, less, beyond))))) (h.each c less);
+    each = λ c less. as_before c less (λ same. absurd (omega (arith, same, less, beyond)));
   }
 
-  pub changed_one : (after : List Values) (s : Numbers) → IsLonger pool after → is_named rule.changes k x.component.0 ≡ false → x.component.0 < length was.sets → IsPassedSet (alone x) pool x.component.0 (get_or sets x.component.0 no_set) after s
-      → AreAllPassed (up_to rule (k + 1)) before was (length was.sets) after (set sets x.component.0 s)
+  pub changed_one : (after : List Values) (s : Numbers) → IsLonger pool after → is_named rule.changes k x.component.0 ≡ false → x.component.0 < length was.sets
+      → IsPassedSet (making rule.changes) pool x.component.0 (get_or sets x.component.0 no_set) after s → AreAllPassed (up_to rule (k + 1)) before was (length was.sets) after (set sets x.component.0 s)
   changed_one after s longer none known made = record {
     longer = longer_onward before pool after h.longer longer;
     size = length-set sets x.component.0 s ∙ h.size;
     each = λ c less. elim (cases_eq x.component.0 c) [
-      | inl same ↦ subst (λ (j : ℕ). IsPassedSet (up_to rule (k + 1)) before j (numbers_at was j) after (get_or (set sets x.component.0 s) j no_set)) same here
+      | inl same ↦ subst (λ (j : ℕ). IsPassedSet (up_to rule (k + 1) j) before j (numbers_at was j) after (get_or (set sets x.component.0 s) j no_set)) same here
       | inr differ ↦
-          subst (IsPassedSet (up_to rule (k + 1)) before c (numbers_at was c) after) (sym (get_or-set_other sets x.component.0 c s no_set (λ e. differ (sym e))))
-          (passed_alike (up_to rule k) (up_to rule (k + 1)) before c (numbers_at was c) after (get_or sets c no_set) refl
-          (λ v. sym (next_stays rule.changes k x lt at c v (λ same. absurd (differ same))))
-          (passed_on (up_to rule k) before c (numbers_at was c) pool after (get_or sets c no_set) longer (h.each c less)))
+          subst (IsPassedSet (up_to rule (k + 1) c) before c (numbers_at was c) after) (sym (get_or-set_other sets x.component.0 c s no_set (λ e. differ (sym e))))
+          (passed_on (up_to rule (k + 1) c) before c (numbers_at was c) pool after (get_or sets c no_set) longer (as_before c less (λ same. absurd (differ same))))
     ];
   }
     where
-      here : IsPassedSet (up_to rule (k + 1)) before x.component.0 (numbers_at was x.component.0) after (get_or (set sets x.component.0 s) x.component.0 no_set)
-      here =
-          subst (IsPassedSet (up_to rule (k + 1)) before x.component.0 (numbers_at was x.component.0) after) (sym (get_or-set_same sets x.component.0 s no_set (omega (arith, known, h.size))))
-          (passed_then (up_to rule k) (up_to rule (k + 1)) x before x.component.0 (numbers_at was x.component.0) pool (get_or sets x.component.0 no_set) after s refl refl
-          (λ v. stays_unnamed (take k rule.changes) x.component.0 v none) (λ v. next_is rule.changes k x lt at x.component.0 v refl none) (h.each x.component.0 known) made)
+      untouched : Passed x.component.0 false pool (get_or sets x.component.0 no_set)
+      untouched = subst (λ (b : Bool). Passed x.component.0 b pool (get_or sets x.component.0 no_set)) none (h.each x.component.0 known)
 
--- the change at a place makes values of their domain, where the rule does
-pub stays_within : (rule : Rule) (before : List Values) (entry : NumberedEntry) (k : ℕ) (pool : List Values) (new : NumberedEntry) → k < length rule.changes → AreNumbersOf before entry
+      whole : Passed x.component.0 true after s
+      whole = passed_then rule before x.component.0 (numbers_at was x.component.0) pool (get_or sets x.component.0 no_set) after s untouched made
+
+      here : IsPassedSet (up_to rule (k + 1) x.component.0) before x.component.0 (numbers_at was x.component.0) after (get_or (set sets x.component.0 s) x.component.0 no_set)
+      here =
+          subst (IsPassedSet (up_to rule (k + 1) x.component.0) before x.component.0 (numbers_at was x.component.0) after)
+          (sym (get_or-set_same sets x.component.0 s no_set (omega (arith, known, h.size))))
+          (subst (λ (b : Bool). Passed x.component.0 b after s) (sym (named_now rule.changes k x lt at x.component.0 refl)) whole)
+
+-- the changes make values of their domain, where the rule does
+pub stays_within : (rule : Rule) (before : List Values) (entry : NumberedEntry) (k : ℕ) (pool : List Values) (new : NumberedEntry) → AreNumbersOf before entry
     → ((c : ℕ) → c < length (plain_entry before entry).sets → KeepsDomain rule c (set_at (plain_entry before entry) c)) → AreAllPassed (up_to rule k) before entry (length entry.sets) pool new.sets → StaysWithin rule.changes k pool new
-stays_within rule before entry k pool new lt known keeps h = record {
+stays_within rule before entry k pool new known keeps h = record {
   each = λ x v at less none m.
-      (let c = x.component.0 in
-      let there : c < length entry.sets = omega (arith, less, h.size) in
-      let o = (h.each x.component.0 there).passed.from v m in
-      let was : o.was ≡ v = sym (stays_unnamed (take k rule.changes) x.component.0 o.was none) ∙ o.becomes in
+      (let there : x.component.0 < length entry.sets = omega (arith, less, h.size) in
+      let passed : IsPassedSet (record rule { changes = [] }) before x.component.0 (numbers_at entry x.component.0) pool (get_or new.sets x.component.0 no_set) =
+      subst (λ (b : Bool). IsPassedSet (record rule { changes = if b then rule.changes else [] }) before x.component.0 (numbers_at entry x.component.0) pool (get_or new.sets x.component.0 no_set)) none (h.each x.component.0 there) in
+      let o = passed.passed.from v m in
       let plain = plain_set_at before entry x.component.0 in
       let kept = keeps x.component.0 (let long = length_plain before 0 entry.sets in omega (arith, there, long)) in
       let within = kept.each o.was (ap (λ (s : ValueSet). is_member s o.was) plain ∙ o.there) o.passes in
       let domain = ap (λ (s : ValueSet). s.domain) plain ∙ alike_there before pool entry x.component.0 (numbers_at entry x.component.0) known h.longer refl in
-      subst (λ (d : Domain). IsWithin d (updated x.update v)) domain
-      (subst (IsWithin (set_at (plain_entry before entry) x.component.0).domain) (first_is rule.changes k x lt at x.component.0 o.was refl none ∙ ap (updated x.update) was) within));
+      subst (λ (d : Domain). IsWithin d (value_after rule.changes x.component.0 v)) domain
+      (subst (IsWithin (set_at (plain_entry before entry) x.component.0).domain) (ap (value_after rule.changes x.component.0) o.becomes) within));
 }
 
--- the whole rule
-pub all_changes : (rule : Rule) (k : ℕ) → length rule.changes ≤ k → up_to rule k ≡ rule
-all_changes rule k whole = (let changes = take_all k rule.changes whole in λ i. record { conditions = rule.conditions; changes = changes i; target = rule.target; decision = rule.decision; status = rule.status })
+-- all changes were made
+pub all_changes : (rule : Rule) (k : ℕ) (before : List Values) (entry : NumberedEntry) (n : ℕ) (pool : List Values) (sets : List Numbers) → length rule.changes ≤ k → AreAllPassed (up_to rule k) before entry n pool sets → AreAllPassed (λ c. rule) before entry n pool sets
+all_changes rule k before entry n pool sets whole h = record {
+  longer = h.longer;
+  size = h.size;
+  each = λ c lt. by_name c (is_named rule.changes k c) refl (h.each c lt);
+}
+  where
+    by_name : (c : ℕ) (named : Bool) → is_named rule.changes k c ≡ named → IsPassedSet (record rule { changes = if named then rule.changes else [] }) before c (numbers_at entry c) pool (get_or sets c no_set) →
+        IsPassedSet rule before c (numbers_at entry c) pool (get_or sets c no_set)
+    by_name c true e passed = passed
+    by_name c false e passed =
+        passed_alike (record rule { changes = [] }) rule before c (numbers_at entry c) pool (get_or sets c no_set) refl
+        (λ v. sym (unnamed_stays rule.changes c v (ap (list_any (names c)) (sym (take_all k rule.changes whole)) ∙ e))) passed

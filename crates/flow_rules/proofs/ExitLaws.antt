@@ -1,7 +1,6 @@
 -- The exits of one group: each choice of its values has one, and stands where that ends.
-use Rattle.std.proofs.Common.{◌≡◌, ℕ, ◌<◌, false, List, [], ◌∷◌, ◌++◌, length, map, get_or, refl, sym, ap, subst, ◌∙◌, inl, inr, arith, Some, None}
+use Rattle.std.proofs.Common.{◌≡◌, ℕ, ◌<◌, false, List, [], ◌∷◌, ◌++◌, length, map, refl, sym, ap, subst, ◌∙◌, inl, inr, arith, Some, None, IsTrue}
 use Rattle.std.specs.Prelude.{Contains}
-use Rattle.std.proofs.lemmas.List.{get_or_default}
 use Rattle.osek_standard.specs.declared.{app.App.{App}, point.Point.{Point}}
 use Rattle.osek_standard.specs.declared.point.Point.TheVariants as point
 use Rattle.osek_standard.proofs.Members.{among_map, map_among, among_contained, contained_among}
@@ -12,14 +11,14 @@ use Rattle.flow_model.specs.declared.case.Decision.TheVariants as decision
 use Rattle.flow_model.specs.{Values.{block_of}, Effects.{AreIn, stay_point, IsKnownStay}, Scheduling.{end_point}, declared.case.Stay.{Stay}}
 use Rattle.flow_model.specs.declared.case.Stay.TheVariants as stay
 use Rattle.flow_model.specs.declared.case.Leaving.{Leaving}
-use Rattle.numbered_sets.specs.{declared.numbered_entry.NumberedEntry.{NumberedEntry}, Pools.{Values, values_at, IsNumberOf}}
+use Rattle.numbered_sets.specs.{declared.numbered_entry.NumberedEntry.{NumberedEntry}, Numbers.{has_number}, NumberedEntries.{numbers_at}, Pools.{Values}}
 use Rattle.numbered_sets.specs.Views.{plain_entry}
 use Rattle.flow_exits.specs.{declared.exit.Exit.{Exit}, Exits.{IsFilled}, Leaving.{HasDecided}}
 use Rattle.flow_rules.specs.declared.group.{NumberEnd.{NumberEnd}, Ends.{Ends}, ExitGroup.{ExitGroup}}
 use Rattle.flow_rules.specs.declared.group.Ends.TheVariants as ends
-use Rattle.flow_rules.specs.{Groups.{holding, exit_at, exits_by, all_exits, AreKnownEnds}, Deciding.{AreBlockEnds, AreBlocks, AreEndsBy, AddsOne, AddsFor, IsGroupFor, IsKnownDecision, IsWhole}}
+use Rattle.flow_rules.specs.{Groups.{holding, exit_at, exits_by, all_exits, AreNumbersThere, AreKnownEnds}, Deciding.{block_with, AreBlockEnds, AreBlocks, AreEndsBy, AddsOne, AddsFor, IsGroupFor, IsKnownDecision, IsWhole}}
 use Rattle.flow_rules.proofs.{GroupLaws.{old_exit, new_exit, exit_cases, known_with}, NumberLaws.{member_number, filled_plain}}
-use Rattle.flow_rules.proofs.HeldLaws.{held_is, held_within, held_in, held_filled}
+use Rattle.flow_rules.proofs.HeldLaws.{held_number, held_within, held_in, held_filled}
 
 -- where a task's value stands
 abbrev block_point : ℕ → (ℕ → PartValue) → Point
@@ -64,43 +63,43 @@ module _ (app : App) (pool : List Values) (g : ExitGroup) (where_to : (ℕ → P
       there = omega (arith, counted, sound.size)
 
       abbrev exit_of : NumberEnd → Exit
-      exit_of e = exit_at pool g (holding g.entry c e.number) e.target
+      exit_of e = exit_at pool g (holding g.entry c e.numbers) e.target
+
+      -- a number of an end is of the entry, and its value stands there
+      its : (e : NumberEnd) → Contains xs e → (n : ℕ) (d : PartValue) → IsTrue (has_number e.numbers n) → IsTrue (has_number (numbers_at g.entry c) n) × (e.target ≡ block_with pool c n d)
+      its e m n d has = b.each e.target n d (record { end = e; listed = m; target = refl; has = has })
+
+      these : (e : NumberEnd) → Contains xs e → AreNumbersThere pool g.entry c e.numbers
+      these e m = record { domain = (b.some e m).domain; known = λ n has. sound.numbers.known c n (its e m n (OfAlarm false) has).0 }
 
       exit_of_end : (e : NumberEnd) → Contains xs e → IsExitTo (exit_of e)
-      exit_of_end e m =
-          let v = get_or (values_at pool c) e.number (OfAlarm false) in
-          let has = (b.each e (OfAlarm false) m).0 in
-          let at = (b.each e (OfAlarm false) m).1 in
-          let lt = sound.numbers.known c e.number has in
-          let is : IsNumberOf (values_at pool c) v e.number = record { known = lt; is = λ d. get_or_default (values_at pool c) e.number d (OfAlarm false) lt } in
-          record {
-            decision = refl;
-            status = refl;
-            filled = held_filled app pool g.entry c e.number v there has is (filled_plain app pool g.entry sound.numbers sound.filled sound.size);
-            within = held_within app pool g.entry c e.number v there has is;
-            target = λ value h. at ∙ ap (λ (w : PartValue). point.Task (block_of (val_of w))) (sym (held_is app pool g.entry c e.number v there has is counted value h)) ∙ stands value;
-          }
+      exit_of_end e m = record {
+        decision = refl;
+        status = refl;
+        filled = held_filled app pool g.entry c e.numbers there (these e m).known (b.some e m).some (filled_plain app pool g.entry sound.numbers sound.filled sound.size);
+        within = held_within app pool g.entry c e.numbers there (λ n has. (its e m n (OfAlarm false) has).0);
+        target = λ value h.
+            (let x = held_number app pool g.entry c e.numbers there (value c) (h c counted) in
+            (its e m x.number (value c) x.has_it).1 ∙ ap (λ (w : PartValue). point.Task (block_of (val_of w))) (x.is.is (value c)) ∙ stands value);
+      }
 
       exit_for : (value : ℕ → PartValue) → AreIn app (plain_entry pool g.entry) value → HasExitTo (ends.With c xs) value
       exit_for value h =
           let x = member_number pool g.entry c (value c) (h c counted) in
-          let found = b.whole x.number x.has_it in
-          let e = found.0 in
-          let m = found.1 in
-          let is : IsNumberOf (values_at pool c) (value c) e.number = subst (IsNumberOf (values_at pool c) (value c)) (sym found.2) x.is in
-          let has = (b.each e (value c) m).0 in
+          let found = b.whole x.number (value c) x.has_it in
+          let e = found.end in
           record {
             exit = exit_of e;
-            listed = among_contained (map exit_of xs) (exit_of e) (among_map exit_of e xs (contained_among xs e m));
+            listed = among_contained (map exit_of xs) (exit_of e) (among_map exit_of e xs (contained_among xs e found.listed));
             decision = refl;
             status = refl;
-            within = held_in app pool g.entry c e.number (value c) there has is value h refl;
-            target = (b.each e (value c) m).1 ∙ ap (λ (w : PartValue). point.Task (block_of (val_of w))) (is.is (value c)) ∙ stands value;
+            within = held_in app pool g.entry c e.numbers there value h x.number found.has x.is;
+            target = found.target ∙ ap (λ (w : PartValue). point.Task (block_of (val_of w))) (x.is.is (value c)) ∙ stands value;
           }
 
       with_blocks : AreExitsTo (ends.With c xs)
       with_blocks = record {
-        known = (there, λ e m. sound.numbers.known c e.number (b.each e (OfAlarm false) m).0);
+        known = (there, these);
         each = λ x m.
             (let back = map_among exit_of x xs (contained_among (map exit_of xs) x m) in
             subst IsExitTo (sym back.2) (exit_of_end back.0 (among_contained xs back.0 back.1)));

@@ -1,54 +1,44 @@
 -- Groups of exits mean the same in a pool that grew.
-use Rattle.std.proofs.Common.{◌≡◌, ℕ, ◌<◌, List, [], ◌∷◌, ◌++◌, length, map, refl, ap, ap₂, inl, inr, arith, ◌≢◌, ◌^◌, Bool, true, ◌||◌, sym, ◌∙◌, IsTrue, get_or-set_same, get_or-set_other}
-use Rattle.std.proofs.lemmas.List.{length-append, length-set}
-use Rattle.std.specs.Prelude.{◌==◌}
-use Rattle.std.proofs.lemmas.Bool.{cases_eq, eqb-true}
-use Rattle.osek_values.specs.Bits.{has_bit}
-use Rattle.bit_words.proofs.BitCounts.{has_either, has_one}
+use Rattle.std.proofs.Common.{◌≡◌, ◌≢◌, ℕ, ◌<◌, true, List, [], ◌∷◌, ◌++◌, length, map, refl, sym, ap, ap₂, ◌∙◌, inl, inr, arith, IsTrue, get_or-set_same, get_or-set_other}
+use Rattle.std.proofs.lemmas.{List.{length-append, length-set}, Bool.{cases_eq}}
 use Rattle.osek_standard.specs.declared.point.Point.{Point}
 use Rattle.osek_standard.proofs.Members.{Among, among_contained}
 use Rattle.abstract_state.specs.declared.table.PlainEntry.{PlainEntry}
 use Rattle.numbered_sets.specs.{declared.numbered_entry.NumberedEntry.{NumberedEntry}, Pools.{Values, values_at, IsLonger}, Views.{plain_entry, AreNumbersOf}}
 use Rattle.numbered_sets.proofs.ViewLaws.{same_view, still_known}
-use Rattle.numbered_sets.specs.{Numbers.{Numbers, numbers, has_number, with_number}, NumberedEntries.{no_set, numbers_at}}
+use Rattle.numbered_sets.specs.{Numbers.{Numbers, has_number}, NumberedEntries.{no_set, numbers_at}}
 use Rattle.flow_exits.specs.declared.exit.Exit.{Exit}
 use Rattle.flow_rules.specs.declared.group.{NumberEnd.{NumberEnd}, Ends.{Ends}, ExitGroup.{ExitGroup}}
 use Rattle.flow_rules.specs.declared.group.Ends.TheVariants as ends
-use Rattle.flow_rules.specs.Groups.{holding, exits_by, exits_of, all_exits, AreKnownEnds, IsKnownGroup, AreKnownGroups}
-use Rattle.flow_rules.proofs.NumbersPassing.{domains_alike, none_passes_bit}
+use Rattle.flow_rules.specs.Groups.{holding, exits_by, exits_of, all_exits, AreNumbersThere, AreKnownEnds, IsKnownGroup, AreKnownGroups}
+use Rattle.flow_rules.proofs.NumbersPassing.{domains_alike}
 
--- one number alone is still that of a value
-module _ (pool : List Values) (entry : NumberedEntry) (c n : ℕ) (lt : c < length entry.sets) (known : AreNumbersOf pool entry) (below : n < length (values_at pool c)) where
-  abbrev one : Numbers
-  one = with_number (numbers (numbers_at entry c).domain 0) n
+-- some numbers alone are still those of values
+module _ (pool : List Values) (entry : NumberedEntry) (c : ℕ) (x : Numbers) (lt : c < length entry.sets) (known : AreNumbersOf pool entry) (these : AreNumbersThere pool entry c x) where
+  at : numbers_at (holding entry c x) c ≡ x
+  at = get_or-set_same entry.sets c x no_set lt
 
-  at : numbers_at (holding entry c n) c ≡ one
-  at = get_or-set_same entry.sets c one no_set lt
+  beside : (k : ℕ) → k ≢ c → numbers_at (holding entry c x) k ≡ numbers_at entry k
+  beside k differ = get_or-set_other entry.sets c k x no_set differ
 
-  beside : (k : ℕ) → k ≢ c → numbers_at (holding entry c n) k ≡ numbers_at entry k
-  beside k differ = get_or-set_other entry.sets c k one no_set differ
-
-  only : (k : ℕ) → has_number one k ≡ (k == n)
-  only k = has_either 0 (2 ^ n) k ∙ ap (λ (b : Bool). b || has_bit (2 ^ n) k) (none_passes_bit k) ∙ has_one n k
-
-  same_domain : (k : ℕ) → (numbers_at (holding entry c n) k).domain ≡ (numbers_at entry k).domain
+  same_domain : (k : ℕ) → (numbers_at (holding entry c x) k).domain ≡ (numbers_at entry k).domain
   same_domain k = elim (cases_eq k c) [
-    | inl same ↦ ap (λ (i : ℕ). (numbers_at (holding entry c n) i).domain) same ∙ ap (λ (x : Numbers). x.domain) at ∙ ap (λ (i : ℕ). (numbers_at entry i).domain) (sym same)
-    | inr differ ↦ ap (λ (x : Numbers). x.domain) (beside k differ)
+    | inl same ↦
+        ap (λ (i : ℕ). (numbers_at (holding entry c x) i).domain) same ∙ ap (λ (y : Numbers). y.domain) at ∙ these.domain ∙ ap (λ (i : ℕ). (numbers_at entry i).domain) (sym same)
+    | inr differ ↦ ap (λ (y : Numbers). y.domain) (beside k differ)
   ]
 
-  still_below : (k m : ℕ) → IsTrue (has_number (numbers_at (holding entry c n) k) m) → m < length (values_at pool k)
+  still_below : (k m : ℕ) → IsTrue (has_number (numbers_at (holding entry c x) k) m) → m < length (values_at pool k)
   still_below k m has = elim (cases_eq k c) [
     | inl same ↦
-        (let here : has_number one m ≡ true = ap (λ (x : Numbers). has_number x m) (sym at) ∙ ap (λ (i : ℕ). has_number (numbers_at (holding entry c n) i) m) (sym same) ∙ has in
-        let number : m ≡ n = eqb-true m n (sym (only m) ∙ here) in
+        (let here : has_number x m ≡ true = ap (λ (y : Numbers). has_number y m) (sym at) ∙ ap (λ (i : ℕ). has_number (numbers_at (holding entry c x) i) m) (sym same) ∙ has in
         let long : length (values_at pool k) ≡ length (values_at pool c) = ap (λ (i : ℕ). length (values_at pool i)) same in
-        omega (arith, number, below, long))
-    | inr differ ↦ known.known k m (ap (λ (x : Numbers). has_number x m) (sym (beside k differ)) ∙ has)
+        omega (arith, these.known m here, long))
+    | inr differ ↦ known.known k m (ap (λ (y : Numbers). has_number y m) (sym (beside k differ)) ∙ has)
   ]
 
-  pub held_known : AreNumbersOf pool (holding entry c n)
-  held_known = record { domains = domains_alike (holding entry c n).sets entry.sets (length-set entry.sets c one) same_domain ∙ known.domains; known = still_below }
+  pub held_known : AreNumbersOf pool (holding entry c x)
+  held_known = record { domains = domains_alike (holding entry c x).sets entry.sets (length-set entry.sets c x) same_domain ∙ known.domains; known = still_below }
 
 map_same : {X : Type 0} (f g : X → Exit) (xs : List X) → ((x : X) → Among x xs → f x ≡ g x) → map f xs ≡ map g xs
 map_same f g [] h = refl
@@ -62,8 +52,8 @@ module _ (pool after : List Values) (longer : IsLonger pool after) where
   ends_same : (g : ExitGroup) (e : Ends) → AreNumbersOf pool g.entry → AreKnownEnds pool g.entry e → exits_by after g e ≡ exits_by pool g e
   ends_same g (ends.At points) known h = ap (λ (x : PlainEntry). map (λ (p : Point). exit_by g p x) points) (same_view pool after g.entry longer known)
   ends_same g (ends.With c xs) known h =
-      map_same (λ (x : NumberEnd). exit_by g x.target (plain_entry after (holding g.entry c x.number))) (λ (x : NumberEnd). exit_by g x.target (plain_entry pool (holding g.entry c x.number))) xs
-      (λ x m. ap (exit_by g x.target) (same_view pool after (holding g.entry c x.number) longer (held_known pool g.entry c x.number h.0 known (h.1 x (among_contained xs x m)))))
+      map_same (λ (x : NumberEnd). exit_by g x.target (plain_entry after (holding g.entry c x.numbers))) (λ (x : NumberEnd). exit_by g x.target (plain_entry pool (holding g.entry c x.numbers))) xs
+      (λ x m. ap (exit_by g x.target) (same_view pool after (holding g.entry c x.numbers) longer (held_known pool g.entry c x.numbers h.0 known (h.1 x (among_contained xs x m)))))
 
   group_same : (g : ExitGroup) → IsKnownGroup pool g → exits_of after g ≡ exits_of pool g
   group_same g h = ends_same g g.ends h.numbers h.ends
@@ -77,7 +67,7 @@ module _ (pool after : List Values) (longer : IsLonger pool after) where
 
   known_ends : (entry : NumberedEntry) (e : Ends) → AreKnownEnds pool entry e → AreKnownEnds after entry e
   known_ends entry (ends.At points) h = tt
-  known_ends entry (ends.With c xs) h = (h.0, λ x m. known_longer c x.number (h.1 x m))
+  known_ends entry (ends.With c xs) h = (h.0, λ x m. (let these = h.1 x m in record { domain = these.domain; known = λ n has. known_longer c n (these.known n has) }))
     where
       known_longer : (c n : ℕ) → n < length (values_at pool c) → n < length (values_at after c)
       known_longer c n lt = (let more = longer.values c in omega (arith, lt, ap length more.is, length-append (values_at pool c) more.more))

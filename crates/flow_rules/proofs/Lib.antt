@@ -14,6 +14,7 @@ pub mod NumberLaws
 pub mod HeldLaws
 pub mod HeldNumbers
 pub mod ExitLaws
+pub mod NumberPuts
 pub mod BlockLaws
 pub mod LeftLaws
 pub mod KeptLaws

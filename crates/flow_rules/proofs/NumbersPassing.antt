@@ -136,7 +136,7 @@ domains_alike [] (y ∷ ys) e h = absurd (omega (arith, e))
 domains_alike (x ∷ xs) [] e h = absurd (omega (arith, e))
 domains_alike (x ∷ xs) (y ∷ ys) e h = ap₂ (λ (d : Domain) (ds : List Domain). d ∷ ds) (h 0) (domains_alike xs ys (omega (arith, e)) (λ c. h (suc c)))
 
-module _ (rule : Rule) (before : List Values) (entry : NumberedEntry) (k : ℕ) (pool : List Values) (new : NumberedEntry) (whole : k ≡ length entry.sets) (known : AreNumbersOf before entry) (h : AreAllPassed rule before entry k pool new.sets) where
+module _ (rule : Rule) (before : List Values) (entry : NumberedEntry) (k : ℕ) (pool : List Values) (new : NumberedEntry) (whole : k ≡ length entry.sets) (known : AreNumbersOf before entry) (h : AreAllPassed (λ c. rule) before entry k pool new.sets) where
   same_domain_there : (c : ℕ) → (numbers_at new c).domain ≡ (numbers_at entry c).domain
   same_domain_there c = elim (cases_lt c k) [
     | inl lt ↦ (h.each c lt).domain

@@ -1,4 +1,4 @@
--- A change to one value: the set that it leaves has that value's number alone.
+-- Changes to one value: the set that it leaves has that value's number alone.
 use Rattle.std.proofs.Common.{◌≡◌, ℕ, ◌<◌, ◌^◌, Bool, false, ◌||◌, List, [], ◌∷◌, refl, sym, ap, subst, ◌∙◌, inl, inr, arith, IsTrue}
 use Rattle.std.specs.{Prelude.{◌==◌}, List.{list_any}}
 use Rattle.std.proofs.lemmas.Bool.{cases_eq, eqb-true, eq-eqb}
@@ -9,7 +9,7 @@ use Rattle.abstract_state.proofs.OrderLaws.{part_right, part_itself}
 use Rattle.flow_model.specs.{declared.change.Change.{Change}, Tests.{value_after}}
 use Rattle.numbered_sets.specs.{Numbers.{Numbers, numbers, has_number, with_number}, Pools.{Values, values_at, IsNumberOf}, Views.{values_with, plain_set}}
 use Rattle.numbered_sets.proofs.{PlainLaws.{ascending_in_order, member_of_plain, values_with_none}, ViewLaws.{only_value}, KnownNumbers.{no_bit_of_none}}
-use Rattle.flow_rules.specs.{Applying.{IsPassedSet}, Changing.{alone}}
+use Rattle.flow_rules.specs.{Applying.{IsPassedSet}, Changing.{making}}
 use Rattle.flow_rules.proofs.NumbersPassing.{none_passes_bit}
 
 -- numbers of nothing have no value
@@ -17,8 +17,8 @@ no_member : (vs : List PartValue) (x : Numbers) → x.bits ≡ 0 → (w : PartVa
 no_member vs x none w =
     member_of_plain vs x w ∙ ap (list_any (same_part w)) (values_with_none vs (has_number x) (λ n. ap (λ m. has_bit m n) none ∙ none_passes_bit n))
 
-pub none_passed : (x : Change) (pool : List Values) (c : ℕ) (old : Numbers) → old.bits ≡ 0 → IsPassedSet (alone x) pool c old pool (numbers old.domain 0)
-none_passed x pool c old none = record {
+pub none_passed : (xs : List Change) (pool : List Values) (c : ℕ) (old : Numbers) → old.bits ≡ 0 → IsPassedSet (making xs) pool c old pool (numbers old.domain 0)
+none_passed xs pool c old none = record {
   domain = refl;
   known = λ n h. absurd (no_bit_of_none n h);
   passed = record {
@@ -29,7 +29,7 @@ none_passed x pool c old none = record {
   };
 }
 
-module _ (x : Change) (before : List Values) (c : ℕ) (old : Numbers) (after : List Values) (n : ℕ) (v : PartValue) (sets : (w : PartValue) → value_after (x ∷ []) c w ≡ v)
+module _ (xs : List Change) (before : List Values) (c : ℕ) (old : Numbers) (after : List Values) (n : ℕ) (v : PartValue) (sets : (w : PartValue) → value_after xs c w ≡ v)
     (some : PartValue) (there : IsTrue (is_member (plain_set (values_at before c) old) some)) (is : IsNumberOf (values_at after c) v n) where
   only : (k : ℕ) → has_number (with_number (numbers old.domain 0) n) k ≡ (k == n)
   only k = has_either 0 (2 ^ n) k ∙ ap (λ (b : Bool). b || has_bit (2 ^ n) k) (none_passes_bit k) ∙ has_one n k
@@ -39,7 +39,7 @@ module _ (x : Change) (before : List Values) (c : ℕ) (old : Numbers) (after : 
       member_of_plain (values_at after c) (with_number (numbers old.domain 0) n) w
       ∙ only_value (values_at after c) (has_number (with_number (numbers old.domain 0) n)) n v w only is.known (is.is v)
 
-  pub set_passed : IsPassedSet (alone x) before c old after (with_number (numbers old.domain 0) n)
+  pub set_passed : IsPassedSet (making xs) before c old after (with_number (numbers old.domain 0) n)
   set_passed = record {
     domain = refl;
     known = λ m has. (let number : m ≡ n = eqb-true m n (sym (only m) ∙ has) in omega (arith, number, is.known));

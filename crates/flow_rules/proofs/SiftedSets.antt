@@ -60,7 +60,7 @@ module _ (pool : List Values) (rule : Rule) (entry new : NumberedEntry) (known :
   pub known_sifted : (c : ℕ) → c < length entry.sets → (n : ℕ) → IsTrue (has_number (numbers_at new c) n) → n < length (values_at pool c)
   known_sifted c lt n has = known.known c n ((s.each c lt).fewer n has)
 
-  sifted_passed : (c : ℕ) → c < length entry.sets → IsPassedSet (up_to rule 0) pool c (numbers_at entry c) pool (numbers_at new c)
+  sifted_passed : (c : ℕ) → c < length entry.sets → IsPassedSet (up_to rule 0 c) pool c (numbers_at entry c) pool (numbers_at new c)
   sifted_passed c lt = record {
     domain = (s.each c lt).domain;
     known = known_sifted c lt;

@@ -2,8 +2,9 @@
 use Rattle.std.specs.{Prelude.{◌≡◌, ◌⊎◌, ⊤, ℕ, ◌<◌, ◌≤◌, List, [], ◌∷◌, ◌++◌, length, slice_index_or, slice_set, IsTrue, Some, None, Contains}, declared.option.Option.{Option}}
 use Rattle.osek_values.specs.declared.numbers.TaskNo.{TaskNo}
 use Rattle.osek_standard.specs.declared.app.App.{App}
+use Rattle.osek_standard.specs.declared.point.Point.{Point}
 use Rattle.osek_standard.specs.declared.point.Point.TheVariants as point
-use Rattle.abstract_state.specs.{declared.value.PartValue.{PartValue}, Components.{component_count}, Concrete.{val_of}}
+use Rattle.abstract_state.specs.{declared.value.{Domain.{Domain}, PartValue.{PartValue}}, Components.{component_count}, Concrete.{val_of}}
 use Rattle.flow_model.specs.declared.case.{Asked.{Asked}, Stay.{Stay}, Leaving.{Leaving}, Decision.{Decision}}
 use Rattle.flow_model.specs.declared.case.Asked.TheVariants as asked
 use Rattle.flow_model.specs.declared.case.Stay.TheVariants as stay
@@ -25,10 +26,36 @@ pub record IsWhole (app : App) (pool : List Values) (entry : NumberedEntry) : Ty
 
 -- ---- ends
 
--- the numbers that the entry has of component c, each with the block of its value
+-- the numbers of an end are of values of a domain, and there is one
+pub record HasNumbersOf (d : Domain) (x : NumberEnd) : Type 0 where
+  pub domain : x.numbers.domain ≡ d
+  pub some : 0 < x.numbers.bits
+
+abbrev pub HaveNumbersOf : Domain → List NumberEnd → Type 0
+HaveNumbersOf d xs = (x : NumberEnd) → Contains xs x → HasNumbersOf d x
+
+-- the number is one of those at a point
+pub record IsNumberAt (xs : List NumberEnd) (p : Point) (n : ℕ) : Type 0 where
+  pub end : NumberEnd
+  pub listed : Contains xs end
+  pub target : end.target ≡ p
+  pub has : IsTrue (has_number end.numbers n)
+
+-- a number comes to those at a point
+pub record IsNumberPut (p : Point) (n : ℕ) (before after : List NumberEnd) : Type 0 where
+  pub kept : (q : Point) (m : ℕ) → IsNumberAt before q m → IsNumberAt after q m
+  pub there : IsNumberAt after p n
+  pub from : (q : Point) (m : ℕ) → IsNumberAt after q m → IsNumberAt before q m ⊎ ((q ≡ p) × (m ≡ n))
+
+-- where the value of component c with a number stands
+abbrev pub block_with : List Values → ℕ → ℕ → PartValue → Point
+block_with pool c n d = point.Task (block_of (val_of (slice_index_or (values_at pool c) n d)))
+
+-- the numbers that the entry has of component c are at the blocks where their values stand
 pub record AreBlockEnds (pool : List Values) (entry : NumberedEntry) (c : ℕ) (xs : List NumberEnd) : Type 0 where
-  pub each : (x : NumberEnd) (d : PartValue) → Contains xs x → IsTrue (has_number (numbers_at entry c) x.number) × (x.target ≡ point.Task (block_of (val_of (slice_index_or (values_at pool c) x.number d))))
-  pub whole : (n : ℕ) → IsTrue (has_number (numbers_at entry c) n) → (x : NumberEnd) × Contains xs x × (x.number ≡ n)
+  pub some : HaveNumbersOf (numbers_at entry c).domain xs
+  pub each : (p : Point) (n : ℕ) (d : PartValue) → IsNumberAt xs p n → IsTrue (has_number (numbers_at entry c) n) × (p ≡ block_with pool c n d)
+  pub whole : (n : ℕ) (d : PartValue) → IsTrue (has_number (numbers_at entry c) n) → IsNumberAt xs (block_with pool c n d) n
 
 abbrev pub AreBlocks : List Values → NumberedEntry → ℕ → Ends → Type 0
 AreBlocks pool entry c (ends.At points) = ⊥

@@ -1,15 +1,15 @@
 -- The exits that groups of numbers stand for.
-use Rattle.std.specs.{Prelude.{⊤, ℕ, ◌<◌, List, length, map, slice_set, Contains}, List.{flat_map}}
+use Rattle.std.specs.{Prelude.{◌≡◌, ⊤, ℕ, ◌<◌, List, length, map, slice_set, IsTrue, Contains}, List.{flat_map}}
 use Rattle.osek_standard.specs.declared.point.Point.{Point}
-use Rattle.numbered_sets.specs.{declared.numbered_entry.NumberedEntry.{NumberedEntry}, Numbers.{numbers, with_number}, NumberedEntries.{numbers_at}, Pools.{Values, values_at}}
+use Rattle.numbered_sets.specs.{declared.numbered_entry.NumberedEntry.{NumberedEntry}, Numbers.{Numbers, has_number}, NumberedEntries.{numbers_at}, Pools.{Values, values_at}}
 use Rattle.numbered_sets.specs.Views.{plain_entry, AreNumbersOf}
 use Rattle.flow_exits.specs.declared.exit.Exit.{Exit}
 use Rattle.flow_rules.specs.declared.group.{NumberEnd.{NumberEnd}, Ends.{Ends}, ExitGroup.{ExitGroup}}
 use Rattle.flow_rules.specs.declared.group.Ends.TheVariants as ends
 
--- the entry with one number alone of component c
-abbrev pub holding : NumberedEntry → ℕ → ℕ → NumberedEntry
-holding entry c n = record { sets = slice_set entry.sets c (with_number (numbers (numbers_at entry c).domain 0) n) }
+-- the entry with these numbers alone of component c
+abbrev pub holding : NumberedEntry → ℕ → Numbers → NumberedEntry
+holding entry c x = record { sets = slice_set entry.sets c x }
 
 -- an exit of the group, at a point, with these numbers
 abbrev pub exit_at : List Values → ExitGroup → NumberedEntry → Point → Exit
@@ -17,7 +17,7 @@ exit_at pool g entry p = record { target = p; decision = g.decision; status = g.
 
 abbrev pub exits_by : List Values → ExitGroup → Ends → List Exit
 exits_by pool g (ends.At points) = map (exit_at pool g g.entry) points
-exits_by pool g (ends.With c xs) = map (λ (x : NumberEnd). exit_at pool g (holding g.entry c x.number) x.target) xs
+exits_by pool g (ends.With c xs) = map (λ (x : NumberEnd). exit_at pool g (holding g.entry c x.numbers) x.target) xs
 
 -- The exits of a group, and those of groups in a row.
 abbrev pub exits_of : List Values → ExitGroup → List Exit
@@ -26,10 +26,15 @@ exits_of pool g = exits_by pool g g.ends
 abbrev pub all_exits : List Values → List ExitGroup → List Exit
 all_exits pool groups = flat_map (exits_of pool) groups
 
--- each end's number is that of a value
+-- the numbers are those of values of component c
+pub record AreNumbersThere (pool : List Values) (entry : NumberedEntry) (c : ℕ) (x : Numbers) : Type 0 where
+  pub domain : x.domain ≡ (numbers_at entry c).domain
+  pub known : (n : ℕ) → IsTrue (has_number x n) → n < length (values_at pool c)
+
+-- each end's numbers are those of values
 abbrev pub AreKnownEnds : List Values → NumberedEntry → Ends → Type 0
 AreKnownEnds pool entry (ends.At points) = ⊤
-AreKnownEnds pool entry (ends.With c xs) = (c < length entry.sets) × ((x : NumberEnd) → Contains xs x → x.number < length (values_at pool c))
+AreKnownEnds pool entry (ends.With c xs) = (c < length entry.sets) × ((x : NumberEnd) → Contains xs x → AreNumbersThere pool entry c x.numbers)
 
 -- The numbers of a group are those of values of the pool.
 pub record IsKnownGroup (pool : List Values) (g : ExitGroup) : Type 0 where

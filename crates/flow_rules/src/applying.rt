@@ -1,9 +1,9 @@
 //! What a rule makes of a numbered entry.
-ghost use Rattle.std.specs.Prelude.{◌≡◌, ◌<◌, ◌≤◌, ◌+◌, List, length, IfOk, OnOk, IfSome, IfNone};
-ghost use Rattle.flow_model.specs.{declared.test.Condition.{Condition}, Rules.{Applies, HasNone}};
+ghost use Rattle.std.specs.Prelude.{◌≡◌, ◌<◌, ◌≤◌, ◌+◌, List, length, slice_index_or, false, IfOk, OnOk, IfSome, IfNone};
+ghost use Rattle.flow_model.specs.{declared.{test.Condition.{Condition}, change.Change.{Change}}, Rules.{Applies, HasNone}};
 ghost use Rattle.numbered_sets.specs.{declared.numbered_entry.NumberedEntry.{NumberedEntry}, NumberedEntries.{number_domains}, Pools.{Values, IsLonger}};
 ghost use Rattle.numbered_sets.specs.Views.{plain_entry, AreNumbersOf};
-ghost use Rattle.flow_rules.specs.{Applying.{KeepsDomains, bare_rule}, Changing.{is_named as is_named_of, up_to, StaysWithin, AreAllPassed}};
+ghost use Rattle.flow_rules.specs.{Applying.{KeepsDomains, bare_rule}, Changing.{is_named as is_named_of, up_to, IsAlone, StaysWithin, AreAllPassed}};
 
 use crate::sifting::{may_pass, sift};
 use crate::updating::updated;
@@ -59,7 +59,7 @@ pub fn applied(
     Ok(Some(made))
 }
 
-// does to an entry what the change at a place says, where no change before it names its component
+// does to an entry what all changes of one component say, where the change at a place is the first that names it
 fn change(
     alloc: Global,
     changes: &Seq<Change>,
@@ -75,15 +75,30 @@ fn change(
     ensures passed { OnOk result ((conditions : List Condition) (before : List Values) (was : NumberedEntry) → AreAllPassed (up_to (bare_rule conditions changes.now) place) before was (length was.sets) pool.old entry.old.sets →
         AreAllPassed (up_to (bare_rule conditions changes.now) (place + 1)) before was (length was.sets) pool.new entry.new.sets) }
 {
-    let change = changes.at(place);
-    let component = change.component.index();
+    let component = changes.at(place).component.index();
     if component >= entry.sets.len() || is_named(changes.as_slice(), place, component) {
         return Ok(());
     }
+    let alone = alone(changes, place, component);
     let numbers = entry.sets.set(alloc, component)?;
-    let set = updated(alloc, change, pool, component, &numbers)?;
+    let set = updated(alloc, changes, alone, pool, component, &numbers)?;
     entry.sets.put(component, &set)?;
     Ok(())
+}
+
+// the place, if no later change names the component of the change there too
+fn alone(changes: &Seq<Change>, place: usize, component: usize) -> Option<usize>
+    requires known { place < length changes.now }
+    requires named { (x : Change) → slice_index_or changes.now place x ≡ x → x.component.0 ≡ component }
+    requires first { is_named_of changes.now place component ≡ false }
+    ensures { IfSome result (IsAlone changes.now component) }
+{
+    let count = changes.len();
+    let later = &changes.as_slice()[place + 1..count];
+    if is_named(later, later.len(), component) {
+        return None;
+    }
+    Some(place)
 }
 
 // whether a change before a place names a component

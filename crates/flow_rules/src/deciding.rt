@@ -1,19 +1,20 @@
 //! What the scheduler decides with the values after an effect.
-ghost use Rattle.std.specs.Prelude.{◌≡◌, ◌<◌, ◌∷◌, [], length, IfOk, OnOk};
+ghost use Rattle.std.specs.Prelude.{◌≡◌, ◌<◌, ◌∷◌, [], length, slice_index_or, IfOk, OnOk, IfSome};
 ghost use Rattle.abstract_state.specs.Concrete.{val_of};
 ghost use Rattle.flow_model.specs.Values.{block_of as block_of_val};
 ghost use Rattle.flow_model.specs.declared.case.Asked.TheVariants as asked;
 ghost use Rattle.numbered_sets.specs.Views.{AreNumbersOf};
 ghost use Rattle.flow_exits.specs.Outcomes.{IsVacant, idle_decision as idle_decision_of};
+ghost use Rattle.flow_rules.specs.declared.group.NumberEnd.{NumberEnd};
 ghost use Rattle.flow_rules.specs.declared.group.Ends.TheVariants as ends;
-ghost use Rattle.flow_rules.specs.{Deciding.{AreBlocks, AreStayEnds, AreEndsBy, AddsOne, IsAlive, IsAny, IsIt, IsKnownDecision, IsWhole}, AfterEffect.{IsDecidable, Adds, AreNeedsOf}};
+ghost use Rattle.flow_rules.specs.{Deciding.{AreBlocks, HaveNumbersOf, IsNumberPut, AreStayEnds, AreEndsBy, AddsOne, IsAlive, IsAny, IsIt, IsKnownDecision, IsWhole}, AfterEffect.{IsDecidable, Adds, AreNeedsOf}};
 
 use crate::after_effect::AfterEffect;
 use crate::group::{Ends, ExitGroup, NumberEnd};
-use abstract_state::{PartValue, Point, Val};
+use abstract_state::{Domain, PartValue, Point, Val};
 use flow_exits::Claim;
 use flow_model::{Asked, Decision, Stay};
-use numbered_sets::{NumberedEntry, Pool};
+use numbered_sets::{NumberedEntry, NumberedSet, Pool};
 use osek_values::{BlockNo, Memory, Seq, TaskNo};
 use std::alloc::Global;
 
@@ -194,7 +195,7 @@ fn at(alloc: Global, point: Point) -> Result<Ends, Memory>
     Ok(Ends::At(points))
 }
 
-// the blocks of a task's values, each with this value
+// the blocks of a task's values, each with those that stand there
 fn at_blocks(
     alloc: Global,
     pool: &Pool,
@@ -206,15 +207,49 @@ fn at_blocks(
     ensures { IfOk result (AreBlocks pool.now entry.now task.0) }
 {
     let component = task.index();
+    let domain = entry.sets.domain(component);
     let count = pool.len(component);
     let mut ends = Seq::new(alloc);
     let mut number = entry.next(component, 0, count);
     while number < count {
         let target = Point::Task(block_of(&pool.value(component, number)));
-        ends.push(NumberEnd { number, target })?;
+        put_number(alloc, domain, target, number, &mut ends)?;
         number = entry.next(component, number + 1, count);
     }
     Ok(Ends::With { component, ends })
+}
+
+// puts a number to those with which a step ends at a point
+fn put_number(
+    alloc: Global,
+    domain: Domain,
+    target: Point,
+    number: usize,
+    ends: &mut Seq<NumberEnd>,
+) -> Result<(), Memory>
+    ensures some { OnOk result (HaveNumbersOf domain ends.old → HaveNumbersOf domain ends.new) }
+    ensures put { OnOk result (IsNumberPut target number ends.old ends.new) }
+{
+    let Some(place) = end_at(ends, target) else {
+        let mut numbers = NumberedSet::new(alloc, domain);
+        numbers.insert(number)?;
+        return ends.push(NumberEnd { numbers, target });
+    };
+    let end = ends.at_mut(place);
+    end.numbers.insert(number)?;
+    Ok(())
+}
+
+// the place of the end at a point
+fn end_at(ends: &Seq<NumberEnd>, target: Point) -> Option<usize>
+    ensures { IfSome result (λ place. (place < length ends.now) × ((none : NumberEnd) → (slice_index_or ends.now place none).target ≡ target)) }
+{
+    for place in 0..ends.len() {
+        if ends.at(place).target == target {
+            return Some(place);
+        }
+    }
+    None
 }
 
 fn block_of(value: &PartValue) -> BlockNo

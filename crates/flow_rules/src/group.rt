@@ -1,14 +1,14 @@
-//! Exits that have all but the point, and the value of one component, in common.
+//! Exits that have all but the point, and the values of one component, in common.
 
 use abstract_state::Point;
 use flow_model::Decision;
-use numbered_sets::NumberedEntry;
+use numbered_sets::{NumberedEntry, NumberedSet};
 use osek_values::{Seq, Status};
 
-/// A number of a component's value, and the point at which a step ends with it.
-#[derive(Clone, Copy, PartialEq, Eq, Debug)]
+/// The numbers of a component's values with which a step ends at a point.
+#[derive(Drop)]
 pub struct NumberEnd {
-    pub number: usize,
+    pub numbers: NumberedSet,
     pub target: Point,
 }
 
@@ -17,7 +17,7 @@ pub struct NumberEnd {
 pub enum Ends {
     /// Each with all values.
     At(Seq<Point>),
-    /// Each with one value of a component.
+    /// Each with some values of a component.
     With {
         component: usize,
         ends: Seq<NumberEnd>,

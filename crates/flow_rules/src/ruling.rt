@@ -194,7 +194,7 @@ fn push_exits(
         Ends::With { component, ends } => {
             for end in ends.as_slice() {
                 let mut held = group.entry.copy(alloc)?;
-                held.hold_only(*component, end.number)?;
+                held.sets.put(*component, &end.numbers)?;
                 exits.push(exit_at(alloc, pool, group, &held, end.target)?)?;
             }
         }

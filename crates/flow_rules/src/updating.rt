@@ -1,56 +1,55 @@
-//! What a change makes of a component's set of numbers.
-ghost use Rattle.std.specs.Prelude.{◌≡◌, ◌<◌, ◌++◌, ◌∷◌, [], List, IsTrue, ℕ, length, IfOk, OnOk};
+//! What changes make of a component's set of numbers.
+ghost use Rattle.std.specs.Prelude.{◌≡◌, ◌<◌, ◌≤◌, ◌++◌, ◌∷◌, [], List, IsTrue, ℕ, length, slice_set, IfOk, OnOk, OnErr, IfSome};
 ghost use Rattle.abstract_state.specs.{declared.value.{Domain.{Domain}, PartValue.{PartValue}}, Domains.{IsWithin}, Tables.{is_member}};
-ghost use Rattle.flow_model.specs.Tests.{updated as updated_value};
-ghost use Rattle.numbered_sets.specs.{Numbers.{has_number}, Pools.{Values, values_at, domain_at, IsNumberOf, IsLonger}, Views.{plain_set}};
-ghost use Rattle.flow_rules.specs.{Applying.{IsPassedSet, IsPassedSoFar}, Changing.{alone}};
+ghost use Rattle.flow_model.specs.{declared.change.Change.{Change}, Tests.{value_after as value_after_of}};
+ghost use Rattle.numbered_sets.specs.{Numbers.{has_number}, Pools.{Values, seen_at, values_at, value_seen, domain_at, IsNumberOf, IsLonger}, Views.{plain_set}};
+ghost use Rattle.flow_rules.specs.{Applying.{IsPassedSet, IsPassedSoFar}, Changing.{making, IsAlone}};
 
 use abstract_state::PartValue;
-use flow_model::{Change, Update};
+use flow_model::{Change, Update, value_after};
 use numbered_sets::{NumberedSet, Pool};
-use osek_values::Memory;
+use osek_values::{Memory, Seq};
 use std::alloc::Global;
 
-/// The numbers of what a change makes of the values of its component's set.
+/// The numbers of what changes make of the values of a component's set. `alone` is the place of the change that alone says
+/// what becomes of the component, where one does.
 pub fn updated(
     alloc: Global,
-    change: &Change,
+    changes: &Seq<Change>,
+    alone: Option<usize>,
     pool: &mut Pool,
     component: usize,
     numbers: &NumberedSet,
 ) -> Result<NumberedSet, Memory>
-    requires named { change.now.component.0 ≡ component }
+    requires alone { IfSome alone (IsAlone changes.now component) }
     requires known { component < length pool.old }
     requires alike { numbers.now.domain ≡ domain_at pool.old component }
     requires numbers { (n : ℕ) → IsTrue (has_number numbers.now n) → n < length (values_at pool.old component) }
-    requires domain { (v : PartValue) → IsTrue (is_member (plain_set (values_at pool.old component) numbers.now) v) → IsWithin (domain_at pool.old component) (updated_value change.now.update v) }
+    requires domain { (v : PartValue) → IsTrue (is_member (plain_set (values_at pool.old component) numbers.now) v) → IsWithin (domain_at pool.old component) (value_after_of changes.now component v) }
     ensures pool { IsLonger pool.old pool.new }
-    ensures passed { IfOk result (IsPassedSet (alone change.now) pool.old component numbers.now pool.new) }
+    ensures passed { IfOk result (IsPassedSet (making changes.now) pool.old component numbers.now pool.new) }
 {
-    match &change.update {
-        Update::Set(to) => replaced(alloc, change, to, pool, component, numbers),
-        Update::Block(_) | Update::Take { .. } | Update::Give { .. } => {
-            moved(alloc, change, pool, component, numbers)
+    if let Some(place) = alone {
+        if let Update::Set(to) = &changes.at(place).update {
+            return replaced(alloc, to, pool, component, numbers);
         }
     }
+    moved(alloc, changes, alone, pool, component, numbers)
 }
 
-// the number of the value that a change sets, where there is one to be set
+// the number of a value that changes set, where there is one to be set
 fn replaced(
     alloc: Global,
-    change: &Change,
     to: &PartValue,
     pool: &mut Pool,
     component: usize,
     numbers: &NumberedSet,
 ) -> Result<NumberedSet, Memory>
-    requires named { change.now.component.0 ≡ component }
-    requires set { change.now.update ≡ Update.Set to.now }
     requires known { component < length pool.old }
     requires numbers { (n : ℕ) → IsTrue (has_number numbers.now n) → n < length (values_at pool.old component) }
-    requires domain { (v : PartValue) → IsTrue (is_member (plain_set (values_at pool.old component) numbers.now) v) → IsWithin (domain_at pool.old component) (updated_value change.now.update v) }
+    requires domain { (v : PartValue) → IsTrue (is_member (plain_set (values_at pool.old component) numbers.now) v) → IsWithin (domain_at pool.old component) to.now }
     ensures pool { IsLonger pool.old pool.new }
-    ensures passed { IfOk result (IsPassedSet (alone change.now) pool.old component numbers.now pool.new) }
+    ensures passed { IfOk result (λ set. (changes : List Change) → ((v : PartValue) → value_after_of changes component v ≡ to.now) → IsPassedSet (making changes) pool.old component numbers.now pool.new set) }
 {
     let mut new = NumberedSet::new(alloc, numbers.domain());
     if numbers.is_empty() {
@@ -61,49 +60,76 @@ fn replaced(
     Ok(new)
 }
 
-// the numbers of what a change makes of each value
+// the numbers of what changes make of each value
 fn moved(
     alloc: Global,
-    change: &Change,
+    changes: &Seq<Change>,
+    alone: Option<usize>,
     pool: &mut Pool,
     component: usize,
     numbers: &NumberedSet,
 ) -> Result<NumberedSet, Memory>
-    requires named { change.now.component.0 ≡ component }
+    requires alone { IfSome alone (IsAlone changes.now component) }
     requires known { component < length pool.old }
     requires alike { numbers.now.domain ≡ domain_at pool.old component }
     requires numbers { (n : ℕ) → IsTrue (has_number numbers.now n) → n < length (values_at pool.old component) }
-    requires domain { (v : PartValue) → IsTrue (is_member (plain_set (values_at pool.old component) numbers.now) v) → IsWithin (domain_at pool.old component) (updated_value change.now.update v) }
+    requires domain { (v : PartValue) → IsTrue (is_member (plain_set (values_at pool.old component) numbers.now) v) → IsWithin (domain_at pool.old component) (value_after_of changes.now component v) }
     ensures pool { IsLonger pool.old pool.new }
-    ensures passed { IfOk result (IsPassedSet (alone change.now) pool.old component numbers.now pool.new) }
+    ensures passed { IfOk result (IsPassedSet (making changes.now) pool.old component numbers.now pool.new) }
 {
     let mut new = NumberedSet::new(alloc, numbers.domain());
     let count = pool.len(component);
     let mut number = numbers.next(0, count);
     while number < count {
-        put_updated(change, pool, component, number, &mut new)?;
+        put_updated(changes, alone, pool, component, number, &mut new)?;
         number = numbers.next(number + 1, count);
     }
     Ok(new)
 }
 
-// puts in the number of what a change makes of the value with a number
+// puts in the number of what changes make of the value with a number
 fn put_updated(
-    change: &Change,
+    changes: &Seq<Change>,
+    alone: Option<usize>,
     pool: &mut Pool,
     component: usize,
     number: usize,
     new: &mut NumberedSet,
 ) -> Result<(), Memory>
-    requires named { change.now.component.0 ≡ component }
+    requires alone { IfSome alone (IsAlone changes.now component) }
     requires known { component < length pool.old }
     requires given { number < length (values_at pool.old component) }
-    requires domain { (v : PartValue) → IsNumberOf (values_at pool.old component) v number → IsWithin (domain_at pool.old component) (updated_value change.now.update v) }
+    requires domain { (v : PartValue) → IsNumberOf (values_at pool.old component) v number → IsWithin (domain_at pool.old component) (value_after_of changes.now component v) }
     ensures pool { IsLonger pool.old pool.new }
     ensures passed { OnOk result ((before : List Values) (d : Domain) (done : List PartValue) (v : PartValue) → IsNumberOf (values_at pool.old component) v number →
-        IsPassedSoFar (alone change.now) before component d done pool.old new.old → IsPassedSoFar (alone change.now) before component d (done ++ v ∷ []) pool.new new.new) }
+        IsPassedSoFar (making changes.now) before component d done pool.old new.old → IsPassedSoFar (making changes.now) before component d (done ++ v ∷ []) pool.new new.new) }
 {
-    let made = pool.number_after(component, number, &change.update)?;
+    let made = number_after(changes, alone, pool, component, number)?;
     new.insert(made)?;
     Ok(())
+}
+
+// the number of what changes make of the value with a number
+fn number_after(
+    changes: &Seq<Change>,
+    alone: Option<usize>,
+    pool: &mut Pool,
+    component: usize,
+    number: usize,
+) -> Result<usize, Memory>
+    requires alone { IfSome alone (IsAlone changes.now component) }
+    requires known { component < length pool.old }
+    requires given { number < length (values_at pool.old component) }
+    requires domain { (v : PartValue) → IsNumberOf (values_at pool.old component) v number → IsWithin (domain_at pool.old component) (value_after_of changes.now component v) }
+    ensures pool { OnOk result ((v : PartValue) → IsNumberOf (values_at pool.old component) v number → pool.new ≡ slice_set pool.old component (value_seen (seen_at pool.old component) (value_after_of changes.now component v))) }
+    ensures number { IfOk result (λ n. (v : PartValue) → IsNumberOf (values_at pool.old component) v number → IsNumberOf (values_at pool.new component) (value_after_of changes.now component v) n) }
+    ensures err { OnErr result (pool.new ≡ pool.old) }
+{
+    if let Some(place) = alone {
+        // mostly one change alone says it, and then no value is made
+        return pool.number_after(component, number, &changes.at(place).update);
+    }
+    let before = pool.value(component, number);
+    let after = value_after(changes.as_slice(), component, &before);
+    pool.number(component, after)
 }

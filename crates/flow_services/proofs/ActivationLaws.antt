@@ -9,7 +9,7 @@ use Rattle.osek_standard.specs.{TaskStates.{is_suspended, is_suspended_activity,
 use Rattle.osek_standard.specs.Services.{activate_task, activated, activated_state, refused, accepted}
 use Rattle.flow_model.specs.declared.test.Test.TheVariants as test
 use Rattle.flow_model.specs.{Cases.{condition}, Changes.{activating}}
-use Rattle.flow_model.proofs.Activations.{activated_parts, activating_sets}
+use Rattle.flow_model.proofs.Activations.{activated_parts}
 use Rattle.flow_services.specs.{Occasions.{ServiceCase, refused_case, accepted_case}, Services.{activations}}
 use Rattle.flow_services.proofs.{Seeing.{Sees, off_there, on_there, off_or_on}, Serving.{Serves, IsServed, keeps_serves, stays_with, two_served}}
 
@@ -32,7 +32,6 @@ module _ (app : App) (s m : State) (t : ℕ) (known : t < length app.tasks) (see
   activated_serves : is_suspended (task_state m t) ≡ true → Serves app m free (accepted (activated app m t) ask.Maybe)
   activated_serves e = let here : t < length m.tasks = let long = sees.size in omega (arith, long, known) in record {
     parts = λ c lt. activated_parts app m t here known c lt;
-    sets = activating_sets app t;
     status = refl;
     ask = refl;
     stays = stays_with m t (activated_state app t) here (λ l. absurd (suspended_or_live (task_state m t).activity e l));

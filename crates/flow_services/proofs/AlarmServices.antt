@@ -11,7 +11,7 @@ use Rattle.abstract_state.specs.declared.value.Component.TheVariants as componen
 use Rattle.abstract_state.specs.Components.{component_count, component_number, abstract_of, is_armed}
 use Rattle.abstract_state.proofs.Numbers.{number_known}
 use Rattle.flow_model.specs.{declared.test.Condition.{Condition}, Tests.{PassesAll}, Changes.{alarm_change}}
-use Rattle.flow_model.proofs.{ChangeLaws.{passes_one, one_passes}, Writes.{alarm_written, alarm_changes_set}}
+use Rattle.flow_model.proofs.{ChangeLaws.{passes_one, one_passes}, Writes.{alarm_written}}
 use Rattle.flow_services.specs.{Occasions.{ServiceCase, refused_case, accepted_case}, Services.{alarm_is, armings, cancellings, alarm_readings, is_rel_refused, is_abs_refused}}
 use Rattle.flow_services.proofs.{Seeing.{tests_alarm, alarm_tested}, Serving.{Serves, IsServed, Stays, keeps_serves, two_served}}
 
@@ -55,7 +55,6 @@ module _ (app : App) (s m : State) (a : ℕ) (known : a < length app.alarms) (he
   written_serves : (conditions : List Condition) (y : AlarmState) → Serves app m (accepted_case conditions (alarm_change app a (is_armed y) ∷ []) false) (accepted (with_alarm m a y) ask.No)
   written_serves conditions y = record {
     parts = λ c lt. alarm_written app m a y here known c lt;
-    sets = alarm_changes_set app a (is_armed y);
     status = refl;
     ask = refl;
     stays = alarm_stays m a y;

@@ -14,7 +14,7 @@ use Rattle.abstract_state.specs.Components.{abstract_of}
 use Rattle.flow_model.specs.declared.test.Test.TheVariants as test
 use Rattle.flow_model.specs.declared.runner.Runner.TheVariants as runner
 use Rattle.flow_model.specs.{Cases.{condition}, Changes.{event_changes}}
-use Rattle.flow_model.proofs.{ChangeLaws.{passes_none}, BitsOf.{bit_within, bit_cleared, own_bit}, Writes.{events_written, event_changes_set}}
+use Rattle.flow_model.proofs.{ChangeLaws.{passes_none}, BitsOf.{bit_within, bit_cleared, own_bit}, Writes.{events_written}}
 use Rattle.flow_services.specs.{Occasions.{ServiceCase, refused_case, accepted_case}, Services.{own_among, event_clearings, event_readings}}
 use Rattle.flow_services.proofs.{Seeing.{Sees, off_there, on_there, off_or_on}, Serving.{Serves, IsServed, keeps_serves, always_served, stays_with, two_served}}
 
@@ -31,7 +31,6 @@ module _ (app : App) (s m : State) where
       parts = λ c lt. events_written app t.0 (own_among app t.0 e) false known (λ k h. bit_within e (the_task app t.0).own.0 k h) m (record (task_state m t.0) { events = mask cleared }) here
           (λ k below own. bit_cleared (task_state m t.0).events.0 e k
           ∙ ap (λ (b : Bool). if b then false else has_bit (task_state m t.0).events.0 k) (sym (own_bit e (the_task app t.0).own.0 k own))) c lt refl;
-      sets = event_changes_set app t.0 (own_among app t.0 e) false;
       status = refl;
       ask = refl;
       stays = stays_with m t.0 (record (task_state m t.0) { events = mask cleared }) here (λ l. refl);
@@ -44,9 +43,9 @@ module _ (app : App) (s m : State) where
       | inr basic ↦ (rw basic (always_served app s m (refused_case [] status.Access) (refused m status.Access) (passes_none app (abstract_of app s)) (keeps_serves app m _ _ _)))
     ]
 
-  pub routine_clearing_served : (over : Option TaskNo) (k : SourceNo) (e : ℕ) → IsServed app s m (event_clearings app (runner.Routine over) e) (clear_event app m (Routine k) e)
+  pub routine_clearing_served : (k : SourceNo) (over : Option TaskNo) (e : ℕ) → IsServed app s m (event_clearings app (runner.Routine k over) e) (clear_event app m (Routine k) e)
   unfolding clear_event
-  routine_clearing_served over k e = always_served app s m (refused_case [] status.CallLevel) (refused m status.CallLevel) (passes_none app (abstract_of app s)) (keeps_serves app m _ _ _)
+  routine_clearing_served k over e = always_served app s m (refused_case [] status.CallLevel) (refused m status.CallLevel) (passes_none app (abstract_of app s)) (keeps_serves app m _ _ _)
 
   module _ (t : ℕ) (known : t < length app.tasks) (sees : Sees app s m) where
     abbrev off : ServiceCase

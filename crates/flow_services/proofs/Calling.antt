@@ -17,7 +17,7 @@ use Rattle.flow_model.specs.declared.case.Asked.TheVariants as asked
 use Rattle.flow_model.specs.declared.runner.Runner.{Runner}
 use Rattle.flow_model.specs.declared.runner.Runner.TheVariants as runner
 use Rattle.flow_model.specs.{Cases.{asked_for, asked_after}, Runners.{Stands, OwnsBlock, runner_point, moving}, Tests.{PassesAll, value_after}, Effects.{HasEffect, AreCasesOf}}
-use Rattle.flow_model.proofs.{ChangeLaws.{AreSets, sets_first, passes_left, passes_both, passes_none}, Moves.{moved_parts, went_on, moved_has, moved_alarms}}
+use Rattle.flow_model.proofs.{ChangeLaws.{after_both, passes_left, passes_both, passes_none}, Moves.{moved_parts, went_on, moved_has, moved_alarms}}
 use Rattle.flow_model.proofs.{Standing.{point_there, next_owned, known_here, task_calls, routine_calls}, Calls.{IsCall, HasAnswer, call_has, asked_none, asked_maybe}}
 use Rattle.flow_model.proofs.Listing.{AreEffects, covers, exact}
 use Rattle.flow_services.specs.{Occasions.{ServiceCase, case_at, accepted_case, unnoted_case}, Services.{is_service_call, call_cases, calling, event_clearings}}
@@ -40,18 +40,18 @@ module _ (app : App) (s : State) (r : Runner) (b : BlockNo) (h : Stands app s r 
   pub moved_well : Stands app moved r next
   moved_well = went_on app s r b next h (next_owned app s r b h)
 
-  -- the components after sets, of which some were made before the others
-  pub parts_after : (a : State) (xs : List Change) → AreSets xs → ((c : ℕ) → c < component_count app → abstract_of app a c ≡ value_after xs c (abstract_of app moved c)) →
-      (c : ℕ) → c < component_count app → abstract_of app a c ≡ value_after (xs ++ moving r next) c (abstract_of app s c)
-  parts_after a xs sets parts c lt =
-      parts c lt ∙ ap (value_after xs c) (moved_parts app s next 0 r b h c lt) ∙ sym (sets_first xs (moving r next) c (abstract_of app s c) sets)
+  -- the components after changes behind the move
+  pub parts_after : (a : State) (xs : List Change) → ((c : ℕ) → c < component_count app → abstract_of app a c ≡ value_after xs c (abstract_of app moved c)) →
+      (c : ℕ) → c < component_count app → abstract_of app a c ≡ value_after (moving r next ++ xs) c (abstract_of app s c)
+  parts_after a xs parts c lt =
+      parts c lt ∙ ap (value_after xs c) (moved_parts app s next 0 r b h c lt) ∙ sym (after_both (moving r next) xs c (abstract_of app s c))
 
   -- the answer of a call, where it is a case's
   serves_case : (k : Kind) (x : ServiceCase) (a : Answer) → is_schedule k ≡ false → Serves app moved x a → HasAnswer app (case_at (calling app r next) x) s r k a
   serves_case k x a not_schedule serves = record {
     point = point_stays app moved a.state serves.stays moved_well.well ∙ point_there app moved r next moved_well;
-    parts = λ c lt. parts_after a.state x.changes serves.sets serves.parts c lt
-        ∙ ap (λ (xs : List Change). value_after (xs ++ moving r next) c (abstract_of app s c)) (sym (append-nil x.changes));
+    parts = λ c lt. parts_after a.state x.changes serves.parts c lt
+        ∙ ap (λ (xs : List Change). value_after (xs ++ x.changes) c (abstract_of app s c)) (sym (append-nil (moving r next)));
     asked = ap (asked_for app r k) serves.ask ∙ asked_as app r k x.may_dispatch not_schedule;
     kept = λ e. serves.stays.processor ∙ moved_has app s h.well (place_at next 0);
     status = serves.status;
@@ -104,8 +104,8 @@ module _ (app : App) (s : State) (r : Runner) (b : BlockNo) (h : Stands app s r 
       let known = stands.runs.has.0 in
       let here : t.0 < length moved.tasks = let long = moved_well.well.tasks_len in omega (arith, long, known) in
       subst (λ (c : Caller). IsServed app s moved (event_clearings app (runner.Task t) e) (clear_event app moved c e)) (sym (task_calls app s t b stands)) (task_clearing_served app s moved t e known here)
-  clearing_served e (runner.Routine over) stands =
-      subst (λ (c : Caller). IsServed app s moved (event_clearings app (runner.Routine over) e) (clear_event app moved c e)) (sym (routine_calls app s over b stands)) (routine_clearing_served app s moved over stands.runs.source e)
+  clearing_served e (runner.Routine k over) stands =
+      subst (λ (c : Caller). IsServed app s moved (event_clearings app (runner.Routine k over) e) (clear_event app moved c e)) (sym (routine_calls app s k over b stands)) (routine_clearing_served app s moved k over e)
 
   -- each call is served by its cases
   call_served : (c : Call) → is_service_call c ≡ true → HasOperands (tables app) c → IsServed app s moved (call_cases app r c) (row app moved (caller s.processor) c)

@@ -1,7 +1,7 @@
 -- The cases of an alarm that a tick routine looks at are those of its effect.
-use Rattle.std.proofs.Common.{◌≡◌, ◌≢◌, ℕ, ◌<◌, Bool, true, false, List, [], ◌∷◌, ◌++◌, length, map, refl, sym, ap, subst, ◌∙◌, inl, inr, ⊎_elim, arith, None}
+use Rattle.std.proofs.Common.{◌≡◌, ◌≢◌, ℕ, ◌<◌, Bool, true, false, List, [], ◌∷◌, ◌++◌, length, map, refl, sym, ap, subst, ◌∙◌, inl, inr, ⊎_elim, arith, None, append_assoc}
 use Rattle.std.specs.Prelude.{if◌then◌else◌, ◌==◌, ◌+◌, ◌%◌}
-use Rattle.std.proofs.lemmas.Bool.{cases_Bool, ne_eqb}
+use Rattle.std.proofs.lemmas.{Bool.{cases_Bool, ne_eqb}, List.{append-nil}}
 use Rattle.osek_values.specs.Numbers.{alarm_no}
 use Rattle.osek_values.specs.declared.status.Ask.TheVariants as ask
 use Rattle.osek_values.specs.declared.numbers.BlockNo.{BlockNo}
@@ -20,11 +20,11 @@ use Rattle.abstract_state.specs.declared.value.Component.TheVariants as componen
 use Rattle.abstract_state.specs.{declared.table.PlainEntry.{PlainEntry}, Choices.{IsQuietWith}, Components.{component_count, component_number, abstract_of, is_armed}}
 use Rattle.abstract_state.specs.Concrete.{HasParts, AreAllowed}
 use Rattle.abstract_state.proofs.{Concretes.{some_quiet, some_armed, some_ticks, armed_once, armed_again}, Numbers.{number_known}, OrderLaws.{part_right}}
-use Rattle.flow_model.specs.declared.{test.Condition.{Condition}, case.EffectCase.{EffectCase}}
+use Rattle.flow_model.specs.declared.{test.Condition.{Condition}, change.Change.{Change}, case.EffectCase.{EffectCase}}
 use Rattle.flow_model.specs.declared.case.Asked.TheVariants as asked
-use Rattle.flow_model.specs.{declared.runner.Runner.{Runner}, Runners.{Stands, OwnsBlock, runner_point}, Tests.{PassesAll, value_after}}
+use Rattle.flow_model.specs.{declared.runner.Runner.{Runner}, Runners.{Stands, OwnsBlock, runner_point, moving}, Tests.{PassesAll, value_after}}
 use Rattle.flow_model.specs.{Effects.{AreIn, HasEffect, HasSomeEffect, ShowsEffect, AreAllAllowed, AreCasesOf, IsKnownStay}, Changes.{alarm_change}}
-use Rattle.flow_model.proofs.{ChangeLaws.{sets_first, sets_both, passes_left, passes_right, passes_both, passes_one, one_passes}, Writes.{alarm_written, alarm_changes_set}}
+use Rattle.flow_model.proofs.{ChangeLaws.{passes_left, passes_right, passes_both, passes_one, one_passes}, Writes.{alarm_written}}
 use Rattle.flow_model.proofs.{Moves.{moved_alarms}, Standing.{point_there, stands_here, owned_point}, Calls.{IsCall, HasAnswer, call_has, asked_none}}
 use Rattle.flow_model.proofs.Listing.{covers_by, values_allowed, made_passes}
 use Rattle.flow_services.specs.{Occasions.{ServiceCase, case_at, unnoted_case}, Services.{actions, alarm_is, looking, expiring, expiries}}
@@ -69,7 +69,7 @@ module _ (app : App) (s : State) (r : Runner) (b : BlockNo) (h : Stands app s r 
   quiet_case : (conditions : List Condition) → HasAnswer app (case_at (looking app r next) (unnoted_case conditions)) s r (kind.Expire (alarm_no a)) (unnoted moved ask.No)
   quiet_case conditions = record {
     point = point_there app moved r next (moved_well app s r b h);
-    parts = λ c lt. parts_after app s r b h moved [] (λ x m. absurd m) (λ d below. refl) c lt;
+    parts = λ c lt. parts_after app s r b h moved [] (λ d below. refl) c lt ∙ ap (λ (xs : List Change). value_after (xs ++ []) c (abstract_of app s c)) (sym (append-nil (moving r next)));
     asked = asked_none app r (kind.Expire (alarm_no a));
     kept = λ e. absurd (cc);
     status = refl;
@@ -79,8 +79,8 @@ module _ (app : App) (s : State) (r : Runner) (b : BlockNo) (h : Stands app s r 
   due_case : (y : AlarmState) (x : ServiceCase) (z : Answer) → Serves app (fired y) x z → HasAnswer app (case_at (expiring app r next a (is_armed y)) x) s r (kind.Expire (alarm_no a)) (asks_no z)
   due_case y x z serves = record {
     point = point_stays app moved z.state (stays_through serves.stays) (moved_well app s r b h).well ∙ point_there app moved r next (moved_well app s r b h);
-    parts = λ c lt. parts_after app s r b h z.state (x.changes ++ alarm_change app a (is_armed y) ∷ []) (sets_both x.changes (alarm_change app a (is_armed y) ∷ []) serves.sets (alarm_changes_set app a (is_armed y)))
-        (λ d below. serves.parts d below ∙ ap (value_after x.changes d) (alarm_written app moved a y here known d below) ∙ sym (sets_first x.changes (alarm_change app a (is_armed y) ∷ []) d (abstract_of app moved d) serves.sets)) c lt;
+    parts = λ c lt. parts_after app s r b h z.state (alarm_change app a (is_armed y) ∷ x.changes) (λ d below. serves.parts d below ∙ ap (value_after x.changes d) (alarm_written app moved a y here known d below)) c lt
+        ∙ ap (λ (xs : List Change). value_after xs c (abstract_of app s c)) (sym (append_assoc (moving r next) (alarm_change app a (is_armed y) ∷ []) x.changes));
     asked = asked_none app r (kind.Expire (alarm_no a)) ∙ nothing x.may_dispatch;
     kept = λ e. absurd (cc);
     status = serves.status;

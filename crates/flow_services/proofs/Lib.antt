@@ -7,5 +7,6 @@ pub mod AlarmServices
 pub mod Calling
 pub mod Expiring
 pub mod ListLaws
+pub mod OccasionLaws
 pub mod NamedEvents
 pub mod ServiceListing

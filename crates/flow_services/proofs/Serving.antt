@@ -15,7 +15,6 @@ use Rattle.osek_standard.specs.Well.{Well, IsProcessor}
 use Rattle.osek_standard.proofs.Members.{Among, map_among}
 use Rattle.abstract_state.specs.Components.{component_count, abstract_of}
 use Rattle.flow_model.specs.{declared.{test.Condition.{Condition}, case.EffectCase.{EffectCase}}, Effects.{IsKnownStay}, Tests.{PassesAll, value_after}}
-use Rattle.flow_model.proofs.ChangeLaws.{AreSets, sets_none}
 use Rattle.flow_services.specs.{declared.occasion.Occasion.{Occasion}, Occasions.{ServiceCase, service_case, case_at}}
 
 -- who has the processor keeps it, and stands where it stood
@@ -54,14 +53,13 @@ module _ (app : App) (m n : State) (h : Stays m n) where
 -- The answer, called in this state, is the case's.
 pub record Serves (app : App) (m : State) (x : ServiceCase) (a : Answer) : Type 0 where
   pub parts : (c : ℕ) → c < component_count app → abstract_of app a.state c ≡ value_after x.changes c (abstract_of app m c)
-  pub sets : AreSets x.changes
   pub status : a.status ≡ x.status
   pub ask : a.ask ≡ (if x.may_dispatch then ask.Maybe else ask.No)
   pub stays : Stays m a.state
 
 -- an answer that changes nothing and asks nothing
 pub keeps_serves : (app : App) (m : State) (conditions : List Condition) (e : Option Status) (v : Option Value) → Serves app m (service_case conditions [] e false) (answer m e v ask.No)
-keeps_serves app m conditions e v = record { parts = λ c lt. refl; sets = sets_none; status = refl; ask = refl; stays = stays_same m }
+keeps_serves app m conditions e v = record { parts = λ c lt. refl; status = refl; ask = refl; stays = stays_same m }
 
 -- The cases of a service that is called in the state m, by what its components were in the state s: each whose conditions
 -- these pass is the answer's, and they pass those of one.

@@ -17,8 +17,8 @@ use Rattle.abstract_state.proofs.ComponentLaws.{task_counted}
 use Rattle.flow_model.specs.declared.test.Condition.{Condition}
 use Rattle.flow_model.specs.declared.test.Test.TheVariants as test
 use Rattle.flow_model.specs.{Cases.{condition}, Tests.{passes, PassesAll, value_after}, Changes.{task_change, event_changes}}
-use Rattle.flow_model.proofs.{ChangeLaws.{passes_each, each_passes, passes_one, one_passes, sets_both, passes_left}, BitsOf.{bit_within, bit_set}}
-use Rattle.flow_model.proofs.Writes.{task_written, events_written, task_changes_set, event_changes_set}
+use Rattle.flow_model.proofs.{ChangeLaws.{passes_each, each_passes, passes_one, one_passes, passes_left}, BitsOf.{bit_within, bit_set}}
+use Rattle.flow_model.proofs.Writes.{task_written, events_written}
 use Rattle.flow_services.specs.Occasions.{ServiceCase, refused_case}
 use Rattle.flow_services.specs.Services.{waits_at, waits_not_at, awaits, own_block, awaiting_blocks, own_among, not_awaiting, waking, settings, event_settings}
 use Rattle.flow_services.proofs.Seeing.{Sees, waiting_block, waits_there, tests_not_suspended, waits_passes, passes_waits, off_there, on_there, off_passes}
@@ -86,7 +86,6 @@ module _ (app : App) (m : State) (t e : ℕ) (known : t < length app.tasks) (her
   events_serve : (blocks : List BlockNo) → Serves app m (not_awaiting app t bits blocks) (accepted (with_events m t (events_set app m t e)) ask.No)
   events_serve blocks = record {
     parts = λ c lt. events_written app t bits true known within m (record (task_state m t) { events = mask (events_set app m t e) }) here (λ k below own. bit_set (task_state m t).events.0 bits k) c lt refl;
-    sets = event_changes_set app t bits true;
     status = refl;
     ask = refl;
     stays = stays_with m t (record (task_state m t) { events = mask (events_set app m t e) }) here (λ l. refl);
@@ -102,7 +101,6 @@ module _ (app : App) (m : State) (t e : ℕ) (known : t < length app.tasks) (her
         parts = λ c lt.
             (task_written app t bits true known within m released_state here (λ k below own. bit_set (task_state m t).events.0 bits k) c lt
             ∙ ap (λ (a : Activity). value_after (task_change t (value_in (released_from app a)) ∷ event_changes app t bits true) c (abstract_of app m c)) there);
-        sets = sets_both (task_change t (Live (live_val (the_block app b.0).next [])) ∷ []) (event_changes app t bits true) (task_changes_set t _) (event_changes_set app t bits true);
         status = refl;
         ask = refl;
         stays = stays_with m t released_state here (λ l. absurd (not_live_there (task_state m t).activity b at l));

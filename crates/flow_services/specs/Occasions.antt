@@ -41,11 +41,14 @@ abbrev pub expired_changes : Option Expired → List Change
 expired_changes None = []
 expired_changes (Some x) = change x.alarm.0 (update.Set (OfAlarm x.again)) ∷ []
 
--- The case of the effect: the caller goes on too.
+-- what comes before the service: the caller goes on, and an alarm that expired is armed anew or idle
+abbrev pub begun : Occasion → List Change
+begun o = moving o.runner o.next ++ expired_changes o.expired
+
+-- the case of the effect with these changes
+abbrev pub case_by : Occasion → List Condition → List Change → Option Status → Bool → EffectCase
+case_by o conditions changes status may_dispatch = effect_case (conditions ++ expired_conditions o.expired) changes (if may_dispatch then o.asked else asked.No) status (runner_point o.runner o.next)
+
+-- The case of the effect: the changes of the service come after what comes before it.
 abbrev pub case_at : Occasion → ServiceCase → EffectCase
-case_at o x = effect_case
-    (x.conditions ++ expired_conditions o.expired)
-    ((x.changes ++ expired_changes o.expired) ++ moving o.runner o.next)
-    (if x.may_dispatch then o.asked else asked.No)
-    x.status
-    (runner_point o.runner o.next)
+case_at o x = case_by o x.conditions (begun o ++ x.changes) x.status x.may_dispatch

@@ -1,19 +1,19 @@
 //! The cases of the services on alarms, and of an alarm that a tick routine looks at.
-ghost use Rattle.std.specs.Prelude.{◌≡◌, ◌<◌, [], ◌∷◌, ◌++◌, length, map, IfOk, OnOk};
+ghost use Rattle.std.specs.Prelude.{◌≡◌, ◌<◌, [], ◌∷◌, ◌++◌, false, length, map, IfOk, OnOk};
 ghost use Rattle.osek_standard.specs.{Apps.{tables, is_cycle as is_cycle_of}, Validity.{IsAction}};
 ghost use Rattle.abstract_state.specs.Components.{component_number as component_number_of};
 ghost use Rattle.abstract_state.specs.declared.value.Component.TheVariants as component;
 ghost use Rattle.abstract_state.specs.declared.value.PartValue.TheVariants.{OfAlarm};
 ghost use Rattle.flow_model.specs.declared.change.Update.TheVariants as update;
 ghost use Rattle.flow_model.specs.Runners.{change};
-ghost use Rattle.flow_services.specs.Occasions.{case_at};
+ghost use Rattle.flow_services.specs.Occasions.{accepted_case, case_at};
 ghost use Rattle.flow_services.specs.Services.{armings as armings_of, cancellings as cancellings_of, alarm_readings as alarm_readings_of, actions as actions_of, expiries as expiries_of, is_rel_refused as is_rel_refused_by, is_abs_refused as is_abs_refused_by};
 
 use crate::events::add_event_settings;
 use crate::occasion::{Occasion, one, only};
 use crate::tasks::add_activations;
 use abstract_state::{Component, ComponentNo, PartValue, component_number};
-use flow_model::{Asked, Change, EffectCase, Runner, Test, Update};
+use flow_model::{Asked, Change, Condition, EffectCase, Runner, Test, Update};
 use osek_standard::{Action, App};
 use osek_values::{AlarmNo, BlockNo, Memory, Seq, Status};
 use std::alloc::Global;
@@ -52,15 +52,22 @@ pub fn alarm_component(app: &App, alarm: AlarmNo) -> ComponentNo
     component_number(app, Component::Alarm(alarm))
 }
 
-fn becoming(alloc: Global, component: ComponentNo, armed: bool) -> Result<Seq<Change>, Memory>
-    ensures { IfOk result (λ changes. changes ≡ change component.0 (update.Set (OfAlarm armed)) ∷ []) }
+/// The case in which an alarm becomes armed or idle.
+fn becoming(
+    alloc: Global,
+    occasion: Occasion,
+    component: ComponentNo,
+    conditions: Seq<Condition>,
+    armed: bool,
+) -> Result<EffectCase, Memory>
+    ensures { IfOk result (λ case. case ≡ case_at occasion (accepted_case conditions (change component.0 (update.Set (OfAlarm armed)) ∷ []) false)) }
 {
-    let mut changes = Seq::new(alloc);
+    let mut changes = occasion.begun(alloc)?;
     changes.push(Change {
         component,
         update: Update::Set(PartValue::OfAlarm(armed)),
     })?;
-    Ok(changes)
+    occasion.accepted(conditions, changes, false)
 }
 
 /// The cases of a service that arms an alarm, whose numbers may be refused.
@@ -82,8 +89,7 @@ pub fn armings(
         cases.push(occasion.refused(alloc, idle, Status::Value)?)?;
         return Ok(cases);
     }
-    let changes = becoming(alloc, component, true)?;
-    cases.push(occasion.accepted(idle, changes, false)?)?;
+    cases.push(becoming(alloc, occasion, component, idle, true)?)?;
     Ok(cases)
 }
 
@@ -101,8 +107,7 @@ pub fn cancellings(
     let idle = only(alloc, component, Test::Is(PartValue::OfAlarm(false)))?;
     let armed = only(alloc, component, Test::Is(PartValue::OfAlarm(true)))?;
     let mut cases = one(alloc, occasion.refused(alloc, idle, Status::NoFunc)?)?;
-    let changes = becoming(alloc, component, false)?;
-    cases.push(occasion.accepted(armed, changes, false)?)?;
+    cases.push(becoming(alloc, occasion, component, armed, false)?)?;
     Ok(cases)
 }
 
@@ -120,7 +125,7 @@ pub fn alarm_readings(
     let idle = only(alloc, component, Test::Is(PartValue::OfAlarm(false)))?;
     let armed = only(alloc, component, Test::Is(PartValue::OfAlarm(true)))?;
     let mut cases = one(alloc, occasion.refused(alloc, idle, Status::NoFunc)?)?;
-    cases.push(occasion.accepted(armed, Seq::new(alloc), false)?)?;
+    cases.push(occasion.answered(alloc, armed)?)?;
     Ok(cases)
 }
 

@@ -76,7 +76,7 @@ fn not_awaiting(
             test: Test::IsNot(PartValue::OfTask(Val::Waiting(*block))),
         })?;
     }
-    let mut changes = Seq::new(alloc);
+    let mut changes = occasion.begun(alloc)?;
     add_event_changes(app, task, events, true, &mut changes)?;
     occasion.accepted(conditions, changes, false)
 }
@@ -97,7 +97,7 @@ fn waking(
 {
     let waits = PartValue::OfTask(Val::Waiting(block));
     let conditions = only(alloc, task_component(task), Test::Is(waits))?;
-    let mut changes = Seq::new(alloc);
+    let mut changes = occasion.begun(alloc)?;
     add_live(task, app.block(block).next, &mut changes)?;
     add_event_changes(app, task, events, true, &mut changes)?;
     occasion.accepted(conditions, changes, true)
@@ -165,7 +165,7 @@ pub fn event_clearings(
     if own.is_empty() {
         return one(alloc, occasion.refused(alloc, none, Status::Access)?);
     }
-    let mut changes = Seq::new(alloc);
+    let mut changes = occasion.begun(alloc)?;
     add_event_changes(app, task, mask.and(own), false, &mut changes)?;
     one(alloc, occasion.accepted(none, changes, false)?)
 }
@@ -190,6 +190,6 @@ pub fn event_readings(
     let suspended = only(alloc, component, Test::Suspended)?;
     let mut cases = one(alloc, occasion.refused(alloc, suspended, Status::State)?)?;
     let conditions = only(alloc, component, Test::NotSuspended)?;
-    cases.push(occasion.accepted(conditions, Seq::new(alloc), false)?)?;
+    cases.push(occasion.answered(alloc, conditions)?)?;
     Ok(cases)
 }

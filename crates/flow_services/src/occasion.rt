@@ -1,6 +1,6 @@
 //! What all cases of a call have in common, and the parts of which they are made.
 ghost use Rattle.std.specs.Prelude.{◌≡◌, [], ◌∷◌, ◌++◌, IfOk, OnOk, OnErr};
-ghost use Rattle.flow_model.specs.{Cases.{condition as condition_on}, Runners.{moving}};
+ghost use Rattle.flow_model.specs.{Cases.{condition as condition_on}};
 ghost use Rattle.flow_services.specs.Occasions.{expired_conditions, expired_changes};
 
 use abstract_state::{ComponentNo, PartValue};
@@ -70,35 +70,31 @@ fn add_expired_change(expired: Option<Expired>, changes: &mut Seq<Change>) -> Re
     Ok(())
 }
 
-fn add_move(runner: Runner, next: BlockNo, changes: &mut Seq<Change>) -> Result<(), Memory>
-    ensures { OnOk result (changes.new ≡ changes.old ++ moving runner next) }
-{
-    if let Runner::Task(task) = runner {
-        changes.push(Change {
-            component: task_component(task),
-            update: Update::Block(next),
-        })?;
-    }
-    Ok(())
-}
-
 impl Occasion {
-    ghost use Rattle.std.specs.Prelude.{◌≡◌, Some, IfOk};
-    ghost use Rattle.flow_services.specs.Occasions.{service_case, refused_case, accepted_case, unnoted_case, case_at};
+    ghost use Rattle.std.specs.Prelude.{◌≡◌, [], false, Some, IfOk};
+    ghost use Rattle.osek_values.specs.declared.status.Status.TheVariants as statuses;
+    ghost use Rattle.flow_services.specs.Occasions.{refused_case, accepted_case, unnoted_case, begun, case_by, case_at};
 
-    /// A case of the service here.
+    /// The changes that come before those of the service: these follow them in one list.
+    pub fn begun(self, alloc: Global) -> Result<Seq<Change>, Memory>
+        ensures { IfOk result (λ changes. changes ≡ begun self) }
+    {
+        let mut changes = self.runner.moving(alloc, self.next)?;
+        add_expired_change(self.expired, &mut changes)?;
+        Ok(changes)
+    }
+
+    /// A case of the service here, with all changes.
     pub fn case(
         self,
         mut conditions: Seq<Condition>,
-        mut changes: Seq<Change>,
+        changes: Seq<Change>,
         status: Option<Status>,
         may_dispatch: bool,
     ) -> Result<EffectCase, Memory>
-        ensures { IfOk result (λ case. case ≡ case_at self (service_case conditions changes status may_dispatch)) }
+        ensures { IfOk result (λ case. case ≡ case_by self conditions changes status may_dispatch) }
     {
         add_expired_condition(self.expired, &mut conditions)?;
-        add_expired_change(self.expired, &mut changes)?;
-        add_move(self.runner, self.next, &mut changes)?;
         let asked = if may_dispatch { self.asked } else { Asked::No };
         Ok(EffectCase {
             conditions,
@@ -116,19 +112,28 @@ impl Occasion {
     ) -> Result<EffectCase, Memory>
         ensures { IfOk result (λ case. case ≡ case_at self (refused_case conditions status)) }
     {
-        self.case(conditions, Seq::new(alloc), Some(status), false)
+        let changes = self.begun(alloc)?;
+        self.case(conditions, changes, Some(status), false)
     }
 
-    /// The case of a call that is accepted.
+    /// The case of a call that is accepted, with all changes.
     pub fn accepted(
         self,
         conditions: Seq<Condition>,
         changes: Seq<Change>,
         may_dispatch: bool,
     ) -> Result<EffectCase, Memory>
-        ensures { IfOk result (λ case. case ≡ case_at self (accepted_case conditions changes may_dispatch)) }
+        ensures { IfOk result (λ case. case ≡ case_by self conditions changes (Some statuses.Ok) may_dispatch) }
     {
         self.case(conditions, changes, Some(Status::Ok), may_dispatch)
+    }
+
+    /// The case of a call that is accepted and changes nothing.
+    pub fn answered(self, alloc: Global, conditions: Seq<Condition>) -> Result<EffectCase, Memory>
+        ensures { IfOk result (λ case. case ≡ case_at self (accepted_case conditions [] false)) }
+    {
+        let changes = self.begun(alloc)?;
+        self.accepted(conditions, changes, false)
     }
 
     /// The same, as the action of an alarm that expired.
@@ -145,7 +150,8 @@ impl Occasion {
     pub fn unnoted(self, alloc: Global, conditions: Seq<Condition>) -> Result<EffectCase, Memory>
         ensures { IfOk result (λ case. case ≡ case_at self (unnoted_case conditions)) }
     {
-        self.case(conditions, Seq::new(alloc), None, false)
+        let changes = self.begun(alloc)?;
+        self.case(conditions, changes, None, false)
     }
 }
 

@@ -82,8 +82,7 @@ fn call_cases(
         Call::Alarm(AlarmService::CancelAlarm, alarm) => cancellings(alloc, app, occasion, alarm),
         Call::Alarm(AlarmService::GetAlarm, alarm) => alarm_readings(alloc, app, occasion, alarm),
         Call::Task(TaskService::GetTaskState, _) | Call::Plain(PlainService::GetTaskId) => {
-            let none = Seq::new(alloc);
-            one(alloc, occasion.accepted(none, Seq::new(alloc), false)?)
+            one(alloc, occasion.answered(alloc, Seq::new(alloc))?)
         }
         Call::Plain(PlainService::GetActiveApplicationMode) | Call::Lock(_) => {
             one(alloc, occasion.unnoted(alloc, Seq::new(alloc))?)

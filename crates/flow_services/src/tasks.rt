@@ -1,9 +1,9 @@
 //! The cases of ActivateTask, and what becomes of a task and its events.
-ghost use Rattle.std.specs.Prelude.{◌≡◌, ◌<◌, ℕ, true, [], ◌∷◌, ◌++◌, length, map, IfOk, OnOk};
+ghost use Rattle.std.specs.Prelude.{◌≡◌, ◌<◌, ℕ, true, [], ◌∷◌, ◌++◌, length, map, OnOk};
 ghost use Rattle.osek_values.specs.Bits.{has_bit as has_bit_of};
 ghost use Rattle.osek_standard.specs.Apps.{the_task};
 ghost use Rattle.abstract_state.specs.{declared.value.Val.TheVariants.{Live}, Components.{live_val}};
-ghost use Rattle.flow_model.specs.Changes.{event_changes, task_change, activating as activating_of};
+ghost use Rattle.flow_model.specs.Changes.{event_changes, task_change, activating};
 ghost use Rattle.flow_services.specs.{Occasions.{case_at}, Services.{activations}};
 
 use crate::occasion::{Occasion, only, task_component};
@@ -53,16 +53,14 @@ pub fn add_live(task: TaskNo, block: BlockNo, changes: &mut Seq<Change>) -> Resu
     })
 }
 
-/// What becomes of the components by an activation.
-pub fn activating(alloc: Global, app: &App, task: TaskNo) -> Result<Seq<Change>, Memory>
+/// Adds what becomes of the components by an activation.
+pub fn add_activating(app: &App, task: TaskNo, changes: &mut Seq<Change>) -> Result<(), Memory>
     requires { task.0 < length app.now.tasks }
-    ensures { IfOk result (λ changes. changes ≡ activating_of app.now task.0) }
+    ensures { OnOk result (changes.new ≡ changes.old ++ activating app.now task.0) }
 {
     let own = app.task(task).own;
-    let mut changes = Seq::new(alloc);
-    add_live(task, app.task(task).first, &mut changes)?;
-    add_event_changes(app, task, own, false, &mut changes)?;
-    Ok(changes)
+    add_live(task, app.task(task).first, changes)?;
+    add_event_changes(app, task, own, false, changes)
 }
 
 /// Adds the cases of ActivateTask.
@@ -80,7 +78,8 @@ pub fn add_activations(
     let full = only(alloc, component, Test::NotSuspended)?;
     cases.push(occasion.refused(alloc, full, Status::Limit)?)?;
     let free = only(alloc, component, Test::Suspended)?;
-    let changes = activating(alloc, app, task)?;
+    let mut changes = occasion.begun(alloc)?;
+    add_activating(app, task, &mut changes)?;
     cases.push(occasion.accepted(free, changes, true)?)?;
     Ok(())
 }

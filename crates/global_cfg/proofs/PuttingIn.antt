@@ -134,11 +134,13 @@ module _ (p : Point) where
       put)
 
   pub put_with_numbers : (pool : List Values) (g : ExitGroup) (c : ℕ) (xs : List NumberEnd) (a b : List Point) → ArePutAfter p g.decision (map end_target xs) a b → AreEndsPut p (exits_by pool g (ends.With c xs)) a b
-  put_with_numbers pool g c xs a b put = ends_by_targets (λ (x : NumberEnd). exit_at pool g (holding g.entry c x.number) x.target) end_target g.decision (λ x. refl) (λ x. refl) xs a b put
+  put_with_numbers pool g c xs a b put = ends_by_targets (λ (x : NumberEnd). exit_at pool g (holding g.entry c x.numbers) x.target) end_target g.decision (λ x. refl) (λ x. refl) xs a b put
 
 -- one end more, and one group more, in a loop over their list
-pub more_ends : (items : List NumberEnd) (i : ℕ) (d : NumberEnd) → i < length items → map end_target (take i items) ++ end_target (get_or items i d) ∷ [] ≡ map end_target (take (i + 1) items)
-more_ends items i d lt = sym (ap (λ (xs : List NumberEnd). map end_target xs) (take_more items i d lt) ∙ map-append end_target (take i items) (get_or items i d ∷ []))
+pub more_ends : (items : List NumberEnd) (i : ℕ) (x : NumberEnd) → i < length items → x ≡ get_or items i x → map end_target (take i items) ++ end_target x ∷ [] ≡ map end_target (take (i + 1) items)
+more_ends items i x lt e =
+    ap (λ (y : NumberEnd). map end_target (take i items) ++ end_target y ∷ []) e
+    ∙ sym (ap (λ (xs : List NumberEnd). map end_target xs) (take_more items i x lt) ∙ map-append end_target (take i items) (get_or items i x ∷ []))
 
 pub more_groups : (pool : List Values) (items : List ExitGroup) (i : ℕ) (x : ExitGroup) → i < length items → x ≡ get_or items i x → all_exits pool (take i items) ++ exits_of pool x ≡ all_exits pool (take (i + 1) items)
 more_groups pool items i x lt e =

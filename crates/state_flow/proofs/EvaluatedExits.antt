@@ -41,8 +41,8 @@ by_ends pool g (ends.At points) known h x m =
     let p = map_among (λ (p : Point). record { target = p; decision = g.decision; status = g.status; entry = plain_entry pool g.entry }) x points m in
     record { entry = g.entry; known = known; is = ap (λ (y : Exit). y.entry) p.2 }
 by_ends pool g (ends.With c xs) known h x m =
-    let e = map_among (λ (y : NumberEnd). record { target = y.target; decision = g.decision; status = g.status; entry = plain_entry pool (holding g.entry c y.number) }) x xs m in
-    record { entry = holding g.entry c e.0.number; known = held_known pool g.entry c e.0.number h.0 known (h.1 e.0 (among_contained xs e.0 e.1)); is = ap (λ (y : Exit). y.entry) e.2 }
+    let e = map_among (λ (y : NumberEnd). record { target = y.target; decision = g.decision; status = g.status; entry = plain_entry pool (holding g.entry c y.numbers) }) x xs m in
+    record { entry = holding g.entry c e.0.numbers; known = held_known pool g.entry c e.0.numbers h.0 known (h.1 e.0 (among_contained xs e.0 e.1)); is = ap (λ (y : Exit). y.entry) e.2 }
 
 by_numbers : (pool : List Values) (groups : List ExitGroup) → AreKnownGroups pool groups → (x : Exit) → Contains (all_exits pool groups) x → IsByNumbers pool x
 by_numbers pool groups known x m =

@@ -31,7 +31,7 @@ abbrev pub point_row : List Values → NumberedEntry → Point → TableRow
 point_row pool entry p = row_at p (plain_entry pool entry)
 
 abbrev pub end_row : List Values → NumberedEntry → ℕ → NumberEnd → TableRow
-end_row pool entry c x = row_at x.target (plain_entry pool (holding entry c x.number))
+end_row pool entry c x = row_at x.target (plain_entry pool (holding entry c x.numbers))
 
 map_more : {X : Type 0} (f : X → TableRow) (items : List X) (i : ℕ) (x : X) → i < length items → x ≡ get_or items i x → map f (take i items) ++ f x ∷ [] ≡ map f (take (i + 1) items)
 map_more f items i x lt e = sym (ap (map f) (take_more items i x lt ∙ ap (λ y. take i items ++ y ∷ []) (sym e)) ∙ map-append f (take i items) (x ∷ []))
@@ -78,7 +78,7 @@ map_twice f (x ∷ xs) = ap (λ (rs : List TableRow). its_row (f x) ∷ rs) (map
 
 rows_of_ends : (pool : List Values) (g : ExitGroup) (e : Ends) → map its_row (exits_by pool g e) ≡ rows_by pool g.entry e
 rows_of_ends pool g (ends.At points) = map_twice (λ (p : Point). record { target = p; decision = g.decision; status = g.status; entry = plain_entry pool g.entry }) points
-rows_of_ends pool g (ends.With c xs) = map_twice (λ (x : NumberEnd). record { target = x.target; decision = g.decision; status = g.status; entry = plain_entry pool (holding g.entry c x.number) }) xs
+rows_of_ends pool g (ends.With c xs) = map_twice (λ (x : NumberEnd). record { target = x.target; decision = g.decision; status = g.status; entry = plain_entry pool (holding g.entry c x.numbers) }) xs
 
 pub rows_of_exits : (pool : List Values) (groups : List ExitGroup) → map its_row (all_exits pool groups) ≡ all_rows pool groups
 rows_of_exits pool [] = refl

@@ -14,9 +14,9 @@ use Rattle.state_flow.specs.{Progress.{AreJoined}, PlainCells.{plain_cells, AreC
 abbrev pub rows_at : List Values → NumberedEntry → List Point → List TableRow
 rows_at pool entry points = map (λ (p : Point). row_at p (plain_entry pool entry)) points
 
--- those with one number alone of component c, each at its point
+-- those with some numbers alone of component c, each at its point
 abbrev pub rows_with : List Values → NumberedEntry → ℕ → List NumberEnd → List TableRow
-rows_with pool entry c xs = map (λ (x : NumberEnd). row_at x.target (plain_entry pool (holding entry c x.number))) xs
+rows_with pool entry c xs = map (λ (x : NumberEnd). row_at x.target (plain_entry pool (holding entry c x.numbers))) xs
 
 abbrev pub rows_by : List Values → NumberedEntry → Ends → List TableRow
 rows_by pool entry (ends.At points) = rows_at pool entry points

@@ -1,7 +1,7 @@
 //! The exits of a point, joined to cells.
 ghost use Rattle.std.specs.Prelude.{◌<◌, length, Contains, OnOk};
-ghost use Rattle.numbered_sets.specs.{Pools.{values_at}, Views.{AreNumbersOf}};
-ghost use Rattle.flow_rules.specs.{declared.group.NumberEnd.{NumberEnd}, Groups.{IsKnownGroup, AreKnownGroups}};
+ghost use Rattle.numbered_sets.specs.Views.{AreNumbersOf};
+ghost use Rattle.flow_rules.specs.{declared.group.NumberEnd.{NumberEnd}, Groups.{AreNumbersThere, IsKnownGroup, AreKnownGroups}};
 ghost use Rattle.state_flow.specs.{Numbering.{AreNumberedCells}, ExitRows.{rows_at, rows_with, rows_by, all_rows, AreProperRows, AreRowsJoined}};
 
 use crate::cells::Cell;
@@ -74,7 +74,7 @@ fn join_at(
     Ok(())
 }
 
-// with each of these numbers of a component alone, at its point
+// with the numbers of each end of a component alone, at its point
 fn join_with(
     alloc: Global,
     app: &App,
@@ -86,14 +86,14 @@ fn join_with(
 ) -> Result<(), Memory>
     requires component { component < length entry.sets }
     requires known { AreNumbersOf pool.now entry }
-    requires ends { (x : NumberEnd) → Contains ends.now x → x.number < length (values_at pool.now component) }
+    requires ends { (x : NumberEnd) → Contains ends.now x → AreNumbersThere pool.now entry component x.numbers }
     requires proper { AreProperRows app.now (rows_with pool.now entry component ends.now) }
     requires cells { AreNumberedCells app.now pool.now cells.old.items }
     ensures { OnOk result (AreRowsJoined app.now pool.now cells.old.items (rows_with pool.now entry component ends.now) cells.new.items) }
 {
     let mut held = entry;
     for end in ends {
-        held.hold_only(component, end.number)?;
+        held.sets.put(component, &end.numbers)?;
         put_in(alloc, app, pool, cells, end.target, &held)?;
     }
     Ok(())

@@ -1,9 +1,13 @@
-use Rattle.std.proofs.Common.{◌<◌, length, sym, subst}
+use Rattle.std.proofs.Common.{List, sym, subst}
 use Rattle.numbered_sets.specs.declared.numbered_entry.NumberedEntry.{NumberedEntry}
+use Rattle.flow_rules.specs.declared.group.NumberEnd.{NumberEnd}
+use Rattle.flow_rules.specs.declared.group.Ends.TheVariants as ends
 use Rattle.flow_check.specs.Staying.{HasSetFor}
 use Rattle.flow_check.proofs.staying.stays.Goals as goal
 
-pub all_with-requires-clause-component : goal.all_with-requires-clause-component
-all_with-requires-clause-component c =
-    let there : c.in-With.component < length c.args.group.now.entry.sets = subst (HasSetFor c.args.group.now.entry) c.in-With.is c.requires.set in
-    subst (λ (e : NumberedEntry). c.in-With.component < length e.sets) (sym c.in_ok-entry-in-With.ensures) there
+pub all_with-requires-clause-set : goal.all_with-requires-clause-set
+all_with-requires-clause-set c =
+    let g = c.args.group.now in
+    let k = c.in-With.component in
+    subst (λ (e : NumberedEntry). HasSetFor e (ends.With k c.as_slice-in-With.result.now)) (sym c.in_ok-entry-in-With.ensures)
+    (subst (λ (xs : List NumberEnd). HasSetFor g.entry (ends.With k xs)) (sym c.as_slice-in-With.ensures) (subst (HasSetFor g.entry) c.in-With.is c.requires.set))

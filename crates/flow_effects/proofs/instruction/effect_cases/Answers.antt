@@ -1,5 +1,5 @@
 -- at the point of the runner
-use Rattle.std.proofs.Common.{◌≡◌, List, sym, subst}
+use Rattle.std.proofs.Common.{◌≡◌, List, sym, subst, ◌∙◌}
 use Rattle.std.specs.{Prelude.{IfOk}, declared.result.Result.{Result}}
 use Rattle.std.proofs.lemmas.Result.{IfOk-weaker}
 use Rattle.osek_values.specs.declared.memory.Memory.{Memory}
@@ -31,10 +31,10 @@ pub returns-in-Task-clause-stays : goal.returns-in-Task-clause-stays
 returns-in-Task-clause-stays c = stays c.args.app.now c.args.point _ c.block_cases.result c.in-Task.is c.block_cases.ensures
 
 pub returns-in-Routine-clause-covering : goal.returns-in-Routine-clause-covering
-returns-in-Routine-clause-covering c = covering c.args.app.now c.args.point _ c.block_cases-in-Routine.result c.in-Routine.is c.block_cases-in-Routine.ensures
+returns-in-Routine-clause-covering c = covering c.args.app.now c.args.point _ c.block_cases-in-Routine.result (c.in-Routine.is ∙ sym c.routine_of.ensures.point) c.block_cases-in-Routine.ensures
 
 pub returns-in-Routine-clause-exact : goal.returns-in-Routine-clause-exact
-returns-in-Routine-clause-exact c = exact c.args.app.now c.args.point _ c.block_cases-in-Routine.result c.in-Routine.is c.block_cases-in-Routine.ensures
+returns-in-Routine-clause-exact c = exact c.args.app.now c.args.point _ c.block_cases-in-Routine.result (c.in-Routine.is ∙ sym c.routine_of.ensures.point) c.block_cases-in-Routine.ensures
 
 pub returns-in-Routine-clause-stays : goal.returns-in-Routine-clause-stays
-returns-in-Routine-clause-stays c = stays c.args.app.now c.args.point _ c.block_cases-in-Routine.result c.in-Routine.is c.block_cases-in-Routine.ensures
+returns-in-Routine-clause-stays c = stays c.args.app.now c.args.point _ c.block_cases-in-Routine.result (c.in-Routine.is ∙ sym c.routine_of.ensures.point) c.block_cases-in-Routine.ensures

@@ -1,5 +1,5 @@
 use Rattle.std.proofs.{Common.{length, refl, subst, List, ◌∙◌, arith}, lemmas.Bool.{OnTrue_at, OnFalse_at}}
-use Rattle.flow_model.specs.declared.{rule.Rule.{Rule}, test.Condition.{Condition}}
+use Rattle.flow_model.specs.declared.test.Condition.{Condition}
 use Rattle.numbered_sets.specs.{declared.numbered_entry.NumberedEntry.{NumberedEntry}}
 use Rattle.numbered_sets.proofs.NumberingLaws.{longer_onward}
 use Rattle.flow_rules.specs.{Applying.{bare_rule}, Changing.{up_to, AreAllPassed}, Sifting.{AreSifted, LeavesNone}}
@@ -51,7 +51,7 @@ change-requires-clause-domain c =
     (subst (λ (e : NumberedEntry). AreSifted pool c.as_slice-2.result.now e c.sift.new.entry) c.in_ok-made.ensures (OnTrue_at c.if-not-branch.false c.in_ok-sift.ensures.sifted)) in
     let passed : AreAllPassed (up_to rule c.loop-place.place) pool entry (length entry.sets) c.loop-place.pool c.loop-place.made.sets = c.loop-place.invariant.0 in
     let taken = taken_of_filled pool rule entry c.sift.new.entry c.requires.numbers sifted (OnTrue_at c.if-not-branch.false c.in_ok-sift.ensures.filled) in
-    stays_within rule pool entry c.loop-place.place c.loop-place.pool c.loop-place.made (omega (arith, c.loop-place-test.true, c.len-place-end.ensures)) c.requires.numbers (c.requires.domains.sets taken) passed
+    stays_within rule pool entry c.loop-place.place c.loop-place.pool c.loop-place.made c.requires.numbers (c.requires.domains.sets taken) passed
 
 pub returns-clause-some : goal.returns-clause-some
 returns-clause-some c =
@@ -63,8 +63,8 @@ returns-clause-some c =
     (subst (λ (e : NumberedEntry). AreSifted pool c.as_slice-2.result.now e c.sift.new.entry) c.in_ok-made.ensures (OnTrue_at c.if-not-branch.false c.in_ok-sift.ensures.sifted)) in
     let passed : AreAllPassed (up_to rule c.loop-place.place) pool entry (length entry.sets) c.loop-place.pool c.loop-place.made.sets = c.loop-place.invariant.0 in
     let taken = taken_of_filled pool rule entry c.sift.new.entry c.requires.numbers sifted (OnTrue_at c.if-not-branch.false c.in_ok-sift.ensures.filled) in
-    let whole : AreAllPassed rule pool entry (length entry.sets) c.loop-place.pool c.loop-place.made.sets =
-    subst (λ (r : Rule). AreAllPassed r pool entry (length entry.sets) c.loop-place.pool c.loop-place.made.sets) (all_changes rule c.loop-place.place (omega (arith, c.loop-place-test.false, c.len-place-end.ensures))) passed in
+    let whole : AreAllPassed (λ k. rule) pool entry (length entry.sets) c.loop-place.pool c.loop-place.made.sets =
+    all_changes rule c.loop-place.place pool entry (length entry.sets) c.loop-place.pool c.loop-place.made.sets (omega (arith, c.loop-place-test.false, c.len-place-end.ensures)) passed in
     made_applies rule pool entry (length entry.sets) c.loop-place.pool c.loop-place.made refl c.requires.numbers whole taken
 
 pub returns-in_err-change-clause-pool : goal.returns-in_err-change-clause-pool

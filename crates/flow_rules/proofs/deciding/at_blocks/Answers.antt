@@ -1,7 +1,9 @@
-use Rattle.std.proofs.Common.{ℕ, ap, subst, arith, refl}
+use Rattle.std.proofs.Common.{ℕ, ap, subst, arith}
 use Rattle.osek_values.specs.declared.numbers.BlockNo.{BlockNo}
 use Rattle.osek_standard.specs.declared.point.Point.TheVariants as point
-use Rattle.flow_rules.specs.Deciding.{AreBlockEnds}
+use Rattle.abstract_state.specs.declared.value.Domain.{Domain}
+use Rattle.numbered_sets.specs.NumberedEntries.{numbers_at}
+use Rattle.flow_rules.specs.Deciding.{HaveNumbersOf, AreBlockEnds}
 use Rattle.flow_rules.proofs.BlockLaws.{pool_has, no_blocks, more_blocks, all_blocks}
 use Rattle.flow_rules.proofs.deciding.at_blocks.Goals as goal
 
@@ -19,13 +21,16 @@ loop-number-init c = (
 )
 
 pub loop-number-preserved : goal.loop-number-preserved
-loop-number-preserved c = (
-  more_blocks c.args.pool.now c.args.entry.now c.index-component.result c.loop-number.number c.next-number-in-loop-number.result c.loop-number.ends c.push.new.self
-      (record { number = c.loop-number.number; target = point.Task c.block_of.result }) c.value.result c.in_ok-push.ensures.ok (c.loop-number.invariant.2 c.loop-number-test.true) c.value.ensures refl
-      (ap (λ (b : BlockNo). point.Task b) c.block_of.ensures) c.next-number-in-loop-number.ensures.none c.loop-number.invariant.0,
-  c.next-number-in-loop-number.ensures.few,
-  c.next-number-in-loop-number.ensures.has,
-)
+loop-number-preserved c =
+    let entry = c.args.entry.now in
+    let keeps : HaveNumbersOf (numbers_at entry c.index-component.result).domain c.loop-number.ends → HaveNumbersOf (numbers_at entry c.index-component.result).domain c.put_number.new.ends =
+    subst (λ (d : Domain). HaveNumbersOf d c.loop-number.ends → HaveNumbersOf d c.put_number.new.ends) c.domain-domain.ensures c.in_ok-put_number.ensures.some in (
+      more_blocks c.args.pool.now entry c.index-component.result c.loop-number.number c.next-number-in-loop-number.result c.loop-number.ends c.put_number.new.ends
+          (point.Task c.block_of.result) c.value.result c.in_ok-put_number.ensures.put (c.loop-number.invariant.2 c.loop-number-test.true) c.value.ensures
+          (ap (λ (b : BlockNo). point.Task b) c.block_of.ensures) c.next-number-in-loop-number.ensures.none c.loop-number.invariant.0 keeps,
+      c.next-number-in-loop-number.ensures.few,
+      c.next-number-in-loop-number.ensures.has,
+    )
 
 pub returns : goal.returns
 returns c = (

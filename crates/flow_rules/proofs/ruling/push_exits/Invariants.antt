@@ -6,4 +6,4 @@ abbrev pub invariant-loop-point : goal.invariant-loop-point
 invariant-loop-point l = l.exits ≡ l.initial.exits ++ map (exit_at l.pool l.group l.group.entry) (take l.point-index l.point-items)
 
 abbrev pub invariant-loop-end : goal.invariant-loop-end
-invariant-loop-end l = l.exits ≡ l.initial.exits ++ map (λ (x : NumberEnd). exit_at l.pool l.group (holding l.group.entry l.component x.number) x.target) (take l.end-index l.end-items)
+invariant-loop-end l = l.exits ≡ l.initial.exits ++ map (λ (x : NumberEnd). exit_at l.pool l.group (holding l.group.entry l.component x.numbers) x.target) (take l.end-index l.end-items)

@@ -1,6 +1,6 @@
 use Rattle.std.proofs.Common.{take, ◌-◌, ◌≤◌, ◌<◌, IsTrue}
 use Rattle.numbered_sets.specs.{Numbers.{has_number}, Pools.{values_at}, Views.{values_with}}
-use Rattle.flow_rules.specs.{Applying.{IsPassedSoFar}, Changing.{alone}}
+use Rattle.flow_rules.specs.{Applying.{IsPassedSoFar}, Changing.{making}}
 use Rattle.flow_rules.proofs.updating.moved.Given as goal
 
 abbrev pub decreases-loop-number : goal.decreases-loop-number
@@ -8,5 +8,5 @@ decreases-loop-number l = l.count - l.number
 
 abbrev pub invariant-loop-number : goal.invariant-loop-number
 invariant-loop-number l =
-    IsPassedSoFar (alone l.change) l.initial.pool l.component l.numbers.domain (values_with (take l.number (values_at l.initial.pool l.component)) (has_number l.numbers)) l.pool l.new
+    IsPassedSoFar (making l.changes) l.initial.pool l.component l.numbers.domain (values_with (take l.number (values_at l.initial.pool l.component)) (has_number l.numbers)) l.pool l.new
     × (l.number ≤ l.count) × (l.number < l.count → IsTrue (has_number l.numbers l.number))

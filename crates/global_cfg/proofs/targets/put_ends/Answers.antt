@@ -16,8 +16,8 @@ loop-end-preserved c =
     let items = c.args.ends.now in
     let i = c.loop-end.end-index in
     let first = c.args.points.now.items in
-    subst (λ (targets : List Point). ArePutAfter c.args.from c.args.decision targets first c.put_target.new.points.items) (more_ends items i _ c.loop-end-test.true)
-    (targets_then c.args.from c.args.decision (map end_target (take i items)) (_ ∷ []) first c.loop-end.points.items c.put_target.new.points.items c.loop-end.invariant c.in_ok-put_target.ensures)
+    subst (λ (targets : List Point). ArePutAfter c.args.from c.args.decision targets first c.put_target.new.points.items) (more_ends items i c.end-item.result c.loop-end-test.true c.end-item.is)
+    (targets_then c.args.from c.args.decision (map end_target (take i items)) (end_target c.end-item.result ∷ []) first c.loop-end.points.items c.put_target.new.points.items c.loop-end.invariant c.in_ok-put_target.ensures)
 
 pub returns : goal.returns
 returns c =

@@ -2,7 +2,7 @@ use Rattle.std.proofs.Common.{List, sym, subst}
 use Rattle.std.specs.Prelude.{Contains}
 use Rattle.osek_standard.specs.declared.point.Point.{Point}
 use Rattle.numbered_sets.specs.declared.numbered_entry.NumberedEntry.{NumberedEntry}
-use Rattle.flow_rules.specs.{declared.group.{NumberEnd.{NumberEnd}, Ends.{Ends}}, Groups.{AreKnownEnds}}
+use Rattle.flow_rules.specs.{declared.group.{NumberEnd.{NumberEnd}, Ends.{Ends}}, Groups.{AreKnownEnds, AreNumbersThere}}
 use Rattle.state_flow.specs.ExitRows.{rows_at, rows_with, rows_by, AreProperRows}
 use Rattle.state_flow.proofs.joining.join_group.Goals as goal
 
@@ -14,7 +14,8 @@ join_at-requires-clause-proper c =
 pub join_with-requires-clause-ends : goal.join_with-requires-clause-ends
 join_with-requires-clause-ends c x m =
     let known = subst (AreKnownEnds c.args.pool.now c.args.group.now.entry) c.in-With.is c.requires.known.ends in
-    known.1 x (subst (λ (xs : List NumberEnd). Contains xs x) c.as_slice-in-With.ensures m)
+    subst (λ (e : NumberedEntry). AreNumbersThere c.args.pool.now e c.in-With.component x.numbers) (sym c.in_ok-entry-in-With.ensures)
+    (known.1 x (subst (λ (xs : List NumberEnd). Contains xs x) c.as_slice-in-With.ensures m))
 
 pub join_with-requires-clause-proper : goal.join_with-requires-clause-proper
 join_with-requires-clause-proper c =

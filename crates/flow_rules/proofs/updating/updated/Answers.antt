@@ -1,0 +1,25 @@
+use Rattle.std.proofs.Common.{◌≡◌, ℕ, ◌∙◌, ap, subst}
+use Rattle.std.specs.{Prelude.{IfSome}, declared.option.Option.{Option}}
+use Rattle.std.proofs.lemmas.Result.{IfOk-weaker}
+use Rattle.abstract_state.specs.{declared.value.PartValue.{PartValue}, Domains.{IsWithin}}
+use Rattle.flow_model.specs.{declared.change.Update.{Update}, Tests.{updated, value_after}}
+use Rattle.numbered_sets.specs.Pools.{domain_at}
+use Rattle.flow_rules.specs.Changing.{IsAlone}
+use Rattle.flow_rules.proofs.updating.updated.Goals as goal
+
+pub replaced-requires-clause-domain : goal.replaced-requires-clause-domain
+replaced-requires-clause-domain c = λ v m.
+    let xs = c.args.changes.now in
+    let k = c.args.component in
+    let alone : IsAlone xs k c.in-Some.place = subst (λ (o : Option ℕ). IfSome o (IsAlone xs k)) c.in-Some.is c.requires.alone in
+    let x = c.at.result.now in
+    let sets : value_after xs k v ≡ c.in-Set.to = alone.becomes x v (c.at.ensures.item x) ∙ ap (λ (u : Update). updated u v) c.in-Set.is in
+    subst (IsWithin (domain_at c.args.pool.now k)) sets (c.requires.domain v m)
+
+pub returns-in-Set-clause-passed : goal.returns-in-Set-clause-passed
+returns-in-Set-clause-passed c =
+    let xs = c.args.changes.now in
+    let k = c.args.component in
+    let alone : IsAlone xs k c.in-Some.place = subst (λ (o : Option ℕ). IfSome o (IsAlone xs k)) c.in-Some.is c.requires.alone in
+    let x = c.at.result.now in
+    IfOk-weaker c.replaced.result _ _ (λ set passed. passed xs (λ v. alone.becomes x v (c.at.ensures.item x) ∙ ap (λ (u : Update). updated u v) c.in-Set.is)) c.replaced.ensures.passed
