@@ -1,5 +1,5 @@
 -- What the rows at a block say of its resource, and that it is reached.
-use Rattle.std.proofs.Common.{◌≡◌, ℕ, ◌<◌, Bool, true, false, ◌&&◌, not, List, length, IsTrue, refl, sym, ap, subst, ◌∙◌, arith, Some}
+use Rattle.std.proofs.Common.{◌≡◌, ℕ, ◌<◌, Bool, true, false, ◌&&◌, not, List, length, IsTrue, refl, sym, ap, subst, ◌∙◌, arith}
 use Rattle.std.specs.{Bool.{Decides}}
 use Rattle.std.proofs.lemmas.{List.{get_or_default}, List.Folds.{Any-from_list_any, list_any_at}}
 use Rattle.osek_values.specs.{Numbers.{block_no}, declared.numbers.{BlockNo.{BlockNo}, ResNo.{ResNo}}}
@@ -7,13 +7,13 @@ use Rattle.osek_standard.specs.declared.{app.App.{App}, block.Kind.{Kind}, state
 use Rattle.osek_standard.specs.declared.task_state.Activity.TheVariants as activity
 use Rattle.osek_standard.specs.declared.block.Kind.TheVariants as kind
 use Rattle.image_model.specs.CallNames as call
-use Rattle.osek_standard.specs.{TaskStates.{held, held_in, holds, suspended}, States.{task_state, is_taken}}
+use Rattle.osek_standard.specs.{TaskStates.{held, held_in, holds, suspended}, States.{task_state, is_taken}, Points.{point_of, StandsAt}}
 use Rattle.abstract_state.specs.declared.value.{PartValue.{PartValue}}
-use Rattle.abstract_state.specs.{Components.{abstract_of, part_of, value_in}, Tables.{Sets}}
+use Rattle.abstract_state.specs.{Components.{abstract_of, part_of, value_in}, Tables.{Sets, In}}
 use Rattle.abstract_state.proofs.ComponentLaws.{task_at_its_number}
 use Rattle.flow_model.specs.{Tests.{passes}, Values.{held_of}}
 use Rattle.flow_model.specs.declared.test.Test.TheVariants as test
-use Rattle.flow_report.specs.{declared.finding.Finding.{Finding}, Findings.{Takes, IsReachedBlock, Holds}, FindingOrder.{rank}, Reached.{ShowsState, IsTakenAt}}
+use Rattle.flow_report.specs.{declared.finding.Finding.{Finding}, Findings.{Takes, IsReachedBlock, Holds}, FindingOrder.{rank}, Reached.{IsTakenAt}}
 use Rattle.flow_report.specs.declared.finding.Finding.TheVariants as finding
 
 -- ---- a resource on a stack
@@ -31,31 +31,27 @@ module _ (app : App) (table : Sets) (b : BlockNo) (r : ResNo) where
       ∙ ap (λ (h : List ResNo). holds h r.0) (held_of_value (task_state s t).activity)
 
   -- a task of a state holds it
-  pub shown_taken : (t : ℕ) → t < length app.tasks → ShowsState (Some b) t (test.Holds r) app table → IsTakenAt app table b r
-  shown_taken t lt h =
-      let s = h.state in
-      let tasks = h.inside.well.tasks_len in
-      record {
-        state = s;
-        inside = h.inside;
-        stands = h.there;
-        taken = list_any_at (λ (x : TaskState). holds (held x) r.0) s.tasks t suspended (omega (arith, lt, tasks)) (sym (holds_here s t lt) ∙ h.passes);
-      }
+  pub taken_by : (s : State) → In app table s → StandsAt (point_of s) b → (t : ℕ) → t < length app.tasks → IsTrue (passes (test.Holds r) (abstract_of app s t)) → IsTakenAt app table b r
+  taken_by s inside stands t lt h = record {
+    state = s;
+    inside = inside;
+    stands = stands;
+    taken = list_any_at (λ (x : TaskState). holds (held x) r.0) s.tasks t suspended (omega (arith, lt, inside.well.tasks_len)) (sym (holds_here s t lt) ∙ h);
+  }
 
-  -- where no task of a state does, it is free
-  pub none_taken : ((t : ℕ) → t < length app.tasks → ShowsState (Some b) t (test.Holds r) app table → ⊥) → IsTakenAt app table b r → ⊥
-  none_taken none h =
+  -- who holds it
+  pub record Holder (s : State) : Type 0 where
+    pub task : ℕ
+    pub known : task < length app.tasks
+    pub passes : IsTrue (passes (test.Holds r) (abstract_of app s task))
+
+  pub holder_of : (h : IsTakenAt app table b r) → Holder h.state
+  holder_of h =
       let s = h.state in
-      let tasks = h.inside.well.tasks_len in
       let x = Any-from_list_any (λ (y : TaskState). holds (held y) r.0) s.tasks h.taken in
-      let lt : x.0 < length app.tasks = omega (arith, x.2, tasks) in
+      let lt : x.0 < length app.tasks = omega (arith, x.2, h.inside.well.tasks_len) in
       let at : task_state s x.0 ≡ x.1 = get_or_default s.tasks x.0 suspended x.1 x.2 ∙ x.3 in
-      none x.0 lt (record {
-        state = s;
-        inside = h.inside;
-        there = h.stands;
-        passes = holds_here s x.0 lt ∙ ap (λ (y : TaskState). holds (held y) r.0) at ∙ x.4;
-      })
+      record { task = x.0; known = lt; passes = holds_here s x.0 lt ∙ ap (λ (y : TaskState). holds (held y) r.0) at ∙ x.4 }
 
 -- ---- findings of a block
 

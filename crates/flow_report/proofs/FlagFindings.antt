@@ -1,5 +1,5 @@
 -- What the values of a component say of suspended tasks, idle alarms and clear events.
-use Rattle.std.proofs.Common.{◌≡◌, ◌⊎◌, ℕ, ◌+◌, ◌<◌, ◌^◌, Bool, true, false, not, List, [], ◌∷◌, ◌++◌, length, IsTrue, refl, sym, ap, subst, ◌∙◌, inl, inr, arith, None}
+use Rattle.std.proofs.Common.{◌≡◌, ◌⊎◌, ℕ, ◌+◌, ◌<◌, ◌^◌, Bool, true, false, not, List, [], ◌∷◌, ◌++◌, length, IsTrue, refl, sym, ap, subst, ◌∙◌, inl, inr, arith}
 use Rattle.std.specs.{Prelude.{if◌then◌else◌}, Bool.{Decides}}
 use Rattle.std.proofs.{lemmas.{Bool.{cases_lt, cases_eq}, Nat.{pow_pos}}, Math.Nat.{pow-le-pow_right, pow-suc}}
 use Rattle.osek_values.specs.{Bits.{has_bit}, Numbers.{task_no, event_no, alarm_no, mask}, declared.{numbers.{TaskNo.{TaskNo}, AlarmNo.{AlarmNo}}}}
@@ -21,13 +21,13 @@ use Rattle.flow_report.proofs.{HookBits.{meets_bit}, Listing.{listed_onward, lis
 module _ (app : App) (table : Sets) (f : Finding) (k : Component) (t : Test) (of : IsComponent app k)
     (denied : (s : State) → Denies app f (silent s) → IsTrue (passes t (part_of s k))) (shown : (s : State) → IsTrue (passes t (part_of s k)) → Denies app f (silent s)) where
   abbrev IsShown : Type 0
-  IsShown = ShowsState None (component_number app k) t app table
+  IsShown = ShowsState (component_number app k) t app table
 
   part_here : (s : State) → abstract_of app s (component_number app k) ≡ part_of s k
   part_here s = ap (part_of s) (component_here app k of)
 
   none_shown : (IsShown → ⊥) → NoStateIs app table f
-  none_shown never s inside d = never (record { state = s; inside = inside; there = tt; passes = ap (passes t) (part_here s) ∙ denied s d })
+  none_shown never s inside d = never (record { state = s; inside = inside; passes = ap (passes t) (part_here s) ∙ denied s d })
 
   some_shown : IsShown → NoStateIs app table f → ⊥
   some_shown h none = none h.state h.inside (shown h.state (ap (passes t) (sym (part_here h.state)) ∙ h.passes))
@@ -63,20 +63,20 @@ passes_set true h = refl
 passes_set false h = (let same : OfEvent false ≡ OfEvent true = part_right (OfEvent false) (OfEvent true) h in absurd (cc))
 
 module _ (app : App) (table : Sets) where
-  pub suspended_answer : (t : TaskNo) (b : Bool) → t.0 < length app.tasks → Decides b (ShowsState None (component_number app (component.Task t)) test.NotSuspended app table) → Decides (not b) (Holds app table (finding.Suspended t))
+  pub suspended_answer : (t : TaskNo) (b : Bool) → t.0 < length app.tasks → Decides b (ShowsState (component_number app (component.Task t)) test.NotSuspended app table) → Decides (not b) (Holds app table (finding.Suspended t))
   suspended_answer t b known d =
       let none = by_answer app table (finding.Suspended t) (component.Task t) test.NotSuspended known
       (λ s h. suspended_passes (task_state s t.0).activity h) (λ s h. passes_suspended (task_state s t.0).activity h) b d in
       (λ e. (known, none.0 e), λ h. none.1 h.1)
 
-  pub unarmed_answer : (a : AlarmNo) (b : Bool) → a.0 < length app.alarms → Decides b (ShowsState None (component_number app (component.Alarm a)) (test.Is (OfAlarm true)) app table) → Decides (not b) (Holds app table (finding.Unarmed a))
+  pub unarmed_answer : (a : AlarmNo) (b : Bool) → a.0 < length app.alarms → Decides b (ShowsState (component_number app (component.Alarm a)) (test.Is (OfAlarm true)) app table) → Decides (not b) (Holds app table (finding.Unarmed a))
   unarmed_answer a b known d =
       let none = by_answer app table (finding.Unarmed a) (component.Alarm a) (test.Is (OfAlarm true)) known
       (λ s h. idle_passes (alarm_state s a.0) h) (λ s h. passes_idle (alarm_state s a.0) h) b d in
       (λ e. (known, none.0 e), λ h. none.1 h.1)
 
   pub unset_answer : (t : TaskNo) (k : ℕ) (b : Bool) → t.0 < length app.tasks → k < 64 → IsTrue (has_bit (the_task app t.0).own.0 k)
-      → Decides b (ShowsState None (component_number app (component.Event t (event_no k))) (test.Is (OfEvent true)) app table) → Decides (not b) (Holds app table (finding.Unset t (mask (2 ^ k))))
+      → Decides b (ShowsState (component_number app (component.Event t (event_no k))) (test.Is (OfEvent true)) app table) → Decides (not b) (Holds app table (finding.Unset t (mask (2 ^ k))))
   unset_answer t k b known few own d =
       let none = by_answer app table (finding.Unset t (mask (2 ^ k))) (component.Event t (event_no k)) (test.Is (OfEvent true)) (known, few, own)
       (λ s h. set_passes (has_bit (task_state s t.0).events.0 k) (sym (meets_bit (task_state s t.0).events.0 k) ∙ h))

@@ -5,7 +5,7 @@ mod PassingNumbers
 mod ShownRows
 mod FlagFindings
 mod BlockFindings
-mod HolderLaws
+mod BlockPlaces
 mod HookBits
 mod HookLaws
 mod NotedHooks

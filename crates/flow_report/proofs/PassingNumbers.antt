@@ -1,102 +1,60 @@
--- The numbers of the values that pass a test, and an entry that has one of them.
-use Rattle.std.proofs.Common.{◌≡◌, ℕ, ◌+◌, ◌^◌, ◌<◌, ◌≤◌, Bool, true, false, ◌||◌, List, [], ◌∷◌, length, get_or, IsTrue, refl, sym, ap, ap₂, ◌∙◌, inl, inr, arith}
-use Rattle.std.specs.{Prelude.{Contains, ◌==◌}, declared.option.Option.{Option}}
-use Rattle.osek_values.specs.declared.numbers.BlockNo.{BlockNo}
-use Rattle.std.proofs.lemmas.{Bool.{cases_eq, eq-eqb, ne_eqb}, List.{get_or_default, length-map}}
-use Rattle.bit_words.proofs.BitCounts.{has_either, has_one}
+-- An entry's values that pass a test, by number.
+use Rattle.std.proofs.Common.{◌≡◌, ℕ, ◌+◌, ◌<◌, ◌≤◌, true, false, List, [], ◌∷◌, length, get_or, IsTrue, refl, sym, ap, ◌∙◌, inl, inr, arith}
+use Rattle.std.specs.{Prelude.{Contains}}
+use Rattle.std.proofs.lemmas.{Bool.{cases_order}, List.{length-map}}
 use Rattle.osek_standard.specs.declared.app.App.{App}
-use Rattle.abstract_state.specs.declared.{value.{Domain.{Domain}, PartValue.{PartValue, TheVariants.{OfAlarm}}}, table.ValueSet.{ValueSet}}
-use Rattle.abstract_state.specs.declared.value.Domain.TheVariants as domain
-use Rattle.abstract_state.specs.{Components.{components, component_count}, Domains.{domain_of, domains_of}, Tables.{set_at, is_member}, Written.{IsRow}}
+use Rattle.abstract_state.specs.declared.{value.{Domain.{Domain}, PartValue.{PartValue}}, table.{ValueSet.{ValueSet}}}
+use Rattle.abstract_state.specs.{Components.{components, component_count}, Domains.{domain_of, domains_of}, Tables.{is_member}, Written.{IsRow}}
 use Rattle.flow_model.specs.{declared.test.Test.{Test}, Tests.{passes}}
 use Rattle.numbered_sets.specs.{declared.{numbered_entry.NumberedEntry.{NumberedEntry}, table.NumberedRow.{NumberedRow}}}
-use Rattle.numbered_sets.specs.{Numbers.{Numbers, numbers, has_number, with_number, meets}, NumberedEntries.{numbers_at}, Pools.{Values, values_at, pool_domains, IsNumberOf}, Views.{plain_entry, AreNumbersOf}}
+use Rattle.numbered_sets.specs.{Numbers.{Numbers, has_number}, NumberedEntries.{numbers_at}, Pools.{Values, values_at, pool_domains, IsNumberOf}, Views.{plain_entry, AreNumbersOf}}
 use Rattle.numbered_sets.specs.PlainTables.{plain_row, plain_rows, plain_table}
-use Rattle.numbered_sets.proofs.{PlainLaws.{member_of_plain, plain_set_at, value_with_number}, KnownNumbers.{no_bit_of_none, found}, MeetLaws.{common_of, meets_at}}
-use Rattle.numbered_sets.proofs.{ViewLaws.{false_unless}, WrittenRows.{row_there, number_domains_of}}
+use Rattle.numbered_sets.proofs.{PlainLaws.{member_of_plain, plain_set_at, value_with_number}, KnownNumbers.{found}}
+use Rattle.numbered_sets.proofs.{WrittenRows.{row_there, number_domains_of}}
 use Rattle.flow_check.specs.Rows.{AreRowsFrom}
-use Rattle.flow_report.specs.Reached.{ArePassing, IsThere, ShowsRow}
+use Rattle.flow_report.specs.Reached.{HasPassing}
 
--- a value of the component that passes
-pub record HasPassing (pool : List Values) (entry : NumberedEntry) (c : ℕ) (t : Test) : Type 0 where
-  pub value : PartValue
-  pub member : IsTrue (is_member (set_at (plain_entry pool entry) c) value)
-  pub passes : IsTrue (passes t value)
+module _ (vs : List PartValue) (t : Test) (x : Numbers) (end : ℕ) where
+  -- in a loop over an entry's numbers of a component: none of those below one is of a value that passes
+  pub record NonePasses (number : ℕ) : Type 0 where
+    pub none : (k : ℕ) (d : PartValue) → k < number → has_number x k ≡ true → passes t (get_or vs k d) ≡ true → ⊥
+    pub few : number ≤ end
+    pub there : number < end → IsTrue (has_number x number)
 
-module _ (pool : List Values) (entry : NumberedEntry) (c : ℕ) (t : Test) (x : Numbers) (passing : ArePassing (values_at pool c) t x) where
-  pub met_passes : AreNumbersOf pool entry → IsTrue (meets (numbers_at entry c) x) → HasPassing pool entry c t
-  met_passes known h =
-      let vs = values_at pool c in
-      let n = common_of (numbers_at entry c) x h in
-      let lt = known.known c n.number n.first in
-      let v = get_or vs n.number (OfAlarm false) in
-      let at : get_or vs n.number v ≡ v = get_or_default vs n.number v (OfAlarm false) lt in
-      record {
-        value = v;
-        member = ap (λ (s : ValueSet). is_member s v) (plain_set_at pool entry c) ∙ member_of_plain vs (numbers_at entry c) v ∙ value_with_number vs (has_number (numbers_at entry c)) n.number v lt at n.first;
-        passes = sym (passing.each n.number (OfAlarm false) lt) ∙ n.second;
-      }
-
-  pub passes_met : HasPassing pool entry c t → IsTrue (meets (numbers_at entry c) x)
-  passes_met h =
-      let vs = values_at pool c in
-      let n = found vs (has_number (numbers_at entry c)) h.value (sym (member_of_plain vs (numbers_at entry c) h.value) ∙ sym (ap (λ (s : ValueSet). is_member s h.value) (plain_set_at pool entry c)) ∙ h.member) in
-      meets_at (numbers_at entry c) x n.number n.there (passing.each n.number h.value n.known ∙ ap (passes t) (n.is h.value) ∙ h.passes)
-
--- ---- numbers in a loop over the values
-
--- the numbers of the values below one that pass
-pub record ArePassingBelow (vs : List PartValue) (t : Test) (x : Numbers) (k : ℕ) : Type 0 where
-  pub each : (n : ℕ) (none : PartValue) → n < k → n < length vs → has_number x n ≡ passes t (get_or vs n none)
-  pub past : (n : ℕ) → k ≤ n → has_number x n ≡ false
-
-no_bit : (n : ℕ) → has_number (numbers domain.Alarm 0) n ≡ false
-no_bit n = false_unless (has_number (numbers domain.Alarm 0) n) ⊥ (no_bit_of_none n) (λ no. no)
-
-module _ (vs : List PartValue) (t : Test) where
-  pub none_judged : (x : Numbers) (d : Domain) → x ≡ numbers d 0 → ArePassingBelow vs t x 0
-  none_judged x d e = record {
-    each = λ n none lt known. absurd (omega (arith, lt));
-    past = λ n le. ap (λ (y : Numbers). has_number y n) e ∙ no_bit n;
+  pub none_first : (first : ℕ) → first ≤ end → (first < end → IsTrue (has_number x first)) → ((k : ℕ) → 0 ≤ k → k < first → has_number x k ≡ false) → NonePasses first
+  none_first first few there none = record {
+    none = λ k d lt has passed. (let no = none k (omega arith) lt in absurd (cc));
+    few = few;
+    there = there;
   }
 
-  module _ (x after : Numbers) (k : ℕ) (v : PartValue) (h : ArePassingBelow vs t x k) (is : IsNumberOf vs v k) where
-    judged_last : (n : ℕ) (none : PartValue) → n ≡ k → passes t (get_or vs n none) ≡ passes t v
-    judged_last n none last = ap (λ (j : ℕ). passes t (get_or vs j none)) last ∙ ap (passes t) (is.is none)
+  pub none_next : (number next : ℕ) (v : PartValue) → NonePasses number → IsNumberOf vs v number → passes t v ≡ false
+      → next ≤ end → (next < end → IsTrue (has_number x next)) → ((k : ℕ) → number + 1 ≤ k → k < next → has_number x k ≡ false) → NonePasses next
+  none_next number next v h is failed few there none = record {
+    none = λ k d lt has passed. elim (cases_order k number) [
+      | inl same ↦ (let fails : passes t (get_or vs k d) ≡ false = ap (λ (n : ℕ). passes t (get_or vs n d)) same ∙ ap (passes t) (is.is d) ∙ failed in absurd (cc))
+      | inr (inl below) ↦ h.none k d below has passed
+      | inr (inr above) ↦ (let no = none k (omega (arith, above)) lt in absurd (cc))
+    ];
+    few = few;
+    there = there;
+  }
 
-    pub one_taken : passes t v ≡ true → after ≡ with_number x k → ArePassingBelow vs t after (k + 1)
-    one_taken passed put = record {
-      each = λ n none lt known. elim (cases_eq n k) [
-        | inl last ↦
-            has_after n ∙ ap (λ (b : Bool). has_number x n || b) (eq-eqb n k last) ∙ or_true (has_number x n) ∙ sym (judged_last n none last ∙ passed)
-        | inr other ↦
-            has_after n ∙ ap (λ (b : Bool). has_number x n || b) (ne_eqb n k other) ∙ or_false (has_number x n) ∙ h.each n none (omega (arith, lt, other)) known
-      ];
-      past = λ n le. has_after n ∙ ap₂ (λ (a b : Bool). a || b) (h.past n (omega (arith, le))) (ne_eqb n k (λ e. omega (arith, e, le)));
-    }
-      where
-        has_after : (n : ℕ) → has_number after n ≡ (has_number x n || (n == k))
-        has_after n = ap (λ (y : Numbers). has_number y n) put ∙ has_either x.bits (2 ^ k) n ∙ ap (λ (b : Bool). has_number x n || b) (has_one k n)
+module _ (pool : List Values) (entry : NumberedEntry) (c : ℕ) (t : Test) where
+  pub passing_by_number : (n : ℕ) (v : PartValue) → has_number (numbers_at entry c) n ≡ true → IsNumberOf (values_at pool c) v n → passes t v ≡ true → HasPassing c t (plain_entry pool entry)
+  passing_by_number n v has is passed =
+      let vs = values_at pool c in
+      record {
+        value = v;
+        member = ap (λ (s : ValueSet). is_member s v) (plain_set_at pool entry c) ∙ member_of_plain vs (numbers_at entry c) v ∙ value_with_number vs (has_number (numbers_at entry c)) n v is.known (is.is v) has;
+        passes = passed;
+      }
 
-        or_true : (b : Bool) → (b || true) ≡ true
-        or_true true = refl
-        or_true false = refl
-
-        or_false : (b : Bool) → (b || false) ≡ b
-        or_false true = refl
-        or_false false = refl
-
-    pub one_passed_over : passes t v ≡ false → ArePassingBelow vs t x (k + 1)
-    one_passed_over failed = record {
-      each = λ n none lt known. elim (cases_eq n k) [
-        | inl last ↦ h.past n (omega (arith, last)) ∙ sym (judged_last n none last ∙ failed)
-        | inr other ↦ h.each n none (omega (arith, lt, other)) known
-      ];
-      past = λ n le. h.past n (omega (arith, le));
-    }
-
-  pub all_judged : (x : Numbers) (k : ℕ) → ArePassingBelow vs t x k → length vs ≤ k → ArePassing vs t x
-  all_judged x k h whole = record { each = λ n none lt. h.each n none (omega (arith, lt, whole)) lt }
+  pub none_passing : (end number : ℕ) → NonePasses (values_at pool c) t (numbers_at entry c) end number → length (values_at pool c) ≤ number → HasPassing c t (plain_entry pool entry) → ⊥
+  none_passing end number none whole h =
+      let vs = values_at pool c in
+      let n = found vs (has_number (numbers_at entry c)) h.value (sym (member_of_plain vs (numbers_at entry c) h.value) ∙ sym (ap (λ (s : ValueSet). is_member s h.value) (plain_set_at pool entry c)) ∙ h.member) in
+      none.none n.number h.value (omega (arith, n.known, whole)) n.there (ap (passes t) (n.is h.value) ∙ h.passes)
 
 -- ---- a pool of which a row has numbers has values for each component
 
@@ -108,16 +66,6 @@ pool_count app pool row known is =
 pub entry_count : (pool : List Values) (entry : NumberedEntry) → AreNumbersOf pool entry → length entry.sets ≡ length pool
 entry_count pool entry known =
     sym (length-map entry.sets (λ (x : Numbers). x.domain)) ∙ ap (λ (ds : List Domain). length ds) known.domains ∙ length-map pool (λ (x : Values). x.domain)
-
--- a row of a pool, by a number that passes
-module _ (pool : List Values) (row : NumberedRow) (at : Option BlockNo) (c : ℕ) (t : Test) (x : Numbers) (passing : ArePassing (values_at pool c) t x) where
-  pub row_with_number : AreNumbersOf pool row.entry → IsThere at row.point × IsTrue (meets (numbers_at row.entry c) x) → ShowsRow at c t (plain_row pool row)
-  row_with_number known h =
-      let v = met_passes pool row.entry c t x passing known h.1 in
-      record { there = h.0; value = v.value; member = v.member; passes = v.passes }
-
-  pub number_of_row : ShowsRow at c t (plain_row pool row) → IsThere at row.point × IsTrue (meets (numbers_at row.entry c) x)
-  number_of_row h = (h.there, passes_met pool row.entry c t x passing (record { value = h.value; member = h.member; passes = h.passes }))
 
 -- the pool of written rows, if there are any
 pub rows_pool : (app : App) (pool : List Values) (rows : List NumberedRow) → AreRowsFrom app pool rows → 0 < length rows → length pool ≡ component_count app

@@ -1,14 +1,14 @@
 -- What rows show, in a loop over them, and what it says of states.
-use Rattle.std.proofs.Common.{◌≡◌, ℕ, ◌+◌, ◌<◌, List, length, get_or, sym, ap, subst, ◌∙◌, inl, inr, arith}
-use Rattle.std.specs.{Prelude.{Contains}, declared.option.Option.{Option}}
+use Rattle.std.proofs.Common.{◌≡◌, ℕ, ◌+◌, ◌<◌, List, length, get_or, IsTrue, sym, ap, subst, ◌∙◌, inl, inr, arith}
+use Rattle.std.specs.Prelude.{Contains}
 use Rattle.std.proofs.lemmas.{Bool.{cases_lt}, List.{length-map, get_or-map}}
 use Rattle.osek_values.specs.declared.numbers.BlockNo.{BlockNo}
-use Rattle.osek_standard.specs.{declared.{app.App.{App}, point.Point.{Point}}, Points.{point_of, StandsAt}}
+use Rattle.osek_standard.specs.{declared.{app.App.{App}, point.Point.{Point}, state.State.{State}}, Points.{point_of, StandsAt}}
 use Rattle.abstract_state.specs.declared.{table.{TableRow.{TableRow}, PlainTable.{PlainTable}}}
-use Rattle.abstract_state.specs.{Components.{component_count, abstract_of}, Tables.{sets_of}, Written.{IsWritten}}
+use Rattle.abstract_state.specs.{Components.{component_count, abstract_of}, Tables.{In, sets_of}, Written.{IsWritten}}
 use Rattle.flow_model.specs.{declared.test.Test.{Test}, Tests.{passes}}
 use Rattle.numbered_sets.specs.{declared.table.NumberedRow.{NumberedRow}, Pools.{Values}, PlainTables.{plain_row, plain_rows}}
-use Rattle.flow_report.specs.{Reached.{IsThere, ShowsRow, ShowsRows, ShowsState}, Findings.{IsReachedBlock}}
+use Rattle.flow_report.specs.{Reached.{HasPassing, ShowsState}, Findings.{IsReachedBlock}}
 use Rattle.flow_report.proofs.RowStates.{row_of_state, some_state, state_with_value, is_the_value}
 
 -- no row of a list, and with one more
@@ -34,31 +34,41 @@ row_among pool rows i row lt e =
 pub row_at_place : (pool : List Values) (rows : List NumberedRow) (i : ℕ) (row : NumberedRow) → i < length rows → row ≡ get_or rows i row → (d : TableRow) → get_or (plain_rows pool rows) i d ≡ plain_row pool row
 row_at_place pool rows i row lt e d = get_or-map (plain_row pool) rows i row d lt ∙ ap (plain_row pool) (sym e)
 
-there_for_point : (at : Option BlockNo) (p q : Point) → p ≡ q → IsThere at p → IsThere at q
-there_for_point at p q e h = subst (IsThere at) e h
+-- a state at a point, with a value that passes
+pub record StateAt (app : App) (table : PlainTable) (p : Point) (c : ℕ) (t : Test) : Type 0 where
+  pub state : State
+  pub inside : In app (sets_of table) state
+  pub point : point_of state ≡ p
+  pub passes : IsTrue (passes t (abstract_of app state c))
+
+-- a state's row, with a value that passes
+pub record RowOf (app : App) (table : PlainTable) (s : State) (c : ℕ) (t : Test) : Type 0 where
+  pub row : TableRow
+  pub among : Contains table.rows row
+  pub point : point_of s ≡ row.point
+  pub value : HasPassing c t row.entry
 
 module _ (app : App) (table : PlainTable) (written : IsWritten app table) where
-  module _ (at : Option BlockNo) (c : ℕ) (t : Test) (known : c < component_count app) where
+  module _ (c : ℕ) (t : Test) (known : c < component_count app) where
     -- what a row shows, a state does
-    pub state_shows : (row : TableRow) → Contains table.rows row → ShowsRow at c t row → ShowsState at c t app (sets_of table)
-    state_shows row listed h =
+    pub state_of_row : (row : TableRow) → Contains table.rows row → HasPassing c t row.entry → StateAt app table row.point c t
+    state_of_row row listed h =
         let x = state_with_value app table written row listed c h.value h.member in
-        record {
-          state = x.state;
-          inside = x.inside;
-          there = there_for_point at row.point (point_of x.state) (sym x.point) h.there;
-          passes = ap (passes t) (x.parts c known ∙ is_the_value app table written row listed c h.value) ∙ h.passes;
-        }
+        record { state = x.state; inside = x.inside; point = x.point; passes = ap (passes t) (x.parts c known ∙ is_the_value app table written row listed c h.value) ∙ h.passes }
 
     -- and what a state shows, its row does
-    pub row_shows : ShowsState at c t app (sets_of table) → ShowsRows at c t table.rows
-    row_shows h =
-        let r = row_of_state app table written h.state h.inside in
-        record {
-          row = r.row;
-          among = r.among;
-          shows = record { there = there_for_point at (point_of h.state) r.row.point r.at.point h.there; value = abstract_of app h.state c; member = r.at.within c known; passes = h.passes };
-        }
+    pub row_by_state : (s : State) → In app (sets_of table) s → IsTrue (passes t (abstract_of app s c)) → RowOf app table s c t
+    row_by_state s inside h =
+        let r = row_of_state app table written s inside in
+        record { row = r.row; among = r.among; point = r.at.point; value = record { value = abstract_of app s c; member = r.at.within c known; passes = h } }
+
+    pub state_shows : (row : TableRow) → Contains table.rows row → HasPassing c t row.entry → ShowsState c t app (sets_of table)
+    state_shows row listed h = (let x = state_of_row row listed h in record { state = x.state; inside = x.inside; passes = x.passes })
+
+    pub none_shows : (k : ℕ) → IsOfNone (λ (row : TableRow). HasPassing c t row.entry) table.rows k → length table.rows < k + 1 → ShowsState c t app (sets_of table) → ⊥
+    none_shows k none whole h =
+        let r = row_by_state h.state h.inside h.passes in
+        of_no_row (λ (row : TableRow). HasPassing c t row.entry) table.rows k none r.row r.among whole r.value
 
   -- ---- where a state stands
 
@@ -66,13 +76,3 @@ module _ (app : App) (table : PlainTable) (written : IsWritten app table) where
   block_reached b row listed h =
       let x = some_state app table written row listed in
       record { state = x.state; inside = x.inside; stands = subst (λ (p : Point). StandsAt p b) (sym x.point) h }
-
-  pub none_reached : (b : BlockNo) (k : ℕ) → IsOfNone (λ (row : TableRow). StandsAt row.point b) table.rows k → length table.rows < k + 1 → IsReachedBlock app (sets_of table) b → ⊥
-  none_reached b k none whole h =
-      let r = row_of_state app table written h.state h.inside in
-      of_no_row (λ (row : TableRow). StandsAt row.point b) table.rows k none r.row r.among whole (subst (λ (p : Point). StandsAt p b) r.at.point h.stands)
-
-  pub none_shows : (at : Option BlockNo) (c : ℕ) (t : Test) → c < component_count app → (k : ℕ) → IsOfNone (ShowsRow at c t) table.rows k → length table.rows < k + 1 → ShowsState at c t app (sets_of table) → ⊥
-  none_shows at c t known k none whole h =
-      let r = row_shows at c t known h in
-      of_no_row (ShowsRow at c t) table.rows k none r.row r.among whole r.shows

@@ -2,5 +2,4 @@ pub mod Findings
 pub mod FindingOrder
 pub mod Progress
 pub mod Reached
-pub mod Holding
 pub mod Noting

@@ -8,104 +8,95 @@ use crate::reached::Reached;
 use abstract_state::{Component, PartValue, component_number};
 use flow_model::Test;
 use osek_values::{AlarmNo, EventNo, Mask, Memory, TaskNo};
-use std::alloc::Global;
 
 impl<'a> Reached<'a> {
-    ghost use Rattle.std.specs.{Prelude.{◌≡◌, ◌+◌, ◌<◌, ◌^◌, length, IfOk, OnOk, IsTrue}, Bool.{Decides}};
+    ghost use Rattle.std.specs.{Prelude.{◌≡◌, ◌+◌, ◌<◌, ◌^◌, length, OnOk, IsTrue}, Bool.{Decides}};
     ghost use Rattle.osek_values.specs.{Numbers.{mask}, Bits.{has_bit}};
     ghost use Rattle.osek_standard.specs.Apps.{the_task};
     ghost use Rattle.flow_report.specs.declared.finding.Finding.TheVariants as finding;
     ghost use Rattle.flow_report.specs.{Findings.{Holds}, FindingOrder.{rank_at}, Progress.{AreListed}, Reached.{table_of}};
     ghost use Rattle.flow_check.specs.Rows.{AreRowsFrom};
 
-    fn is_suspended(&self, alloc: Global, task: TaskNo) -> Result<bool, Memory>
+    fn is_suspended(&self, task: TaskNo) -> bool
         requires rows { AreRowsFrom self.now.app.now self.now.pool.now self.now.rows.now }
         requires known { task.0 < length self.now.app.now.tasks }
-        ensures { IfOk result (λ b. Decides b (Holds self.now.app.now (table_of self.now.pool.now self.now.rows.now) (finding.Suspended task))) }
+        ensures { Decides result (Holds self.now.app.now (table_of self.now.pool.now self.now.rows.now) (finding.Suspended task)) }
     {
         let component = component_number(self.app, Component::Task(task)).index();
-        let is_shown = self.is_shown(alloc, None, component, &Test::NotSuspended)?;
-        Ok(!is_shown)
+        !self.is_shown(component, &Test::NotSuspended)
     }
 
-    fn is_unarmed(&self, alloc: Global, alarm: AlarmNo) -> Result<bool, Memory>
+    fn is_unarmed(&self, alarm: AlarmNo) -> bool
         requires rows { AreRowsFrom self.now.app.now self.now.pool.now self.now.rows.now }
         requires known { alarm.0 < length self.now.app.now.alarms }
-        ensures { IfOk result (λ b. Decides b (Holds self.now.app.now (table_of self.now.pool.now self.now.rows.now) (finding.Unarmed alarm))) }
+        ensures { Decides result (Holds self.now.app.now (table_of self.now.pool.now self.now.rows.now) (finding.Unarmed alarm)) }
     {
         let component = component_number(self.app, Component::Alarm(alarm)).index();
         let armed = Test::Is(PartValue::OfAlarm(true));
-        let is_shown = self.is_shown(alloc, None, component, &armed)?;
-        Ok(!is_shown)
+        !self.is_shown(component, &armed)
     }
 
-    fn is_unset(&self, alloc: Global, task: TaskNo, bit: EventNo) -> Result<bool, Memory>
+    fn is_unset(&self, task: TaskNo, bit: EventNo) -> bool
         requires rows { AreRowsFrom self.now.app.now self.now.pool.now self.now.rows.now }
         requires task { task.0 < length self.now.app.now.tasks }
         requires bit { bit.0 < 64 }
         requires own { IsTrue (has_bit (the_task self.now.app.now task.0).own.0 bit.0) }
-        ensures { IfOk result (λ b. Decides b (Holds self.now.app.now (table_of self.now.pool.now self.now.rows.now) (finding.Unset task (mask (2 ^ bit.0))))) }
+        ensures { Decides result (Holds self.now.app.now (table_of self.now.pool.now self.now.rows.now) (finding.Unset task (mask (2 ^ bit.0)))) }
     {
         let component = component_number(self.app, Component::Event { task, bit }).index();
         let set = Test::Is(PartValue::OfEvent(true));
-        let is_shown = self.is_shown(alloc, None, component, &set)?;
-        Ok(!is_shown)
+        !self.is_shown(component, &set)
     }
 
     /// Adds the tasks that are never activated.
-    pub fn push_suspended(&self, alloc: Global, findings: &mut Vec<Finding>) -> Result<(), Memory>
+    pub fn push_suspended(&self, findings: &mut Vec<Finding>) -> Result<(), Memory>
         requires rows { AreRowsFrom self.now.app.now self.now.pool.now self.now.rows.now }
         requires listed { AreListed self.now.app.now (table_of self.now.pool.now self.now.rows.now) (rank_at 0 0 0) findings.old.items }
         ensures { OnOk result (AreListed self.now.app.now (table_of self.now.pool.now self.now.rows.now) (rank_at 1 0 0) findings.new.items) }
     {
         for task in 0..self.app.tasks.len() {
             let task = TaskNo(task as u8);
-            let holds = self.is_suspended(alloc, task)?;
+            let holds = self.is_suspended(task);
             push_if(holds, Finding::Suspended(task), findings)?;
         }
         Ok(())
     }
 
     /// Adds the alarms that are never armed.
-    pub fn push_unarmed(&self, alloc: Global, findings: &mut Vec<Finding>) -> Result<(), Memory>
+    pub fn push_unarmed(&self, findings: &mut Vec<Finding>) -> Result<(), Memory>
         requires rows { AreRowsFrom self.now.app.now self.now.pool.now self.now.rows.now }
         requires listed { AreListed self.now.app.now (table_of self.now.pool.now self.now.rows.now) (rank_at 1 0 0) findings.old.items }
         ensures { OnOk result (AreListed self.now.app.now (table_of self.now.pool.now self.now.rows.now) (rank_at 2 0 0) findings.new.items) }
     {
         for alarm in 0..self.app.alarms.len() {
             let alarm = AlarmNo(alarm as u8);
-            let holds = self.is_unarmed(alloc, alarm)?;
+            let holds = self.is_unarmed(alarm);
             push_if(holds, Finding::Unarmed(alarm), findings)?;
         }
         Ok(())
     }
 
     /// Adds the events that are never set.
-    pub fn push_unset(&self, alloc: Global, findings: &mut Vec<Finding>) -> Result<(), Memory>
+    pub fn push_unset(&self, findings: &mut Vec<Finding>) -> Result<(), Memory>
         requires rows { AreRowsFrom self.now.app.now self.now.pool.now self.now.rows.now }
         requires listed { AreListed self.now.app.now (table_of self.now.pool.now self.now.rows.now) (rank_at 2 0 0) findings.old.items }
         ensures { OnOk result (AreListed self.now.app.now (table_of self.now.pool.now self.now.rows.now) (rank_at 3 0 0) findings.new.items) }
     {
         for task in 0..self.app.tasks.len() {
-            self.push_unset_of(alloc, TaskNo(task as u8), findings)?;
+            self.push_unset_of(TaskNo(task as u8), findings)?;
         }
         Ok(())
     }
 
     // adds those of a task
-    fn push_unset_of(
-        &self,
-        alloc: Global,
-        task: TaskNo,
-        findings: &mut Vec<Finding>,
-    ) -> Result<(), Memory>
+    fn push_unset_of(&self, task: TaskNo, findings: &mut Vec<Finding>) -> Result<(), Memory>
         requires rows { AreRowsFrom self.now.app.now self.now.pool.now self.now.rows.now }
         requires known { task.0 < length self.now.app.now.tasks }
         requires listed { AreListed self.now.app.now (table_of self.now.pool.now self.now.rows.now) (rank_at 2 task.0 0) findings.old.items }
         ensures { OnOk result (AreListed self.now.app.now (table_of self.now.pool.now self.now.rows.now) (rank_at 2 (task.0 + 1) 0) findings.new.items) }
     {
         for bit in 0..64 {
-            self.push_unset_at(alloc, task, EventNo(bit), findings)?;
+            self.push_unset_at(task, EventNo(bit), findings)?;
         }
         Ok(())
     }
@@ -113,7 +104,6 @@ impl<'a> Reached<'a> {
     // adds one of these, if it is the task's own
     fn push_unset_at(
         &self,
-        alloc: Global,
         task: TaskNo,
         bit: EventNo,
         findings: &mut Vec<Finding>,
@@ -127,7 +117,7 @@ impl<'a> Reached<'a> {
         if !self.app.task(task).own.has(bit.0) {
             return Ok(());
         }
-        let holds = self.is_unset(alloc, task, bit)?;
+        let holds = self.is_unset(task, bit);
         push_if(holds, Finding::Unset(task, only(bit)), findings)?;
         Ok(())
     }

@@ -4,7 +4,6 @@
 mod finding;
 mod finding_list;
 mod flags;
-mod holders;
 pub mod laws;
 mod noting;
 mod reached;

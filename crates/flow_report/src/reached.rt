@@ -1,14 +1,14 @@
 //! What the rows of a table show of the states in it.
-ghost use Rattle.std.specs.{Prelude.{◌≡◌, ◌<◌, length, IsTrue, IfOk}, Bool.{Decides}};
-ghost use Rattle.numbered_sets.specs.{Numbers.{meets}, NumberedEntries.{numbers_at}, Pools.{values_at}};
-ghost use Rattle.flow_report.specs.Reached.{IsThere, ArePassing as ArePassingOf};
+ghost use Rattle.std.specs.{Prelude.{◌≡◌, ◌<◌, length}, Bool.{Decides}};
+ghost use Rattle.numbered_sets.specs.Views.{AreNumbersOf, plain_entry};
+ghost use Rattle.osek_standard.specs.Points.{StandsAt};
+ghost use Rattle.flow_report.specs.Reached.{HasPassing, comes_before};
 
 use abstract_state::Point;
 use flow_model::Test;
-use numbered_sets::{NumberedRow, NumberedSet, Pool};
+use numbered_sets::{NumberedEntry, NumberedRow, Pool};
 use osek_standard::App;
-use osek_values::{BlockNo, Memory};
-use std::alloc::Global;
+use osek_values::{BlockNo, ResNo};
 
 /// An application, and the rows of a table of it beside the pool of their values.
 #[derive(Drop)]
@@ -19,44 +19,33 @@ pub struct Reached<'a> {
 }
 
 impl<'a> Reached<'a> {
-    ghost use Rattle.std.specs.{Prelude.{◌≡◌, ◌<◌, length, IfOk, None, Some}, Bool.{Decides}};
+    ghost use Rattle.std.specs.{Prelude.{◌<◌, length, Contains}, Bool.{Decides}};
     ghost use Rattle.abstract_state.specs.Components.{component_count};
-    ghost use Rattle.flow_model.specs.declared.test.Test.{Test as ATest};
-    ghost use Rattle.numbered_sets.specs.Pools.{values_at};
-    ghost use Rattle.flow_report.specs.{Reached.{ShowsState, ArePassing, table_of}, Findings.{IsReachedBlock}};
+    ghost use Rattle.numbered_sets.specs.PlainTables.{plain_row};
+    ghost use Rattle.flow_report.specs.{Reached.{ShowsState, IsTakenAt, IsHeldIn, ArePartedAt, table_of}, Findings.{IsReachedBlock}};
     ghost use Rattle.flow_check.specs.Rows.{AreRowsFrom};
 
-    /// Whether a component's value passes a test in some state, at a block where one is given.
-    pub fn is_shown(
-        &self,
-        alloc: Global,
-        at: Option<BlockNo>,
-        component: usize,
-        test: &Test,
-    ) -> Result<bool, Memory>
+    /// Whether a component's value passes a test in some state.
+    pub fn is_shown(&self, component: usize, test: &Test) -> bool
         requires rows { AreRowsFrom self.now.app.now self.now.pool.now self.now.rows.now }
         requires known { component < component_count self.now.app.now }
-        ensures { IfOk result (λ b. Decides b (ShowsState at component test.now self.now.app.now (table_of self.now.pool.now self.now.rows.now))) }
-    {
-        if self.rows.len() == 0 {
-            return Ok(false);
-        }
-        let passing = passing(alloc, self.pool, component, test)?;
-        Ok(self.is_met(at, component, &passing))
-    }
-
-    /// Whether a component's value is one of the numbers that pass a test, in some state, at a block where one is given.
-    pub fn is_met(&self, at: Option<BlockNo>, component: usize, passing: &NumberedSet) -> bool
-        requires rows { AreRowsFrom self.now.app.now self.now.pool.now self.now.rows.now }
-        requires known { component < component_count self.now.app.now }
-        ensures { (t : ATest) → ArePassing (values_at self.now.pool.now component) t passing.now → Decides result (ShowsState at component t self.now.app.now (table_of self.now.pool.now self.now.rows.now)) }
+        ensures { Decides result (ShowsState component test.now self.now.app.now (table_of self.now.pool.now self.now.rows.now)) }
     {
         for row in self.rows {
-            if shows(row, at, component, passing) {
+            if has_passing(self.pool, &row.entry, component, test) {
                 return true;
             }
         }
         false
+    }
+
+    // The place of the first row that isn't before a block's points, found by halving.
+    fn place_of(&self, block: BlockNo) -> usize
+        requires { AreRowsFrom self.now.app.now self.now.pool.now self.now.rows.now }
+        ensures { ArePartedAt self.now.rows.now block.0 result }
+    {
+        self.rows
+            .partition_point(|row| comes_before(row.point, block))
     }
 
     /// Whether some state stands at a block.
@@ -64,8 +53,39 @@ impl<'a> Reached<'a> {
         requires { AreRowsFrom self.now.app.now self.now.pool.now self.now.rows.now }
         ensures { Decides result (IsReachedBlock self.now.app.now (table_of self.now.pool.now self.now.rows.now) block) }
     {
-        for row in self.rows {
-            if is_there(row.point, Some(block)) {
+        match self.rows.get(self.place_of(block)) {
+            None => false,
+            Some(row) => stands_at(row.point, block),
+        }
+    }
+
+    /// Whether some task holds a resource in some state at a block.
+    pub fn is_taken_at(&self, block: BlockNo, resource: ResNo) -> bool
+        requires { AreRowsFrom self.now.app.now self.now.pool.now self.now.rows.now }
+        ensures { Decides result (IsTakenAt self.now.app.now (table_of self.now.pool.now self.now.rows.now) block resource) }
+    {
+        let first = self.place_of(block);
+        for place in first..self.rows.len() {
+            let row = &self.rows[place];
+            if !stands_at(row.point, block) {
+                return false;
+            }
+            if self.is_held_in(row, resource) {
+                return true;
+            }
+        }
+        false
+    }
+
+    // whether some task holds a resource by a value of a row
+    fn is_held_in(&self, row: &NumberedRow, resource: ResNo) -> bool
+        requires rows { AreRowsFrom self.now.app.now self.now.pool.now self.now.rows.now }
+        requires among { Contains self.now.rows.now row.now }
+        ensures { Decides result (IsHeldIn (length self.now.app.now.tasks) resource (plain_row self.now.pool.now row.now)) }
+    {
+        let held = Test::Holds(resource);
+        for task in 0..self.app.tasks.len() {
+            if has_passing(self.pool, &row.entry, task, &held) {
                 return true;
             }
         }
@@ -73,40 +93,40 @@ impl<'a> Reached<'a> {
     }
 }
 
-/// The numbers of a component's values that pass a test.
-pub fn passing(
-    alloc: Global,
-    pool: &Pool,
-    component: usize,
-    test: &Test,
-) -> Result<NumberedSet, Memory>
-    requires { component < length pool.now }
-    ensures { IfOk result (ArePassingOf (values_at pool.now component) test.now) }
+// whether some value of a component passes a test
+fn has_passing(pool: &Pool, entry: &NumberedEntry, component: usize, test: &Test) -> bool
+    requires numbers { AreNumbersOf pool.now entry.now }
+    requires values { component < length pool.now }
+    requires set { component < length entry.now.sets }
+    ensures { Decides result (HasPassing component test.now (plain_entry pool.now entry.now)) }
 {
-    let mut passing = NumberedSet::new(alloc, pool.domain(component));
-    for number in 0..pool.len(component) {
+    let end = pool.len(component);
+    let mut number = entry.next(component, 0, end);
+    while number < end {
         if test.passes(&pool.value(component, number)) {
-            passing.insert(number)?;
+            return true;
         }
+        number = entry.next(component, number + 1, end);
     }
-    Ok(passing)
+    false
 }
 
-// whether a row has some of these numbers, at a block where one is given
-fn shows(row: &NumberedRow, at: Option<BlockNo>, component: usize, passing: &NumberedSet) -> bool
-    requires { component < length row.now.entry.sets }
-    ensures { Decides result (IsThere at row.now.point × IsTrue (meets (numbers_at row.now.entry component) passing.now)) }
+// whether a point is one of a block
+fn stands_at(point: Point, block: BlockNo) -> bool
+    ensures { Decides result (StandsAt point block) }
 {
-    is_there(row.point, at) && row.entry.meets(component, passing)
+    match point {
+        Point::Halted | Point::Idle => false,
+        Point::Task(own) | Point::Routine { block: own, .. } => own == block,
+    }
 }
 
-// whether a point is one of a block, where a block is given
-fn is_there(point: Point, at: Option<BlockNo>) -> bool
-    ensures { Decides result (IsThere at point) }
+// whether a point comes before those of a block
+fn comes_before(point: Point, block: BlockNo) -> bool
+    ensures { result ≡ comes_before point block.0 }
 {
-    match (point, at) {
-        (_, None) => true,
-        (Point::Halted | Point::Idle, Some(_)) => false,
-        (Point::Task(block) | Point::Routine { block, .. }, Some(wanted)) => block == wanted,
+    match point {
+        Point::Halted | Point::Idle => true,
+        Point::Task(own) | Point::Routine { block: own, .. } => own.0 < block.0,
     }
 }

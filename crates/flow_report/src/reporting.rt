@@ -27,11 +27,11 @@ pub fn report(alloc: Global, app: &App, table: &Table) -> Result<Vec<Finding>, M
         pool: &numbered.pool,
         rows: numbered.rows.as_slice(),
     };
-    reached.push_suspended(alloc, &mut findings)?;
-    reached.push_unarmed(alloc, &mut findings)?;
-    reached.push_unset(alloc, &mut findings)?;
+    reached.push_suspended(&mut findings)?;
+    reached.push_unarmed(&mut findings)?;
+    reached.push_unset(&mut findings)?;
     push_silent(alloc, app, table, &mut findings)?;
-    reached.push_free(alloc, &mut findings)?;
+    reached.push_free(&mut findings)?;
     reached.push_dead(&mut findings)?;
     Ok(findings)
 }

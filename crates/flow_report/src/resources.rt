@@ -6,36 +6,19 @@ ghost use Rattle.image_model.specs.CallNames as call;
 
 use crate::finding::Finding;
 use crate::finding_list::push_if;
-use crate::holders::Holders;
 use crate::reached::Reached;
 use osek_standard::{Block, Call, Kind, ResourceService};
-use osek_values::{BlockNo, Memory, ResNo, Seq};
-use std::alloc::Global;
+use osek_values::{BlockNo, Memory, ResNo};
 
 impl<'a> Reached<'a> {
     ghost use Rattle.std.specs.{Prelude.{◌≡◌, ◌<◌, length, OnOk}, Bool.{Decides}};
     ghost use Rattle.flow_report.specs.declared.finding.Finding.TheVariants as finding;
-    ghost use Rattle.flow_report.specs.{Findings.{Holds}, FindingOrder.{rank_at}, Progress.{AreListed}, Reached.{IsTakenAt, table_of}, Holding.{AreHolders, AreHoldersByResource}};
+    ghost use Rattle.flow_report.specs.{Findings.{Holds}, FindingOrder.{rank_at}, Progress.{AreListed}, Reached.{table_of}};
     ghost use Rattle.flow_check.specs.Rows.{AreRowsFrom};
 
-    // whether some task holds the resource in some state at a block
-    fn is_taken_at(&self, block: BlockNo, holders: &Holders) -> bool
-        requires rows { AreRowsFrom self.now.app.now self.now.pool.now self.now.rows.now }
-        requires holders { AreHolders self.now.app.now self.now.pool.now holders.now }
-        ensures { Decides result (IsTakenAt self.now.app.now (table_of self.now.pool.now self.now.rows.now) block holders.now.resource) }
-    {
-        for task in 0..self.app.tasks.len() {
-            if self.is_met(Some(block), task, holders.by_task.at(task)) {
-                return true;
-            }
-        }
-        false
-    }
-
-    fn is_free(&self, block: BlockNo, holders: &Seq<Holders>) -> bool
+    fn is_free(&self, block: BlockNo) -> bool
         requires rows { AreRowsFrom self.now.app.now self.now.pool.now self.now.rows.now }
         requires known { block.0 < length self.now.app.now.blocks }
-        requires holders { 0 < length self.now.rows.now → AreHoldersByResource self.now.app.now self.now.pool.now holders.now (length self.now.app.now.resources) }
         ensures { Decides result (Holds self.now.app.now (table_of self.now.pool.now self.now.rows.now) (finding.Free block)) }
     {
         let Some(resource) = resource_taken(self.app.block(block)) else {
@@ -44,20 +27,18 @@ impl<'a> Reached<'a> {
         if !self.is_reached(block) {
             return false;
         }
-        let holders = holders.at(resource.index());
-        !self.is_taken_at(block, holders)
+        !self.is_taken_at(block, resource)
     }
 
     /// Adds the blocks at which a resource is always free.
-    pub fn push_free(&self, alloc: Global, findings: &mut Vec<Finding>) -> Result<(), Memory>
+    pub fn push_free(&self, findings: &mut Vec<Finding>) -> Result<(), Memory>
         requires rows { AreRowsFrom self.now.app.now self.now.pool.now self.now.rows.now }
         requires listed { AreListed self.now.app.now (table_of self.now.pool.now self.now.rows.now) (rank_at 4 0 0) findings.old.items }
         ensures { OnOk result (AreListed self.now.app.now (table_of self.now.pool.now self.now.rows.now) (rank_at 5 0 0) findings.new.items) }
     {
-        let holders = self.holders(alloc)?;
         for block in 0..self.app.blocks.len() {
             let block = BlockNo(block as u16);
-            let holds = self.is_free(block, &holders);
+            let holds = self.is_free(block);
             push_if(holds, Finding::Free(block), findings)?;
         }
         Ok(())

@@ -1,4 +1,4 @@
-use Rattle.std.proofs.Common.{ℕ, None, subst, ◌∙◌, arith}
+use Rattle.std.proofs.Common.{ℕ, subst, ◌∙◌, arith}
 use Rattle.std.specs.Bool.{Decides}
 use Rattle.abstract_state.specs.declared.value.Component.TheVariants as component
 use Rattle.abstract_state.proofs.Numbers.{number_known}
@@ -14,5 +14,5 @@ pub returns : goal.returns
 returns c =
     let self = c.args.self.now in
     let table = table_of self.pool.now self.rows.now in
-    suspended_answer self.app.now table c.args.task c.in_ok-is_shown.is_shown c.requires.known
-    (subst (λ (k : ℕ). Decides c.in_ok-is_shown.is_shown (ShowsState None k test.NotSuspended self.app.now table)) (c.index-component.ensures ∙ c.component_number.ensures) c.in_ok-is_shown.ensures)
+    suspended_answer self.app.now table c.args.task c.is_shown.result c.requires.known
+    (subst (λ (k : ℕ). Decides c.is_shown.result (ShowsState k test.NotSuspended self.app.now table)) (c.index-component.ensures ∙ c.component_number.ensures) c.is_shown.ensures)

@@ -1,7 +1,9 @@
-use Rattle.std.proofs.Common.{ℕ, ◌<◌, Some}
-use Rattle.flow_model.specs.declared.test.Test.TheVariants as test
-use Rattle.flow_report.specs.Reached.{ShowsState, table_of}
+use Rattle.std.proofs.Common.{ℕ, ◌<◌, ◌≤◌, length, get_or}
+use Rattle.osek_standard.specs.Points.{StandsAt}
+use Rattle.numbered_sets.specs.{declared.table.NumberedRow.{NumberedRow}, PlainTables.{plain_row}}
+use Rattle.flow_report.specs.Reached.{IsHeldIn}
 use Rattle.flow_report.proofs.reached.Reached.is_taken_at.Given as goal
 
-abbrev pub invariant-loop-task : goal.invariant-loop-task
-invariant-loop-task l = (t : ℕ) → t < l.task → ShowsState (Some l.block) t (test.Holds l.holders.resource) l.self.app.now (table_of l.self.pool.now l.self.rows.now) → ⊥
+abbrev pub invariant-loop-place : goal.invariant-loop-place
+invariant-loop-place l =
+    (l.first ≤ l.place) × ((k : ℕ) (d : NumberedRow) → k < l.place → StandsAt (get_or l.self.rows.now k d).point l.block → IsHeldIn (length l.self.app.now.tasks) l.resource (plain_row l.self.pool.now (get_or l.self.rows.now k d)) → ⊥)

@@ -1,4 +1,4 @@
-use Rattle.std.proofs.Common.{ℕ, true, None, subst, ◌∙◌, arith}
+use Rattle.std.proofs.Common.{ℕ, true, subst, ◌∙◌, arith}
 use Rattle.std.specs.Bool.{Decides}
 use Rattle.abstract_state.specs.declared.value.PartValue.TheVariants.{OfEvent}
 use Rattle.abstract_state.specs.declared.value.Component.TheVariants as component
@@ -16,5 +16,5 @@ pub returns : goal.returns
 returns c =
     let self = c.args.self.now in
     let table = table_of self.pool.now self.rows.now in
-    unset_answer self.app.now table c.args.task c.args.bit.0 c.in_ok-is_shown.is_shown c.requires.task c.requires.bit c.requires.own
-    (subst (λ (k : ℕ). Decides c.in_ok-is_shown.is_shown (ShowsState None k (test.Is (OfEvent true)) self.app.now table)) (c.index-component.ensures ∙ c.component_number.ensures) c.in_ok-is_shown.ensures)
+    unset_answer self.app.now table c.args.task c.args.bit.0 c.is_shown.result c.requires.task c.requires.bit c.requires.own
+    (subst (λ (k : ℕ). Decides c.is_shown.result (ShowsState k (test.Is (OfEvent true)) self.app.now table)) (c.index-component.ensures ∙ c.component_number.ensures) c.is_shown.ensures)

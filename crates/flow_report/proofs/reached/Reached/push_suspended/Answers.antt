@@ -10,7 +10,7 @@ loop-task-preserved c =
     let self = c.args.self.now in
     let table = table_of self.pool.now self.rows.now in
     let i = c.loop-task.task in
-    listed_number self.app.now table 0 i c.loop-task.findings.items c.push_if.new.findings.items (finding.Suspended (task_no i)) c.in_ok-holds.holds c.loop-task.invariant c.in_ok-holds.ensures refl (suspended_once self.app.now table (task_no i) i refl) c.in_ok-push_if.ensures
+    listed_number self.app.now table 0 i c.loop-task.findings.items c.push_if.new.findings.items (finding.Suspended (task_no i)) c.is_suspended-holds.result c.loop-task.invariant c.is_suspended-holds.ensures refl (suspended_once self.app.now table (task_no i) i refl) c.in_ok-push_if.ensures
 
 pub returns : goal.returns
 returns c =

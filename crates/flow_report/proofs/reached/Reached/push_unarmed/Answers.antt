@@ -10,7 +10,7 @@ loop-alarm-preserved c =
     let self = c.args.self.now in
     let table = table_of self.pool.now self.rows.now in
     let i = c.loop-alarm.alarm in
-    listed_number self.app.now table 1 i c.loop-alarm.findings.items c.push_if.new.findings.items (finding.Unarmed (alarm_no i)) c.in_ok-holds.holds c.loop-alarm.invariant c.in_ok-holds.ensures refl (unarmed_once self.app.now table (alarm_no i) i refl) c.in_ok-push_if.ensures
+    listed_number self.app.now table 1 i c.loop-alarm.findings.items c.push_if.new.findings.items (finding.Unarmed (alarm_no i)) c.is_unarmed-holds.result c.loop-alarm.invariant c.is_unarmed-holds.ensures refl (unarmed_once self.app.now table (alarm_no i) i refl) c.in_ok-push_if.ensures
 
 pub returns : goal.returns
 returns c =

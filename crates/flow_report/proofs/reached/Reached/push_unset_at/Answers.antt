@@ -16,5 +16,5 @@ returns-then-not-has c =
 pub returns : goal.returns
 returns c =
     let self = c.args.self.now in
-    bit_more self.app.now (table_of self.pool.now self.rows.now) c.args.task c.args.bit.0 c.args.findings.now.items c.push_if.new.findings.items c.in_ok-holds.holds c.requires.listed c.in_ok-holds.ensures
-    (c.in_ok-push_if.ensures ∙ ap (λ (m : Mask). if c.in_ok-holds.holds then c.args.findings.now.items ++ finding.Unset c.args.task m ∷ [] else c.args.findings.now.items) c.only.ensures)
+    bit_more self.app.now (table_of self.pool.now self.rows.now) c.args.task c.args.bit.0 c.args.findings.now.items c.push_if.new.findings.items c.is_unset-holds.result c.requires.listed c.is_unset-holds.ensures
+    (c.in_ok-push_if.ensures ∙ ap (λ (m : Mask). if c.is_unset-holds.result then c.args.findings.now.items ++ finding.Unset c.args.task m ∷ [] else c.args.findings.now.items) c.only.ensures)

@@ -1,8 +1,0 @@
-use Rattle.osek_standard.specs.Points.{StandsAt}
-use Rattle.abstract_state.specs.declared.table.TableRow.{TableRow}
-use Rattle.numbered_sets.specs.PlainTables.{plain_rows}
-use Rattle.flow_report.proofs.ShownRows.{IsOfNone}
-use Rattle.flow_report.proofs.reached.Reached.is_reached.Given as goal
-
-abbrev pub invariant-loop-row : goal.invariant-loop-row
-invariant-loop-row l = IsOfNone (λ (row : TableRow). StandsAt row.point l.block) (plain_rows l.self.pool.now l.self.rows.now) l.row-index
