@@ -2,8 +2,8 @@
 """Proves and builds the libraries that crates stand on, side by side where they don't stand on each other, and a line a crate.
 
 A check locks the crates below it. So each one that goes on at a time has a copy of the sources of its own, in a folder below out/ that
-goes at the end; `rt lib` takes over what another copy built. There are as many at a time as there are processors, and 4 GB of free memory
-for each. The crates from which the longest way leads up go first.
+goes at the end, and is given the libraries that other copies built: `rt` takes a library that was built over the same sources. There are
+as many at a time as there are processors, and 4 GB of free memory for each. The crates from which the longest way leads up go first.
 
     tools/prove.py                          all below osekfit
     tools/prove.py --jobs 2 osek_io         osek_io and all below it, two at a time
@@ -30,7 +30,21 @@ SECONDS_EACH, SECONDS_A_LINE = 12, 0.11
 SHOWN = 20
 """How many lines of what rt said are shown where a crate isn't proved."""
 
+LIBRARY, KEPT = 'rlib', 'incremental'
+"""What a check leaves in a crate's out/: the library with a stamp of its sources, and the work for the next check."""
+
 Work = namedtuple('Work', 'crate process begun log')
+
+
+def made_by(copy, crate, part):
+    """Where a check in a copy leaves a part of what it makes."""
+    return os.path.join(copy, 'crates', crate, 'out', part)
+
+
+def stamp(library):
+    """The sum of the sources that a library was built over; None where it isn't there."""
+    path = os.path.join(library, 'stamp')
+    return contents(path) if os.path.exists(path) else None
 
 
 class Crates:
@@ -103,7 +117,7 @@ class Copies:
 
     def __init__(self, crates):
         self.crates, self.room = crates, os.path.join(crates.root, 'out', 'prove-%d' % os.getpid())
-        self.free, self.all = [crates.root], [crates.root]
+        self.free, self.all, self.built = [crates.root], [crates.root], {}
 
     def take(self):
         """A copy in which nothing is being proved."""
@@ -121,12 +135,21 @@ class Copies:
         self.free.append(copy)
         self.free.sort(key=self.all.index, reverse=True)
 
-    def bring_home(self, names):
-        """Moves what checks kept in copies into the repository, for its next check."""
+    def bring(self, names, copy):
+        """Gives a copy the libraries of these crates, as links to those that were built."""
         for name in names:
-            here = os.path.join(self.crates.root, 'crates', name, 'out', 'incremental')
+            there, here = made_by(self.built[name], name, LIBRARY), made_by(copy, name, LIBRARY)
+            if self.built[name] != copy and stamp(here) != stamp(there):
+                shutil.rmtree(here, ignore_errors=True)
+                shutil.copytree(there, here, copy_function=os.link)
+
+    def bring_home(self, names):
+        """Gives the repository what checks kept in copies, for its next check, and their libraries."""
+        self.bring(names, self.crates.root)
+        for name in names:
+            here = made_by(self.crates.root, name, KEPT)
             for copy in self.all[1:]:
-                there = os.path.join(copy, 'crates', name, 'out', 'incremental')
+                there = made_by(copy, name, KEPT)
                 if os.path.isdir(there) and not os.path.isdir(here):
                     os.makedirs(os.path.dirname(here), exist_ok=True)
                     os.rename(there, here)
@@ -172,8 +195,9 @@ class Prover:
             self.running[copy] = self.library(crate, copy)
 
     def library(self, crate, copy):
-        """Has rt prove and build a library."""
+        """Has rt prove and build a library, over those below it that stand."""
         os.makedirs(self.copies.room, exist_ok=True)
+        self.copies.bring(self.order.below[crate], copy)
         log = os.path.join(self.copies.room, crate + '.log')
         with open(log, 'wb') as out:
             process = subprocess.Popen(['rt', 'lib'], cwd=os.path.join(copy, 'crates', crate), stdin=subprocess.DEVNULL, stdout=out, stderr=out)
@@ -186,6 +210,7 @@ class Prover:
             sys.stderr.write(''.join(contents(work.log).splitlines(True)[-SHOWN:]))
             raise Wrong('%s was not proved; above is what rt said' % work.crate)
         self.copies.give(copy)
+        self.copies.built[work.crate] = copy
         self.done.add(work.crate)
         seconds = time.monotonic() - work.begun
         sys.stdout.write('  %s: proved (%d s), %d of %d\n' % (work.crate, seconds, len(self.done), len(self.names)))

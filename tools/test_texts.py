@@ -405,6 +405,19 @@ class Documents(unittest.TestCase):
         self.assertEqual((order.next(['side', 'low'], {'base'}), order.next(['high'], {'base'})), ('low', None))
         self.assertEqual((order.whole(1), order.whole(2)), (50, 30))
 
+    def test_a_copy_is_given_the_libraries_that_others_built(self):
+        with tempfile.TemporaryDirectory() as room:
+            copies = prove.Copies.__new__(prove.Copies)
+            copies.built = {'new': os.path.join(room, 'there'), 'same': os.path.join(room, 'there'), 'own': os.path.join(room, 'here')}
+            for copy, crate, text in (('there', 'new', 'a'), ('there', 'same', 'b'), ('here', 'new', 'old'), ('here', 'same', 'b'), ('here', 'own', 'c')):
+                library = prove.made_by(os.path.join(room, copy), crate, prove.LIBRARY)
+                os.makedirs(library)
+                with open(os.path.join(library, 'stamp'), 'w', encoding='utf-8') as file:
+                    file.write(text)
+            copies.bring(['new', 'same', 'own'], os.path.join(room, 'here'))
+            stamps = [prove.stamp(prove.made_by(os.path.join(room, 'here'), crate, prove.LIBRARY)) for crate in ('new', 'same', 'own', 'none')]
+            self.assertEqual(stamps, ['a', 'b', 'c', None])
+
     def test_crates_are_read_with_all_that_they_stand_on(self):
         crates = prove.Crates(prove.ROOT)
         self.assertTrue({'osek_values', 'commands'} <= set(crates.libraries(['osekfit'])))
