@@ -66,8 +66,8 @@ pub fn leave_out(more: &mut Seq<Vec<u64>>, component: usize, other: &[u64])
     words::leave_out(words.as_mut_slice(), other);
 }
 
-/// Clears all further bits of a component.
-pub fn clear(more: &mut Seq<Vec<u64>>, component: usize)
+// clears all further bits of a component
+fn clear(more: &mut Seq<Vec<u64>>, component: usize)
     ensures others { IsChangedAt more.old component more.new }
     ensures bits { further_bits more.new component ≡ 0 }
 {

@@ -1,10 +1,9 @@
 -- Slots of values: each is the only one of its value, and stays as more stacks come in.
-use Rattle.std.proofs.Common.{◌≡◌, ◌≢◌, ◌⊎◌, ℕ, zero, suc, ◌+◌, ◌-◌, ◌*◌, ◌/◌, ◌%◌, ◌^◌, ◌<◌, Bool, false, List, [], ◌∷◌, ◌++◌, length, get_or, set, cond, refl, sym, ap, ap₂, subst, ◌∙◌, inl, inr, arith, get_or-set_same, get_or-set_other}
+use Rattle.std.proofs.Common.{◌≡◌, ◌≢◌, ◌⊎◌, ℕ, zero, suc, ◌+◌, ◌-◌, ◌*◌, ◌/◌, ◌%◌, ◌^◌, ◌<◌, Bool, false, List, [], ◌∷◌, ◌++◌, length, get_or, cond, refl, sym, ap, ap₂, subst, ◌∙◌, inl, inr, arith}
 use Rattle.std.specs.{Prelude.{Option, Some, None, IfSome, IfNone}, List.{list_any}}
-use Rattle.std.proofs.Math.{Nat.{div-lt_iff_lt-mul, div-add-mod, mod-lt, mul_comm}, Seq.{get_or-append_seam}}
-use Rattle.std.proofs.lemmas.{Bool.{cases_eq, cases_lt}, Nat.{div-mul-add, mod-mul-add}, List.{append-nil, length-append, length-map, map-append, get_or-map, get_or_append_left}, Map.Views.{Contains-from_any}}
+use Rattle.std.proofs.Math.{Nat.{div-lt_iff_lt-mul, div-add-mod, mul_comm}, Seq.{get_or-append_seam}}
+use Rattle.std.proofs.lemmas.{Bool.{cases_lt}, Nat.{div-mul-add, mod-mul-add}, List.{append-nil, length-append, length-map, map-append, get_or-map, get_or_append_left}, Map.Views.{Contains-from_any}}
 use Rattle.osek_values.specs.{Numbers.{block_no}, declared.numbers.{BlockNo.{BlockNo}, ResNo.{ResNo}}}
-use Rattle.osek_standard.specs.Validity.{IsAmong}
 use Rattle.abstract_state.specs.declared.value.{Val.{Val, TheVariants.{Suspended, Live, Waiting}}, LiveVal.{LiveVal}, Domain.{Domain}, PartValue.{PartValue, TheVariants.{OfTask}}}
 use Rattle.abstract_state.specs.declared.value.Domain.TheVariants as domain
 use Rattle.abstract_state.specs.Components.{live_val}
@@ -12,7 +11,7 @@ use Rattle.abstract_state.specs.{Domains.{IsWithin}, ValueOrder.{same_part}}
 use Rattle.abstract_state.proofs.OrderLaws.{part_right}
 use Rattle.flow_model.specs.{Values.{at_block}, Tests.{on_task}}
 use Rattle.numbered_sets.specs.{Pools.{Values, with_value, AreNumbered, IsNumberOf}, Slots.{in_row, val_in, value_in, slot_values, IsTaskSlot, IsSlot, AreSlots, IsSlotInRow, IsTaskSlotOf, IsSlotOf, IsStackNumber, AreMoreStacks}}
-use Rattle.numbered_sets.specs.Slots.{IsPlaceOf, IsUnused, IsSlotGiven, AreDistinct, none, AreNumbersBySlot}
+use Rattle.numbered_sets.specs.Slots.{IsPlaceOf, IsUnused, IsSlotGiven, AreDistinct, none}
 use Rattle.numbered_sets.proofs.{PoolLaws.{numbered_with, seen_already}, ViewLaws.{false_unless}}
 
 -- ---- what stands in a row
@@ -118,17 +117,6 @@ live_row stacks x k number r b lt e =
 pub in_live_row : (stacks : List (List ResNo)) (x : LiveVal) (k : ℕ) → IsStackNumber stacks x.held k → in_row stacks (suc k) x.block ≡ Live x
 in_live_row stacks x k number = ap (λ (held : List ResNo). Live (live_val x.block held)) number.is
 
-pub suspended_slot : (first count : ℕ) (stacks : List (List ResNo)) → IsTaskSlotOf first count stacks Suspended 0
-suspended_slot first count stacks = record {
-  known = tt;
-  is = refl;
-  only = λ t known e. first_slot t e;
-}
-  where
-    first_slot : (t : ℕ) → val_in first count stacks t ≡ Suspended → t ≡ 0
-    first_slot zero e = refl
-    first_slot (suc m) e = absurd (never_suspended stacks (m / count) (block_no (first + m % count)) e)
-
 -- what a search for the slot found
 pub waiting_slot : (first count : ℕ) (stacks : List (List ResNo)) (block : BlockNo) (found : Option ℕ) → block.0 < 2 ^ 16 → IfSome found (IsSlotInRow first count 0 block.0) → IfSome found (IsTaskSlotOf first count stacks (Waiting block))
 waiting_slot first count stacks block None small at = tt
@@ -177,30 +165,6 @@ slot_moved first count resources (suc n) block stacks found distinct known some 
     lifted : (f : Option ℕ) → IfSome f (IsTaskSlotOf first.0 count stacks (at_block block (val_in first.0 count stacks (suc n)))) → IfSome f (IsSlotOf (domain.Task first count resources) stacks (OfTask (at_block block (val_in first.0 count stacks (suc n)))))
     lifted None h = tt
     lifted (Some t) h = of_task first count resources stacks (at_block block (val_in first.0 count stacks (suc n))) t h
-
--- ---- values without a slot
-
-no_slot : (first count : ℕ) (stacks : List (List ResNo)) (v : Val) → ((r : ℕ) (b : BlockNo) → r < 1 + length stacks → IsAmong b.0 first count → in_row stacks r b ≡ v → ⊥) → (v ≡ Suspended → ⊥)
-    → (s : ℕ) → IsTaskSlot first count stacks s → val_in first count stacks s ≢ v
-no_slot first count stacks v none other zero known e = other (sym e)
-no_slot first count stacks v none other (suc n) known e =
-    let rest = mod-lt n {m = count} (some_block n (1 + length stacks) count known.0) in
-    none (n / count) (block_no (first + n % count)) (row_known n (1 + length stacks) count known.0) (omega arith, omega (arith, rest)) e
-
-pub waits_elsewhere : (first count : ℕ) (stacks : List (List ResNo)) (block : BlockNo) → (IsAmong block.0 first count → ⊥) → (s : ℕ) → IsTaskSlot first count stacks s → val_in first count stacks s ≢ Waiting block
-waits_elsewhere first count stacks block out =
-    no_slot first count stacks (Waiting block)
-    (λ r b lt among e. out (subst (λ (c : BlockNo). IsAmong c.0 first count) (sym (block_of_row stacks r b) ∙ ap block_in e) among)) (λ e. absurd (cc))
-
-pub lives_elsewhere : (first count : ℕ) (stacks : List (List ResNo)) (x : LiveVal) → (IsAmong x.block.0 first count → ⊥) → (s : ℕ) → IsTaskSlot first count stacks s → val_in first count stacks s ≢ Live x
-lives_elsewhere first count stacks x out =
-    no_slot first count stacks (Live x)
-    (λ r b lt among e. out (subst (λ (c : BlockNo). IsAmong c.0 first count) (sym (block_of_row stacks r b) ∙ ap block_in e) among)) (λ e. absurd (cc))
-
-pub unseen_stack : (first count : ℕ) (stacks : List (List ResNo)) (x : LiveVal) → ((k : ℕ) → k < length stacks → get_or stacks k [] ≢ x.held) → (s : ℕ) → IsTaskSlot first count stacks s → val_in first count stacks s ≢ Live x
-unseen_stack first count stacks x none =
-    no_slot first count stacks (Live x)
-    (λ r b lt among e. let row = stack_of_row stacks r b x e in none row.0 (omega (arith, lt, row.1)) row.2) (λ e. absurd (cc))
 
 -- ---- slots as more stacks come in
 
@@ -334,59 +298,3 @@ module _ (d : Domain) (stacks after : List (List ResNo)) (slots more : List ℕ)
 
 pub same_stacks : (stacks : List (List ResNo)) → AreMoreStacks stacks stacks
 same_stacks stacks = record { more = []; is = sym (append-nil stacks) }
-
--- ---- numbers by slot
-
-pub no_numbers : AreNumbersBySlot [] []
-no_numbers = record {
-  few = omega arith;
-  each = λ n d lt. absurd (omega (arith, lt));
-  only = λ s differs. absurd (differs refl);
-}
-
--- room for one number more
-room_more : (numbers : List ℕ) (s : ℕ) → get_or (numbers ++ none ∷ []) s none ≡ get_or numbers s none
-room_more [] zero = refl
-room_more [] (suc s) = refl
-room_more (x ∷ xs) zero = refl
-room_more (x ∷ xs) (suc s) = room_more xs s
-
-pub numbers_widened : (used numbers : List ℕ) → AreNumbersBySlot used numbers → AreNumbersBySlot used (numbers ++ none ∷ [])
-numbers_widened used numbers h = record {
-  few = h.few;
-  each = λ n d lt. room_more numbers (get_or used n d) ∙ h.each n d lt;
-  only = λ s differs.
-      (let same = room_more numbers s in subst (IsPlaceOf used s) (sym same) (h.only s (λ e. differs (same ∙ e))));
-}
-
--- a slot without a number gets the next one
-module _ (used numbers : List ℕ) (s : ℕ) (h : AreNumbersBySlot used numbers) (unused : IsUnused used s) (room : s < length numbers) (few : length used < none) where
-  last_used : (n d : ℕ) → n < length (used ++ s ∷ []) → ((n < length used) × (get_or (used ++ s ∷ []) n d ≡ get_or used n d)) ⊎ ((n ≡ length used) × (get_or (used ++ s ∷ []) n d ≡ s))
-  last_used n d lt = elim (cases_lt n (length used)) [
-    | inl before ↦ inl (before, get_or_append_left used (s ∷ []) d n before)
-    | inr le ↦
-        (let last : n ≡ length used = omega (arith, lt, le, length-append used (s ∷ [])) in
-        inr (last, ap (λ (k : ℕ). get_or (used ++ s ∷ []) k d) last ∙ get_or-append_seam used s [] d))
-  ]
-
-  pub number_pushed : AreNumbersBySlot (used ++ s ∷ []) (set numbers s (length used))
-  number_pushed = record {
-    few = omega (arith, few, length-append used (s ∷ []));
-    each = λ n d lt. elim (last_used n d lt) [
-      | inl old ↦
-          (let other : get_or used n d ≢ s = unused.each n d old.0 in
-          ap (λ (t : ℕ). get_or (set numbers s (length used)) t none) old.1 ∙ get_or-set_other numbers s (get_or used n d) (length used) none other ∙ h.each n d old.0)
-      | inr new ↦ ap (λ (t : ℕ). get_or (set numbers s (length used)) t none) new.1 ∙ get_or-set_same numbers s (length used) none room ∙ sym new.0
-    ];
-    only = λ t differs. elim (cases_eq t s) [
-      | inl same ↦
-          (let number : get_or (set numbers s (length used)) t none ≡ length used = ap (λ (k : ℕ). get_or (set numbers s (length used)) k none) same ∙ get_or-set_same numbers s (length used) none room in
-          subst (IsPlaceOf (used ++ s ∷ []) t) (sym number)
-          (record { known = omega (arith, length-append used (s ∷ [])); is = λ d. get_or-append_seam used s [] d ∙ sym same }))
-      | inr other ↦
-          (let number : get_or (set numbers s (length used)) t none ≡ get_or numbers t none = get_or-set_other numbers s t (length used) none other in
-          let old = h.only t (λ e. differs (number ∙ e)) in
-          subst (IsPlaceOf (used ++ s ∷ []) t) (sym number)
-          (record { known = omega (arith, old.known, length-append used (s ∷ [])); is = λ d. get_or_append_left used (s ∷ []) d (get_or numbers t none) old.known ∙ old.is d }))
-    ];
-  }

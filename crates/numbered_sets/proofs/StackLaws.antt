@@ -1,7 +1,7 @@
 -- Stacks by number: what a search among their keys says of them.
-use Rattle.std.proofs.Common.{◌≡◌, ◌≢◌, ℕ, ◌+◌, ◌^◌, ◌<◌, ◌≤◌, Bool, true, false, List, [], ◌∷◌, ◌++◌, length, get_or, take, cond, refl, sym, ap, ap₂, ◌∙◌, inl, inr, arith}
+use Rattle.std.proofs.Common.{◌≡◌, ◌≢◌, ℕ, ◌+◌, ◌^◌, ◌<◌, ◌≤◌, Bool, true, false, List, [], ◌∷◌, ◌++◌, length, get_or, cond, refl, sym, ap, ◌∙◌, inl, inr, arith}
 use Rattle.std.specs.{Prelude.{Option, Some, None, is_some, IfSome, IfNone, position, slice_get}, List.{list_any, IsDistinct}}
-use Rattle.std.proofs.lemmas.{Bool.{cases_Bool, cases_lt}, List.{append-nil, length-append, length-map, length-take-le, map-append, take_more, get_or-map, get_or-take, Folds.{list_any_at}, Quantifiers.{position-Some}}, Map.Keys.{apart_from_distinct}, Option.{get_or_from_slice_get}}
+use Rattle.std.proofs.lemmas.{Bool.{cases_Bool, cases_lt}, List.{append-nil, length-append, length-map, map-append, get_or-map, Folds.{list_any_at}, Quantifiers.{position-Some}}, Map.Keys.{apart_from_distinct}, Option.{get_or_from_slice_get}}
 use Rattle.indexmap.specs.IndexSet.{insert_key}
 use Rattle.osek_values.specs.declared.numbers.ResNo.{ResNo}
 use Rattle.numbered_sets.specs.{declared.stacks.Stack.{Stack}, StackKeys.{same_key, key_stacks, keys_equal, one_stack}, Slots.{AreDistinct, IsStackNumber, IsGrownBy, AreMoreStacks}}
@@ -81,15 +81,3 @@ few_grown stacks after held few (inr more) = omega (arith, few, ap length more, 
 pub more_by_one : (stacks after : List (List ResNo)) (held : List ResNo) → IsGrownBy held stacks after → AreMoreStacks stacks after
 more_by_one stacks after held (inl same) = record { more = []; is = same ∙ sym (append-nil stacks) }
 more_by_one stacks after held (inr more) = record { more = held ∷ []; is = more }
-
-pub no_more : (stacks after : List (List ResNo)) → after ≡ stacks → AreMoreStacks stacks after
-no_more stacks after same = record { more = []; is = same ∙ sym (append-nil stacks) }
-
-pub next_copied : (stacks before after : List (List ResNo)) (held : List ResNo) (n k : ℕ) → IsStackNumber stacks held n → before ≡ take n stacks → IsGrownBy held before after → IsStackNumber after held k → after ≡ take (n + 1) stacks
-next_copied stacks before after held n k its so_far (inl same) number =
-    let there : get_or (take n stacks) k [] ≡ held = ap (λ (all : List (List ResNo)). get_or all k []) (sym (same ∙ so_far)) ∙ number.is in
-    let lt : k < n = (let long = length-take-le n stacks (omega (arith, its.known)) in let as_long = ap length (same ∙ so_far) in omega (arith, long, as_long, number.known)) in
-    let twice : k ≡ n = its.only k (omega (arith, lt, its.known)) (sym (get_or-take n stacks k [] lt) ∙ there) in
-    absurd (omega (arith, lt, twice))
-next_copied stacks before after held n k its so_far (inr more) number =
-    more ∙ ap₂ (λ (all : List (List ResNo)) (last : List ResNo). all ++ last ∷ []) so_far (sym its.is) ∙ sym (take_more stacks n [] its.known)

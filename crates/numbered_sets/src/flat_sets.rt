@@ -238,27 +238,6 @@ impl NumberedSets {
         further::leave_out(&mut self.more, component, other.more.as_slice());
     }
 
-    // leaves out all numbers of a component
-    fn clear(&mut self, component: usize)
-        requires { component < length self.old }
-        ensures { self.new ≡ slice_set self.old component (numbers (set_of self.old component).domain 0) }
-    {
-        words::replace(self.low.as_mut_slice(), component, 0);
-        words::replace(self.high.as_mut_slice(), component, 0);
-        further::clear(&mut self.more, component);
-    }
-
-    /// Makes a component's set that of one number. Where memory is wanted it is empty.
-    pub fn hold_only(&mut self, component: usize, number: usize) -> Result<(), Memory>
-        requires { component < length self.old }
-        ensures set { OnOk result (self.new ≡ slice_set self.old component (with_number (numbers (set_of self.old component).domain 0) number)) }
-        ensures err { OnErr result (self.new ≡ slice_set self.old component (numbers (set_of self.old component).domain 0)) }
-    {
-        self.clear(component);
-        self.put_number(component, number)?;
-        Ok(())
-    }
-
     /// A component's set by itself.
     pub fn set(&self, alloc: Global, component: usize) -> Result<NumberedSet, Memory>
         requires { component < length self.now }

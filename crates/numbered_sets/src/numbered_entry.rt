@@ -83,16 +83,6 @@ impl NumberedEntry {
         self.sets.leave_out(component, other);
     }
 
-    /// Makes a component's set that of one number. Where memory is wanted it is empty.
-    pub fn hold_only(&mut self, component: usize, number: usize) -> Result<(), Memory>
-        requires { component < length self.old.sets }
-        ensures set { OnOk result (self.new.sets ≡ slice_set self.old.sets component (with_number (numbers (numbers_at self.old component).domain 0) number)) }
-        ensures err { OnErr result (self.new.sets ≡ slice_set self.old.sets component (numbers (numbers_at self.old component).domain 0)) }
-    {
-        self.sets.hold_only(component, number)?;
-        Ok(())
-    }
-
     /// The first number of a component from one on, if it is below a bound; else the bound.
     pub fn next(&self, component: usize, from: usize, below: usize) -> usize
         requires known { component < length self.now.sets }
