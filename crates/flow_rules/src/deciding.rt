@@ -3,6 +3,7 @@ ghost use Rattle.std.specs.Prelude.{◌≡◌, ◌<◌, ◌∷◌, [], length, s
 ghost use Rattle.abstract_state.specs.Concrete.{val_of};
 ghost use Rattle.flow_model.specs.Values.{block_of as block_of_val};
 ghost use Rattle.flow_model.specs.declared.case.Asked.TheVariants as asked;
+ghost use Rattle.osek_standard.specs.declared.point.Point.TheVariants as point;
 ghost use Rattle.numbered_sets.specs.Views.{AreNumbersOf};
 ghost use Rattle.flow_exits.specs.Outcomes.{IsVacant, idle_decision as idle_decision_of};
 ghost use Rattle.flow_rules.specs.declared.group.NumberEnd.{NumberEnd};
@@ -195,7 +196,7 @@ fn at(alloc: Global, point: Point) -> Result<Ends, Memory>
     Ok(Ends::At(points))
 }
 
-// the blocks of a task's values, each with those that stand there
+// the blocks of a task's values, each with those that stand there; `places` tells by a block's row where its end stands
 fn at_blocks(
     alloc: Global,
     pool: &Pool,
@@ -209,28 +210,42 @@ fn at_blocks(
     let component = task.index();
     let domain = entry.sets.domain(component);
     let count = pool.len(component);
+    let mut places = Vec::from_elem(alloc, 0, block_count(domain))?;
     let mut ends = Seq::new(alloc);
     let mut number = entry.next(component, 0, count);
     while number < count {
-        let target = Point::Task(block_of(&pool.value(component, number)));
-        put_number(alloc, domain, target, number, &mut ends)?;
+        let block = block_of(&pool.value(component, number));
+        put_number(
+            alloc,
+            domain,
+            block,
+            number,
+            places.as_mut_slice(),
+            &mut ends,
+        )?;
         number = entry.next(component, number + 1, count);
     }
     Ok(Ends::With { component, ends })
 }
 
-// puts a number to those with which a step ends at a point
+// puts a number to those with which a step ends at a block
 fn put_number(
     alloc: Global,
     domain: Domain,
-    target: Point,
+    block: BlockNo,
     number: usize,
+    places: &mut [usize],
     ends: &mut Seq<NumberEnd>,
 ) -> Result<(), Memory>
     ensures some { OnOk result (HaveNumbersOf domain ends.old → HaveNumbersOf domain ends.new) }
-    ensures put { OnOk result (IsNumberPut target number ends.old ends.new) }
+    ensures put { OnOk result (IsNumberPut (point.Task block) number ends.old ends.new) }
 {
-    let Some(place) = end_at(ends, target) else {
+    let target = Point::Task(block);
+    let row = row_of(domain, block);
+    let Some(place) = end_at(places, row, ends, target) else {
+        if let Some(place) = places.get_mut(row) {
+            *place = ends.len();
+        }
         let mut numbers = NumberedSet::new(alloc, domain);
         numbers.insert(number)?;
         return ends.push(NumberEnd { numbers, target });
@@ -240,16 +255,31 @@ fn put_number(
     Ok(())
 }
 
-// the place of the end at a point
-fn end_at(ends: &Seq<NumberEnd>, target: Point) -> Option<usize>
+// The place of the end at a point, by the row of its block. What stands in `places` is looked up, so nothing rests on it.
+fn end_at(places: &[usize], row: usize, ends: &Seq<NumberEnd>, target: Point) -> Option<usize>
     ensures { IfSome result (λ place. (place < length ends.now) × ((none : NumberEnd) → (slice_index_or ends.now place none).target ≡ target)) }
 {
-    for place in 0..ends.len() {
-        if ends.at(place).target == target {
-            return Some(place);
-        }
+    let place = *places.get(row)?;
+    if place < ends.len() && ends.at(place).target == target {
+        return Some(place);
     }
     None
+}
+
+// how many blocks a task has
+fn block_count(domain: Domain) -> usize {
+    match domain {
+        Domain::Task { count, .. } => usize::from(count),
+        Domain::Event | Domain::Alarm => 0,
+    }
+}
+
+// how many blocks of the task stand before a block
+fn row_of(domain: Domain, block: BlockNo) -> usize {
+    match domain {
+        Domain::Task { first, .. } => block.index().saturating_sub(first.index()),
+        Domain::Event | Domain::Alarm => 0,
+    }
 }
 
 fn block_of(value: &PartValue) -> BlockNo

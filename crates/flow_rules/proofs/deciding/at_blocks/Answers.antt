@@ -26,8 +26,8 @@ loop-number-preserved c =
     let keeps : HaveNumbersOf (numbers_at entry c.index-component.result).domain c.loop-number.ends → HaveNumbersOf (numbers_at entry c.index-component.result).domain c.put_number.new.ends =
     subst (λ (d : Domain). HaveNumbersOf d c.loop-number.ends → HaveNumbersOf d c.put_number.new.ends) c.domain-domain.ensures c.in_ok-put_number.ensures.some in (
       more_blocks c.args.pool.now entry c.index-component.result c.loop-number.number c.next-number-in-loop-number.result c.loop-number.ends c.put_number.new.ends
-          (point.Task c.block_of.result) c.value.result c.in_ok-put_number.ensures.put (c.loop-number.invariant.2 c.loop-number-test.true) c.value.ensures
-          (ap (λ (b : BlockNo). point.Task b) c.block_of.ensures) c.next-number-in-loop-number.ensures.none c.loop-number.invariant.0 keeps,
+          (point.Task c.block_of-block.result) c.value.result c.in_ok-put_number.ensures.put (c.loop-number.invariant.2 c.loop-number-test.true) c.value.ensures
+          (ap (λ (b : BlockNo). point.Task b) c.block_of-block.ensures) c.next-number-in-loop-number.ensures.none c.loop-number.invariant.0 keeps,
       c.next-number-in-loop-number.ensures.few,
       c.next-number-in-loop-number.ensures.has,
     )
