@@ -65,14 +65,12 @@ module _ (app : App) (pool : List Values) (after live : NumberedEntry) (t : ℕ)
         absurd (omega (arith, some, none, bits)))
   ]
 
--- what the levels leave of a copy
+-- what the levels leave
 pub narrowed_live : (app : App) (pool : List Values) (levels : Levels) (t : ℕ) (known : t < length app.tasks) (all : AreAllLevels app pool levels) (own : TaskLevels) → ((none : TaskLevels) → slice_index_or levels.tasks t none ≡ own)
-    → (after copied live : NumberedEntry) → copied ≡ after → AreNumbersOf pool after
-    → ((b : App) (values : List Values) → AreTaskLevels b t (values_at values t) own → AreAllJudged own (numbers_at copied t) → IsNarrowed (λ v. is_live_value (val_of v)) values t copied live)
+    → (after live : NumberedEntry) → AreNumbersOf pool after
+    → ((b : App) (values : List Values) → AreTaskLevels b t (values_at values t) own → AreAllJudged own (numbers_at after t) → IsNarrowed (λ v. is_live_value (val_of v)) values t after live)
     → IsNarrowed (λ v. is_live_value (val_of v)) pool t after live
-narrowed_live app pool levels t known all own is after copied live same numbers narrows =
-    let judged = subst (λ (e : NumberedEntry). AreAllJudged own (numbers_at e t)) (sym same) (all_judged app pool levels t known all own is after numbers) in
-    subst (λ (e : NumberedEntry). IsNarrowed (λ v. is_live_value (val_of v)) pool t e live) same (narrows app pool (own_levels app pool levels t known all own is) judged)
+narrowed_live app pool levels t known all own is after live numbers narrows = narrows app pool (own_levels app pool levels t known all own is) (all_judged app pool levels t known all own is after numbers)
 
 -- ---- the cases of a decision
 

@@ -12,16 +12,16 @@ use Rattle.flow_rules.specs.{Levels.{AreAllLevels}, Narrowing.{IsLeft, is_under_
 pub record IsDecidable (x : AfterEffect) : Type 0 where
   pub stay : IsKnownStay x.app.now x.leaving.stay
   pub levels : AreAllLevels x.app.now x.pool.now x.levels.now
-  pub whole : IsWhole x.app.now x.pool.now x.after.now
+  pub whole : IsWhole x.app.now x.pool.now x.after
 
 -- what comes of those values that have a property
 abbrev pub Adds : AfterEffect → ((ℕ → PartValue) → Decision → Type 0) → List ExitGroup → List ExitGroup → Type 0
-Adds x P before now = AddsFor x.app.now x.pool.now x.leaving x.after.now P before now
+Adds x P before now = AddsFor x.app.now x.pool.now x.leaving x.after P before now
 
 -- for each task the least limit under which it is with some value
 abbrev pub AreNeedsOf : AfterEffect → List ℕ → Type 0
-AreNeedsOf x needs = AreNeeds x.app.now x.pool.now x.after.now (length x.app.now.tasks) needs
+AreNeedsOf x needs = AreNeeds x.app.now x.pool.now x.after (length x.app.now.tasks) needs
 
 -- those values of the first n tasks are left with which each is under its limit
 abbrev pub IsLeftBy : AfterEffect → Claim → ℕ → NumberedEntry → Type 0
-IsLeftBy x claim n left = IsLeft (is_under_limit x.app.now claim n) x.pool.now x.after.now left
+IsLeftBy x claim n left = IsLeft (is_under_limit x.app.now claim n) x.pool.now x.after left

@@ -6,11 +6,11 @@ use numbered_sets::{NumberedEntry, Pool};
 use osek_standard::App;
 
 /// The values after an effect, by number, what they are to the scheduler, and what the effect leaves to it.
-#[derive(Clone, Copy)]
+#[derive(Drop)]
 pub struct AfterEffect<'a> {
     pub app: &'a App,
     pub pool: &'a Pool,
     pub levels: &'a Levels,
     pub leaving: Leaving,
-    pub after: &'a NumberedEntry,
+    pub after: NumberedEntry,
 }

@@ -20,7 +20,7 @@ impl<'a> AfterEffect<'a> {
         let mut needs = Seq::of(Vec::with_capacity(alloc, self.app.tasks.len())?);
         for task in 0..self.app.tasks.len() {
             let task = TaskNo(task as u8);
-            needs.push(self.levels.of(task).need(task, self.after))?;
+            needs.push(self.levels.of(task).need(task, &self.after))?;
         }
         Ok(needs)
     }
@@ -36,7 +36,7 @@ impl<'a> AfterEffect<'a> {
         requires needs { AreNeedsOf self.now needs.now }
         ensures left { IfOk result (λ left. IfSome left (IsLeftBy self.now claim (length self.now.app.now.tasks))) }
         ensures filled { IfOk result (λ left. IfSome left AreFilled) }
-        ensures none { IfOk result (λ left. IfNone left (NeverUnder self.now.app.now claim self.now.pool.now self.now.after.now)) }
+        ensures none { IfOk result (λ left. IfNone left (NeverUnder self.now.app.now claim self.now.pool.now self.now.after)) }
     {
         if !are_met(needs, claim) {
             return Ok(None);
@@ -74,8 +74,8 @@ impl<'a> AfterEffect<'a> {
         requires needs { AreNeedsOf self.now needs.now }
         requires known { task.0 < length self.now.app.now.tasks }
         requires free { limit_of claim task.0 ≡ None }
-        ensures some { IfOk result (λ left. IfSome left (IsCut self.now.app.now self.now.pool.now claim task.0 level.now self.now.after.now)) }
-        ensures none { IfOk result (λ left. IfNone left (NeverAt self.now.app.now claim self.now.pool.now self.now.after.now task.0 level.now)) }
+        ensures some { IfOk result (λ left. IfSome left (IsCut self.now.app.now self.now.pool.now claim task.0 level.now self.now.after)) }
+        ensures none { IfOk result (λ left. IfNone left (NeverAt self.now.app.now claim self.now.pool.now self.now.after task.0 level.now)) }
     {
         let component = task.index();
         if !self.after.meets(component, &level.numbers) {

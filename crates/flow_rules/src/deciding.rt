@@ -21,9 +21,9 @@ use std::alloc::Global;
 
 impl<'a> AfterEffect<'a> {
     /// Adds the exits that come of what the scheduler decides with these values.
-    pub fn push_decided(&self, alloc: Global, groups: &mut Vec<ExitGroup>) -> Result<(), Memory>
-        requires { IsDecidable self.now }
-        ensures { OnOk result (Adds self.now IsAny groups.old.items groups.new.items) }
+    pub fn push_decided(self, alloc: Global, groups: &mut Vec<ExitGroup>) -> Result<(), Memory>
+        requires { IsDecidable self }
+        ensures { OnOk result (Adds self.entry IsAny groups.old.items groups.new.items) }
     {
         match self.leaving.asked {
             Asked::No => self.push_unasked(alloc, groups),
@@ -33,31 +33,37 @@ impl<'a> AfterEffect<'a> {
     }
 
     // the scheduler decides nothing
-    fn push_unasked(&self, alloc: Global, groups: &mut Vec<ExitGroup>) -> Result<(), Memory>
-        requires decidable { IsDecidable self.now }
-        requires unasked { self.now.leaving.asked ≡ asked.No }
-        ensures { OnOk result (Adds self.now IsAny groups.old.items groups.new.items) }
+    fn push_unasked(self, alloc: Global, groups: &mut Vec<ExitGroup>) -> Result<(), Memory>
+        requires decidable { IsDecidable self }
+        requires unasked { self.leaving.asked ≡ asked.No }
+        ensures { OnOk result (Adds self.entry IsAny groups.old.items groups.new.items) }
     {
-        let entry = self.after.copy(alloc)?;
-        self.push_group(alloc, Decision::Keep, entry, groups)?;
+        let ends = self.ends_by(alloc, Decision::Keep, &self.after)?;
+        let status = self.leaving.status;
+        groups.push(ExitGroup {
+            decision: Some(Decision::Keep),
+            status,
+            entry: self.after,
+            ends,
+        })?;
         Ok(())
     }
 
     // a task runs, which is Live
     fn push_over(
-        &self,
+        self,
         alloc: Global,
         task: TaskNo,
         groups: &mut Vec<ExitGroup>,
     ) -> Result<(), Memory>
-        requires decidable { IsDecidable self.now }
-        requires running { self.now.leaving.asked ≡ asked.Maybe task }
-        ensures { OnOk result (Adds self.now IsAny groups.old.items groups.new.items) }
+        requires decidable { IsDecidable self }
+        requires running { self.leaving.asked ≡ asked.Maybe task }
+        ensures { OnOk result (Adds self.entry IsAny groups.old.items groups.new.items) }
     {
         if task.index() >= self.app.tasks.len() {
             return Ok(());
         }
-        let mut live = self.after.copy(alloc)?;
+        let mut live = self.after;
         self.levels.of(task).keep_live(task, &mut live);
         if !live.is_filled() {
             return Ok(());
@@ -67,7 +73,7 @@ impl<'a> AfterEffect<'a> {
             pool: self.pool,
             levels: self.levels,
             leaving: self.leaving,
-            after: &live,
+            after: live,
         };
         running.push_running(alloc, task, groups)?;
         Ok(())
@@ -82,7 +88,7 @@ impl<'a> AfterEffect<'a> {
     ) -> Result<(), Memory>
         requires decidable { IsDecidable self.now }
         requires running { self.now.leaving.asked ≡ asked.Maybe task }
-        requires alive { IsAlive self.now.app.now self.now.pool.now self.now.after.now task.0 }
+        requires alive { IsAlive self.now.app.now self.now.pool.now self.now.after task.0 }
         ensures { OnOk result (Adds self.now IsAny groups.old.items groups.new.items) }
     {
         let needs = self.needs(alloc)?;

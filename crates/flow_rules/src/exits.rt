@@ -116,7 +116,7 @@ impl<'a> BeforeEffect<'a> {
             pool: &*pool,
             levels: &*levels,
             leaving: effect.leaving,
-            after: &after,
+            after,
         }
         .push_decided(alloc, groups)
     }

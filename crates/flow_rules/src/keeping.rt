@@ -46,7 +46,7 @@ impl<'a> AfterEffect<'a> {
         requires running { self.now.leaving.asked ≡ asked.Maybe task }
         requires known { task.0 < length self.now.app.now.tasks }
         requires level { IsLevelOf self.now.levels.now task.0 level.now }
-        ensures { OnOk result (Adds self.now (IsAtLevel self.now.pool.now self.now.after.now task.0 level.now decision.Keep) groups.old.items groups.new.items) }
+        ensures { OnOk result (Adds self.now (IsAtLevel self.now.pool.now self.now.after task.0 level.now decision.Keep) groups.old.items groups.new.items) }
     {
         let claim = Claim::Keeps {
             task,

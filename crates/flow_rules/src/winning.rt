@@ -22,7 +22,7 @@ impl<'a> AfterEffect<'a> {
     ) -> Result<(), Memory>
         requires decidable { IsDecidable self.now }
         requires needs { AreNeedsOf self.now needs.now }
-        requires asked { IsAsked self.now.app.now self.now.pool.now self.now.after.now self.now.leaving.asked }
+        requires asked { IsAsked self.now.app.now self.now.pool.now self.now.after self.now.leaving.asked }
         ensures { OnOk result (Adds self.now (IsWinnerBelow (length self.now.app.now.tasks)) groups.old.items groups.new.items) }
     {
         for task in 0..self.app.tasks.len() {
@@ -41,7 +41,7 @@ impl<'a> AfterEffect<'a> {
     ) -> Result<(), Memory>
         requires decidable { IsDecidable self.now }
         requires needs { AreNeedsOf self.now needs.now }
-        requires asked { IsAsked self.now.app.now self.now.pool.now self.now.after.now self.now.leaving.asked }
+        requires asked { IsAsked self.now.app.now self.now.pool.now self.now.after self.now.leaving.asked }
         requires known { task.0 < length self.now.app.now.tasks }
         ensures { OnOk result (Adds self.now (IsIt (decision.To (Some task))) groups.old.items groups.new.items) }
     {
@@ -64,11 +64,11 @@ impl<'a> AfterEffect<'a> {
     ) -> Result<(), Memory>
         requires decidable { IsDecidable self.now }
         requires needs { AreNeedsOf self.now needs.now }
-        requires asked { IsAsked self.now.app.now self.now.pool.now self.now.after.now self.now.leaving.asked }
+        requires asked { IsAsked self.now.app.now self.now.pool.now self.now.after self.now.leaving.asked }
         requires known { task.0 < length self.now.app.now.tasks }
         requires other { is_that_task (over_of self.now.leaving.asked) task.0 ≡ false }
         requires level { IsLevelOf self.now.levels.now task.0 level.now }
-        ensures { OnOk result (Adds self.now (IsAtLevel self.now.pool.now self.now.after.now task.0 level.now (decision.To (Some task))) groups.old.items groups.new.items) }
+        ensures { OnOk result (Adds self.now (IsAtLevel self.now.pool.now self.now.after task.0 level.now (decision.To (Some task))) groups.old.items groups.new.items) }
     {
         let claim = Claim::Gets {
             task,

@@ -17,14 +17,14 @@ use std::alloc::Global;
 pub fn join_groups(
     alloc: Global,
     app: &App,
-    groups: &[ExitGroup],
+    groups: Vec<ExitGroup>,
     pool: &Pool,
     cells: &mut Vec<Cell<NumberedEntry>>,
 ) -> Result<(), Memory>
-    requires known { AreKnownGroups pool.now groups.now }
-    requires proper { AreProperRows app.now (all_rows pool.now groups.now) }
+    requires known { AreKnownGroups pool.now groups.items }
+    requires proper { AreProperRows app.now (all_rows pool.now groups.items) }
     requires cells { AreNumberedCells app.now pool.now cells.old.items }
-    ensures { OnOk result (AreRowsJoined app.now pool.now cells.old.items (all_rows pool.now groups.now) cells.new.items) }
+    ensures { OnOk result (AreRowsJoined app.now pool.now cells.old.items (all_rows pool.now groups.items) cells.new.items) }
 {
     for group in groups {
         join_group(alloc, app, group, pool, cells)?;
@@ -32,23 +32,24 @@ pub fn join_groups(
     Ok(())
 }
 
-// joins each exit of a group to the cell of its point.
+// joins each exit of a group to the cell of its point
 fn join_group(
     alloc: Global,
     app: &App,
-    group: &ExitGroup,
+    group: ExitGroup,
     pool: &Pool,
     cells: &mut Vec<Cell<NumberedEntry>>,
 ) -> Result<(), Memory>
-    requires known { IsKnownGroup pool.now group.now }
-    requires proper { AreProperRows app.now (rows_by pool.now group.now.entry group.now.ends) }
+    requires known { IsKnownGroup pool.now group }
+    requires proper { AreProperRows app.now (rows_by pool.now group.entry group.ends) }
     requires cells { AreNumberedCells app.now pool.now cells.old.items }
-    ensures { OnOk result (AreRowsJoined app.now pool.now cells.old.items (rows_by pool.now group.now.entry group.now.ends) cells.new.items) }
+    ensures { OnOk result (AreRowsJoined app.now pool.now cells.old.items (rows_by pool.now group.entry group.ends) cells.new.items) }
 {
-    match &group.ends {
-        Ends::At(points) => join_at(alloc, app, points.as_slice(), &group.entry, pool, cells),
+    let ends = group.ends;
+    let entry = group.entry;
+    match &ends {
+        Ends::At(points) => join_at(alloc, app, points.as_slice(), &entry, pool, cells),
         Ends::With { component, ends } => {
-            let entry = group.entry.copy(alloc)?;
             join_with(alloc, app, *component, ends.as_slice(), entry, pool, cells)
         }
     }

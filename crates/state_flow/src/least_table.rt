@@ -7,10 +7,10 @@ ghost use Rattle.flow_rules.specs.Levels.{AreLevels};
 ghost use Rattle.state_flow.specs.{Cells.{IsWaitingAt}, Progress.{Progress}, PlainCells.{plain_cells, AreCellsOf}, Numbering.{AreNumberedCells, HasProgress}};
 
 use crate::cells::{Cell, next_waiting, place_behind};
-use crate::evaluation::evaluate;
+use crate::joining::join_groups;
 use crate::numbered_cells::{put_in, rows};
 use abstract_state::{Domain, LiveVal, PartValue, PlainEntry, Val, masks_are_few};
-use flow_rules::{Levels, start_row};
+use flow_rules::{Levels, exit_groups, start_row};
 use numbered_sets::{NumberedEntry, Pool, Table, numbered};
 use osek_standard::App;
 use osek_values::{BlockNo, Held, Memory, ModeNo, Steps};
@@ -109,7 +109,7 @@ fn started(alloc: Global, app: &App, pool: &mut Pool) -> Result<Vec<Cell<Numbere
     Ok(cells)
 }
 
-/// Evaluates a point that waits, and joins in what it leads to.
+/// Evaluates a point that waits, and joins in what it leads to. The pool grows by the values that it lacks, and the levels with it.
 fn turn(
     alloc: Global,
     app: &App,
@@ -126,9 +126,7 @@ fn turn(
     ensures progress { OnOk result ((n : ℕ) → HasProgress app.now pool.old cells.old.items n → HasProgress app.now pool.new cells.new.items (n + 1)) }
 {
     let cell = &mut cells[place];
-    let point = cell.point;
-    let entry = cell.entry.copy(alloc)?;
     cell.waiting = false;
-    evaluate(alloc, app, point, &entry, pool, levels, cells)?;
-    Ok(())
+    let groups = exit_groups(alloc, app, cell.point, &cell.entry, pool, levels)?;
+    join_groups(alloc, app, groups, pool, cells)
 }

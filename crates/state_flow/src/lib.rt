@@ -4,7 +4,6 @@
 mod cells;
 mod counts;
 mod entry;
-mod evaluation;
 mod joining;
 mod lattice;
 mod least_table;

@@ -1,6 +1,5 @@
-use Rattle.std.proofs.Common.{take}
 use Rattle.state_flow.specs.ExitRows.{all_rows, AreRowsJoined}
 use Rattle.state_flow.proofs.joining.join_groups.Given as goal
 
 abbrev pub invariant-loop-group : goal.invariant-loop-group
-invariant-loop-group l = AreRowsJoined l.app l.pool l.initial.cells.items (all_rows l.pool (take l.group-index l.groups)) l.cells.items
+invariant-loop-group l = AreRowsJoined l.app l.pool l.initial.cells.items (all_rows l.pool l.yielded) l.cells.items

@@ -1,22 +1,59 @@
-use Rattle.std.proofs.Common.{set, sym, subst}
-use Rattle.numbered_sets.specs.{declared.numbered_entry.NumberedEntry.{NumberedEntry}, Views.{plain_entry, AreNumbersOf}, PlainTables.{row_at}}
-use Rattle.flow_rules.specs.Rows.{IsProperRow}
-use Rattle.state_flow.specs.{PlainCells.{plain_cells}, Numbering.{IsEvaluated}}
-use Rattle.state_flow.proofs.NumberedCells.{asked, numbers_there, proper_there, asked_cells, progress_on}
+use Rattle.std.proofs.Common.{List, set, sym, subst}
+use Rattle.std.proofs.lemmas.Result.{on_ok_weaker}
+use Rattle.abstract_state.specs.declared.table.PlainEntry.{PlainEntry}
+use Rattle.state_flow.specs.{declared.cells.Cell.{Cell}, Progress.{AreJoined}, PlainCells.{plain_cells}, ExitRows.{all_rows}}
+use Rattle.state_flow.proofs.NumberedCells.{asked, numbers_there, proper_there, asked_cells, progress_on, cells_on, cells_same}
+use Rattle.state_flow.proofs.EvaluatedExits.{its_domains, numbers_filled, rows_lead, rows_proper}
 use Rattle.state_flow.proofs.least_table.turn.Goals as goal
 
-pub evaluate-requires-clause-numbers : goal.evaluate-requires-clause-numbers
-evaluate-requires-clause-numbers c =
-    subst (AreNumbersOf c.args.pool.now) (sym c.in_ok-entry.ensures)
-    (numbers_there c.args.app.now c.args.pool.now c.args.cells.now.items c.args.place c.index_mut-cell.result.now c.requires.cells c.requires.waits (sym c.index_mut-cell.ensures.value))
+pub exit_groups-requires-clause-numbers : goal.exit_groups-requires-clause-numbers
+exit_groups-requires-clause-numbers c = numbers_there c.args.app.now c.args.pool.now c.args.cells.now.items c.args.place c.index_mut-cell.result.now c.requires.cells c.requires.waits (sym c.index_mut-cell.ensures.value)
 
-pub evaluate-requires-clause-row : goal.evaluate-requires-clause-row
-evaluate-requires-clause-row c =
-    subst (λ (e : NumberedEntry). IsProperRow c.args.app.now (row_at c.index_mut-cell.result.now.point (plain_entry c.args.pool.now e))) (sym c.in_ok-entry.ensures)
-    (proper_there c.args.app.now c.args.pool.now c.args.cells.now.items c.args.place c.index_mut-cell.result.now c.requires.cells c.requires.waits (sym c.index_mut-cell.ensures.value))
+pub exit_groups-requires-clause-point : goal.exit_groups-requires-clause-point
+exit_groups-requires-clause-point c = (proper_there c.args.app.now c.args.pool.now c.args.cells.now.items c.args.place c.index_mut-cell.result.now c.requires.cells c.requires.waits (sym c.index_mut-cell.ensures.value)).row.point
 
-pub evaluate-requires-clause-cells : goal.evaluate-requires-clause-cells
-evaluate-requires-clause-cells c = asked_cells c.args.app.now c.args.pool.now c.args.cells.now.items c.args.place c.index_mut-cell.result.now c.requires.cells c.requires.waits (sym c.index_mut-cell.ensures.value)
+pub exit_groups-requires-clause-allowed : goal.exit_groups-requires-clause-allowed
+exit_groups-requires-clause-allowed c = (proper_there c.args.app.now c.args.pool.now c.args.cells.now.items c.args.place c.index_mut-cell.result.now c.requires.cells c.requires.waits (sym c.index_mut-cell.ensures.value)).allowed
+
+pub exit_groups-requires-clause-domains : goal.exit_groups-requires-clause-domains
+exit_groups-requires-clause-domains c =
+    let app = c.args.app.now in
+    let pool = c.args.pool.now in
+    let cell = c.index_mut-cell.result.now in
+    let here = sym c.index_mut-cell.ensures.value in
+    let numbers = numbers_there app pool c.args.cells.now.items c.args.place cell c.requires.cells c.requires.waits here in
+    its_domains app c.requires.masks cell.point pool cell.entry numbers (proper_there app pool c.args.cells.now.items c.args.place cell c.requires.cells c.requires.waits here)
+
+pub exit_groups-requires-clause-filled : goal.exit_groups-requires-clause-filled
+exit_groups-requires-clause-filled c =
+    let app = c.args.app.now in
+    let pool = c.args.pool.now in
+    let cell = c.index_mut-cell.result.now in
+    let here = sym c.index_mut-cell.ensures.value in
+    let numbers = numbers_there app pool c.args.cells.now.items c.args.place cell c.requires.cells c.requires.waits here in
+    numbers_filled app c.requires.masks cell.point pool cell.entry numbers (proper_there app pool c.args.cells.now.items c.args.place cell c.requires.cells c.requires.waits here)
+
+pub join_groups-requires-clause-known : goal.join_groups-requires-clause-known
+join_groups-requires-clause-known c = c.in_ok-groups.ensures.known
+
+pub join_groups-requires-clause-proper : goal.join_groups-requires-clause-proper
+join_groups-requires-clause-proper c =
+    let app = c.args.app.now in
+    let pool = c.args.pool.now in
+    let cell = c.index_mut-cell.result.now in
+    let here = sym c.index_mut-cell.ensures.value in
+    let numbers = numbers_there app pool c.args.cells.now.items c.args.place cell c.requires.cells c.requires.waits here in
+    rows_proper app c.requires.masks cell.point pool cell.entry numbers (proper_there app pool c.args.cells.now.items c.args.place cell c.requires.cells c.requires.waits here)
+    c.exit_groups.new.pool c.exit_groups.ensures.pool c.in_ok-groups.groups.items c.in_ok-groups.ensures.known c.in_ok-groups.ensures.exits
+
+pub join_groups-requires-clause-cells : goal.join_groups-requires-clause-cells
+join_groups-requires-clause-cells c =
+    let app = c.args.app.now in
+    let pool = c.args.pool.now in
+    let cells = c.args.cells.now.items in
+    let cell = c.index_mut-cell.result.now in
+    cells_on app pool c.exit_groups.new.pool (set cells c.args.place (asked cell)) c.exit_groups.ensures.pool
+    (asked_cells app pool cells c.args.place cell c.requires.cells c.requires.waits (sym c.index_mut-cell.ensures.value))
 
 pub returns-clause-progress : goal.returns-clause-progress
 returns-clause-progress c =
@@ -24,7 +61,18 @@ returns-clause-progress c =
     let pool = c.args.pool.now in
     let cells = c.args.cells.now.items in
     let cell = c.index_mut-cell.result.now in
-    let after = c.evaluate.new.pool in
-    let end = c.evaluate.new.cells.items in
-    progress_on app pool cells c.args.place cell c.requires.cells c.requires.waits (sym c.index_mut-cell.ensures.value) after end c.in_ok-evaluate.ensures.cells
-    (subst (λ (e : NumberedEntry). IsEvaluated app cell.point (plain_entry pool e) (plain_cells pool (set cells c.args.place (asked cell))) (plain_cells after end)) c.in_ok-entry.ensures c.in_ok-evaluate.ensures.evaluated)
+    let here = sym c.index_mut-cell.ensures.value in
+    let after = c.exit_groups.new.pool in
+    let longer = c.exit_groups.ensures.pool in
+    let groups = c.in_ok-groups.groups.items in
+    let end = c.join_groups.new.cells.items in
+    let numbers = numbers_there app pool cells c.args.place cell c.requires.cells c.requires.waits here in
+    let proper = proper_there app pool cells c.args.place cell c.requires.cells c.requires.waits here in
+    let waits_no_more = asked_cells app pool cells c.args.place cell c.requires.cells c.requires.waits here in
+    on_ok_weaker c.join_groups.result
+    (λ joined. progress_on app pool cells c.args.place cell c.requires.cells c.requires.waits here after end joined.known (record {
+      rows = all_rows after groups;
+      leads = rows_lead app c.requires.masks cell.point pool cell.entry numbers proper after longer groups c.in_ok-groups.ensures.known c.in_ok-groups.ensures.exits;
+      joined = subst (λ (xs : List (Cell PlainEntry)). AreJoined app xs (all_rows after groups) (plain_cells after end)) (cells_same pool after (set cells c.args.place (asked cell)) longer waits_no_more.known) joined.joined;
+    }))
+    c.join_groups.ensures

@@ -16,12 +16,12 @@ loop-task-preserved c =
     let k = c.loop-task.task in
     let known : k < length x.app.now.tasks = omega (arith, c.loop-task-test.true, c.len-task-end.ensures) in
     let own = c.of.result.now in
-    one_need_more x.app.now x.pool.now x.after.now k c.loop-task.needs c.push.new.self c.need.result c.in_ok-push.ensures.ok
-    (c.need.ensures.least x.app.now (values_at x.pool.now k) (own_levels x.app.now x.pool.now x.levels.now k known c.requires.levels own c.of.ensures) (all_judged x.app.now x.pool.now x.levels.now k known c.requires.levels own c.of.ensures x.after.now c.requires.whole.numbers))
+    one_need_more x.app.now x.pool.now x.after k c.loop-task.needs c.push.new.self c.need.result c.in_ok-push.ensures.ok
+    (c.need.ensures.least x.app.now (values_at x.pool.now k) (own_levels x.app.now x.pool.now x.levels.now k known c.requires.levels own c.of.ensures) (all_judged x.app.now x.pool.now x.levels.now k known c.requires.levels own c.of.ensures x.after c.requires.whole.numbers))
     c.loop-task.invariant
 
 pub returns : goal.returns
 returns c =
     let x = c.args.self.now in
     let same : c.loop-task.task ≡ length x.app.now.tasks = omega (arith, c.loop-task-test.false, c.loop-task.auto.task-end, c.len-task-end.ensures) in
-    subst (λ (k : ℕ). AreNeeds x.app.now x.pool.now x.after.now k c.loop-task.needs) same c.loop-task.invariant
+    subst (λ (k : ℕ). AreNeeds x.app.now x.pool.now x.after k c.loop-task.needs) same c.loop-task.invariant

@@ -16,13 +16,13 @@ push_group-requires-clause-whole c =
     let x = c.args.self.now in
     let left = subst (λ (o : Option NumberedEntry). IfSome o (IsLeftBy x claim.Nobody (length x.app.now.tasks))) c.in-Some.is c.in_ok-entry.ensures.left in
     let filled = subst (λ (o : Option NumberedEntry). IfSome o AreFilled) c.in-Some.is c.in_ok-entry.ensures.filled in
-    left_whole x.app.now x.pool.now claim.Nobody x.after.now c.in-Some.entry left c.requires.decidable.whole filled
+    left_whole x.app.now x.pool.now claim.Nobody x.after c.in-Some.entry left c.requires.decidable.whole filled
 
 pub returns-in_default : goal.returns-in_default
 returns-in_default c =
     let x = c.args.self.now in
-    let never = subst (λ (o : Option NumberedEntry). IfNone o (NeverUnder x.app.now claim.Nobody x.pool.now x.after.now)) c.in_default.is c.in_ok-entry.ensures.none in
-    nobody_never x.app.now x.pool.now x.leaving c.requires.vacant x.after.now never c.args.groups.now.items
+    let never = subst (λ (o : Option NumberedEntry). IfNone o (NeverUnder x.app.now claim.Nobody x.pool.now x.after)) c.in_default.is c.in_ok-entry.ensures.none in
+    nobody_never x.app.now x.pool.now x.leaving c.requires.vacant x.after never c.args.groups.now.items
 
 pub returns : goal.returns
 returns c =
@@ -32,6 +32,6 @@ returns c =
     let left = subst (λ (o : Option NumberedEntry). IfSome o (IsLeftBy x claim.Nobody (length x.app.now.tasks))) c.in-Some.is c.in_ok-entry.ensures.left in
     let filled = subst (λ (o : Option NumberedEntry). IfSome o AreFilled) c.in-Some.is c.in_ok-entry.ensures.filled in
     let one = subst (λ (e : Decision). AddsOne x.pool.now x.leaving e entry c.args.groups.now.items c.push_group.new.groups.items) c.idle_decision-decision.ensures c.in_ok-push_group.ensures in
-    adds_group x.app.now x.pool.now x.leaving x.after.now (IsIt d) d c.args.groups.now.items c.requires.decidable.stay (idle_known x.app.now x.leaving.asked c.requires.vacant) entry c.push_group.new.groups.items
-    (left_whole x.app.now x.pool.now claim.Nobody x.after.now entry left c.requires.decidable.whole filled)
-    (nobody_group x.app.now x.pool.now x.leaving c.requires.vacant x.after.now entry left) one
+    adds_group x.app.now x.pool.now x.leaving x.after (IsIt d) d c.args.groups.now.items c.requires.decidable.stay (idle_known x.app.now x.leaving.asked c.requires.vacant) entry c.push_group.new.groups.items
+    (left_whole x.app.now x.pool.now claim.Nobody x.after entry left c.requires.decidable.whole filled)
+    (nobody_group x.app.now x.pool.now x.leaving c.requires.vacant x.after entry left) one

@@ -10,13 +10,13 @@ use Rattle.flow_rules.proofs.after_effect.AfterEffect.push_winner.Goals as goal
 pub returns-then-is_running : goal.returns-then-is_running
 returns-then-is_running c =
     let x = c.args.self.now in
-    no_running_winner x.app.now x.pool.now x.leaving c.args.task x.after.now c.args.groups.now.items (ap (λ (o : Option TaskNo). is_that_task o c.args.task.0) (sym c.over.ensures) ∙ sym c.is_running.ensures ∙ c.if-is_running.true)
+    no_running_winner x.app.now x.pool.now x.leaving c.args.task x.after c.args.groups.now.items (ap (λ (o : Option TaskNo). is_that_task o c.args.task.0) (sym c.over.ensures) ∙ sym c.is_running.ensures ∙ c.if-is_running.true)
 
 pub of-requires : goal.of-requires
 of-requires c = (let x = c.args.self.now in own_known x.app.now x.pool.now x.levels.now c.args.task.0 c.requires.known c.requires.decidable.levels)
 
 pub loop-level-init : goal.loop-level-init
-loop-level-init c = (let x = c.args.self.now in no_level x.app.now x.pool.now x.leaving x.after.now c.args.task.0 c.as_slice-level-items.result.now (decision.To (Some c.args.task)) c.args.groups.now.items)
+loop-level-init c = (let x = c.args.self.now in no_level x.app.now x.pool.now x.leaving x.after c.args.task.0 c.as_slice-level-items.result.now (decision.To (Some c.args.task)) c.args.groups.now.items)
 
 pub push_winner_at-requires-clause-other : goal.push_winner_at-requires-clause-other
 push_winner_at-requires-clause-other c = ap (λ (o : Option TaskNo). is_that_task o c.args.task.0) (sym c.over.ensures) ∙ sym c.is_running.ensures ∙ c.if-is_running.false
@@ -31,7 +31,7 @@ push_winner_at-requires-clause-level c =
 pub loop-level-preserved : goal.loop-level-preserved
 loop-level-preserved c =
     let x = c.args.self.now in
-    one_level_more x.app.now x.pool.now x.leaving x.after.now c.args.task.0 c.as_slice-level-items.result.now (decision.To (Some c.args.task)) c.loop-level.level-index c.level-item.result (sym c.level-item.is)
+    one_level_more x.app.now x.pool.now x.leaving x.after c.args.task.0 c.as_slice-level-items.result.now (decision.To (Some c.args.task)) c.loop-level.level-index c.level-item.result (sym c.level-item.is)
     c.args.groups.now.items c.loop-level.groups.items c.push_winner_at.new.groups.items c.loop-level.invariant c.in_ok-push_winner_at.ensures
 
 pub returns : goal.returns
@@ -41,6 +41,6 @@ returns c =
     let d = decision.To (Some t) in
     let k = c.loop-level.level-index in
     let same = c.as_slice-level-items.ensures in
-    let done = subst (λ (items : List Level). Adds x (IsAtFirst x.pool.now x.after.now t.0 items k d) c.args.groups.now.items c.loop-level.groups.items) same c.loop-level.invariant in
-    all_levels x.app.now x.pool.now x.leaving x.after.now t.0 x.levels.now c.requires.known c.requires.decidable.whole.numbers c.requires.decidable.levels c.of.result.now c.of.ensures d k
+    let done = subst (λ (items : List Level). Adds x (IsAtFirst x.pool.now x.after t.0 items k d) c.args.groups.now.items c.loop-level.groups.items) same c.loop-level.invariant in
+    all_levels x.app.now x.pool.now x.leaving x.after t.0 x.levels.now c.requires.known c.requires.decidable.whole.numbers c.requires.decidable.levels c.of.result.now c.of.ensures d k
     (omega (arith, ap length same, c.loop-level-test.false)) (λ value within h. winner_live x.app.now x.leaving t value h) c.args.groups.now.items c.loop-level.groups.items done

@@ -16,17 +16,17 @@ returns-in_default c =
     let x = c.args.self.now in
     let w = c.args.task in
     let level = c.args.level.now in
-    let none = subst (λ (o : Option NumberedEntry). IfNone o (NeverAt x.app.now (claim.Gets w level.priority c.over.result) x.pool.now x.after.now w.0 level)) c.in_default.is c.in_ok-entry.ensures.none in
-    let never = subst (λ (o : Option TaskNo). NeverAt x.app.now (claim.Gets w level.priority o) x.pool.now x.after.now w.0 level) c.over.ensures none in
-    no_winner x.app.now x.pool.now x.levels.now c.requires.decidable.levels x.leaving w c.requires.known c.requires.other level c.requires.level x.after.now never c.args.groups.now.items
+    let none = subst (λ (o : Option NumberedEntry). IfNone o (NeverAt x.app.now (claim.Gets w level.priority c.over.result) x.pool.now x.after w.0 level)) c.in_default.is c.in_ok-entry.ensures.none in
+    let never = subst (λ (o : Option TaskNo). NeverAt x.app.now (claim.Gets w level.priority o) x.pool.now x.after w.0 level) c.over.ensures none in
+    no_winner x.app.now x.pool.now x.levels.now c.requires.decidable.levels x.leaving w c.requires.known c.requires.other level c.requires.level x.after never c.args.groups.now.items
 
 pub push_group-requires-clause-whole : goal.push_group-requires-clause-whole
 push_group-requires-clause-whole c =
     let x = c.args.self.now in
     let w = c.args.task in
     let level = c.args.level.now in
-    let left : IsCut x.app.now x.pool.now (claim.Gets w level.priority c.over.result) w.0 level x.after.now c.in-Some.entry
-    = subst (λ (o : Option NumberedEntry). IfSome o (IsCut x.app.now x.pool.now (claim.Gets w level.priority c.over.result) w.0 level x.after.now)) c.in-Some.is c.in_ok-entry.ensures.some in
+    let left : IsCut x.app.now x.pool.now (claim.Gets w level.priority c.over.result) w.0 level x.after c.in-Some.entry
+    = subst (λ (o : Option NumberedEntry). IfSome o (IsCut x.app.now x.pool.now (claim.Gets w level.priority c.over.result) w.0 level x.after)) c.in-Some.is c.in_ok-entry.ensures.some in
     left.whole
 
 pub returns : goal.returns
@@ -35,8 +35,8 @@ returns c =
     let w = c.args.task in
     let level = c.args.level.now in
     let d = decision.To (Some w) in
-    let its : IsCut x.app.now x.pool.now (claim.Gets w level.priority c.over.result) w.0 level x.after.now c.in-Some.entry
-    = subst (λ (o : Option NumberedEntry). IfSome o (IsCut x.app.now x.pool.now (claim.Gets w level.priority c.over.result) w.0 level x.after.now)) c.in-Some.is c.in_ok-entry.ensures.some in
-    let left = subst (λ (o : Option TaskNo). IsCut x.app.now x.pool.now (claim.Gets w level.priority o) w.0 level x.after.now c.in-Some.entry) c.over.ensures its in
-    adds_group x.app.now x.pool.now x.leaving x.after.now (IsAtLevel x.pool.now x.after.now w.0 level d) d c.args.groups.now.items c.requires.decidable.stay c.requires.known c.in-Some.entry c.push_group.new.groups.items left.whole
-    (winner_group x.app.now x.pool.now x.levels.now c.requires.decidable.levels x.leaving w c.requires.known c.requires.other level c.requires.level x.after.now c.in-Some.entry c.requires.asked left.claimed) c.in_ok-push_group.ensures
+    let its : IsCut x.app.now x.pool.now (claim.Gets w level.priority c.over.result) w.0 level x.after c.in-Some.entry
+    = subst (λ (o : Option NumberedEntry). IfSome o (IsCut x.app.now x.pool.now (claim.Gets w level.priority c.over.result) w.0 level x.after)) c.in-Some.is c.in_ok-entry.ensures.some in
+    let left = subst (λ (o : Option TaskNo). IsCut x.app.now x.pool.now (claim.Gets w level.priority o) w.0 level x.after c.in-Some.entry) c.over.ensures its in
+    adds_group x.app.now x.pool.now x.leaving x.after (IsAtLevel x.pool.now x.after w.0 level d) d c.args.groups.now.items c.requires.decidable.stay c.requires.known c.in-Some.entry c.push_group.new.groups.items left.whole
+    (winner_group x.app.now x.pool.now x.levels.now c.requires.decidable.levels x.leaving w c.requires.known c.requires.other level c.requires.level x.after c.in-Some.entry c.requires.asked left.claimed) c.in_ok-push_group.ensures

@@ -5,12 +5,12 @@ use Rattle.flow_rules.proofs.AddingLaws.{no_winner, one_winner_more}
 use Rattle.flow_rules.proofs.after_effect.AfterEffect.push_winners.Goals as goal
 
 pub loop-task-init : goal.loop-task-init
-loop-task-init c = (let x = c.args.self.now in no_winner x.app.now x.pool.now x.leaving x.after.now c.args.groups.now.items)
+loop-task-init c = (let x = c.args.self.now in no_winner x.app.now x.pool.now x.leaving x.after c.args.groups.now.items)
 
 pub loop-task-preserved : goal.loop-task-preserved
 loop-task-preserved c =
     let x = c.args.self.now in
-    one_winner_more x.app.now x.pool.now x.leaving x.after.now (task_no c.loop-task.task) c.args.groups.now.items c.loop-task.groups.items c.push_winner.new.groups.items c.loop-task.invariant c.in_ok-push_winner.ensures
+    one_winner_more x.app.now x.pool.now x.leaving x.after (task_no c.loop-task.task) c.args.groups.now.items c.loop-task.groups.items c.push_winner.new.groups.items c.loop-task.invariant c.in_ok-push_winner.ensures
 
 pub returns : goal.returns
 returns c =
