@@ -2,7 +2,7 @@
 program and for nothing but to be compared with it."""
 from services import activated, event_set, service_effect
 from states import ARRIVAL, HALTED, IDLE, KEEP, LEFT, MAYBE, NO, NOTHING, OK, SUSPENDED, Armed, Effect, Live, Routine, Running, State, \
-    Step, To, at_place, executing, place_of, replaced, with_alarm, with_task
+    Step, To, at_place, executing, first_in_line, place_of, replaced, turn, with_alarm, with_task
 
 
 class Kernel:
@@ -19,9 +19,9 @@ class Kernel:
         return max([2 * self.app.tasks[task].priority] + held)
 
     def best(self, state):
-        """The Live task of the highest current priority, the first of those that share it; None where none is Live."""
+        """The Live task of the highest current priority, of those that share it the one whose turn it is; None where none is Live."""
         live = [t for t, activity in enumerate(state.tasks) if isinstance(activity, Live)]
-        return max(live, key=lambda t: (self.priority(state, t), -t), default=None)
+        return max(live, key=lambda t: (self.priority(state, t), -turn(state, t)), default=None)
 
     # The start, and steps.
 
@@ -30,12 +30,11 @@ class Kernel:
         app = self.app
         tasks = tuple(Live(app.first[t], 0, ()) if mode in task.modes else SUSPENDED for t, task in enumerate(app.tasks))
         alarms = tuple(Armed(a.time, a.cycle) if mode in a.modes else None for a in app.alarms)
-        state = State(mode, IDLE, tasks, (0,) * len(tasks), (0,) * len(app.counters), alarms, frozenset())
+        line = tuple(t for t, task in enumerate(app.tasks) if mode in task.modes)
+        state = State(mode, IDLE, tasks, (0,) * len(tasks), (0,) * len(app.counters), alarms, frozenset(), line)
         best = self.best(state)
         hooks = ['Startup'] + (['PreTask'] if best is not None else [])
-        if best is not None:
-            state = state._replace(processor=Running(best))
-        return Step(state, None, None, self.shown_hooks(hooks), NOTHING)
+        return Step(self.run_by(state, best), None, None, self.shown_hooks(hooks), NOTHING)
 
     def request(self, state, source):
         """What `irq` and `tick` do: the source is latched."""
@@ -87,8 +86,13 @@ class Kernel:
         return task is not None and self.priority(state, task) > self.priority(state, other)
 
     def switched(self, state, task, ran):
+        """A task that is preempted goes first in the line."""
         hooks = (['PostTask'] if ran is not None else []) + (['PreTask'] if task is not None else [])
-        return state._replace(processor=IDLE if task is None else Running(task)), To(task), hooks
+        return self.run_by(first_in_line(state), task), To(task), hooks
+
+    def run_by(self, state, task):
+        """The state in which this task has the processor, or none."""
+        return state._replace(processor=IDLE if task is None else Running(task), line=tuple(t for t in state.line if t != task))
 
     # Effects.
 

@@ -2,12 +2,13 @@
 
 A table has for each point the values that each task, each event bit and each alarm may have there. The least one has the starts of all
 modes, and the steps of all states that it admits. Here these are done one by one: every choice of one value a component is a state, with
-every choice of what the table doesn't keep (latches, where within `work` the processor is, whether an alarm is due)."""
+every choice of what the table doesn't keep (latches, where within `work` the processor is, whether an alarm is due, which of the tasks that
+share a priority is ready longest)."""
 import itertools
 
 from kernel import Kernel
 from points import HALT_POINT, IDLE_POINT, NOBODY, block_point, points_of, shown_point
-from states import ARRIVAL, HALTED, IDLE, KEEP, NOTHING, Armed, Live, Routine, Running, State, To, at_place, place_of, with_alarm
+from states import ARRIVAL, HALTED, IDLE, KEEP, NOTHING, Armed, Live, Routine, Running, State, To, at_place, executing, place_of, with_alarm
 
 MOST_ASKED = 100000
 """How many states are asked at most where a tool can do without the table."""
@@ -45,7 +46,9 @@ class TableSteps:
         for (task, bit), value in zip(self.bits, values[count:]):
             masks[task] |= value << bit
         alarms = tuple(Armed(0, 0) if armed else None for armed in values[count + len(self.bits):])
-        return State(0, self.processor_at(point), tuple(values[:count]), tuple(masks), (0,) * len(app.counters), alarms, frozenset())
+        processor, tasks = self.processor_at(point), tuple(values[:count])
+        state = State(0, processor, tasks, tuple(masks), (0,) * len(app.counters), alarms, frozenset(), ())
+        return state._replace(line=tuple(t for t, task in enumerate(tasks) if isinstance(task, Live) and t != executing(state)))
 
     def processor_at(self, point):
         if point in (HALT_POINT, IDLE_POINT):
@@ -62,10 +65,17 @@ class TableSteps:
         """The steps of a state with each choice of what a table doesn't keep."""
         if state.processor == HALTED:
             return []
-        found = [] if state.processor == IDLE else [self.kernel.run(*chosen) for chosen in self.chosen(state)]
+        running = [] if state.processor == IDLE else [chosen for lined in self.lined(state) for chosen in self.chosen(lined)]
+        found = [self.kernel.run(*chosen) for chosen in running]
         if not isinstance(state.processor, Routine) and not self.kernel.is_locked(state):
             found += [self.kernel.run(state._replace(latched=frozenset([s])), False) for s in range(len(self.app.sources))]
         return found
+
+    def lined(self, state):
+        """The state with the line as it may be otherwise: each ready task that shares its priority with another one comes first."""
+        priorities = [self.kernel.priority(state, t) for t in state.line]
+        firsts = [t for t, priority in zip(state.line, priorities) if priorities.count(priority) > 1]
+        return [state._replace(line=(t,) + tuple(u for u in state.line if u != t)) for t in firsts] or [state]
 
     def chosen(self, state):
         """The state with its offset, and with the alarm that may expire here, as they may be otherwise; each with a choice."""

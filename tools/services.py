@@ -1,7 +1,7 @@
 """The services of the model of kernel.py, in the order of ISO 17356-3. Each one first has its refusals in the order in which they are
 tested: a pair of a condition and a status."""
 from states import HALTED, IDLE, LEFT, MAYBE, NO, OK, SUSPENDED, Armed, Effect, Live, Routine, Running, Waiting, executing, \
-    replaced, with_alarm, with_task
+    first_in_line, last_in_line, replaced, with_alarm, with_task
 from task_code import LOCKS
 
 
@@ -156,7 +156,7 @@ class Call:
         return self.accepted(self.moved, status=None, value=self.app.modes[self.before.mode])
 
     def ShutdownOS(self):
-        return Effect(self.moved._replace(processor=HALTED), NO, None, None, True)
+        return Effect(first_in_line(self.moved)._replace(processor=HALTED), NO, None, None, True)
 
 
 def service_effect(app, before, moved, block):
@@ -170,7 +170,7 @@ def activated(app, state, task):
     """The activation of a task: the state after it, its status, and whether it was one."""
     if state.tasks[task] != SUSPENDED:
         return state, 'E_OS_LIMIT', False
-    live = with_task(state, task, Live(app.first[task], 0, ()))
+    live = last_in_line(with_task(state, task, Live(app.first[task], 0, ())), task)
     return live._replace(masks=replaced(state.masks, task, 0)), OK, True
 
 
@@ -183,7 +183,7 @@ def event_set(app, state, task, mask):
     activity = state.tasks[task]
     if not isinstance(activity, Waiting) or not awaited(app, activity.block) & mask & own:
         return after, OK, False
-    return with_task(after, task, Live(app.blocks[activity.block].next, 0, ())), OK, True
+    return last_in_line(with_task(after, task, Live(app.blocks[activity.block].next, 0, ())), task), OK, True
 
 
 def awaited(app, block):

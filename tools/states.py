@@ -1,9 +1,9 @@
 """States of an application in the model of kernel.py, and their parts. No state is changed: what changes one makes a new one."""
 from collections import namedtuple
 
-State = namedtuple('State', 'mode processor tasks masks counters alarms latched')
-"""A state: who has the processor, the activity and the event mask of each task, the value of each counter, each alarm, and the
-sources that are latched. An alarm is None or Armed."""
+State = namedtuple('State', 'mode processor tasks masks counters alarms latched line')
+"""A state: who has the processor, the activity and the event mask of each task, the value of each counter, each alarm, the sources that are
+latched, and the tasks that are ready, in the order in which those of one priority run. An alarm is None or Armed."""
 
 Armed = namedtuple('Armed', 'at cycle')
 
@@ -58,6 +58,21 @@ def executing(state):
     if isinstance(state.processor, Routine):
         return state.processor.over
     return state.processor.task if isinstance(state.processor, Running) else None
+
+
+def last_in_line(state, task):
+    return state._replace(line=state.line + (task,))
+
+
+def first_in_line(state):
+    """The state in which the task that has the processor, or is interrupted, goes first in the line, if there is one."""
+    task = executing(state)
+    return state if task is None else state._replace(line=(task,) + state.line)
+
+
+def turn(state, task):
+    """By which tasks of one priority run: the running or interrupted one, and then by the line."""
+    return -1 if executing(state) == task else state.line.index(task)
 
 
 def place_of(state):

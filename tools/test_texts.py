@@ -110,6 +110,25 @@ class Models(unittest.TestCase):
         lines = trace_of(app, 'run 0\nirq I\nirq I\n' + 'run 0\n' * 6).splitlines()
         self.assertEqual([line.split(' ')[1] for line in lines], ['T1'] * 7 + ['@I', 'T1', '-'])
 
+    def test_tasks_of_one_priority_run_in_the_order_of_their_activation(self):
+        app = app_of('TASK T0 { PRIORITY = 0; SCHEDULE = NON; AUTOSTART = TRUE; }; TASK T1 { PRIORITY = 1; }; TASK T2 { PRIORITY = 1; };',
+                     'TASK(T0) { ActivateTask(T2); ChainTask(T1); } TASK(T1) { } TASK(T2) { }')
+        lines = trace_of(app, 'run 0\n' * 4).splitlines()
+        self.assertEqual([line.split(' ')[1] for line in lines], ['T0', 'T0', 'T2', 'T1', '-'])
+
+    def test_a_preempted_task_runs_before_others_of_its_priority(self):
+        app = app_of('TASK T1 { PRIORITY = 1; AUTOSTART = TRUE; }; TASK T0 { PRIORITY = 1; }; TASK T2 { PRIORITY = 2; };',
+                     'TASK(T1) { ActivateTask(T0); ActivateTask(T2); } TASK(T0) { } TASK(T2) { }')
+        lines = trace_of(app, 'run 0\n' * 5).splitlines()
+        self.assertEqual([line.split(' ')[1] for line in lines], ['T1', 'T1', 'T2', 'T1', 'T0', '-'])
+
+    def test_a_table_has_either_of_two_tasks_that_share_a_ceiling_first(self):
+        body = 'GetResource(R); ActivateTask(T3); ReleaseResource(R);'
+        app = app_of('RESOURCE R; TASK T1 { PRIORITY = 1; AUTOSTART = TRUE; RESOURCE = R; }; TASK T2 { PRIORITY = 2; AUTOSTART = TRUE; RESOURCE = R; };'
+                     ' TASK T3 { PRIORITY = 3; };', 'TASK(T1) { %s } TASK(T2) { %s } TASK(T3) { }' % (body, body))
+        shown = least_table.show(app).splitlines()
+        self.assertTrue({'edge b8 b2', 'edge b8 b6', 'edge b2 b3', 'edge b2 b6', 'edge b6 b2', 'edge b6 b7'} <= set(shown), shown)
+
     def test_wrong_words_are_told(self):
         app = example_app('lamp')
         for text in ('run\n', 'run 2\n', 'irq\n', 'x y\n', 'irq Nobody\n'):

@@ -8,7 +8,7 @@ use Rattle.osek_standard.specs.declared.state.Processor.TheVariants as processor
 use Rattle.osek_standard.specs.declared.task_state.Activity.{Activity}
 use Rattle.osek_standard.specs.declared.task_state.Activity.TheVariants as activity
 use Rattle.osek_standard.specs.{TaskStates.{is_live_activity}, States.{task_state, source_state, place_in, place_by, place_of_source}}
-use Rattle.osek_standard.specs.Well.{Well, IsActivityOf, IsOwn, IsProcessor, IsRunningAt, IsPlaceOf}
+use Rattle.osek_standard.specs.Well.{Well, IsActivityOf, IsOwn, IsOfRoutine, IsProcessor, IsRunningAt}
 use Rattle.osek_standard.specs.declared.point.Point.TheVariants as point
 use Rattle.abstract_state.specs.declared.value.Component.{Component}
 use Rattle.abstract_state.specs.declared.value.Component.TheVariants as component
@@ -39,9 +39,9 @@ module _ (app : App) where
   val_of_activity t (activity.Live x) h = (h.own, h.stack)
   val_of_activity t (activity.Waiting b) h = h
 
-  routine_place : (k : ℕ) (x : Source) → IsRunningAt app k x → IsPlaceOf app k (place_of_source x)
-  routine_place k source.Out h = absurd h
-  routine_place k (source.In p) h = h
+  routine_owns : (k : ℕ) (x : Source) → IsRunningAt app k x → IsOfRoutine app k (place_of_source x).block.0
+  routine_owns k source.Out h = absurd h
+  routine_owns k (source.In x) h = h.own
 
   over_known : (s : State) (o : Option TaskNo) → IfSome o (λ t. (t.0 < length app.tasks) × (is_live_activity (task_state s t.0).activity ≡ true)) → IfSome o (λ t. t.0 < length app.tasks)
   over_known s None h = tt
@@ -59,7 +59,7 @@ module _ (app : App) where
     point_by (processor.Interrupted k over) h = record {
       source = k.0;
       known = h.known;
-      own = (routine_place k.0 (source_state s k.0) h.runs).own;
+      own = routine_owns k.0 (source_state s k.0) h.runs;
       task = over_known s over h.over;
     }
 

@@ -1,23 +1,24 @@
 -- Values that the components can have at a point, one each, make a well-formed state there.
-use Rattle.std.proofs.Common.{◌≡◌, ℕ, ◌<◌, ◌≤◌, Bool, true, false, ◌&&◌, length, map, replicate, get_or, refl, sym, ap, subst, ◌∙◌, inl, inr, arith, Some, None, IfSome}
+use Rattle.std.proofs.Common.{◌≡◌, ◌≢◌, ℕ, ◌+◌, ◌<◌, ◌≤◌, Bool, true, false, ◌&&◌, not, nat_lt, [], length, map, replicate, get_or, refl, sym, ap, subst, ◌∙◌, inl, inr, arith, Some, None, IfSome}
+use Rattle.std.proofs.lemmas.Bool.{cases_eq, cases_lt, and_parts, eq-eqb, false≢true, ne_eqb, Decides.{nat_tests}}
+use Rattle.std.proofs.lemmas.List.{get_or_past, get_or-replicate, length-replicate, FromFn.{length-map-range_with_len, get_or-map-range_with_len}}
 use Rattle.std.specs.{Prelude.{if◌then◌else◌}, List.{range_with_len}, declared.option.Option.{Option}}
-use Rattle.std.proofs.lemmas.{Bool.{cases_lt, and_parts, eq-eqb, ne_eqb}, List.{get_or_past, get_or-replicate, length-replicate}}
-use Rattle.std.proofs.lemmas.List.FromFn.{length-map-range_with_len, get_or-map-range_with_len}
 use Rattle.osek_values.specs.{Numbers.{task_no, source_no, mode_no, event_no, alarm_no}, declared.numbers.{TaskNo.{TaskNo}, BlockNo.{BlockNo}, SourceNo.{SourceNo}}, Bits.{has_bit}}
-use Rattle.osek_standard.specs.declared.{app.App.{App}, task_state.TaskState.{TaskState}, state.{Source.{Source}, AlarmState.{AlarmState}}}
+use Rattle.osek_standard.specs.declared.{app.App.{App}, task_state.TaskState.{TaskState}, state.{Source.{Source}, AlarmState.{AlarmState}}, point.Point.{Point}}
+use Rattle.osek_standard.specs.{Apps.{the_task, the_counter, the_block, source_count, no_task}, TaskStates.{suspended, is_live, is_live_activity}}
+use Rattle.osek_standard.specs.{States.{task_of, task_state, source_state, alarm_state, is_source_at, is_that_task, place_in, place_of_source}, Effects.{place_at}, Line.{places_due}}
+use Rattle.osek_standard.specs.{Well.{HasProcessor, IsActivityOf, IsAlarmState, IsArmed, IsOffsetAt, IsProcessor, IsRunningAt, IsSourceState, IsTaskState}, Points.{point_of, IsPoint}}
 use Rattle.osek_standard.specs.declared.state.Source.TheVariants as source
 use Rattle.osek_standard.specs.declared.state.AlarmState.TheVariants as alarm
-use Rattle.osek_standard.specs.{Apps.{the_task, the_counter, the_block, source_count}, TaskStates.{suspended, is_live, is_live_activity}}
-use Rattle.osek_standard.specs.{States.{task_state, source_state, alarm_state, place_in, place_of_source}, Effects.{place_at}}
-use Rattle.osek_standard.specs.Well.{HasProcessor, IsActivityOf, IsAlarmState, IsArmed, IsOffsetAt, IsProcessor, IsRunningAt, IsTaskState}
-use Rattle.osek_standard.proofs.{WellLaws.{own_block, routine_block}, Keeps.{offset_0}}
-use Rattle.osek_standard.specs.declared.point.Point.{Point}
 use Rattle.osek_standard.specs.declared.point.Point.TheVariants as point
+use Rattle.osek_standard.proofs.{WellLaws.{own_block, routine_block, offset_0}, StackLaws.{no_stack}, SourceKeeps.{running_is_right}}
+use Rattle.osek_standard.proofs.PlaceLaws.{places_in, passing_line, one_inside, none_outside}
 use Rattle.abstract_state.specs.declared.value.{Val.{Val, TheVariants.{Suspended, Live, Waiting}}, LiveVal.{LiveVal}, Component.{Component}, PartValue.{PartValue, TheVariants.{OfTask, OfEvent, OfAlarm}}}
+use Rattle.abstract_state.specs.Components.{component_at, component_count, component_number, value_in, is_armed, abstract_of, part_of, IsComponent, IsVal, IsLiveAt}
+use Rattle.abstract_state.specs.Components.{IsLiveSomewhere, FitsPoint, IsPart}
+use Rattle.abstract_state.specs.Concrete.{Free, val_of, flag_of, activity_of, alarm_of, event_chosen, task_chosen, alarm_chosen, source_by, processor_by, state_of, StandsThere}
+use Rattle.abstract_state.specs.Concrete.{IsFree, IsRoutineAt, AreAllowed, HasParts, is_in_line, has_place}
 use Rattle.abstract_state.specs.declared.value.Component.TheVariants as component
-use Rattle.osek_standard.specs.Points.{point_of, IsPoint}
-use Rattle.abstract_state.specs.Components.{component_at, component_count, component_number, value_in, is_armed, abstract_of, part_of, IsComponent, IsVal, IsLiveAt, IsLiveSomewhere, FitsPoint, IsPart}
-use Rattle.abstract_state.specs.Concrete.{Free, val_of, flag_of, activity_of, alarm_of, event_chosen, task_chosen, alarm_chosen, source_by, processor_by, state_of, StandsThere, IsFree, AreAllowed, HasParts}
 use Rattle.abstract_state.proofs.{ComponentLaws.{component_known, component_numbered, task_counted, task_at_its_number}, BitLaws.{has_bit_of_number, number_within}}
 
 -- values, and what is made of them
@@ -71,10 +72,10 @@ module _ (app : App) (p : Point) where
   val_part t (OfEvent f) h = absurd h
   val_part t (OfAlarm f) h = absurd h
 
-  activity_right : (t : ℕ) (v : Val) (o : ℕ) → IsVal app t v → ((x : LiveVal) → v ≡ Live x → IsOffsetAt (the_block app x.block.0).kind o) → IsActivityOf app t (activity_of v o)
-  activity_right t Suspended o h offset = tt
-  activity_right t (Live x) o h offset = record { own = h.0; offset = offset x refl; stack = h.1 }
-  activity_right t (Waiting b) o h offset = h
+  activity_right : (t : ℕ) (v : Val) (o : ℕ) → t < length app.tasks → IsVal app t v → ((x : LiveVal) → v ≡ Live x → IsOffsetAt (the_block app x.block.0).kind o) → IsActivityOf app t (activity_of v o)
+  activity_right t Suspended o lt h offset = tt
+  activity_right t (Live x) o lt h offset = record { own = h.0; offset = offset x refl; stack = h.1; further = (app.valid.activations t no_task lt).0 }
+  activity_right t (Waiting b) o lt h offset = h
 
   alarm_right : (a : ℕ) (b : Bool) (at cycle : ℕ) → IsArmed app a at cycle → IsAlarmState app a (alarm_of b at cycle)
   alarm_right a true at cycle h = h
@@ -111,7 +112,7 @@ module _ (app : App) (p : Point) where
     module _ (allowed : AreAllowed app p value) (chosen : IsFree app p value free) where
       task_right : (t : ℕ) → t < length app.tasks → IsTaskState app t (task_chosen app p value free t)
       task_right t lt = record {
-        activity = activity_right t (val_of (value t)) (free.offset t) (val_right value allowed t lt).0 (λ x e. chosen.offsets t x lt (live_part (value t) x e));
+        activity = activity_right t (val_of (value t)) (free.offset t) lt (val_right value allowed t lt).0 (λ x e. chosen.offsets t x lt (live_part (value t) x e));
         events = number_within (event_chosen app p value free t) 64 (the_task app t).own.0 (λ k e. (and_parts (has_bit (the_task app t).own.0 k) (flag_of (value (component_number app (component.Event (task_no t) (event_no k))))) e).0);
       }
 
@@ -141,7 +142,7 @@ module _ (app : App) (p : Point) where
 module _ (app : App) (value : ℕ → PartValue) (free : Free) where
   -- the source's routine, at this block
   abbrev inside : BlockNo → Source
-  inside b = source.In (record { at = place_at b free.routine_offset })
+  inside b = source.In (record { at = place_at b free.routine_offset; held = [] })
 
   here_in : (b : BlockNo) (over : Option TaskNo) (known : free.source.0 < source_count app) → source_state (state_of app (point.Routine b over) value free) free.source.0 ≡ inside b
   here_in b over known =
@@ -152,6 +153,13 @@ module _ (app : App) (value : ℕ → PartValue) (free : Free) where
   interrupted b over None known fits = tt
   interrupted b over (Some u) known fits = (known, live_chosen app (point.Routine b over) value free u.0 known (fits u.0 known refl))
 
+  other_out : (b : BlockNo) (over : Option TaskNo) (l : ℕ) → l ≢ free.source.0 → source_state (state_of app (point.Routine b over) value free) l ≡ source.Out
+  other_out b over l other = source_out app (point.Routine b over) value free l (ap (λ (t : Bool). if t then inside b else source.Out) (ne_eqb l free.source.0 other))
+
+  routine_runs : (b : BlockNo) (over : Option TaskNo) → IsRoutineAt app (point.Routine b over) value free b over → IsRunningAt app free.source.0 (source_state (state_of app (point.Routine b over) value free) free.source.0)
+  routine_runs b over stands =
+      subst (IsRunningAt app free.source.0) (sym (here_in b over stands.known)) (record { own = stands.own; offset = stands.offset; stack = no_stack app; none = λ _. refl })
+
   processor_right : (p : Point) → StandsThere app p value free p → ((t : ℕ) → t < length app.tasks → FitsPoint app p t (val_of (value t))) → IsProcessor app (state_of app p value free) (processor_by app p value free p)
   processor_right point.Halted stands fits = λ k. source_out app point.Halted value free k refl
   processor_right point.Idle stands fits = λ k. source_out app point.Idle value free k refl
@@ -161,8 +169,11 @@ module _ (app : App) (value : ℕ → PartValue) (free : Free) where
   }
   processor_right (point.Routine b over) stands fits = record {
     known = stands.known;
-    runs = subst (IsRunningAt app free.source.0) (sym (here_in b over stands.known)) (record { own = stands.own; offset = stands.offset });
-    others = λ l other. source_out app (point.Routine b over) value free l (ap (λ (t : Bool). if t then inside b else source.Out) (ne_eqb l free.source.0 other));
+    runs = routine_runs b over stands;
+    others = λ l. elim (cases_eq l free.source.0) [
+      | inl same ↦ subst (λ (k : ℕ). IsSourceState app k (source_state (state_of app (point.Routine b over) value free) k)) (sym same) (running_is_right app free.source.0 _ (routine_runs b over stands))
+      | inr other ↦ subst (IsSourceState app l) (sym (other_out b over l other)) tt
+    ];
     over = interrupted b over over stands.interrupted fits;
   }
 
@@ -173,6 +184,40 @@ module _ (app : App) (value : ℕ → PartValue) (free : Free) where
       ap (λ (x : TaskState). point.Task (place_in x.activity).block) (task_is app (point.Task b) value free free.task.0 stands.0)
       ∙ ap point.Task (place_of_value b (val_of (value free.task.0)) (free.offset free.task.0) (fits free.task.0 stands.0 stands.1))
   point_is (point.Routine b over) stands fits = ap (λ (x : Source). point.Routine (place_of_source x).block over) (here_in b over stands.known)
+
+module _ (app : App) (value : ℕ → PartValue) (free : Free) where
+  -- the routine at the point is the only one
+  chosen_alone : (p : Point) (k : ℕ) → is_source_at (processor_by app p value free p) k ≡ false → source_state (state_of app p value free) k ≡ source.Out
+  chosen_alone point.Halted k f = source_out app point.Halted value free k refl
+  chosen_alone point.Idle k f = source_out app point.Idle value free k refl
+  chosen_alone (point.Task b) k f = source_out app (point.Task b) value free k refl
+  chosen_alone (point.Routine b over) k f = other_out app value free b over k (λ same. false≢true (sym f ∙ eq-eqb free.source.0 k (sym same)))
+
+one_place : (b : Bool) → (if b then 0 else 0 + 1) ≡ (if not b then 1 else 0)
+one_place true = refl
+one_place false = refl
+
+-- a task with a value stands in the line as often as its activity wants it
+due_by_value : (current : Option TaskNo) (t : ℕ) (v : Val) (o : ℕ) → places_due current t (activity_of v o) ≡ (if is_in_line current t v then 1 else 0)
+due_by_value current t Suspended o = refl
+due_by_value current t (Live x) o = one_place (is_that_task current t)
+due_by_value current t (Waiting b) o = refl
+
+module _ (app : App) (p : Point) (value : ℕ → PartValue) (free : Free) where
+  abbrev current : Option TaskNo
+  current = task_of (processor_by app p value free p)
+
+  places_chosen : (t : ℕ) → (if has_place app p value free t then 1 else 0) ≡ places_due current t (task_state (state_of app p value free) t).activity
+  places_chosen t = elim (cases_lt t (length app.tasks)) [
+    | inl lt ↦ (let e : nat_lt t (length app.tasks) ≡ true = grind (arith, nat_tests) in
+        ap (λ (b : Bool). if b && is_in_line current t (val_of (value t)) then 1 else 0) e
+        ∙ sym (due_by_value current t (val_of (value t)) (free.offset t))
+        ∙ ap (λ (x : TaskState). places_due current t x.activity) (sym (task_is app p value free t lt)))
+    | inr past ↦ (let e : nat_lt t (length app.tasks) ≡ false = grind (arith, nat_tests) in
+        let long = length-map-range_with_len (task_chosen app p value free) 0 (length app.tasks) in
+        ap (λ (b : Bool). if b && is_in_line current t (val_of (value t)) then 1 else 0) e
+        ∙ ap (λ (x : TaskState). places_due current t x.activity) (sym (get_or_past (map (task_chosen app p value free) (range_with_len 0 (length app.tasks))) t suspended (omega (arith, past, long)))))
+  ]
 
 -- the state with these values
 pub state_has_parts : (app : App) (p : Point) (value : ℕ → PartValue) (free : Free) → AreAllowed app p value → IsFree app p value free → HasParts app p value (state_of app p value free)
@@ -190,7 +235,9 @@ state_has_parts app p value free allowed chosen =
         counters = chosen.counters;
         alarms = λ a lt. subst (IsAlarmState app a) (sym (alarm_is app p value free a lt)) (alarm_right app p a (flag_of (value (component_number app (component.Alarm (alarm_no a))))) (free.due a) (free.cycle a) (chosen.alarms a lt));
         processor = processor_right app value free p chosen.stands fits;
+        line = λ t. chosen.line t ∙ places_chosen app p value free t;
       };
+      regular = record { alone = chosen_alone app value free p };
       point = point_is app value free p chosen.stands fits;
       parts = parts_are app p value free allowed chosen;
     }
@@ -212,8 +259,14 @@ module _ (app : App) where
   source_there (point.Task b) h = source_no 0
   source_there (point.Routine b over) h = source_no h.source
 
-  first_choice : (p : Point) → IsPoint app p → Free
-  first_choice p h = record {
+  current_there : (p : Point) → IsPoint app p → Option TaskNo
+  current_there point.Halted h = None
+  current_there point.Idle h = None
+  current_there (point.Task b) h = Some (task_no h.task)
+  current_there (point.Routine b over) h = over
+
+  first_choice : (p : Point) → (ℕ → PartValue) → IsPoint app p → Free
+  first_choice p value h = record {
     mode = mode_no 0;
     counters = replicate (length app.counters) 0;
     latched = replicate (source_count app) false;
@@ -223,19 +276,39 @@ module _ (app : App) where
     offset = λ t. 0;
     due = λ a. 0;
     cycle = λ a. 0;
+    line = passing_line (λ t. is_in_line (current_there p h) t (val_of (value t))) 0 (length app.tasks);
   }
 
-  stands_first : (p : Point) (value : ℕ → PartValue) (h : IsPoint app p) → StandsThere app p value (first_choice p h) p
+  stands_first : (p : Point) (value : ℕ → PartValue) (h : IsPoint app p) → StandsThere app p value (first_choice p value h) p
   unfolding task_there source_there first_choice
   stands_first point.Halted value h = tt
   stands_first point.Idle value h = tt
   stands_first (point.Task b) value h = (h.known, h.own)
   stands_first (point.Routine b over) value h = record { known = h.known; own = h.own; offset = offset_0 app (the_block app b.0).kind (routine_block app h.source b.0 h.known h.own).operands; interrupted = h.task }
 
+  same_current : (p : Point) (value : ℕ → PartValue) (h : IsPoint app p) → current_there p h ≡ task_of (processor_by app p value (first_choice p value h) p)
+  unfolding current_there task_there first_choice
+  same_current point.Halted value h = refl
+  same_current point.Idle value h = refl
+  same_current (point.Task b) value h = refl
+  same_current (point.Routine b over) value h = refl
+
+  counted_line : (q : ℕ → Bool) (n t : ℕ) → places_in (passing_line q 0 n) t ≡ (if nat_lt t n && q t then 1 else 0)
+  counted_line q n t = elim (cases_lt t n) [
+    | inl lt ↦ (let e : nat_lt t n ≡ true = grind (arith, nat_tests) in one_inside q 0 n t (omega arith) (omega (arith, lt)) ∙ ap (λ (b : Bool). if b && q t then 1 else 0) (sym e))
+    | inr past ↦ (let e : nat_lt t n ≡ false = grind (arith, nat_tests) in none_outside q 0 n t (λ _. omega (arith, past)) ∙ ap (λ (b : Bool). if b && q t then 1 else 0) (sym e))
+  ]
+
+  line_first : (p : Point) (value : ℕ → PartValue) (h : IsPoint app p) (t : ℕ) → places_in (first_choice p value h).line t ≡ (if has_place app p value (first_choice p value h) t then 1 else 0)
+  unfolding first_choice
+  line_first p value h t =
+      counted_line (λ u. is_in_line (current_there p h) u (val_of (value u))) (length app.tasks) t
+      ∙ ap (λ (o : Option TaskNo). if nat_lt t (length app.tasks) && is_in_line o t (val_of (value t)) then 1 else 0) (same_current p value h)
+
   pub choice_allowed : (p : Point) (value : ℕ → PartValue) → IsPoint app p → AreAllowed app p value → (free : Free) × IsFree app p value free
   unfolding first_choice
   choice_allowed p value h allowed = (
-    first_choice p h,
+    first_choice p value h,
     record {
       mode = app.valid.some_mode;
       counters_len = length-replicate (length app.counters) 0;
@@ -246,5 +319,6 @@ module _ (app : App) where
           (let x : IsPart app p (component.Task (task_no t)) (OfTask (Live l)) = subst (IsPart app p (component.Task (task_no t))) e (allowed_task app p value allowed t lt) in
           offset_0 app (the_block app l.block.0).kind (own_block app t l.block.0 lt x.0.0).operands);
       alarms = λ a lt. record { at_most = omega arith; round = refl };
+      line = line_first p value h;
     },
   )

@@ -1,9 +1,9 @@
 -- Other choices of what a table doesn't keep are allowed too, and the states that they give.
-use Rattle.std.proofs.Common.{◌≡◌, ◌≢◌, ℕ, ◌<◌, ◌≤◌, Bool, true, false, List, length, replicate, get_or, refl, sym, ap, subst, ◌∙◌, inl, inr, arith, None, get_or-set_same, get_or-set_other}
-use Rattle.std.specs.Prelude.{◌==◌, ◌&&◌, nat_le, slice_set, if◌then◌else◌}
-use Rattle.std.proofs.lemmas.{Bool.{cases_lt, cases_eq, eq-eqb, ne_eqb, and_from, or_right, Decides.{nat_tests}}, List.{get_or_past, get_or-replicate, length-replicate}}
+use Rattle.std.proofs.Common.{◌≡◌, ℕ, ◌<◌, ◌≤◌, Bool, true, false, List, [], ◌∷◌, length, replicate, get_or, refl, sym, ap, subst, ◌∙◌, inl, inr, arith, None, get_or-set_same, get_or-set_other}
+use Rattle.std.specs.Prelude.{◌==◌, ◌&&◌, nat_le, nat_lt, slice_set, if◌then◌else◌}
+use Rattle.std.proofs.lemmas.{Bool.{cases_Bool, cases_lt, cases_eq, eq-eqb, ne_eqb, and_from, or_right, Decides.{nat_tests}}, List.{get_or_past, get_or-replicate, length-replicate}}
 use Rattle.std.proofs.Math.ListN.{length-set}
-use Rattle.osek_values.specs.{Numbers.{alarm_no}, declared.numbers.{TaskNo.{TaskNo}, BlockNo.{BlockNo}}}
+use Rattle.osek_values.specs.{Numbers.{task_no, alarm_no}, declared.numbers.{TaskNo.{TaskNo}, BlockNo.{BlockNo}}, Line.{place_in_line, without_first}}
 use Rattle.std.specs.declared.option.Option.{Option}
 use Rattle.osek_standard.specs.{declared.{app.App.{App}, objects.Counter.{Counter}, state.{State.{State}, Source.{Source}}}, Validity.{is_cycle_of}}
 use Rattle.osek_standard.specs.declared.state.AlarmState.TheVariants as alarm
@@ -12,13 +12,31 @@ use Rattle.osek_standard.specs.declared.{task_state.TaskState.{TaskState}, point
 use Rattle.osek_standard.specs.declared.point.Point.TheVariants as point
 use Rattle.osek_standard.specs.{Apps.{the_block, the_alarm, the_counter, source_count, max_of, no_alarm, no_counter}, States.{alarm_state, here, place_in, place_of_source}}
 use Rattle.osek_standard.specs.{Effects.{place_at}, Arrivals.{arrival}, Points.{StandsAt, IsPoint}, Well.{IsOffsetAt, IsArmed}}
-use Rattle.osek_standard.proofs.ArrivalLaws.{is_arrival, none_latched as nothing_arrives}
+use Rattle.osek_standard.proofs.{ArrivalLaws.{is_arrival, none_latched as nothing_arrives}, PlaceLaws.{places_in, itself_first, other_first, without_same, without_other}}
 use Rattle.abstract_state.specs.declared.value.{LiveVal.{LiveVal}, Val.{Val, TheVariants.{Suspended, Live, Waiting}}, PartValue.{PartValue, TheVariants.{OfTask}}}
 use Rattle.abstract_state.specs.declared.value.Component.TheVariants as component
 use Rattle.abstract_state.specs.Components.{component_number, IsLiveAt}
 use Rattle.abstract_state.specs.Concrete.{Free, val_of, flag_of, activity_of, alarm_of, IsFree, StandsThere, AreAllowed, HasParts, state_of}
-use Rattle.abstract_state.specs.Choices.{with_latches, with_offset, with_routine_offset, with_arming, with_counter, IsQuiet, IsQuietAt, IsQuietWith, IsLatchedAlone}
+use Rattle.abstract_state.specs.Choices.{with_latches, with_offset, with_routine_offset, with_arming, with_counter, with_first, first_of_line}
+use Rattle.abstract_state.specs.Choices.{IsFirstIfThere, IsQuiet, IsQuietAt, IsQuietWith, IsLatchedAlone}
 use Rattle.abstract_state.proofs.ConcreteLaws.{state_has_parts, choice_allowed, task_is, alarm_is, source_is, val_right}
+
+-- each task stands in a line as often as before, whichever comes first
+moved_ahead : (t u : ℕ) (line : List TaskNo) → 0 < places_in line t → places_in (task_no t ∷ without_first line t) u ≡ places_in line u
+moved_ahead t u line some = elim (cases_eq u t) [
+  | inl same ↦ subst (λ (v : ℕ). places_in (task_no t ∷ without_first line t) v ≡ places_in line v) (sym same) (itself_first (task_no t) (without_first line t) ∙ without_same t line some)
+  | inr other ↦ (other_first u (task_no t) (without_first line t) other ∙ without_other t u line other)
+]
+
+same_places : (t u : ℕ) (line : List TaskNo) → places_in (first_of_line t line) u ≡ places_in line u
+same_places t u line = elim (cases_Bool (nat_lt 0 (places_in line t))) [
+  | inl e ↦ (let some : 0 < places_in line t = grind (arith, nat_tests) in rw e (moved_ahead t u line some))
+  | inr e ↦ (rw e refl)
+]
+
+-- and that task comes first, if it stands there
+comes_first : (t : ℕ) (line : List TaskNo) → 0 < places_in line t → place_in_line (first_of_line t line) t ≡ 0
+comes_first t line some = let e : nat_lt 0 (places_in line t) ≡ true = grind (arith, nat_tests) in rw (e, eq-eqb t t refl) refl
 
 module _ (app : App) (p : Point) (value : ℕ → PartValue) (free : Free) where
   stands_with_latches : (latched : List Bool) (q : Point) → StandsThere app p value free q → StandsThere app p value (with_latches free latched) q
@@ -51,6 +69,12 @@ module _ (app : App) (p : Point) (value : ℕ → PartValue) (free : Free) where
   stands_with_counter c x (point.Task b) h = h
   stands_with_counter c x (point.Routine b over) h = record { known = h.known; own = h.own; offset = h.offset; interrupted = h.interrupted }
 
+  stands_with_first : (t : ℕ) (q : Point) → StandsThere app p value free q → StandsThere app p value (with_first free t) q
+  stands_with_first t point.Halted h = h
+  stands_with_first t point.Idle h = h
+  stands_with_first t (point.Task b) h = h
+  stands_with_first t (point.Routine b over) h = record { known = h.known; own = h.own; offset = h.offset; interrupted = h.interrupted }
+
   module _ (h : IsFree app p value free) where
     pub free_latches : (latched : List Bool) → length latched ≡ source_count app → IsFree app p value (with_latches free latched)
     free_latches latched long = record {
@@ -61,6 +85,7 @@ module _ (app : App) (p : Point) (value : ℕ → PartValue) (free : Free) where
       stands = stands_with_latches latched p h.stands;
       offsets = h.offsets;
       alarms = h.alarms;
+      line = h.line;
     }
 
     pub free_offset : (t o : ℕ) → ((x : LiveVal) → value t ≡ OfTask (Live x) → IsOffsetAt (the_block app x.block.0).kind o) → IsFree app p value (with_offset free t o)
@@ -75,6 +100,7 @@ module _ (app : App) (p : Point) (value : ℕ → PartValue) (free : Free) where
         | inr other ↦ (rw (ne_eqb u t other) (h.offsets u x lt e))
       ];
       alarms = h.alarms;
+      line = h.line;
     }
 
     pub free_routine_offset : (o : ℕ) → ((b : BlockNo) (over : Option TaskNo) → p ≡ point.Routine b over → IsOffsetAt (the_block app b.0).kind o) → IsFree app p value (with_routine_offset free o)
@@ -86,6 +112,7 @@ module _ (app : App) (p : Point) (value : ℕ → PartValue) (free : Free) where
       stands = stands_with_routine_offset o p known h.stands;
       offsets = h.offsets;
       alarms = h.alarms;
+      line = h.line;
     }
 
     pub free_arming : (a at cycle : ℕ) → IsArmed app a at cycle → IsFree app p value (with_arming free a at cycle)
@@ -100,6 +127,7 @@ module _ (app : App) (p : Point) (value : ℕ → PartValue) (free : Free) where
         | inl same ↦ (rw (eq-eqb b a same) (subst (λ (i : ℕ). IsArmed app i at cycle) (sym same) armed))
         | inr other ↦ (rw (ne_eqb b a other) (h.alarms b lt))
       ];
+      line = h.line;
     }
 
     pub free_counter : (c x : ℕ) → x ≤ (the_counter app c).max → IsFree app p value (with_counter free c x)
@@ -117,6 +145,19 @@ module _ (app : App) (p : Point) (value : ℕ → PartValue) (free : Free) where
       stands = stands_with_counter c x p h.stands;
       offsets = h.offsets;
       alarms = h.alarms;
+      line = h.line;
+    }
+
+    pub free_first : (t : ℕ) → IsFree app p value (with_first free t)
+    free_first t = record {
+      mode = h.mode;
+      counters_len = h.counters_len;
+      counters = h.counters;
+      latched_len = h.latched_len;
+      stands = stands_with_first t p h.stands;
+      offsets = h.offsets;
+      alarms = h.alarms;
+      line = λ u. same_places t u free.line ∙ h.line u;
     }
 
 -- none latched, and one alone
@@ -162,9 +203,21 @@ module _ (app : App) (p : Point) (value : ℕ → PartValue) (known : IsPoint ap
   quiet_by : (free : Free) → free.latched ≡ replicate (source_count app) false → arrival app (state_of app p value free) ≡ None
   quiet_by free e = nothing_arrives app (state_of app p value free) (λ k. ap (λ (l : List Bool). get_or l k false) e ∙ none_latched (source_count app) k)
 
+  -- in which task t comes first
+  first_by : (t : ℕ) (free : Free) → IsFirstIfThere t (state_of app p value (with_first free t))
+  first_by t free some = comes_first t free.line (subst (λ (n : ℕ). 0 < n) (same_places t t free.line) some)
+
   -- a state in which no routine begins
-  pub some_quiet : (s : State) × IsQuiet app p value s
-  some_quiet = (state_of app p value quiet_free, record { has = state_has_parts app p value quiet_free allowed quiet_is_free; quiet = quiet_by quiet_free refl })
+  pub some_quiet : (t : ℕ) → (s : State) × IsQuiet app p value t s
+  some_quiet t =
+      let free = with_first quiet_free t in (
+        state_of app p value free,
+        record {
+          has = state_has_parts app p value free allowed (free_first app p value quiet_free quiet_is_free t);
+          quiet = quiet_by free refl;
+          first = first_by t quiet_free;
+        },
+      )
 
   -- a state in which source k's routine begins if one may
   pub some_latched : (k : ℕ) → k < source_count app → (s : State) × IsLatchedAlone app p value k s
@@ -177,20 +230,22 @@ module _ (app : App) (p : Point) (value : ℕ → PartValue) (known : IsPoint ap
         s,
         record {
           has = state_has_parts app p value free allowed (free_latches app p value c.0 c.1 latched long);
-          arrives = λ may. is_arrival app s k (record {
+          arrives = λ may high. is_arrival app s k (record {
             allowed = may;
             latched = one_is_latched (source_count app) k lt;
-            first = λ l set. (let same : l ≡ k = one_latched (source_count app) k l set in grind (arith, nat_tests));
+            above = high;
+            others = λ l set other. absurd (other (one_latched (source_count app) k l set));
           });
         },
       )
 
   -- the counter of alarm a stands at a value, and the alarm has a time and a cycle
-  pub some_armed : (a at cycle now : ℕ) → a < length app.alarms → IsArmed app a at cycle → now ≤ max_of app a → (s : State) × IsQuietWith app p value a at cycle now s
-  some_armed a at cycle now lt armed most =
+  pub some_armed : (t a at cycle now : ℕ) → a < length app.alarms → IsArmed app a at cycle → now ≤ max_of app a → (s : State) × IsQuietWith app p value t a at cycle now s
+  some_armed t a at cycle now lt armed most =
       let c = (the_alarm app a).counter.0 in
-      let first = with_arming quiet_free a at cycle in
-      let free = with_counter first c now in
+      let armed_free = with_arming quiet_free a at cycle in
+      let counted = with_counter armed_free c now in
+      let free = with_first counted t in
       let s = state_of app p value free in
       let few : c < length quiet_free.counters = let there = (app.valid.each_alarm a no_alarm lt).counter in let long = quiet_is_free.counters_len in omega (arith, there, long) in
       let own : flag_of (value (component_number app (component.Alarm (alarm_no a)))) ≡ true → alarm_state s a ≡ alarm.Armed at cycle
@@ -199,8 +254,10 @@ module _ (app : App) (p : Point) (value : ℕ → PartValue) (known : IsPoint ap
       ∙ ap (λ (e : Bool). alarm.Armed (if e then at else quiet_free.due a) (if e then cycle else quiet_free.cycle a)) (eq-eqb a a refl) in (
         s,
         record {
-          has = state_has_parts app p value free allowed (free_counter app p value first (free_arming app p value quiet_free quiet_is_free a at cycle armed) c now most);
+          has = state_has_parts app p value free allowed
+              (free_first app p value counted (free_counter app p value armed_free (free_arming app p value quiet_free quiet_is_free a at cycle armed) c now most) t);
           quiet = quiet_by free refl;
+          first = first_by t counted;
           counter = get_or-set_same quiet_free.counters c now 0 few;
           armed = λ e. own (ap flag_of e);
         },
@@ -216,43 +273,48 @@ block_of_live : (b : BlockNo) (x : LiveVal) (y : PartValue) → IsLiveAt b (val_
 block_of_live b x y h e = let there : IsLiveAt b (Live x) = subst (λ (z : PartValue). IsLiveAt b (val_of z)) e h in there
 
 abbrev inside : BlockNo → ℕ → Source
-inside b o = source.In (record { at = place_at b o })
+inside b o = source.In (record { at = place_at b o; held = [] })
 
 -- a state in which no routine begins, and who has the processor stands so far in the block
-pub some_quiet_at : (app : App) (p : Point) (value : ℕ → PartValue) → IsPoint app p → AreAllowed app p value → (b : BlockNo) (o : ℕ) → StandsAt p b → IsOffsetAt (the_block app b.0).kind o → (s : State) × IsQuietAt app p value b o s
-some_quiet_at app point.Halted value known allowed b o same offset = absurd same
-some_quiet_at app point.Idle value known allowed b o same offset = absurd same
-some_quiet_at app (point.Task c) value known allowed b o same offset =
+pub some_quiet_at : (app : App) (p : Point) (value : ℕ → PartValue) → IsPoint app p → AreAllowed app p value → (u : ℕ) (b : BlockNo) (o : ℕ) → StandsAt p b → IsOffsetAt (the_block app b.0).kind o →
+    (s : State) × IsQuietAt app p value u b o s
+some_quiet_at app point.Halted value known allowed u b o same offset = absurd same
+some_quiet_at app point.Idle value known allowed u b o same offset = absurd same
+some_quiet_at app (point.Task c) value known allowed u b o same offset =
     let p = point.Task c in
     let before = quiet_free app p value known allowed in
     let h = quiet_is_free app p value known allowed in
     let t = before.task.0 in
     let there : IsLiveAt c (val_of (value t)) = (val_right app p value allowed t h.stands.0).1 h.stands.1 in
-    let free = with_offset before t o in
+    let placed = with_offset before t o in
+    let free = with_first placed u in
     let s = state_of app p value free in (
       s,
       record {
-        has = state_has_parts app p value free allowed (free_offset app p value before h t o
-            (λ x e. subst (λ (d : BlockNo). IsOffsetAt (the_block app d.0).kind o) (sym (block_of_live c x (value t) there e ∙ same)) offset));
+        has = state_has_parts app p value free allowed (free_first app p value placed (free_offset app p value before h t o
+            (λ x e. subst (λ (d : BlockNo). IsOffsetAt (the_block app d.0).kind o) (sym (block_of_live c x (value t) there e ∙ same)) offset)) u);
         quiet = quiet_by app p value known allowed free refl;
+        first = first_by app p value known allowed u placed;
         stands = ap (λ (x : TaskState). place_in x.activity) (task_is app p value free t h.stands.0)
             ∙ ap (λ (e : Bool). place_in (activity_of (val_of (value t)) (if e then o else before.offset t))) (eq-eqb t t refl)
             ∙ place_of_live c (val_of (value t)) o there
             ∙ ap (λ (d : BlockNo). place_at d o) same;
       },
     )
-some_quiet_at app (point.Routine c over) value known allowed b o same offset =
+some_quiet_at app (point.Routine c over) value known allowed u b o same offset =
     let p = point.Routine c over in
     let before = quiet_free app p value known allowed in
     let h = quiet_is_free app p value known allowed in
     let k = before.source.0 in
-    let free = with_routine_offset before o in
+    let placed = with_routine_offset before o in
+    let free = with_first placed u in
     let s = state_of app p value free in (
       s,
       record {
-        has = state_has_parts app p value free allowed (free_routine_offset app p value before h o
-            (λ d under e. let next : c ≡ d = cc in subst (λ (i : BlockNo). IsOffsetAt (the_block app i.0).kind o) (sym same ∙ next) offset));
+        has = state_has_parts app p value free allowed (free_first app p value placed (free_routine_offset app p value before h o
+            (λ d under e. let next : c ≡ d = cc in subst (λ (i : BlockNo). IsOffsetAt (the_block app i.0).kind o) (sym same ∙ next) offset)) u);
         quiet = quiet_by app p value known allowed free refl;
+        first = first_by app p value known allowed u placed;
         stands = ap place_of_source (source_is app p value free k h.stands.known
             ∙ ap (λ (e : Bool). if e then inside c o else source.Out) (eq-eqb k k refl))
             ∙ ap (λ (d : BlockNo). place_at d o) same;

@@ -2,9 +2,10 @@
 use Rattle.std.proofs.{Common.{◌≡◌, ◌↔◌, Bool, true, false, refl, IsTrue}, lemmas.Bool.{and_from, and_parts}}
 use mathlib.Core.Path.{fun_ext}
 use Rattle.osek_standard.specs.{declared.{app.App.{App}, state.State.{State}}, Kernel.{start, step}, Points.{point_of}}
-use Rattle.abstract_state.specs.{Components.{abstract_of}, Tables.{Sets, In, Inductive, IsContained, Least, meet, full}}
+use Rattle.abstract_state.specs.{Components.{abstract_of}, Regular.{IsRegular}, Tables.{Sets, In, Inductive, IsContained, Least, meet, full}}
 use Rattle.osek_standard.specs.Well.{Well}
 use Rattle.osek_standard.proofs.StepKeeps.{start_is_well, step_keeps}
+use Rattle.abstract_state.proofs.RegularLaws.{start_regular, step_regular}
 
 same_truth : (a b : Bool) → (IsTrue a → IsTrue b) → (IsTrue b → IsTrue a) → a ≡ b
 same_truth true true f g = refl
@@ -38,11 +39,12 @@ meet_greatest a b c x y = record {
 
 module _ (app : App) where
   pub in_larger : (a b : Sets) (s : State) → IsContained a b → In app a s → In app b s
-  in_larger a b s x h = record { well = h.well; entry = x.entry (point_of s) h.entry; within = λ c lt. x.has (point_of s) c (abstract_of app s c) (h.within c lt) }
+  in_larger a b s x h = record { well = h.well; regular = h.regular; entry = x.entry (point_of s) h.entry; within = λ c lt. x.has (point_of s) c (abstract_of app s c) (h.within c lt) }
 
   pub in_meet : (a b : Sets) (s : State) → In app a s → In app b s → In app (meet a b) s
   in_meet a b s x y = record {
     well = x.well;
+    regular = x.regular;
     entry = and_from (a.entry (point_of s)) (b.entry (point_of s)) x.entry y.entry;
     within = λ c lt. and_from (a.has (point_of s) c (abstract_of app s c)) (b.has (point_of s) c (abstract_of app s c)) (x.within c lt) (y.within c lt);
   }
@@ -59,11 +61,11 @@ module _ (app : App) where
   pub one_least : (a b : Sets) → Least app a → Least app b → a ≡ b
   one_least a b x y = contained_equal a b (x.least b y.inductive) (y.least a x.inductive)
 
-  pub in_full : (s : State) → Well app s → In app full s
-  in_full s w = record { well = w; entry = refl; within = λ c lt. refl }
+  pub in_full : (s : State) → Well app s → IsRegular s → In app full s
+  in_full s w regular = record { well = w; regular = regular; entry = refl; within = λ c lt. refl }
 
   pub full_inductive : Inductive app full
   full_inductive = record {
-    start = λ mode known. in_full (start app mode).state (start_is_well app mode known);
-    step = λ s e h. in_full (step app s e).state (step_keeps app s e h.well);
+    start = λ mode known. in_full (start app mode).state (start_is_well app mode known) (start_regular app mode known);
+    step = λ s e h. in_full (step app s e).state (step_keeps app s e h.well) (step_regular app s e h.well h.regular);
   }

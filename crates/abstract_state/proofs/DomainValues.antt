@@ -16,7 +16,7 @@ use Rattle.abstract_state.proofs.Stacks.{Apart, apart_append, apart_map, apart_f
 module _ (app : App) (p : Point) where
   val_within : (t : ℕ) (v : Val) → IsVal app t v → IsWithin (domain_of app (component.Task (record { 0 = t }))) (OfTask v)
   val_within t Suspended h = tt
-  val_within t (Live x) h = (h.0, record { distinct = h.1.distinct; known = h.1.known })
+  val_within t (Live x) h = (h.0, h.1.out_of)
   val_within t (Waiting b) h = h.own
 
   part_within : (x : Component) (v : PartValue) → IsPart app p x v → IsWithin (domain_of app x) v

@@ -1,12 +1,14 @@
 -- The height of an entry with an application's domains, and how high it is at most.
-use Rattle.std.proofs.Common.{◌≡◌, ℕ, suc, ◌+◌, ◌*◌, ◌^◌, ◌<◌, ◌≤◌, List, [], ◌∷◌, ◌++◌, length, map, flat_map, get_or, refl, sym, ap, ap₂, ◌∙◌, arith, All}
-use Rattle.std.proofs.Math.Nat.{mul-le-mul}
-use Rattle.std.specs.List.{range_with_len, sum_by}
-use Rattle.std.proofs.lemmas.{List.{FromFn.{length-range_with_len}, Sums.{sum_by-cons, sum_by-append, sum_by-le}}, Nat.{ones-le}}
+use Rattle.std.proofs.Common.{◌≡◌, ℕ, suc, ◌+◌, ◌*◌, ◌^◌, ◌<◌, ◌≤◌, Bool, true, false, IsTrue, List, [], ◌∷◌, ◌++◌, length, map, flat_map, get_or, refl, sym, ap, ap₂, ◌∙◌, arith, All}
+use Rattle.std.specs.{Prelude.{not, is_some, if◌then◌else◌}, List.{range_with_len, sum_by, count_by, AllByRecursion}, declared.option.Option.{Option}}
+use Rattle.std.proofs.lemmas.{List.{FromFn.{length-range_with_len}, Sums.{sum_by-cons, sum_by-append, sum_by-le, count_by-le-length}, Elements.{recursion_from_All}}, Nat.{ones-le}}
 use Rattle.osek_values.proofs.BitCounts.{bits_counted}
-use Rattle.osek_values.specs.{Numbers.{task_no, event_no, alarm_no}, Bits.{has_bit}}
-use Rattle.osek_standard.specs.{declared.{app.App.{App}, objects.Task.{Task}}, Apps.{the_task, no_task}, Counts.{stacks, task_height, event_height, height}}
-use Rattle.osek_standard.proofs.CountLaws.{few_stacks}
+use Rattle.osek_values.specs.{declared.numbers.ResNo.{ResNo}, Numbers.{task_no, event_no, alarm_no}, Bits.{has_bit}}
+use Rattle.oil_system.specs.declared.objects.Resource.{Resource}
+use Rattle.osek_standard.specs.{declared.{app.App.{App}, objects.Task.{Task}}, Apps.{the_task, no_task}}
+use Rattle.osek_standard.specs.Counts.{stacks, live_height, task_height, event_height, height, takable_count}
+use Rattle.osek_standard.proofs.CountLaws.{few_stacks, few_live}
+use Rattle.abstract_state.proofs.ClosedLaws.{all_takable, no_internal, takes_once}
 use Rattle.abstract_state.specs.declared.value.Component.{Component}
 use Rattle.abstract_state.specs.declared.value.Component.TheVariants as component
 use Rattle.abstract_state.specs.{declared.table.{ValueSet.{ValueSet}, PlainEntry.{PlainEntry}}, Components.{own_bits, events_of, components}}
@@ -37,16 +39,33 @@ module _ {X : Type 0} where
       let rest : sum_by g (range_with_len (a + 1) (length xs)) ≡ sum_by h xs = sum_places h d g (a + 1) xs (λ i lt. ap g (omega arith) ∙ each (suc i) (omega (arith, lt))) in
       sum_by-cons g a (range_with_len (a + 1) (length xs)) ∙ ap₂ (λ (m n : ℕ). m + n) here rest ∙ sym (sum_by-cons h x xs)
 
+-- where all pass, all count
+all_counted : {X : Type 0} (p : X → Bool) (xs : List X) → AllByRecursion (λ x. IsTrue (p x)) xs → count_by p xs ≡ length xs
+all_counted p [] h = refl
+all_counted p (x ∷ xs) h = sum_by-cons (λ y. if p y then 1 else 0) x xs ∙ (let one : (if p x then 1 else 0) ≡ 1 = ap {B = ℕ} (λ (b : Bool). if b then 1 else 0) h.0 in omega (arith, one, all_counted p xs h.1))
+
+flat_height : (x : Task) (n : ℕ) → x.activation ≡ 1 → is_some x.internal ≡ false → 1 + x.count + x.count * n ≡ task_height n x
+flat_height x n once none = rw (none, once) (omega arith)
+
 module _ (app : App) where
   -- the size of a component's domain
   abbrev size : Component → ℕ
   size x = domain_size (domain_of app x)
 
-  tasks_sum : sum_by size (map (λ t. component.Task (task_no t)) (range_with_len 0 (length app.tasks))) ≡ sum_by (task_height (length app.resources)) app.tasks
+  -- each resource may stand on a stack yet
+  all_count : takable_count app ≡ length app.resources
+  all_count = all_counted (λ (r : Resource). not r.internal) app.resources (recursion_from_All (λ (r : Resource). IsTrue (not r.internal)) app.resources (all_takable app))
+
+  one_height : (i : ℕ) → i < length app.tasks → size (component.Task (task_no i)) ≡ task_height (stacks (takable_count app)) (the_task app i)
+  one_height i lt =
+      let x = the_task app i in
+      flat_height x (stacks (length app.resources)) (takes_once app i lt) (ap (λ (o : Option ResNo). is_some o) (no_internal app i)) ∙ ap (λ (n : ℕ). task_height (stacks n) x) (sym all_count)
+
+  tasks_sum : sum_by size (map (λ t. component.Task (task_no t)) (range_with_len 0 (length app.tasks))) ≡ sum_by (task_height (stacks (takable_count app))) app.tasks
   tasks_sum =
       sum_map size (λ t. component.Task (task_no t)) (range_with_len 0 (length app.tasks))
-      ∙ sum_places (task_height (length app.resources)) no_task (λ t. size (component.Task (task_no t))) 0 app.tasks
-      (λ i lt. ap (λ (t : ℕ). size (component.Task (task_no t))) (omega arith))
+      ∙ sum_places (task_height (stacks (takable_count app))) no_task (λ t. size (component.Task (task_no t))) 0 app.tasks
+      (λ i lt. ap (λ (t : ℕ). size (component.Task (task_no t))) (omega arith) ∙ one_height i lt)
 
   alarms_sum : sum_by size (map (λ a. component.Alarm (alarm_no a)) (range_with_len 0 (length app.alarms))) ≡ 2 * length app.alarms
   alarms_sum =
@@ -83,19 +102,33 @@ module _ (app : App) where
       ∙ sum_map domain_size (domain_of app) (components app)
       ∙ components_sum masks
 
-  -- a task's part, with at most 1,056 blocks and the stacks of 8 resources
-  task_few : All (λ (x : Task). task_height (length app.resources) x ≤ 115739713) app.tasks
+  takable_few : takable_count app ≤ 8
+  takable_few = omega (arith, count_by-le-length (λ (r : Resource). not r.internal) app.resources, app.valid.few_resources)
+
+  height_at_most : (n : ℕ) (x : Task) (most : ℕ) → live_height n x ≤ most → task_height n x ≤ 1 + x.count + 2 * most
+  height_at_most n x most h = by (is_some x.internal)
+    where
+      by : (b : Bool) → 1 + x.count + (if b then 2 * live_height n x else live_height n x) ≤ 1 + x.count + 2 * most
+      by true = omega (arith, h)
+      by false = omega (arith, h)
+
+  -- a task's part, with at most 65,535 blocks, the stacks of 8 resources and 255 activations, inside or not
+  task_few : All (λ (x : Task). task_height (stacks (takable_count app)) x ≤ 3663177848386) app.tasks
   task_few k d lt =
+      let x = get_or app.tasks k d in
       let owner = app.valid.each_task k d lt in
-      let blocks : (get_or app.tasks k d).count ≤ 1056 = omega (arith, owner.inside, app.valid.few_blocks) in
-      let deep = few_stacks (length app.resources) app.valid.few_resources in
-      omega (arith, blocks, mul-le-mul {n₁ = (get_or app.tasks k d).count} {m₁ = stacks (length app.resources)} {n₂ = 1056} {m₂ = 109601} blocks deep)
+      let blocks : x.count ≤ 65535 = omega (arith, owner.inside, app.valid.few_blocks) in
+      let live = few_live x.count (stacks (takable_count app)) x.activation blocks (few_stacks (takable_count app) takable_few) (app.valid.activations k d lt).1 in
+      omega (arith, blocks, height_at_most (stacks (takable_count app)) x 1831588891425 live.1)
 
   event_few : HasMasks app → All (λ (x : Task). event_height x ≤ 128) app.tasks
   event_few masks k d lt = omega (arith, ones-le 64 (get_or app.tasks k d).own.0 (masks k d lt))
 
-  pub height_few : HasMasks app → height app < 2 ^ 64
-  height_few masks =
-      let tasks = sum_by-le (task_height (length app.resources)) 115739713 app.tasks task_few in
+  pub height_most : HasMasks app → height app ≤ 58610845576256
+  height_most masks =
+      let tasks = sum_by-le (task_height (stacks (takable_count app))) 3663177848386 app.tasks task_few in
       let events = sum_by-le event_height 128 app.tasks (event_few masks) in
       omega (arith, tasks, events, app.valid.few_tasks, app.valid.few_alarms)
+
+  pub height_few : HasMasks app → height app < 2 ^ 64
+  height_few masks = omega (arith, height_most masks)

@@ -5,10 +5,12 @@ use Rattle.std.proofs.lemmas.{Bool.{cases_lt, eq-eqb}, List.{get_or_past}}
 use Rattle.osek_values.specs.declared.status.{Status.{Status}, Ask.{Ask}}
 use Rattle.osek_values.specs.declared.status.Ask.TheVariants as ask
 use Rattle.osek_values.specs.declared.{event.Event.{Event}, numbers.{ModeNo.{ModeNo}, TaskNo.{TaskNo}}}
-use Rattle.osek_standard.specs.{declared.{app.App.{App}, state.{State.{State}, Caller.{Caller, TheVariants.{Nobody, Task, Routine}}}}, TaskStates.{is_live}}
-use Rattle.osek_standard.specs.{States.{here, task_state, caller}, Priority.{best, current_priority}, Effects.{effect}}
-use Rattle.osek_standard.specs.{Dispatch.{Outcome, Keep, To, outcome, outcome_by, if_any, if_above, preempted_by, concluded, instruction}, Kernel.{step}, Well.{IsActive}}
-use Rattle.osek_standard.proofs.PriorityLaws.{best_is_live}
+use Rattle.osek_standard.specs.{declared.{app.App.{App}, state.{State.{State}, Source.{Source}, Processor.{Processor}, Caller.{Caller, TheVariants.{Nobody, Task, Routine}}}}, TaskStates.{is_live}}
+use Rattle.osek_standard.specs.{States.{here, task_state, source_state, is_interrupted, caller}, Priority.{best, current_priority}, Effects.{effect}}
+use Rattle.osek_standard.specs.{Dispatch.{Outcome, Keep, To, outcome, outcome_by, if_any, if_above, preempted_by, concluded, instruction}, Kernel.{step}, Well.{AreOut, IsActive, IsProcessor, IsRunningAt}}
+use Rattle.osek_standard.specs.declared.state.Source.TheVariants as source
+use Rattle.osek_standard.specs.declared.state.Processor.TheVariants as processor
+use Rattle.osek_standard.proofs.{PriorityLaws.{best_is_live}, AskLaws.{effect_may}, EffectKeeps.{effect_keeps}}
 use Rattle.image_model.specs.declared.site.{Form.{Form}, Known.{Known}, Site.{Site}}
 use Rattle.image_model.specs.declared.site.Form.TheVariants as form
 use Rattle.image_model.specs.declared.site.Known.TheVariants as known
@@ -70,9 +72,21 @@ module _ (app : App) (s : State) where
   none_right ask.Left e = refl
   none_right ask.Free e = refl
 
-  live_right : (b : Bool) (t : TaskNo) → b ≡ true → (if b then Some (To (Some t)) else None) ≡ Some (To (Some t))
-  live_right true t e = refl
-  live_right false t e = absurd (cc)
+  live_right : (over b : Bool) (t : TaskNo) → over ≡ false → b ≡ true → (if over then None else if b then Some (To (Some t)) else None) ≡ Some (To (Some t))
+  live_right over b t e f = rw (e, f) refl
+
+  never_dispatched : (a : Ask) (o : Option TaskNo) → a ≡ ask.No → outcome_by app s a ≡ To o → ⊥
+  never_dispatched a o e f = let kept : outcome_by app s a ≡ Keep = ap (outcome_by app s) e in absurd (cc (kept, f))
+
+none_runs : (app : App) (k : ℕ) (x : Source) → IsRunningAt app k x → x ≡ source.Out → ⊥
+none_runs app k x h e = let never : IsRunningAt app k source.Out = subst (IsRunningAt app k) e h in never
+
+-- where no routine is in, none has the processor
+none_interrupts : (app : App) (r : State) (q : Processor) → IsProcessor app r q → AreOut app r → is_interrupted q ≡ false
+none_interrupts app r processor.Halted h out = refl
+none_interrupts app r processor.Idle h out = refl
+none_interrupts app r (processor.Running t) h out = refl
+none_interrupts app r (processor.Interrupted k over) h out = absurd (none_runs app k.0 (source_state r k.0) h.runs (out k.0))
 
 allows_itself : (x : Option Status) → allows_status (known.Always x) x ≡ true
 allows_itself None = refl
@@ -97,6 +111,15 @@ module _ (i : Image) (table : Sets) (s : State) (choice : Bool) (inside : In i.a
   occurs_here : Occurs i.app table (here s).block.0 (outcome i.app s choice)
   occurs_here = record { from = s; choice = choice; inside = inside; active = active; stands = refl; is = refl }
 
+  -- a task is dispatched where no routine goes on
+  at_task_level : (t : TaskNo) → outcome i.app s choice ≡ To (Some t) → is_interrupted (effect i.app s choice).state.processor ≡ false
+  at_task_level t is =
+      let x = effect i.app s choice in
+      elim (effect_may i.app s inside.well choice) [
+        | inl none ↦ absurd (never_dispatched i.app x.state x.ask (Some t) none is)
+        | inr out ↦ none_interrupts i.app x.state x.state.processor (effect_keeps i.app s inside.well choice).processor out
+      ]
+
   formed_right : (f : Form) → FormOf i.app table (here s).block.0 f → formed_by i.app (effect i.app s choice) f ≡ Some (outcome i.app s choice)
   formed_right form.Never h = absurd (h (outcome i.app s choice) occurs_here)
   formed_right form.Stay h =
@@ -109,7 +132,7 @@ module _ (i : Image) (table : Sets) (s : State) (choice : Bool) (inside : In i.a
       let is : outcome i.app s choice ≡ To (Some t) = h.alone (outcome i.app s choice) occurs_here in
       let x = effect i.app s choice in
       let live = (best_is_live i.app x.state t (dispatched_best i.app x.state x.ask t is)).0 in
-      live_right i.app s (is_live (task_state x.state t.0)) t live ∙ ap (λ (o : Outcome). Some o) (sym is)
+      live_right i.app s (is_interrupted x.state.processor) (is_live (task_state x.state t.0)) t (at_task_level t is) live ∙ ap (λ (o : Outcome). Some o) (sym is)
   formed_right form.General h = refl
 
   noted_here : Noted i.app table (here s).block.0 (effect i.app s choice).notes.status

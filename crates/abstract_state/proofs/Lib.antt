@@ -1,3 +1,7 @@
+pub mod AloneLaws
+pub mod ClosedLaws
+pub mod RegularLaws
+pub mod SettledParts
 pub mod ContainmentLaws
 pub mod AlikeLaws
 pub mod FormLaws

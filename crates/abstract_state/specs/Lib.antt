@@ -4,6 +4,7 @@ pub mod Components
 pub mod Concrete
 pub mod Domains
 pub mod Forms
+pub mod Regular
 pub mod Tables
 pub mod ValueOrder
 pub mod Written

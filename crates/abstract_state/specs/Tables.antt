@@ -8,7 +8,7 @@ use Rattle.abstract_state.specs.declared.value.{Domain.{Domain}, PartValue.{Part
 use Rattle.abstract_state.specs.declared.value.Domain.TheVariants as domain
 use Rattle.abstract_state.specs.declared.table.{ValueSet.{ValueSet}, PlainEntry.{PlainEntry}, TableRow.{TableRow}, PlainTable.{PlainTable}}
 use Rattle.osek_standard.specs.Points.{point_of, IsPoint}
-use Rattle.abstract_state.specs.{ValueOrder.{same_part, IsAscending}, Components.{component_count, abstract_of, IsAllowed}}
+use Rattle.abstract_state.specs.{ValueOrder.{same_part, IsAscending}, Components.{component_count, abstract_of, IsAllowed}, Regular.{IsRegular}}
 
 -- What a table says, however it is written down: which points have an entry, and which values are in the entry's set
 -- for component c.
@@ -17,9 +17,10 @@ pub record Sets : Type 0 where
   pub has : Point → ℕ → PartValue → Bool
 
 -- A state is in a table: its point has an entry, and each component of it is in its set. Mode, counter values, latches,
--- offsets, due times and cycles are free.
+-- offsets, due times and cycles are free, and so is the order of the tasks in the line.
 pub record In (app : App) (table : Sets) (s : State) : Type 0 where
   pub well : Well app s
+  pub regular : IsRegular s
   pub entry : IsTrue (table.entry (point_of s))
   pub within : (c : ℕ) → c < component_count app → IsTrue (table.has (point_of s) c (abstract_of app s c))
 

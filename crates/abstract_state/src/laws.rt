@@ -14,8 +14,8 @@ ghost use Rattle.osek_standard.specs.declared.point.Point.TheVariants as point;
 ghost use Rattle.osek_standard.specs.Points.{point_of, IsPoint, StandsAt};
 ghost use Rattle.abstract_state.specs.Components.{component_at, component_count, component_number, abstract_of, IsAllowed, IsComponent};
 ghost use Rattle.abstract_state.specs.Concrete.{Free, IsFree, AreAllowed, HasParts, state_of};
-ghost use Rattle.abstract_state.specs.Choices.{with_latches, with_offset, with_routine_offset, with_arming, with_counter, IsQuiet, IsQuietAt, IsQuietWith, IsLatchedAlone};
-ghost use Rattle.abstract_state.specs.Alike.{IsAlike};
+ghost use Rattle.abstract_state.specs.Choices.{with_latches, with_offset, with_routine_offset, with_arming, with_counter, with_first, IsQuiet, IsQuietAt, IsQuietWith, IsLatchedAlone};
+ghost use Rattle.abstract_state.specs.{Alike.{IsAlike}, Regular.{IsRegular}};
 ghost use Rattle.abstract_state.specs.Tables.{Sets, In, Inductive, IsContained, Least, meet, full, IsSubset, IsJoin, IsPartOfJoin, IsSetBySet, set_at, sets_of, HasRow, HasValue};
 ghost use Rattle.abstract_state.specs.{ValueOrder.{same_part, part_order, IsAscending}, Domains.{domains, IsSound, IsSoundEntry, IsBelow}};
 ghost use Rattle.osek_standard.specs.Outcomes.{Silent, Arrived, Did, shows, IsInstruction, IsArrivalStep};
@@ -38,10 +38,10 @@ pub fn the_meet_is_inductive()
     ensures greatest { (a b c : Sets) → IsContained c a → IsContained c b → IsContained c (meet a b) }
 {}
 
-/// The table of everything is inductive, with each well-formed state in it.
+/// The table of everything is inductive, with each well-formed and regular state in it.
 pub fn the_full_table_is_inductive()
     ensures inductive { (app : App) → Inductive app full }
-    ensures states { (app : App) (s : State) → Well app s → In app full s }
+    ensures states { (app : App) (s : State) → Well app s → IsRegular s → In app full s }
 {}
 
 /// At most one table is least.
@@ -57,7 +57,7 @@ pub fn states_stay_in_larger_tables()
 /// Whether a well-formed state is in a table is seen from its point and its components alone: mode, counter values,
 /// latches, offsets, due times and cycles are free.
 pub fn alike_states_are_in_together()
-    ensures components { (app : App) (table : Sets) (s u : State) → Well app u → point_of s ≡ point_of u → ((c : ℕ) → c < component_count app → abstract_of app s c ≡ abstract_of app u c) → In app table s → In app table u }
+    ensures components { (app : App) (table : Sets) (s u : State) → Well app u → IsRegular u → point_of s ≡ point_of u → ((c : ℕ) → c < component_count app → abstract_of app s c ≡ abstract_of app u c) → In app table s → In app table u }
     ensures free { (app : App) (table : Sets) (s u : State) → Well app u → IsAlike s u → In app table s → In app table u }
 {}
 
@@ -180,14 +180,15 @@ pub fn all_else_may_be_chosen()
     ensures routine_offset { (app : App) (p : Point) (value : ℕ → PartValue) (free : Free) → IsFree app p value free → (o : ℕ) → ((b : BlockNo) (over : Option TaskNo) → p ≡ point.Routine b over → IsOffsetAt (the_block app b.0).kind o) → IsFree app p value (with_routine_offset free o) }
     ensures arming { (app : App) (p : Point) (value : ℕ → PartValue) (free : Free) → IsFree app p value free → (a at cycle : ℕ) → IsArmed app a at cycle → IsFree app p value (with_arming free a at cycle) }
     ensures counter { (app : App) (p : Point) (value : ℕ → PartValue) (free : Free) → IsFree app p value free → (c x : ℕ) → x ≤ (the_counter app c).max → IsFree app p value (with_counter free c x) }
+    ensures first { (app : App) (p : Point) (value : ℕ → PartValue) (free : Free) → IsFree app p value free → (t : ℕ) → IsFree app p value (with_first free t) }
 {}
 
-/// Values that the components can have at a point are those of a state there in which no routine begins, also with the
-/// processor so far in its block, with an alarm's time, cycle and counter as well-formedness allows, or of one in which
-/// the routine of a given source begins where one may.
+/// Values that the components can have at a point are those of a state there in which no routine begins and a given task
+/// comes first in the line if it stands there, also with the processor so far in its block, with an alarm's time, cycle and
+/// counter as well-formedness allows, or of one in which the routine of a given source begins where one may.
 pub fn states_are_found_where_they_are_asked_for()
-    ensures quiet { (app : App) (p : Point) (value : ℕ → PartValue) → IsPoint app p → AreAllowed app p value → (s : State) × IsQuiet app p value s }
-    ensures at { (app : App) (p : Point) (value : ℕ → PartValue) → IsPoint app p → AreAllowed app p value → (b : BlockNo) (o : ℕ) → StandsAt p b → IsOffsetAt (the_block app b.0).kind o → (s : State) × IsQuietAt app p value b o s }
-    ensures armed { (app : App) (p : Point) (value : ℕ → PartValue) → IsPoint app p → AreAllowed app p value → (a at cycle now : ℕ) → a < length app.alarms → IsArmed app a at cycle → now ≤ max_of app a → (s : State) × IsQuietWith app p value a at cycle now s }
+    ensures quiet { (app : App) (p : Point) (value : ℕ → PartValue) → IsPoint app p → AreAllowed app p value → (t : ℕ) → (s : State) × IsQuiet app p value t s }
+    ensures at { (app : App) (p : Point) (value : ℕ → PartValue) → IsPoint app p → AreAllowed app p value → (t : ℕ) (b : BlockNo) (o : ℕ) → StandsAt p b → IsOffsetAt (the_block app b.0).kind o → (s : State) × IsQuietAt app p value t b o s }
+    ensures armed { (app : App) (p : Point) (value : ℕ → PartValue) → IsPoint app p → AreAllowed app p value → (t a at cycle now : ℕ) → a < length app.alarms → IsArmed app a at cycle → now ≤ max_of app a → (s : State) × IsQuietWith app p value t a at cycle now s }
     ensures latched { (app : App) (p : Point) (value : ℕ → PartValue) → IsPoint app p → AreAllowed app p value → (k : ℕ) → k < source_count app → (s : State) × IsLatchedAlone app p value k s }
 {}

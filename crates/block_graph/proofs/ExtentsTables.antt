@@ -1,11 +1,10 @@
 -- What the tables of the application keep of those of the system, and how many blocks there are.
 use Rattle.std.proofs.Common.{◌≡◌, ℕ, zero, suc, ◌+◌, ◌*◌, ◌<◌, ◌≤◌, ◌^◌, List, [], ◌∷◌, length, map, Bool, true, false, cond, eqb, leb, refl, sym, ap, ◌∙◌, subst, arith}
-use Rattle.std.specs.{Prelude.{◌||◌, ◌&&◌, ◌==◌, nat_eq, nat_le, slice_index_or, All, count_by}, List.{IsDistinct, enumerate_from, filter}}
 use Rattle.std.proofs.lemmas.{Bool.Decides.{nat_tests}, List.{length-append, length-map, map-id, Sums.{count_by-le-length, sum_by-cons}}}
-use Rattle.oil_system.specs.declared.objects.{Action.{Action}, Alarm.{Alarm}}
+use Rattle.std.specs.{Prelude.{◌||◌, ◌&&◌, ◌==◌, nat_eq, nat_le, slice_index_or, All, count_by}, List.{IsDistinct, enumerate_from, filter, AllByRecursion}}
 use Rattle.osek_values.specs.Names.{AreNames}
+use Rattle.oil_system.specs.declared.{objects.{Action.{Action}, Alarm.{Alarm}}, system.{CounterObject.{CounterObject}, TaskObject.{TaskObject}, System.{System}}}
 use Rattle.oil_system.specs.declared.objects.Action.TheVariants as action
-use Rattle.oil_system.specs.declared.system.{CounterObject.{CounterObject}, TaskObject.{TaskObject}, System.{System}}
 use Rattle.osek_standard.specs.declared.{objects.{Counter.{Counter}, Isr.{Isr}, Task.{Task}}, block.Block.{Block}}
 use Rattle.osek_standard.specs.{Validity.{IsAction, IsAlarmOf, due_of, is_cycle_of, no_counter}, Versions.{FitsVersion1}}
 use Rattle.oil_model.specs.Linkable.{IsActionAmong, IsAlarmAmong, IsLinkable, is_cycle_of_object, no_counter_object}
@@ -101,6 +100,10 @@ module _ (s : System) (bodies : List Body) where
   pub isr_count : length (isrs_of s bodies) ≡ length s.isrs
   isr_count = length-map s.isrs (λ (name : List ℕ). isr_with name (extent body_kind.Isr name bodies 0))
 
+every : {X : Type 0} (P : X → Type 0) (xs : List X) → ((x : X) → P x) → AllByRecursion P xs
+every P [] h = tt
+every P (x ∷ xs) h = (h x, every P xs h)
+
 module _ (s : System) (bodies : List Body) (linkable : IsLinkable s) where
   pub task_names : AreNames (map (λ (x : Task). x.name) (tasks_of s bodies))
   task_names = subst AreNames (sym (mapped_twice (λ (x : TaskObject). task_with x (extent body_kind.Task x.name bodies 0)) (λ (x : Task). x.name) s.tasks)) linkable.task_names
@@ -110,6 +113,19 @@ module _ (s : System) (bodies : List Body) (linkable : IsLinkable s) where
 
   pub counter_names : AreNames (map (λ (x : Counter). x.name) (counters_of s bodies))
   counter_names = subst AreNames (sym (counter_name s s.counters 0 (source_size bodies))) linkable.counter_names
+
+  -- what is so of each task and of each ISR, whatever the system says of it
+  pub each_task_is : (P : Task → Type 0) → ((x : TaskObject) (e : ℕ × ℕ) → P (task_with x e)) → All P (tasks_of s bodies)
+  each_task_is P h =
+      all_at P (tasks_of s bodies)
+      (each_map P (λ (x : TaskObject). task_with x (extent body_kind.Task x.name bodies 0)) s.tasks
+      (every _ s.tasks (λ (x : TaskObject). h x (extent body_kind.Task x.name bodies 0))))
+
+  pub each_isr_is : (P : Isr → Type 0) → ((name : List ℕ) (e : ℕ × ℕ) → P (isr_with name e)) → All P (isrs_of s bodies)
+  each_isr_is P h =
+      all_at P (isrs_of s bodies)
+      (each_map P (λ (name : List ℕ). isr_with name (extent body_kind.Isr name bodies 0)) s.isrs
+      (every _ s.isrs (λ (name : List ℕ). h name (extent body_kind.Isr name bodies 0))))
 
   pub task_starts : All (λ (x : Task). x.autostart < 2 ^ length s.modes) (tasks_of s bodies)
   task_starts =

@@ -1,17 +1,16 @@
 -- What the block of a call names is declared.
 use Rattle.std.proofs.Common.{◌≡◌, ℕ, ◌<◌, ◌≤◌, Bool, true, false, cond, ltb, List, [], ◌∷◌, ◌++◌, length, refl, sym, subst, arith, IsTrue}
-use Rattle.std.specs.{Prelude.{All, Some, None, unwrap_or}, List.{position, position_or_len, flat_map}}
 use Rattle.std.proofs.lemmas.{Bool.{ltb-true}, List.{length-map}, Nat.{le_or_l}}
-use Rattle.osek_standard.specs.{declared.block.Block.{Block}, Tables.{Tables}, Validity.{IsOtherWay, NamesEntries, isr_may, is_own_next, task_may}}
-use Rattle.oil_system.specs.declared.system.{EventObject.{EventObject}, TaskObject.{TaskObject}, System.{System}}
-use Rattle.task_code.specs.declared.call.{Reference.{Reference}, Call.{Call}}
+use Rattle.std.specs.{Prelude.{All, Some, None, unwrap_or, not}, List.{position, position_or_len, flat_map}}
+use Rattle.oil_system.specs.declared.{system.{EventObject.{EventObject}, TaskObject.{TaskObject}, System.{System}}, objects.Resource.{Resource}}
+use Rattle.osek_standard.specs.{declared.block.Block.{Block}, Tables.{Tables}}
+use Rattle.osek_standard.specs.Validity.{IsOtherWay, NamesEntries, isr_may, is_own_next, task_may, is_internal, no_resource as no_resource_entry}
+use Rattle.task_code.specs.{declared.{call.{Reference.{Reference}, Call.{Call}}, tree.Body.{Body}}, Fit.{NamesEvents}}
 use Rattle.task_code.specs.declared.call.Call.TheVariants as call
-use Rattle.task_code.specs.declared.tree.Body.{Body}
 use Rattle.task_code.specs.declared.tree.BodyKind.TheVariants as body_kind
-use Rattle.task_code.specs.Fit.{NamesEvents}
-use Rattle.block_graph.specs.{Apps.{extent, tables_over, task_with, tasks_of}, Blocks.{event_bits, kind_of, mask_bits}}
+use Rattle.block_graph.specs.{Apps.{extent, tables_over, task_with, tasks_of}, Blocks.{event_bits, kind_of, mask_bits}, Names.{alarm_of, event_of, resource_of, task_of}}
+use Rattle.block_graph.specs.Rules.{no_alarm, no_event, no_resource, no_task, of_resource, undeclared, undeclared_in}
 use Rattle.block_graph.specs.Blocks as graph
-use Rattle.block_graph.specs.{Names.{alarm_of, event_of, resource_of, task_of}, Rules.{no_alarm, no_event, no_resource, no_task, of_resource, undeclared, undeclared_in}}
 
 pub both_empty : (a b : List ℕ) → a ++ b ≡ [] → (a ≡ []) × (b ≡ [])
 both_empty [] b e = (refl, e)
@@ -40,6 +39,11 @@ module _ (s : System) where
   resource_inside : (r : Reference) → no_resource s r ≡ [] → unwrap_or (resource_of s r.name) 0 < length s.resources
   resource_inside r e = number_inside _ s.resources r.line e
 
+  -- and it isn't INTERNAL
+  resource_taken : (r : Reference) → All (λ (x : Resource). IsTrue (not x.internal)) s.resources → no_resource s r ≡ [] →
+      (unwrap_or (resource_of s r.name) 0 < length s.resources) × IsTrue (not (is_internal s.resources (unwrap_or (resource_of s r.name) 0)))
+  resource_taken r takable e = (resource_inside r e, takable (unwrap_or (resource_of s r.name) 0) no_resource_entry (resource_inside r e))
+
   -- a declared event has a bit
   some_bit : (r : Reference) → All (λ (x : EventObject). 0 < x.mask.0) s.events → no_event s r ≡ [] → 0 < event_bits s r
   some_bit r events e = events (unwrap_or (event_of s r.name) 0) graph.no_event (number_inside _ s.events r.line e)
@@ -51,29 +55,29 @@ module _ (s : System) where
       let bit : 0 < event_bits s r = some_bit r events (both_empty (no_event s r) (flat_map (no_event s) more) e).0 in
       omega (arith, bit, le_or_l (event_bits s r) (mask_bits s more))
 
-  pub call_names_entries : (bodies : List Body) (blocks : List Block) → All (λ (x : EventObject). 0 < x.mask.0) s.events
+  pub call_names_entries : (bodies : List Body) (blocks : List Block) → All (λ (x : EventObject). 0 < x.mask.0) s.events → All (λ (x : Resource). IsTrue (not x.internal)) s.resources
       → (line : ℕ) (c : Call) → NamesEvents c → undeclared_in s line c ≡ [] → NamesEntries (tables_over s bodies blocks) (kind_of s c)
-  call_names_entries bodies blocks events line (call.ActivateTask task) m e = task_inside task bodies e
-  call_names_entries bodies blocks events line call.TerminateTask m e = tt
-  call_names_entries bodies blocks events line (call.ChainTask task) m e = task_inside task bodies e
-  call_names_entries bodies blocks events line call.Schedule m e = tt
-  call_names_entries bodies blocks events line (call.GetResource resource) m e = resource_inside resource e
-  call_names_entries bodies blocks events line (call.ReleaseResource resource) m e = resource_inside resource e
-  call_names_entries bodies blocks events line (call.SetEvent task mask) m e =
+  call_names_entries bodies blocks events takable line (call.ActivateTask task) m e = task_inside task bodies e
+  call_names_entries bodies blocks events takable line call.TerminateTask m e = tt
+  call_names_entries bodies blocks events takable line (call.ChainTask task) m e = task_inside task bodies e
+  call_names_entries bodies blocks events takable line call.Schedule m e = tt
+  call_names_entries bodies blocks events takable line (call.GetResource resource) m e = resource_taken resource takable e
+  call_names_entries bodies blocks events takable line (call.ReleaseResource resource) m e = resource_taken resource takable e
+  call_names_entries bodies blocks events takable line (call.SetEvent task mask) m e =
       let parts = both_empty (no_task s task) (flat_map (no_event s) mask) e in
       (task_inside task bodies parts.0, some_bits mask events m parts.1)
-  call_names_entries bodies blocks events line (call.ClearEvent mask) m e = some_bits mask events m e
-  call_names_entries bodies blocks events line (call.GetEvent task) m e = task_inside task bodies e
-  call_names_entries bodies blocks events line (call.WaitEvent mask) m e = some_bits mask events m e
-  call_names_entries bodies blocks events line (call.SetRelAlarm alarm increment cycle) m e = alarm_inside alarm e
-  call_names_entries bodies blocks events line (call.SetAbsAlarm alarm start cycle) m e = alarm_inside alarm e
-  call_names_entries bodies blocks events line (call.CancelAlarm alarm) m e = alarm_inside alarm e
-  call_names_entries bodies blocks events line (call.GetAlarm alarm) m e = alarm_inside alarm e
-  call_names_entries bodies blocks events line call.GetTaskId m e = tt
-  call_names_entries bodies blocks events line (call.GetTaskState task) m e = task_inside task bodies e
-  call_names_entries bodies blocks events line call.GetActiveApplicationMode m e = tt
-  call_names_entries bodies blocks events line (call.ShutdownOs _) m e = tt
-  call_names_entries bodies blocks events line (call.LockCall lock) m e = tt
+  call_names_entries bodies blocks events takable line (call.ClearEvent mask) m e = some_bits mask events m e
+  call_names_entries bodies blocks events takable line (call.GetEvent task) m e = task_inside task bodies e
+  call_names_entries bodies blocks events takable line (call.WaitEvent mask) m e = some_bits mask events m e
+  call_names_entries bodies blocks events takable line (call.SetRelAlarm alarm increment cycle) m e = alarm_inside alarm e
+  call_names_entries bodies blocks events takable line (call.SetAbsAlarm alarm start cycle) m e = alarm_inside alarm e
+  call_names_entries bodies blocks events takable line (call.CancelAlarm alarm) m e = alarm_inside alarm e
+  call_names_entries bodies blocks events takable line (call.GetAlarm alarm) m e = alarm_inside alarm e
+  call_names_entries bodies blocks events takable line call.GetTaskId m e = tt
+  call_names_entries bodies blocks events takable line (call.GetTaskState task) m e = task_inside task bodies e
+  call_names_entries bodies blocks events takable line call.GetActiveApplicationMode m e = tt
+  call_names_entries bodies blocks events takable line (call.ShutdownOs _) m e = tt
+  call_names_entries bodies blocks events takable line (call.LockCall lock) m e = tt
 
   -- a call is no end, and has one way on
   pub call_in_task : (c : Call) → IsTrue (task_may false (kind_of s c))

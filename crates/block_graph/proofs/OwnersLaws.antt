@@ -73,7 +73,7 @@ body_is_owner s bodies pre post body n place linkable fit declared =
     let lie : Lie s bodies blocks n (size body) body.statements n end = (omega arith, omega arith, (omega arith, omega arith)) in
     owner_at s bodies pre (body_blocks s body n) post n (size body) place (body_size s body n) (omega arith)
     (body_each (Good s bodies blocks n (size body)) s body n
-    (blocks_are_good s bodies blocks n (size body) linkable.each_event body.statements n end [] lie fit.counts fit.masks declared)
+    (blocks_are_good s bodies blocks n (size body) linkable.each_event linkable.takable body.statements n end [] lie fit.counts fit.masks declared)
     (end_is_good s bodies blocks n (size body) body.kind (closing_line body.statements) end (omega arith) (omega arith)))
 
 -- Of a body only its closing brace stands last.

@@ -1,11 +1,11 @@
 -- What the blocks of statements keep.
 use Rattle.std.proofs.Common.{◌≡◌, ℕ, ◌+◌, ◌<◌, ◌≤◌, false, List, [], ◌++◌, length, refl, arith, IsTrue, length-append}
-use Rattle.std.specs.Prelude.{All}
+use Rattle.std.specs.Prelude.{All, not}
+use Rattle.oil_system.specs.declared.{system.{EventObject.{EventObject}, System.{System}}, objects.Resource.{Resource}}
 use Rattle.osek_standard.specs.{declared.block.Block.{Block}, Validity.{IsAmong, IsBlock, isr_may, is_own_next, task_may}}
-use Rattle.oil_system.specs.declared.system.{EventObject.{EventObject}, System.{System}}
 use Rattle.task_code.specs.{declared.tree.{Body.{Body}, Condition.TheVariants.{Choice, Always}}, Fit.{HasCounts, HasMasks}}
-use Rattle.task_code.proofs.FitLaws.{count_range}
 use Rattle.task_code.specs.Statements.{Statements, closed, work_then, if_then, if_else_then, while_then, call_then, nodes}
+use Rattle.task_code.proofs.FitLaws.{count_range}
 use Rattle.block_graph.specs.{declared.locks.Opener.{Opener}, Apps.{tables_over}, Blocks.{blocks_of, entry}, Locks.{open_behind, open_behind_call}}
 use Rattle.block_graph.specs.Rules.{from_calls, of_resource, undeclared_in}
 use Rattle.block_graph.proofs.{OwnersCalls.{both_empty, call_names_entries, call_in_task, call_in_isr, call_goes_on, call_has_one_way}, OwnersEach.{AllFrom, all_from_append}}
@@ -57,7 +57,7 @@ module _ (s : System) (bodies : List Body) (blocks : List Block) (first count : 
   abbrev pub Good : ℕ → Block → Type 0
   Good b x = IsGood s bodies blocks first count b x
 
-  module _ (events : All (λ (x : EventObject). 0 < x.mask.0) s.events) where
+  module _ (events : All (λ (x : EventObject). 0 < x.mask.0) s.events) (takable : All (λ (x : Resource). IsTrue (not x.internal)) s.resources) where
     pub blocks_are_good : (xs : Statements) (n after : ℕ) (locks : List Opener) → Lie xs n after → HasCounts xs → HasMasks xs → from_calls (undeclared_in s) xs ≡ []
         → AllFrom Good n (blocks_of s xs n after locks)
     blocks_are_good (closed line) n after locks lie counts masks declared = tt
@@ -119,7 +119,7 @@ module _ (s : System) (bodies : List Body) (blocks : List Block) (first count : 
           record {
             own_next = call_goes_on s n (entry next (n + 1) after) call;
             is_block = record {
-              operands = call_names_entries s bodies blocks events line call masks.0 names.0;
+              operands = call_names_entries s bodies blocks events takable line call masks.0 names.0;
               next = entry_among next (n + 1) after rest;
               other = call_has_one_way s (tables_over s bodies blocks) first count call;
             };

@@ -1,8 +1,8 @@
 -- The application of a system and its task code.
-use Rattle.std.specs.Prelude.{◌≡◌, ℕ, ◌+◌, if◌then◌else◌, List, [], ◌∷◌, map}
+use Rattle.std.specs.Prelude.{◌≡◌, ℕ, ◌+◌, if◌then◌else◌, List, [], ◌∷◌, map, None}
 use Rattle.osek_values.specs.Numbers.{block_no}
-use Rattle.osek_standard.specs.{declared.{app.App.{App}, objects.{Counter.{Counter}, Isr.{Isr}, Task.{Task}}, block.Block.{Block}}, Tables.{Tables, tabled}, Validity.{due_of}}
 use Rattle.oil_system.specs.declared.system.{CounterObject.{CounterObject}, TaskObject.{TaskObject}, System.{System}}
+use Rattle.osek_standard.specs.{declared.{app.App.{App}, objects.{Counter.{Counter}, Isr.{Isr}, Task.{Task}}, block.Block.{Block}}, Tables.{Tables, tabled}, Validity.{due_of}}
 use Rattle.task_code.specs.declared.tree.{BodyKind.{BodyKind}, Body.{Body}, Code.{Code}}
 use Rattle.task_code.specs.declared.tree.BodyKind.TheVariants as body_kind
 use Rattle.block_graph.specs.{Blocks.{size, source_size, routine_size, app_blocks}, Rules.{is_code_of}, Faults.{HasNoFault}}
@@ -12,12 +12,23 @@ abbrev pub extent : BodyKind → List ℕ → List Body → ℕ → ℕ × ℕ
 extent kind name [] n = (n, 0)
 extent kind name (body ∷ more) n = if is_code_of kind name body then (n, size body) else extent kind name more (n + size body)
 
--- a task's own event bits, priority and autostart are the system's
+-- A task's own event bits, priority and autostart are the system's. Each takes one activation at a time, and none names an
+-- INTERNAL resource.
 abbrev pub task_with : TaskObject → ℕ × ℕ → Task
-task_with x e = record { name = x.name; priority = x.priority; schedule = x.schedule; own = x.own; autostart = x.autostart; first = block_no e.0; count = e.1 }
+task_with x e = record {
+  name = x.name;
+  priority = x.priority;
+  schedule = x.schedule;
+  own = x.own;
+  autostart = x.autostart;
+  first = block_no e.0;
+  count = e.1;
+  activation = 1;
+  internal = None;
+}
 
 abbrev pub isr_with : List ℕ → ℕ × ℕ → Isr
-isr_with name e = record { name = name; first = block_no e.0; count = e.1 }
+isr_with name e = record { name = name; first = block_no e.0; count = e.1; priority = 0 }
 
 -- TICKSPERBASE ends here
 abbrev pub counter_with : CounterObject → ℕ × ℕ → Counter

@@ -53,6 +53,8 @@ fn task(alloc: Global, declared: &TaskObject, bodies: &[Body]) -> Result<Task, M
         autostart: declared.autostart,
         first: block_no(extent.0),
         count: narrow(extent.1),
+        activation: 1,
+        internal: None,
     })
 }
 
@@ -78,6 +80,7 @@ fn isr(alloc: Global, declared: &Name, bodies: &[Body]) -> Result<Isr, Memory>
         name,
         first: block_no(extent.0),
         count: narrow(extent.1),
+        priority: 0,
     })
 }
 

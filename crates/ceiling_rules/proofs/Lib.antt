@@ -1,1 +1,3 @@
 pub mod Stacks
+pub mod Occupied
+pub mod Sources

@@ -1,5 +1,5 @@
 -- The lines of an event text, played one after the other.
-use Rattle.std.proofs.Common.{◌≡◌, ℕ, ◌+◌, List, [], ◌∷◌, ◌++◌, sym, ◌∙◌, ap, subst, inl, inr, append_assoc, Some, None, Ok, Err}
+use Rattle.std.proofs.Common.{◌≡◌, ℕ, ◌+◌, List, [], ◌++◌, sym, ◌∙◌, ap, subst, inl, inr, append_assoc, Some, None, Ok, Err}
 use Rattle.std.specs.declared.{option.Option.{Option}, result.Result.{Result}}
 use Rattle.osek_values.specs.declared.event.Event.{Event}
 use Rattle.osek_standard.specs.{declared.state.State.{State}, Dispatch.{Stepped}}

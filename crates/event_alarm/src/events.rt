@@ -5,10 +5,8 @@ ghost use Rattle.osek_standard.specs.Services.{answer, set_event as set_event_ro
 ghost use Rattle.osek_standard.specs.Well.{Well, IsActive};
 ghost use Rattle.event_alarm.specs.{Answers.{status_of, mask_of}, Waiting.{StandsAtWaitEvent}};
 
-use osek_standard::{
-    Activity, App, Call, Caller, Kind, MaskService, Place, Processor, Standing, State,
-};
-use osek_values::{Ask, Held, Mask, Status, TaskNo};
+use osek_standard::{Activity, App, Call, Caller, Kind, MaskService, Processor, State};
+use osek_values::{Ask, Mask, Status, TaskNo};
 
 /// The events that a task waits for at a block of this kind.
 fn awaited(kind: Kind) -> Mask
@@ -21,7 +19,8 @@ fn awaited(kind: Kind) -> Mask
     }
 }
 
-/// SetEvent: the task's own events among these are set, and it is released if it waits for one of them.
+/// SetEvent: the task's own events among these are set, and it is released if it waits for one of them. A released task
+/// goes last in the line.
 #[tactic(auto, unfolding(osek_standard::specs::Services::set_event))]
 pub fn set_event(app: &App, state: &mut State, task: TaskNo, mask: Mask) -> (Status, Ask)
     requires known { task.0 < length app.now.tasks }
@@ -47,13 +46,8 @@ pub fn set_event(app: &App, state: &mut State, task: TaskNo, mask: Mask) -> (Sta
             if awaited(place.kind).and(named).is_empty() {
                 (Status::Ok, Ask::No)
             } else {
-                waiter.activity = Activity::Live(Standing {
-                    at: Place {
-                        block: place.next,
-                        offset: 0,
-                    },
-                    held: Held::new(),
-                });
+                waiter.activity = Activity::live_at(place.next, 0);
+                state.line.push_last(task);
                 (Status::Ok, Ask::Maybe)
             }
         }

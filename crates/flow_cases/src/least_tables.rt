@@ -54,7 +54,7 @@ struct Case {
 }
 
 /// Worked out state by state from the kernel's rules, without rules or sets of this program.
-const CASES: [Case; 6] = [
+const CASES: [Case; 7] = [
     // nothing declared: the point of the start has an entry of no value
     Case {
         oil: b"CPU c { OS os; };",
@@ -96,6 +96,13 @@ const CASES: [Case; 6] = [
         code: b"TASK(T1) { while (1) { } } TASK(T2) { WaitEvent(E); }",
         entries: 11,
         values: 100,
+    },
+    // two tasks that are preempted while they hold one resource: by the values either may have been preempted last
+    Case {
+        oil: b"CPU c { OS os; RESOURCE R; TASK T1 { PRIORITY = 1; AUTOSTART = TRUE; RESOURCE = R; }; TASK T2 { PRIORITY = 2; AUTOSTART = TRUE; RESOURCE = R; }; TASK T3 { PRIORITY = 3; }; };",
+        code: b"TASK(T1) { GetResource(R); ActivateTask(T3); ReleaseResource(R); TerminateTask(); } TASK(T2) { GetResource(R); ActivateTask(T3); ReleaseResource(R); TerminateTask(); } TASK(T3) { TerminateTask(); }",
+        entries: 10,
+        values: 37,
     },
 ];
 

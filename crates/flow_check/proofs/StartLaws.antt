@@ -4,6 +4,7 @@ use Rattle.std.specs.{Prelude.{Contains}, Bool.{OnTrue, OnFalse}}
 use Rattle.osek_values.specs.declared.numbers.ModeNo.{ModeNo}
 use Rattle.osek_standard.specs.{declared.{app.App.{App}, state.State.{State}, point.Point.{Point}}, Kernel.{start}, Points.{point_of}}
 use Rattle.osek_standard.proofs.StepKeeps.{start_is_well}
+use Rattle.abstract_state.proofs.RegularLaws.{start_regular}
 use Rattle.abstract_state.specs.declared.{value.PartValue.{PartValue}, table.{PlainEntry.{PlainEntry}, TableRow.{TableRow}, PlainTable.{PlainTable}}}
 use Rattle.abstract_state.specs.{Components.{abstract_of}, Tables.{In, set_at, is_member, sets_of}}
 use Rattle.numbered_sets.specs.{declared.{numbered_entry.NumberedEntry.{NumberedEntry}, table.NumberedRow.{NumberedRow}}, Pools.{Values, AreValues, IsLonger}}
@@ -29,6 +30,7 @@ module _ (app : App) (mode : ModeNo) (known : mode.0 < length app.modes) (row : 
   start_in : IsRowIn (sets_of table) row → In app (sets_of table) state
   start_in h = record {
     well = start_is_well app mode known;
+    regular = start_regular app mode known;
     entry = subst (λ (p : Point). IsTrue ((sets_of table).entry p)) (sym of.point) h.entry;
     within = λ c lt. subst (λ (p : Point). IsTrue ((sets_of table).has p c (abstract_of app state c))) (sym of.point) (h.has c (abstract_of app state c) (of.within c lt));
   }

@@ -8,7 +8,7 @@ use Rattle.osek_standard.specs.Points.{point_of, point_number, IsPoint}
 use Rattle.osek_standard.proofs.StepKeeps.{step_keeps}
 use Rattle.abstract_state.specs.declared.{value.PartValue.{PartValue, TheVariants.{OfAlarm}}, table.{PlainEntry.{PlainEntry}, TableRow.{TableRow}, PlainTable.{PlainTable}}}
 use Rattle.abstract_state.specs.{Components.{abstract_of}, Tables.{In, set_at, is_member, sets_of}, Written.{IsWritten}}
-use Rattle.abstract_state.proofs.{EqualityLaws.{written_entry}, AlikeLaws.{in_alike}, MarkLaws.{shown_silent}, AllowedLaws.{well_point}}
+use Rattle.abstract_state.proofs.{EqualityLaws.{written_entry}, RegularLaws.{step_regular}, AlikeLaws.{in_alike}, MarkLaws.{shown_silent}, AllowedLaws.{well_point}}
 use Rattle.flow_model.specs.Effects.{AreIn, IsAt}
 use Rattle.flow_exits.specs.{declared.exit.Exit.{Exit}, Exits.{IsFilled, IsStepTo}}
 use Rattle.numbered_sets.specs.{declared.{table.NumberedRow.{NumberedRow}}, Numbers.{has_number}, NumberedEntries.{numbers_at}}
@@ -99,6 +99,7 @@ module _ (app : App) (table : PlainTable) (written : IsWritten app table) (row :
         let t = (step app s e).state in
         record {
           well = step_keeps app s e at.well;
+          regular = step_regular app s e at.well at.regular;
           entry = subst (λ (p : Point). IsTrue ((sets_of table).entry p)) (sym by.by.target) x.entry;
           within = λ c lt. subst (λ (p : Point). IsTrue ((sets_of table).has p c (abstract_of app t c))) (sym by.by.target) (x.has c (abstract_of app t c) (by.by.within c lt));
         }

@@ -24,6 +24,7 @@ module _ (app : App) (table : PlainTable) (written : IsWritten app table) (row :
   pub in_row : (s : State) → In app (sets_of table) s → point_of s ≡ row.point → IsAt app row.point row.entry s
   in_row s i at = record {
     well = i.well;
+    regular = i.regular;
     point = at;
     within = λ c lt. only_there app table written row listed c (abstract_of app s c) (subst (λ (p : Point). IsTrue ((sets_of table).has p c (abstract_of app s c))) at (i.within c lt));
   }
@@ -31,6 +32,7 @@ module _ (app : App) (table : PlainTable) (written : IsWritten app table) (row :
   pub row_in : (s : State) → IsAt app row.point row.entry s → In app (sets_of table) s
   row_in s h = record {
     well = h.well;
+    regular = h.regular;
     entry = subst (λ (p : Point). IsTrue ((sets_of table).entry p)) (sym h.point) (row_entered app table written row listed);
     within = λ c lt. subst (λ (p : Point). IsTrue ((sets_of table).has p c (abstract_of app s c))) (sym h.point) (row_value app table written row listed c (abstract_of app s c) (h.within c lt));
   }

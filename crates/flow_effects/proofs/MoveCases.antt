@@ -1,8 +1,8 @@
 -- The cases of instructions that do nothing but go on are their effects.
-use Rattle.std.proofs.Common.{◌≡◌, ℕ, ◌+◌, ◌-◌, ◌<◌, ◌≤◌, Bool, true, false, nat_lt, List, [], ◌∷◌, refl, sym, ap, subst, ◌∙◌, inl, inr, arith, None}
+use Rattle.std.proofs.Common.{◌≡◌, ℕ, ◌+◌, ◌-◌, ◌<◌, ◌≤◌, Bool, true, false, nat_lt, List, [], ◌∷◌, refl, sym, ap, subst, ◌∙◌, inl, inr, arith, Some, None}
 use Rattle.std.specs.{Prelude.{if◌then◌else◌}, declared.option.Option.{Option}}
 use Rattle.std.proofs.lemmas.Bool.{cases_Bool, cases_eq, cases_lt, Decides.{nat_tests}}
-use Rattle.osek_values.specs.declared.{numbers.BlockNo.{BlockNo}, status.Status.{Status}}
+use Rattle.osek_values.specs.declared.{numbers.{TaskNo.{TaskNo}, BlockNo.{BlockNo}}, status.Status.{Status}}
 use Rattle.osek_values.specs.declared.status.Ask.TheVariants as ask
 use Rattle.osek_standard.specs.declared.{app.App.{App}, block.Kind.{Kind}}
 use Rattle.osek_standard.specs.declared.block.Kind.TheVariants as kind
@@ -13,7 +13,7 @@ use Rattle.osek_standard.specs.declared.task_state.Place.{Place}
 use Rattle.osek_standard.specs.declared.point.Point.TheVariants as point
 use Rattle.osek_standard.specs.{Apps.{the_block, is_counter, tables}, Validity.{NamesEntries}, States.{here, caller}, Points.{point_of, StandsAt}}
 use Rattle.osek_standard.specs.{Services.{unnoted, answer, counted_by, count_up}, Effects.{effect, noted, place_at, moved, moved_to, called, halted_by, shut_down}}
-use Rattle.osek_standard.specs.Well.{InOwner, IsActive, IsOffsetAt}
+use Rattle.osek_standard.specs.{Line.{first_in_line}, Well.{InOwner, IsActive, IsOffsetAt}}
 use Rattle.osek_standard.proofs.{BoolLaws.{either_way}, Members.{Among, contained_among, among_contained}}
 use Rattle.abstract_state.specs.declared.value.{Component.{Component}, PartValue.{PartValue, TheVariants.{OfTask}}, Val.TheVariants.{Live}}
 use Rattle.abstract_state.specs.declared.value.Component.TheVariants as component
@@ -27,7 +27,7 @@ use Rattle.flow_model.specs.declared.runner.Runner.TheVariants as runner
 use Rattle.flow_model.specs.{Tests.{on_task, PassesAll, value_after}, Runners.{Stands, OwnsBlock, runner_point, moving}, Values.{at_block}}
 use Rattle.flow_model.specs.{Effects.{AreIn, AreAllAllowed, HasEffect, ShowsEffect, IsKnownStay, HaveKnownStays, AreCasesOf}, Cases.{goes_on}}
 use Rattle.flow_model.proofs.{ChangeLaws.{passes_none}, Standing.{is_active, next_owned, other_owned, owned_here, owned_point, point_there, stands_here}}
-use Rattle.flow_model.proofs.{Instructions.{effect_there}, Moves.{change_here, change_there, moved_has, moved_parts, moved_stands, went_on}}
+use Rattle.flow_model.proofs.{Instructions.{effect_there}, Moves.{change_here, change_there, moved_parts, moved_stands, went_on}}
 use Rattle.flow_model.proofs.{Calls.{IsCall, asked_none, call_goes_on, call_has, has_effect}, Listing.{covers_by, exact_by, values_allowed}}
 use Rattle.flow_services.proofs.ServiceListing.{operands_of}
 use Rattle.flow_effects.specs.Moves.{stays, passes_by, onward, work_cases, choice_cases, halts}
@@ -60,7 +60,7 @@ module _ (app : App) (r : Runner) (b : BlockNo) (owns : OwnsBlock app r b) where
       ((s : State) → Stands app s r b → called app (moved_to s (the_block app b.0).next) (caller s.processor) k ≡ answer (moved_to s (the_block app b.0).next) status None ask.No) →
       AreCasesOf app (runner_point r b) (goes_on r (the_block app b.0).next [] asked.No status ∷ [])
   goes_on_cases k status call is answers = one_case (goes_on r (the_block app b.0).next [] asked.No status) refl
-      (tt, λ s choice h passing. call_goes_on app s choice r b k [] asked.No status None ask.No call h is (answers s h) (asked_none app r k) passing)
+      (tt, λ s choice h passing. call_goes_on app s choice r b k [] asked.No status None ask.No call h is (answers s h) (asked_none app r k) passing tt)
 
 -- what a tick's count does to the components
 count_part : (app : App) (s : State) (c : ℕ) (k : Component) → part_of (count_up app s c) k ≡ part_of s k
@@ -80,11 +80,12 @@ counted_point app s Nobody = refl
 counted_point app s (Task t) = refl
 counted_point app s (Routine j) = either_way (λ (r : State). point_of r ≡ point_of s) (is_counter app j.0) (count_up app s j.0) s refl refl
 
-counted_kept : (app : App) (s : State) (c : Caller) → (counted_by app s c).processor ≡ s.processor
-unfolding count_up
-counted_kept app s Nobody = refl
-counted_kept app s (Task t) = refl
-counted_kept app s (Routine j) = either_way (λ (r : State). r.processor ≡ s.processor) (is_counter app j.0) (count_up app s j.0) s refl refl
+-- who goes first in the line
+first_parts : (s : State) (over : Option TaskNo) (k : Component) → part_of (first_in_line s over) k ≡ part_of s k
+first_parts s None k = refl
+first_parts s (Some t) (component.Task u) = refl
+first_parts s (Some t) (component.Event u j) = refl
+first_parts s (Some t) (component.Alarm a) = refl
 
 -- what a halt does
 halted_parts : (s : State) (p : Processor) (k : Component) → part_of (halted_by s p) k ≡ part_of s k
@@ -95,9 +96,9 @@ halted_parts s processor.Idle (component.Alarm a) = refl
 halted_parts s (processor.Running u) (component.Task t) = refl
 halted_parts s (processor.Running u) (component.Event t j) = refl
 halted_parts s (processor.Running u) (component.Alarm a) = refl
-halted_parts s (processor.Interrupted l over) (component.Task t) = refl
-halted_parts s (processor.Interrupted l over) (component.Event t j) = refl
-halted_parts s (processor.Interrupted l over) (component.Alarm a) = refl
+halted_parts s (processor.Interrupted l over) (component.Task t) = first_parts s over (component.Task t)
+halted_parts s (processor.Interrupted l over) (component.Event t j) = first_parts s over (component.Event t j)
+halted_parts s (processor.Interrupted l over) (component.Alarm a) = first_parts s over (component.Alarm a)
 
 halted_point : (s : State) (p : Processor) → IsActive p → point_of (halted_by s p) ≡ point.Halted
 halted_point s processor.Halted active = absurd active
@@ -125,20 +126,20 @@ module _ (app : App) (r : Runner) (b : BlockNo) (owns : OwnsBlock app r b) where
   -- the runner goes on to a block
   on_to : (s : State) (choice : Bool) (n : BlockNo) → Stands app s r b → InOwner app s.processor n.0 → effect app s choice ≡ noted app (unnoted (moved_to s n) ask.No) → HasEffect app (passes_by r n) s choice
   on_to s choice n h own e = has_effect app (passes_by r n) s choice (noted app (unnoted (moved_to s n) ask.No)) e (passes_none app (abstract_of app s))
-      (point_there app (moved_to s n) r n (went_on app s r b n h own)) (λ c lt. moved_parts app s n 0 r b h c lt) refl refl
+      (point_there app (moved_to s n) r n (went_on app s r b n h own)) (λ c lt. moved_parts app s n 0 r b h c lt) refl tt refl
 
   -- it stays, further in its block
   stays_at : (s : State) (choice : Bool) (o : ℕ) → Stands app s r b → IsOffsetAt (the_block app b.0).kind o → effect app s choice ≡ noted app (unnoted (moved s (place_at b o)) ask.No) → HasEffect app (stays r b) s choice
   stays_at s choice o h offset e = has_effect app (stays r b) s choice (noted app (unnoted (moved s (place_at b o)) ask.No)) e (passes_none app (abstract_of app s))
       (point_there app (moved s (place_at b o)) r b (moved_stands app s b o r b h (owned_here app s r b h) offset))
-      (λ c lt. moved_parts app s b o r b h c lt ∙ stays_put app s r b h c) refl refl
+      (λ c lt. moved_parts app s b o r b h c lt ∙ stays_put app s r b h c) refl tt refl
 
   -- nothing is done at all
   pub idle_cases : ((s : State) (choice : Bool) → Stands app s r b → effect app s choice ≡ noted app (unnoted s ask.No)) → AreCases (stays r b ∷ [])
   idle_cases nothing = one_case app r b owns (stays r b) refl (
     tt,
     λ s choice h passing.
-        has_effect app (stays r b) s choice (noted app (unnoted s ask.No)) (nothing s choice h) passing (point_there app s r b h) (λ c lt. refl) refl refl,
+        has_effect app (stays r b) s choice (noted app (unnoted s ask.No)) (nothing s choice h) passing (point_there app s r b h) (λ c lt. refl) refl tt refl,
   )
 
   pub loop_cases : (the_block app b.0).kind ≡ kind.Loop → AreCases (onward r next)
@@ -154,7 +155,8 @@ module _ (app : App) (r : Runner) (b : BlockNo) (owns : OwnsBlock app r b) where
           point = counted_point app after by ∙ point_there app after r next (went_on app s r b next h (next_owned app s r b h));
           parts = λ c lt. counted_parts app after by (component_at app c) ∙ moved_parts app s next 0 r b h c lt;
           asked = asked_none app r kind.CountUp;
-          kept = λ _. counted_kept app after by ∙ moved_has app s h.well (place_at next 0);
+          kept = tt;
+          line = tt;
           status = refl;
         }),
   )
@@ -167,7 +169,7 @@ module _ (app : App) (r : Runner) (b : BlockNo) (owns : OwnsBlock app r b) where
         let on = went_on app s r b next h (next_owned app s r b h) in
         has_effect app _ s choice (shut_down app after) (effect_there app s r b (kind.Call call.ShutdownOs) choice h is) passing
         (halted_point after after.processor (is_active app after r next on))
-        (λ c lt. halted_parts after after.processor (component_at app c) ∙ moved_parts app s next 0 r b h c lt) refl refl,
+        (λ c lt. halted_parts after after.processor (component_at app c) ∙ moved_parts app s next 0 r b h c lt) refl tt refl,
   )
 
   module _ (other : BlockNo) (is : (the_block app b.0).kind ≡ kind.Choice other) where
@@ -219,30 +221,31 @@ module _ (app : App) (r : Runner) (b : BlockNo) (owns : OwnsBlock app r b) where
         (work_effect s choice h ∙ ap (λ (t : Bool). noted app (if t then unnoted (moved s (place_at (here s).block ((here s).offset + 1))) ask.No else unnoted (moved_to s next) ask.No)) past_it)
 
     -- a state whose offset is chosen shows the case
-    shown_at : (x : EffectCase) (value : ℕ → PartValue) (o : ℕ) → o < count → (entry : PlainEntry) → AreIn app entry value → AreAllAllowed app (runner_point r b) entry → ((s : State) → Stands app s r b → (here s).offset ≡ o → HasEffect app x s true) → ShowsEffect app (runner_point r b) x value
-    shown_at x value o lt entry within all shows =
-        let q = some_quiet_at app (runner_point r b) value (owned_point app r b owns) (values_allowed app (runner_point r b) entry value all within) b o (stands_point r) (offset_at o lt) in
+    shown_at : (x : EffectCase) (value : ℕ → PartValue) (t : ℕ) (o : ℕ) → o < count → (entry : PlainEntry) → AreIn app entry value → AreAllAllowed app (runner_point r b) entry → ((s : State) → Stands app s r b → (here s).offset ≡ o → HasEffect app x s true) → ShowsEffect app (runner_point r b) x value t
+    shown_at x value t o lt entry within all shows =
+        let q = some_quiet_at app (runner_point r b) value (owned_point app r b owns) (values_allowed app (runner_point r b) entry value all within) t b o (stands_point r) (offset_at o lt) in
         record {
           from = q.0;
           choice = true;
           has = q.1.has;
           alone = q.1.quiet;
-          effect = shows q.0 (stands_here app q.0 r b owns q.1.has.well q.1.has.point) (ap (λ (p : Place). p.offset) q.1.stands);
+          first = q.1.first;
+          effect = shows q.0 (stands_here app q.0 r b owns q.1.has.well q.1.has.regular q.1.has.point) (ap (λ (p : Place). p.offset) q.1.stands);
         }
 
     some_work : 0 < count
     some_work = subst (NamesEntries (tables app)) is (operands_of app r b owns)
 
-    shows_last : (value : ℕ → PartValue) → (entry : PlainEntry) → AreIn app entry value → AreAllAllowed app (runner_point r b) entry → ShowsEffect app (runner_point r b) (passes_by r next) value
-    shows_last value entry within all =
+    shows_last : (value : ℕ → PartValue) (t : ℕ) → (entry : PlainEntry) → AreIn app entry value → AreAllAllowed app (runner_point r b) entry → ShowsEffect app (runner_point r b) (passes_by r next) value t
+    shows_last value t entry within all =
         let some = some_work in
         let last : count - 1 < count = omega (arith, some) in
-        shown_at (passes_by r next) value (count - 1) last entry within all (λ s h e. does_last s true h (omega (arith, e)))
+        shown_at (passes_by r next) value t (count - 1) last entry within all (λ s h e. does_last s true h (omega (arith, e)))
 
-    shows_one : 1 < count → (value : ℕ → PartValue) → (entry : PlainEntry) → AreIn app entry value → AreAllAllowed app (runner_point r b) entry → ShowsEffect app (runner_point r b) (stays r b) value
-    shows_one more value entry within all =
+    shows_one : 1 < count → (value : ℕ → PartValue) (t : ℕ) → (entry : PlainEntry) → AreIn app entry value → AreAllAllowed app (runner_point r b) entry → ShowsEffect app (runner_point r b) (stays r b) value t
+    shows_one more value t entry within all =
         let first : 0 < count = omega (arith, more) in
-        shown_at (stays r b) value 0 first entry within all (λ s h e. does_one s true h (omega (arith, e, more)))
+        shown_at (stays r b) value t 0 first entry within all (λ s h e. does_one s true h (omega (arith, e, more)))
 
     several : 1 < count → AreCases (stays r b ∷ onward r next)
     several more =
@@ -252,9 +255,9 @@ module _ (app : App) (r : Runner) (b : BlockNo) (owns : OwnsBlock app r b) where
             | inl below ↦ record { case = stays r b; listed = among_contained cases (stays r b) (inl refl); effect = does_one s choice h below }
             | inr above ↦ record { case = passes_by r next; listed = among_contained cases (passes_by r next) (inr (inl refl)); effect = does_last s choice h above }
           ]);
-          exact = λ entry all x value m within passing. elim (contained_among cases x m) [
-            | inl e ↦ subst (λ (y : EffectCase). ShowsEffect app (runner_point r b) y value) (sym e) (shows_one more value entry within all)
-            | inr (inl e) ↦ subst (λ (y : EffectCase). ShowsEffect app (runner_point r b) y value) (sym e) (shows_last value entry within all)
+          exact = λ entry all x value t m within passing. elim (contained_among cases x m) [
+            | inl e ↦ subst (λ (y : EffectCase). ShowsEffect app (runner_point r b) y value t) (sym e) (shows_one more value t entry within all)
+            | inr (inl e) ↦ subst (λ (y : EffectCase). ShowsEffect app (runner_point r b) y value t) (sym e) (shows_last value t entry within all)
             | inr (inr n) ↦ absurd n
           ];
           stays = two_stay app (stays r b) (passes_by r next) tt tt;
@@ -263,8 +266,8 @@ module _ (app : App) (r : Runner) (b : BlockNo) (owns : OwnsBlock app r b) where
     single : count ≤ 1 → AreCases (onward r next)
     single one = record {
       covering = covers_by app r b owns (onward r next) (λ s choice h. record { case = passes_by r next; listed = among_contained (onward r next) (passes_by r next) (inl refl); effect = does_last s choice h (omega (arith, one)) });
-      exact = λ entry all x value m within passing. elim (contained_among (onward r next) x m) [
-        | inl e ↦ subst (λ (y : EffectCase). ShowsEffect app (runner_point r b) y value) (sym e) (shows_last value entry within all)
+      exact = λ entry all x value t m within passing. elim (contained_among (onward r next) x m) [
+        | inl e ↦ subst (λ (y : EffectCase). ShowsEffect app (runner_point r b) y value t) (sym e) (shows_last value t entry within all)
         | inr n ↦ absurd n
       ];
       stays = λ x m. one_stays app (passes_by r next) tt x (contained_among (onward r next) x m);

@@ -1,7 +1,7 @@
 -- The cases of GetResource and ReleaseResource are their effects.
-use Rattle.std.proofs.Common.{◌≡◌, ℕ, ◌-◌, ◌^◌, ◌<◌, Bool, true, false, not, ◌||◌, nat_eq, List, [], ◌∷◌, ◌++◌, length, length-append, take, refl, sym, ap, subst, ◌∙◌, inl, inr, arith, Some, None, IsTrue, get_or, suc, get_or-set_same}
+use Rattle.std.proofs.Common.{◌≡◌, ℕ, ◌-◌, ◌^◌, ◌<◌, Bool, true, false, not, ◌||◌, nat_eq, List, [], ◌∷◌, ◌++◌, length, take, refl, sym, ap, subst, ◌∙◌, inl, inr, arith, Some, None, IsTrue, get_or, suc, get_or-set_same, nat_lt}
 use Rattle.std.specs.{Prelude.{◌==◌, if◌then◌else◌}, List.{list_any, range_with_len}, Int.{bit_at}}
-use Rattle.std.proofs.lemmas.{Bool.{cases_Bool, cases_eq, eq-eqb, ne_eqb, lt-ltb}, List.Folds.{list_any_at}, Nat.Bits.{bit_at-pow_same, bit_at-pow_other}}
+use Rattle.std.proofs.lemmas.{Bool.{cases_Bool, cases_eq, eq-eqb, ne_eqb, lt-ltb, false≢true}, List.Folds.{list_any_at}, Nat.Bits.{bit_at-pow_same, bit_at-pow_other}}
 use Rattle.osek_values.specs.{Numbers.{mask, task_no}, declared.limits.TheConstants.{MAX_RESOURCES}}
 use Rattle.osek_values.specs.declared.numbers.{TaskNo.{TaskNo}, BlockNo.{BlockNo}, ResNo.{ResNo}, SourceNo.{SourceNo}}
 use Rattle.osek_values.specs.declared.status.Status.TheVariants as status
@@ -11,20 +11,23 @@ use Rattle.osek_values.specs.Bits.{has_bit}
 use Rattle.osek_standard.specs.declared.{app.App.{App}, block.Kind.{Kind}}
 use Rattle.osek_standard.specs.declared.block.Kind.TheVariants as kind
 use Rattle.flow_effects.specs.CallNames as call
-use Rattle.osek_standard.specs.declared.state.{State.{State}, Processor.{Processor}, Caller.{Caller, TheVariants.{Task, Routine}}}
+use Rattle.osek_standard.specs.declared.state.{State.{State}, Source.{Source}, Processor.{Processor}, Caller.{Caller, TheVariants.{Task, Routine}}}
 use Rattle.osek_standard.specs.declared.task_state.{TaskState.{TaskState}, Activity.{Activity}}
 use Rattle.osek_standard.specs.declared.task_state.Activity.TheVariants as activity
 use Rattle.osek_standard.specs.declared.point.Point.TheVariants as point
+use Rattle.osek_standard.specs.declared.state.Source.TheVariants as source
+use Rattle.osek_standard.specs.declared.state.Processor.TheVariants as processor
 use Rattle.osek_standard.specs.{Apps.{the_block, tables}, Validity.{NamesEntries}, TaskStates.{suspended, is_live_activity, held, holds}}
-use Rattle.osek_standard.specs.{States.{task_state, caller, place_by, place_in, is_taken}, Points.{point_at, point_of}}
-use Rattle.osek_standard.specs.Services.{unnoted, refused, accepted, with_stack, with_held, is_on_top, get_resource, release_resource, get_resource_by, release_resource_by}
+use Rattle.osek_standard.specs.{States.{task_state, source_state, held_by_source, caller, place_by, place_in, is_taken}, Levels.{interrupt_ceiling, own_level}, Points.{point_at, point_of}}
+use Rattle.osek_standard.specs.Services.{refused, accepted, with_stack, with_held, is_on_top, get_resource, release_resource, get_resource_isr, release_resource_isr, get_resource_by, release_resource_by}
 use Rattle.osek_standard.specs.Effects.{place_at, moved_to, called}
 use Rattle.osek_standard.proofs.Members.{among_map, map_among, among_range, range_among}
-use Rattle.osek_standard.specs.Well.{Well}
-use Rattle.osek_standard.proofs.StackLaws.{held_stack, not_taken, push_stack, stack_few}
+use Rattle.osek_standard.specs.Well.{Well, IsProcessor}
+use Rattle.osek_standard.proofs.StackLaws.{IsTakable, held_stack, not_taken, room_on}
 use Rattle.flow_services.proofs.ServiceListing.{operands_of}
 use Rattle.abstract_state.specs.declared.value.{Val.{Val, TheVariants.{Suspended, Live, Waiting}}, PartValue.{PartValue, TheVariants.{OfTask, OfEvent, OfAlarm}}}
 use Rattle.abstract_state.specs.Components.{component_count, abstract_of, value_in, live_val}
+use Rattle.abstract_state.proofs.ClosedLaws.{ceiling_lowest}
 use Rattle.flow_model.specs.declared.case.{Asked.{Asked}, EffectCase.{EffectCase}}
 use Rattle.flow_model.specs.declared.case.Asked.TheVariants as asked
 use Rattle.flow_model.specs.declared.test.Condition.{Condition}
@@ -36,7 +39,7 @@ use Rattle.flow_model.specs.declared.runner.Runner.TheVariants as runner
 use Rattle.flow_model.specs.{Values.{at_block, restacked, with_top, without_top}, Tests.{passes, on_task, updated, PassesAll, value_after}}
 use Rattle.flow_model.specs.{Runners.{Stands, OwnsBlock, change, runner_point}, Effects.{HasEffect, AreCasesOf}, Cases.{goes_on, asked_after, asked_for}}
 use Rattle.flow_model.proofs.{ChangeLaws.{each_passes, passes_each}, Standing.{next_owned, task_calls, routine_calls}}
-use Rattle.flow_model.proofs.{Moves.{activity_parts, moved_held, moved_parts, moved_has, went_on}, Calls.{IsCall, asked_none, asked_maybe, call_goes_on, call_has}}
+use Rattle.flow_model.proofs.{Moves.{activity_parts, moved_held, moved_parts, moved_has, went_on}, Calls.{IsCall, KeepsOrLeaves, asked_none, asked_maybe, call_goes_on, call_has, moved_line, same_line}}
 use Rattle.flow_effects.specs.{Conditions.{of_task}, Moves.{refuses}}
 use Rattle.flow_effects.specs.Resources.{restacks, only, nobody_holds, taken_cases, takes, gives_back, isnt_on_top, is_barred, get_cases, release_cases}
 use Rattle.flow_effects.proofs.Listed.{IsEffect, IsCase, AreListed, IsTaken, are_cases, both_listed, more_listed, one_listed, taken_first, taken_then}
@@ -54,12 +57,22 @@ any_only : (r : ResNo) (h : List ResNo) → list_any (λ (q : ResNo). has_bit (o
 any_only r [] = refl
 any_only r (q ∷ h) = ap (λ (b : Bool). b || list_any (λ (x : ResNo). has_bit (only r) x.0) h) (only_bit r.0 q.0) ∙ ap (λ (b : Bool). nat_eq q.0 r.0 || b) (any_only r h)
 
--- some task holds a taken resource
-any_at : (p : TaskState → Bool) (xs : List TaskState) → list_any p xs ≡ true → (u : ℕ) × (u < length xs) × (p (get_or xs u suspended) ≡ true)
-any_at p [] e = absurd (cc)
-any_at p (x ∷ xs) e = elim (cases_Bool (p x)) [
+-- where some element passes there is one, with its place
+any_at : {X : Type 0} (none : X) (p : X → Bool) (xs : List X) → list_any p xs ≡ true → (u : ℕ) × (u < length xs) × (p (get_or xs u none) ≡ true)
+any_at none p [] e = absurd (cc)
+any_at none p (x ∷ xs) e = elim (cases_Bool (p x)) [
   | inl is ↦ (0, omega arith, is)
-  | inr other ↦ (let h = any_at p xs (sym (ap (λ (b : Bool). b || list_any p xs) other) ∙ e) in (suc h.0, omega (arith, h.1), h.2))
+  | inr other ↦ (let h = any_at none p xs (sym (ap (λ (b : Bool). b || list_any p xs) other) ∙ e) in (suc h.0, omega (arith, h.1), h.2))
+]
+
+-- at task level no routine holds a resource
+no_routine_holds : (m : State) → ((k : ℕ) → source_state m k ≡ source.Out) → (res : ℕ) → list_any (λ x. holds (held_by_source x) res) m.sources ≡ false
+no_routine_holds m out res = elim (cases_Bool (list_any (λ x. holds (held_by_source x) res) m.sources)) [
+  | inl some ↦
+      (let at = any_at source.Out (λ x. holds (held_by_source x) res) m.sources some in
+      let held_there : holds (held_by_source (source_state m at.0)) res ≡ true = at.2 in
+      absurd (false≢true (sym (ap (λ (x : Source). holds (held_by_source x) res) (out at.0)) ∙ held_there)))
+  | inr none ↦ none
 ]
 
 -- another stack
@@ -124,15 +137,21 @@ module _ (app : App) (t : TaskNo) (b : BlockNo) (owns : OwnsBlock app (runner.Ta
   on : (s : State) → Stands app s r b → Stands app (after s) r next
   on s h = went_on app s r b next h (next_owned app s r b h)
 
+  -- while a task runs, tasks alone hold resources
+  untaken_by : (s : State) (n : BlockNo) → Stands app s r n → list_any (λ y. holds (held y) res.0) s.tasks ≡ false → is_taken s res.0 ≡ false
+  untaken_by s n h none =
+      let has : IsProcessor app s (processor.Running t) = subst (IsProcessor app s) h.runs.runs h.well.processor in
+      ap (λ (a : Bool). a || list_any (λ x. holds (held_by_source x) res.0) s.sources) none ∙ no_routine_holds s has.out res.0
+
   same_held : (s : State) → Stands app s r b → (u : ℕ) → held (task_state (after s) u) ≡ held (task_state s u)
   same_held s h u = moved_held app s h.well (place_at next 0) u
 
   -- the task takes or gives back a resource behind its move
-  restacked_on : (k : Kind) → IsCall app k → (the_block app b.0).kind ≡ k → (s : State) (choice : Bool) (conditions : List Condition) (u : Update) (g : List ResNo) (a : Ask) (asks : Asked) → Stands app s r b →
+  restacked_on : (k : Kind) → IsCall app k → (the_block app b.0).kind ≡ k → (s : State) (choice : Bool) (conditions : List Condition) (u : Update) (g : List ResNo) (a : Ask) (asks : Asked) → Stands app s r b → KeepsOrLeaves a s (with_held (after s) t.0 g) →
       called app (after s) (Task t) k ≡ accepted (with_held (after s) t.0 g) a → asked_for app r k a ≡ asks →
       ((v : PartValue) → updated u (updated (update.Block next) v) ≡ updated u v) → updated u (OfTask (Live (live_val next (held (task_state (after s) t.0))))) ≡ OfTask (Live (live_val next g)) →
       PassesAll app conditions (abstract_of app s) → HasEffect app (restacks t next conditions u asks) s choice
-  restacked_on k call is s choice conditions u g a asks h row ask_is moved becomes passing =
+  restacked_on k call is s choice conditions u g a asks h kept row ask_is moved becomes passing =
       call_has app (restacks t next conditions u asks) s choice r b k (accepted (with_held (after s) t.0 g) a) call h is
       (ap (λ (c : Caller). called app (after s) c k) (task_calls app s t b h) ∙ row) passing (record {
         point = held_point app (after s) t next (on s h) g;
@@ -140,7 +159,8 @@ module _ (app : App) (t : TaskNo) (b : BlockNo) (owns : OwnsBlock app (runner.Ta
             ∙ ap (value_after (change t.0 u ∷ []) c) (moved_parts app s next 0 r b h c lt)
             ∙ changed_over t.0 u (update.Block next) moved c (abstract_of app s c);
         asked = ask_is;
-        kept = λ _. moved_has app s h.well (place_at next 0);
+        kept = kept;
+        line = same_line asks s (with_held (after s) t.0 g) (moved_line s (place_at next 0));
         status = refl;
       })
 
@@ -148,7 +168,7 @@ module _ (app : App) (t : TaskNo) (b : BlockNo) (owns : OwnsBlock app (runner.Ta
   refused_on : (k : Kind) → IsCall app k → (the_block app b.0).kind ≡ k → (s : State) (choice : Bool) (conditions : List Condition) (e : Status) → Stands app s r b →
       called app (after s) (Task t) k ≡ refused (after s) e → PassesAll app conditions (abstract_of app s) → HasEffect app (goes_on r next conditions asked.No (Some e)) s choice
   refused_on k call is s choice conditions e h row passing =
-      call_goes_on app s choice r b k conditions asked.No (Some e) None ask.No call h is (ap (λ (c : Caller). called app (after s) c k) (task_calls app s t b h) ∙ row) (asked_none app r k) passing
+      call_goes_on app s choice r b k conditions asked.No (Some e) None ask.No call h is (ap (λ (c : Caller). called app (after s) c k) (task_calls app s t b h) ∙ row) (asked_none app r k) passing tt
 
   -- what the values say of the resource
   holds_is : (s : State) (u : ℕ) → u < length app.tasks → passes (test.Holds res) (abstract_of app s u) ≡ holds (held (task_state s u)) res.0
@@ -192,7 +212,8 @@ module _ (app : App) (t : TaskNo) (b : BlockNo) (owns : OwnsBlock app (runner.Ta
         let held_there : holds (held (task_state s u)) res.0 ≡ true = sym (holds_is s u known) ∙ task_passes app s (task_no u) known (test.Holds res) passing in
         let held_after : holds (held (task_state (after s) u)) res.0 ≡ true = ap (λ (g : List ResNo). holds g res.0) (same_held s h u) ∙ held_there in
         let known_after : u < length (after s).tasks = let long = (on s h).well.tasks_len in omega (arith, known, long) in
-        let taken : is_taken (after s) res.0 ≡ true = list_any_at (λ y. holds (held y) res.0) (after s).tasks u suspended known_after held_after in
+        let some : list_any (λ y. holds (held y) res.0) (after s).tasks ≡ true = list_any_at (λ y. holds (held y) res.0) (after s).tasks u suspended known_after held_after in
+        let taken : is_taken (after s) res.0 ≡ true = ap (λ (a : Bool). a || list_any (λ x. holds (held_by_source x) res.0) (after s).sources) some in
         refused_on getting (λ v ch p y. refl) is s choice _ status.Access h (get_access (after s) (ap (λ (a : Bool). a || barred) taken)) passing
 
     taken_listed : AreListed app r b (taken_cases t next res (length app.tasks))
@@ -221,25 +242,22 @@ module _ (app : App) (t : TaskNo) (b : BlockNo) (owns : OwnsBlock app (runner.Ta
           not-true (holds (held (task_state s u)) res.0) (sym (none_is s u known) ∙ one)
 
       untaken : (s : State) → Stands app s r b → PassesAll app unheld (abstract_of app s) → is_taken (after s) res.0 ≡ false
-      untaken s h passing = elim (cases_Bool (is_taken (after s) res.0)) [
+      untaken s h passing = elim (cases_Bool (list_any (λ y. holds (held y) res.0) (after s).tasks)) [
         | inl taken ↦
-            (let at = any_at (λ y. holds (held y) res.0) (after s).tasks taken in
+            (let at = any_at suspended (λ y. holds (held y) res.0) (after s).tasks taken in
             let known : at.0 < length app.tasks = (let long = (on s h).well.tasks_len in let lt = at.1 in omega (arith, lt, long)) in
             let held_then : holds (held (task_state (after s) at.0)) res.0 ≡ true = at.2 in
             let none : holds (held (task_state (after s) at.0)) res.0 ≡ false = ap (λ (g : List ResNo). holds g res.0) (same_held s h at.0) ∙ free_at s passing at.0 known in
             absurd (cc))
-        | inr none ↦ none
+        | inr none ↦ untaken_by (after s) next (on s h) none
       ]
 
       -- where no task has the resource there is room for it
       room : (m : State) → Well app m → is_taken m res.0 ≡ false → length (held (task_state m t.0)) < MAX_RESOURCES
       room m w none =
-          let known : res.0 < length app.resources = subst (NamesEntries (tables app)) is (operands_of app r b owns) in
+          let takable : IsTakable app res = subst (NamesEntries (tables app)) is (operands_of app r b owns) in
           let here_known : t.0 < length m.tasks = let long = w.tasks_len in let lt = owns.0 in omega (arith, lt, long) in
-          let pushed = push_stack app (held (task_state m t.0)) res (held_stack app m t.0 w owns.0) known (not_taken m t.0 res.0 here_known none) in
-          let few = stack_few (length app.resources) (held (task_state m t.0) ++ res ∷ []) pushed in
-          let size = length-append (held (task_state m t.0)) (res ∷ []) in
-          omega (arith, few, size, app.valid.few_resources)
+          room_on app (held (task_state m t.0)) res (held_stack app m t.0 w owns.0) takable (not_taken m res.0 none t.0 here_known)
 
       on_top : (m : State) → Well app m → is_taken m res.0 ≡ false → with_top (held (task_state m t.0)) res ≡ held (task_state m t.0) ++ res ∷ []
       on_top m w none = ap (λ (a : Bool). if a then held (task_state m t.0) ++ res ∷ [] else held (task_state m t.0)) (lt-ltb (length (held (task_state m t.0))) MAX_RESOURCES (room m w none))
@@ -247,13 +265,13 @@ module _ (app : App) (t : TaskNo) (b : BlockNo) (owns : OwnsBlock app (runner.Ta
       takes_is : IsEffect app r b takes_it
       takes_is s choice h passing =
           let none : is_taken (after s) res.0 ≡ false = untaken s h passing in
-          restacked_on getting (λ v ch p y. refl) is s choice unheld (update.Take res next) (held (task_state (after s) t.0) ++ res ∷ []) ask.No asked.No h
+          restacked_on getting (λ v ch p y. refl) is s choice unheld (update.Take res next) (held (task_state (after s) t.0) ++ res ∷ []) ask.No asked.No h tt
           (get_takes (after s) (ap (λ (a : Bool). a || barred) none ∙ free)) (asked_none app r getting)
           (restacked_moved (λ g. with_top g res) next) (ap (λ (g : List ResNo). OfTask (Live (live_val next g))) (on_top (after s) (on s h).well none)) passing
 
-      free_taken : (s : State) → Stands app s r b → is_taken s res.0 ≡ false → IsTaken app r b s (takes_it ∷ [])
+      free_taken : (s : State) → Stands app s r b → list_any (λ y. holds (held y) res.0) s.tasks ≡ false → IsTaken app r b s (takes_it ∷ [])
       free_taken s h none =
-          let none_at : (u : ℕ) → u < length app.tasks → holds (held (task_state s u)) res.0 ≡ false = λ u known. not_taken s u res.0 (let long = h.well.tasks_len in omega (arith, known, long)) none in
+          let none_at : (u : ℕ) → u < length app.tasks → holds (held (task_state s u)) res.0 ≡ false = λ u known. not_taken s res.0 (untaken_by s b h none) u (let long = h.well.tasks_len in omega (arith, known, long)) in
           record {
             case = takes_it;
             among = inl refl;
@@ -264,9 +282,9 @@ module _ (app : App) (t : TaskNo) (b : BlockNo) (owns : OwnsBlock app (runner.Ta
                 (none_is s back.0 known ∙ ap (λ (a : Bool). not a) (none_at back.0 known)));
           }
 
-      taken_taken : (s : State) → Stands app s r b → is_taken s res.0 ≡ true → IsTaken app r b s (taken_cases t next res (length app.tasks))
+      taken_taken : (s : State) → Stands app s r b → list_any (λ y. holds (held y) res.0) s.tasks ≡ true → IsTaken app r b s (taken_cases t next res (length app.tasks))
       taken_taken s h taken =
-          let at = any_at (λ y. holds (held y) res.0) s.tasks taken in
+          let at = any_at suspended (λ y. holds (held y) res.0) s.tasks taken in
           let known : at.0 < length app.tasks = (let long = h.well.tasks_len in let lt = at.1 in omega (arith, lt, long)) in
           record {
             case = taken_by at.0;
@@ -278,7 +296,7 @@ module _ (app : App) (t : TaskNo) (b : BlockNo) (owns : OwnsBlock app (runner.Ta
       get_free =
           are_cases app r b owns (taken_cases t next res (length app.tasks) ++ takes_it ∷ [])
           (both_listed app r b (taken_cases t next res (length app.tasks)) (takes_it ∷ []) taken_listed (one_listed app r b takes_it (tt, takes_is)))
-          (λ s h. elim (cases_Bool (is_taken s res.0)) [
+          (λ s h. elim (cases_Bool (list_any (λ y. holds (held y) res.0) s.tasks)) [
             | inl taken ↦ taken_first app r b s (taken_cases t next res (length app.tasks)) (takes_it ∷ []) (taken_taken s h taken)
             | inr none ↦ taken_then app r b s (taken_cases t next res (length app.tasks)) (takes_it ∷ []) (free_taken s h none)
           ])
@@ -317,7 +335,7 @@ module _ (app : App) (t : TaskNo) (b : BlockNo) (owns : OwnsBlock app (runner.Ta
       given_is : IsEffect app r b (gives_back app t next res)
       given_is s choice h passing =
           let top : is_on_top res.0 (held (task_state s t.0)) ≡ true = sym (top_is s) ∙ task_passes app s t owns.0 (test.OnTop res) passing in
-          restacked_on giving (λ v ch p y. refl) is s choice (of_task t (test.OnTop res) ∷ []) (update.Give next) (without_top (held (task_state (after s) t.0))) ask.Maybe (asked_after app r) h
+          restacked_on giving (λ v ch p y. refl) is s choice (of_task t (test.OnTop res) ∷ []) (update.Give next) (without_top (held (task_state (after s) t.0))) ask.Maybe (asked_after app r) h (moved_has app s h.well (place_at next 0))
           (release_top (after s) free (same_top s h ∙ top)) (asked_maybe app r giving refl) (restacked_moved without_top next) refl passing
 
       kept_is : IsEffect app r b (isnt_on_top t next res)
@@ -339,20 +357,31 @@ module _ (app : App) (t : TaskNo) (b : BlockNo) (owns : OwnsBlock app (runner.Ta
       | inr e ↦ (rw e (give_free e))
     ]
 
--- in a routine neither does anything
+-- a routine is above each ceiling yet
 module _ (app : App) (b : BlockNo) (res : ResNo) where
-  at_interrupt : (s : State) (c : Caller) (k : SourceNo) → c ≡ Routine k → get_resource_by app s c res ≡ unnoted s ask.No
-  at_interrupt s c k e = ap (λ (d : Caller). get_resource_by app s d res) e
+  is_above : (k : SourceNo) → nat_lt (interrupt_ceiling app res.0) (own_level app k.0) ≡ true
+  is_above k = lt-ltb (interrupt_ceiling app res.0) (own_level app k.0) (omega (arith, ceiling_lowest app res.0))
 
-  at_interrupt_too : (s : State) (c : Caller) (k : SourceNo) → c ≡ Routine k → release_resource_by app s c res ≡ unnoted s ask.No
-  at_interrupt_too s c k e = ap (λ (d : Caller). release_resource_by app s d res) e
+  get_refused : (s : State) (k : SourceNo) → get_resource_isr app s k.0 res ≡ refused s status.Access
+  unfolding get_resource_isr
+  get_refused s k = (let above = or_last (is_taken s res.0) (nat_lt (interrupt_ceiling app res.0) (own_level app k.0)) (is_above k) in rw above refl)
+
+  release_refused : (s : State) (k : SourceNo) → release_resource_isr app s k.0 res ≡ refused s status.Access
+  unfolding release_resource_isr
+  release_refused s k = (let above = is_above k in rw above refl)
+
+  at_interrupt : (s : State) (c : Caller) (k : SourceNo) → c ≡ Routine k → get_resource_by app s c res ≡ refused s status.Access
+  at_interrupt s c k e = ap (λ (d : Caller). get_resource_by app s d res) e ∙ get_refused s k
+
+  at_interrupt_too : (s : State) (c : Caller) (k : SourceNo) → c ≡ Routine k → release_resource_by app s c res ≡ refused s status.Access
+  at_interrupt_too s c k e = ap (λ (d : Caller). release_resource_by app s d res) e ∙ release_refused s k
 
   pub all_gets : (r : Runner) → OwnsBlock app r b → (the_block app b.0).kind ≡ kind.Call (call.Resource call.GetResource res) → AreCasesOf app (runner_point r b) (get_cases app r (the_block app b.0).next res)
   all_gets (runner.Task t) owns is = get_task_cases app t b owns res is
-  all_gets (runner.Routine k over) owns is = goes_on_cases app (runner.Routine k over) b owns (kind.Call (call.Resource call.GetResource res)) None (λ u ch p x. refl) is
+  all_gets (runner.Routine k over) owns is = goes_on_cases app (runner.Routine k over) b owns (kind.Call (call.Resource call.GetResource res)) (Some status.Access) (λ u ch p x. refl) is
       (λ s h. at_interrupt (moved_to s (the_block app b.0).next) (caller s.processor) k (routine_calls app s k over b h))
 
   pub all_releases : (r : Runner) → OwnsBlock app r b → (the_block app b.0).kind ≡ kind.Call (call.Resource call.ReleaseResource res) → AreCasesOf app (runner_point r b) (release_cases app r (the_block app b.0).next res)
   all_releases (runner.Task t) owns is = release_task_cases app t b owns res is
-  all_releases (runner.Routine k over) owns is = goes_on_cases app (runner.Routine k over) b owns (kind.Call (call.Resource call.ReleaseResource res)) None (λ u ch p x. refl) is
+  all_releases (runner.Routine k over) owns is = goes_on_cases app (runner.Routine k over) b owns (kind.Call (call.Resource call.ReleaseResource res)) (Some status.Access) (λ u ch p x. refl) is
       (λ s h. at_interrupt_too (moved_to s (the_block app b.0).next) (caller s.processor) k (routine_calls app s k over b h))

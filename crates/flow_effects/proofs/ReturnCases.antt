@@ -1,5 +1,6 @@
 -- The cases of the end of a routine are its effects.
-use Rattle.std.proofs.Common.{◌≡◌, ℕ, ◌<◌, Bool, [], ◌∷◌, length, refl, sym, ap, subst, ◌∙◌, Some, None}
+use Rattle.std.proofs.{Common.{◌≡◌, ℕ, ◌<◌, Bool, [], ◌∷◌, length, refl, sym, ap, subst, ◌∙◌, arith, Some, None}, lemmas.Bool.{false≢true}}
+use Rattle.std.specs.declared.option.Option.{Option}
 use Rattle.osek_values.specs.declared.numbers.{TaskNo.{TaskNo}, BlockNo.{BlockNo}, SourceNo.{SourceNo}}
 use Rattle.osek_values.specs.declared.status.Ask.TheVariants as ask
 use Rattle.oil_system.specs.declared.objects.Schedule.{Schedule, TheVariants.{Non, Full}}
@@ -9,15 +10,18 @@ use Rattle.osek_standard.specs.declared.state.{State.{State}, Processor.{Process
 use Rattle.osek_standard.specs.declared.state.Source.TheVariants as source
 use Rattle.osek_standard.specs.declared.state.Processor.TheVariants as processor
 use Rattle.osek_standard.specs.declared.point.Point.TheVariants as point
-use Rattle.osek_standard.specs.{Apps.{the_task, the_block}, States.{task_state, with_processor, with_source, place_in}, Services.{unnoted}}
-use Rattle.osek_standard.specs.{Effects.{effect, noted, asked_over, returned_by}, Well.{HasProcessor, IsProcessor, IsRoutine}}
+use Rattle.osek_standard.specs.{Apps.{the_task, the_block}, States.{is_in, task_state, with_processor, with_source, place_in}, Services.{unnoted}, Levels.{next_routine}}
+use Rattle.osek_standard.specs.{Effects.{effect, noted, asked_over, given_back, returned_by, returned_to}, Well.{AreOut, HasProcessor, IsProcessor, IsRoutine}}
+use Rattle.osek_standard.proofs.NestLaws.{next_is}
 use Rattle.abstract_state.specs.{declared.value.{Component.{Component}, Val.{Val}, PartValue.{PartValue}}, Concrete.{val_of}}
 use Rattle.abstract_state.specs.declared.value.Component.TheVariants as component
 use Rattle.abstract_state.specs.Components.{component_at, part_of, abstract_of}
+use Rattle.abstract_state.proofs.AloneLaws.{ended_out}
+use Rattle.flow_model.specs.declared.case.Asked.TheVariants as asked
 use Rattle.flow_model.specs.declared.runner.Runner.{Runner}
 use Rattle.flow_model.specs.declared.runner.Runner.TheVariants as runner
 use Rattle.flow_model.specs.{Runners.{Stands, OwnsBlock, runner_point}, Values.{block_of}, Effects.{Asks, AreCasesOf}, Cases.{asked_under}}
-use Rattle.flow_model.proofs.{Instructions.{effect_there}, Calls.{has_effect}}
+use Rattle.flow_model.proofs.{Instructions.{effect_there}, Calls.{has_effect, same_line}}
 use Rattle.flow_effects.specs.Returns.{goes_back, leaves_idle, return_cases}
 use Rattle.flow_services.proofs.Seeing.{task_value}
 use Rattle.flow_effects.proofs.{Listed.{IsEffect}, TaskValues.{live_value}, MoveCases.{one_case, idle_cases}}
@@ -32,9 +36,22 @@ asks_over : (app : App) (s : State) (t : TaskNo) (x : Schedule) → Asks (asked_
 asks_over app s t Full = (refl, refl)
 asks_over app s t Non = refl
 
+none_next : (app : App) (s : State) → AreOut app s → (o : Option SourceNo) → next_routine app s ≡ o → o ≡ None
+none_next app s out None e = refl
+none_next app s out (Some k) e = (let h = next_is app s k e in absurd (false≢true (sym (ap is_in (out k.0)) ∙ h.began)))
+
 module _ (app : App) (b : BlockNo) (is : (the_block app b.0).kind ≡ kind.IsrEnd) where
   return_effect : (r : Runner) (s : State) (choice : Bool) (p : Processor) → Stands app s r b → s.processor ≡ p → effect app s choice ≡ noted app (returned_by app s p)
   return_effect r s choice p h e = effect_there app s r b kind.IsrEnd choice h is ∙ ap (λ (q : Processor). noted app (returned_by app s q)) e
+
+  -- no routine goes on, since none was over another
+  gives_back : (k : SourceNo) (over : Option TaskNo) (s : State) (choice : Bool) → Stands app s (runner.Routine k over) b → effect app s choice ≡ noted app (given_back app (with_source s k.0 source.Out) over)
+  gives_back k over s choice h =
+      let after : State = with_source s k.0 source.Out in
+      let there : k.0 < length s.sources = let known = h.runs.known in omega (arith, known, h.well.sources_len) in
+      let out : AreOut app after = λ l. ended_out app s k over h.runs.runs h.regular.alone l there in
+      return_effect (runner.Routine k over) s choice (processor.Interrupted k over) h h.runs.runs
+      ∙ ap (λ (o : Option SourceNo). noted app (returned_to app after over o)) (none_next app after out (next_routine app after) refl)
 
   -- over none
   none_returns : (k : SourceNo) → OwnsBlock app (runner.Routine k None) b → AreCasesOf app (runner_point (runner.Routine k None) b) (leaves_idle ∷ [])
@@ -42,8 +59,8 @@ module _ (app : App) (b : BlockNo) (is : (the_block app b.0).kind ≡ kind.IsrEn
     tt,
     λ s choice h passing.
         has_effect app leaves_idle s choice (noted app (unnoted (with_processor (with_source s k.0 source.Out) processor.Idle) ask.Free))
-        (return_effect (runner.Routine k None) s choice (processor.Interrupted k None) h h.runs.runs) passing refl
-        (λ c lt. back_parts s k.0 processor.Idle (component_at app c)) refl refl,
+        (gives_back k None s choice h) passing refl (λ c lt. back_parts s k.0 processor.Idle (component_at app c)) (refl, refl)
+        (same_line asked.Free s (with_processor (with_source s k.0 source.Out) processor.Idle) refl) refl,
   )
 
   -- over a task
@@ -68,10 +85,11 @@ module _ (app : App) (b : BlockNo) (is : (the_block app b.0).kind ≡ kind.IsrEn
     returns s choice h passing =
         let after : State = with_source s k.0 source.Out in
         has_effect app (goes_back app t) s choice (noted app (unnoted (with_processor after (processor.Running t)) (asked_over (the_task app t.0).schedule)))
-        (return_effect r s choice (processor.Interrupted k (Some t)) h h.runs.runs) passing
+        (gives_back k (Some t) s choice h) passing
         (sym (ap (λ (v : PartValue). point.Task (block_of (val_of v))) (back_parts s k.0 (processor.Running t) (component_at app t.0)) ∙ stands_there s h))
         (λ c lt. back_parts s k.0 (processor.Running t) (component_at app c))
-        (asks_over app after t (the_task app t.0).schedule) refl
+        (asks_over app after t (the_task app t.0).schedule)
+        (same_line (asked_under t (the_task app t.0).schedule) s (with_processor after (processor.Running t)) refl) refl
 
   pub all_returns : (r : Runner) → OwnsBlock app r b → AreCasesOf app (runner_point r b) (return_cases app r b)
   all_returns (runner.Task t) owns = idle_cases app (runner.Task t) b owns (λ s choice h. return_effect (runner.Task t) s choice (processor.Running t) h h.runs.runs)

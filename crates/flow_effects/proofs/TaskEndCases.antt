@@ -10,13 +10,14 @@ use Rattle.oil_system.specs.declared.objects.Schedule.{Schedule, TheVariants.{No
 use Rattle.osek_standard.specs.declared.{app.App.{App}, block.Kind.{Kind}}
 use Rattle.osek_standard.specs.declared.block.Kind.TheVariants as kind
 use Rattle.flow_effects.specs.CallNames as call
-use Rattle.osek_standard.specs.declared.{state.{State.{State}, Caller.{Caller, TheVariants.{Task, Routine}}}, task_state.TaskState.{TaskState}}
+use Rattle.osek_standard.specs.declared.{state.{State.{State}, Caller.{Caller, TheVariants.{Task, Routine}}}, task_state.{TaskState.{TaskState}, Activity.{Activity}}}
 use Rattle.osek_standard.specs.declared.task_state.Activity.TheVariants as activity
-use Rattle.osek_standard.specs.{Apps.{the_task, the_block}, States.{task_state, caller}, Services.{unnoted, refused, accepted, left, ended, holds_some, terminate_task, schedule}}
-use Rattle.osek_standard.specs.{Effects.{noted, end_task, place_at, moved_to, called, asked_under}, Well.{Well}}
+use Rattle.osek_standard.specs.{Apps.{the_task, the_block}, States.{task_state, with_task, caller}, Services.{unnoted, refused, accepted, left, ended, ended_by, holds_some, terminate_task, schedule}, Internal.{with_inside}}
+use Rattle.osek_standard.specs.{Effects.{noted, end_task, place_at, moved_to, called, asked_under}, Well.{Well, IsActivityOf}}
 use Rattle.abstract_state.specs.declared.value.{Component.{Component}, PartValue.{PartValue, TheVariants.{OfTask}}, Val.TheVariants.{Suspended}}
 use Rattle.abstract_state.specs.declared.value.Component.TheVariants as component
 use Rattle.abstract_state.specs.Components.{component_count, component_at, abstract_of, part_of}
+use Rattle.abstract_state.proofs.{ClosedLaws.{takes_once}, SettledParts.{inside_part, inside_point}}
 use Rattle.flow_model.specs.declared.case.EffectCase.{EffectCase}
 use Rattle.flow_model.specs.declared.case.Asked.TheVariants as asked
 use Rattle.flow_model.specs.declared.test.Condition.{Condition}
@@ -26,8 +27,8 @@ use Rattle.flow_model.specs.declared.change.Update.TheVariants as update
 use Rattle.flow_model.specs.declared.runner.Runner.{Runner}
 use Rattle.flow_model.specs.declared.runner.Runner.TheVariants as runner
 use Rattle.flow_model.specs.{Tests.{passes, updated, PassesAll, value_after}, Runners.{Stands, OwnsBlock, change, runner_point}, Cases.{goes_on, asked_for, asked_when}}
-use Rattle.flow_model.proofs.{Standing.{next_owned, task_calls, routine_calls}, Instructions.{effect_there}}
-use Rattle.flow_model.proofs.{Moves.{activity_parts, change_here, change_there, moved_held, moved_parts, went_on}, Calls.{IsCall, asked_none, call_goes_on, call_has, has_effect}}
+use Rattle.flow_model.proofs.{Standing.{next_owned, point_there, task_calls, routine_calls}, Instructions.{effect_there}}
+use Rattle.flow_model.proofs.{Moves.{activity_parts, change_here, change_there, moved_has, moved_held, moved_parts, went_on}, Calls.{IsCall, asked_none, call_goes_on, call_has, has_effect, moved_line, same_line}}
 use Rattle.flow_model.specs.Effects.{AreCasesOf}
 use Rattle.flow_effects.specs.{Conditions.{of_task}, TaskEnds.{ends, task_end_cases, refused_holding, terminate_cases, schedule_cases}}
 use Rattle.flow_effects.proofs.{Listed.{IsEffect, IsTaken, are_cases, more_listed, one_listed}, TaskValues.{task_passes, passes_task, some_is, holds_none, none_holds}}
@@ -50,10 +51,25 @@ module _ (app : App) (s : State) (w : Well app s) (t : TaskNo) (known : t.0 < le
   there : t.0 < length s.tasks
   there = omega (arith, known, w.tasks_len)
 
+  abbrev over : TaskState
+  over = record (task_state s t.0) { activity = activity.Suspended }
+
+  -- no further activation is left
+  ended_once : (a : Activity) → IsActivityOf app t.0 a → ended_by app t.0 a ≡ activity.Suspended
+  ended_once activity.Suspended h = refl
+  ended_once (activity.Live x) h =
+      let few = h.further in
+      let none : x.further ≡ 0 = omega (arith, few, takes_once app t.0 known) in
+      ap (λ (n : ℕ). ended_by app t.0 (activity.Live (record x { further = n }))) none
+  ended_once (activity.Waiting b) h = refl
+
+  pub ended_is : ended app s t.0 ≡ with_task s t.0 over
+  ended_is = ap (λ (a : Activity). with_task s t.0 (record (task_state s t.0) { activity = a })) (ended_once (task_state s t.0).activity (w.tasks t.0 known).activity)
+
   pub ended_parts : (c : ℕ) → c < component_count app → abstract_of app (left (ended app s t.0)) c ≡ value_after (change t.0 (update.Set (OfTask Suspended)) ∷ []) c (abstract_of app s c)
   ended_parts c lt =
-      let x : TaskState = record (task_state s t.0) { activity = activity.Suspended } in
-      left_parts (ended app s t.0) (component_at app c) ∙ activity_parts app s t.0 x there refl (update.Set (OfTask Suspended)) known refl c lt
+      ap (λ (r : State). abstract_of app (left r) c) ended_is
+      ∙ left_parts (with_task s t.0 over) (component_at app c) ∙ activity_parts app s t.0 over there refl (update.Set (OfTask Suspended)) known refl c lt
 
 -- at Schedule a non-preemptive task asks too
 asked_at_schedule : (t : TaskNo) (x : Schedule) → asked_when t (asked_under x (kind.Call (call.Plain call.Schedule))) ≡ asked.Maybe t
@@ -80,7 +96,7 @@ module _ (app : App) (t : TaskNo) (b : BlockNo) (owns : OwnsBlock app (runner.Ta
     λ s choice h passing.
         has_effect app (ends t []) s choice (noted app (unnoted (left (ended app s t.0)) ask.Left))
         (effect_there app s r b kind.TaskEnd choice h is ∙ ap (λ (c : Caller). noted app (end_task app s c)) (task_calls app s t b h))
-        passing refl (ended_parts app s h.well t owns.0) refl refl,
+        passing refl (ended_parts app s h.well t owns.0) (refl, refl) (same_line asked.Left s (left (ended app s t.0)) refl) refl,
   )
 
   -- what the caller holds is as before the move
@@ -93,7 +109,7 @@ module _ (app : App) (t : TaskNo) (b : BlockNo) (owns : OwnsBlock app (runner.Ta
       let holds : holds_some s t.0 ≡ true = sym (some_is app s t owns.0) ∙ task_passes app s t owns.0 test.HoldsSome passing in
       call_goes_on app s choice r b k _ asked.No (Some status.Resource) None ask.No call h is
       (ap (λ (c : Caller). called app (after s) c k) (task_calls app s t b h) ∙ row (after s) (same_holds s h ∙ holds))
-      (asked_none app r k) passing
+      (asked_none app r k) passing tt
 
   -- nothing is held before the call, and so after the move
   pub nothing_held : (s : State) → Stands app s r b → IsTrue (passes test.HoldsNothing (abstract_of app s t.0)) → holds_some (after s) t.0 ≡ false
@@ -136,7 +152,7 @@ module _ (app : App) (t : TaskNo) (b : BlockNo) (owns : OwnsBlock app (runner.Ta
         let none = nothing_held s h (task_passes app s t owns.0 test.HoldsNothing passing) in
         call_has app (ends t (of_task t test.HoldsNothing ∷ [])) s choice r b terminate (unnoted (left (ended app (after s) t.0)) ask.Left) (λ u ch p x. refl) h is
         (ap (λ (c : Caller). terminate_task app (after s) c) (task_calls app s t b h) ∙ terminate_ends (after s) none) passing
-        (record { point = refl; parts = ended_after s h; asked = refl; kept = λ e. absurd (cc); status = refl })
+        (record { point = refl; parts = ended_after s h; asked = refl; kept = refl; line = same_line asked.Left s (left (ended app (after s) t.0)) (moved_line s (place_at next 0)); status = refl })
 
     pub terminate_task_cases : AreCasesOf app (runner_point r b) (terminate_cases r next)
     terminate_task_cases = are_cases app r b owns (terminate_cases r next)
@@ -152,7 +168,7 @@ module _ (app : App) (t : TaskNo) (b : BlockNo) (owns : OwnsBlock app (runner.Ta
     unfolding schedule
     schedule_refused s e = rw e refl
 
-    schedule_asks : (s : State) → holds_some s t.0 ≡ false → schedule s (Task t) ≡ accepted s ask.Maybe
+    schedule_asks : (s : State) → holds_some s t.0 ≡ false → schedule s (Task t) ≡ accepted (with_inside s t.0 false) ask.Maybe
     unfolding schedule
     schedule_asks s e = rw e refl
 
@@ -162,9 +178,16 @@ module _ (app : App) (t : TaskNo) (b : BlockNo) (owns : OwnsBlock app (runner.Ta
     schedules : IsEffect app r b rescheduled
     schedules s choice h passing =
         let none = nothing_held s h (task_passes app s t owns.0 test.HoldsNothing passing) in
-        call_goes_on app s choice r b scheduling _ (asked.Maybe t) (Some status.Ok) None ask.Maybe (λ u ch p x. refl) h is
-        (ap (λ (c : Caller). schedule (after s) c) (task_calls app s t b h) ∙ schedule_asks (after s) none)
-        (always_asked app t) passing
+        let on = went_on app s r b next h (next_owned app s r b h) in
+        call_has app rescheduled s choice r b scheduling (accepted (with_inside (after s) t.0 false) ask.Maybe) (λ u ch p x. refl) h is
+        (ap (λ (c : Caller). schedule (after s) c) (task_calls app s t b h) ∙ schedule_asks (after s) none) passing (record {
+          point = inside_point (after s) t.0 false ∙ point_there app (after s) r next on;
+          parts = λ c lt. inside_part (after s) t.0 false (component_at app c) ∙ moved_parts app s next 0 r b h c lt;
+          asked = always_asked app t;
+          kept = moved_has app s h.well (place_at next 0);
+          line = same_line (asked.Maybe t) s (with_inside (after s) t.0 false) (moved_line s (place_at next 0));
+          status = refl;
+        })
 
     pub schedule_task_cases : AreCasesOf app (runner_point r b) (schedule_cases r next)
     schedule_task_cases = are_cases app r b owns (schedule_cases r next)

@@ -27,7 +27,7 @@ use Rattle.flow_model.specs.declared.runner.Runner.TheVariants as runner
 use Rattle.flow_model.specs.{Tests.{passes, PassesAll}, Runners.{Stands, OwnsBlock, runner_point}, Effects.{HasEffect, AreCasesOf}, Cases.{goes_on}}
 use Rattle.flow_model.proofs.{BitRange.{no_such_bit}, BitsOf.{bits_among, among_bits, bit_within, own_bit, no_bit}, ChangeLaws.{each_passes, passes_each}}
 use Rattle.flow_model.proofs.{Standing.{next_owned, point_there, task_calls, routine_calls}, Instructions.{effect_there}, Moves.{activity_parts, moved_parts, went_on}}
-use Rattle.flow_model.proofs.Calls.{has_effect}
+use Rattle.flow_model.proofs.Calls.{has_effect, same_line}
 use Rattle.flow_effects.specs.{Conditions.{of_task}, Moves.{refuses}, TaskEnds.{refused_holding}, Waiting.{of_event, awaited_events, goes_on_by, waits, extended_cases, wait_cases}}
 use Rattle.flow_effects.proofs.Listed.{IsEffect, IsCase, AreListed, IsTaken, are_cases, more_listed}
 use Rattle.flow_effects.proofs.{TaskValues.{counted, task_passes, passes_task, some_is, holds_none, none_holds}, TaskEndCases.{left_parts}, MoveCases.{one_case}}
@@ -99,7 +99,7 @@ module _ (app : App) (t : TaskNo) (b : BlockNo) (owns : OwnsBlock app (runner.Ta
       HasEffect app (goes_on r next conditions asked.No (Some e)) s choice
   noted_on s choice conditions e h row passing = has_effect app (goes_on r next conditions asked.No (Some e)) s choice (noted app (answer (moved_to s next) (Some e) None ask.No))
       (wait_effect s choice (answer s (Some e) None ask.No) h row) passing
-      (point_there app (moved_to s next) r next (went_on app s r b next h (next_owned app s r b h))) (λ c lt. moved_parts app s next 0 r b h c lt) refl refl
+      (point_there app (moved_to s next) r next (went_on app s r b next h (next_owned app s r b h))) (λ c lt. moved_parts app s next 0 r b h c lt) refl tt refl
 
   wait_basic : (s : State) → not (is_extended app t.0) ≡ true → wait_event app s (Task t) m.0 ≡ refused s status.Access
   unfolding wait_event
@@ -188,7 +188,7 @@ module _ (app : App) (t : TaskNo) (b : BlockNo) (owns : OwnsBlock app (runner.Ta
         (wait_effect s choice (accepted (waiting s) ask.Left) h (wait_waits s extended (free_of s (map (of_event app t false) events) passing) none)) passing refl
         (λ c lt. left_parts (with_task s t.0 (record (task_state s t.0) { activity = activity.Waiting (here s).block })) (component_at app c)
         ∙ activity_parts app s t.0 (record (task_state s t.0) { activity = activity.Waiting (here s).block }) there refl (update.Set (OfTask (Waiting b))) owns.0 (ap (λ (d : BlockNo). OfTask (Waiting d)) (sym h.block)) c lt)
-        refl refl
+        (refl, refl) (same_line asked.Left s (waiting s) refl) refl
 
     extended_taken : (s : State) → Stands app s r b → IsTaken app r b s (extended_cases app t b next m)
     extended_taken s h = elim (cases_Bool (holds_some s t.0)) [
@@ -246,7 +246,7 @@ module _ (app : App) (b : BlockNo) (m : Mask) (is : (the_block app b.0).kind ≡
           (effect_there app s (runner.Routine k over) b (kind.Call (call.Mask call.WaitEvent m)) choice h is
           ∙ ap (λ (y : Answer). noted app (goes_on_unless_left onto y)) (at_interrupt s (caller s.processor) (routine_calls app s k over b h)))
           passing (point_there app (moved_to s onto) (runner.Routine k over) onto (went_on app s (runner.Routine k over) b onto h (next_owned app s (runner.Routine k over) b h)))
-          (λ c lt. moved_parts app s onto 0 (runner.Routine k over) b h c lt) refl refl,
+          (λ c lt. moved_parts app s onto 0 (runner.Routine k over) b h c lt) refl tt refl,
     )
 
   pub all_waits : (r : Runner) → HasMasks app → OwnsBlock app r b → AreCasesOf app (runner_point r b) (wait_cases app r b (the_block app b.0).next m)

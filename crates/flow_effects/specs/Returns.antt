@@ -18,7 +18,7 @@ IsOverKnown app (runner.Routine k over) = IfSome over (λ (t : TaskNo). t.0 < le
 
 -- the processor goes back to the task, where that stands
 abbrev pub goes_back : App → TaskNo → EffectCase
-goes_back app t = effect_by [] [] (record { asked = asked_after app (runner.Task t); stay = stay.AtBlockOf t; status = None })
+goes_back app t = effect_by [] [] (record { asked = asked_after app (runner.Task t); last = None; stay = stay.AtBlockOf t; status = None })
 
 -- over none the scheduler is free
 abbrev pub leaves_idle : EffectCase

@@ -14,7 +14,7 @@ use Rattle.flow_model.specs.declared.change.Change.{Change}
 use Rattle.flow_model.specs.declared.change.Update.TheVariants as update
 use Rattle.flow_model.specs.declared.runner.Runner.{Runner}
 use Rattle.flow_model.specs.declared.runner.Runner.TheVariants as runner
-use Rattle.flow_model.specs.{Changes.{activating}, Runners.{change}, Cases.{effect_case, goes_on}}
+use Rattle.flow_model.specs.{Changes.{activating}, Runners.{change}, Cases.{effect_case, goes_on, with_last}}
 use Rattle.flow_effects.specs.{Conditions.{of_task}, Moves.{stays, refuses}}
 
 -- the task becomes suspended
@@ -37,9 +37,9 @@ abbrev pub terminate_cases : Runner → BlockNo → List EffectCase
 terminate_cases (runner.Task t) n = refused_holding t n ∷ ends t (of_task t test.HoldsNothing ∷ []) ∷ []
 terminate_cases (runner.Routine k over) n = refuses (runner.Routine k over) n status.CallLevel
 
--- the task ends, and then the other one begins, which may be the same
+-- the task ends, and then the other one begins, which may be the same: it is put last
 abbrev pub chains : App → TaskNo → TaskNo → List Condition → EffectCase
-chains app t x conditions = effect_case conditions (suspends t ∷ activating app x.0) asked.Left None point.Idle
+chains app t x conditions = with_last (Some x) (effect_case conditions (suspends t ∷ activating app x.0) asked.Left None point.Idle)
 
 abbrev pub holding_nothing : TaskNo → List Condition
 holding_nothing t = of_task t test.HoldsNothing ∷ []

@@ -4,7 +4,7 @@ ghost use Rattle.flow_model.specs.Runners.{IsKnown};
 ghost use Rattle.flow_effects.specs.Resources.{restacks, only, nobody_holds, taken_cases, takes, gives_back, isnt_on_top, is_barred, get_cases, release_cases};
 
 use crate::conditions::{if_task, of_task};
-use crate::moves::{onward, refuses};
+use crate::moves::refuses;
 use abstract_state::ComponentNo;
 use flow_model::{Asked, Change, Condition, EffectCase, Leaving, Runner, Test, Update};
 use flow_services::one;
@@ -149,7 +149,7 @@ pub fn get_cases(
             }
             free_cases(alloc, app, task, next, resource)
         }
-        Runner::Routine { .. } => onward(alloc, runner, next),
+        Runner::Routine { .. } => refuses(alloc, runner, next, Status::Access),
     }
 }
 
@@ -204,6 +204,6 @@ pub fn release_cases(
             cases.push(isnt_on_top(alloc, task, next, resource)?)?;
             Ok(cases)
         }
-        Runner::Routine { .. } => onward(alloc, runner, next),
+        Runner::Routine { .. } => refuses(alloc, runner, next, Status::Access),
     }
 }

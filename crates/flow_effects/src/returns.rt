@@ -20,6 +20,7 @@ fn goes_back(alloc: Global, app: &App, task: TaskNo) -> EffectCase
         changes: Seq::new(alloc),
         leaving: Leaving {
             asked: Runner::Task(task).asked(app),
+            last: None,
             stay: Stay::AtBlockOf(task),
             status: None,
         },

@@ -75,7 +75,7 @@ pub fn terminate_cases(
     }
 }
 
-/// The case in which a task ends, and then another or itself begins.
+/// The case in which a task ends, and then another or itself begins, the last of its priority.
 fn chains(
     alloc: Global,
     app: &App,
@@ -92,7 +92,7 @@ fn chains(
     Ok(EffectCase {
         conditions,
         changes,
-        leaving: Leaving::at(Point::Idle, Asked::Left, None),
+        leaving: Leaving::at(Point::Idle, Asked::Left, None).with_last(Some(chained)),
     })
 }
 

@@ -7,7 +7,7 @@ use Rattle.osek_standard.specs.declared.state.Source.TheVariants as source
 use Rattle.osek_standard.specs.declared.state.Processor.TheVariants as processor
 use Rattle.osek_standard.specs.declared.point.Point.{Point}
 use Rattle.osek_standard.specs.declared.point.Point.TheVariants as point
-use Rattle.osek_standard.specs.{Apps.{source_count, the_block}, States.{task_of, place_of_source, place_by}, Points.{point_of, point_at, IsPoint}}
+use Rattle.osek_standard.specs.{Apps.{source_count, the_block}, States.{task_of, is_interrupted, place_of_source, place_by}, Levels.{level}, Points.{point_of, point_at, IsPoint}}
 use Rattle.osek_standard.specs.{Dispatch.{Stepped, instruction, silent}, Arrivals.{arrival, entered, begun, takes_none, takes_none_by}, Kernel.{step, run_by, entered_or}}
 use Rattle.osek_standard.specs.{Outcomes.{Arrived, Silent, did, arrived_or, shown_by}, Well.{Well, IsOwn}}
 use Rattle.osek_standard.proofs.{ArrivalLaws.{arrival_is, latched_known}, Members.{among_contained, among_map, among_range, contained_among, map_among, range_among}}
@@ -15,8 +15,8 @@ use Rattle.osek_standard.proofs.OwnerLaws.{own_once}
 use Rattle.abstract_state.specs.declared.value.{Component.{Component}, PartValue.{PartValue}}
 use Rattle.abstract_state.specs.declared.value.Component.TheVariants as component
 use Rattle.abstract_state.specs.{Components.{component_at, part_of, abstract_of}, Concrete.{AreAllowed}}
-use Rattle.abstract_state.proofs.Concretes.{some_latched}
-use Rattle.flow_model.specs.{declared.rule.Rule.{Rule}, Rules.{Matches, IsMatched, Shown}}
+use Rattle.abstract_state.proofs.{Concretes.{some_latched}, ClosedLaws.{level_lowest}, RegularLaws.{none_over}}
+use Rattle.flow_model.specs.{declared.rule.Rule.{Rule}, Rules.{Matches, IsMatched, Shown}, Tests.{PassesAll}}
 use Rattle.flow_model.proofs.Standing.{stands_at}
 use Rattle.flow_exits.specs.Arrivals.{arrival_rule, MayBegin, IsArrivalRule, AreArrivals}
 
@@ -34,13 +34,13 @@ module _ (app : App) (s : State) (k : SourceNo) (choice : Bool) where
   shown_arrived processor.Halted e a = absurd (cc)
   shown_arrived processor.Idle e a = ap (arrived_or Silent) a
   shown_arrived (processor.Running t) e a = ap (arrived_or (did app s choice)) a
-  shown_arrived (processor.Interrupted j over) e a = absurd (cc)
+  shown_arrived (processor.Interrupted j over) e a = ap (arrived_or (did app s choice)) a
 
   run_enters : (p : Processor) → takes_none_by app s p ≡ false → arrival app s ≡ Some k → run_by itself app s (instruction app s choice) p ≡ silent (entered app s k)
   run_enters processor.Halted e a = absurd (cc)
   run_enters processor.Idle e a = ap (entered_or itself app s (silent s)) a
   run_enters (processor.Running t) e a = ap (entered_or itself app s (instruction app s choice)) a
-  run_enters (processor.Interrupted j over) e a = absurd (cc)
+  run_enters (processor.Interrupted j over) e a = ap (entered_or itself app s (instruction app s choice)) a
 
   -- the step in which source k arrives
   pub arrives : Well app s → arrival app s ≡ Some k → Matches app (arrival_rule app (task_of s.processor) k.0) s (Run choice)
@@ -58,10 +58,10 @@ module _ (app : App) (s : State) (k : SourceNo) (choice : Bool) where
 
 module _ (app : App) (s : State) (w : Well app s) where
   -- a routine may begin where the state takes one
-  begins_by : (x : Processor) → s.processor ≡ x → (p : Point) → point_of s ≡ p → takes_none_by app s x ≡ false → MayBegin app p (task_of x)
-  begins_by processor.Halted at p e f = absurd (cc)
-  begins_by processor.Idle at p e f = subst (λ (q : Point). MayBegin app q None) (sym (ap (λ (y : Processor). point_at (place_by s y).block y) at) ∙ e) tt
-  begins_by (processor.Running t) at p e f =
+  begins_by : (x : Processor) → s.processor ≡ x → (p : Point) → point_of s ≡ p → (k : SourceNo) → arrival app s ≡ Some k → takes_none_by app s x ≡ false → MayBegin app p (task_of x)
+  begins_by processor.Halted at p e k a f = absurd (cc)
+  begins_by processor.Idle at p e k a f = subst (λ (q : Point). MayBegin app q None) (sym (ap (λ (y : Processor). point_at (place_by s y).block y) at) ∙ e) tt
+  begins_by (processor.Running t) at p e k a f =
       let b = (place_by s (processor.Running t)).block in
       let place : point_of s ≡ point.Task b = ap (λ (y : Processor). point_at (place_by s y).block y) at in
       let h = stands_at app s b w place in
@@ -77,7 +77,7 @@ module _ (app : App) (s : State) (w : Well app s) where
 
       running_task : {u v : TaskNo} → processor.Running u ≡ processor.Running v → u ≡ v
       running_task e = ap task_in e
-  begins_by (processor.Interrupted k over) at p e f = absurd (cc)
+  begins_by (processor.Interrupted j over) at p e k a f = (let none : arrival app s ≡ None = none_over app s w j over at in absurd (cc))
 
   -- each arrival is a rule's
   pub arrival_covered : (p : Point) (rules : List Rule) (e : Event) → AreArrivals app p rules → point_of s ≡ p → (k : SourceNo) → arrival app s ≡ Some k → (choice : Bool) → e ≡ Run choice → IsMatched app rules s e
@@ -86,18 +86,18 @@ module _ (app : App) (s : State) (w : Well app s) where
       let known : k.0 < source_count app = omega (arith, latched_known s k.0 arrived.latched, w.latched_len) in
       record {
         rule = arrival_rule app (task_of s.processor) k.0;
-        listed = h.some k.0 (task_of s.processor) known (begins_by s.processor refl p at arrived.allowed);
+        listed = h.some k.0 (task_of s.processor) known (begins_by s.processor refl p at k a arrived.allowed);
         matches = subst (λ (x : Event). Matches app (arrival_rule app (task_of s.processor) k.0) s x) (sym is) (arrives app s k choice w a);
       }
 
-  -- where it may begin over this, the state takes a routine over it
-  takes : (p : Point) (over : Option TaskNo) → point_of s ≡ p → MayBegin app p over → (takes_none app s ≡ false) × (task_of s.processor ≡ over)
+  -- where it may begin over this, the state takes a routine over it, and none has the processor
+  takes : (p : Point) (over : Option TaskNo) → point_of s ≡ p → MayBegin app p over → (takes_none app s ≡ false) × (task_of s.processor ≡ over) × (is_interrupted s.processor ≡ false)
   takes point.Halted over at may = absurd may
   takes point.Idle None at may = idle s.processor at
     where
-      idle : (x : Processor) → point_at (place_by s x).block x ≡ point.Idle → (takes_none_by app s x ≡ false) × (task_of x ≡ None)
+      idle : (x : Processor) → point_at (place_by s x).block x ≡ point.Idle → (takes_none_by app s x ≡ false) × (task_of x ≡ None) × (is_interrupted x ≡ false)
       idle processor.Halted e = absurd (cc)
-      idle processor.Idle e = (refl, refl)
+      idle processor.Idle e = (refl, refl, refl)
       idle (processor.Running t) e = absurd (cc)
       idle (processor.Interrupted k o) e = absurd (cc)
   takes point.Idle (Some t) at may = absurd may
@@ -107,16 +107,19 @@ module _ (app : App) (s : State) (w : Well app s) where
       let same : h.0.0 ≡ t.0 = own_once app h.0.0 t.0 b.0 h.1.runs.has.0 may.1 h.1.runs.own may.2 in (
         ap (takes_none_by app s) h.1.runs.runs ∙ ap (λ (c : BlockNo). (the_block app c.0).locked) h.1.block ∙ may.0,
         ap task_of h.1.runs.runs ∙ ap (λ (n : ℕ). Some (task_no n)) same,
+        ap is_interrupted h.1.runs.runs,
       )
   takes (point.Routine b under) over at may = absurd may
 
--- each arrival rule's step is some state's, with these values
-pub arrival_shown : (app : App) (p : Point) (rule : Rule) (value : ℕ → PartValue) → IsPoint app p → AreAllowed app p value → IsArrivalRule app p rule → Shown app p rule value
-arrival_shown app p rule value h allowed r =
+-- each arrival rule's step is some state's, with these values, which pass
+pub arrival_shown : (app : App) (p : Point) (rule : Rule) (value : ℕ → PartValue) → IsPoint app p → AreAllowed app p value → IsArrivalRule app p rule →
+    PassesAll app rule.conditions value → Shown app p rule value
+arrival_shown app p rule value h allowed r passing =
     let c = some_latched app p value h allowed r.source r.known in
     let s = c.0 in
     let t = takes app s c.1.has.well p r.over c.1.has.point r.may in
-    let arrived : arrival app s ≡ Some (source_no r.source) = c.1.arrives t.0 in
+    let lowest : level app s ≡ 0 = level_lowest app s c.1.has.well t.2 in
+    let arrived : arrival app s ≡ Some (source_no r.source) = c.1.arrives t.0 (omega (arith, lowest)) in
     let rule_is : arrival_rule app (task_of s.processor) r.source ≡ rule = ap (λ (o : Option TaskNo). arrival_rule app o r.source) t.1 ∙ sym r.is in
     record {
       from = s;

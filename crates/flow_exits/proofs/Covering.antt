@@ -10,13 +10,14 @@ use Rattle.osek_standard.specs.{Outcomes.{Mark, Silent, Arrived, Did, shows, IsI
 use Rattle.abstract_state.specs.{declared.{value.PartValue.{PartValue}, table.PlainEntry.{PlainEntry}}, Components.{abstract_of}, Concrete.{HasParts}, Tables.{set_at, is_member}}
 use Rattle.abstract_state.proofs.MarkLaws.{shown_instruction, shown_arrival}
 use Rattle.flow_model.specs.{declared.{case.{Decision.{Decision}, EffectCase.{EffectCase}}, rule.Rule.{Rule}}, Effects.{AreIn, AreAllAllowed, IsAt, IsKnownStay, HasEffect}}
-use Rattle.flow_model.specs.{Scheduling.{Decides}, Rules.{Matches, mark_by}, Runners.{IsNobodys}, Tests.{value_after, values_after}}
+use Rattle.flow_model.specs.{Rules.{mark_by, mark_of}, Runners.{IsNobodys}, Tests.{value_after, values_after}}
 use Rattle.flow_model.proofs.{Instructions.{instruction_by, shown_so}, Standing.{active_there, active_within}}
-use Rattle.flow_exits.specs.{Deciding.{HasValues}, Arrivals.{arrival_rule, MayBegin, AreArrivals}}
+use Rattle.flow_exits.specs.{Deciding.{HasValues, IsKernelDecision}, Arrivals.{arrival_rule, MayBegin, IsArrivalRule, AreArrivals}}
 use Rattle.flow_exits.proofs.Arriving.{all_arrivals, none_alone, task_alone, arrival_covered, arrival_shown}
-use Rattle.flow_exits.specs.{declared.exit.Exit.{Exit}, Exits.{exit_mark, IsBySome, CoverSteps, CoverInstructions, IsFilled, IsExact, AreExact}}
-use Rattle.flow_exits.specs.Leaving.{HasDecided, IsOfEffects, arrival_exit, AreExits}
-use Rattle.flow_exits.proofs.Steps.{changed, some_decision, decided, instruction_ends}
+use Rattle.flow_exits.specs.{declared.exit.Exit.{Exit}, Exits.{exit_mark, IsBySome, CoverSteps, CoverInstructions, IsExact, AreExact}}
+use Rattle.flow_exits.specs.Leaving.{HasDecided, IsOfEffects, IsArrivalExit, AreExits}
+use Rattle.abstract_state.specs.Choices.{IsFirstIfThere}
+use Rattle.flow_exits.proofs.Steps.{changed, some_decision, kernel_decision, instruction_ends, winner}
 
 exit_marks : (x : Exit) (d : Decision) (status : Option Status) → x.decision ≡ Some d → x.status ≡ status → exit_mark x ≡ mark_by (Some d) status
 exit_marks x d status decides is = ap (λ (o : Option Decision). mark_by o x.status) decides ∙ ap (mark_by (Some d)) is
@@ -52,6 +53,13 @@ module _ (app : App) where
   has_arrivals (point.Routine b over) is = none_begin (point.Routine b over) (λ o may. may)
 
 module _ (app : App) (p : Point) (entry : PlainEntry) (exits : List Exit) (is : IsPoint app p) (h : AreExits app p entry exits) where
+  -- an exit without a decision shows what the rule of an arrival does, and neither notes a status
+  arrival_marks : (rule : Rule) → IsArrivalRule app p rule → (x : Exit) → x.decision ≡ None → mark_of rule ≡ exit_mark x
+  arrival_marks rule r x none = ap mark_of r.is ∙ sym (ap (λ (o : Option Decision). mark_by o x.status) none)
+
+  arrival_notes : (rule : Rule) → IsArrivalRule app p rule → rule.status ≡ None
+  arrival_notes rule r = ap (λ (x : Rule). x.status) r.is
+
   -- a state in which a routine begins steps by the routine's exit
   arrival_taken : (s : State) (choice : Bool) → IsAt app p entry s → shows app s (Run choice) ≡ Arrived → IsBySome app exits s (Run choice)
   arrival_taken s choice at e =
@@ -59,15 +67,16 @@ module _ (app : App) (p : Point) (entry : PlainEntry) (exits : List Exit) (is : 
       let a = has_arrivals app p is in
       let m = arrival_covered app s at.well p a.rules (Run choice) a.are at.point k.source k.arrives choice refl in
       let r = a.are.each m.rule m.listed in
-      let matches : Matches app (arrival_rule app r.over r.source) s (Run choice) = subst (λ (x : Rule). Matches app x s (Run choice)) r.is m.matches in
+      let found = h.arrivals m.rule r (abstract_of app s) at.within m.matches.passes in
+      let exit : Exit = found.exit in
       record {
-        exit = arrival_exit app entry r.over r.source;
-        listed = h.arrivals r.source r.over r.known r.may;
+        exit = exit;
+        listed = found.listed;
         by = record {
-          target = matches.target;
-          within = λ c lt. subst (λ (v : PartValue). IsTrue (is_member (set_at entry c) v)) (sym (matches.parts c lt)) (at.within c lt);
-          shows = matches.shows;
-          status = matches.status;
+          target = m.matches.target ∙ sym found.target;
+          within = λ c lt. subst (λ (v : PartValue). IsTrue (is_member (set_at exit.entry c) v)) (sym (m.matches.parts c lt)) (found.within c lt);
+          shows = m.matches.shows ∙ arrival_marks m.rule r exit found.decision;
+          status = m.matches.status ∙ arrival_notes m.rule r ∙ sym found.status;
         };
       }
 
@@ -79,14 +88,14 @@ module _ (app : App) (p : Point) (entry : PlainEntry) (exits : List Exit) (is : 
     stays : IsKnownStay app case.leaving.stay
     has : HasEffect app case s choice
     decision : Decision
-    decides : Decides app (values_after case.changes (abstract_of app s)) case.leaving.asked decision
+    does : IsKernelDecision app case.leaving (effect app s choice) (values_after case.changes (abstract_of app s)) decision
     found : HasDecided app case.leaving exits decision (values_after case.changes (abstract_of app s))
 
   has_exit : (s : State) (choice : Bool) → IsAt app p entry s → IsActive s.processor → HasExit s choice
   has_exit s choice at active =
       let x = h.covering s choice at active in
       let d = some_decision app s choice at.well x.case x.effect in
-      record { case = x.case; stays = h.stays x.case x.listed; has = x.effect; decision = d.0; decides = d.1; found = h.decisions x.case x.listed (abstract_of app s) d.0 at.within x.effect.passes d.1 }
+      record { case = x.case; stays = h.stays x.case x.listed; has = x.effect; decision = d.0; does = d.1; found = h.decisions x.case x.listed (abstract_of app s) d.0 at.within x.effect.passes d.1.decides }
 
   instruction_taken : (s : State) (e : Event) (o : Outcome) (x : Option Status) → IsAt app p entry s → IsInstruction app s e o x → shows app s e ≡ Did o x → IsBySome app exits s e
   instruction_taken s e o x at i shown =
@@ -94,7 +103,7 @@ module _ (app : App) (p : Point) (entry : PlainEntry) (exits : List Exit) (is : 
       let value : ℕ → PartValue = values_after k.case.changes (abstract_of app s) in
       let same = changed app s i.choice at.well k.case k.has in
       let exit : Exit = k.found.exit in
-      let r = instruction_ends app s i.choice at.well k.case k.has value same k.decision k.decides k.stays e i.steps
+      let r = instruction_ends app s i.choice at.well k.case k.has value same k.decision k.does k.stays e i.steps
       (shown ∙ ap (λ (d : Outcome). Did d x) (sym i.does) ∙ ap (Did (outcome app s i.choice)) (sym i.status)) in
       record {
         exit = exit;
@@ -127,7 +136,7 @@ module _ (app : App) (p : Point) (entry : PlainEntry) (exits : List Exit) (is : 
         listed = k.found.listed;
         decision = k.decision;
         decides = k.found.decision;
-        outcome = decided app s choice at.well k.case k.has (values_after k.case.changes (abstract_of app s)) (changed app s choice at.well k.case k.has) k.decision k.decides;
+        outcome = k.does.outcome;
         status = k.has.status ∙ sym k.found.status;
       }
 
@@ -142,25 +151,26 @@ module _ (app : App) (p : Point) (entry : PlainEntry) (exits : List Exit) (is : 
   at_values : (s : State) (value : ℕ → PartValue) → HasParts app p value s → AreIn app entry value → IsAt app p entry s
   at_values s value has within = record {
     well = has.well;
+    regular = has.regular;
     point = has.point;
     within = λ c lt. subst (λ (v : PartValue). IsTrue (is_member (set_at entry c) v)) (sym (has.parts c lt)) (within c lt);
   }
 
   module _ (allowed : AreAllAllowed app p entry) where
-    arrival_exact : IsFilled app entry → (source : ℕ) (over : Option TaskNo) → source < source_count app → MayBegin app p over → IsExact app p entry (arrival_exit app entry over source)
-    arrival_exact filled source over known may = record {
-      filled = filled;
+    arrival_exact : (x : Exit) → IsArrivalExit app p entry x → IsExact app p entry x
+    arrival_exact x a = record {
+      filled = a.filled;
       shown = λ value within.
-          (let x = arrival_shown app p (arrival_rule app over source) value is (λ c lt. allowed c (value c) lt (within c lt))
-          (record { source = source; over = over; known = known; may = may; is = refl }) in
+          (let k = a.comes value within in
+          let y = arrival_shown app p a.rule k.before is (λ c lt. allowed c (k.before c) lt (k.within c lt)) a.arrival k.passes in
           record {
-            from = x.from;
-            event = x.event;
-            at = at_values x.from value x.has within;
-            target = x.matches.target;
-            parts = λ c lt. x.matches.parts c lt ∙ x.has.parts c lt;
-            shows = x.matches.shows;
-            status = x.matches.status;
+            from = y.from;
+            event = y.event;
+            at = at_values y.from k.before y.has k.within;
+            target = y.matches.target ∙ sym a.target;
+            parts = λ c lt. y.matches.parts c lt ∙ ap (value_after a.rule.changes c) (y.has.parts c lt) ∙ k.becomes c lt;
+            shows = y.matches.shows ∙ arrival_marks a.rule a.arrival x a.decision;
+            status = y.matches.status ∙ arrival_notes a.rule a.arrival ∙ sym a.status;
           });
     }
 
@@ -169,25 +179,29 @@ module _ (app : App) (p : Point) (entry : PlainEntry) (exits : List Exit) (is : 
       filled = o.filled;
       shown = λ value within.
           (let k = o.comes value within in
-          let y = h.exact allowed k.effect k.before k.listed k.within k.passes in
+          let m = k.made in
+          let y = h.exact allowed k.effect m.before (winner o.decision) k.listed m.within m.passes in
           let s : State = y.from in
           let active : IsActive s.processor = active_at p (h.active k.effect k.listed) s y.has.well y.has.point in
-          let same : HasValues app (effect app s y.choice).state value = λ c lt. sym (y.effect.parts c lt ∙ ap (value_after k.effect.changes c) (y.has.parts c lt) ∙ k.becomes c lt) in
-          let r = instruction_ends app s y.choice y.has.well k.effect y.effect value same o.decision k.decides (h.stays k.effect k.listed) (Run y.choice)
+          let same : HasValues app (effect app s y.choice).state k.after
+          = λ c lt. sym (y.effect.parts c lt ∙ ap (value_after k.effect.changes c) (y.has.parts c lt) ∙ m.becomes c lt) in
+          let does : IsKernelDecision app k.effect.leaving (effect app s y.choice) k.after o.decision
+          = kernel_decision app s y.choice y.has.well k.effect y.effect k.after same o.decision k.decides (λ w e. subst (λ (t : ℕ). IsFirstIfThere t s) (ap winner e) y.first) in
+          let r = instruction_ends app s y.choice y.has.well k.effect y.effect k.after same o.decision does (h.stays k.effect k.listed) (Run y.choice)
           (instruction_by app s y.choice active y.alone) (shown_so app s y.choice active y.alone) in
           record {
             from = s;
             event = Run y.choice;
-            at = at_values s k.before y.has k.within;
+            at = at_values s m.before y.has m.within;
             target = r.target ∙ sym k.target;
-            parts = r.parts;
+            parts = λ c lt. r.parts c lt ∙ k.settles c;
             shows = r.shows ∙ sym (exit_marks x o.decision k.effect.leaving.status o.decides k.status);
             status = r.status ∙ sym k.status;
           });
     }
 
-    pub exits_shown : IsFilled app entry → AreExact app p entry exits
-    exits_shown filled x m = elim (h.each x m) [
-      | inl a ↦ subst (IsExact app p entry) (sym a.is) (arrival_exact filled a.source a.over a.known a.may)
+    pub exits_shown : AreExact app p entry exits
+    exits_shown x m = elim (h.each x m) [
+      | inl a ↦ arrival_exact x a
       | inr o ↦ effect_exact x o
     ]

@@ -1,4 +1,5 @@
 pub mod Staying
+pub mod LinePlaces
 pub mod KernelDecides
 pub mod PriorityTests
 pub mod ClaimLaws

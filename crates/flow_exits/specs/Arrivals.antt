@@ -6,11 +6,11 @@ use Rattle.osek_standard.specs.declared.point.Point.TheVariants as point
 use Rattle.osek_standard.specs.{Apps.{the_block, routine_start, source_count}, Well.{IsOwn}}
 use Rattle.flow_model.specs.declared.rule.Rule.{Rule}
 
--- source k's routine begins, over a task or over none
+-- Source k's routine begins, over a task or over none: with which values, and what that makes of them.
 abbrev pub arrival_rule : App → Option TaskNo → ℕ → Rule
 arrival_rule app over k = record { conditions = []; changes = []; target = point.Routine (routine_start app k) over; decision = None; status = None }
 
--- a routine may begin over no task at idle, and over a task at a block of it that isn't locked
+-- at the point a routine may begin: over no task at idle, and over a task at a block of it that isn't locked
 abbrev pub MayBegin : App → Point → Option TaskNo → Type 0
 MayBegin app point.Halted over = ⊥
 MayBegin app point.Idle None = ⊤

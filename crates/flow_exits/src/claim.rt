@@ -17,11 +17,12 @@ pub enum Claim {
         priority: u32,
     },
     /// A task, at this current priority: it goes before each other Live task, and is above the running one, if a task
-    /// runs.
+    /// runs. It goes before those of the same priority too where it may tie.
     Gets {
         task: TaskNo,
         priority: u32,
         over: Option<TaskNo>,
+        may_tie: bool,
     },
 }
 
@@ -50,27 +51,25 @@ impl Claim {
                 task: best,
                 priority,
                 over,
+                may_tie,
             } => {
                 if task.0 == best.0 {
                     None
                 } else {
-                    Some(limit_beside(best, priority, over, task))
+                    Some(limit_beside(priority, over, may_tie, task))
                 }
             }
         }
     }
 }
 
-fn limit_beside(best: TaskNo, priority: u32, over: Option<TaskNo>, task: TaskNo) -> u64
-    ensures { result ≡ limit_beside_of best priority over task.0 }
+fn limit_beside(priority: u32, over: Option<TaskNo>, may_tie: bool, task: TaskNo) -> u64
+    ensures { result ≡ limit_beside_of priority over may_tie task.0 }
 {
-    if is_running(over, task) {
+    if is_running(over, task) || !may_tie {
         return priority as u64;
     }
-    if may_tie(best, task) {
-        return priority as u64 + 1;
-    }
-    priority as u64
+    priority as u64 + 1
 }
 
 /// Whether the running task is this one.
@@ -83,9 +82,9 @@ pub fn is_running(over: Option<TaskNo>, task: TaskNo) -> bool
     }
 }
 
-/// Whether the task may go before another of the same current priority.
-fn may_tie(task: TaskNo, other: TaskNo) -> bool
-    ensures { result ≡ may_tie_of task.0 other.0 }
+/// Whether the task may go before others of the same current priority, where this task was put last.
+pub fn may_tie(last: Option<TaskNo>, task: TaskNo) -> bool
+    ensures { result ≡ may_tie_of last task.0 }
 {
-    task.0 < other.0
+    !is_running(last, task)
 }

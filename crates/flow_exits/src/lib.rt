@@ -8,6 +8,6 @@ pub mod laws;
 mod priority;
 
 pub use beginning::arrivals;
-pub use claim::{Claim, is_running};
+pub use claim::{Claim, is_running, may_tie};
 pub use exit::Exit;
 pub use priority::{Candidate, as_candidate};

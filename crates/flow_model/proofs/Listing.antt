@@ -28,7 +28,7 @@ module _ (app : App) (r : Runner) (b : BlockNo) (owns : OwnsBlock app r b) (case
   AreEnough = (s : State) → Stands app s r b → (x : EffectCase) × Contains cases x × PassesAll app x.conditions (abstract_of app s)
 
   pub covers_by : ((s : State) (choice : Bool) → Stands app s r b → HasSomeEffect app cases s choice) → (entry : PlainEntry) → CoverEffects app (runner_point r b) entry cases
-  covers_by some entry s choice at active = some s choice (stands_here app s r b owns at.well at.point)
+  covers_by some entry s choice at active = some s choice (stands_here app s r b owns at.well at.regular at.point)
 
   pub covers : AreEffects → AreEnough → (entry : PlainEntry) → CoverEffects app (runner_point r b) entry cases
   covers each some = covers_by (λ s choice h. let x = some s h in record { case = x.0; listed = x.1; effect = each x.0 s choice x.1 h x.2 })
@@ -38,8 +38,8 @@ module _ (app : App) (r : Runner) (b : BlockNo) (owns : OwnsBlock app r b) (case
   IsEffectBy x choice = (s : State) → Stands app s r b → PassesAll app x.conditions (abstract_of app s) → HasEffect app x s choice
 
   pub exact_by : ((x : EffectCase) → Contains cases x → (choice : Bool) × IsEffectBy x choice) → (entry : PlainEntry) → AreAllAllowed app (runner_point r b) entry → AreExactEffects app (runner_point r b) entry cases
-  exact_by each entry all x value listed within passing =
-      let q = some_quiet app (runner_point r b) value (owned_point app r b owns) (values_allowed app (runner_point r b) entry value all within) in
+  exact_by each entry all x value t listed within passing =
+      let q = some_quiet app (runner_point r b) value (owned_point app r b owns) (values_allowed app (runner_point r b) entry value all within) t in
       let has : HasParts app (runner_point r b) value q.0 = q.1.has in
       let shown = each x listed in
       record {
@@ -47,7 +47,8 @@ module _ (app : App) (r : Runner) (b : BlockNo) (owns : OwnsBlock app r b) (case
         choice = shown.0;
         has = has;
         alone = q.1.quiet;
-        effect = shown.1 q.0 (stands_here app q.0 r b owns has.well has.point) (made_passes app (runner_point r b) value q.0 has x.conditions passing);
+        first = q.1.first;
+        effect = shown.1 q.0 (stands_here app q.0 r b owns has.well has.regular has.point) (made_passes app (runner_point r b) value q.0 has x.conditions passing);
       }
 
   pub exact : AreEffects → (entry : PlainEntry) → AreAllAllowed app (runner_point r b) entry → AreExactEffects app (runner_point r b) entry cases

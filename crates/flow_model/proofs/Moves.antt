@@ -1,27 +1,24 @@
 -- A runner that goes on to another place: what that makes of the components, and what stays.
 use Rattle.std.proofs.Common.{◌≡◌, ◌≢◌, ℕ, ◌<◌, Bool, true, [], ◌∷◌, length, refl, sym, ap, subst, ◌∙◌, inl, inr, arith, get_or-set_same, get_or-set_other}
-use Rattle.std.specs.Prelude.{if◌then◌else◌}
 use Rattle.std.proofs.lemmas.Bool.{cases_eq, eq-eqb, ne_eqb}
-use Rattle.std.specs.declared.option.Option.{Option}
+use Rattle.std.specs.{Prelude.{if◌then◌else◌}, declared.option.Option.{Option}}
 use Rattle.osek_values.specs.{Numbers.{task_no}, declared.{mask.Mask.{Mask}, numbers.{TaskNo.{TaskNo}, BlockNo.{BlockNo}, SourceNo.{SourceNo}}}, Bits.{has_bit}}
 use Rattle.osek_standard.specs.declared.{app.App.{App}, state.{State.{State}, Processor.{Processor}, Source.{Source}}}
-use Rattle.osek_standard.specs.declared.state.Source.TheVariants as source
-use Rattle.osek_standard.specs.declared.state.Processor.TheVariants as processor
 use Rattle.osek_standard.specs.declared.task_state.{TaskState.{TaskState}, Activity.{Activity}, Place.{Place}}
-use Rattle.osek_standard.specs.declared.task_state.Activity.TheVariants as activity
 use Rattle.osek_standard.specs.{Apps.{the_block}, TaskStates.{suspended, is_live, is_live_activity, is_suspended, held, held_in}}
 use Rattle.osek_standard.specs.States.{task_state, with_task, source_state, with_source, place_by, place_in, place_of_source, here}
 use Rattle.osek_standard.specs.{Effects.{place_at, standing_at, task_at, source_at, moved_by, moved, moved_to}, Well.{Well, InOwner, IsOffsetAt, IsProcessor, IsRunningAt}}
-use Rattle.osek_standard.proofs.{Callers.{enters, moved_processor}, Keeps.{moved_keeps, task_after}}
+use Rattle.osek_standard.specs.declared.state.Source.TheVariants as source
+use Rattle.osek_standard.specs.declared.state.Processor.TheVariants as processor
+use Rattle.osek_standard.specs.declared.task_state.Activity.TheVariants as activity
+use Rattle.osek_standard.proofs.{Callers.{enters, moved_processor}, MoveKeeps.{moved_keeps}, Keeps.{task_after}}
 use Rattle.abstract_state.specs.declared.value.{Component.{Component}, PartValue.{PartValue, TheVariants.{OfTask, OfEvent}}}
-use Rattle.abstract_state.specs.declared.value.Component.TheVariants as component
 use Rattle.abstract_state.specs.Components.{component_count, component_at, component_number, part_of, abstract_of, value_in}
-use Rattle.abstract_state.proofs.ComponentLaws.{component_numbered, task_at_its_number}
-use Rattle.flow_model.specs.declared.change.Update.{Update}
+use Rattle.abstract_state.specs.declared.value.Component.TheVariants as component
+use Rattle.abstract_state.proofs.{ComponentLaws.{component_numbered, task_at_its_number}, AloneLaws.{moved_alone}}
+use Rattle.flow_model.specs.{declared.{change.Update.{Update}, runner.Runner.{Runner}}, Values.{at_block}, Tests.{updated, value_after}, Runners.{Stands, Runs, change, moving}}
 use Rattle.flow_model.specs.declared.change.Update.TheVariants as update
-use Rattle.flow_model.specs.declared.runner.Runner.{Runner}
 use Rattle.flow_model.specs.declared.runner.Runner.TheVariants as runner
-use Rattle.flow_model.specs.{Values.{at_block}, Tests.{updated, value_after}, Runners.{Stands, Runs, change, moving}}
 
 -- a task that stands at another place has its value at that block
 pub value_at_place : (b : BlockNo) (o : ℕ) (a : Activity) → value_in (standing_at a (place_at b o)) ≡ at_block b (value_in a)
@@ -188,6 +185,7 @@ module _ (app : App) (s : State) (n : BlockNo) (o : ℕ) where
     pub moved_stands : InOwner app s.processor n.0 → IsOffsetAt (the_block app n.0).kind o → Stands app (moved s to) r n
     moved_stands own offset = record {
       well = moved_keeps app s h.well to own offset;
+      regular = record { alone = moved_alone s h.regular.alone to s.processor refl };
       runs = runs_by r b h.well h.runs own;
       block = block_by r b h.well h.runs;
     }

@@ -4,7 +4,7 @@ use Rattle.std.specs.{Prelude.{if◌then◌else◌}, List.{IsDistinct}}
 use Rattle.std.proofs.lemmas.{Bool.{cases_Bool, cases_order, lt-ltb, and_from, true≢false, eq-eqb, Decides.{nat_tests}}, List.{get_or-map, length-map}, Map.Keys.{apart_from_distinct}}
 use Rattle.osek_standard.specs.declared.app.App.{App}
 use Rattle.osek_standard.specs.{Validity.{IsAmong, meet}, Apps.{the_isr, the_counter, source_count, no_isr, no_counter}, Well.{IsOfRoutine}}
-use Rattle.osek_standard.proofs.{Members.{Among}, Distinct.{distinct_across, distinct_left, distinct_right}, OwnerLaws.{of_task, of_isr, of_counter, blocks_of, blocks_apart, blocks_of_tasks, owned}}
+use Rattle.osek_standard.proofs.{Distinct.{distinct_across, distinct_left, distinct_right}, OwnerLaws.{of_task, of_isr, of_counter, blocks_of, blocks_apart, blocks_of_tasks, owned}}
 
 -- two ranges that have a number meet
 meeting : (o p : ℕ × ℕ) (b : ℕ) → IsAmong b o.0 o.1 → IsAmong b p.0 p.1 → meet o p ≡ true

@@ -2,18 +2,16 @@
 use Rattle.std.proofs.Common.{◌≡◌, refl, sym, ap, subst, ◌∙◌}
 use Rattle.std.specs.declared.option.Option.{Option}
 use Rattle.osek_values.specs.{Numbers.{task_no, source_no}, declared.numbers.{TaskNo.{TaskNo}, BlockNo.{BlockNo}, SourceNo.{SourceNo}}}
-use Rattle.osek_standard.specs.declared.app.App.{App}
+use Rattle.osek_standard.specs.{declared.{app.App.{App}, state.{State.{State}, Processor.{Processor}, Caller.TheVariants.{Task, Routine}}}, Apps.{the_block}}
+use Rattle.osek_standard.specs.{States.{place_by, here, caller}, Points.{point_at, point_of, IsPoint}, Well.{Well, InOwner, IsActive, IsOfRoutine, IsOwn, IsProcessor}}
 use Rattle.osek_standard.specs.declared.block.Kind.TheVariants as kind
-use Rattle.osek_standard.specs.declared.state.{State.{State}, Processor.{Processor}, Caller.TheVariants.{Task, Routine}}
 use Rattle.osek_standard.specs.declared.state.Processor.TheVariants as processor
 use Rattle.osek_standard.specs.declared.point.Point.TheVariants as point
-use Rattle.osek_standard.specs.{Apps.{the_block}, States.{place_by, here, caller}, Points.{point_at, point_of, IsPoint}}
-use Rattle.osek_standard.specs.Well.{Well, InOwner, IsActive, IsOfRoutine, IsOwn, IsProcessor}
-use Rattle.osek_standard.proofs.{Callers.{BlockHere, block_here}, Keeps.{here_own}, OwnerLaws.{own_once}}
+use Rattle.osek_standard.proofs.{Callers.{BlockHere, block_here}, MoveKeeps.{here_own}, OwnerLaws.{own_once}}
+use Rattle.abstract_state.specs.Regular.{IsRegular}
 use Rattle.flow_model.proofs.RoutineOwners.{routine_once}
-use Rattle.flow_model.specs.declared.runner.Runner.{Runner}
+use Rattle.flow_model.specs.{declared.runner.Runner.{Runner}, Runners.{Stands, Runs, OwnsBlock, runner_point}}
 use Rattle.flow_model.specs.declared.runner.Runner.TheVariants as runner
-use Rattle.flow_model.specs.Runners.{Stands, Runs, OwnsBlock, runner_point}
 
 -- at a task's point some task has the processor, and stands there
 record IsTaskAt (s : State) (p : Processor) (b : BlockNo) : Type 0 where
@@ -39,9 +37,14 @@ routine_runs s processor.Idle b over e = absurd (cc)
 routine_runs s (processor.Running t) b over e = absurd (cc)
 routine_runs s (processor.Interrupted k under) b over e = record { source = k; runs = cc; block = cc }
 
+-- it has the processor, which stands at the block
+pub record Occupies (app : App) (s : State) (r : Runner) (b : BlockNo) : Type 0 where
+  pub runs : Runs app s r b
+  pub block : (here s).block ≡ b
+
 module _ (app : App) (s : State) (b : BlockNo) (w : Well app s) where
   -- a task that runs at a task's point stands there
-  pub stands_at : point_of s ≡ point.Task b → (t : TaskNo) × Stands app s (runner.Task t) b
+  pub stands_at : point_of s ≡ point.Task b → (t : TaskNo) × Occupies app s (runner.Task t) b
   stands_at e =
       let r = task_runs s s.processor b e in
       let has : IsProcessor app s (processor.Running r.task) = subst (IsProcessor app s) r.runs w.processor in
@@ -49,14 +52,13 @@ module _ (app : App) (s : State) (b : BlockNo) (w : Well app s) where
       let here_owned : InOwner app (processor.Running r.task) (here s).block.0 = subst (λ (p : Processor). InOwner app p (here s).block.0) r.runs (here_own app s w active) in (
         r.task,
         record {
-          well = w;
           runs = record { runs = r.runs; has = has.running; own = subst (λ (c : BlockNo). IsOwn app r.task.0 c.0) r.block here_owned };
           block = r.block;
         },
       )
 
   -- a routine that runs at a routine's point stands there
-  pub stands_in : (over : Option TaskNo) → point_of s ≡ point.Routine b over → (k : SourceNo) × Stands app s (runner.Routine k over) b
+  stands_in : (over : Option TaskNo) → point_of s ≡ point.Routine b over → (k : SourceNo) × Occupies app s (runner.Routine k over) b
   stands_in over e =
       let r = routine_runs s s.processor b over e in
       let has : IsProcessor app s (processor.Interrupted r.source over) = subst (IsProcessor app s) r.runs w.processor in
@@ -64,7 +66,6 @@ module _ (app : App) (s : State) (b : BlockNo) (w : Well app s) where
       let here_owned : InOwner app (processor.Interrupted r.source over) (here s).block.0 = subst (λ (p : Processor). InOwner app p (here s).block.0) r.runs (here_own app s w active) in (
         r.source,
         record {
-          well = w;
           runs = record { known = has.known; runs = r.runs; own = subst (λ (c : BlockNo). IsOfRoutine app r.source.0 c.0) r.block here_owned };
           block = r.block;
         },
@@ -78,15 +79,18 @@ pub active_within : (app : App) (s : State) (b : BlockNo) (over : Option TaskNo)
 active_within app s b over w e = subst IsActive (sym (routine_runs s s.processor b over e).runs) tt
 
 -- the runner that owns the block stands there
-pub stands_here : (app : App) (s : State) (r : Runner) (b : BlockNo) → OwnsBlock app r b → Well app s → point_of s ≡ runner_point r b → Stands app s r b
-stands_here app s (runner.Task t) b owns w e =
+occupies : (app : App) (s : State) (r : Runner) (b : BlockNo) → OwnsBlock app r b → Well app s → point_of s ≡ runner_point r b → Occupies app s r b
+occupies app s (runner.Task t) b owns w e =
     let h = stands_at app s b w e in
     let same : h.0.0 ≡ t.0 = own_once app h.0.0 t.0 b.0 h.1.runs.has.0 owns.0 h.1.runs.own owns.1 in
-    subst (λ (u : TaskNo). Stands app s (runner.Task u) b) (ap task_no same) h.1
-stands_here app s (runner.Routine k over) b owns w e =
+    subst (λ (u : TaskNo). Occupies app s (runner.Task u) b) (ap task_no same) h.1
+occupies app s (runner.Routine k over) b owns w e =
     let h = stands_in app s b w over e in
     let same : h.0.0 ≡ k.0 = routine_once app h.0.0 k.0 b.0 h.1.runs.known owns.known h.1.runs.own owns.own in
-    subst (λ (l : SourceNo). Stands app s (runner.Routine l over) b) (ap source_no same) h.1
+    subst (λ (l : SourceNo). Occupies app s (runner.Routine l over) b) (ap source_no same) h.1
+
+pub stands_here : (app : App) (s : State) (r : Runner) (b : BlockNo) → OwnsBlock app r b → Well app s → IsRegular s → point_of s ≡ runner_point r b → Stands app s r b
+stands_here app s r b owns w regular e = let h = occupies app s r b owns w e in record { well = w; regular = regular; runs = h.runs; block = h.block }
 
 -- the point of a runner at its block is the application's
 pub owned_point : (app : App) (r : Runner) (b : BlockNo) → OwnsBlock app r b → IsPoint app (runner_point r b)

@@ -1,5 +1,5 @@
 -- The parts of which cases are made.
-use Rattle.std.specs.{Prelude.{ℕ, List}, declared.option.Option.{Option}}
+use Rattle.std.specs.{Prelude.{ℕ, List, None}, declared.option.Option.{Option}}
 use Rattle.osek_values.specs.declared.status.{Status.{Status}, Ask.{Ask}}
 use Rattle.osek_values.specs.declared.status.Ask.TheVariants as ask
 use Rattle.osek_values.specs.declared.numbers.{TaskNo.{TaskNo}, BlockNo.{BlockNo}}
@@ -19,12 +19,16 @@ condition c t = record { component = component_no c; test = t }
 abbrev pub effect_by : List Condition → List Change → Leaving → EffectCase
 effect_by conditions changes leaving = record { conditions = conditions; changes = changes; leaving = leaving }
 
--- the processor stays at this point
+-- the processor stays at this point, and no task was put last
 abbrev pub leaving_at : Point → Asked → Option Status → Leaving
-leaving_at point asked status = record { asked = asked; stay = stay.At point; status = status }
+leaving_at point asked status = record { asked = asked; last = None; stay = stay.At point; status = status }
 
 abbrev pub effect_case : List Condition → List Change → Asked → Option Status → Point → EffectCase
 effect_case conditions changes asked status point = effect_by conditions changes (leaving_at point asked status)
+
+-- a task was put last
+abbrev pub with_last : Option TaskNo → EffectCase → EffectCase
+with_last last x = record x { leaving = record x.leaving { last = last } }
 
 -- what an ask of a task's instruction asks of the scheduler
 abbrev pub asked_when : TaskNo → Ask → Asked

@@ -1,13 +1,14 @@
 -- What the cases of an effect say of the states at a point.
-use Rattle.std.specs.Prelude.{◌≡◌, ⊤, ℕ, ◌<◌, Bool, List, length, IsTrue, None, Contains}
+use Rattle.std.specs.{Prelude.{◌≡◌, ⊤, ℕ, ◌<◌, Bool, List, [], ◌∷◌, ◌++◌, length, IsTrue, IfSome, Some, None, Contains}, declared.option.Option.{Option}}
+use Rattle.osek_values.specs.declared.numbers.TaskNo.{TaskNo}
 use Rattle.osek_values.specs.declared.status.Ask.TheVariants as ask
 use Rattle.osek_standard.specs.declared.{app.App.{App}, state.State.{State}}
 use Rattle.osek_standard.specs.declared.state.Processor.TheVariants as processor
 use Rattle.osek_standard.specs.declared.point.Point.{Point}
 use Rattle.osek_standard.specs.declared.point.Point.TheVariants as point
-use Rattle.osek_standard.specs.{Points.{point_of}, Effects.{Effect, effect}, Arrivals.{arrival}, Well.{Well, IsActive}}
+use Rattle.osek_standard.specs.{Points.{point_of}, Line.{places}, Effects.{Effect, effect}, Arrivals.{arrival}, Well.{Well, IsActive}}
 use Rattle.abstract_state.specs.{declared.{value.PartValue.{PartValue}, table.PlainEntry.{PlainEntry}}, Components.{component_count, abstract_of, IsAllowed}}
-use Rattle.abstract_state.specs.{Concrete.{HasParts, val_of}, Tables.{set_at, is_member}}
+use Rattle.abstract_state.specs.{Concrete.{HasParts, val_of}, Choices.{IsFirstIfThere}, Regular.{IsRegular}, Tables.{set_at, is_member}}
 use Rattle.flow_model.specs.declared.case.{Asked.{Asked}, Stay.{Stay}, EffectCase.{EffectCase}}
 use Rattle.flow_model.specs.declared.case.Asked.TheVariants as asked
 use Rattle.flow_model.specs.declared.case.Stay.TheVariants as stay
@@ -24,14 +25,15 @@ AreAllAllowed app p entry = (c : ℕ) (v : PartValue) → c < component_count ap
 -- a state of the entry, at the point
 pub record IsAt (app : App) (p : Point) (entry : PlainEntry) (s : State) : Type 0 where
   pub well : Well app s
+  pub regular : IsRegular s
   pub point : point_of s ≡ p
   pub within : AreIn app entry (abstract_of app s)
 
 abbrev pub Asks : Asked → Effect → Type 0
 Asks asked.No e = e.ask ≡ ask.No
 Asks (asked.Maybe t) e = (e.ask ≡ ask.Maybe) × (e.state.processor ≡ processor.Running t)
-Asks asked.Left e = e.ask ≡ ask.Left
-Asks asked.Free e = e.ask ≡ ask.Free
+Asks asked.Left e = (e.ask ≡ ask.Left) × (e.state.processor ≡ processor.Idle)
+Asks asked.Free e = (e.ask ≡ ask.Free) × (e.state.processor ≡ processor.Idle)
 
 -- where the processor stands if it stays, with these values after the effect
 abbrev pub stay_point : Stay → (ℕ → PartValue) → Point
@@ -47,13 +49,30 @@ IsKnownStay app (stay.AtBlockOf t) = t.0 < length app.tasks
 abbrev pub HaveKnownStays : App → List EffectCase → Type 0
 HaveKnownStays app cases = (x : EffectCase) → Contains cases x → IsKnownStay app x.leaving.stay
 
+abbrev pub one_more : Option TaskNo → List TaskNo
+one_more None = []
+one_more (Some t) = t ∷ []
+
+-- the line after an effect is the one before, and at its end the task that was put last, which had no place
+pub record IsLineAfter (last : Option TaskNo) (before after : State) : Type 0 where
+  pub is : after.line ≡ before.line ++ one_more last
+  pub new : IfSome last (λ (t : TaskNo). places before t.0 ≡ 0)
+
+-- where something is asked
+abbrev pub LeavesLine : Asked → Option TaskNo → State → State → Type 0
+LeavesLine asked.No last before after = ⊤
+LeavesLine (asked.Maybe t) last before after = IsLineAfter last before after
+LeavesLine asked.Left last before after = IsLineAfter last before after
+LeavesLine asked.Free last before after = IsLineAfter last before after
+
 -- The effect of the instruction is the case's: the state passes its conditions, and the effect makes its changes of the
--- components, leaves the processor where it stays, asks what it asks, and notes its status.
+-- components, leaves the processor where it stays and the line as it says, asks what it asks, and notes its status.
 pub record HasEffect (app : App) (x : EffectCase) (s : State) (choice : Bool) : Type 0 where
   pub passes : PassesAll app x.conditions (abstract_of app s)
   pub point : point_of (effect app s choice).state ≡ stay_point x.leaving.stay (abstract_of app (effect app s choice).state)
   pub parts : (c : ℕ) → c < component_count app → abstract_of app (effect app s choice).state c ≡ value_after x.changes c (abstract_of app s c)
   pub asks : Asks x.leaving.asked (effect app s choice)
+  pub line : LeavesLine x.leaving.asked x.leaving.last s (effect app s choice).state
   pub status : (effect app s choice).notes.status ≡ x.leaving.status
 
 pub record HasSomeEffect (app : App) (cases : List EffectCase) (s : State) (choice : Bool) : Type 0 where
@@ -65,19 +84,21 @@ pub record HasSomeEffect (app : App) (cases : List EffectCase) (s : State) (choi
 abbrev pub CoverEffects : App → Point → PlainEntry → List EffectCase → Type 0
 CoverEffects app p entry cases = (s : State) (choice : Bool) → IsAt app p entry s → IsActive s.processor → HasSomeEffect app cases s choice
 
--- a well-formed state at the point, with these values of its components, whose instruction is the case's, and where no
--- routine begins: all else is chosen
-pub record ShowsEffect (app : App) (p : Point) (x : EffectCase) (value : ℕ → PartValue) : Type 0 where
+-- a well-formed state at the point, with these values of its components, whose instruction is the case's, where no routine
+-- begins, and in whose line task t comes first if it stands there: all else is chosen
+pub record ShowsEffect (app : App) (p : Point) (x : EffectCase) (value : ℕ → PartValue) (t : ℕ) : Type 0 where
   pub from : State
   pub choice : Bool
   pub has : HasParts app p value from
   pub alone : arrival app from ≡ None
+  pub first : IsFirstIfThere t from
   pub effect : HasEffect app x from choice
 
--- Each choice of values of the entry that passes a case's conditions is a state's, whose instruction is the case's.
+-- Each choice of values of the entry that passes a case's conditions is a state's, whose instruction is the case's, whichever
+-- task comes first in the line.
 abbrev pub AreExactEffects : App → Point → PlainEntry → List EffectCase → Type 0
 AreExactEffects app p entry cases =
-    (x : EffectCase) (value : ℕ → PartValue) → Contains cases x → AreIn app entry value → PassesAll app x.conditions value → ShowsEffect app p x value
+    (x : EffectCase) (value : ℕ → PartValue) (t : ℕ) → Contains cases x → AreIn app entry value → PassesAll app x.conditions value → ShowsEffect app p x value t
 
 -- These are the cases of the instructions at the point, whatever the entry there.
 pub record AreCasesOf (app : App) (p : Point) (cases : List EffectCase) : Type 0 where

@@ -6,7 +6,7 @@ use Rattle.osek_standard.specs.declared.state.Processor.TheVariants as processor
 use Rattle.osek_standard.specs.declared.point.Point.{Point}
 use Rattle.osek_standard.specs.declared.point.Point.TheVariants as point
 use Rattle.osek_standard.specs.{Apps.{source_count}, States.{here}, Well.{Well, IsOwn, IsOfRoutine, HasProcessor}}
-use Rattle.abstract_state.specs.Components.{component_no}
+use Rattle.abstract_state.specs.{Components.{component_no}, Regular.{IsRegular}}
 use Rattle.flow_model.specs.declared.change.{Update.{Update}, Change.{Change}}
 use Rattle.flow_model.specs.declared.change.Update.TheVariants as update
 use Rattle.flow_model.specs.declared.runner.Runner.{Runner}
@@ -78,8 +78,9 @@ abbrev pub Runs : App → State → Runner → BlockNo → Type 0
 Runs app s (runner.Task t) b = RunsTask app s t b
 Runs app s (runner.Routine k over) b = RunsRoutine app s k over b
 
--- It executes block b: the state is well-formed, and the processor stands there.
+-- It executes block b: the state is well-formed and regular, and the processor stands there.
 pub record Stands (app : App) (s : State) (r : Runner) (b : BlockNo) : Type 0 where
   pub well : Well app s
+  pub regular : IsRegular s
   pub runs : Runs app s r b
   pub block : (here s).block ≡ b

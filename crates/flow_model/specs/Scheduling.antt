@@ -1,10 +1,11 @@
 -- The scheduler by the values of the tasks: what it may do after an effect, and what the cases of that say.
-use Rattle.std.specs.Prelude.{◌≡◌, ◌≢◌, ◌⊎◌, ⊤, ℕ, ◌<◌, ◌≤◌, Bool, nat_lt, List, length, IsTrue, Some, None, Contains}
+use Rattle.std.specs.{Prelude.{◌≡◌, ◌≢◌, ◌⊎◌, ⊤, ℕ, ◌<◌, ◌≤◌, Bool, not, List, length, IsTrue, Some, None, Contains}, declared.option.Option.{Option}}
+use Rattle.osek_values.specs.declared.numbers.TaskNo.{TaskNo}
 use Rattle.osek_standard.specs.declared.{app.App.{App}, point.Point.{Point}}
 use Rattle.osek_standard.specs.declared.point.Point.TheVariants as point
-use Rattle.osek_standard.specs.Dispatch.{Outcome, Keep, To}
+use Rattle.osek_standard.specs.{States.{is_that_task}, Dispatch.{Outcome, Keep, To}}
 use Rattle.abstract_state.specs.{declared.{value.PartValue.{PartValue}, table.PlainEntry.{PlainEntry}}, Concrete.{AreAllowed, val_of}}
-use Rattle.flow_model.specs.declared.case.{Asked.{Asked}, Decision.{Decision}, EffectCase.{EffectCase}, OutcomeCase.{OutcomeCase}}
+use Rattle.flow_model.specs.declared.case.{Asked.{Asked}, Decision.{Decision}, EffectCase.{EffectCase}, Leaving.{Leaving}, OutcomeCase.{OutcomeCase}}
 use Rattle.flow_model.specs.declared.case.Asked.TheVariants as asked
 use Rattle.flow_model.specs.declared.case.Decision.TheVariants as decision
 use Rattle.flow_model.specs.{Values.{is_live_value, block_of, value_priority}, Tests.{PassesAll, values_after}, Effects.{AreIn, stay_point}}
@@ -13,9 +14,10 @@ abbrev pub outcome_of_decision : Decision → Outcome
 outcome_of_decision decision.Keep = Keep
 outcome_of_decision (decision.To x) = To x
 
--- between equal priorities: may w go before u
-abbrev pub may_tie : ℕ → ℕ → Bool
-may_tie w u = nat_lt w u
+-- Between equal priorities the order of the line is free, but that a task which was put last goes after each other one:
+-- may w go first of those of its priority?
+abbrev pub may_tie : Option TaskNo → ℕ → Bool
+may_tie last w = not (is_that_task last w)
 
 -- with these values of the components
 module _ (app : App) (value : ℕ → PartValue) where
@@ -29,10 +31,10 @@ module _ (app : App) (value : ℕ → PartValue) where
     pub known : t < length app.tasks
     pub live : IsTrue (is_live_task t)
 
-  -- each other Live task has a lower current priority, or the same and w goes before it
-  pub record IsBestTask (w : ℕ) : Type 0 where
+  -- each other Live task has a lower current priority, or the same and w may go first
+  pub record IsBestTask (last : Option TaskNo) (w : ℕ) : Type 0 where
     pub is : IsLiveTask w
-    pub others : (u : ℕ) → IsLiveTask u → u ≢ w → (task_priority u < task_priority w) ⊎ ((task_priority u ≡ task_priority w) × IsTrue (may_tie w u))
+    pub others : (u : ℕ) → IsLiveTask u → u ≢ w → (task_priority u < task_priority w) ⊎ ((task_priority u ≡ task_priority w) × IsTrue (may_tie last w))
 
   abbrev pub NoneLive : Type 0
   NoneLive = (u : ℕ) → IsLiveTask u → ⊥
@@ -42,25 +44,30 @@ module _ (app : App) (value : ℕ → PartValue) where
     pub running : IsLiveTask t
     pub each : (u : ℕ) → IsLiveTask u → task_priority u ≤ task_priority t
 
-  -- the best task is strictly above the running one
-  pub record IsAbove (t w : ℕ) : Type 0 where
+  -- a best task is strictly above the running one
+  pub record IsAbove (last : Option TaskNo) (t w : ℕ) : Type 0 where
     pub running : IsLiveTask t
-    pub best : IsBestTask w
+    pub best : IsBestTask last w
     pub above : task_priority t < task_priority w
 
-  -- What the scheduler does where this is asked.
-  abbrev pub Decides : Asked → Decision → Type 0
-  Decides asked.No decision.Keep = ⊤
-  Decides asked.No (decision.To x) = ⊥
-  Decides (asked.Maybe t) decision.Keep = NoneAbove t.0
-  Decides (asked.Maybe t) (decision.To None) = ⊥
-  Decides (asked.Maybe t) (decision.To (Some w)) = IsAbove t.0 w.0
-  Decides asked.Left decision.Keep = ⊥
-  Decides asked.Left (decision.To None) = NoneLive
-  Decides asked.Left (decision.To (Some w)) = IsBestTask w.0
-  Decides asked.Free decision.Keep = NoneLive
-  Decides asked.Free (decision.To None) = ⊥
-  Decides asked.Free (decision.To (Some w)) = IsBestTask w.0
+  -- where this is asked, and this task was put last
+  abbrev pub DecidesBy : Option TaskNo → Asked → Decision → Type 0
+  DecidesBy last asked.No decision.Keep = ⊤
+  DecidesBy last asked.No (decision.To x) = ⊥
+  DecidesBy last (asked.Maybe t) decision.Keep = NoneAbove t.0
+  DecidesBy last (asked.Maybe t) (decision.To None) = ⊥
+  DecidesBy last (asked.Maybe t) (decision.To (Some w)) = IsAbove last t.0 w.0
+  DecidesBy last asked.Left decision.Keep = ⊥
+  DecidesBy last asked.Left (decision.To None) = NoneLive
+  DecidesBy last asked.Left (decision.To (Some w)) = IsBestTask last w.0
+  DecidesBy last asked.Free decision.Keep = NoneLive
+  DecidesBy last asked.Free (decision.To None) = ⊥
+  DecidesBy last asked.Free (decision.To (Some w)) = IsBestTask last w.0
+
+  -- The scheduler may decide so where an effect leaves this to it. Where tasks tie it may decide in more than one way: which
+  -- of them comes first in the line is free.
+  abbrev pub Decides : Leaving → Decision → Type 0
+  Decides leaving d = DecidesBy leaving.last leaving.asked d
 
   -- where the step ends, which stands at a point after its effect
   abbrev pub end_point : Point → Decision → Point
@@ -68,15 +75,23 @@ module _ (app : App) (value : ℕ → PartValue) where
   end_point p (decision.To None) = point.Idle
   end_point p (decision.To (Some w)) = point.Task (block_of (val_of (value w.0)))
 
+-- What becomes of the value of component c by what the scheduler decides, where this was asked: it stays as it is.
+abbrev pub settled_value : App → Asked → Decision → ℕ → PartValue → PartValue
+settled_value app asked d c v = v
+
+-- the values of all components after the decision
+abbrev pub settled_values : App → Asked → Decision → (ℕ → PartValue) → ℕ → PartValue
+settled_values app asked d value c = settled_value app asked d c (value c)
+
 -- a value for each component, out of its set, with which it can be at the point
 pub record AreValuesOf (app : App) (p : Point) (entry : PlainEntry) (value : ℕ → PartValue) : Type 0 where
   pub within : AreIn app entry value
   pub allowed : AreAllowed app p value
 
--- The scheduler decides as the case says, where the effect is this case's and these were the values before it.
+-- The scheduler may decide as the case says, where the effect is this case's and these were the values before it.
 pub record HasOutcome (app : App) (effect : EffectCase) (x : OutcomeCase) (value : ℕ → PartValue) : Type 0 where
   pub passes : PassesAll app x.conditions value
-  pub decides : Decides app (values_after effect.changes value) effect.leaving.asked x.decision
+  pub decides : Decides app (values_after effect.changes value) effect.leaving x.decision
   pub target : x.target ≡ end_point app (values_after effect.changes value) (stay_point effect.leaving.stay (values_after effect.changes value)) x.decision
 
 pub record HasSomeOutcome (app : App) (effect : EffectCase) (cases : List OutcomeCase) (d : Decision) (value : ℕ → PartValue) : Type 0 where
@@ -85,12 +100,12 @@ pub record HasSomeOutcome (app : App) (effect : EffectCase) (cases : List Outcom
   pub decision : case.decision ≡ d
   pub outcome : HasOutcome app effect case value
 
--- What the scheduler does, with values of the entry that the effect takes, is some case's.
+-- Whatever the scheduler may decide, with values of the entry that the effect takes, is some case's.
 abbrev pub CoverOutcomes : App → Point → PlainEntry → EffectCase → List OutcomeCase → Type 0
 CoverOutcomes app p entry effect cases =
-    (value : ℕ → PartValue) (d : Decision) → AreValuesOf app p entry value → PassesAll app effect.conditions value → Decides app (values_after effect.changes value) effect.leaving.asked d → HasSomeOutcome app effect cases d value
+    (value : ℕ → PartValue) (d : Decision) → AreValuesOf app p entry value → PassesAll app effect.conditions value → Decides app (values_after effect.changes value) effect.leaving d → HasSomeOutcome app effect cases d value
 
--- With values of the entry that the effect and a case take the scheduler does what the case says.
+-- With values of the entry that the effect and a case take the scheduler may decide what the case says.
 abbrev pub AreExactOutcomes : App → Point → PlainEntry → EffectCase → List OutcomeCase → Type 0
 AreExactOutcomes app p entry effect cases =
     (x : OutcomeCase) (value : ℕ → PartValue) → Contains cases x → AreValuesOf app p entry value → PassesAll app effect.conditions value → PassesAll app x.conditions value → HasOutcome app effect x value

@@ -27,10 +27,12 @@ pub enum Stay {
     AtBlockOf(TaskNo),
 }
 
-/// What an effect leaves to the scheduler: what it asks, and where the processor stands if it stays.
+/// What an effect leaves to the scheduler: what it asks, who was put last, and where the processor stands if it stays.
 #[derive(Clone, Copy, PartialEq, Eq, Debug)]
 pub struct Leaving {
     pub asked: Asked,
+    /// The task that became Live and goes last in the line, so that it gives way to each other one of its priority.
+    pub last: Option<TaskNo>,
     pub stay: Stay,
     /// The status that is noted, if one is.
     pub status: Option<Status>,
@@ -40,15 +42,23 @@ impl Leaving {
     ghost use Rattle.std.specs.Prelude.{◌≡◌};
     ghost use Rattle.flow_model.specs.Cases.{leaving_at};
 
-    /// The processor stays at a point.
+    /// The processor stays at a point, and no task was put last.
     pub fn at(point: Point, asked: Asked, status: Option<Status>) -> Leaving
         ensures { result ≡ leaving_at point asked status }
     {
         Leaving {
             asked,
+            last: None,
             stay: Stay::At(point),
             status,
         }
+    }
+
+    /// The same, with a task that was put last.
+    pub fn with_last(self, last: Option<TaskNo>) -> Leaving
+        ensures { result ≡ record self { last = last } }
+    {
+        Leaving { last, ..self }
     }
 }
 

@@ -15,6 +15,7 @@ use Rattle.flow_model.specs.{Tests.{passes}, Values.{held_of}}
 use Rattle.flow_model.specs.declared.test.Test.TheVariants as test
 use Rattle.flow_report.specs.{declared.finding.Finding.{Finding}, Findings.{Takes, IsReachedBlock, Holds}, FindingOrder.{rank}, Reached.{IsTakenAt}}
 use Rattle.flow_report.specs.declared.finding.Finding.TheVariants as finding
+use Rattle.flow_report.proofs.TakenBlocks.{taken_by_tasks}
 
 -- ---- a resource on a stack
 
@@ -66,7 +67,7 @@ module _ (app : App) (table : Sets) (b : BlockNo) where
   free_by true true r known takes there on = (
     λ e. absurd (cc),
     λ h.
-        (let x = on.0 refl in absurd (h.1.1 x.state x.inside (x.stands, r, takes, x.taken))),
+        (let x = on.0 refl in absurd (h.1.1 x.state x.inside (x.stands, r, takes, taken_by_tasks app b r takes x.state x.inside.well x.stands ∙ x.taken))),
   )
   free_by true false r known takes there on = (
     λ e. (
@@ -75,7 +76,8 @@ module _ (app : App) (table : Sets) (b : BlockNo) where
         there.0 refl,
         λ s inside d.
             (let same : d.1 ≡ r = resource_once d.1 d.2 in
-            let wrong : false ≡ true = on.1 (record { state = s; inside = inside; stands = d.0; taken = subst (λ (q : ResNo). IsTrue (is_taken s q.0)) same d.3 }) in
+            let taken : is_taken s r.0 ≡ true = subst (λ (q : ResNo). IsTrue (is_taken s q.0)) same d.3 in
+            let wrong : false ≡ true = on.1 (record { state = s; inside = inside; stands = d.0; taken = sym (taken_by_tasks app b r takes s inside.well d.0) ∙ taken }) in
             absurd (cc)),
       ),
     ),

@@ -1,6 +1,7 @@
 -- The hooks of a step are those that are due, by where it begins and what it shows.
 use Rattle.std.proofs.Common.{◌≡◌, ℕ, Bool, true, false, ◌||◌, ◌&&◌, not, nat_lt, nat_eq, ◌+◌, refl, sym, ap, ap₂, subst, ◌∙◌, Some, None}
 use Rattle.std.specs.{Prelude.{⊤, is_some, bit_or}, declared.option.Option.{Option}}
+use Rattle.std.proofs.Math.Bool.{or-true}
 use Rattle.osek_values.specs.declared.{status.Ask.{Ask}, hooks.HookSet.{HookSet}, event.Event.{Event, TheVariants.{Run, Irq, Tick}}}
 use Rattle.osek_values.specs.declared.status.Ask.TheVariants as ask
 use Rattle.osek_values.specs.declared.numbers.{TaskNo.{TaskNo}, BlockNo.{BlockNo}, ResNo.{ResNo}, SourceNo.{SourceNo}}
@@ -13,10 +14,12 @@ use Rattle.osek_standard.specs.declared.state.{State.{State}, Processor.{Process
 use Rattle.osek_standard.specs.declared.state.Processor.TheVariants as processor
 use Rattle.osek_standard.specs.declared.state.Source.TheVariants as source
 use Rattle.osek_standard.specs.{Apps.{the_block, the_task, is_extended, is_cycle, max_of}, TaskStates.{held, is_suspended}, States.{task_of, caller, here, task_state, alarm_state, is_taken, with_source}}
-use Rattle.osek_standard.specs.{Priority.{base_priority, ceiling}, Well.{IsActive}, Arrivals.{arrival}, Points.{point_at, point_of}}
-use Rattle.osek_standard.specs.Services.{Answer, activate_task, cancel_alarm, chain_task, clear_event, due, expire, get_alarm, get_event, get_resource, get_resource_by, holds_some, is_due_at, is_full, is_idle, is_on_top}
-use Rattle.osek_standard.specs.Services.{release_resource, release_resource_by, schedule, set_abs_alarm, set_event, set_rel_alarm, share, terminate_task, time_left, unnoted, value_of, wait_event, waits_for}
-use Rattle.osek_standard.specs.Effects.{Effect, effect, effect_at, is_error, is_schedule, wanted, noted, row, called, asked_by, asked_under, asks_as, end_task, given_back, goes_on_unless_left, asked_over, moved, moved_to, place_at, returned_by}
+use Rattle.osek_standard.specs.{Priority.{base_priority, ceiling}, Levels.{interrupt_ceiling, next_routine, own_level}, Well.{IsActive}, Arrivals.{arrival}, Points.{point_at, point_of}}
+use Rattle.osek_standard.specs.Services.{Answer, activate_task, cancel_alarm, chain_task, clear_event, due, expire, get_alarm, get_event, get_resource, get_resource_by, get_resource_isr}
+use Rattle.osek_standard.specs.Services.{holds_some, is_due_at, is_full, is_idle, is_on_top, release_resource, release_resource_by, release_resource_isr, schedule, set_abs_alarm}
+use Rattle.osek_standard.specs.Services.{set_event, set_rel_alarm, share, stack_of_source, terminate_task, time_left, unnoted, value_of, wait_event, waits_for}
+use Rattle.osek_standard.specs.Effects.{Effect, effect, effect_at, is_error, is_schedule, wanted, noted, row, called, asked_by, asked_under, asks_as, end_task, given_back}
+use Rattle.osek_standard.specs.Effects.{goes_on_unless_left, asked_over, moved, moved_to, place_at, returned_by, returned_to}
 use Rattle.osek_standard.specs.Dispatch.{Outcome, Keep, To, Stepped, outcome, outcome_by, outcome_of, outcome_hooks, is_left, preempted_by, instruction, silent, hooks_of}
 use Rattle.osek_standard.specs.{Kernel.{step, run_by, entered_or}, Outcomes.{Mark, Silent, did, arrived_or, shown_by, shows}}
 use Rattle.osek_standard.proofs.BoolLaws.{either_way}
@@ -84,15 +87,16 @@ module _ (app : App) (s : State) where
   schedule_unfree (Task c) = either_way IsUnfree (holds_some s c.0) _ _ refl refl
 
   get_resource_unfree : (c : Caller) (r : ResNo) → IsUnfree (get_resource_by app s c r)
-  unfolding get_resource
+  unfolding get_resource get_resource_isr
   get_resource_unfree Nobody r = refl
-  get_resource_unfree (Routine k) r = refl
+  get_resource_unfree (Routine k) r = either_way IsUnfree (is_taken s r.0 || nat_lt (interrupt_ceiling app r.0) (own_level app k.0)) _ _ refl refl
   get_resource_unfree (Task c) r = either_way IsUnfree (is_taken s r.0 || nat_lt (ceiling app r.0) (base_priority app c.0)) _ _ refl refl
 
   release_resource_unfree : (c : Caller) (r : ResNo) → IsUnfree (release_resource_by app s c r)
-  unfolding release_resource
+  unfolding release_resource release_resource_isr
   release_resource_unfree Nobody r = refl
-  release_resource_unfree (Routine k) r = refl
+  release_resource_unfree (Routine k) r =
+      either_way IsUnfree (nat_lt (interrupt_ceiling app r.0) (own_level app k.0)) _ _ refl (either_way IsUnfree (is_on_top r.0 (stack_of_source app s k.0)) _ _ refl refl)
   release_resource_unfree (Task c) r = either_way IsUnfree (nat_lt (ceiling app r.0) (base_priority app c.0)) _ _ refl (either_way IsUnfree (is_on_top r.0 (held (task_state s c.0))) _ _ refl refl)
 
   set_event_unfree : (t m : ℕ) → IsUnfree (set_event app s t m)
@@ -205,10 +209,6 @@ has_task (processor.Interrupted k over) = is_some over
 kept : (x : Option TaskNo) → Keep ≡ To x → ⊥
 kept x e = cc
 
-or_some : (b : Bool) → (b || true) ≡ true
-or_some true = refl
-or_some false = refl
-
 module _ (app : App) where
   asked_unfree : (t : TaskNo) (k : Kind) (a : Ask) → is_free a ≡ false → is_free (asked_by app (Task t) k a) ≡ false
   asked_unfree t k ask.No e = refl
@@ -259,13 +259,20 @@ module _ (app : App) where
 
   given_back_posts : (s : State) (k : SourceNo) (over : Option TaskNo) → PostsAs (processor.Interrupted k over) (noted app (given_back app s over))
   given_back_posts s k None = λ x o. refl
-  given_back_posts s k (Some t) = λ x o. or_some (is_left (asked_over (the_task app t.0).schedule))
+  given_back_posts s k (Some t) = λ x o. or-true (is_left (asked_over (the_task app t.0).schedule))
+
+  -- a routine that goes on asks nothing
+  returned_to_posts : (s : State) (k : SourceNo) (over : Option TaskNo) (next : Option SourceNo) → PostsAs (processor.Interrupted k over) (noted app (returned_to app s over next))
+  returned_to_posts s k over None = given_back_posts s k over
+  returned_to_posts s k over (Some j) = λ x o. absurd (kept x o)
 
   returned_posts : (s : State) (q : Processor) → IsActive q → PostsAs q (noted app (returned_by app s q))
   returned_posts s processor.Halted active = absurd active
   returned_posts s processor.Idle active = absurd active
   returned_posts s (processor.Running t) active = λ x o. absurd (kept x o)
-  returned_posts s (processor.Interrupted k over) active = given_back_posts (with_source s k.0 source.Out) k over
+  returned_posts s (processor.Interrupted k over) active =
+      let after : State = with_source s k.0 source.Out in
+      returned_to_posts after k over (next_routine app after)
 
   effect_at_posts : (s : State) (choice : Bool) (p : Place) (b : Block) (k : Kind) → IsActive s.processor → PostsAs s.processor (effect_at app s choice p b k)
   effect_at_posts s choice p b (kind.Work n) active =

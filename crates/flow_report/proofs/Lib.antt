@@ -4,6 +4,7 @@ mod RowStates
 mod PassingNumbers
 mod ShownRows
 mod FlagFindings
+mod TakenBlocks
 mod BlockFindings
 mod BlockPlaces
 mod HookBits

@@ -45,6 +45,7 @@ module _ (app : App) (table : PlainTable) (written : IsWritten app table) where
           state = s;
           inside = row_in app table written row listed s (record {
             well = has.well;
+            regular = has.regular;
             point = has.point;
             within = λ c lt. subst (λ (v : PartValue). IsTrue (is_member (set_at row.entry c) v)) (sym (has.parts c lt)) (within c lt);
           });

@@ -1,9 +1,9 @@
 -- What the rows of a table show of the states in it.
-use Rattle.std.specs.{Prelude.{◌≡◌, ℕ, ◌<◌, nat_lt, Bool, true, false, List, IsTrue}, List.Sorted.{IsPartitionPoint}}
+use Rattle.std.specs.{Prelude.{◌≡◌, ℕ, ◌<◌, nat_lt, Bool, true, false, List, IsTrue}, List.{list_any, Sorted.{IsPartitionPoint}}}
 use Rattle.osek_values.specs.declared.numbers.{BlockNo.{BlockNo}, ResNo.{ResNo}}
-use Rattle.osek_standard.specs.declared.{app.App.{App}, point.Point.{Point}, state.State.{State}}
+use Rattle.osek_standard.specs.declared.{app.App.{App}, point.Point.{Point}, state.State.{State}, task_state.TaskState.{TaskState}}
 use Rattle.osek_standard.specs.declared.point.Point.TheVariants as point
-use Rattle.osek_standard.specs.{Points.{point_of, StandsAt}, States.{is_taken}}
+use Rattle.osek_standard.specs.{Points.{point_of, StandsAt}, TaskStates.{held, holds}}
 use Rattle.abstract_state.specs.declared.{value.PartValue.{PartValue}, table.{PlainEntry.{PlainEntry}, TableRow.{TableRow}}}
 use Rattle.abstract_state.specs.{Components.{abstract_of}, Tables.{Sets, In, set_at, is_member, sets_of}}
 use Rattle.flow_model.specs.{declared.test.Test.{Test}, Tests.{passes}}
@@ -37,7 +37,7 @@ pub record IsTakenAt (app : App) (table : Sets) (b : BlockNo) (r : ResNo) : Type
   pub state : State
   pub inside : In app table state
   pub stands : StandsAt (point_of state) b
-  pub taken : IsTrue (is_taken state r.0)
+  pub taken : IsTrue (list_any (λ (x : TaskState). holds (held x) r.0) state.tasks)
 
 -- halted, idle, or of a block before this one
 abbrev pub comes_before : Point → ℕ → Bool

@@ -22,12 +22,11 @@ of_more app some more entry x onward h = record {
   comes = λ value within. (let c = h.comes value within in record {
     effect = c.effect;
     listed = onward c.effect c.listed;
-    before = c.before;
-    within = c.within;
-    passes = c.passes;
-    becomes = c.becomes;
+    after = c.after;
+    made = c.made;
     decides = c.decides;
     target = c.target;
+    settles = c.settles;
     status = c.status;
   });
 }

@@ -57,9 +57,7 @@ module _ (app : App) (pool : List Values) (leaving : Leaving) where
         decides = new.decides;
         status = new.status;
         filled = new.filled;
-        within = λ value h. within value (new.within value h);
-        each = new.each;
-        target = new.target;
+        each = λ value h. (let k = new.each value h in record { before = k.before; within = within k.before k.within; decides = k.decides; target = k.target; settles = k.settles });
       })
     ];
     whole = λ value d h decides q. (let found = has value d h decides q in x.whole value d found.0 decides found.1);

@@ -1,20 +1,20 @@
 -- The part of an entry that is allowed at a point has exactly the values that well-formed states have there.
-use Rattle.std.proofs.Common.{◌≡◌, ℕ, ◌+◌, ◌<◌, ◌≤◌, Bool, true, false, not, ◌&&◌, length, refl, sym, ap, subst, ◌∙◌, inl, inr, arith, Some, None, IsTrue}
+use Rattle.std.proofs.Common.{◌≡◌, ℕ, ◌+◌, ◌<◌, ◌≤◌, Bool, true, false, not, ◌&&◌, List, All, length, get_or, refl, sym, ap, subst, ◌∙◌, inl, inr, arith, Some, None, IsTrue}
 use Rattle.std.specs.Prelude.{◌==◌, nat_lt, nat_le}
 use Rattle.std.proofs.lemmas.Bool.{cases_Bool, and_parts, or_cases, or_left, or_right, eqb-true, eq-eqb, Decides.{nat_tests}}
-use Rattle.osek_values.specs.{Numbers.{block_no}, declared.numbers.BlockNo.{BlockNo}}
+use Rattle.osek_values.specs.{Numbers.{block_no}, declared.numbers.{BlockNo.{BlockNo}, ResNo.{ResNo}}}
 use Rattle.osek_standard.specs.declared.{app.App.{App}, block.Kind.{Kind}}
 use Rattle.osek_standard.specs.declared.block.Kind.TheVariants as kind
 use Rattle.osek_standard.specs.declared.call.Call.{Call, TheVariants.{Plain, Task, Resource, SetEvent, Mask, Alarm, Arm, Lock, ShutdownOs}}
 use Rattle.osek_standard.specs.declared.{call.MaskService.TheVariants.{ClearEvent, WaitEvent}, point.Point.{Point}}
 use Rattle.osek_standard.specs.declared.point.Point.TheVariants as point
-use Rattle.osek_standard.specs.{Apps.{the_task, the_block, is_extended}, Well.{IsWaitEvent, IsOwn}}
+use Rattle.osek_standard.specs.{Apps.{the_task, the_block, is_extended}, Validity.{is_internal}, Well.{IsWaitEvent, IsOwn}}
 use Rattle.abstract_state.specs.declared.value.{Val.{Val, TheVariants.{Suspended, Live, Waiting}}, Component.{Component}, PartValue.{PartValue, TheVariants.{OfTask, OfEvent, OfAlarm}}}
 use Rattle.abstract_state.specs.declared.value.Component.TheVariants as component
 use Rattle.abstract_state.specs.declared.table.PlainEntry.{PlainEntry}
 use Rattle.abstract_state.specs.Components.{component_at, component_count, component_number, IsComponent, IsLiveAt, IsLiveSomewhere, IsVal, FitsPoint, IsPart, IsAllowed}
 use Rattle.abstract_state.specs.{Concrete.{AreAllowed}, Domains.{IsValWithin, IsWithin, domain_of}, Tables.{set_at, is_member}}
-use Rattle.abstract_state.proofs.ComponentLaws.{component_known, component_numbered}
+use Rattle.abstract_state.proofs.{ClosedLaws.{takable}, ComponentLaws.{component_known, component_numbered}}
 use Rattle.flow_model.specs.{Effects.{AreIn, AreAllAllowed}, Values.{is_live_value}}
 use Rattle.flow_rules.specs.Allowed.{is_wait, stands_at, may_wait, owns, fits, may_be, IsAllowedPart}
 
@@ -96,9 +96,13 @@ module _ (app : App) where
   val_waits t (Live x) h = refl
   val_waits t (Waiting b) h = both_true (is_extended app t) (is_wait (the_block app b.0).kind) h.extended (waits_kind (the_block app b.0).kind h.wait)
 
+  -- each resource may be taken yet
+  held_takable : (h : List ResNo) → All (λ (r : ResNo). r.0 < length app.resources) h → All (λ (r : ResNo). IsTrue (not (is_internal app.resources r.0))) h
+  held_takable h known k d lt = (takable app (get_or h k d) (known k d lt)).1
+
   is_val : (t : ℕ) (v : Val) → IsValWithin (the_task app t).first.0 (the_task app t).count (length app.resources) v → may_wait app t v ≡ true → IsVal app t v
   is_val t Suspended w e = tt
-  is_val t (Live x) w e = w
+  is_val t (Live x) w e = (w.0, record { out_of = w.1; takable = held_takable x.held w.1.known })
   is_val t (Waiting b) w e =
       let parts = and_parts (is_extended app t) (is_wait (the_block app b.0).kind) e in
       record { own = w; extended = parts.0; wait = kind_waits (the_block app b.0).kind parts.1 }

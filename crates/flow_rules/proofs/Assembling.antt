@@ -3,17 +3,18 @@ use Rattle.std.proofs.Common.{◌≡◌, ℕ, ◌<◌, Bool, List, ◌++◌, IsT
 use Rattle.std.specs.declared.option.Option.{Option}
 use Rattle.osek_values.specs.declared.{event.Event.{Event, TheVariants.{Run}}, status.Status.{Status}}
 use Rattle.osek_standard.specs.{declared.{app.App.{App}, state.State.{State}, point.Point.{Point}}, Points.{point_of}}
-use Rattle.osek_standard.specs.{Dispatch.{Outcome, Stepped, instruction, outcome, outcome_of, settled}, Effects.{Effect, effect}, Kernel.{step}}
+use Rattle.osek_standard.specs.{Dispatch.{Outcome, instruction, outcome}, Effects.{effect}, Kernel.{step}}
 use Rattle.osek_standard.specs.{Outcomes.{Did, shows, IsInstruction}, Well.{Well, IsActive}}
-use Rattle.osek_standard.proofs.{Members.{among_left, among_right, among_cases, among_contained, contained_among}, EffectKeeps.{effect_keeps}}
-use Rattle.abstract_state.specs.{declared.{value.PartValue.{PartValue}, table.PlainEntry.{PlainEntry}}, Components.{component_count, component_at, abstract_of, IsAllowed}}
-use Rattle.abstract_state.specs.{Concrete.{AreAllowed}, Tables.{set_at, is_member}}
+use Rattle.osek_standard.proofs.{Members.{among_left, among_right, among_cases, among_contained, contained_among}}
+use Rattle.abstract_state.specs.{declared.{value.PartValue.{PartValue}, table.PlainEntry.{PlainEntry}}, Components.{component_count, abstract_of, IsAllowed}}
+use Rattle.abstract_state.specs.{Concrete.{AreAllowed}, Choices.{IsFirstIfThere}, Tables.{set_at, is_member}}
 use Rattle.abstract_state.proofs.AllowedLaws.{well_part}
 use Rattle.flow_model.specs.declared.{test.Condition.{Condition}, case.{EffectCase.{EffectCase}, OutcomeCase.{OutcomeCase}}, rule.Rule.{Rule}}
 use Rattle.flow_model.specs.{Tests.{PassesAt, PassesAll, values_after}, Effects.{AreIn, AreAllAllowed, IsAt, IsKnownStay, HaveKnownStays, HasEffect, CoverEffects, AreExactEffects}}
-use Rattle.flow_model.specs.{Scheduling.{AreValuesOf, HasOutcome, end_point, outcome_of_decision}, Rules.{Matches, IsMatched, IsForeseen, Shown}}
+use Rattle.flow_model.specs.{Scheduling.{AreValuesOf, HasOutcome}, Rules.{Matches, IsMatched, IsForeseen, Shown}}
 use Rattle.flow_model.proofs.Instructions.{instruction_by, shown_so}
-use Rattle.flow_exits.proofs.{KernelDecides.{decided_so, some_decided, ends_there}, Staying.{same_stay, settled_part}}
+use Rattle.flow_exits.specs.Deciding.{IsKernelDecision}
+use Rattle.flow_exits.proofs.Steps.{changed, some_decision, kernel_decision, instruction_ends, winner}
 use Rattle.flow_rules.specs.Assembly.{rule_of, IsRuleOfSome, AreAllAdded}
 
 -- conditions of two lists
@@ -33,23 +34,18 @@ passes_right app xs ys value h c lt x m e = h c lt x (among_contained (xs ++ ys)
 
 module _ (app : App) (entry : PlainEntry) (effect_case : EffectCase) (x : OutcomeCase) (s : State) (e : Event) (choice : Bool) where
   -- the step is the instruction, with its effect and its outcome
-  pub steps_as_rule : IsKnownStay app effect_case.leaving.stay → Well app s → HasEffect app effect_case s choice → HasOutcome app effect_case x (abstract_of app s) →
+  pub steps_as_rule : IsKnownStay app effect_case.leaving.stay → (w : Well app s) (h : HasEffect app effect_case s choice) → HasOutcome app effect_case x (abstract_of app s) →
+      IsKernelDecision app effect_case.leaving (effect app s choice) (values_after effect_case.changes (abstract_of app s)) x.decision →
       step app s e ≡ instruction app s choice → shows app s e ≡ Did (outcome app s choice) (effect app s choice).notes.status → Matches app (rule_of effect_case x) s e
-  unfolding instruction
-  steps_as_rule known w h o steps shown =
-      let f : Effect = effect app s choice in
-      let well : Well app f.state = effect_keeps app s w choice in
+  steps_as_rule known w h o does steps shown =
       let value : ℕ → PartValue = values_after effect_case.changes (abstract_of app s) in
-      let parts : (c : ℕ) → c < component_count app → value c ≡ abstract_of app f.state c = λ c lt. sym (h.parts c lt) in
-      let decided : outcome_of app f ≡ outcome_of_decision x.decision = decided_so app f well effect_case.leaving.asked h.asks value parts x.decision o.decides in
-      let after : (step app s e).state ≡ settled app f.state (outcome_of_decision x.decision) = ap (λ (n : Stepped). n.state) steps ∙ ap (settled app f.state) decided in
+      let r = instruction_ends app s choice w effect_case h value (changed app s choice w effect_case h) x.decision does known e steps shown in
       record {
         passes = passes_both app effect_case.conditions x.conditions (abstract_of app s) h.passes o.passes;
-        target = ap point_of after ∙ ends_there app f well effect_case.leaving.asked h.asks value parts x.decision o.decides
-            ∙ ap (λ (p : Point). end_point app value p x.decision) (h.point ∙ same_stay app effect_case.leaving.stay (abstract_of app f.state) value known h.parts) ∙ sym o.target;
-        parts = λ c lt. ap (λ (r : State). abstract_of app r c) after ∙ settled_part app f.state (outcome_of_decision x.decision) (component_at app c) ∙ h.parts c lt;
-        shows = shown ∙ ap (λ (d : Outcome). Did d f.notes.status) decided ∙ ap (Did (outcome_of_decision x.decision)) h.status;
-        status = ap (λ (n : Stepped). n.notes.status) steps ∙ h.status;
+        target = r.target ∙ sym o.target;
+        parts = r.parts;
+        shows = r.shows;
+        status = r.status;
       }
 
 -- values of a well-formed state are ones that its components can have at its point
@@ -63,17 +59,15 @@ module _ (app : App) (p : Point) (entry : PlainEntry) (effects : List EffectCase
   pub instruction_covered : HaveKnownStays app effects → CoverEffects app p entry effects → (s : State) (e : Event) (o : Outcome) (x : Option Status) → IsAt app p entry s → IsInstruction app s e o x → shows app s e ≡ Did o x → IsMatched app after s e
   instruction_covered stays covering s e o x at i shown =
       let h = covering s i.choice at i.active in
-      let f : Effect = effect app s i.choice in
-      let well : Well app f.state = effect_keeps app s at.well i.choice in
       let value : ℕ → PartValue = values_after h.case.changes (abstract_of app s) in
-      let parts : (c : ℕ) → c < component_count app → value c ≡ abstract_of app f.state c = λ c lt. sym (h.effect.parts c lt) in
-      let decided = some_decided app f well h.case.leaving.asked h.effect.asks value parts in
+      let decided = some_decision app s i.choice at.well h.case h.effect in
       let values : AreValuesOf app p entry (abstract_of app s) = record { within = at.within; allowed = allowed_there app p s at.well at.point } in
-      let r = added.some h.case h.listed (abstract_of app s) decided.0 values h.effect.passes decided.1 in
+      let r = added.some h.case h.listed (abstract_of app s) decided.0 values h.effect.passes decided.1.decides in
+      let does = subst (IsKernelDecision app h.case.leaving (effect app s i.choice) value) (sym r.decision) decided.1 in
       record {
         rule = rule_of h.case r.outcome;
         listed = r.listed;
-        matches = steps_as_rule app entry h.case r.outcome s e i.choice (stays h.case h.listed) at.well h.effect r.is i.steps
+        matches = steps_as_rule app entry h.case r.outcome s e i.choice (stays h.case h.listed) at.well h.effect r.is does i.steps
             (shown ∙ ap (λ (d : Outcome). Did d x) (sym i.does) ∙ ap (Did (outcome app s i.choice)) (sym i.status));
       }
 
@@ -81,13 +75,11 @@ module _ (app : App) (p : Point) (entry : PlainEntry) (effects : List EffectCase
   pub instruction_foreseen : CoverEffects app p entry effects → (s : State) (choice : Bool) → IsAt app p entry s → IsActive s.processor → IsForeseen app after s choice
   instruction_foreseen covering s choice at active =
       let h = covering s choice at active in
-      let f : Effect = effect app s choice in
-      let well : Well app f.state = effect_keeps app s at.well choice in
       let value : ℕ → PartValue = values_after h.case.changes (abstract_of app s) in
-      let parts : (c : ℕ) → c < component_count app → value c ≡ abstract_of app f.state c = λ c lt. sym (h.effect.parts c lt) in
-      let decided = some_decided app f well h.case.leaving.asked h.effect.asks value parts in
+      let decided = some_decision app s choice at.well h.case h.effect in
       let values : AreValuesOf app p entry (abstract_of app s) = record { within = at.within; allowed = allowed_there app p s at.well at.point } in
-      let r = added.some h.case h.listed (abstract_of app s) decided.0 values h.effect.passes decided.1 in
+      let r = added.some h.case h.listed (abstract_of app s) decided.0 values h.effect.passes decided.1.decides in
+      let does = subst (IsKernelDecision app h.case.leaving (effect app s choice) value) (sym r.decision) decided.1 in
       record {
         rule = rule_of h.case r.outcome;
         listed = r.listed;
@@ -95,7 +87,7 @@ module _ (app : App) (p : Point) (entry : PlainEntry) (effects : List EffectCase
           decision = r.outcome.decision;
           passes = passes_both app h.case.conditions r.outcome.conditions (abstract_of app s) h.effect.passes r.is.passes;
           decides = refl;
-          outcome = decided_so app f well h.case.leaving.asked h.effect.asks value parts r.outcome.decision r.is.decides;
+          outcome = does.outcome;
           status = h.effect.status;
         };
       }
@@ -108,7 +100,7 @@ module _ (app : App) (p : Point) (entry : PlainEntry) (effects : List EffectCase
       let whole : PassesAll app (rule_of r.effect outcome_of_rule).conditions value = subst (λ (y : Rule). PassesAll app y.conditions value) r.is.is passes in
       let first = passes_left app r.effect.conditions outcome_of_rule.conditions value whole in
       let second = passes_right app r.effect.conditions outcome_of_rule.conditions value whole in
-      let shown = exact r.effect value r.listed within first in
+      let shown = exact r.effect value (winner outcome_of_rule.decision) r.listed within first in
       let s = shown.from in
       let same : (c : ℕ) → c < component_count app → abstract_of app s c ≡ value c = shown.has.parts in
       let in_entry : AreIn app entry (abstract_of app s) = λ c lt. subst (λ (v : PartValue). IsTrue (is_member (set_at entry c) v)) (sym (same c lt)) (within c lt) in
@@ -116,7 +108,9 @@ module _ (app : App) (p : Point) (entry : PlainEntry) (effects : List EffectCase
       let passes_here : (xs : List Condition) → PassesAll app xs value → PassesAll app xs (abstract_of app s) = λ xs h c lt. subst (PassesAt xs c) (sym (same c lt)) (h c lt) in
       let has = r.is.exact (abstract_of app s) values (passes_here r.effect.conditions first) (passes_here outcome_of_rule.conditions second) in
       let act : IsActive s.processor = active s shown.has.well shown.has.point in
+      let does = kernel_decision app s shown.choice shown.has.well r.effect shown.effect (values_after r.effect.changes (abstract_of app s))
+      (changed app s shown.choice shown.has.well r.effect shown.effect) outcome_of_rule.decision has.decides (λ w e. subst (λ (t : ℕ). IsFirstIfThere t s) (ap winner e) shown.first) in
       let matches : Matches app (rule_of r.effect outcome_of_rule) s (Run shown.choice) =
-      steps_as_rule app entry r.effect outcome_of_rule s (Run shown.choice) shown.choice (stays r.effect r.listed) shown.has.well shown.effect has
+      steps_as_rule app entry r.effect outcome_of_rule s (Run shown.choice) shown.choice (stays r.effect r.listed) shown.has.well shown.effect has does
       (instruction_by app s shown.choice act shown.alone) (shown_so app s shown.choice act shown.alone) in
       record { from = s; event = Run shown.choice; has = shown.has; matches = subst (λ (y : Rule). Matches app y s (Run shown.choice)) (sym r.is.is) matches }

@@ -9,7 +9,7 @@ use Rattle.abstract_state.proofs.ComponentLaws.{task_counted}
 use Rattle.flow_model.specs.declared.case.{Asked.{Asked}, Decision.{Decision}}
 use Rattle.flow_model.specs.declared.case.Asked.TheVariants as asked
 use Rattle.flow_model.specs.declared.case.Decision.TheVariants as decision
-use Rattle.flow_model.specs.{Values.{is_live_value}, Effects.{AreIn}, Scheduling.{task_priority, IsLiveTask, IsBestTask, NoneLive, NoneAbove, Decides}}
+use Rattle.flow_model.specs.{Values.{is_live_value}, Effects.{AreIn}, Scheduling.{task_priority, IsLiveTask, IsBestTask, NoneLive, NoneAbove, DecidesBy, may_tie}}
 use Rattle.flow_model.specs.declared.case.Leaving.{Leaving}
 use Rattle.numbered_sets.specs.{declared.numbered_entry.NumberedEntry.{NumberedEntry}, Numbers.{Numbers, has_number, kept_numbers, meets}, NumberedEntries.{numbers_at, AreFilled}}
 use Rattle.numbered_sets.specs.{Pools.{Values, values_at, IsNumberOf}, Views.{plain_entry}}
@@ -88,8 +88,8 @@ never_met app c pool entry t level none value within under at = (let met = meets
 pub keeps_free : (t : TaskNo) (p : ℕ) → limit_of (claim.Keeps t p) t.0 ≡ None
 keeps_free t p = rw (eq-eqb t.0 t.0 refl) refl
 
-pub gets_free : (w : TaskNo) (p : ℕ) (over : Option TaskNo) → limit_of (claim.Gets w p over) w.0 ≡ None
-gets_free w p over = rw (eq-eqb w.0 w.0 refl) refl
+pub gets_free : (w : TaskNo) (p : ℕ) (over : Option TaskNo) (ties : Bool) → limit_of (claim.Gets w p over ties) w.0 ≡ None
+gets_free w p over ties = rw (eq-eqb w.0 w.0 refl) refl
 
 -- what a test of the numbers said
 pub met_at : (entry : NumberedEntry) (x : Numbers) (t component : ℕ) (b said : Bool) → component ≡ t → said ≡ meets (numbers_at entry component) x → said ≡ b → meets (numbers_at entry t) x ≡ b
@@ -121,7 +121,7 @@ module _ (app : App) (pool : List Values) (levels : Levels) (all : AreAllLevels 
   keeps = claim.Keeps t level.priority
 
   none_above : (value : ℕ → PartValue) (e : Decision) → e ≡ decision.Keep → DecidesSo app leaving value e → NoneAbove app value t.0
-  none_above value e same decides = subst (λ (a : Asked). Decides app value a decision.Keep) running (subst (DecidesSo app leaving value) same decides)
+  none_above value e same decides = subst (λ (a : Asked). DecidesBy app value leaving.last a decision.Keep) running (subst (DecidesSo app leaving value) same decides)
 
   level_under : (value : ℕ → PartValue) (e : Decision) → DecidesSo app leaving value e → IsAtLevel pool entry t.0 level decision.Keep value e → AreUnder app keeps (length app.tasks) value
   level_under value e decides at =
@@ -133,7 +133,7 @@ module _ (app : App) (pool : List Values) (levels : Levels) (all : AreAllLevels 
     each = λ value within.
         (let live = claimed_live app pool keeps t.0 known level entry after h value levels all of within in
         let same = live.priority in
-        subst (λ (a : Asked). Decides app value a decision.Keep) (sym running)
+        subst (λ (a : Asked). DecidesBy app value leaving.last a decision.Keep) (sym running)
         (keeps_means app value t level.priority (omega (arith, same)) (record { known = known; live = live.live }) (under_claimed app pool keeps t.0 known level entry after h value within)));
     whole = λ value e within decides at. (at.0, in_claimed app pool keeps t.0 known level entry after h value within (level_under value e decides at) at.1);
   }
@@ -151,7 +151,7 @@ not_that over w t other e same =
 same_running : (t u : TaskNo) → Some t ≡ Some u → t ≡ u
 same_running t u e = cc
 
-module _ (app : App) (value : ℕ → PartValue) (w : TaskNo) where
+module _ (app : App) (value : ℕ → PartValue) (last : Option TaskNo) (w : TaskNo) where
   -- the running task is Live, and below
   pub record IsBelowIt (t : TaskNo) : Type 0 where
     pub live : IsLiveTask app value t.0
@@ -159,16 +159,16 @@ module _ (app : App) (value : ℕ → PartValue) (w : TaskNo) where
 
   -- the best of all, and above the running one
   pub record Wins (over : Option TaskNo) : Type 0 where
-    pub best : IsBestTask app value w.0
+    pub best : IsBestTask app value last w.0
     pub above : (t : TaskNo) → over ≡ Some t → IsBelowIt t
 
-  pub winner_of : (a : Asked) → Decides app value a (decision.To (Some w)) → Wins (over_of a)
+  pub winner_of : (a : Asked) → DecidesBy app value last a (decision.To (Some w)) → Wins (over_of a)
   winner_of asked.No h = absurd h
   winner_of (asked.Maybe t) h = record { best = h.best; above = λ u e. subst IsBelowIt (same_running t u e) (record { live = h.running; below = h.above }) }
   winner_of asked.Left h = record { best = h; above = λ u e. absurd (cc) }
   winner_of asked.Free h = record { best = h; above = λ u e. absurd (cc) }
 
-  pub winner_decides : (pool : List Values) (entry : NumberedEntry) (a : Asked) → IsAsked app pool entry a → Wins (over_of a) → Decides app value a (decision.To (Some w))
+  pub winner_decides : (pool : List Values) (entry : NumberedEntry) (a : Asked) → IsAsked app pool entry a → Wins (over_of a) → DecidesBy app value last a (decision.To (Some w))
   winner_decides pool entry asked.No is h = absurd is
   winner_decides pool entry (asked.Maybe t) is h = (let x = h.above t refl in record { running = x.live; best = h.best; above = x.below })
   winner_decides pool entry asked.Left is h = h.best
@@ -182,16 +182,17 @@ alive_over app pool entry asked.Left t is e = absurd (cc)
 alive_over app pool entry asked.Free t is e = absurd (cc)
 
 -- the running task never wins
-running_loses : (app : App) (value : ℕ → PartValue) (a : Asked) (w : TaskNo) → is_that_task (over_of a) w.0 ≡ true → Decides app value a (decision.To (Some w)) → ⊥
-running_loses app value a w that h =
+running_loses : (app : App) (value : ℕ → PartValue) (last : Option TaskNo) (a : Asked) (w : TaskNo) → is_that_task (over_of a) w.0 ≡ true →
+    DecidesBy app value last a (decision.To (Some w)) → ⊥
+running_loses app value last a w that h =
     let t = that_task (over_of a) w.0 that in
-    let below = ((winner_of app value w a h).above t.0 t.1).below in
+    let below = ((winner_of app value last w a h).above t.0 t.1).below in
     let same : task_priority app value t.0.0 ≡ task_priority app value w.0 = ap (task_priority app value) t.2 in
     absurd (omega (arith, below, same))
 
 pub no_running_winner : (app : App) (pool : List Values) (leaving : Leaving) (w : TaskNo) (entry : NumberedEntry) (gs : List ExitGroup) → is_that_task (over_of leaving.asked) w.0 ≡ true → AddsFor app pool leaving entry (IsIt (decision.To (Some w))) gs gs
 no_running_winner app pool leaving w entry gs that = nothing_more app pool leaving entry (IsIt (decision.To (Some w))) gs
-    (λ value e within decides same. running_loses app value leaving.asked w that (subst (DecidesSo app leaving value) same decides))
+    (λ value e within decides same. running_loses app value leaving.last leaving.asked w that (subst (DecidesSo app leaving value) same decides))
 
 module _ (app : App) (pool : List Values) (levels : Levels) (all : AreAllLevels app pool levels) (leaving : Leaving) (w : TaskNo) (known : w.0 < length app.tasks) (other : is_that_task (over_of leaving.asked) w.0 ≡ false)
     (level : Level) (of : IsLevelOf levels w.0 level) (entry : NumberedEntry) where
@@ -199,18 +200,19 @@ module _ (app : App) (pool : List Values) (levels : Levels) (all : AreAllLevels 
   over = over_of leaving.asked
 
   abbrev gets : Claim
-  gets = claim.Gets w level.priority over
+  gets = claim.Gets w level.priority over (may_tie leaving.last w.0)
 
   abbrev to_it : Decision
   to_it = decision.To (Some w)
 
-  wins : (value : ℕ → PartValue) (e : Decision) → e ≡ to_it → DecidesSo app leaving value e → Wins app value w over
-  wins value e same decides = winner_of app value w leaving.asked (subst (DecidesSo app leaving value) same decides)
+  wins : (value : ℕ → PartValue) (e : Decision) → e ≡ to_it → DecidesSo app leaving value e → Wins app value leaving.last w over
+  wins value e same decides = winner_of app value leaving.last w leaving.asked (subst (DecidesSo app leaving value) same decides)
 
   under_it : (value : ℕ → PartValue) (e : Decision) → DecidesSo app leaving value e → IsAtLevel pool entry w.0 level to_it value e → AreUnder app gets (length app.tasks) value
   under_it value e decides at =
       let won = wins value e at.0 decides in
-      gets_passes app value w level.priority over (level_value app pool levels all w.0 known level of at.1.number (value w.0) at.1.among at.1.is).priority won.best (λ t same. (won.above t same).below)
+      let its = level_value app pool levels all w.0 known level of at.1.number (value w.0) at.1.among at.1.is in
+      gets_passes app value leaving.last w level.priority over its.priority won.best (λ t same. (won.above t same).below)
 
   pub winner_group : (after : NumberedEntry) → IsAsked app pool entry leaving.asked → IsClaimed app pool gets w.0 level entry after → IsGroupFor app pool leaving entry (IsAtLevel pool entry w.0 level to_it) to_it after
   winner_group after asks h = record {
@@ -220,12 +222,12 @@ module _ (app : App) (pool : List Values) (levels : Levels) (all : AreAllLevels 
         let inside = within_claimed app pool gets w.0 known level entry after h value within in
         let under = under_claimed app pool gets w.0 known level entry after h value within in
         let live : IsLiveTask app value w.0 = record { known = known; live = at.live } in
-        winner_decides app value w pool entry leaving.asked asks (record {
-          best = gets_means app value w level.priority over at.priority live under;
+        winner_decides app value leaving.last w pool entry leaving.asked asks (record {
+          best = gets_means app value leaving.last w level.priority over at.priority live under;
           above = λ t same.
               (let its = alive_over app pool entry leaving.asked t asks same in
               let running : IsLiveTask app value t.0 = record { known = its.known; live = its.live value inside } in
-              record { live = running; below = gets_above app value w level.priority over at.priority t same (not_that over w t other same) running under });
+              record { live = running; below = gets_above app value leaving.last w level.priority over at.priority t same (not_that over w t other same) running under });
         }));
     whole = λ value e within decides at. (at.0, in_claimed app pool gets w.0 known level entry after h value within (under_it value e decides at) at.1);
   }
@@ -235,25 +237,27 @@ module _ (app : App) (pool : List Values) (levels : Levels) (all : AreAllLevels 
 
 -- a task that gets the processor is Live
 pub winner_live : (app : App) (leaving : Leaving) (w : TaskNo) (value : ℕ → PartValue) → DecidesSo app leaving value (decision.To (Some w)) → IsTrue (is_live_value (val_of (value w.0)))
-winner_live app leaving w value h = (winner_of app value w leaving.asked h).best.is.live
+winner_live app leaving w value h = (winner_of app value leaving.last w leaving.asked h).best.is.live
 
 -- and so is one that keeps it
 pub keeper_live : (app : App) (leaving : Leaving) (t : TaskNo) (value : ℕ → PartValue) → leaving.asked ≡ asked.Maybe t → DecidesSo app leaving value decision.Keep → IsTrue (is_live_value (val_of (value t.0)))
-keeper_live app leaving t value running h = (let kept : NoneAbove app value t.0 = subst (λ (a : Asked). Decides app value a decision.Keep) running h in kept.running.live)
+keeper_live app leaving t value running h =
+    let kept : NoneAbove app value t.0 = subst (λ (a : Asked). DecidesBy app value leaving.last a decision.Keep) running h in
+    kept.running.live
 
 -- ---- nobody gets it
 
-none_live : (app : App) (value : ℕ → PartValue) (a : Asked) → IsVacant a → Decides app value a (idle_decision a) → NoneLive app value
-none_live app value asked.No vacant h = absurd vacant
-none_live app value (asked.Maybe t) vacant h = absurd vacant
-none_live app value asked.Left vacant h = h
-none_live app value asked.Free vacant h = h
+none_live : (app : App) (value : ℕ → PartValue) (last : Option TaskNo) (a : Asked) → IsVacant a → DecidesBy app value last a (idle_decision a) → NoneLive app value
+none_live app value last asked.No vacant h = absurd vacant
+none_live app value last (asked.Maybe t) vacant h = absurd vacant
+none_live app value last asked.Left vacant h = h
+none_live app value last asked.Free vacant h = h
 
-idle_decides : (app : App) (value : ℕ → PartValue) (a : Asked) → IsVacant a → NoneLive app value → Decides app value a (idle_decision a)
-idle_decides app value asked.No vacant h = absurd vacant
-idle_decides app value (asked.Maybe t) vacant h = absurd vacant
-idle_decides app value asked.Left vacant h = h
-idle_decides app value asked.Free vacant h = h
+idle_decides : (app : App) (value : ℕ → PartValue) (last : Option TaskNo) (a : Asked) → IsVacant a → NoneLive app value → DecidesBy app value last a (idle_decision a)
+idle_decides app value last asked.No vacant h = absurd vacant
+idle_decides app value last (asked.Maybe t) vacant h = absurd vacant
+idle_decides app value last asked.Left vacant h = h
+idle_decides app value last asked.Free vacant h = h
 
 pub idle_known : (app : App) (a : Asked) → IsVacant a → IsKnownDecision app (idle_decision a)
 idle_known app asked.No vacant = absurd vacant
@@ -266,12 +270,12 @@ module _ (app : App) (pool : List Values) (leaving : Leaving) (vacant : IsVacant
   idle = idle_decision leaving.asked
 
   nobody_under : (value : ℕ → PartValue) (e : Decision) → DecidesSo app leaving value e → e ≡ idle → AreUnder app claim.Nobody (length app.tasks) value
-  nobody_under value e decides same = nobody_passes app value (none_live app value leaving.asked vacant (subst (DecidesSo app leaving value) same decides))
+  nobody_under value e decides same = nobody_passes app value (none_live app value leaving.last leaving.asked vacant (subst (DecidesSo app leaving value) same decides))
 
   pub nobody_group : (left : NumberedEntry) → IsLeft (is_under_limit app claim.Nobody (length app.tasks)) pool entry left → IsGroupFor app pool leaving entry (IsIt idle) idle left
   nobody_group left h = record {
     within = λ value within. within_left (is_under_limit app claim.Nobody (length app.tasks)) pool entry left h app value within;
-    each = λ value within. idle_decides app value leaving.asked vacant (nobody_means app value (under_left app claim.Nobody pool entry left h value within));
+    each = λ value within. idle_decides app value leaving.last leaving.asked vacant (nobody_means app value (under_left app claim.Nobody pool entry left h value within));
     whole = λ value e within decides same. (same, left_under app claim.Nobody pool entry left h value within (nobody_under value e decides same));
   }
 

@@ -13,7 +13,7 @@ use Rattle.flow_rules.proofs.KeptDomains.{shared_keep}
 -- the effect of a well-formed state leaves well-formed parts
 effect_stays : (app : App) (p : Point) (entry : PlainEntry) (effects : List EffectCase) (x : EffectCase) → Contains effects x → AreExactEffects app p entry effects → StaysInDomains app entry (effect_rule x)
 effect_stays app p entry effects x listed exact value within passes c lt =
-    let shown = exact x value listed within passes in
+    let shown = exact x value 0 listed within passes in
     let s = shown.from in
     let then : State = (effect app s shown.choice).state in
     let well : Well app then = effect_keeps app s shown.has.well shown.choice in

@@ -138,9 +138,13 @@ module _ (app : App) (pool : List Values) (leaving : Leaving) (after : NumberedE
                 decides = e.decision ∙ decision;
                 status = e.status ∙ status;
                 filled = e.filled;
-                within = λ value h. group.within value (e.within value h);
-                each = λ value h. group.each value (e.within value h);
-                target = e.target;
+                each = λ value h. record {
+                  before = value;
+                  within = group.within value (e.within value h);
+                  decides = group.each value (e.within value h);
+                  target = e.target value h;
+                  settles = λ c. refl;
+                };
               }))
         ];
         whole = λ value e within decides p.

@@ -9,9 +9,9 @@ use Rattle.flow_model.specs.{declared.{runner.Runner.{Runner}, rule.Rule.{Rule}}
 use Rattle.numbered_sets.specs.{declared.numbered_entry.NumberedEntry.{NumberedEntry}, Numbers.{Numbers}, NumberedEntries.{numbers_at, number_domains, AreFilled}}
 use Rattle.numbered_sets.specs.{Pools.{Values, pool_domains}, Views.{plain_entry}}
 use Rattle.numbered_sets.proofs.ViewLaws.{same_domains}
-use Rattle.flow_exits.specs.{Exits.{IsFilled}, Leaving.{AreExits, arrival_exit}}
+use Rattle.flow_exits.specs.{Exits.{IsFilled}, Leaving.{AreExits}}
 use Rattle.flow_rules.specs.{declared.group.ExitGroup.{ExitGroup}, Groups.{all_exits}, Leaving.{AddsArrivals, AddsInstructions}}
-use Rattle.flow_rules.proofs.{LeftLaws.{tasks_counted}, NumberLaws.{member_number, number_fills}, PointRules.{passive_by}}
+use Rattle.flow_rules.proofs.{LeftLaws.{tasks_counted}, NumberLaws.{member_number, number_fills}, PointRules.{passive_by}, ArrivingGroups.{arrival_listed, still_arrives}}
 
 -- an entry with the components' domains has a set for each
 pub sets_counted : (app : App) (pool : List Values) (entry : NumberedEntry) → number_domains entry ≡ domains_of app → length (plain_entry pool entry).sets ≡ component_count app
@@ -26,37 +26,38 @@ executed app (point.Routine b over) r h n = n
 
 module _ (app : App) (p : Point) (entry : PlainEntry) where
   -- nobody executes there
-  pub passive_exits : IsNobodys p → (pool : List Values) (now : List ExitGroup) → AddsArrivals app p entry pool [] now → AreExits app p entry (all_exits pool now)
-  passive_exits nobody pool now a = record {
+  pub passive_exits : IsNobodys p → (pool after : List Values) (now : List ExitGroup) → AddsArrivals app p entry pool [] after now → AreExits app p entry (all_exits after now)
+  passive_exits nobody pool after now a = record {
     effects = [];
     active = λ x m. absurd (contained_among [] x m);
     stays = λ x m. absurd (contained_among [] x m);
     covering = λ s choice at active. absurd (passive_by s s.processor p at.point nobody active);
-    exact = λ allowed x value m. absurd (contained_among [] x m);
-    each = λ x m. elim (a.each x m) [
+    exact = λ allowed x value t m. absurd (contained_among [] x m);
+    each = λ x m. elim (a.added.each x m) [
       | inl none ↦ absurd (contained_among [] x none)
       | inr arrival ↦ inl arrival
     ];
-    arrivals = a.some;
+    arrivals = λ rule r. a.added.some rule (arrival_listed app p a.rules a.are rule r);
     decisions = λ x m. absurd (contained_among [] x m);
   }
 
   -- a task or a routine executes there
-  pub executing_exits : (r : Runner) → Executes app p r → (pool after : List Values) (mid now : List ExitGroup) → AddsArrivals app p entry pool [] mid → AddsInstructions app p entry pool mid after now → AreExits app p entry (all_exits after now)
-  executing_exits r executes pool after mid now a i = record {
+  pub executing_exits : (r : Runner) → Executes app p r → (pool grown after : List Values) (mid now : List ExitGroup) →
+      AddsArrivals app p entry pool [] grown mid → AddsInstructions app p entry grown mid after now → AreExits app p entry (all_exits after now)
+  executing_exits r executes pool grown after mid now a i = record {
     effects = i.effects;
     active = λ x m nobody. executed app p r executes nobody;
     stays = i.stays;
     covering = i.covering;
     exact = i.exact;
     each = λ x m. elim (i.added.each x m) [
-      | inl old ↦ elim (a.each x old) [
+      | inl old ↦ elim (a.added.each x old) [
         | inl none ↦ absurd (contained_among [] x none)
         | inr arrival ↦ inl arrival
       ]
       | inr of ↦ inr of
     ];
-    arrivals = λ k over lt may. i.added.kept (arrival_exit app entry over k) (a.some k over lt may);
+    arrivals = λ rule r. still_arrives app rule entry (all_exits grown mid) (all_exits after now) i.added.kept (a.added.some rule (arrival_listed app p a.rules a.are rule r));
     decisions = i.added.some;
   }
 

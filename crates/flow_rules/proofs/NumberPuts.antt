@@ -1,14 +1,13 @@
 -- A number comes to those at a point: to a new end, or to the one that is there.
-use Rattle.std.proofs.Common.{◌≡◌, ◌≢◌, ◌⊎◌, ℕ, ◌<◌, ◌^◌, Bool, true, false, ◌||◌, List, [], ◌∷◌, ◌++◌, length, get_or, set, refl, sym, ap, subst, ◌∙◌, inl, inr, arith, IsTrue, get_or-set_same, get_or-set_other}
+use Rattle.std.proofs.Common.{◌≡◌, ◌≢◌, ◌⊎◌, ℕ, ◌<◌, ◌^◌, Bool, true, false, ◌||◌, List, [], ◌∷◌, ◌++◌, length, get_or, set, refl, sym, ap, subst, ◌∙◌, inl, inr, arith, get_or-set_same, get_or-set_other}
 use Rattle.std.specs.Prelude.{◌==◌, Contains}
 use Rattle.std.proofs.lemmas.Bool.{cases_eq, eq-eqb, eqb-true, or_cases}
 use Rattle.std.proofs.lemmas.List.{length-set, Elements.{Contains-append_left, Contains-push, Contains-push_cases}}
 use Rattle.bit_words.proofs.BitCounts.{has_either, has_one}
-use Rattle.osek_values.specs.Bits.{has_bit}
 use Rattle.osek_standard.specs.declared.point.Point.{Point}
 use Rattle.abstract_state.specs.declared.value.Domain.{Domain}
 use Rattle.numbered_sets.specs.Numbers.{Numbers, numbers, has_number, with_number}
-use Rattle.flow_rules.specs.{declared.group.NumberEnd.{NumberEnd}, Deciding.{HasNumbersOf, HaveNumbersOf, IsNumberAt, IsNumberPut}}
+use Rattle.flow_rules.specs.{declared.group.NumberEnd.{NumberEnd}, Deciding.{HasNumbersOf, HaveNumbersOf, IsNumberPut}}
 use Rattle.flow_rules.proofs.{NumberLaws.{number_fills}, NumbersPassing.{none_passes_bit}}
 
 module _ (x : Numbers) (n : ℕ) where

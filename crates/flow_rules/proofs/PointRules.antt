@@ -116,7 +116,7 @@ module _ (app : App) (p : Point) (entry : PlainEntry) (arrivals : List Rule) (a 
   passive_covering h s (Tick c) at loud = absurd (loud refl)
 
   pub passive_exact : IsPoint app p → AreAllAllowed app p entry → Exact app p entry arrivals
-  passive_exact is allowed rule value m within passes = arrival_shown app p rule value is (allowed_values allowed value within) (a.each rule m)
+  passive_exact is allowed rule value m within passes = arrival_shown app p rule value is (allowed_values allowed value within) (a.each rule m) passes
 
   -- nobody's instructions are foreseen
   pub passive_foresees : IsNobodys p → Foresees app p entry arrivals
@@ -143,6 +143,6 @@ module _ (app : App) (p : Point) (entry : PlainEntry) (arrivals : List Rule) (a 
 
     pub executing_exact : IsPoint app p → IsExecuting p → AreAllAllowed app p entry → Exact app p entry rules
     executing_exact is h allowed rule value m within passes = elim (i.added.each rule m) [
-      | inl old ↦ arrival_shown app p rule value is (allowed_values allowed value within) (a.each rule old)
+      | inl old ↦ arrival_shown app p rule value is (allowed_values allowed value within) (a.each rule old) passes
       | inr new ↦ instruction_shown app p entry i.effects arrivals rules i.added i.stays allowed (λ s w e. active_by s s.processor p e h) (i.exact allowed) rule value new within passes
     ]

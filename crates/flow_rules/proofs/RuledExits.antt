@@ -52,10 +52,15 @@ module _ (app : App) (p : Point) (entry from : PlainEntry) (there : (value : ℕ
         ] in
         let found : Some o.decision ≡ Some d = sym o.decides ∙ e in
         let decided : o.decision ≡ d = cc in
+        let here : k.after ≡ after_it = λ i c. k.settles c i in
         let its : HasOutcome app effect (case x d) value = record {
           passes = passing;
-          decides = subst (λ (z : EffectCase). Decides app after_it z.leaving.asked d) same (subst (Decides app after_it k.effect.leaving.asked) decided k.decides);
-          target = k.target ∙ ap (λ (z : EffectCase). end_point app after_it (stay_point z.leaving.stay after_it) o.decision) same ∙ ap (end_point app after_it (stay_point effect.leaving.stay after_it)) decided;
+          decides = subst (λ (v : ℕ → PartValue). Decides app v effect.leaving d) here
+              (subst (λ (z : EffectCase). Decides app k.after z.leaving d) same (subst (Decides app k.after k.effect.leaving) decided k.decides));
+          target = k.target
+              ∙ ap (λ (v : ℕ → PartValue). end_point app v (stay_point k.effect.leaving.stay v) o.decision) here
+              ∙ ap (λ (z : EffectCase). end_point app after_it (stay_point z.leaving.stay after_it) o.decision) same
+              ∙ ap (end_point app after_it (stay_point effect.leaving.stay after_it)) decided;
         } in
         subst (λ (z : OutcomeCase). HasOutcome app effect z value) (sym is) its
 

@@ -1,6 +1,6 @@
 -- What the scheduler decides with all values after an effect.
 use Rattle.std.proofs.Common.{◌≡◌, ◌⊎◌, ℕ, ◌<◌, ◌≤◌, Bool, ◌&&◌, List, length, refl, sym, ap, ap₂, subst, ◌∙◌, inl, inr, arith, IsTrue, Some, None}
-use Rattle.std.specs.Prelude.{slice_index_or}
+use Rattle.std.specs.{Prelude.{slice_index_or}, declared.option.Option.{Option}}
 use Rattle.std.proofs.lemmas.Bool.{cases_eq, and_parts}
 use Rattle.osek_values.specs.declared.numbers.TaskNo.{TaskNo}
 use Rattle.osek_standard.specs.declared.app.App.{App}
@@ -9,7 +9,7 @@ use Rattle.abstract_state.proofs.ComponentLaws.{task_counted}
 use Rattle.flow_model.specs.declared.case.{Asked.{Asked}, Decision.{Decision}}
 use Rattle.flow_model.specs.declared.case.Asked.TheVariants as asked
 use Rattle.flow_model.specs.declared.case.Decision.TheVariants as decision
-use Rattle.flow_model.specs.{Values.{is_live_value}, Effects.{AreIn}, Scheduling.{IsLiveTask, Decides}, declared.case.Leaving.{Leaving}}
+use Rattle.flow_model.specs.{Values.{is_live_value}, Effects.{AreIn}, Scheduling.{IsLiveTask, DecidesBy}, declared.case.Leaving.{Leaving}}
 use Rattle.numbered_sets.specs.{declared.numbered_entry.NumberedEntry.{NumberedEntry}, Numbers.{Numbers}, NumberedEntries.{numbers_at, AreFilled, HasEmptySet}}
 use Rattle.numbered_sets.specs.{Pools.{Values, values_at}, Views.{plain_entry, AreNumbersOf}}
 use Rattle.flow_exits.specs.Outcomes.{IsVacant, idle_decision}
@@ -75,25 +75,27 @@ narrowed_live app pool levels t known all own is after live numbers narrows = na
 -- ---- the cases of a decision
 
 -- the running task is Live
-runs : (app : App) (value : ℕ → PartValue) (t : TaskNo) (d : Decision) → Decides app value (asked.Maybe t) d → IsLiveTask app value t.0
-runs app value t decision.Keep h = h.running
-runs app value t (decision.To None) h = absurd h
-runs app value t (decision.To (Some w)) h = h.running
+runs : (app : App) (value : ℕ → PartValue) (last : Option TaskNo) (t : TaskNo) (d : Decision) → DecidesBy app value last (asked.Maybe t) d → IsLiveTask app value t.0
+runs app value last t decision.Keep h = h.running
+runs app value last t (decision.To None) h = absurd h
+runs app value last t (decision.To (Some w)) h = h.running
 
-running_cases : (app : App) (value : ℕ → PartValue) (t : TaskNo) (d : Decision) → Decides app value (asked.Maybe t) d → IsIt decision.Keep value d ⊎ IsWinnerBelow (length app.tasks) value d
-running_cases app value t decision.Keep h = inl refl
-running_cases app value t (decision.To None) h = absurd h
-running_cases app value t (decision.To (Some w)) h = inr (record { task = w; known = h.best.is.known; decision = refl })
+running_cases : (app : App) (value : ℕ → PartValue) (last : Option TaskNo) (t : TaskNo) (d : Decision) → DecidesBy app value last (asked.Maybe t) d →
+    IsIt decision.Keep value d ⊎ IsWinnerBelow (length app.tasks) value d
+running_cases app value last t decision.Keep h = inl refl
+running_cases app value last t (decision.To None) h = absurd h
+running_cases app value last t (decision.To (Some w)) h = inr (record { task = w; known = h.best.is.known; decision = refl })
 
-vacant_cases : (app : App) (value : ℕ → PartValue) (a : Asked) (d : Decision) → IsVacant a → Decides app value a d → IsIt (idle_decision a) value d ⊎ IsWinnerBelow (length app.tasks) value d
-vacant_cases app value asked.No d vacant h = absurd vacant
-vacant_cases app value (asked.Maybe t) d vacant h = absurd vacant
-vacant_cases app value asked.Left decision.Keep vacant h = absurd h
-vacant_cases app value asked.Left (decision.To None) vacant h = inl refl
-vacant_cases app value asked.Left (decision.To (Some w)) vacant h = inr (record { task = w; known = h.is.known; decision = refl })
-vacant_cases app value asked.Free decision.Keep vacant h = inl refl
-vacant_cases app value asked.Free (decision.To None) vacant h = absurd h
-vacant_cases app value asked.Free (decision.To (Some w)) vacant h = inr (record { task = w; known = h.is.known; decision = refl })
+vacant_cases : (app : App) (value : ℕ → PartValue) (last : Option TaskNo) (a : Asked) (d : Decision) → IsVacant a → DecidesBy app value last a d →
+    IsIt (idle_decision a) value d ⊎ IsWinnerBelow (length app.tasks) value d
+vacant_cases app value last asked.No d vacant h = absurd vacant
+vacant_cases app value last (asked.Maybe t) d vacant h = absurd vacant
+vacant_cases app value last asked.Left decision.Keep vacant h = absurd h
+vacant_cases app value last asked.Left (decision.To None) vacant h = inl refl
+vacant_cases app value last asked.Left (decision.To (Some w)) vacant h = inr (record { task = w; known = h.is.known; decision = refl })
+vacant_cases app value last asked.Free decision.Keep vacant h = inl refl
+vacant_cases app value last asked.Free (decision.To None) vacant h = absurd h
+vacant_cases app value last asked.Free (decision.To (Some w)) vacant h = inr (record { task = w; known = h.is.known; decision = refl })
 
 pub vacant_by : (a : Asked) → (a ≡ asked.Left) ⊎ (a ≡ asked.Free) → IsVacant a
 vacant_by a (inl e) = subst IsVacant (sym e) tt
@@ -112,32 +114,35 @@ module _ (app : App) (pool : List Values) (leaving : Leaving) (after : NumberedE
   pub unasked_group : leaving.asked ≡ asked.No → IsGroupFor app pool leaving after IsAny decision.Keep after
   unasked_group same = record {
     within = λ value h. h;
-    each = λ value h. subst (λ (a : Asked). Decides app value a decision.Keep) (sym same) tt;
-    whole = λ value d h decides p. (keeps value d (subst (λ (a : Asked). Decides app value a d) same decides), h);
+    each = λ value h. subst (λ (a : Asked). DecidesBy app value leaving.last a decision.Keep) (sym same) tt;
+    whole = λ value d h decides p. (keeps value d (subst (λ (a : Asked). DecidesBy app value leaving.last a d) same decides), h);
   }
     where
-      keeps : (value : ℕ → PartValue) (d : Decision) → Decides app value asked.No d → d ≡ decision.Keep
+      keeps : (value : ℕ → PartValue) (d : Decision) → DecidesBy app value leaving.last asked.No d → d ≡ decision.Keep
       keeps value decision.Keep h = refl
       keeps value (decision.To x) h = absurd h
 
   module _ (t : TaskNo) (running : leaving.asked ≡ asked.Maybe t) where
-    runs_so : (value : ℕ → PartValue) (d : Decision) → DecidesSo app leaving value d → Decides app value (asked.Maybe t) d
-    runs_so value d = subst (λ (a : Asked). Decides app value a d) running
+    runs_so : (value : ℕ → PartValue) (d : Decision) → DecidesSo app leaving value d → DecidesBy app value leaving.last (asked.Maybe t) d
+    runs_so value d = subst (λ (a : Asked). DecidesBy app value leaving.last a d) running
 
     pub running_adds : (a b c : List ExitGroup) → AddsFor app pool leaving after (IsIt decision.Keep) a b → AddsFor app pool leaving after (IsWinnerBelow (length app.tasks)) b c → AddsFor app pool leaving after IsAny a c
-    running_adds = then_more app pool leaving after (IsIt decision.Keep) (IsWinnerBelow (length app.tasks)) IsAny (λ value d within decides p. running_cases app value t d (runs_so value d decides))
+    running_adds = then_more app pool leaving after (IsIt decision.Keep) (IsWinnerBelow (length app.tasks)) IsAny
+        (λ value d within decides p. running_cases app value leaving.last t d (runs_so value d decides))
 
     pub unknown_task : length app.tasks ≤ t.0 → (gs : List ExitGroup) → AddsFor app pool leaving after IsAny gs gs
-    unknown_task past gs = nothing_more app pool leaving after IsAny gs (λ value d h decides p. (let lt = (runs app value t d (runs_so value d decides)).known in omega (arith, lt, past)))
+    unknown_task past gs = nothing_more app pool leaving after IsAny gs (λ value d h decides p.
+        (let lt = (runs app value leaving.last t d (runs_so value d decides)).known in omega (arith, lt, past)))
 
     module _ (live : NumberedEntry) (known : t.0 < length app.tasks) (h : IsNarrowed (λ v. is_live_value (val_of v)) pool t.0 after live) where
       pub never_runs : AreFilled after → HasEmptySet live → (gs : List ExitGroup) → AddsFor app pool leaving after IsAny gs gs
       never_runs filled empty gs = nothing_more app pool leaving after IsAny gs (λ value d within decides p.
-          never_live app pool after live t.0 known h filled empty value within (runs app value t d (runs_so value d decides)).live)
+          never_live app pool after live t.0 known h filled empty value within (runs app value leaving.last t d (runs_so value d decides)).live)
 
       pub live_adds : (a b : List ExitGroup) → AddsFor app pool leaving live IsAny a b → AddsFor app pool leaving after IsAny a b
       live_adds = of_part app pool leaving after live IsAny IsAny (within_live app pool after live t.0 known h)
-          (λ value d within decides p. (in_live app pool after live t.0 known h value within (runs app value t d (runs_so value d decides)).live, tt))
+          (λ value d within decides p. (in_live app pool after live t.0 known h value within (runs app value leaving.last t d (runs_so value d decides)).live, tt))
 
   pub vacant_adds : IsVacant leaving.asked → (a b c : List ExitGroup) → AddsFor app pool leaving after (IsIt (idle_decision leaving.asked)) a b → AddsFor app pool leaving after (IsWinnerBelow (length app.tasks)) b c → AddsFor app pool leaving after IsAny a c
-  vacant_adds vacant = then_more app pool leaving after (IsIt (idle_decision leaving.asked)) (IsWinnerBelow (length app.tasks)) IsAny (λ value d within decides p. vacant_cases app value leaving.asked d vacant decides)
+  vacant_adds vacant = then_more app pool leaving after (IsIt (idle_decision leaving.asked)) (IsWinnerBelow (length app.tasks)) IsAny
+      (λ value d within decides p. vacant_cases app value leaving.last leaving.asked d vacant decides)

@@ -29,7 +29,8 @@ pub record HasRuleFor (app : App) (effect : EffectCase) (rules : List Rule) (d :
 -- what the scheduler decides after the effect has a rule
 abbrev pub HasRulesFor : App → Point → PlainEntry → EffectCase → List Rule → Type 0
 HasRulesFor app p entry effect rules =
-    (value : ℕ → PartValue) (d : Decision) → AreValuesOf app p entry value → PassesAll app effect.conditions value → Decides app (values_after effect.changes value) effect.leaving.asked d → HasRuleFor app effect rules d value
+    (value : ℕ → PartValue) (d : Decision) → AreValuesOf app p entry value → PassesAll app effect.conditions value →
+    Decides app (values_after effect.changes value) effect.leaving d → HasRuleFor app effect rules d value
 
 -- the rules of an effect come to these
 pub record AreAdded (app : App) (p : Point) (entry : PlainEntry) (effect : EffectCase) (before after : List Rule) : Type 0 where

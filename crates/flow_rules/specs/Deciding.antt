@@ -90,7 +90,7 @@ IsKnownDecision app (decision.To None) = ⊤
 IsKnownDecision app (decision.To (Some w)) = w.0 < length app.tasks
 
 abbrev pub DecidesSo : App → Leaving → (ℕ → PartValue) → Decision → Type 0
-DecidesSo app leaving value d = Decides app value leaving.asked d
+DecidesSo app leaving value d = Decides app value leaving d
 
 -- These groups come to others: their exits are decided with values after the effect, and whatever is decided by values with a
 -- property is one's.
@@ -177,5 +177,6 @@ NeverAt app c pool entry t level = (value : ℕ → PartValue) → AreIn app (pl
 -- a property with which it is.
 pub record IsGroupFor (app : App) (pool : List Values) (leaving : Leaving) (after : NumberedEntry) (P : (ℕ → PartValue) → Decision → Type 0) (d : Decision) (entry : NumberedEntry) : Type 0 where
   pub within : (value : ℕ → PartValue) → AreIn app (plain_entry pool entry) value → AreIn app (plain_entry pool after) value
-  pub each : (value : ℕ → PartValue) → AreIn app (plain_entry pool entry) value → Decides app value leaving.asked d
-  pub whole : (value : ℕ → PartValue) (e : Decision) → AreIn app (plain_entry pool after) value → Decides app value leaving.asked e → P value e → (e ≡ d) × AreIn app (plain_entry pool entry) value
+  pub each : (value : ℕ → PartValue) → AreIn app (plain_entry pool entry) value → Decides app value leaving d
+  pub whole : (value : ℕ → PartValue) (e : Decision) → AreIn app (plain_entry pool after) value → Decides app value leaving e → P value e →
+      (e ≡ d) × AreIn app (plain_entry pool entry) value

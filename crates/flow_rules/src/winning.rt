@@ -7,7 +7,7 @@ ghost use Rattle.flow_rules.specs.{Deciding.{IsAsked, IsIt, IsAtLevel, IsLevelOf
 use crate::after_effect::AfterEffect;
 use crate::group::ExitGroup;
 use crate::task_levels::Level;
-use flow_exits::{Claim, is_running};
+use flow_exits::{Claim, is_running, may_tie};
 use flow_model::{Asked, Decision};
 use osek_values::{Memory, TaskNo};
 use std::alloc::Global;
@@ -74,6 +74,7 @@ impl<'a> AfterEffect<'a> {
             task,
             priority: level.priority,
             over: over(self.leaving.asked),
+            may_tie: may_tie(self.leaving.last, task),
         };
         let Some(entry) = self.left_at(alloc, needs, claim, task, level)? else {
             return Ok(());

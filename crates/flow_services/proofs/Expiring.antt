@@ -1,6 +1,6 @@
 -- The cases of an alarm that a tick routine looks at are those of its effect.
 use Rattle.std.proofs.Common.{◌≡◌, ◌≢◌, ℕ, ◌<◌, Bool, true, false, List, [], ◌∷◌, ◌++◌, length, map, refl, sym, ap, subst, ◌∙◌, inl, inr, ⊎_elim, arith, None, append_assoc}
-use Rattle.std.specs.Prelude.{if◌then◌else◌, ◌==◌, ◌+◌, ◌%◌}
+use Rattle.std.specs.Prelude.{if◌then◌else◌, is_some, ◌==◌, ◌+◌, ◌%◌}
 use Rattle.std.proofs.lemmas.{Bool.{cases_Bool, ne_eqb}, List.{append-nil}}
 use Rattle.osek_values.specs.Numbers.{alarm_no}
 use Rattle.osek_values.specs.declared.status.Ask.TheVariants as ask
@@ -17,13 +17,13 @@ use Rattle.osek_standard.specs.{Effects.{moved_to, moved_by, place_at}, Arrivals
 use Rattle.osek_standard.proofs.Members.{Among, map_among, among_map, among_left, among_right, among_cases, contained_among, among_contained}
 use Rattle.abstract_state.specs.declared.value.PartValue.{PartValue, TheVariants.{OfAlarm}}
 use Rattle.abstract_state.specs.declared.value.Component.TheVariants as component
-use Rattle.abstract_state.specs.{declared.table.PlainEntry.{PlainEntry}, Choices.{IsQuietWith}, Components.{component_count, component_number, abstract_of, is_armed}}
+use Rattle.abstract_state.specs.{declared.table.PlainEntry.{PlainEntry}, Choices.{IsFirstIfThere, IsQuietWith}, Components.{component_count, component_number, abstract_of, is_armed}}
 use Rattle.abstract_state.specs.Concrete.{HasParts, AreAllowed}
 use Rattle.abstract_state.proofs.{Concretes.{some_quiet, some_armed, some_ticks, armed_once, armed_again}, Numbers.{number_known}, OrderLaws.{part_right}}
 use Rattle.flow_model.specs.declared.{test.Condition.{Condition}, change.Change.{Change}, case.EffectCase.{EffectCase}}
 use Rattle.flow_model.specs.declared.case.Asked.TheVariants as asked
 use Rattle.flow_model.specs.{declared.runner.Runner.{Runner}, Runners.{Stands, OwnsBlock, runner_point, moving}, Tests.{PassesAll, value_after}}
-use Rattle.flow_model.specs.{Effects.{AreIn, HasEffect, HasSomeEffect, ShowsEffect, AreAllAllowed, AreCasesOf, IsKnownStay}, Changes.{alarm_change}}
+use Rattle.flow_model.specs.{Effects.{AreIn, HasEffect, HasSomeEffect, LeavesLine, ShowsEffect, AreAllAllowed, AreCasesOf, IsKnownStay}, Changes.{alarm_change}}
 use Rattle.flow_model.proofs.{ChangeLaws.{passes_left, passes_right, passes_both, passes_one, one_passes}, Writes.{alarm_written}}
 use Rattle.flow_model.proofs.{Moves.{moved_alarms}, Standing.{point_there, stands_here, owned_point}, Calls.{IsCall, HasAnswer, call_has, asked_none}}
 use Rattle.flow_model.proofs.Listing.{covers_by, values_allowed, made_passes}
@@ -71,7 +71,8 @@ module _ (app : App) (s : State) (r : Runner) (b : BlockNo) (h : Stands app s r 
     point = point_there app moved r next (moved_well app s r b h);
     parts = λ c lt. parts_after app s r b h moved [] (λ d below. refl) c lt ∙ ap (λ (xs : List Change). value_after (xs ++ []) c (abstract_of app s c)) (sym (append-nil (moving r next)));
     asked = asked_none app r (kind.Expire (alarm_no a));
-    kept = λ e. absurd (cc);
+    kept = tt;
+    line = tt;
     status = refl;
   }
 
@@ -81,8 +82,9 @@ module _ (app : App) (s : State) (r : Runner) (b : BlockNo) (h : Stands app s r 
     point = point_stays app moved z.state (stays_through serves.stays) (moved_well app s r b h).well ∙ point_there app moved r next (moved_well app s r b h);
     parts = λ c lt. parts_after app s r b h z.state (alarm_change app a (is_armed y) ∷ x.changes) (λ d below. serves.parts d below ∙ ap (value_after x.changes d) (alarm_written app moved a y here known d below)) c lt
         ∙ ap (λ (xs : List Change). value_after xs c (abstract_of app s c)) (sym (append_assoc (moving r next) (alarm_change app a (is_armed y) ∷ []) x.changes));
-    asked = asked_none app r (kind.Expire (alarm_no a)) ∙ nothing x.may_dispatch;
-    kept = λ e. absurd (cc);
+    asked = asked_none app r (kind.Expire (alarm_no a)) ∙ nothing (is_some x.begins);
+    kept = tt;
+    line = nothing_left (is_some x.begins);
     status = serves.status;
   }
     where
@@ -93,8 +95,12 @@ module _ (app : App) (s : State) (r : Runner) (b : BlockNo) (h : Stands app s r 
       nothing true = refl
       nothing false = refl
 
+      nothing_left : (may : Bool) → LeavesLine (if may then asked.No else asked.No) x.begins s z.state
+      nothing_left true = tt
+      nothing_left false = tt
+
   fired_sees : (y : AlarmState) → Sees app s (fired y)
-  fired_sees y = let sees = sees_moved app s r b h in record { size = sees.size; suspended = sees.suspended; waiting = sees.waiting }
+  fired_sees y = let sees = sees_moved app s r b h in record { size = sees.size; suspended = sees.suspended; waiting = sees.waiting; absent = sees.absent }
 
   acted_served : (y : AlarmState) (x : Action) → IsAction (tables app) x → IsServed app s (fired y) (actions app x) (acted app (fired y) x)
   acted_served y (action.ActivateTask t) is = activation_served app s (fired y) t.0 is (fired_sees y)
@@ -174,7 +180,7 @@ module _ (app : App) (r : Runner) (b : BlockNo) (owns : OwnsBlock app r b) (a : 
   abbrev cases : List EffectCase
   cases = expiries app r (the_block app b.0).next a
 
-  module _ (entry : PlainEntry) (all : AreAllAllowed app (runner_point r b) entry) (value : ℕ → PartValue) (within : AreIn app entry value) where
+  module _ (entry : PlainEntry) (all : AreAllAllowed app (runner_point r b) entry) (value : ℕ → PartValue) (first : ℕ) (within : AreIn app entry value) where
     abbrev next_block : BlockNo
     next_block = (the_block app b.0).next
 
@@ -195,60 +201,60 @@ module _ (app : App) (r : Runner) (b : BlockNo) (owns : OwnsBlock app r b) (a : 
     armed_value passing = part_right (value number) (OfAlarm true) (one_passes app value (alarm_is app a true) passing counted)
 
     -- a state with these values is one that executes the block, and is of the entry
-    module _ (s : State) (has : HasParts app p value s) (quiet : arrival app s ≡ None) where
-      shows_by : (x : EffectCase) → (Stands app s r b → HasEffect app x s true) → ShowsEffect app p x value
-      shows_by x effect = record { from = s; choice = true; has = has; alone = quiet; effect = effect (stands_here app s r b owns has.well has.point) }
+    module _ (s : State) (has : HasParts app p value s) (quiet : arrival app s ≡ None) (front : IsFirstIfThere first s) where
+      shows_by : (x : EffectCase) → (Stands app s r b → HasEffect app x s true) → ShowsEffect app p x value first
+      shows_by x effect = record { from = s; choice = true; has = has; alone = quiet; first = front; effect = effect (stands_here app s r b owns has.well has.regular has.point) }
 
-    shows_idle : PassesAll app (alarm_is app a false ∷ []) value → ShowsEffect app p (case_at (looking app r next_block) (unnoted_case (alarm_is app a false ∷ []))) value
+    shows_idle : PassesAll app (alarm_is app a false ∷ []) value → ShowsEffect app p (case_at (looking app r next_block) (unnoted_case (alarm_is app a false ∷ []))) value first
     shows_idle passing =
-        let q = some_quiet app p value (owned_point app r b owns) allowed in
+        let q = some_quiet app p value (owned_point app r b owns) allowed first in
         let here : PassesAll app (alarm_is app a false ∷ []) (abstract_of app q.0) = made_passes app p value q.0 q.1.has (alarm_is app a false ∷ []) passing in
         let off : is_armed (alarm_state q.0 a) ≡ false = alarm_tested app q.0 a known false (one_passes app (abstract_of app q.0) (alarm_is app a false) here counted) in
-        shows_by q.0 q.1.has q.1.quiet (case_at (looking app r next_block) (unnoted_case (alarm_is app a false ∷ [])))
+        shows_by q.0 q.1.has q.1.quiet q.1.first (case_at (looking app r next_block) (unnoted_case (alarm_is app a false ∷ [])))
         (λ h. quiet_effect app q.0 r b h a known is (alarm_is app a false ∷ []) true (idle_is_not_due (alarm_state q.0 a) (value_of app q.0 a) off) here)
 
     -- with this time and cycle, at this value of the counter
     due_with : (s : State) (at cycle now : ℕ) → alarm_state s a ≡ Armed at cycle → counter_value s (the_alarm app a).counter.0 ≡ now → is_due app s a ≡ (at == now)
     due_with s at cycle now e v = ap (λ (y : AlarmState). is_due_at (due y) (value_of app s a)) e ∙ ap (λ (n : ℕ). at == n) v
 
-    shows_armed : PassesAll app (alarm_is app a true ∷ []) value → ShowsEffect app p (case_at (looking app r next_block) (unnoted_case (alarm_is app a true ∷ []))) value
+    shows_armed : PassesAll app (alarm_is app a true ∷ []) value → ShowsEffect app p (case_at (looking app r next_block) (unnoted_case (alarm_is app a true ∷ []))) value first
     shows_armed passing =
         let most = some_ticks app a known in
-        let q = some_armed app p value (owned_point app r b owns) allowed a 1 0 0 known (armed_once app a known 1 most) (omega arith) in
+        let q = some_armed app p value (owned_point app r b owns) allowed first a 1 0 0 known (armed_once app a known 1 most) (omega arith) in
         let not_yet : is_due app q.0 a ≡ false = due_with q.0 1 0 0 (q.1.armed (armed_value passing)) q.1.counter in
-        shows_by q.0 q.1.has q.1.quiet (case_at (looking app r next_block) (unnoted_case (alarm_is app a true ∷ [])))
+        shows_by q.0 q.1.has q.1.quiet q.1.first (case_at (looking app r next_block) (unnoted_case (alarm_is app a true ∷ [])))
         (λ h. quiet_effect app q.0 r b h a known is (alarm_is app a true ∷ []) true not_yet (made_passes app p value q.0 q.1.has (alarm_is app a true ∷ []) passing))
 
     module _ (x : ServiceCase) (among : Among x (actions app (the_alarm app a).action)) where
       alarm_passes : (again : Bool) → PassesAll app (case_at (expiring app r next_block a again) x).conditions value → PassesAll app (alarm_is app a true ∷ []) value
       alarm_passes again passing = passes_right app value x.conditions (alarm_is app a true ∷ []) passing
 
-      shows_with : (again : Bool) (cycle : ℕ) (s : State) → IsQuietWith app p value a 0 cycle 0 s → PassesAll app (case_at (expiring app r next_block a again) x).conditions value → is_armed (rearmed app a (Armed 0 cycle)) ≡ again → ShowsEffect app p (case_at (expiring app r next_block a again) x) value
+      shows_with : (again : Bool) (cycle : ℕ) (s : State) → IsQuietWith app p value first a 0 cycle 0 s → PassesAll app (case_at (expiring app r next_block a again) x).conditions value → is_armed (rearmed app a (Armed 0 cycle)) ≡ again → ShowsEffect app p (case_at (expiring app r next_block a again) x) value first
       shows_with again cycle s q passing armed =
           let at : alarm_state s a ≡ Armed 0 cycle = q.armed (armed_value (alarm_passes again passing)) in
-          shows_by s q.has q.quiet (case_at (expiring app r next_block a again) x)
+          shows_by s q.has q.quiet q.first (case_at (expiring app r next_block a again) x)
           (λ h. due_effect app s r b h a known is again x true (due_with s 0 cycle 0 at q.counter) (ap (λ (y : AlarmState). is_armed (rearmed app a y)) at ∙ armed) among
           (made_passes app p value s q.has (case_at (expiring app r next_block a again) x).conditions passing))
 
-      shows_due : (again : Bool) → PassesAll app (case_at (expiring app r next_block a again) x).conditions value → ShowsEffect app p (case_at (expiring app r next_block a again) x) value
+      shows_due : (again : Bool) → PassesAll app (case_at (expiring app r next_block a again) x).conditions value → ShowsEffect app p (case_at (expiring app r next_block a again) x) value first
       shows_due false passing =
-          let q = some_armed app p value (owned_point app r b owns) allowed a 0 0 0 known (armed_once app a known 0 (omega arith)) (omega arith) in
+          let q = some_armed app p value (owned_point app r b owns) allowed first a 0 0 0 known (armed_once app a known 0 (omega arith)) (omega arith) in
           shows_with false 0 q.0 q.1 passing refl
       shows_due true passing =
           let most = some_ticks app a known in
-          let q = some_armed app p value (owned_point app r b owns) allowed a 0 (max_of app a) 0 known (armed_again app a known 0 (omega arith)) (omega arith) in
+          let q = some_armed app p value (owned_point app r b owns) allowed first a 0 (max_of app a) 0 known (armed_again app a known 0 (omega arith)) (omega arith) in
           let cyclic : max_of app a ≢ 0 = omega (arith, most) in
           shows_with true (max_of app a) q.0 q.1 passing (ap (λ (f : Bool). is_armed (if f then Idle else Armed ((0 + max_of app a) % (max_of app a + 1)) (max_of app a))) (ne_eqb (max_of app a) 0 cyclic))
 
-    shows_listed : (x : EffectCase) → Among x cases → PassesAll app x.conditions value → ShowsEffect app p x value
-    shows_listed x (inl e) passing = subst (λ (y : EffectCase). ShowsEffect app p y value) (sym e) (shows_idle (subst (λ (y : EffectCase). PassesAll app y.conditions value) e passing))
-    shows_listed x (inr (inl e)) passing = subst (λ (y : EffectCase). ShowsEffect app p y value) (sym e) (shows_armed (subst (λ (y : EffectCase). PassesAll app y.conditions value) e passing))
+    shows_listed : (x : EffectCase) → Among x cases → PassesAll app x.conditions value → ShowsEffect app p x value first
+    shows_listed x (inl e) passing = subst (λ (y : EffectCase). ShowsEffect app p y value first) (sym e) (shows_idle (subst (λ (y : EffectCase). PassesAll app y.conditions value) e passing))
+    shows_listed x (inr (inl e)) passing = subst (λ (y : EffectCase). ShowsEffect app p y value first) (sym e) (shows_armed (subst (λ (y : EffectCase). PassesAll app y.conditions value) e passing))
     shows_listed x (inr (inr m)) passing = ⊎_elim (of_action false) (of_action true) (among_cases x _ _ m)
       where
-        of_action : (again : Bool) → Among x (map (case_at (expiring app r next_block a again)) (actions app (the_alarm app a).action)) → ShowsEffect app p x value
+        of_action : (again : Bool) → Among x (map (case_at (expiring app r next_block a again)) (actions app (the_alarm app a).action)) → ShowsEffect app p x value first
         of_action again n =
             let g = map_among (case_at (expiring app r next_block a again)) x (actions app (the_alarm app a).action) n in
-            subst (λ (y : EffectCase). ShowsEffect app p y value) (sym g.2) (shows_due g.0 g.1 again (subst (λ (y : EffectCase). PassesAll app y.conditions value) g.2 passing))
+            subst (λ (y : EffectCase). ShowsEffect app p y value first) (sym g.2) (shows_due g.0 g.1 again (subst (λ (y : EffectCase). PassesAll app y.conditions value) g.2 passing))
 
   acts_stay : (again : Bool) (x : EffectCase) → Among x (map (case_at (expiring app r (the_block app b.0).next a again)) (actions app (the_alarm app a).action)) → IsKnownStay app x.leaving.stay
   acts_stay again x m = stay_there app (expiring app r (the_block app b.0).next a again) (actions app (the_alarm app a).action) x m
@@ -261,6 +267,6 @@ module _ (app : App) (r : Runner) (b : BlockNo) (owns : OwnsBlock app r b) (a : 
   pub expiries_are_cases : AreCasesOf app (runner_point r b) cases
   expiries_are_cases = record {
     covering = covers_by app r b owns cases (λ s choice h. some_effect app s r b h a known is choice);
-    exact = λ entry all x value listed within passing. shows_listed entry all value within x (contained_among cases x listed) passing;
+    exact = λ entry all x value t listed within passing. shows_listed entry all value t within x (contained_among cases x listed) passing;
     stays = λ x listed. each_stays x (contained_among cases x listed);
   }

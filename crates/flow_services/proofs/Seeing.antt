@@ -4,10 +4,11 @@ use Rattle.std.specs.declared.option.Option.{Option}
 use Rattle.std.proofs.lemmas.Bool.{cases_Bool, not-true}
 use Rattle.flow_model.proofs.ChangeLaws.{passes_one, one_passes}
 use Rattle.flow_model.specs.Cases.{condition}
-use Rattle.osek_values.specs.{Numbers.{alarm_no}, declared.numbers.BlockNo.{BlockNo}}
+use Rattle.osek_values.specs.{Numbers.{alarm_no}, declared.numbers.{TaskNo.{TaskNo}, BlockNo.{BlockNo}}}
 use Rattle.osek_standard.specs.declared.{app.App.{App}, state.State.{State}, task_state.{TaskState.{TaskState}, Activity.{Activity}, Place.{Place}}}
 use Rattle.osek_standard.specs.declared.task_state.Activity.TheVariants as activity
-use Rattle.osek_standard.specs.{TaskStates.{is_suspended, is_suspended_activity}, States.{task_state, alarm_state}, Effects.{place_at, standing_at, moved_to}}
+use Rattle.osek_standard.specs.{TaskStates.{is_live, is_live_activity, is_suspended, is_suspended_activity}, States.{task_of, task_state, alarm_state}, Line.{places, places_due}}
+use Rattle.osek_standard.specs.{Effects.{place_at, standing_at, moved_to}, Well.{Well}}
 use Rattle.abstract_state.specs.declared.value.{Val.{Val, TheVariants.{Waiting}}, PartValue.TheVariants.{OfTask, OfAlarm}}
 use Rattle.abstract_state.specs.declared.value.Component.TheVariants as component
 use Rattle.abstract_state.specs.{Components.{component_number, part_of, abstract_of, value_in, is_armed}, ValueOrder.{same_part}}
@@ -90,11 +91,19 @@ pub record Sees (app : App) (s m : State) : Type 0 where
   pub size : length m.tasks ≡ length app.tasks
   pub suspended : (t : ℕ) → is_suspended (task_state m t) ≡ is_suspended (task_state s t)
   pub waiting : (t : ℕ) → waiting_block (task_state m t).activity ≡ waiting_block (task_state s t).activity
+  -- what isn't Live has no place in the line
+  pub absent : (t : ℕ) → is_live (task_state m t) ≡ false → places m t ≡ 0
+
+none_due : (o : Option TaskNo) (t : ℕ) (a : Activity) → is_live_activity a ≡ false → places_due o t a ≡ 0
+none_due o t activity.Suspended e = refl
+none_due o t (activity.Live x) e = absurd (cc)
+none_due o t (activity.Waiting b) e = refl
 
 -- after the caller's move
-pub moved_sees : (app : App) (s : State) (r : Runner) (b n : BlockNo) → Stands app s r b → length (moved_to s n).tasks ≡ length app.tasks → Sees app s (moved_to s n)
-moved_sees app s r b n h long = record {
-  size = long;
+pub moved_sees : (app : App) (s : State) (r : Runner) (b n : BlockNo) → Stands app s r b → Well app (moved_to s n) → Sees app s (moved_to s n)
+moved_sees app s r b n h well = record {
+  size = well.tasks_len;
+  absent = λ t e. well.line t ∙ none_due (task_of (moved_to s n).processor) t (task_state (moved_to s n) t).activity e;
   suspended = λ t. moved_suspended app s h.well (place_at n 0) t;
   waiting = λ t. moved_keeps_of app s h.well (place_at n 0) (λ (x : TaskState). waiting_block x.activity) (λ x. still_waiting x.activity (place_at n 0)) t;
 }

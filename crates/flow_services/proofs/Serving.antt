@@ -1,20 +1,20 @@
 -- What the answer of a service says of the state in which it is called, and of the effect of its instruction.
-use Rattle.std.proofs.Common.{◌≡◌, ℕ, ◌<◌, true, false, List, [], ◌∷◌, length, map, refl, sym, ap, subst, ◌∙◌, inl, inr, get_or-set_same, get_or-set_other, ◌⊎◌, ⊎_elim}
-use Rattle.std.specs.Prelude.{if◌then◌else◌, slice_index_or}
-use Rattle.std.proofs.lemmas.Bool.{cases_eq}
+use Rattle.std.proofs.Common.{◌≡◌, ℕ, ◌<◌, true, List, [], ◌∷◌, length, map, None, refl, sym, ap, subst, ◌∙◌, inl, inr, get_or-set_same, get_or-set_other, ◌⊎◌, ⊎_elim}
+use Rattle.std.specs.Prelude.{if◌then◌else◌, is_some, slice_index_or}
+use Rattle.std.proofs.lemmas.{Bool.{cases_eq}, List.{append-nil}}
 use Rattle.std.specs.declared.option.Option.{Option}
-use Rattle.osek_values.specs.declared.status.Status.{Status}
+use Rattle.osek_values.specs.declared.{status.Status.{Status}, numbers.TaskNo.{TaskNo}}
 use Rattle.osek_values.specs.declared.status.Ask.TheVariants as ask
 use Rattle.osek_values.specs.declared.notes.Value.{Value}
 use Rattle.osek_standard.specs.declared.{app.App.{App}, state.{State.{State}, Processor.{Processor}, Source.{Source}}}
 use Rattle.osek_standard.specs.declared.state.Source.TheVariants as source
 use Rattle.osek_standard.specs.declared.state.Processor.TheVariants as processor
 use Rattle.osek_standard.specs.{declared.task_state.{TaskState.{TaskState}, Place.{Place}}, TaskStates.{suspended, is_live}}
-use Rattle.osek_standard.specs.{States.{task_state, with_task, place_by, place_in, place_of_source}, Points.{point_at, point_of}, Services.{Answer, answer}}
+use Rattle.osek_standard.specs.{States.{task_state, with_task, place_by, place_in, place_of_source}, Line.{with_line}, Points.{point_at, point_of}, Services.{Answer, answer}}
 use Rattle.osek_standard.specs.Well.{Well, IsProcessor}
 use Rattle.osek_standard.proofs.Members.{Among, map_among}
 use Rattle.abstract_state.specs.Components.{component_count, abstract_of}
-use Rattle.flow_model.specs.{declared.{test.Condition.{Condition}, case.EffectCase.{EffectCase}}, Effects.{IsKnownStay}, Tests.{PassesAll, value_after}}
+use Rattle.flow_model.specs.{declared.{test.Condition.{Condition}, case.EffectCase.{EffectCase}}, Effects.{IsKnownStay, IsLineAfter}, Tests.{PassesAll, value_after}}
 use Rattle.flow_services.specs.{declared.occasion.Occasion.{Occasion}, Occasions.{ServiceCase, service_case, case_at}}
 
 -- who has the processor keeps it, and stands where it stood
@@ -38,6 +38,10 @@ stays_with m t x here kept = record {
   ];
 }
 
+-- and where the line is another
+pub stays_in_line : (m n : State) (line : List TaskNo) → Stays m n → Stays m (with_line n line)
+stays_in_line m n line h = record { processor = h.processor; sources = h.sources; live = h.live }
+
 module _ (app : App) (m n : State) (h : Stays m n) where
   place_stays : (p : Processor) → IsProcessor app m p → place_by n p ≡ place_by m p
   place_stays processor.Halted has = refl
@@ -54,12 +58,17 @@ module _ (app : App) (m n : State) (h : Stays m n) where
 pub record Serves (app : App) (m : State) (x : ServiceCase) (a : Answer) : Type 0 where
   pub parts : (c : ℕ) → c < component_count app → abstract_of app a.state c ≡ value_after x.changes c (abstract_of app m c)
   pub status : a.status ≡ x.status
-  pub ask : a.ask ≡ (if x.may_dispatch then ask.Maybe else ask.No)
+  pub ask : a.ask ≡ (if is_some x.begins then ask.Maybe else ask.No)
   pub stays : Stays m a.state
+  pub line : IsLineAfter x.begins m a.state
+
+-- where no task becomes Live the line stays
+pub line_stays : (m n : State) → n.line ≡ m.line → IsLineAfter None m n
+line_stays m n e = record { is = e ∙ sym (append-nil m.line); new = tt }
 
 -- an answer that changes nothing and asks nothing
-pub keeps_serves : (app : App) (m : State) (conditions : List Condition) (e : Option Status) (v : Option Value) → Serves app m (service_case conditions [] e false) (answer m e v ask.No)
-keeps_serves app m conditions e v = record { parts = λ c lt. refl; status = refl; ask = refl; stays = stays_same m }
+pub keeps_serves : (app : App) (m : State) (conditions : List Condition) (e : Option Status) (v : Option Value) → Serves app m (service_case conditions [] e None) (answer m e v ask.No)
+keeps_serves app m conditions e v = record { parts = λ c lt. refl; status = refl; ask = refl; stays = stays_same m; line = line_stays m m refl }
 
 -- The cases of a service that is called in the state m, by what its components were in the state s: each whose conditions
 -- these pass is the answer's, and they pass those of one.

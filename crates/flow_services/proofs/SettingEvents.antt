@@ -1,28 +1,28 @@
 -- SetEvent is served by its cases.
 use Rattle.std.specs.List.{range_with_len}
-use Rattle.std.proofs.Common.{map, filter, ◌≡◌, ℕ, ◌<◌, ◌-◌, Bool, true, false, not, List, [], ◌∷◌, length, refl, sym, ap, subst, ◌∙◌, inl, inr, arith, Some, IsTrue}
+use Rattle.std.proofs.Common.{map, filter, ◌≡◌, ℕ, ◌<◌, ◌-◌, Bool, true, false, not, List, [], ◌∷◌, ◌++◌, length, refl, sym, ap, subst, ◌∙◌, inl, inr, arith, Some, IsTrue}
 use Rattle.std.proofs.lemmas.Bool.{cases_Bool}
-use Rattle.osek_values.specs.{Numbers.{mask, block_no}, declared.numbers.BlockNo.{BlockNo}}
+use Rattle.osek_values.specs.{Numbers.{mask, task_no, block_no}, declared.numbers.BlockNo.{BlockNo}}
 use Rattle.osek_values.specs.declared.status.Ask.TheVariants as ask
 use Rattle.osek_values.specs.declared.status.Status.TheVariants as status
 use Rattle.osek_values.specs.Bits.{has_bit}
 use Rattle.osek_standard.specs.declared.{app.App.{App}, state.State.{State}, task_state.{TaskState.{TaskState}, Activity.{Activity}}}
 use Rattle.osek_standard.specs.declared.task_state.Activity.TheVariants as activity
-use Rattle.osek_standard.specs.{Apps.{the_task, the_block, is_extended}, TaskStates.{is_suspended, is_live_activity}, States.{task_state}}
+use Rattle.osek_standard.specs.{Apps.{the_task, is_extended}, TaskStates.{is_suspended, is_live_activity}, States.{task_state, with_task}, Line.{places}}
 use Rattle.osek_standard.specs.Services.{set_event, refused, accepted, waits_in, waits_for, woken, with_events, events_set, released_from}
 use Rattle.osek_standard.specs.Well.{Well, IsOwn, IsWaitingAt, IsActivityOf}
 use Rattle.osek_standard.proofs.Members.{Among, among_map, map_among, among_passing, passing_among}
-use Rattle.abstract_state.specs.{declared.value.{Val.TheVariants.{Live, Waiting}, PartValue.TheVariants.{OfTask}}, Components.{component_count, abstract_of, value_in, live_val}}
+use Rattle.abstract_state.specs.{declared.value.{Val.TheVariants.{Live, Waiting}, PartValue.TheVariants.{OfTask}}, Components.{component_at, component_count, abstract_of, value_in}}
 use Rattle.abstract_state.proofs.ComponentLaws.{task_counted}
 use Rattle.flow_model.specs.declared.test.Condition.{Condition}
 use Rattle.flow_model.specs.declared.test.Test.TheVariants as test
 use Rattle.flow_model.specs.{Cases.{condition}, Tests.{passes, PassesAll, value_after}, Changes.{task_change, event_changes}}
-use Rattle.flow_model.proofs.{ChangeLaws.{passes_each, each_passes, passes_one, one_passes, passes_left}, BitsOf.{bit_within, bit_set}}
+use Rattle.flow_model.proofs.{ChangeLaws.{passes_each, each_passes, passes_one, one_passes, passes_left}, BitsOf.{bit_within, bit_set}, Activations.{line_part}}
 use Rattle.flow_model.proofs.Writes.{task_written, events_written}
 use Rattle.flow_services.specs.Occasions.{ServiceCase, refused_case}
 use Rattle.flow_services.specs.Services.{waits_at, waits_not_at, awaits, own_block, awaiting_blocks, own_among, not_awaiting, waking, settings, event_settings}
 use Rattle.flow_services.proofs.Seeing.{Sees, waiting_block, waits_there, tests_not_suspended, waits_passes, passes_waits, off_there, on_there, off_passes}
-use Rattle.flow_services.proofs.Serving.{Serves, IsServed, keeps_serves, always_served, stays_with}
+use Rattle.flow_services.proofs.Serving.{Serves, IsServed, keeps_serves, always_served, stays_with, stays_in_line, line_stays}
 
 -- a task waits for an event where its block awaits it
 waits_by : (app : App) (a : Activity) (e : ℕ) → waits_in app a e ≡ true → (b : BlockNo) × (waiting_block a ≡ Some b) × (awaits app e b ≡ true)
@@ -34,6 +34,11 @@ not_live_there : (a : Activity) (b : BlockNo) → waiting_block a ≡ Some b →
 not_live_there activity.Suspended b e l = cc
 not_live_there (activity.Live x) b e l = cc
 not_live_there (activity.Waiting c) b e l = cc
+
+waiting_not_live : (a : Activity) (b : BlockNo) → waiting_block a ≡ Some b → is_live_activity a ≡ false
+waiting_not_live activity.Suspended b e = refl
+waiting_not_live (activity.Live x) b e = absurd (cc)
+waiting_not_live (activity.Waiting c) b e = refl
 
 not_suspended_there : (x : TaskState) (b : BlockNo) → waiting_block x.activity ≡ Some b → is_suspended x ≡ false
 not_suspended_there x b e = by x.activity e
@@ -89,21 +94,24 @@ module _ (app : App) (m : State) (t e : ℕ) (known : t < length app.tasks) (her
     status = refl;
     ask = refl;
     stays = stays_with m t (record (task_state m t) { events = mask (events_set app m t e) }) here (λ l. refl);
+    line = line_stays m (with_events m t (events_set app m t e)) refl;
   }
 
   abbrev released_state : TaskState
   released_state = record { activity = released_from app (task_state m t).activity; events = mask (events_set app m t e) }
 
-  woken_serves : (b : BlockNo) → waiting_block (task_state m t).activity ≡ Some b → Serves app m (waking app t bits b) (accepted (woken app m t e) ask.Maybe)
-  woken_serves b at =
+  woken_serves : (b : BlockNo) → waiting_block (task_state m t).activity ≡ Some b → places m t ≡ 0 → Serves app m (waking app t bits b) (accepted (woken app m t e) ask.Maybe)
+  woken_serves b at absent =
       let there = waits_there (task_state m t).activity b at in
       record {
         parts = λ c lt.
-            (task_written app t bits true known within m released_state here (λ k below own. bit_set (task_state m t).events.0 bits k) c lt
+            (line_part (with_task m t released_state) (m.line ++ task_no t ∷ []) (component_at app c)
+            ∙ task_written app t bits true known within m released_state here (λ k below own. bit_set (task_state m t).events.0 bits k) c lt
             ∙ ap (λ (a : Activity). value_after (task_change t (value_in (released_from app a)) ∷ event_changes app t bits true) c (abstract_of app m c)) there);
         status = refl;
         ask = refl;
-        stays = stays_with m t released_state here (λ l. absurd (not_live_there (task_state m t).activity b at l));
+        stays = stays_in_line m (with_task m t released_state) (m.line ++ task_no t ∷ []) (stays_with m t released_state here (λ l. absurd (not_live_there (task_state m t).activity b at l)));
+        line = record { is = refl; new = absent };
       }
 
 module _ (app : App) (s m : State) (well : Well app s) (t e : ℕ) (known : t < length app.tasks) (sees : Sees app s m) where
@@ -165,7 +173,7 @@ module _ (app : App) (s m : State) (well : Well app s) (t e : ℕ) (known : t < 
         let p = one_passes app (abstract_of app s) (waits_at t b) passing counted in
         let at : waiting_block (task_state m t).activity ≡ Some b = sees.waiting t ∙ passes_waits app s t known b p in
         let waiting : waits_for app m t e ≡ true = waits_of b at ∙ among_awaits app own t b among in
-        subst (Serves app m (waking app t own b)) (sym (released app m t e known here extended (not_suspended_there (task_state m t) b at) waiting)) (woken_serves app m t e known here b at)
+        subst (Serves app m (waking app t own b)) (sym (released app m t e known here extended (not_suspended_there (task_state m t) b at) waiting)) (woken_serves app m t e known here b at (sees.absent t (waiting_not_live (task_state m t).activity b at)))
 
     each_serves : (x : ServiceCase) → Among x (settings app t own blocks) → P x → S x
     each_serves x (inl same) passing = subst S (sym same) (gone_serves (subst P same passing))

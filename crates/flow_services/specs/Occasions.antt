@@ -1,6 +1,6 @@
 -- A case of a service alone, and the case of the effect that it is where the service is called.
-use Rattle.std.specs.{Prelude.{Bool, true, false, List, [], ◌∷◌, ◌++◌, Some, None, if◌then◌else◌}, declared.option.Option.{Option}}
-use Rattle.osek_values.specs.declared.status.Status.{Status}
+use Rattle.std.specs.{Prelude.{true, List, [], ◌∷◌, ◌++◌, Some, None, is_some, if◌then◌else◌}, declared.option.Option.{Option}}
+use Rattle.osek_values.specs.declared.{status.Status.{Status}, numbers.TaskNo.{TaskNo}}
 use Rattle.osek_values.specs.declared.status.Status.TheVariants as status
 use Rattle.abstract_state.specs.declared.value.PartValue.TheVariants.{OfAlarm}
 use Rattle.flow_model.specs.declared.change.Change.{Change}
@@ -9,28 +9,28 @@ use Rattle.flow_model.specs.declared.test.Condition.{Condition}
 use Rattle.flow_model.specs.declared.test.Test.TheVariants as test
 use Rattle.flow_model.specs.declared.case.EffectCase.{EffectCase}
 use Rattle.flow_model.specs.declared.case.Asked.TheVariants as asked
-use Rattle.flow_model.specs.{Runners.{runner_point, moving, change}, Cases.{condition, effect_case}}
+use Rattle.flow_model.specs.{Runners.{runner_point, moving, change}, Cases.{condition, effect_case, with_last}}
 use Rattle.flow_services.specs.declared.occasion.{Expired.{Expired}, Occasion.{Occasion}}
 
--- what a service takes, changes and notes, and whether it may lead to a dispatch
+-- what a service takes, changes and notes, and which task becomes Live by it, if one does: that may lead to a dispatch
 pub record ServiceCase : Type 0 where
   pub conditions : List Condition
   pub changes : List Change
   pub status : Option Status
-  pub may_dispatch : Bool
+  pub begins : Option TaskNo
 
-abbrev pub service_case : List Condition → List Change → Option Status → Bool → ServiceCase
-service_case conditions changes status may_dispatch = record { conditions = conditions; changes = changes; status = status; may_dispatch = may_dispatch }
+abbrev pub service_case : List Condition → List Change → Option Status → Option TaskNo → ServiceCase
+service_case conditions changes status begins = record { conditions = conditions; changes = changes; status = status; begins = begins }
 
 -- a refused call changes nothing
 abbrev pub refused_case : List Condition → Status → ServiceCase
-refused_case conditions e = service_case conditions [] (Some e) false
+refused_case conditions e = service_case conditions [] (Some e) None
 
-abbrev pub accepted_case : List Condition → List Change → Bool → ServiceCase
-accepted_case conditions changes may_dispatch = service_case conditions changes (Some status.Ok) may_dispatch
+abbrev pub accepted_case : List Condition → List Change → Option TaskNo → ServiceCase
+accepted_case conditions changes begins = service_case conditions changes (Some status.Ok) begins
 
 abbrev pub unnoted_case : List Condition → ServiceCase
-unnoted_case conditions = service_case conditions [] None false
+unnoted_case conditions = service_case conditions [] None None
 
 -- an alarm that expired was armed, and is armed anew or idle
 abbrev pub expired_conditions : Option Expired → List Condition
@@ -45,10 +45,11 @@ expired_changes (Some x) = change x.alarm.0 (update.Set (OfAlarm x.again)) ∷ [
 abbrev pub begun : Occasion → List Change
 begun o = moving o.runner o.next ++ expired_changes o.expired
 
--- the case of the effect with these changes
-abbrev pub case_by : Occasion → List Condition → List Change → Option Status → Bool → EffectCase
-case_by o conditions changes status may_dispatch = effect_case (conditions ++ expired_conditions o.expired) changes (if may_dispatch then o.asked else asked.No) status (runner_point o.runner o.next)
+-- the case of the effect with these changes: a task that becomes Live by it is put last
+abbrev pub case_by : Occasion → List Condition → List Change → Option Status → Option TaskNo → EffectCase
+case_by o conditions changes status begins =
+    with_last begins (effect_case (conditions ++ expired_conditions o.expired) changes (if is_some begins then o.asked else asked.No) status (runner_point o.runner o.next))
 
 -- The case of the effect: the changes of the service come after what comes before it.
 abbrev pub case_at : Occasion → ServiceCase → EffectCase
-case_at o x = case_by o x.conditions (begun o ++ x.changes) x.status x.may_dispatch
+case_at o x = case_by o x.conditions (begun o ++ x.changes) x.status x.begins

@@ -1,6 +1,6 @@
 -- The cases of each service, in the order of ISO 17356-3.
 use Rattle.std.specs.{Prelude.{ℕ, ◌+◌, Bool, true, false, not, ◌==◌, ◌||◌, nat_lt, bit_and, List, [], ◌∷◌, ◌++◌, map, filter, Some, None, if◌then◌else◌}, List.{range_with_len}}
-use Rattle.osek_values.specs.{declared.numbers.BlockNo.{BlockNo}, Numbers.{block_no, alarm_no}}
+use Rattle.osek_values.specs.{declared.numbers.BlockNo.{BlockNo}, Numbers.{task_no, block_no, alarm_no}}
 use Rattle.osek_values.specs.declared.status.Status.TheVariants as status
 use Rattle.oil_system.specs.declared.objects.Action.{Action}
 use Rattle.oil_system.specs.declared.objects.Action.TheVariants as action
@@ -65,7 +65,7 @@ module _ (app : App) where
   abbrev pub activations : ℕ → List ServiceCase
   activations x =
       refused_case (condition x test.NotSuspended ∷ []) status.Limit
-      ∷ accepted_case (condition x test.Suspended ∷ []) (activating app x) true ∷ []
+      ∷ accepted_case (condition x test.Suspended ∷ []) (activating app x) (Some (task_no x)) ∷ []
 
   -- at the block a task waits for one of these events
   abbrev pub awaits : ℕ → BlockNo → Bool
@@ -84,11 +84,11 @@ module _ (app : App) where
 
   -- a task that waits nowhere for one of the events: they are set
   abbrev pub not_awaiting : ℕ → ℕ → List BlockNo → ServiceCase
-  not_awaiting x events blocks = accepted_case (condition x test.NotSuspended ∷ map (waits_not_at x) blocks) (event_changes app x events true) false
+  not_awaiting x events blocks = accepted_case (condition x test.NotSuspended ∷ map (waits_not_at x) blocks) (event_changes app x events true) None
 
   -- a task that waits for one is released too, to the block after
   abbrev pub waking : ℕ → ℕ → BlockNo → ServiceCase
-  waking x events b = accepted_case (waits_at x b ∷ []) (task_change x (Live (live_val (the_block app b.0).next [])) ∷ event_changes app x events true) true
+  waking x events b = accepted_case (waits_at x b ∷ []) (task_change x (Live (live_val (the_block app b.0).next [])) ∷ event_changes app x events true) (Some (task_no x))
 
   abbrev pub settings : ℕ → ℕ → List BlockNo → List ServiceCase
   settings x events blocks =
@@ -105,7 +105,7 @@ module _ (app : App) where
   -- ClearEvent: CALLEVEL in a routine, ACCESS of a basic task
   abbrev pub event_clearings : Runner → ℕ → List ServiceCase
   event_clearings (runner.Task t) m =
-      if is_extended app t.0 then always (accepted_case [] (event_changes app t.0 (own_among t.0 m) false) false)
+      if is_extended app t.0 then always (accepted_case [] (event_changes app t.0 (own_among t.0 m) false) None)
       else always (refused_case [] status.Access)
   event_clearings (runner.Routine k over) m = always (refused_case [] status.CallLevel)
 
@@ -114,7 +114,7 @@ module _ (app : App) where
   event_readings x =
       if is_extended app x then
       refused_case (condition x test.Suspended ∷ []) status.State
-      ∷ accepted_case (condition x test.NotSuspended ∷ []) [] false ∷ []
+      ∷ accepted_case (condition x test.NotSuspended ∷ []) [] None ∷ []
       else always (refused_case [] status.Access)
 
   -- an alarm is armed, or idle
@@ -126,7 +126,7 @@ module _ (app : App) where
   armings a refused =
       refused_case (alarm_is a true ∷ []) status.State
       ∷ (if refused then refused_case (alarm_is a false ∷ []) status.Value
-      else accepted_case (alarm_is a false ∷ []) (alarm_change app a true ∷ []) false) ∷ []
+      else accepted_case (alarm_is a false ∷ []) (alarm_change app a true ∷ []) None) ∷ []
 
   abbrev pub is_rel_refused : ℕ → ℕ → ℕ → Bool
   is_rel_refused a increment cycle = (increment == 0) || nat_lt (max_of app a) increment || not (is_cycle app a cycle)
@@ -138,13 +138,13 @@ module _ (app : App) where
   abbrev pub cancellings : ℕ → List ServiceCase
   cancellings a =
       refused_case (alarm_is a false ∷ []) status.NoFunc
-      ∷ accepted_case (alarm_is a true ∷ []) (alarm_change app a false ∷ []) false ∷ []
+      ∷ accepted_case (alarm_is a true ∷ []) (alarm_change app a false ∷ []) None ∷ []
 
   -- GetAlarm: NOFUNC of an idle alarm
   abbrev pub alarm_readings : ℕ → List ServiceCase
   alarm_readings a =
       refused_case (alarm_is a false ∷ []) status.NoFunc
-      ∷ accepted_case (alarm_is a true ∷ []) [] false ∷ []
+      ∷ accepted_case (alarm_is a true ∷ []) [] None ∷ []
 
   -- what an alarm does when it expires
   abbrev pub actions : Action → List ServiceCase
@@ -155,14 +155,14 @@ module _ (app : App) where
   abbrev pub call_cases : Runner → Call → List ServiceCase
   call_cases r (call.Task call.ActivateTask x) = activations x.0
   call_cases r (call.Task call.GetEvent x) = event_readings x.0
-  call_cases r (call.Task call.GetTaskState x) = always (accepted_case [] [] false)
+  call_cases r (call.Task call.GetTaskState x) = always (accepted_case [] [] None)
   call_cases r (call.SetEvent x m) = event_settings x.0 m.0
   call_cases r (call.Mask call.ClearEvent m) = event_clearings r m.0
   call_cases r (call.Arm call.SetRelAlarm a increment cycle) = armings a.0 (is_rel_refused a.0 increment cycle)
   call_cases r (call.Arm call.SetAbsAlarm a start cycle) = armings a.0 (is_abs_refused a.0 start cycle)
   call_cases r (call.Alarm call.CancelAlarm a) = cancellings a.0
   call_cases r (call.Alarm call.GetAlarm a) = alarm_readings a.0
-  call_cases r (call.Plain call.GetTaskId) = always (accepted_case [] [] false)
+  call_cases r (call.Plain call.GetTaskId) = always (accepted_case [] [] None)
   call_cases r (call.Plain call.GetActiveApplicationMode) = always (unnoted_case [])
   call_cases r (call.Lock l) = always (unnoted_case [])
   call_cases r _ = []

@@ -1,5 +1,5 @@
 //! The cases of the services on alarms, and of an alarm that a tick routine looks at.
-ghost use Rattle.std.specs.Prelude.{◌≡◌, ◌<◌, [], ◌∷◌, ◌++◌, false, length, map, IfOk, OnOk};
+ghost use Rattle.std.specs.Prelude.{◌≡◌, ◌<◌, [], ◌∷◌, ◌++◌, None, length, map, IfOk, OnOk};
 ghost use Rattle.osek_standard.specs.{Apps.{tables, is_cycle as is_cycle_of}, Validity.{IsAction}};
 ghost use Rattle.abstract_state.specs.Components.{component_number as component_number_of};
 ghost use Rattle.abstract_state.specs.declared.value.Component.TheVariants as component;
@@ -60,14 +60,14 @@ fn becoming(
     conditions: Seq<Condition>,
     armed: bool,
 ) -> Result<EffectCase, Memory>
-    ensures { IfOk result (λ case. case ≡ case_at occasion (accepted_case conditions (change component.0 (update.Set (OfAlarm armed)) ∷ []) false)) }
+    ensures { IfOk result (λ case. case ≡ case_at occasion (accepted_case conditions (change component.0 (update.Set (OfAlarm armed)) ∷ []) None)) }
 {
     let mut changes = occasion.begun(alloc)?;
     changes.push(Change {
         component,
         update: Update::Set(PartValue::OfAlarm(armed)),
     })?;
-    occasion.accepted(conditions, changes, false)
+    occasion.accepted(conditions, changes, None)
 }
 
 /// The cases of a service that arms an alarm, whose numbers may be refused.

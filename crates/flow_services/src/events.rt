@@ -78,7 +78,7 @@ fn not_awaiting(
     }
     let mut changes = occasion.begun(alloc)?;
     add_event_changes(app, task, events, true, &mut changes)?;
-    occasion.accepted(conditions, changes, false)
+    occasion.accepted(conditions, changes, None)
 }
 
 /// The case in which the task waits at this block for one of the events: it is released from waiting.
@@ -100,7 +100,7 @@ fn waking(
     let mut changes = occasion.begun(alloc)?;
     add_live(task, app.block(block).next, &mut changes)?;
     add_event_changes(app, task, events, true, &mut changes)?;
-    occasion.accepted(conditions, changes, true)
+    occasion.accepted(conditions, changes, Some(task))
 }
 
 fn add_wakings(
@@ -167,7 +167,7 @@ pub fn event_clearings(
     }
     let mut changes = occasion.begun(alloc)?;
     add_event_changes(app, task, mask.and(own), false, &mut changes)?;
-    one(alloc, occasion.accepted(none, changes, false)?)
+    one(alloc, occasion.accepted(none, changes, None)?)
 }
 
 /// The cases of GetEvent.

@@ -71,7 +71,7 @@ fn add_expired_change(expired: Option<Expired>, changes: &mut Seq<Change>) -> Re
 }
 
 impl Occasion {
-    ghost use Rattle.std.specs.Prelude.{◌≡◌, [], false, Some, IfOk};
+    ghost use Rattle.std.specs.Prelude.{◌≡◌, [], Some, None, IfOk};
     ghost use Rattle.osek_values.specs.declared.status.Status.TheVariants as statuses;
     ghost use Rattle.flow_services.specs.Occasions.{refused_case, accepted_case, unnoted_case, begun, case_by, case_at};
 
@@ -84,22 +84,26 @@ impl Occasion {
         Ok(changes)
     }
 
-    /// A case of the service here, with all changes.
+    /// A case of the service here, with all changes, by which this task becomes Live, if one does.
     pub fn case(
         self,
         mut conditions: Seq<Condition>,
         changes: Seq<Change>,
         status: Option<Status>,
-        may_dispatch: bool,
+        begins: Option<TaskNo>,
     ) -> Result<EffectCase, Memory>
-        ensures { IfOk result (λ case. case ≡ case_by self conditions changes status may_dispatch) }
+        ensures { IfOk result (λ case. case ≡ case_by self conditions changes status begins) }
     {
         add_expired_condition(self.expired, &mut conditions)?;
-        let asked = if may_dispatch { self.asked } else { Asked::No };
+        let asked = if begins.is_some() {
+            self.asked
+        } else {
+            Asked::No
+        };
         Ok(EffectCase {
             conditions,
             changes,
-            leaving: Leaving::at(self.runner.at(self.next), asked, status),
+            leaving: Leaving::at(self.runner.at(self.next), asked, status).with_last(begins),
         })
     }
 
@@ -113,27 +117,27 @@ impl Occasion {
         ensures { IfOk result (λ case. case ≡ case_at self (refused_case conditions status)) }
     {
         let changes = self.begun(alloc)?;
-        self.case(conditions, changes, Some(status), false)
+        self.case(conditions, changes, Some(status), None)
     }
 
-    /// The case of a call that is accepted, with all changes.
+    /// The case of a call that is accepted, with all changes, by which this task becomes Live, if one does.
     pub fn accepted(
         self,
         conditions: Seq<Condition>,
         changes: Seq<Change>,
-        may_dispatch: bool,
+        begins: Option<TaskNo>,
     ) -> Result<EffectCase, Memory>
-        ensures { IfOk result (λ case. case ≡ case_by self conditions changes (Some statuses.Ok) may_dispatch) }
+        ensures { IfOk result (λ case. case ≡ case_by self conditions changes (Some statuses.Ok) begins) }
     {
-        self.case(conditions, changes, Some(Status::Ok), may_dispatch)
+        self.case(conditions, changes, Some(Status::Ok), begins)
     }
 
     /// The case of a call that is accepted and changes nothing.
     pub fn answered(self, alloc: Global, conditions: Seq<Condition>) -> Result<EffectCase, Memory>
-        ensures { IfOk result (λ case. case ≡ case_at self (accepted_case conditions [] false)) }
+        ensures { IfOk result (λ case. case ≡ case_at self (accepted_case conditions [] None)) }
     {
         let changes = self.begun(alloc)?;
-        self.accepted(conditions, changes, false)
+        self.accepted(conditions, changes, None)
     }
 
     /// The same, as the action of an alarm that expired.
@@ -151,7 +155,7 @@ impl Occasion {
         ensures { IfOk result (λ case. case ≡ case_at self (unnoted_case conditions)) }
     {
         let changes = self.begun(alloc)?;
-        self.case(conditions, changes, None, false)
+        self.case(conditions, changes, None, None)
     }
 }
 

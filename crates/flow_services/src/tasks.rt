@@ -80,6 +80,6 @@ pub fn add_activations(
     let free = only(alloc, component, Test::Suspended)?;
     let mut changes = occasion.begun(alloc)?;
     add_activating(app, task, &mut changes)?;
-    cases.push(occasion.accepted(free, changes, true)?)?;
+    cases.push(occasion.accepted(free, changes, Some(task))?)?;
     Ok(())
 }

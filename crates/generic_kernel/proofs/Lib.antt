@@ -1,3 +1,4 @@
 pub mod EffectLaws
 pub mod TaskLaws
 pub mod SilentLaws
+pub mod NestSteps

@@ -1,26 +1,29 @@
 -- An instruction changes no task but the one that runs and the one that it names.
 use Rattle.std.proofs.Common.{◌≡◌, ◌≢◌, ℕ, ◌+◌, Bool, false, refl, ◌∙◌, Some, None, IfSome, not, ◌||◌, ◌&&◌, nat_lt, nat_eq, arith, get_or-set_other}
-use Rattle.std.specs.Prelude.{if◌then◌else◌}
 use Rattle.std.proofs.lemmas.Bool.Decides.{nat_tests}
-use Rattle.std.specs.declared.option.Option.{Option}
-use Rattle.osek_values.specs.declared.numbers.{BlockNo.{BlockNo}, ResNo.{ResNo}, TaskNo.{TaskNo}}
+use Rattle.std.specs.{Prelude.{if◌then◌else◌}, declared.option.Option.{Option}}
+use Rattle.osek_values.specs.declared.numbers.{BlockNo.{BlockNo}, ResNo.{ResNo}, TaskNo.{TaskNo}, SourceNo.{SourceNo}}
 use Rattle.oil_system.specs.declared.objects.Action.{Action}
 use Rattle.oil_system.specs.declared.objects.Action.TheVariants as action
-use Rattle.osek_standard.specs.declared.{app.App.{App}, block.{Block.{Block}, Kind.{Kind}}}
-use Rattle.osek_standard.specs.declared.block.Kind.TheVariants as kind
-use Rattle.osek_standard.specs.declared.call.Call.{Call}
-use Rattle.generic_kernel.specs.CallNames as call
+use Rattle.osek_standard.specs.declared.{app.App.{App}, block.{Block.{Block}, Kind.{Kind}}, call.Call.{Call}}
 use Rattle.osek_standard.specs.declared.state.{State.{State}, Processor.{Processor}, Caller.{Caller, TheVariants.{Nobody, Task, Routine}}}
-use Rattle.osek_standard.specs.declared.state.Source.TheVariants as source
-use Rattle.osek_standard.specs.declared.state.Processor.TheVariants as processor
-use Rattle.osek_standard.specs.{declared.task_state.{Place.{Place}, TaskState.{TaskState}}, Apps.{the_alarm, the_block, is_extended, is_counter, is_cycle, max_of}}
-use Rattle.osek_standard.specs.TaskStates.{held, is_suspended, suspended}
+use Rattle.osek_standard.specs.declared.task_state.{Place.{Place}, TaskState.{TaskState}}
+use Rattle.osek_standard.specs.{Apps.{the_alarm, the_block, is_extended, is_counter, is_cycle, max_of}, TaskStates.{held, is_suspended, suspended}}
 use Rattle.osek_standard.specs.States.{alarm_state, caller, here, is_taken, is_that_task, task_of, task_state, with_alarm, with_source, with_task}
 use Rattle.osek_standard.specs.Priority.{base_priority, ceiling}
-use Rattle.osek_standard.specs.Services.{Answer, acted, activate_task, cancel_alarm, chain_task, clear_event, count_up, counted_by, due, ended, expire, get_alarm, get_event, get_resource, get_resource_by, holds_some, is_due_at, is_full, is_idle, is_on_top, left, rearmed, release_resource, release_resource_by, schedule, set_abs_alarm, set_event, set_rel_alarm, share, terminate_task, time_left, value_of, wait_event, waits_for}
+use Rattle.osek_standard.specs.Services.{Answer, acted, activate_task, cancel_alarm, chain_task, clear_event, count_up, counted_by, due, ended, expire, get_alarm, get_event}
+use Rattle.osek_standard.specs.Services.{get_resource, get_resource_by, holds_some, is_due_at, is_full, is_idle, is_on_top, left, rearmed, release_resource, release_resource_by}
+use Rattle.osek_standard.specs.Services.{schedule, set_abs_alarm, set_event, set_rel_alarm, share, terminate_task, time_left, value_of, wait_event, waits_for, get_resource_isr}
+use Rattle.osek_standard.specs.Services.{release_resource_isr, stack_of_source}
 use Rattle.osek_standard.specs.Effects.{called, effect, effect_at, effect_by, end_task, given_back, goes_on_unless_left, halted_by, moved_by, moved_to, place_at, returned_by, row}
+use Rattle.osek_standard.specs.Effects.{returned_to}
+use Rattle.osek_standard.specs.Levels.{interrupt_ceiling, next_routine, own_level}
+use Rattle.osek_standard.specs.declared.block.Kind.TheVariants as kind
+use Rattle.osek_standard.specs.declared.state.Source.TheVariants as source
+use Rattle.osek_standard.specs.declared.state.Processor.TheVariants as processor
 use Rattle.osek_standard.proofs.{BoolLaws.{either_way}, Callers.{IfTask}}
 use Rattle.generic_kernel.specs.Changes.{ChangesOwn, acted_on, named_by, named_here, named_in_call}
+use Rattle.generic_kernel.specs.CallNames as call
 
 abbrev HasTaskOf : ℕ → State → Answer → Type 0
 HasTaskOf u s a = task_state a.state u ≡ task_state s u
@@ -51,22 +54,24 @@ module _ (app : App) (u : ℕ) (s : State) where
   chain_leaves_task (Task c) t n m = either_way (HasTaskOf u s) (holds_some s c.0) _ _ refl (either_way (HasTaskOf u s) (not (nat_eq t c.0) && is_full app s t) _ _ refl
       (set_other (left (ended app s c.0)) u t _ m ∙ set_other s u c.0 _ n))
 
-  schedule_leaves_task : (c : Caller) → HasTaskOf u s (schedule s c)
+  schedule_leaves_task : (c : Caller) → NotCaller u c → HasTaskOf u s (schedule s c)
   unfolding schedule
-  schedule_leaves_task Nobody = refl
-  schedule_leaves_task (Routine k) = refl
-  schedule_leaves_task (Task c) = either_way (HasTaskOf u s) (holds_some s c.0) _ _ refl refl
+  schedule_leaves_task Nobody n = refl
+  schedule_leaves_task (Routine k) n = refl
+  schedule_leaves_task (Task c) n = either_way (HasTaskOf u s) (holds_some s c.0) _ _ refl (set_other s u c.0 _ n)
 
   get_resource_leaves_task : (c : Caller) (r : ResNo) → NotCaller u c → HasTaskOf u s (get_resource_by app s c r)
-  unfolding get_resource
+  unfolding get_resource get_resource_isr
   get_resource_leaves_task Nobody r n = refl
-  get_resource_leaves_task (Routine k) r n = refl
+  get_resource_leaves_task (Routine k) r n = either_way (HasTaskOf u s) (is_taken s r.0 || nat_lt (interrupt_ceiling app r.0) (own_level app k.0)) _ _ refl refl
   get_resource_leaves_task (Task c) r n = either_way (HasTaskOf u s) (is_taken s r.0 || nat_lt (ceiling app r.0) (base_priority app c.0)) _ _ refl (set_other s u c.0 _ n)
 
   release_resource_leaves_task : (c : Caller) (r : ResNo) → NotCaller u c → HasTaskOf u s (release_resource_by app s c r)
-  unfolding release_resource
+  unfolding release_resource release_resource_isr
   release_resource_leaves_task Nobody r n = refl
-  release_resource_leaves_task (Routine k) r n = refl
+  release_resource_leaves_task (Routine k) r n =
+      either_way (HasTaskOf u s) (nat_lt (interrupt_ceiling app r.0) (own_level app k.0)) _ _ refl
+      (either_way (HasTaskOf u s) (is_on_top r.0 (stack_of_source app s k.0)) _ _ refl refl)
   release_resource_leaves_task (Task c) r n = either_way (HasTaskOf u s) (nat_lt (ceiling app r.0) (base_priority app c.0)) _ _ refl (either_way (HasTaskOf u s) (is_on_top r.0 (held (task_state s c.0))) _ _ (set_other s u c.0 _ n) refl)
 
   set_event_leaves_task : (t m : ℕ) → u ≢ t → HasTaskOf u s (set_event app s t m)
@@ -135,7 +140,7 @@ module _ (app : App) (u : ℕ) where
     row_leaves_task (call.Task call.ActivateTask t) m = activate_leaves_task app u s t.0 m
     row_leaves_task (call.Plain call.TerminateTask) m = terminate_leaves_task app u s c n
     row_leaves_task (call.Task call.ChainTask t) m = chain_leaves_task app u s c t.0 n m
-    row_leaves_task (call.Plain call.Schedule) m = schedule_leaves_task app u s c
+    row_leaves_task (call.Plain call.Schedule) m = schedule_leaves_task app u s c n
     row_leaves_task (call.Resource call.GetResource r) m = get_resource_leaves_task app u s c r n
     row_leaves_task (call.Resource call.ReleaseResource r) m = release_resource_leaves_task app u s c r n
     row_leaves_task (call.SetEvent t b) m = set_event_leaves_task app u s t.0 b.0 m
@@ -182,17 +187,22 @@ module _ (app : App) (u : ℕ) where
   halted_leaves_task s processor.Halted = refl
   halted_leaves_task s processor.Idle = refl
   halted_leaves_task s (processor.Running t) = refl
-  halted_leaves_task s (processor.Interrupted k over) = refl
+  halted_leaves_task s (processor.Interrupted k None) = refl
+  halted_leaves_task s (processor.Interrupted k (Some t)) = refl
 
   given_back_leaves_task : (s : State) (over : Option TaskNo) → HasTaskOf u s (given_back app s over)
   given_back_leaves_task s None = refl
   given_back_leaves_task s (Some t) = refl
 
+  returned_to_leaves_task : (s : State) (over : Option TaskNo) (o : Option SourceNo) → HasTaskOf u s (returned_to app s over o)
+  returned_to_leaves_task s over None = given_back_leaves_task s over
+  returned_to_leaves_task s over (Some k) = refl
+
   pub returned_leaves_task : (s : State) (p : Processor) → HasTaskOf u s (returned_by app s p)
   returned_leaves_task s processor.Halted = refl
   returned_leaves_task s processor.Idle = refl
   returned_leaves_task s (processor.Running t) = refl
-  returned_leaves_task s (processor.Interrupted k over) = given_back_leaves_task (with_source s k.0 source.Out) over
+  returned_leaves_task s (processor.Interrupted k over) = let r = with_source s k.0 source.Out in returned_to_leaves_task r over (next_routine app r)
 
   end_leaves_task : (s : State) (c : Caller) → NotCaller u c → HasTaskOf u s (end_task app s c)
   end_leaves_task s Nobody n = refl

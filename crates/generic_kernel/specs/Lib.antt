@@ -3,3 +3,4 @@ pub mod CallNames
 pub mod Changes
 pub mod Levels
 pub mod Moves
+pub mod Nests

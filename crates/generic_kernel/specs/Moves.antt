@@ -1,22 +1,28 @@
 -- What callers of the kernel know of its parts.
-use Rattle.std.specs.{Prelude.{⊤, ◌+◌, ◌<◌, Bool, true, length, Some, None}, declared.option.Option.{Option}}
-use Rattle.osek_values.specs.declared.{numbers.SourceNo.{SourceNo}, status.Ask.{Ask}}
+use Rattle.std.specs.{Prelude.{⊤, ◌+◌, ◌<◌, Bool, true, length, Some, None, is_some, if◌then◌else◌}, declared.option.Option.{Option}}
+use Rattle.osek_values.specs.declared.{numbers.{SourceNo.{SourceNo}, TaskNo.{TaskNo}}, status.Ask.{Ask}, event.Event.{Event, TheVariants.{Run, Irq, Tick}}}
 use Rattle.osek_values.specs.declared.status.Ask.TheVariants as ask
-use Rattle.osek_values.specs.declared.event.Event.{Event, TheVariants.{Run, Irq, Tick}}
-use Rattle.osek_standard.specs.declared.{app.App.{App}, state.{State.{State}, Processor.{Processor}, Caller.{Caller, TheVariants.{Nobody, Task, Routine}}}}
+use Rattle.osek_standard.specs.{declared.{app.App.{App}, state.{State.{State}, Processor.{Processor}, Caller.{Caller, TheVariants.{Nobody, Task, Routine}}}}, States.{with_latch}}
+use Rattle.osek_standard.specs.{Arrivals.{arrival, entered}, Well.{AreOut}, Apps.{source_count}, Internal.{internal_of}}
 use Rattle.osek_standard.specs.declared.state.Processor.TheVariants as processor
-use Rattle.osek_standard.specs.{States.{with_latch}, Arrivals.{arrival, entered}, Well.{AreOut}}
 
 -- the state after an arrival, if there is one
 abbrev pub entered_if : App → State → Option SourceNo → State
 entered_if app s None = s
 entered_if app s (Some k) = entered app s k
 
--- a task that calls is declared
+-- who calls is declared
 abbrev pub IsKnownCaller : App → Caller → Type 0
 IsKnownCaller app Nobody = ⊤
 IsKnownCaller app (Task t) = t.0 < length app.tasks
-IsKnownCaller app (Routine k) = ⊤
+IsKnownCaller app (Routine k) = k.0 < source_count app
+
+-- the running task, where it names an INTERNAL resource
+abbrev pub task_inside : App → Processor → Option TaskNo
+task_inside app processor.Halted = None
+task_inside app processor.Idle = None
+task_inside app (processor.Running t) = if is_some (internal_of app t.0) then Some t else None
+task_inside app (processor.Interrupted k over) = None
 
 -- where the processor is asked for, no routine runs
 abbrev pub MayDispatch : App → State → Ask → Type 0

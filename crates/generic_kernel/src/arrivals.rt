@@ -1,11 +1,13 @@
 //! Interrupts: the routine that begins now.
-ghost use Rattle.std.specs.{Prelude.{◌≡◌, ◌<◌, length, is_some}, List.{position}};
-ghost use Rattle.osek_standard.specs.{Apps.{source_count}, Arrivals.{arrival as arrival_of, entered, takes_none as takes_none_of}, Well.{Well}};
-ghost use Rattle.generic_kernel.specs.Moves.{entered_if};
+ghost use Rattle.std.specs.Prelude.{◌≡◌, ◌<◌, length, is_some, ◌+◌};
+ghost use Rattle.osek_standard.specs.{Apps.{source_count}, States.{is_latched as is_latched_of}, Arrivals.{arrival as arrival_of, entered, takes_none as takes_none_of}, Well.{Well}};
+ghost use Rattle.generic_kernel.specs.{Moves.{entered_if}, Nests.{IsFirstBelow}};
 
+use crate::nests::first_of;
 use crate::places::here;
+use ceiling_rules::level;
 use osek_standard::{App, Place, Processor, RoutineStanding, Source, State};
-use osek_values::SourceNo;
+use osek_values::{Held, SourceNo};
 
 /// Whether no routine begins where the processor stands.
 fn takes_none(app: &App, state: &State) -> bool
@@ -15,19 +17,52 @@ fn takes_none(app: &App, state: &State) -> bool
     match state.processor {
         Processor::Halted => true,
         Processor::Idle => false,
-        Processor::Running(_) => app.block(here(app, state).block).locked,
-        Processor::Interrupted { .. } => true,
+        Processor::Running(_) | Processor::Interrupted { .. } => {
+            app.block(here(app, state).block).locked
+        }
     }
 }
 
-/// The place of the first flag that is set.
-fn first_set(flags: &[bool]) -> Option<usize>
-    ensures { result ≡ position (λ b. b) flags.now }
+fn is_latched(state: &State, source: SourceNo) -> bool
+    requires { source.0 < length state.now.latched }
+    ensures { result ≡ is_latched_of state.now source.0 }
 {
-    flags.iter().position(|flag| *flag)
+    *state.latched.at(source.index())
 }
 
-/// The source whose routine begins now.
+// the first of the sources so far and the next one, where that is latched
+fn with_latched(
+    app: &App,
+    state: &State,
+    found: Option<SourceNo>,
+    next: SourceNo,
+) -> Option<SourceNo>
+    requires next { next.0 < source_count app.now }
+    requires latched { length state.now.latched ≡ source_count app.now }
+    requires found { IsFirstBelow app.now (is_latched_of state.now) next.0 found }
+    ensures { IsFirstBelow app.now (is_latched_of state.now) (next.0 + 1) result }
+{
+    if is_latched(state, next) {
+        Some(first_of(app, found, next))
+    } else {
+        found
+    }
+}
+
+/// The latched source that goes before each other.
+fn first_latched(app: &App, state: &State) -> Option<SourceNo>
+    requires { length state.now.latched ≡ source_count app.now }
+    ensures { IsFirstBelow app.now (is_latched_of state.now) (length state.now.latched) result }
+{
+    let mut found = None;
+    for index in 0..state.latched.len() {
+        found = with_latched(app, state, found, SourceNo(index as u8));
+    }
+    found
+}
+
+/// The source whose routine begins now. Where the level keeps the first of the latched sources out, it keeps all of them
+/// out; so it is asked for only where a source is latched.
 fn arrival(app: &App, state: &State) -> Option<SourceNo>
     requires { Well app.now state.now }
     ensures { result ≡ arrival_of app.now state.now }
@@ -35,9 +70,15 @@ fn arrival(app: &App, state: &State) -> Option<SourceNo>
     if takes_none(app, state) {
         return None;
     }
-    match first_set(state.latched.as_slice()) {
+    match first_latched(app, state) {
         None => None,
-        Some(source) => Some(SourceNo(source as u8)),
+        Some(source) => {
+            if level(app, state) <= app.source_priority(source) as u32 {
+                Some(source)
+            } else {
+                None
+            }
+        }
     }
 }
 
@@ -56,6 +97,7 @@ fn enter(app: &App, state: &mut State, source: SourceNo)
                 block: app.routine_start(source),
                 offset: 0,
             },
+            held: Held::new(),
         }),
     );
     state.processor = Processor::Interrupted {

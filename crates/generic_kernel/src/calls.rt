@@ -1,10 +1,10 @@
 //! The calls: each kind of block with the row of its service.
-ghost use Rattle.std.specs.Prelude.{◌≡◌, ◌<◌, length, Some, None};
-ghost use Rattle.osek_standard.specs.{Apps.{tables}, Validity.{NamesEntries, HasOperands}};
-ghost use Rattle.osek_standard.specs.declared.block.Kind.TheVariants as kind;
+ghost use Rattle.std.specs.Prelude.{◌≡◌, ◌<◌, length, Some, None, ◌+◌, false, not, IsTrue};
+ghost use Rattle.osek_standard.specs.{Apps.{tables, is_counter, source_count}, Validity.{NamesEntries, HasOperands, is_internal}, States.{caller, IfRoutine}};
+ghost use Rattle.osek_standard.specs.{Services.{answer, maybe_if, get_resource_by, release_resource_by, counted_by}, Effects.{called, row}, Well.{Well, IsActive, IsWaitEvent}};
+ghost use Rattle.osek_standard.specs.declared.call.Call.{Call};
 ghost use Rattle.osek_standard.specs.declared.call.Call.TheVariants as call;
-ghost use Rattle.osek_standard.specs.{States.{caller}, Services.{answer, maybe_if, get_resource_by, release_resource_by, counted_by}, Effects.{called, row}};
-ghost use Rattle.osek_standard.specs.Well.{Well, IsActive, IsWaitEvent};
+ghost use Rattle.osek_standard.specs.declared.block.Kind.TheVariants as a_kind;
 
 use crate::replies::Reply;
 use crate::services::{chain_task, schedule, terminate_task};
@@ -16,7 +16,7 @@ use osek_standard::{
     AlarmService, App, ArmService, Call, Caller, Kind, MaskService, PlainService, ResourceService,
     State, TaskService, activate,
 };
-use osek_values::{AlarmNo, Ask, CounterNo, ResNo, Status, TaskNo, Value};
+use osek_values::{AlarmNo, Ask, CounterNo, IsrNo, ResNo, SourceNo, Status, TaskNo, Value};
 
 /// What a service asks that may ask for rescheduling: it does so where it is accepted.
 fn maybe_where_accepted(status: Status) -> Ask
@@ -35,14 +35,31 @@ fn maybe_where_accepted(status: Status) -> Ask
     }
 }
 
-/// GetResource of the caller. No application has it in a routine.
+/// The ISR whose routine a source's is.
+fn isr_of(app: &App, source: SourceNo) -> IsrNo
+    requires known { source.0 < source_count app.now }
+    requires isr { is_counter app.now source.0 ≡ false }
+    ensures is { length app.now.counters + result.0 ≡ source.0 }
+    ensures known { result.0 < length app.now.isrs }
+{
+    IsrNo((source.index() - app.counters.len()) as u8)
+}
+
+/// GetResource of the caller.
 fn get_resource(app: &App, state: &mut State, resource: ResNo) -> Reply
     requires resource { resource.0 < length app.now.resources }
+    requires takable { IsTrue (not (is_internal app.now.resources resource.0)) }
+    requires isr { IfRoutine (caller state.old.processor) (λ k. is_counter app.now k.0 ≡ false) }
     requires well { Well app.now state.old }
     ensures { get_resource_by app.now state.old (caller state.old.processor) resource ≡ answer state.new result.status result.value result.ask }
 {
     match state.caller() {
-        Caller::Nobody | Caller::Routine(_) => Reply::unnoted(Ask::No),
+        Caller::Nobody => Reply::unnoted(Ask::No),
+        Caller::Routine(source) => {
+            let isr = isr_of(app, source);
+            let status = ceiling_rules::get_resource_isr(app, state, isr, resource);
+            Reply::of(Some(status), Ask::No)
+        }
         Caller::Task(task) => {
             let status = ceiling_rules::get_resource(app, state, task, resource);
             Reply::of(Some(status), Ask::No)
@@ -50,14 +67,20 @@ fn get_resource(app: &App, state: &mut State, resource: ResNo) -> Reply
     }
 }
 
-/// ReleaseResource of the caller. No application has it in a routine.
+/// ReleaseResource of the caller.
 fn release_resource(app: &App, state: &mut State, resource: ResNo) -> Reply
     requires resource { resource.0 < length app.now.resources }
+    requires isr { IfRoutine (caller state.old.processor) (λ k. is_counter app.now k.0 ≡ false) }
     requires well { Well app.now state.old }
     ensures { release_resource_by app.now state.old (caller state.old.processor) resource ≡ answer state.new result.status result.value result.ask }
 {
     match state.caller() {
-        Caller::Nobody | Caller::Routine(_) => Reply::unnoted(Ask::No),
+        Caller::Nobody => Reply::unnoted(Ask::No),
+        Caller::Routine(source) => {
+            let isr = isr_of(app, source);
+            let status = ceiling_rules::release_resource_isr(app, state, isr, resource);
+            Reply::of(Some(status), Ask::No)
+        }
         Caller::Task(task) => {
             let status = ceiling_rules::release_resource(app, state, task, resource);
             Reply::of(Some(status), maybe_where_accepted(status))
@@ -149,7 +172,8 @@ fn alarm_row(app: &App, state: &mut State, service: AlarmService, alarm: AlarmNo
 /// The row of a service whose caller went on before. The lock calls do nothing here.
 fn service_row(app: &App, state: &mut State, call: Call) -> Reply
     requires operands { HasOperands (tables app.now) call }
-    requires goes_on { IsWaitEvent (kind.Call call) → ⊥ }
+    requires isr { IfRoutine (caller state.old.processor) (λ k. is_counter app.now k.0 ≡ false) }
+    requires goes_on { IsWaitEvent (a_kind.Call call) → ⊥ }
     requires well { Well app.now state.old }
     requires active { IsActive state.old.processor }
     ensures { row app.now state.old (caller state.old.processor) call ≡ answer state.new result.status result.value result.ask }
@@ -188,6 +212,7 @@ fn service_row(app: &App, state: &mut State, call: Call) -> Reply
 /// The row of a call whose caller went on before. The kinds that are no calls do nothing here.
 pub fn call(app: &App, state: &mut State, kind: Kind) -> Reply
     requires operands { NamesEntries (tables app.now) kind }
+    requires isr { (c : Call) → kind ≡ a_kind.Call c → IfRoutine (caller state.old.processor) (λ k. is_counter app.now k.0 ≡ false) }
     requires goes_on { IsWaitEvent kind → ⊥ }
     requires well { Well app.now state.old }
     requires active { IsActive state.old.processor }

@@ -1,17 +1,21 @@
 //! What a step does with the processor after the effect of its instruction.
-ghost use Rattle.std.specs.Prelude.{◌≡◌, ◌+◌, ◌≤◌, length, nat_lt, IfSome};
+ghost use Rattle.std.specs.Prelude.{◌≡◌, ◌+◌, ◌≤◌, length, nat_lt, IfSome, ℕ, false};
 ghost use Rattle.osek_standard.specs.{Priority.{best, current_priority}, Effects.{wanted}};
 ghost use Rattle.osek_standard.specs.{Dispatch.{dispatched, dispatch_hooks, settled, outcome_by, outcome_hooks, instruction, stepped}, Well.{Well, AreOut, HasProcessor, IsActive}};
+ghost use Rattle.osek_standard.specs.{States.{is_that_task, task_of, task_state}, Internal.{kept}};
 ghost use Rattle.generic_kernel.specs.{BestBelow.{some_of}, Levels.{IsReady}, Moves.{MayDispatch}};
 
 use crate::effects::effect;
+use crate::inside::{keep, put_inside};
+use crate::queue::{come_out, go_first};
 use crate::ready::Ready;
 use osek_standard::{App, Caller, Processor, State};
 use osek_values::{Ask, HookSet, Notes, Steps, TaskNo};
 use std::sync::ledger::Ledger;
 
-/// Gives the processor to a task or to none, and answers the hooks of it that the OS object sets TRUE: PostTaskHook
-/// where a task left or has the processor, PreTaskHook where a task gets it.
+/// Gives the processor to a task or to none: who had it goes first in the line, and who gets it leaves the line and is
+/// inside. Answers the hooks of it that the OS object sets TRUE: PostTaskHook where a task left or has the processor,
+/// PreTaskHook where a task gets it.
 pub fn switch_to(app: &App, state: &mut State, task: Option<TaskNo>, ask: Ask) -> HookSet
     requires well { Well app.now state.old }
     requires out { AreOut app.now state.old }
@@ -24,11 +28,25 @@ pub fn switch_to(app: &App, state: &mut State, task: Option<TaskNo>, ask: Ask) -
     let due = HookSet::POST_TASK
         .when(left)
         .with(HookSet::PRE_TASK.when(task.is_some()));
+    go_first(app, state);
+    come_out(state, task);
+    put_inside(app, state, task);
     state.processor = match task {
         None => Processor::Idle,
         Some(task) => Processor::Running(task),
     };
     app.hooks.among(due)
+}
+
+// who had the processor keeps it, and no hook runs
+fn stay(app: &App, state: &mut State) -> HookSet
+    requires { Well app.now state.old }
+    ensures state { kept app.now state.old ≡ state.new }
+    ensures hooks { result ≡ wanted app.now 0 }
+    ensures well { Well app.now state.new }
+{
+    keep(app, state);
+    app.hooks.among(HookSet::none())
 }
 
 /// The Live task that is to run, after one scan fewer than there are Live tasks.
@@ -44,7 +62,7 @@ pub fn best_task<L: Ledger>(
     ensures live { IfSome result (HasProcessor app.now state.now) }
     ensures few { scans.new + some_of result ≤ scans.old + length app.now.tasks }
 {
-    ready.best(scans)
+    ready.best(state, scans)
 }
 
 /// Whether the first task has a lower current priority. A scan is one such comparison.
@@ -80,23 +98,22 @@ pub fn conclude<L: Ledger>(
     ensures state { settled app.now state.old (outcome_by app.now state.old ask) ≡ state.new }
     ensures hooks { result ≡ wanted app.now (outcome_hooks state.old ask (outcome_by app.now state.old ask)) }
     ensures well { Well app.now state.new }
-    ensures tasks { state.new.tasks ≡ state.old.tasks }
+    ensures others { (u : ℕ) → is_that_task (task_of state.new.processor) u ≡ false → task_state state.new u ≡ task_state state.old u }
     ensures scans { scans.new ≤ scans.old + length app.now.tasks }
 {
-    let kept = app.hooks.among(HookSet::none());
     match ask {
-        Ask::No => kept,
+        Ask::No => stay(app, state),
         Ask::Maybe => {
             let Caller::Task(caller) = state.caller() else {
-                return kept;
+                return stay(app, state);
             };
             let Some(task) = best_task(app, state, ready, scans) else {
-                return kept;
+                return stay(app, state);
             };
             if is_lower(app, state, ready, caller, task, scans) {
                 switch_to(app, state, Some(task), ask)
             } else {
-                kept
+                stay(app, state)
             }
         }
         Ask::Left => {
@@ -105,7 +122,7 @@ pub fn conclude<L: Ledger>(
         }
         Ask::Free => {
             let Some(task) = best_task(app, state, ready, scans) else {
-                return kept;
+                return stay(app, state);
             };
             switch_to(app, state, Some(task), ask)
         }
@@ -131,6 +148,8 @@ pub fn instruct<L: Ledger>(
 {
     let done = effect(app, state, ready, choice);
     let hooks = conclude(app, state, ready, done.ask, scans);
+    let current = state.current();
+    ready.take_in(app, state, current, None);
     Notes {
         hooks: done.notes.hooks.with(hooks),
         ..done.notes

@@ -1,15 +1,20 @@
 //! The effect of an instruction.
-ghost use Rattle.std.specs.Prelude.{◌≡◌, ℕ, ◌+◌, ◌<◌, nat_lt, Some, None, IfSome, IfNone, is_some, if◌then◌else◌};
-ghost use Rattle.osek_standard.specs.{Validity.{NamesEntries}, Apps.{tables, the_block}, States.{caller, here as here_of}, Services.{answer, wait_event as wait_event_row}};
+ghost use Rattle.std.specs.Prelude.{◌≡◌, ℕ, ◌+◌, ◌<◌, nat_lt, Some, None, IfSome, IfNone, is_some, if◌then◌else◌, false, map};
+ghost use Rattle.osek_standard.specs.{Validity.{NamesEntries}, Apps.{tables, the_block, is_counter}, States.{caller, here as here_of, IfRoutine}};
+ghost use Rattle.osek_standard.specs.Services.{answer, wait_event as wait_event_row};
+ghost use Rattle.osek_standard.specs.Effects.{effected, moved, moved_to, place_at, asked_by as asked_by_row, called, asks_as, goes_on_unless_left, returned as returned_row};
+ghost use Rattle.osek_standard.specs.Effects.{shut_down as shut_down_row, effect_at as effect_at_row, effect as effect_row, halted_by};
+ghost use Rattle.osek_standard.specs.{Dispatch.{nothing_noted}, Well.{Well, IsActive, InOwner, IsWaitEvent}, declared.call.Call.{Call}};
 ghost use Rattle.osek_standard.specs.declared.block.Kind.TheVariants as a_kind;
-ghost use Rattle.osek_standard.specs.Effects.{effected, moved, moved_to, place_at, asked_by as asked_by_row, called, asks_as, goes_on_unless_left, returned as returned_row, shut_down as shut_down_row, effect_at as effect_at_row, effect as effect_row};
-ghost use Rattle.osek_standard.specs.{Dispatch.{nothing_noted}, Well.{Well, IsActive, InOwner, IsWaitEvent}};
+ghost use Rattle.osek_standard.specs.declared.state.Source.TheVariants as source;
 ghost use Rattle.event_alarm.specs.Waiting.{StandsAtWaitEvent};
 ghost use Rattle.generic_kernel.specs.{Changes.{ChangesOwn, is_silent}, Levels.{IsReady, level as level_of}, Moves.{IsKnownCaller, MayDispatch}};
 
 use crate::calls::{call, count};
 use crate::changes::named_here;
+use crate::nests::next_routine;
 use crate::places::{here, move_to};
+use crate::queue::go_first;
 use crate::ready::Ready;
 use crate::replies::{Effect, Reply, noted};
 use crate::services::end_task;
@@ -17,7 +22,7 @@ use event_alarm::wait_event;
 use osek_standard::{
     App, Call, Caller, Kind, MaskService, Place, PlainService, Processor, Schedule, Source, State,
 };
-use osek_values::{Ask, BlockNo, HookSet, Mask, Notes};
+use osek_values::{Ask, BlockNo, HookSet, Mask, Notes, Seq};
 
 /// The caller goes on to the first instruction of a block.
 fn go_to(app: &App, state: &mut State, block: BlockNo)
@@ -77,6 +82,7 @@ fn asked_by(app: &App, caller: Caller, kind: Kind, ask: Ask) -> Ask
 /// A call: the caller goes on, and then the row of its service applies.
 fn go_and_call(app: &App, state: &mut State, next: BlockNo, kind: Kind) -> Reply
     requires operands { NamesEntries (tables app.now) kind }
+    requires isr { (c : Call) → kind ≡ a_kind.Call c → IfRoutine (caller state.old.processor) (λ k. is_counter app.now k.0 ≡ false) }
     requires goes_on { IsWaitEvent kind → ⊥ }
     requires well { Well app.now state.old }
     requires active { IsActive state.old.processor }
@@ -107,7 +113,8 @@ fn wait_or_go(app: &App, state: &mut State, next: BlockNo, mask: Mask) -> Reply
     Reply::of(Some(status), ask)
 }
 
-/// The end of a routine: the processor goes back to what was interrupted.
+/// The end of a routine: the next one that was entered goes on, or else the processor goes back to what they
+/// interrupted.
 fn return_from_routine(app: &App, state: &mut State) -> Ask
     requires { Well app.now state.old }
     ensures { returned_row app.now state.old ≡ answer state.new None None result }
@@ -116,6 +123,10 @@ fn return_from_routine(app: &App, state: &mut State) -> Ask
         return Ask::No;
     };
     state.sources.put(source.index(), Source::Out);
+    if let Some(next) = next_routine(app, state) {
+        state.processor = Processor::Interrupted { source: next, over };
+        return Ask::No;
+    }
     match over {
         None => {
             state.processor = Processor::Idle;
@@ -131,19 +142,34 @@ fn return_from_routine(app: &App, state: &mut State) -> Ask
     }
 }
 
-/// ShutdownOS, once its caller went on: the kernel halts, and a routine that runs is over.
+/// No routine is left.
+fn put_all_out(sources: &mut Seq<Source>)
+    ensures { sources.new ≡ map (λ _. source.Out) sources.old }
+{
+    for index in 0..sources.len() {
+        sources.put(index, Source::Out);
+    }
+}
+
+/// The kernel halts.
+fn halt(app: &App, state: &mut State)
+    requires { Well app.now state.old }
+    ensures { halted_by state.old state.old.processor ≡ state.new }
+{
+    go_first(app, state);
+    if let Processor::Interrupted { .. } = state.processor {
+        put_all_out(&mut state.sources);
+    }
+    state.processor = Processor::Halted;
+}
+
+/// ShutdownOS, once its caller went on: the kernel halts, all routines are over, and the task that runs or is interrupted
+/// goes first in the line.
 fn shut_down(app: &App, state: &mut State) -> Effect
     requires well { Well app.now state.old }
     ensures { shut_down_row app.now state.old ≡ effected state.new result.notes result.ask }
 {
-    match state.processor {
-        Processor::Halted => {}
-        Processor::Idle | Processor::Running(_) => state.processor = Processor::Halted,
-        Processor::Interrupted { source, .. } => {
-            state.sources.put(source.index(), Source::Out);
-            state.processor = Processor::Halted;
-        }
-    }
+    halt(app, state);
     Effect {
         notes: Notes {
             status: None,

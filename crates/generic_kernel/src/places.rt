@@ -3,7 +3,7 @@ ghost use Rattle.std.specs.Prelude.{◌≡◌};
 ghost use Rattle.osek_standard.specs.{Apps.{the_block}, Points.{point_of as point_of_state}, States.{here as here_of}, Effects.{moved as moved_of}};
 ghost use Rattle.osek_standard.specs.Well.{Well, IsActive, InOwner, IsOffsetAt};
 
-use osek_standard::{Activity, App, Place, Point, Processor, RoutineStanding, Source, State};
+use osek_standard::{Activity, App, Place, Point, Processor, Source, State};
 
 /// Where the task or the routine stands that has the processor.
 pub fn here(app: &App, state: &State) -> Place
@@ -18,7 +18,7 @@ pub fn here(app: &App, state: &State) -> Place
             Activity::Live(standing) => standing.at,
             Activity::Suspended | Activity::Waiting(_) => unreachable!(),
         },
-        Processor::Interrupted { source, .. } => match *state.sources.at(source.index()) {
+        Processor::Interrupted { source, .. } => match state.sources.at(source.index()) {
             Source::Out => unreachable!(),
             Source::In(standing) => standing.at,
         },
@@ -58,15 +58,8 @@ pub fn move_to(app: &App, state: &mut State, place: Place)
             }
         }
         Processor::Interrupted { source, .. } => {
-            match *state.sources.at(source.index()) {
-                Source::Out => unreachable!(),
-                Source::In(standing) => {
-                    let moved = RoutineStanding {
-                        at: place,
-                        ..standing
-                    };
-                    state.sources.put(source.index(), Source::In(moved));
-                }
+            if let Source::In(standing) = state.sources.at_mut(source.index()) {
+                standing.at = place;
             }
         }
     }

@@ -1,8 +1,9 @@
 //! The tasks that are ready or running, kept from step to step, and the best of them.
-ghost use Rattle.std.specs.{Prelude.{◌≡◌, ◌≢◌, ◌+◌, ◌<◌, ◌≤◌, length, nat_lt, ℕ, None, IfSome, IfNone, IsTrue, ◌||◌, true, false, slice_index_or}, List.{count_by}};
+ghost use Rattle.std.specs.Prelude.{◌≡◌, ◌≢◌, ◌+◌, ◌<◌, ◌≤◌, length, nat_lt, ℕ, None, IfSome, IfNone, IsTrue, ◌||◌, true, false, slice_index_or, ◌==◌, if◌then◌else◌};
+ghost use Rattle.std.specs.List.{count_by};
 ghost use Rattle.osek_standard.specs.{declared.{app.App.{App}, state.State.{State}}, TaskStates.{is_live}, States.{is_that_task, task_state}, Priority.{best}};
 ghost use Rattle.osek_standard.specs.Well.{Well, HasProcessor};
-ghost use Rattle.generic_kernel.specs.{BestBelow.{IsBestBelow, some_of}, Changes.{ChangesOnly}, Levels.{IsReady, count_of, level as level_of, priority_in}};
+ghost use Rattle.generic_kernel.specs.{BestBelow.{IsBestBelow, some_of, AreTurns}, Changes.{ChangesOnly}, Levels.{IsReady, count_of, level as level_of, priority_in}};
 
 use ceiling_rules::current_priority;
 use osek_standard::{App, State};
@@ -47,6 +48,35 @@ fn priority(level: Option<u32>) -> u32
         None => 0,
         Some(priority) => priority,
     }
+}
+
+// a task gets a turn
+fn put_turn(turns: &mut [usize; MAX_TASKS], task: TaskNo, turn: usize)
+    ensures { (t : ℕ) → t < MAX_TASKS → slice_index_or turns.new t 0 ≡ (if task.0 == t then turn else slice_index_or turns.old t 0) }
+{
+    if task.index() < MAX_TASKS {
+        turns[task.index()] = turn;
+    }
+}
+
+/// The turn of each task: of the running or interrupted one 0, of each other one more than its first place in the line,
+/// and behind the line where it has none.
+fn turns_of(state: &State) -> [usize; MAX_TASKS]
+    ensures { AreTurns state.now result }
+{
+    let places = state.line.as_slice();
+    let mut turns = [0; MAX_TASKS];
+    for task in 0..MAX_TASKS {
+        turns[task] = 1 + places.len() + task;
+    }
+    for back in 0..places.len() {
+        let place = places.len() - 1 - back;
+        put_turn(&mut turns, places[place], 1 + place);
+    }
+    if let Some(task) = state.current() {
+        put_turn(&mut turns, task, 0);
+    }
+    turns
 }
 
 impl Ready {
@@ -118,9 +148,11 @@ impl Ready {
         priority(self.levels[first.index()]) < priority(self.levels[second.index()])
     }
 
-    /// The better of the best so far and the next task.
+    /// The better of the best so far and the next task: the one of the higher priority, and between equal ones the one whose
+    /// turn is earlier.
     fn better<L: Ledger>(
         &self,
+        turns: &[usize; MAX_TASKS],
         found: Option<TaskNo>,
         task: TaskNo,
         scans: &mut Steps<L>,
@@ -128,36 +160,39 @@ impl Ready {
         requires known { task.0 < MAX_TASKS }
         requires below { IfSome found (λ t. t.0 < task.0) }
         ensures below { IfSome result (λ t. t.0 < task.0 + 1) }
-        ensures best { (app : App) (s : State) → IsReady app s self.now → IsBestBelow app s task.0 found → IsBestBelow app s (task.0 + 1) result }
+        ensures best { (app : App) (s : State) → IsReady app s self.now → AreTurns s turns.now → IsBestBelow app s task.0 found → IsBestBelow app s (task.0 + 1) result }
         ensures scans { scans.new + some_of result ≡ scans.old + some_of found + count_of (slice_index_or self.now task.0 None) }
     {
         if self.levels[task.index()].is_none() {
             return found;
         }
-        match found {
-            None => Some(task),
-            Some(other) => {
-                if self.is_lower(other, task, scans) {
-                    Some(task)
-                } else {
-                    Some(other)
-                }
-            }
+        let Some(other) = found else {
+            return Some(task);
+        };
+        if self.is_lower(other, task, scans) {
+            return Some(task);
+        }
+        let tie = priority(self.levels[other.index()]) == priority(self.levels[task.index()]);
+        if tie && turns[task.index()] < turns[other.index()] {
+            Some(task)
+        } else {
+            Some(other)
         }
     }
 
-    /// The Live task that is to run, of any state of which these are the Live tasks, after one scan fewer than there
-    /// are such tasks.
-    pub fn best<L: Ledger>(&self, scans: &mut Steps<L>) -> Option<TaskNo>
-        ensures best { (app : App) (s : State) → Well app s → IsReady app s self.now → result ≡ best app s }
-        ensures live { (app : App) (s : State) → Well app s → IsReady app s self.now → IfSome result (HasProcessor app s) }
-        ensures none { (app : App) (s : State) → Well app s → IsReady app s self.now → IfNone result ((t : ℕ) → is_live (task_state s t) ≡ false) }
-        ensures scans { (app : App) (s : State) → Well app s → IsReady app s self.now → scans.new + some_of result ≡ scans.old + count_by is_live s.tasks }
-        ensures few { (app : App) (s : State) → Well app s → IsReady app s self.now → scans.new + some_of result ≤ scans.old + length app.tasks }
+    /// The Live task that is to run, of the state of which these are the Live tasks, after one scan fewer than there are
+    /// such tasks. The line is read once.
+    pub fn best<L: Ledger>(&self, state: &State, scans: &mut Steps<L>) -> Option<TaskNo>
+        ensures best { (app : App) → Well app state.now → IsReady app state.now self.now → result ≡ best app state.now }
+        ensures live { (app : App) → Well app state.now → IsReady app state.now self.now → IfSome result (HasProcessor app state.now) }
+        ensures none { (app : App) → Well app state.now → IsReady app state.now self.now → IfNone result ((t : ℕ) → is_live (task_state state.now t) ≡ false) }
+        ensures scans { (app : App) → Well app state.now → IsReady app state.now self.now → scans.new + some_of result ≡ scans.old + count_by is_live state.now.tasks }
+        ensures few { (app : App) → Well app state.now → IsReady app state.now self.now → scans.new + some_of result ≤ scans.old + length app.tasks }
     {
+        let turns = turns_of(state);
         let mut found = None;
         for task in 0..MAX_TASKS {
-            found = self.better(found, TaskNo(task as u8), scans);
+            found = self.better(&turns, found, TaskNo(task as u8), scans);
         }
         found
     }

@@ -1,10 +1,42 @@
 //! The services on tasks whose caller may leave the processor.
 ghost use Rattle.std.specs.Prelude.{◌≡◌, ◌<◌, length, Some, None};
-ghost use Rattle.osek_standard.specs.{States.{caller}, Services.{answer, terminate_task as terminate_task_row, chain_task as chain_task_row, schedule as schedule_row}};
+ghost use Rattle.osek_standard.specs.States.{caller, task_state};
+ghost use Rattle.osek_standard.specs.Services.{answer, terminate_task as terminate_task_row, chain_task as chain_task_row, schedule as schedule_row, ended as ended_of, ended_by};
+ghost use Rattle.osek_standard.specs.Services.{left};
 ghost use Rattle.osek_standard.specs.{Effects.{end_task as end_task_row}, Well.{Well, IsActive}};
 
-use osek_standard::{Activity, App, Caller, Processor, State};
+use crate::inside::set_inside;
+use osek_standard::{Activity, App, Caller, Processor, State, activate, is_full};
 use osek_values::{Ask, Status, TaskNo};
+
+// suspended, or begun anew where a further activation is left
+fn ended(app: &App, state: &State, task: TaskNo) -> Activity
+    requires known { task.0 < length app.now.tasks }
+    requires well { Well app.now state.now }
+    ensures { result ≡ ended_by app.now task.0 (task_state state.now task.0).activity }
+{
+    match &state.task(task).activity {
+        Activity::Suspended | Activity::Waiting(_) => Activity::Suspended,
+        Activity::Live(standing) => {
+            if standing.further == 0 {
+                Activity::Suspended
+            } else {
+                Activity::live_at(app.task(task).first, standing.further - 1)
+            }
+        }
+    }
+}
+
+// a task ends, and leaves the processor
+fn leave(app: &App, state: &mut State, task: TaskNo)
+    requires known { task.0 < length app.now.tasks }
+    requires well { Well app.now state.old }
+    ensures { left (ended_of app.now state.old task.0) ≡ state.new }
+{
+    let next = ended(app, state, task);
+    state.task_mut(task).activity = next;
+    state.processor = Processor::Idle;
+}
 
 /// TerminateTask of the caller.
 #[tactic(auto, unfolding(osek_standard::specs::Services::terminate_task))]
@@ -21,8 +53,7 @@ pub fn terminate_task(app: &App, state: &mut State) -> (Option<Status>, Ask)
     if state.task(task).holds_some() {
         return (Some(Status::Resource), Ask::No);
     }
-    state.task_mut(task).activity = Activity::Suspended;
-    state.processor = Processor::Idle;
+    leave(app, state, task);
     (None, Ask::Left)
 }
 
@@ -42,21 +73,21 @@ pub fn chain_task(app: &App, state: &mut State, to: TaskNo) -> (Option<Status>, 
     if state.task(task).holds_some() {
         return (Some(Status::Resource), Ask::No);
     }
-    if to != task && !state.task(to).is_suspended() {
+    if to != task && is_full(app, state, to) {
         return (Some(Status::Limit), Ask::No);
     }
-    state.task_mut(task).activity = Activity::Suspended;
-    state.put_task(to, app.activated(to));
-    state.processor = Processor::Idle;
+    leave(app, state, task);
+    activate(app, state, to);
     (None, Ask::Left)
 }
 
-/// Schedule: a better task runs now, if there is one, also where the caller is non-preemptive.
+/// Schedule: the caller gives its INTERNAL resource back, and a better task runs now, if there is one, also where the
+/// caller is non-preemptive.
 #[tactic(auto, unfolding(osek_standard::specs::Services::schedule))]
-pub fn schedule(app: &App, state: &State) -> (Status, Ask)
-    requires well { Well app.now state.now }
-    requires active { IsActive state.now.processor }
-    ensures { schedule_row state.now (caller state.now.processor) ≡ answer state.now (Some result.0) None result.1 }
+pub fn schedule(app: &App, state: &mut State) -> (Status, Ask)
+    requires well { Well app.now state.old }
+    requires active { IsActive state.old.processor }
+    ensures { schedule_row state.old (caller state.old.processor) ≡ answer state.new (Some result.0) None result.1 }
 {
     let task = match state.caller() {
         Caller::Nobody => unreachable!(),
@@ -66,6 +97,7 @@ pub fn schedule(app: &App, state: &State) -> (Status, Ask)
     if state.task(task).holds_some() {
         return (Status::Resource, Ask::No);
     }
+    set_inside(state, task, false);
     (Status::Ok, Ask::Maybe)
 }
 
@@ -77,7 +109,6 @@ pub fn end_task(app: &App, state: &mut State) -> Ask
     let Caller::Task(task) = state.caller() else {
         return Ask::No;
     };
-    state.task_mut(task).activity = Activity::Suspended;
-    state.processor = Processor::Idle;
+    leave(app, state, task);
     Ask::Left
 }

@@ -1,16 +1,15 @@
 //! The start of the kernel in an application mode.
-ghost use Rattle.std.specs.Prelude.{◌≡◌, ◌+◌, ◌<◌, ◌≤◌, length, map, replicate, IfOk, false};
-ghost use Rattle.osek_values.specs.Bits.{has_bit};
+ghost use Rattle.std.specs.Prelude.{◌≡◌, ◌+◌, ◌<◌, ◌≤◌, length, map, replicate, IfOk, false, [], ◌∷◌, ◌++◌, if◌then◌else◌};
+ghost use Rattle.osek_values.specs.{Bits.{has_bit}, Numbers.{task_no}};
+ghost use Rattle.osek_standard.specs.{Dispatch.{stepped}, Kernel.{started_task as started_task_of, started_alarm as started_alarm_of, initial, start as start_of, autostarted}};
+ghost use Rattle.osek_standard.specs.{Well.{Well}, Apps.{the_task}};
 ghost use Rattle.osek_standard.specs.declared.state.Source.TheVariants as source;
-ghost use Rattle.osek_standard.specs.{Dispatch.{stepped}, Kernel.{started_task as started_task_of, started_alarm as started_alarm_of, initial, start as start_of}, Well.{Well}};
 
 use crate::dispatch::{best_task, switch_to};
 use crate::ready::Ready;
-use osek_standard::{
-    Activity, Alarm, AlarmState, App, Place, Processor, Source, Standing, State, Task, TaskState,
-};
-use osek_values::limits::{MAX_COUNTERS, MAX_ISRS, MAX_MODES};
-use osek_values::{Ask, Held, HookSet, Mask, Memory, ModeNo, Notes, Seq, Steps};
+use osek_standard::{Activity, Alarm, AlarmState, App, Processor, Source, State, Task, TaskState};
+use osek_values::limits::{MAX_COUNTERS, MAX_ISRS, MAX_LINE, MAX_MODES};
+use osek_values::{Ask, HookSet, Line, Mask, Memory, ModeNo, Notes, Seq, Steps, TaskNo};
 use std::alloc::Global;
 use std::marker::Brand;
 use std::sync::ledger::{Blank, Ledger};
@@ -28,13 +27,7 @@ fn started_task(task: &Task, mode: ModeNo) -> TaskState
     ensures { result ≡ started_task_of mode.0 task.now }
 {
     let activity = if is_started(task.autostart, mode) {
-        Activity::Live(Standing {
-            at: Place {
-                block: task.first,
-                offset: 0,
-            },
-            held: Held::new(),
-        })
+        Activity::live_at(task.first, 0)
     } else {
         Activity::Suspended
     };
@@ -94,7 +87,11 @@ fn all_out(alloc: Global, count: usize) -> Result<Seq<Source>, Memory>
     requires { count ≤ MAX_COUNTERS + MAX_ISRS }
     ensures { IfOk result (λ sources. sources ≡ replicate count source.Out) }
 {
-    Ok(Seq::of(vec![in alloc; Source::Out; count]?))
+    let mut sources = Vec::new(alloc);
+    for _source in 0..count {
+        sources.push(Source::Out)?;
+    }
+    Ok(Seq::of(sources))
 }
 
 fn unlatched(alloc: Global, count: usize) -> Result<Seq<bool>, Memory>
@@ -102,6 +99,30 @@ fn unlatched(alloc: Global, count: usize) -> Result<Seq<bool>, Memory>
     ensures { IfOk result (λ latched. latched ≡ replicate count false) }
 {
     Ok(Seq::of(vec![in alloc; false; count]?))
+}
+
+// a task goes last in the line where it is autostarted
+fn line_up(app: &App, mode: ModeNo, task: TaskNo, line: &mut Line)
+    requires mode { mode.0 < MAX_MODES }
+    requires known { task.0 < length app.now.tasks }
+    requires room { length line.old < MAX_LINE }
+    ensures { line.new ≡ line.old ++ map task_no (if has_bit (the_task app.now task.0).autostart mode.0 then task.0 ∷ [] else []) }
+{
+    if is_started(app.task(task).autostart, mode) {
+        line.push_last(task);
+    }
+}
+
+/// The autostarted tasks in order.
+fn started_line(app: &App, mode: ModeNo) -> Line
+    requires { mode.0 < MAX_MODES }
+    ensures { result ≡ map task_no (autostarted app.now mode.0) }
+{
+    let mut line = Line::new();
+    for task in 0..app.tasks.len() {
+        line_up(app, mode, TaskNo(task as u8), &mut line);
+    }
+    line
 }
 
 /// The state before the first dispatch.
@@ -118,6 +139,7 @@ fn begin(alloc: Global, app: &App, mode: ModeNo) -> Result<State, Memory>
         alarms: started_alarms(alloc, app, mode)?,
         sources: all_out(alloc, sources)?,
         latched: unlatched(alloc, sources)?,
+        line: started_line(app, mode),
     })
 }
 

@@ -23,6 +23,7 @@ module _ (app : App) (table : PlainTable) (written : IsWritten app table) where
     at_row : (s : State) → In app (sets_of table) s → point_of s ≡ row.point → IsAt app row.point row.entry s
     at_row s inside at = record {
       well = inside.well;
+      regular = inside.regular;
       point = at;
       within = λ c lt. only_there app table written row listed c (abstract_of app s c) (subst (λ (q : Point). IsTrue ((sets_of table).has q c (abstract_of app s c))) at (inside.within c lt));
     }
@@ -30,6 +31,7 @@ module _ (app : App) (table : PlainTable) (written : IsWritten app table) where
     in_table : (s : State) → IsAt app row.point row.entry s → In app (sets_of table) s
     in_table s at = record {
       well = at.well;
+      regular = at.regular;
       entry = subst (λ (q : Point). IsTrue ((sets_of table).entry q)) (sym at.point) (row_entered app table written row listed);
       within = λ c lt. subst (λ (q : Point). IsTrue ((sets_of table).has q c (abstract_of app s c))) (sym at.point) (row_value app table written row listed c (abstract_of app s c) (at.within c lt));
     }

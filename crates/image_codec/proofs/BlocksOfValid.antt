@@ -99,7 +99,7 @@ module _ (p : Parts) (b : ℕ) (few_tasks : length p.tables.tasks ≤ 16) (few_a
   good_operands kind.Loop names fits due = tt
   good_operands (kind.Call (call.Task k x)) names fits due = good_no _ x.0 few_tasks names
   good_operands (kind.Call (call.Plain k)) names fits due = tt
-  good_operands (kind.Call (call.Resource k r)) names fits due = good_no _ r.0 few_resources names
+  good_operands (kind.Call (call.Resource k r)) names fits due = good_no _ r.0 few_resources names.0
   good_operands (kind.Call (call.SetEvent x m)) names fits due = (good_no _ x.0 few_tasks names.0, (fits, lt-ltb 0 m.0 names.1))
   good_operands (kind.Call (call.Mask k m)) names fits due = (fits, lt-ltb 0 m.0 names)
   good_operands (kind.Call (call.Arm k a i c)) names fits due = (good_no _ a.0 few_alarms names, fits)

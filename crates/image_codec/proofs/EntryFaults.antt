@@ -2,16 +2,19 @@
 use Rattle.std.proofs.Common.{◌≡◌, ℕ, ◌+◌, ◌^◌, Bool, ◌&&◌, List, [], ◌∷◌, ◌++◌, map, Ok, subst}
 use Rattle.std.specs.{Prelude.{nat_eq, slice_index_or}, Int.{Width, w8, w16, w32, w64}}
 use Rattle.osek_values.specs.{declared.limits.TheConstants.{MAX_TASKS, MAX_ISRS, MAX_COUNTERS, MAX_ALARMS, MAX_RESOURCES, MAX_MODES, MAX_BLOCKS}, Hooks.{hook_set}}
-use Rattle.osek_values.specs.Numbers.{counter_no, mask}
-use Rattle.oil_system.specs.{declared.objects.{Alarm.{Alarm}, Resource.{Resource}, Schedule.{Schedule}, Action.{Action}}, Objects.{greatest_ceiling}}
+use Rattle.osek_values.specs.Numbers.{counter_no}
+use Rattle.oil_system.specs.{declared.objects.{Alarm.{Alarm}, Resource.{Resource}, Action.{Action}}, Objects.{greatest_ceiling}}
 use Rattle.osek_standard.specs.{declared.objects.{Task.{Task}, Isr.{Isr}, Counter.{Counter}}, Validity.{no_counter, owners}}
-use Rattle.image_codec.specs.declared.{fault.ImageRule.TheVariants.{I3, I5}, parts.{Header.{Header}, Range.{Range}}}
 use Rattle.image_model.specs.declared.image.Version.{Version}
-use Rattle.image_codec.specs.Laws.{HeaderFaults, EntryFaults}
+use Rattle.image_codec.specs.{declared.{fault.ImageRule.TheVariants.{I3, I5}, parts.{Header.{Header}, Range.{Range}}}, Laws.{HeaderFaults, EntryFaults}}
 use Rattle.image_codec.specs.Reading.{Read, ◌>>=◌, unused_byte_at, unused_16_at, name_at, number_at, tested_byte_at, tested_at, byte_below_at, modes_at, range_at}
-use Rattle.image_codec.specs.TableReading.{version_at, header_at, schedule_of, schedule_at, task_at, isr_at, counter_at, is_action_mask, action_of, action_at, is_start_time, is_start_cycle, alarm_at, resource_at}
-use Rattle.image_codec.specs.FieldTable.{fault_of, Field, field, any, some, below, at_most, none_of, first_broken, behind, magic_field, further_field, unused_field, name_field, header_fields, range_fields, modes_field, task_head, task_fields, isr_head, isr_fields, counter_fields, action_fields, start_fields, alarm_fields, resource_fields}
-use Rattle.image_codec.proofs.FieldFaults.{Covers, Any, Numbered, covers_then, covers_made, number_covers, tested_covers, cross_covers, byte_covers, magic_covers, unused_byte_covers, unused_16_covers, name_covers, range_covers, fault_covered}
+use Rattle.image_codec.specs.TableReading.{version_at, header_at, schedule_of, schedule_at, task_at, isr_at, counter_at, is_action_mask, action_of, action_at, is_start_time}
+use Rattle.image_codec.specs.TableReading.{is_start_cycle, alarm_at, resource_at, task_with, isr_with, resource_with}
+use Rattle.image_codec.specs.FieldTable.{fault_of, Field, field, any, some, below, at_most, none_of, first_broken, behind, magic_field, further_field, unused_field, name_field}
+use Rattle.image_codec.specs.FieldTable.{header_fields, range_fields, modes_field, task_head, task_fields, isr_head, isr_fields, counter_fields, action_fields, start_fields}
+use Rattle.image_codec.specs.FieldTable.{alarm_fields, resource_fields}
+use Rattle.image_codec.proofs.FieldFaults.{Covers, Any, Numbered, covers_then, covers_made, number_covers, tested_covers, cross_covers, byte_covers, magic_covers}
+use Rattle.image_codec.proofs.FieldFaults.{unused_byte_covers, unused_16_covers, name_covers, range_covers, fault_covered}
 
 -- what is read follows the fields, and the value is so
 record Follows {A : Type 0} (P : A → Type 0) (fs : List Field) (bytes : List ℕ) (read : Read A) : Type 0 where
@@ -92,10 +95,6 @@ schedule_covers : (bytes : List ℕ) → Follows Any (field w8 (below 2) any ∷
 unfolding schedule_at
 schedule_covers bytes = made schedule_of (a_byte (below 2) bytes)
 
-abbrev a_task : List ℕ → ℕ → Schedule → ℕ → ℕ → Range → Task
-a_task name priority schedule own autostart code =
-    record { name = name; priority = priority; schedule = schedule; own = mask own; autostart = autostart; first = code.first; count = code.count }
-
 task_covers : (n : Header) (earlier : List Task) (bytes : List ℕ) → Follows Any (task_fields n earlier bytes) bytes (task_at n earlier bytes)
 unfolding task_at
 task_covers n earlier bytes =
@@ -106,17 +105,14 @@ task_covers n earlier bytes =
     next _ (a_byte (below (2 ^ n.modes)) _) (λ autostart _.
     rest_of _ (a_code n.blocks (owners earlier [] []) (behind (task_head n earlier) bytes)) (λ code.
     rest_of _ (an_unused_byte n.version 1 _) (λ activation.
-    done_by (a_task name priority schedule own autostart code) (an_unused_byte n.version 0xff _))))))))
-
-abbrev an_isr : List ℕ → Range → Isr
-an_isr name code = record { name = name; first = code.first; count = code.count }
+    done_by (task_with name priority schedule own autostart code) (an_unused_byte n.version 0xff _))))))))
 
 isr_covers : (n : Header) (tasks : List Task) (earlier : List Isr) (bytes : List ℕ) → Follows Any (isr_fields n tasks earlier bytes) bytes (isr_at n tasks earlier bytes)
 unfolding isr_at
 isr_covers n tasks earlier bytes =
     next _ (a_name (map (λ (x : Isr). x.name) earlier) bytes) (λ name _.
     rest_of _ (a_code n.blocks (owners tasks earlier []) (behind (isr_head earlier) bytes)) (λ code.
-    done_by (an_isr name code) (an_unused_byte n.version 0 _)))
+    done_by (isr_with name code) (an_unused_byte n.version 0 _)))
 
 -- ---- counters
 
@@ -212,16 +208,13 @@ module _ (n : Header) (counters : List Counter) (earlier : List Alarm) where
 
 -- ---- resources
 
-abbrev a_resource : List ℕ → ℕ → Resource
-a_resource name ceiling = record { name = name; ceiling = ceiling }
-
 resource_covers : (v : Version) (earlier : List Resource) (bytes : List ℕ) → Follows Any (resource_fields v earlier) bytes (resource_at v earlier bytes)
 unfolding resource_at
 resource_covers v earlier bytes =
     next _ (a_name (map (λ (x : Resource). x.name) earlier) bytes) (λ name _.
     next _ (a_tested w32 (at_most greatest_ceiling) _) (λ ceiling _.
     rest_of _ (an_unused_byte v 0 _) (λ property.
-    done_by (a_resource name ceiling) (an_unused_16 v 0 _))))
+    done_by (resource_with name ceiling) (an_unused_16 v 0 _))))
 
 pub entry_faults : EntryFaults
 entry_faults = record {

@@ -1,19 +1,20 @@
 -- The parts of each image are good: what is spelled passes every test of reading.
-use Rattle.std.proofs.Common.{◌≡◌, ℕ, zero, suc, ◌+◌, ◌^◌, ◌<◌, ◌≤◌, Bool, true, false, cond, ◌&&◌, eqb, leb, ltb, List, [], ◌∷◌, ◌++◌, length, map, get_or, Option, Some, None, Ok, Err, refl, sym, ap, subst, ◌∙◌, append_assoc, arith, inl, inr}
-use Rattle.std.specs.{Prelude.{slice_index_or, nat_eq}, List.{list_any, zip, IsDistinct}}
-use Rattle.std.proofs.lemmas.{Bool.{and_parts, and_from, or_cases, eqb-true, eq-eqb, leb-true, le-leb, lt-ltb, not_from_false}, List.{append-nil, length-append}}
-use Rattle.std.proofs.{lemmas.List.Elements.{All-get_or}, Math.Seq.{get_or-append_seam}}
+use Rattle.std.proofs.Common.{◌≡◌, ℕ, zero, suc, ◌+◌, ◌^◌, ◌<◌, ◌≤◌, Bool, true, false, cond, ◌&&◌, eqb, leb, ltb, List, [], ◌∷◌, ◌++◌, length, map, get_or, Option, Some, None, Ok}
+use Rattle.std.proofs.Common.{Err, refl, sym, ap, subst, ◌∙◌, append_assoc, arith, inl, inr}
+use Rattle.std.proofs.lemmas.Bool.{and_parts, and_from, or_cases, eqb-true, eq-eqb, leb-true, le-leb, lt-ltb, not-true, not_from_false, true≢false}
+use Rattle.std.proofs.lemmas.List.{append-nil, length-append, Elements.{All-get_or}}
+use Rattle.std.proofs.Math.Seq.{get_or-append_seam}
+use Rattle.std.specs.{Prelude.{slice_index_or, nat_eq, not, IsTrue}, List.{list_any, zip, IsDistinct}}
+use Rattle.osek_values.specs.{Names.{AreNames}, declared.numbers.ResNo.{ResNo}}
 use Rattle.oil_system.specs.declared.objects.{Alarm.{Alarm}, Resource.{Resource}, Action.{Action}}
-use Rattle.osek_values.specs.Names.{AreNames}
 use Rattle.oil_system.specs.declared.objects.Action.TheVariants as action
 use Rattle.osek_standard.specs.declared.{objects.{Task.{Task}, Isr.{Isr}, Counter.{Counter}}, app.App.{App}}
-use Rattle.osek_standard.specs.Validity.{no_block, no_counter, meet, owners, is_cycle_of, IsAction, IsAlarmOf, IsOwner, IsValid}
-use Rattle.image_model.specs.declared.{site.Site.{Site}, image.Image.{Image}}
-use Rattle.image_codec.specs.declared.parts.{Header.{Header}, Range.{Range}, Tables.{Tables}, Parts.{Parts}}
+use Rattle.osek_standard.specs.Validity.{no_block, no_counter, meet, owners, is_cycle_of, IsAction, IsAlarmOf, IsOwner, IsValid, IsClosed, IsInternal, TakesOneActivation}
+use Rattle.osek_standard.specs.Validity.{NoneIsInternal, NoneNests, no_resource}
 use Rattle.osek_standard.specs.Apps.{is_site_in}
-use Rattle.image_model.specs.Sites.{IsSiteAt}
-use Rattle.image_codec.specs.{Spelling.{spelling}, Fits.{FitsTask, FitsAction, FitsBlock, FitsFormat}, BlockReading.{parts_at, all_at}, ImageReading.{parts_of}}
-use Rattle.image_codec.specs.{declared.fault.Fault.{Fault}, Laws.{OneSpelling}}
+use Rattle.image_model.specs.{declared.{site.Site.{Site}, image.Image.{Image}}, Sites.{IsSiteAt}}
+use Rattle.image_codec.specs.{declared.{parts.{Header.{Header}, Range.{Range}, Tables.{Tables}, Parts.{Parts}}, fault.Fault.{Fault}}, Spelling.{spelling}}
+use Rattle.image_codec.specs.{Fits.{FitsTask, FitsAction, FitsBlock, FitsFormat}, BlockReading.{parts_at, all_at}, ImageReading.{parts_of}, Laws.{OneSpelling}}
 use Rattle.image_codec.proofs.{Spells.{done_with, ok_is}, FieldLaws.{is_fresh, GoodRange}}
 use Rattle.image_codec.proofs.TableLaws.{GoodTask, GoodIsr, GoodCounter, GoodAction, GoodAlarm, GoodResource, GoodMode, GoodTables, range_of, isr_range_of, counter_range_of}
 use Rattle.image_codec.proofs.{BlockLaws.{Entry, GoodBlock}, PartsLaws.{header_of, parts_law, GoodHeader, GoodParts, spelling_is, all_again}}
@@ -80,6 +81,16 @@ module _ (i : Image) (fits : FitsFormat i) where
   abbrev v : IsValid (tables_of_parts p)
   v = i.app.valid
 
+  -- what no image brings yet
+  shut : TakesOneActivation (tables_of_parts p) × NoneIsInternal (tables_of_parts p) × NoneNests (tables_of_parts p)
+  unfolding IsClosed
+  shut = v.closed
+
+  -- no task names an INTERNAL resource where there is none
+  none_inside : (o : Option ResNo) → IsInternal (tables_of_parts p) o → o ≡ None
+  none_inside None h = refl
+  none_inside (Some r) h = absurd (true≢false (sym h.1 ∙ not-true _ (All-get_or (λ (y : Resource). IsTrue (not y.internal)) t.resources r.0 no_resource h.0 shut.1)))
+
   abbrev ranges_t : List Task → List (ℕ × ℕ)
   ranges_t xs = map (λ (x : Task). (x.first.0, x.count)) xs
 
@@ -122,6 +133,8 @@ module _ (i : Image) (fits : FitsFormat i) where
         autostart_fits = byte_of_modes x.autostart starts;
         autostart = lt-ltb _ _ starts;
         code = good_range (length p.blocks) x.first.0 x.count (owners e [] []) (range_of x) refl refl o.some o.inside v.few_blocks (ap (list_any (λ k. meet k (x.first.0, x.count))) earlier ∙ apart);
+        once = here_of_all (λ (y : Task). y.activation ≡ 1) t.tasks e x l same shut.0;
+        outside = none_inside x.internal (here_of_all (λ (y : Task). IsInternal (tables_of_parts p) y.internal) t.tasks e x l same v.internals);
       }
 
   isr_here : (e : List Isr) (x : Isr) (l : List Isr) → e ++ x ∷ l ≡ t.isrs → GoodIsr n t.tasks e x
@@ -132,6 +145,7 @@ module _ (i : Image) (fits : FitsFormat i) where
       record {
         fresh = here_fresh (λ (y : Isr). y.name) t.isrs e x l same v.isr_names;
         code = good_range (length p.blocks) x.first.0 x.count (owners t.tasks e []) (isr_range_of x) refl refl o.some o.inside v.few_blocks (ap (list_any (λ k. meet k (x.first.0, x.count))) earlier ∙ apart);
+        lowest = here_of_all (λ (y : Isr). y.priority ≡ 0) t.isrs e x l same shut.2.0;
       }
 
   counter_here : (e : List Counter) (x : Counter) (l : List Counter) → e ++ x ∷ l ≡ t.counters → GoodCounter n t.tasks t.isrs e x
@@ -178,6 +192,8 @@ module _ (i : Image) (fits : FitsFormat i) where
         fresh = here_fresh (λ (y : Resource). y.name) t.resources e x l same v.resource_names;
         ceiling_fits = omega (arith, c);
         ceiling = le-leb x.ceiling 131071 c;
+        takable = not-true x.internal (here_of_all (λ (y : Resource). IsTrue (not y.internal)) t.resources e x l same shut.1);
+        no_interrupt_ceiling = here_of_all (λ (y : Resource). y.interrupt_ceiling ≡ 0) t.resources e x l same shut.2.1;
       }
 
   mode_here : (e : List (List ℕ)) (x : List ℕ) (l : List (List ℕ)) → e ++ x ∷ l ≡ t.modes → GoodMode e x

@@ -1,18 +1,21 @@
 -- Readers of the header and the tables, and their spellings.
-use Rattle.std.proofs.Common.{◌≡◌, ℕ, zero, suc, ◌^◌, ◌<◌, Bool, true, false, cond, not, eqb, List, [], ◌++◌, map, Ok, refl, sym, ap, ◌∙◌, arith}
-use Rattle.std.specs.{Prelude.{nat_lt, nat_le, nat_eq, slice_index_or}, Int.{w16, w32, w64}, List.{list_any, flat_map}}
+use Rattle.std.proofs.Common.{◌≡◌, ℕ, zero, suc, ◌^◌, ◌<◌, Bool, true, false, cond, not, eqb, List, [], ◌++◌, map, Ok, refl, sym, ap, ◌∙◌, arith, None}
 use Rattle.std.proofs.lemmas.Bool.{ltb-true, lt-ltb, eqb-true}
+use Rattle.std.specs.{Prelude.{nat_lt, nat_le, nat_eq, slice_index_or}, Int.{w16, w32, w64}, List.{list_any, flat_map}}
 use Rattle.osek_values.specs.Numbers.{task_no, counter_no, mask}
-use Rattle.oil_system.specs.declared.objects.{Alarm.{Alarm}, Resource.{Resource}, Action.{Action}, Schedule.{Schedule}}
+use Rattle.oil_system.specs.declared.objects.{Alarm.{Alarm}, Resource.{Resource}, Action.{Action}}
 use Rattle.oil_system.specs.declared.objects.Action.TheVariants as action
 use Rattle.osek_standard.specs.{declared.objects.{Task.{Task}, Isr.{Isr}, Counter.{Counter}}, Validity.{no_counter, owners}}
-use Rattle.image_codec.specs.declared.{fault.ImageRule.TheVariants.{I3, I5}, parts.{Header.{Header}, Range.{Range}, Tables.{Tables}}}
 use Rattle.image_model.specs.declared.image.Version.{Version}
-use Rattle.image_codec.specs.Spelling.{one, two, four, eight, further, name_bytes, range_bytes, schedule_number, task_bytes, isr_bytes, counter_bytes, action_bytes, alarm_bytes, resource_bytes}
+use Rattle.image_codec.specs.declared.{fault.ImageRule.TheVariants.{I3, I5}, parts.{Header.{Header}, Range.{Range}, Tables.{Tables}}}
+use Rattle.image_codec.specs.Spelling.{one, two, four, eight, further, name_bytes, range_bytes, schedule_number, task_bytes, isr_bytes, counter_bytes, action_bytes, alarm_bytes}
+use Rattle.image_codec.specs.Spelling.{resource_bytes}
 use Rattle.image_codec.specs.Reading.{number_at, tested_at, byte_below_at, unused_byte_at, unused_16_at, name_at, modes_at, range_at, entries_at}
-use Rattle.image_codec.specs.TableReading.{schedule_at, task_at, isr_at, counter_at, is_action_mask, action_of, action_at, is_start_time, is_start_cycle, alarm_at, resource_at, tables_at}
+use Rattle.image_codec.specs.TableReading.{schedule_at, task_at, isr_at, counter_at, is_action_mask, action_of, action_at, is_start_time, is_start_cycle, alarm_at, resource_at}
+use Rattle.image_codec.specs.TableReading.{tables_at, task_with, isr_with, resource_with}
 use Rattle.image_codec.proofs.VersionLaws.{unused_byte_law, unused_16_law}
-use Rattle.image_codec.proofs.Spells.{joined3, joined4, joined6, joined8, Spells, nothing_more, and_then, said, wide16, wide32, wide64, number_law, Tested, tested_byte_law, tested_number_law, GoodEntries, entries_law}
+use Rattle.image_codec.proofs.Spells.{joined3, joined4, joined6, joined8, Spells, nothing_more, and_then, said, wide16, wide32, wide64, number_law, Tested, tested_byte_law}
+use Rattle.image_codec.proofs.Spells.{tested_number_law, GoodEntries, entries_law}
 use Rattle.image_codec.proofs.FieldLaws.{is_fresh, name_law, GoodRange, range_law, schedule_law}
 
 abbrev is_below : ℕ → ℕ → Bool
@@ -27,8 +30,18 @@ is_own_priority earlier p = not (list_any (λ (x : Task). nat_eq x.priority p) e
 abbrev pub range_of : Task → Range
 range_of x = record { first = x.first; count = x.count }
 
-abbrev a_task : List ℕ → ℕ → Schedule → ℕ → ℕ → Range → Task
-a_task name priority schedule own autostart code = record { name = name; priority = priority; schedule = schedule; own = mask own; autostart = autostart; first = code.first; count = code.count }
+task_is : (x : Task) → x.activation ≡ 1 → x.internal ≡ None → x ≡ task_with x.name x.priority x.schedule x.own.0 x.autostart (range_of x)
+task_is x once outside = λ i. record {
+  name = x.name;
+  priority = x.priority;
+  schedule = x.schedule;
+  own = x.own;
+  autostart = x.autostart;
+  first = x.first;
+  count = x.count;
+  activation = once i;
+  internal = outside i;
+}
 
 pub record GoodTask (n : Header) (earlier : List Task) (x : Task) : Type 0 where
   pub fresh : is_fresh (task_names earlier) x.name ≡ true
@@ -38,6 +51,8 @@ pub record GoodTask (n : Header) (earlier : List Task) (x : Task) : Type 0 where
   pub autostart_fits : x.autostart < 256
   pub autostart : is_below (2 ^ n.modes) x.autostart ≡ true
   pub code : GoodRange n.blocks (owners earlier [] []) (range_of x)
+  pub once : x.activation ≡ 1
+  pub outside : x.internal ≡ None
 
 pub task_law : (n : Header) (earlier : List Task) → Spells (task_at n earlier) (task_bytes n.version) (GoodTask n earlier)
 unfolding task_at
@@ -50,8 +65,9 @@ task_law n earlier =
     and_then (modes_at n.modes) one _ (λ (x : Task). x.autostart) _ _ _ (tested_byte_law (is_below (2 ^ n.modes)) I3) (λ autostart _.
     and_then (range_at n.blocks (owners earlier [] [])) (λ (r : Range). range_bytes r.first r.count) _ range_of _ _ _ (range_law n.blocks (owners earlier [] [])) (λ code _.
     and_then (unused_byte_at n.version 1) (λ k. further n.version (one k)) (λ k. k ≡ 1) (λ (_ : Task). 1) _ _ _ (unused_byte_law n.version 1 (omega arith)) (λ activation _.
-    and_then (unused_byte_at n.version 0xff) (λ k. further n.version (one k)) (λ k. k ≡ 0xff) (λ (_ : Task). 0xff) (λ _ rest. Ok (a_task name priority schedule own autostart code, rest)) (λ _. []) (λ _ x. x ≡ a_task name priority schedule own autostart code)
-    (unused_byte_law n.version 0xff (omega arith)) (λ _ _. nothing_more (a_task name priority schedule own autostart code))
+    and_then (unused_byte_at n.version 0xff) (λ k. further n.version (one k)) (λ k. k ≡ 0xff) (λ (_ : Task). 0xff)
+    (λ _ rest. Ok (task_with name priority schedule own autostart code, rest)) (λ _. []) (λ _ x. x ≡ task_with name priority schedule own autostart code)
+    (unused_byte_law n.version 0xff (omega arith)) (λ _ _. nothing_more (task_with name priority schedule own autostart code))
     (λ k x good _. sym good))
     (λ k x good _. sym good))
     (λ code x _ good. ap range_of good.1.1))
@@ -61,8 +77,24 @@ task_law n earlier =
     (λ priority x _ good. ap (λ (y : Task). y.priority) good.1.1.1.1.1.1))
     (λ name x _ good. ap (λ (y : Task). y.name) good.1.1.1.1.1.1.1))
     (λ x. joined8 (name_bytes x.name) (two x.priority) (one (schedule_number x.schedule)) (eight x.own.0) (one x.autostart) (range_bytes x.first x.count) (further n.version (one 1)) (further n.version (one 0xff)))
-    (λ x good. record { fresh = good.0; priority_fits = good.1.0.0; priority_own = good.1.0.1; own_fits = good.1.1.1.0; autostart_fits = good.1.1.1.1.0.0; autostart = good.1.1.1.1.0.1; code = good.1.1.1.1.1.0 })
-    (λ x good. (good.fresh, ((good.priority_fits, good.priority_own), (tt, (good.own_fits, ((good.autostart_fits, good.autostart), (good.code, (refl, (refl, refl)))))))))
+    (λ x good. record {
+      fresh = good.0;
+      priority_fits = good.1.0.0;
+      priority_own = good.1.0.1;
+      own_fits = good.1.1.1.0;
+      autostart_fits = good.1.1.1.1.0.0;
+      autostart = good.1.1.1.1.0.1;
+      code = good.1.1.1.1.1.0;
+      once = ap (λ (y : Task). y.activation) good.1.1.1.1.1.1.1.1;
+      outside = ap (λ (y : Task). y.internal) good.1.1.1.1.1.1.1.1;
+    })
+    (λ x good. (
+      good.fresh,
+      (
+        (good.priority_fits, good.priority_own),
+        (tt, (good.own_fits, ((good.autostart_fits, good.autostart), (good.code, (refl, (refl, task_is x good.once good.outside)))))),
+      ),
+    ))
 
 -- ---- ISRs
 
@@ -72,12 +104,13 @@ isr_names xs = map (λ (x : Isr). x.name) xs
 abbrev pub isr_range_of : Isr → Range
 isr_range_of x = record { first = x.first; count = x.count }
 
-abbrev an_isr : List ℕ → Range → Isr
-an_isr name code = record { name = name; first = code.first; count = code.count }
+isr_is : (x : Isr) → x.priority ≡ 0 → x ≡ isr_with x.name (isr_range_of x)
+isr_is x lowest = λ i. record { name = x.name; first = x.first; count = x.count; priority = lowest i }
 
 pub record GoodIsr (n : Header) (tasks : List Task) (earlier : List Isr) (x : Isr) : Type 0 where
   pub fresh : is_fresh (isr_names earlier) x.name ≡ true
   pub code : GoodRange n.blocks (owners tasks earlier []) (isr_range_of x)
+  pub lowest : x.priority ≡ 0
 
 pub isr_law : (n : Header) (tasks : List Task) (earlier : List Isr) → Spells (isr_at n tasks earlier) (isr_bytes n.version) (GoodIsr n tasks earlier)
 unfolding isr_at
@@ -85,14 +118,14 @@ isr_law n tasks earlier =
     said (isr_at n tasks earlier) _ _ (isr_bytes n.version) (GoodIsr n tasks earlier)
     (and_then (name_at (isr_names earlier)) name_bytes _ (λ (x : Isr). x.name) _ _ _ (name_law (isr_names earlier)) (λ name _.
     and_then (range_at n.blocks (owners tasks earlier [])) (λ (r : Range). range_bytes r.first r.count) _ isr_range_of _ _ _ (range_law n.blocks (owners tasks earlier [])) (λ code _.
-    and_then (unused_byte_at n.version 0) (λ k. further n.version (one k)) (λ k. k ≡ 0) (λ (_ : Isr). 0) (λ _ rest. Ok (an_isr name code, rest)) (λ _. []) (λ _ x. x ≡ an_isr name code)
-    (unused_byte_law n.version 0 (omega arith)) (λ _ _. nothing_more (an_isr name code))
+    and_then (unused_byte_at n.version 0) (λ k. further n.version (one k)) (λ k. k ≡ 0) (λ (_ : Isr). 0) (λ _ rest. Ok (isr_with name code, rest)) (λ _. []) (λ _ x. x ≡ isr_with name code)
+    (unused_byte_law n.version 0 (omega arith)) (λ _ _. nothing_more (isr_with name code))
     (λ k x good _. sym good))
     (λ code x _ good. ap isr_range_of good.1))
     (λ name x _ good. ap (λ (y : Isr). y.name) good.1.1))
     (λ x. joined3 (name_bytes x.name) (range_bytes x.first x.count) (further n.version (one 0)))
-    (λ x good. record { fresh = good.0; code = good.1.0 })
-    (λ x good. (good.fresh, (good.code, (refl, refl))))
+    (λ x good. record { fresh = good.0; code = good.1.0; lowest = ap (λ (y : Isr). y.priority) good.1.1.1 })
+    (λ x good. (good.fresh, (good.code, (refl, isr_is x good.lowest))))
 
 -- ---- counters
 
@@ -248,13 +281,15 @@ alarm_law n counters earlier =
 abbrev pub resource_names : List Resource → List (List ℕ)
 resource_names xs = map (λ (x : Resource). x.name) xs
 
-abbrev a_resource : List ℕ → ℕ → Resource
-a_resource name ceiling = record { name = name; ceiling = ceiling }
+resource_is : (x : Resource) → x.internal ≡ false → x.interrupt_ceiling ≡ 0 → x ≡ resource_with x.name x.ceiling
+resource_is x takable none = λ i. record { name = x.name; ceiling = x.ceiling; internal = takable i; interrupt_ceiling = none i }
 
 pub record GoodResource (earlier : List Resource) (x : Resource) : Type 0 where
   pub fresh : is_fresh (resource_names earlier) x.name ≡ true
   pub ceiling_fits : x.ceiling < 2 ^ 32
   pub ceiling : is_at_most 131071 x.ceiling ≡ true
+  pub takable : x.internal ≡ false
+  pub no_interrupt_ceiling : x.interrupt_ceiling ≡ 0
 
 pub resource_law : (v : Version) (earlier : List Resource) → Spells (resource_at v earlier) (resource_bytes v) (GoodResource earlier)
 unfolding resource_at
@@ -263,15 +298,22 @@ resource_law v earlier =
     (and_then (name_at (resource_names earlier)) name_bytes _ (λ (x : Resource). x.name) _ _ _ (name_law (resource_names earlier)) (λ name _.
     and_then (tested_at w32 (is_at_most 131071) I3) four _ (λ (x : Resource). x.ceiling) _ _ _ (tested_number_law w32 (2 ^ 32) wide32 (is_at_most 131071) I3) (λ ceiling _.
     and_then (unused_byte_at v 0) (λ k. further v (one k)) (λ k. k ≡ 0) (λ (_ : Resource). 0) _ _ _ (unused_byte_law v 0 (omega arith)) (λ property _.
-    and_then (unused_16_at v 0) (λ k. further v (two k)) (λ k. k ≡ 0) (λ (_ : Resource). 0) (λ _ rest. Ok (a_resource name ceiling, rest)) (λ _. []) (λ _ x. x ≡ a_resource name ceiling)
-    (unused_16_law v 0 (omega arith)) (λ _ _. nothing_more (a_resource name ceiling))
+    and_then (unused_16_at v 0) (λ k. further v (two k)) (λ k. k ≡ 0) (λ (_ : Resource). 0) (λ _ rest. Ok (resource_with name ceiling, rest)) (λ _. [])
+    (λ _ x. x ≡ resource_with name ceiling)
+    (unused_16_law v 0 (omega arith)) (λ _ _. nothing_more (resource_with name ceiling))
     (λ k x good _. sym good))
     (λ k x good _. sym good))
     (λ ceiling x _ good. ap (λ (y : Resource). y.ceiling) good.1.1))
     (λ name x _ good. ap (λ (y : Resource). y.name) good.1.1.1))
     (λ x. joined4 (name_bytes x.name) (four x.ceiling) (further v (one 0)) (further v (two 0)))
-    (λ x good. record { fresh = good.0; ceiling_fits = good.1.0.0; ceiling = good.1.0.1 })
-    (λ x good. (good.fresh, ((good.ceiling_fits, good.ceiling), (refl, (refl, refl)))))
+    (λ x good. record {
+      fresh = good.0;
+      ceiling_fits = good.1.0.0;
+      ceiling = good.1.0.1;
+      takable = ap (λ (y : Resource). y.internal) good.1.1.1.1;
+      no_interrupt_ceiling = ap (λ (y : Resource). y.interrupt_ceiling) good.1.1.1.1;
+    })
+    (λ x good. (good.fresh, ((good.ceiling_fits, good.ceiling), (refl, (refl, resource_is x good.takable good.no_interrupt_ceiling)))))
 
 -- ---- modes
 

@@ -1,24 +1,23 @@
 -- What was read is a valid application, with its sites.
-use Rattle.std.proofs.Common.{◌≡◌, ℕ, suc, ◌+◌, ◌^◌, ◌<◌, ◌≤◌, Bool, true, false, cond, not, ◌&&◌, eqb, leb, ltb, List, [], ◌++◌, length, map, get_or, Option, Some, None, All, refl, sym, ap, subst, ◌∙◌, arith, inl, inr}
-use Rattle.std.specs.{Prelude.{slice_index_or, nat_eq}, List.{list_any, zip, IsDistinct}}
+use Rattle.std.proofs.Common.{◌≡◌, ℕ, suc, ◌+◌, ◌^◌, ◌<◌, ◌≤◌, Bool, true, false, cond, not, ◌&&◌, eqb, leb, ltb, List, [], ◌++◌, length, map, get_or, Option, Some, None, All}
+use Rattle.std.proofs.Common.{refl, sym, ap, subst, ◌∙◌, arith, inl, inr}
 use Rattle.std.proofs.lemmas.{Bool.{and_parts, eqb-true, eq-eqb, leb-true, ltb-true, not-true, or_left}, List.{append-nil}}
-use Rattle.oil_system.specs.declared.objects.{Alarm.{Alarm}, Resource.{Resource}, Action.{Action}}
+use Rattle.std.specs.{Prelude.{slice_index_or, nat_eq, IsTrue}, List.{list_any, zip, IsDistinct}}
 use Rattle.osek_values.specs.Names.{AreNames}
+use Rattle.oil_system.specs.declared.objects.{Alarm.{Alarm}, Resource.{Resource}, Action.{Action}}
 use Rattle.oil_system.specs.declared.objects.Action.TheVariants as action
-use Rattle.osek_standard.specs.declared.{objects.{Task.{Task}, Isr.{Isr}, Counter.{Counter}}, block.{Block.{Block}, Kind.{Kind}}}
+use Rattle.osek_standard.specs.declared.{objects.{Task.{Task}, Isr.{Isr}, Counter.{Counter}}, block.{Block.{Block}, Kind.{Kind}}, app.App.{App}}
+use Rattle.osek_standard.specs.Validity.{no_block, no_counter, meet, owners, is_cycle_of, IsAction, IsAlarmOf, IsValid, IsClosed, IsInternal, NoneIsInternal}
+use Rattle.osek_standard.specs.{Versions.{FitsVersion1}, Apps.{is_site, is_site_in}}
 use Rattle.osek_standard.specs.declared.block.Kind.TheVariants as kind
+use Rattle.image_model.specs.{declared.{site.{Form.{Form}, Known.{Known}, Site.{Site}}, image.Version.{Version}}, Versions.{IsUnknown, SaysNothing, FitsBothVersions, FitsAlone}}
+use Rattle.image_model.specs.Sites.{IsForm, IsSiteAt, AreSites}
 use Rattle.image_model.specs.CallNames as call
-use Rattle.osek_standard.specs.{declared.app.App.{App}, Validity.{no_block, no_counter, meet, owners, is_cycle_of, IsAction, IsAlarmOf, IsValid}, Versions.{FitsVersion1}}
-use Rattle.osek_standard.specs.Apps.{is_site, is_site_in}
-use Rattle.image_model.specs.declared.site.{Form.{Form}, Known.{Known}, Site.{Site}}
 use Rattle.image_model.specs.declared.site.Form.TheVariants as form
 use Rattle.image_model.specs.declared.site.Known.TheVariants as known
-use Rattle.image_model.specs.declared.image.Version.{Version}
 use Rattle.image_model.specs.declared.image.Version.TheVariants as version
-use Rattle.image_model.specs.Versions.{IsUnknown, SaysNothing, FitsBothVersions, FitsAlone}
-use Rattle.image_codec.specs.declared.parts.{Header.{Header}, Tables.{Tables}, Parts.{Parts}}
-use Rattle.image_model.specs.Sites.{IsForm, IsSiteAt, AreSites}
-use Rattle.image_codec.specs.{Spelling.{form_number}, Fits.{FitsTask, FitsAction, FitsKind, FitsParts}, BlockReading.{form_of}}
+use Rattle.image_codec.specs.{declared.parts.{Header.{Header}, Tables.{Tables}, Parts.{Parts}}, Spelling.{form_number}, Fits.{FitsTask, FitsAction, FitsKind, FitsParts}}
+use Rattle.image_codec.specs.BlockReading.{form_of}
 use Rattle.image_codec.proofs.{FieldLaws.{is_fresh, is_inside}, TableLaws.{GoodTask, GoodIsr, GoodCounter, GoodAction, GoodAlarm, GoodResource, GoodMode}, KindLaws.{GoodOperands}}
 use Rattle.image_codec.proofs.{FoundLaws.{first_choice}, SiteLaws.{GoodSite}, BlockLaws.{unwayed, GoodBlock}, PartsLaws.{header_of, GoodParts}}
 use Rattle.image_codec.proofs.{EachLaws.{each_all, each_distinct, each_named, distinct_nil}, OwnerTests.{any_of_map, map_same}, WholeTables.{tables_of_parts}}
@@ -165,6 +164,20 @@ module _ (p : Parts) (good : GoodParts p) where
     cycle = start_cycle_fits (slice_index_or t.counters x.counter.0 no_counter) x.cycle (eqb x.autostart 0) g.cycle;
   }
 
+  takable : NoneIsInternal (tables_of_parts p)
+  takable = each_all GoodResource (λ (x : Resource). IsTrue (not x.internal)) (λ e x g. ap (λ (b : Bool). not b) g.takable) t.resources good.tables.resources.1
+
+  closed_parts : IsClosed (tables_of_parts p)
+  unfolding IsClosed
+  closed_parts = (
+    each_all (GoodTask n) (λ (x : Task). x.activation ≡ 1) (λ e x g. g.once) t.tasks good.tables.tasks.1,
+    takable,
+    (
+      each_all (GoodIsr n t.tasks) (λ (x : Isr). x.priority ≡ 0) (λ e x g. g.lowest) t.isrs good.tables.isrs.1,
+      each_all GoodResource (λ (x : Resource). x.interrupt_ceiling ≡ 0) (λ e x g. g.no_interrupt_ceiling) t.resources good.tables.resources.1,
+    ),
+  )
+
   pub valid_parts : IsValid (tables_of_parts p)
   valid_parts = record {
     known_hooks = ltb-true _ _ good.header.hooks.1;
@@ -183,25 +196,33 @@ module _ (p : Parts) (good : GoodParts p) where
     resource_names = each_named GoodResource (λ (x : Resource). x.name) (λ e x g. g.fresh) t.resources good.tables.resources.1;
     mode_names = subst AreNames (map_same t.modes)
         (each_named GoodMode (λ (x : List ℕ). x) (λ e x g. subst (λ ms. is_fresh ms x ≡ true) (sym (map_same e)) g) t.modes good.tables.modes.1);
-    each_task = λ k d lt. let code = tasks_inside k d lt in task_owner p good.same block_fact k d lt (some_of _ _ _ code) (inside_of _ _ _ code);
-    task_code = λ k d lt. let code = tasks_inside k d lt in task_code p good.same block_fact k d lt (inside_of _ _ _ code);
+    each_task = λ k d lt. let code = tasks_inside k d lt in task_owner p good.same block_fact takable k d lt (some_of _ _ _ code) (inside_of _ _ _ code);
+    task_code = λ k d lt. let code = tasks_inside k d lt in task_code p good.same block_fact takable k d lt (inside_of _ _ _ code);
     task_starts = each_all (GoodTask n) (λ (x : Task). x.autostart < 2 ^ length t.modes) (λ e x g. ltb-true _ _ g.autostart) t.tasks good.tables.tasks.1;
-    each_isr = λ k d lt. let code = isrs_inside k d lt in isr_owner p good.same block_fact k d lt (some_of _ _ _ code) (inside_of _ _ _ code);
-    isr_code = λ k d lt. let code = isrs_inside k d lt in isr_code p good.same block_fact k d lt (inside_of _ _ _ code);
+    activations = each_all (GoodTask n) (λ (x : Task). (1 ≤ x.activation) × (x.activation ≤ 255)) (λ e x g. (omega (arith, g.once), omega (arith, g.once))) t.tasks good.tables.tasks.1;
+    extended_once = each_all (GoodTask n) (λ (x : Task). 0 < x.own.0 → x.activation ≡ 1) (λ e x g _. g.once) t.tasks good.tables.tasks.1;
+    internals =
+        each_all (GoodTask n) (λ (x : Task). IsInternal (tables_of_parts p) x.internal)
+        (λ e x g. subst (IsInternal (tables_of_parts p)) (sym g.outside) tt) t.tasks good.tables.tasks.1;
+    each_isr = λ k d lt. let code = isrs_inside k d lt in isr_owner p good.same block_fact takable k d lt (some_of _ _ _ code) (inside_of _ _ _ code);
+    isr_code = λ k d lt. let code = isrs_inside k d lt in isr_code p good.same block_fact takable k d lt (inside_of _ _ _ code);
+    isr_priorities = each_all (GoodIsr n t.tasks) (λ (x : Isr). x.priority < 256) (λ e x g. omega (arith, g.lowest)) t.isrs good.tables.isrs.1;
     each_counter = λ k d lt.
         let code = counters_inside k d lt in (
           each_all (GoodCounter n t.tasks t.isrs) (λ (x : Counter). 1 ≤ x.max) (λ e x g. ltb-true _ _ g.max_some) t.counters good.tables.counters.1 k d lt,
-          counter_owner p good.same block_fact k d lt (some_of _ _ _ code) (inside_of _ _ _ code),
+          counter_owner p good.same block_fact takable k d lt (some_of _ _ _ code) (inside_of _ _ _ code),
         );
     min_cycles = each_all (GoodCounter n t.tasks t.isrs) (λ (x : Counter). x.min_cycle ≤ x.max) (λ e x g. leb-true _ _ g.min_within) t.counters good.tables.counters.1;
-    tick_code = λ c lt. let code = counters_inside c no_counter lt in tick_code p good.same block_fact c no_counter lt (some_of _ _ _ code) (inside_of _ _ _ code);
+    tick_code = λ c lt. let code = counters_inside c no_counter lt in tick_code p good.same block_fact takable c no_counter lt (some_of _ _ _ code) (inside_of _ _ _ code);
     each_alarm = each_all (GoodAlarm n t.counters) (IsAlarmOf (tables_of_parts p)) (λ e x g. alarm_is x e g) t.alarms good.tables.alarms.1;
     alarm_starts = each_all (GoodAlarm n t.counters) (λ (x : Alarm). x.autostart < 2 ^ length t.modes) (λ e x g. ltb-true _ _ g.autostart) t.alarms good.tables.alarms.1;
     no_starts = each_all (GoodAlarm n t.counters) (λ (x : Alarm). x.autostart ≡ 0 → (x.time ≡ 0) × (x.cycle ≡ 0))
         (λ e x g none. (start_none (eqb x.autostart 0) _ x.time (eq-eqb x.autostart 0 none) g.time, start_none (eqb x.autostart 0) _ x.cycle (eq-eqb x.autostart 0 none) g.cycle)) t.alarms good.tables.alarms.1;
     ceilings = each_all GoodResource (λ (x : Resource). x.ceiling ≤ 131071) (λ e x g. leb-true _ _ g.ceiling) t.resources good.tables.resources.1;
+    interrupt_ceilings = each_all GoodResource (λ (x : Resource). x.interrupt_ceiling ≤ 256) (λ e x g. omega (arith, g.no_interrupt_ceiling)) t.resources good.tables.resources.1;
     apart = apart_c;
-    owned = block_owned p good.same block_fact;
+    owned = block_owned p good.same block_fact takable;
+    closed = closed_parts;
   }
 
   priorities_parts : FitsVersion1 t.tasks

@@ -1,5 +1,5 @@
 -- Reading the header and the tables of an image.
-use Rattle.std.specs.Prelude.{ℕ, ◌+◌, ◌≤◌, Bool, not, ◌&&◌, nat_lt, nat_le, nat_eq, ◌==◌, List, [], length, map, Option, Some, None, Ok, slice_index_or, if◌then◌else◌}
+use Rattle.std.specs.Prelude.{ℕ, ◌+◌, ◌≤◌, Bool, false, not, ◌&&◌, nat_lt, nat_le, nat_eq, ◌==◌, List, [], length, map, Option, Some, None, Ok, slice_index_or, if◌then◌else◌}
 use Rattle.std.specs.{Int.{w16, w32, w64}, List.{list_any}, Str.{bytes_eq}}
 use Rattle.osek_values.specs.{declared.limits.TheConstants.{MAX_TASKS, MAX_ISRS, MAX_COUNTERS, MAX_ALARMS, MAX_RESOURCES, MAX_MODES, MAX_BLOCKS}, Hooks.{hook_set}}
 use Rattle.osek_values.specs.Numbers.{task_no, counter_no, mask}
@@ -7,7 +7,7 @@ use Rattle.oil_system.specs.declared.objects.{Alarm.{Alarm}, Resource.{Resource}
 use Rattle.oil_system.specs.declared.objects.Action.TheVariants as action
 use Rattle.oil_system.specs.Objects.{greatest_ceiling}
 use Rattle.osek_standard.specs.{declared.objects.{Task.{Task}, Isr.{Isr}, Counter.{Counter}}, Validity.{no_counter, is_cycle_of, owners}}
-use Rattle.image_codec.specs.{declared.{fault.ImageRule.TheVariants.{I2, I3, I5}, parts.{Header.{Header}, Tables.{Tables}}}, Spelling.{magic}}
+use Rattle.image_codec.specs.{declared.{fault.ImageRule.TheVariants.{I2, I3, I5}, parts.{Header.{Header}, Range.{Range}, Tables.{Tables}}}, Spelling.{magic}}
 use Rattle.image_codec.specs.Reading.{Read, ◌>>=◌, number_at, tested_byte_at, tested_at, byte_below_at, text_at, found_at, unused_byte_at, unused_16_at, name_at, modes_at, range_at, entries_at}
 use Rattle.image_model.specs.declared.image.Version.{Version}
 use Rattle.image_model.specs.declared.image.Version.TheVariants as version
@@ -53,6 +53,20 @@ schedule_at bytes = do
   n ← byte_below_at 2 bytes
   Ok (schedule_of n.0, n.1)
 
+-- a task that is read takes one activation at a time and names no INTERNAL resource
+abbrev pub task_with : List ℕ → ℕ → Schedule → ℕ → ℕ → Range → Task
+task_with name priority schedule own autostart code = record {
+  name = name;
+  priority = priority;
+  schedule = schedule;
+  own = mask own;
+  autostart = autostart;
+  first = code.first;
+  count = code.count;
+  activation = 1;
+  internal = None;
+}
+
 -- a task, with a priority of its own
 unfoldable pub task_at : Header → List Task → List ℕ → Read Task
 task_at n earlier bytes = do
@@ -64,14 +78,18 @@ task_at n earlier bytes = do
   code ← range_at n.blocks (owners earlier [] []) autostart.1
   activation ← unused_byte_at n.version 1 code.1
   internal ← unused_byte_at n.version 0xff activation.1
-  Ok (record { name = name.0; priority = priority.0; schedule = schedule.0; own = mask own.0; autostart = autostart.0; first = code.0.first; count = code.0.count }, internal.1)
+  Ok (task_with name.0 priority.0 schedule.0 own.0 autostart.0 code.0, internal.1)
+
+-- an ISR that is read has the lowest priority
+abbrev pub isr_with : List ℕ → Range → Isr
+isr_with name code = record { name = name; first = code.first; count = code.count; priority = 0 }
 
 unfoldable pub isr_at : Header → List Task → List Isr → List ℕ → Read Isr
 isr_at n tasks earlier bytes = do
   name ← name_at (map (λ (x : Isr). x.name) earlier) bytes
   code ← range_at n.blocks (owners tasks earlier []) name.1
   priority ← unused_byte_at n.version 0 code.1
-  Ok (record { name = name.0; first = code.0.first; count = code.0.count }, priority.1)
+  Ok (isr_with name.0 code.0, priority.1)
 
 unfoldable pub counter_at : Header → List Task → List Isr → List Counter → List ℕ → Read Counter
 counter_at n tasks isrs earlier bytes = do
@@ -112,13 +130,17 @@ alarm_at n counters earlier bytes = do
   cycle ← tested_at w32 (λ c. is_start_cycle (slice_index_or counters counter.0 no_counter) autostart.0 c) I3 time.1
   Ok (record { name = name.0; counter = counter_no counter.0; action = act.0; autostart = autostart.0; time = time.0; cycle = cycle.0 }, cycle.1)
 
+-- a resource that is read isn't INTERNAL, and keeps no ISR out
+abbrev pub resource_with : List ℕ → ℕ → Resource
+resource_with name ceiling = record { name = name; ceiling = ceiling; internal = false; interrupt_ceiling = 0 }
+
 unfoldable pub resource_at : Version → List Resource → List ℕ → Read Resource
 resource_at v earlier bytes = do
   name ← name_at (map (λ (x : Resource). x.name) earlier) bytes
   ceiling ← tested_at w32 (λ c. nat_le c greatest_ceiling) I3 name.1
   property ← unused_byte_at v 0 ceiling.1
   interrupt_ceiling ← unused_16_at v 0 property.1
-  Ok (record { name = name.0; ceiling = ceiling.0 }, interrupt_ceiling.1)
+  Ok (resource_with name.0 ceiling.0, interrupt_ceiling.1)
 
 -- the tables in order
 unfoldable pub tables_at : Header → List ℕ → Read Tables

@@ -80,6 +80,8 @@ fn task(
         autostart,
         first: code.first,
         count: code.count,
+        activation: 1,
+        internal: None,
     })
 }
 
@@ -100,6 +102,7 @@ fn isr(
         name,
         first: code.first,
         count: code.count,
+        priority: 0,
     })
 }
 
@@ -166,7 +169,12 @@ fn resource(
     let ceiling = at_most(reader, GREATEST_CEILING)?;
     let _property = reader.unused_byte(version, 0)?;
     let _interrupt_ceiling = reader.unused_16(version, 0)?;
-    Ok(Resource { name, ceiling })
+    Ok(Resource {
+        name,
+        ceiling,
+        internal: false,
+        interrupt_ceiling: 0,
+    })
 }
 
 fn read_tasks(alloc: Global, reader: &mut Reader, header: Header) -> Result<Seq<Task>, ReadError>

@@ -1,14 +1,12 @@
 -- One step of an image: as the kernel's, but at a site the form gives the outcome, or a trap, and another status than the
 -- known one is a trap.
 use Rattle.std.specs.Prelude.{ℕ, Bool, true, false, slice_index_or, Option, Some, None, option_map, if◌then◌else◌}
-use Rattle.osek_values.specs.declared.status.Ask.{Ask}
+use Rattle.osek_values.specs.declared.{status.Ask.{Ask}, event.Event.{Event}}
 use Rattle.osek_values.specs.declared.status.Ask.TheVariants as ask
-use Rattle.osek_values.specs.declared.event.Event.{Event}
-use Rattle.osek_standard.specs.{declared.{app.App.{App}, state.State.{State}}, TaskStates.{is_live}, States.{task_state, here}, Effects.{Effect, effect}}
+use Rattle.osek_standard.specs.{declared.{app.App.{App}, state.State.{State}}, TaskStates.{is_live}, States.{task_state, here, is_interrupted}, Effects.{Effect, effect}}
 use Rattle.osek_standard.specs.{Dispatch.{Outcome, Keep, To, outcome_of, Stepped, concluded}, Kernel.{step_with}}
-use Rattle.image_model.specs.declared.site.{Form.{Form}, Known.{Known}, Site.{Site}}
+use Rattle.image_model.specs.{declared.{site.{Form.{Form}, Known.{Known}, Site.{Site}}, image.Image.{Image}}, Statuses.{allows_status}}
 use Rattle.image_model.specs.declared.site.Form.TheVariants as form
-use Rattle.image_model.specs.{declared.image.Image.{Image}, Statuses.{allows_status}}
 
 -- the site at a block, its form, and what is known of its status
 abbrev pub site_at : Image → ℕ → Option Site
@@ -34,12 +32,13 @@ kept_by ask.Maybe = Some Keep
 kept_by ask.Left = None
 kept_by ask.Free = Some Keep
 
--- The outcome that a form gives after the effect of the site's call. None is a trap.
+-- The outcome that a form gives after the effect of the site's call. None is a trap. No task is dispatched past a routine
+-- that goes on where another one ended.
 abbrev pub formed_by : App → Effect → Form → Option Outcome
 formed_by app e form.Never = None
 formed_by app e form.Stay = kept_by e.ask
 formed_by app e (form.Direct None) = if stays e.ask then None else Some (To None)
-formed_by app e (form.Direct (Some t)) = if is_live (task_state e.state t.0) then Some (To (Some t)) else None
+formed_by app e (form.Direct (Some t)) = if is_interrupted e.state.processor then None else if is_live (task_state e.state t.0) then Some (To (Some t)) else None
 formed_by app e form.General = Some (outcome_of app e)
 
 -- the outcome that a site gives

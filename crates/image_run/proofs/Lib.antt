@@ -3,4 +3,5 @@ pub mod SiteEffects
 pub mod OtherEffects
 pub mod SiteForms
 pub mod SiteChanges
+pub mod SiteLines
 pub mod UndoLaws

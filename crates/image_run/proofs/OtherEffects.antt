@@ -4,15 +4,17 @@ use Rattle.std.specs.{Prelude.{if◌then◌else◌}, declared.option.Option.{Opt
 use Rattle.osek_values.specs.declared.{numbers.{ResNo.{ResNo}, BlockNo.{BlockNo}, SourceNo.{SourceNo}}, status.Ask.{Ask}}
 use Rattle.osek_values.specs.declared.status.Ask.TheVariants as ask
 use Rattle.osek_standard.specs.declared.{app.App.{App}, block.{Block.{Block}, Kind.{Kind}}}
-use Rattle.osek_standard.specs.declared.block.Kind.TheVariants as kind
-use Rattle.image_model.specs.CallNames as call
-use Rattle.osek_standard.specs.declared.state.{State.{State}, Processor.{Processor}, Caller.{Caller, TheVariants.{Nobody, Task, Routine}}}
-use Rattle.osek_standard.specs.declared.state.Processor.TheVariants as processor
-use Rattle.osek_standard.specs.{declared.task_state.Place.{Place}, Apps.{the_block, is_cycle, is_extended, is_routine_end, is_site, is_task_block, max_of, may_dispatch}}
-use Rattle.osek_standard.specs.{TaskStates.{is_suspended}, States.{alarm_state, caller, here, is_taken, task_state}, Priority.{base_priority, ceiling}}
-use Rattle.osek_standard.specs.Services.{Answer, cancel_alarm, clear_event, due, expire, get_alarm, get_event, get_resource, get_resource_by, is_due_at, is_idle, set_abs_alarm, set_rel_alarm, time_left, value_of, wait_event}
+use Rattle.osek_standard.specs.declared.{state.{State.{State}, Processor.{Processor}, Caller.{Caller, TheVariants.{Nobody, Task, Routine}}}, task_state.Place.{Place}}
+use Rattle.osek_standard.specs.{Apps.{the_block, is_cycle, is_extended, is_routine_end, is_site, is_task_block, max_of, may_dispatch}, TaskStates.{is_suspended}}
+use Rattle.osek_standard.specs.{States.{alarm_state, caller, here, is_taken, task_state}, Priority.{base_priority, ceiling}}
+use Rattle.osek_standard.specs.Services.{Answer, cancel_alarm, clear_event, due, expire, get_alarm, get_event, get_resource, get_resource_by, is_due_at, is_idle, set_abs_alarm}
+use Rattle.osek_standard.specs.Services.{set_rel_alarm, time_left, value_of, wait_event, get_resource_isr}
 use Rattle.osek_standard.specs.{Effects.{asked_by, called, effect, effect_at, effect_by, end_task, goes_on_unless_left, moved_to}, Well.{Well, InOwner, IsActive, IsProcessor}}
-use Rattle.osek_standard.proofs.{BoolLaws.{either_way}, Keeps.{here_own}}
+use Rattle.osek_standard.specs.Levels.{interrupt_ceiling, own_level}
+use Rattle.osek_standard.specs.declared.block.Kind.TheVariants as kind
+use Rattle.osek_standard.specs.declared.state.Processor.TheVariants as processor
+use Rattle.osek_standard.proofs.{BoolLaws.{either_way}, MoveKeeps.{here_own}}
+use Rattle.image_model.specs.CallNames as call
 use Rattle.image_run.proofs.Apart.{own_is_task_block}
 
 abbrev AsksNo : Answer → Type 0
@@ -29,9 +31,9 @@ asks_as_no app c k a e = ap (asked_by app c k) e ∙ asked_no app c k
 
 module _ (app : App) (s : State) where
   get_resource_no : (c : Caller) (r : ResNo) → AsksNo (get_resource_by app s c r)
-  unfolding get_resource
+  unfolding get_resource get_resource_isr
   get_resource_no Nobody r = refl
-  get_resource_no (Routine k) r = refl
+  get_resource_no (Routine k) r = either_way AsksNo (is_taken s r.0 || nat_lt (interrupt_ceiling app r.0) (own_level app k.0)) _ _ refl refl
   get_resource_no (Task c) r = either_way AsksNo (is_taken s r.0 || nat_lt (ceiling app r.0) (base_priority app c.0)) _ _ refl refl
 
   clear_event_no : (c : Caller) (m : ℕ) → AsksNo (clear_event app s c m)

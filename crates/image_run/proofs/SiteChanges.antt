@@ -1,19 +1,22 @@
 -- An instruction at a site leaves the mode, the counters, the alarms and the latches as they are.
 use Rattle.std.proofs.Common.{◌≡◌, ℕ, Bool, true, false, List, refl, ◌∙◌, Some, None, not, ◌||◌, ◌&&◌, nat_lt, nat_eq}
 use Rattle.std.specs.{Prelude.{if◌then◌else◌}, declared.option.Option.{Option}}
-use Rattle.osek_values.specs.declared.numbers.{BlockNo.{BlockNo}, ModeNo.{ModeNo}, ResNo.{ResNo}, TaskNo.{TaskNo}}
-use Rattle.osek_standard.specs.declared.{app.App.{App}, block.{Block.{Block}, Kind.{Kind}}}
-use Rattle.osek_standard.specs.declared.block.Kind.TheVariants as kind
-use Rattle.image_model.specs.CallNames as call
-use Rattle.osek_standard.specs.declared.call.Call.{Call}
+use Rattle.osek_values.specs.declared.numbers.{BlockNo.{BlockNo}, ModeNo.{ModeNo}, ResNo.{ResNo}, TaskNo.{TaskNo}, SourceNo.{SourceNo}}
+use Rattle.osek_standard.specs.declared.{app.App.{App}, block.{Block.{Block}, Kind.{Kind}}, call.Call.{Call}}
 use Rattle.osek_standard.specs.declared.state.{State.{State}, AlarmState.{AlarmState}, Processor.{Processor}, Caller.{Caller, TheVariants.{Nobody, Task, Routine}}}
+use Rattle.osek_standard.specs.declared.task_state.Place.{Place}
+use Rattle.osek_standard.specs.{Apps.{call_may_dispatch, is_extended, is_routine_end, is_site, is_task_block, may_dispatch, the_block}, TaskStates.{held, is_suspended}}
+use Rattle.osek_standard.specs.{States.{caller, here, task_state, with_source}, Priority.{base_priority, ceiling}}
+use Rattle.osek_standard.specs.Services.{Answer, activate_task, chain_task, holds_some, is_full, is_on_top, release_resource, release_resource_by, schedule, set_event, share}
+use Rattle.osek_standard.specs.Services.{terminate_task, wait_event, waits_for, release_resource_isr, stack_of_source}
+use Rattle.osek_standard.specs.Effects.{called, effect, effect_at, effect_by, end_task, given_back, goes_on_unless_left, moved_by, moved_to, place_at, returned_by, row}
+use Rattle.osek_standard.specs.Effects.{returned_to}
+use Rattle.osek_standard.specs.Levels.{interrupt_ceiling, next_routine, own_level}
+use Rattle.osek_standard.specs.declared.block.Kind.TheVariants as kind
 use Rattle.osek_standard.specs.declared.state.Source.TheVariants as source
 use Rattle.osek_standard.specs.declared.state.Processor.TheVariants as processor
-use Rattle.osek_standard.specs.{declared.task_state.Place.{Place}, Apps.{call_may_dispatch, is_extended, is_routine_end, is_site, is_task_block, may_dispatch, the_block}}
-use Rattle.osek_standard.specs.{TaskStates.{held, is_suspended}, States.{caller, here, task_state, with_source}, Priority.{base_priority, ceiling}}
-use Rattle.osek_standard.specs.Services.{Answer, activate_task, chain_task, holds_some, is_full, is_on_top, release_resource, release_resource_by, schedule, set_event, share, terminate_task, wait_event, waits_for}
-use Rattle.osek_standard.specs.Effects.{called, effect, effect_at, effect_by, end_task, given_back, goes_on_unless_left, moved_by, moved_to, place_at, returned_by, row}
 use Rattle.osek_standard.proofs.BoolLaws.{either_way}
+use Rattle.image_model.specs.CallNames as call
 
 -- the parts of a state that no dispatch is about
 abbrev pub rest : State → ModeNo × (List ℕ × (List AlarmState × List Bool))
@@ -46,9 +49,10 @@ module _ (app : App) (s : State) where
   schedule_keeps_rest (Task c) = either_way (HasRestOf s) (holds_some s c.0) _ _ refl refl
 
   release_keeps_rest : (c : Caller) (r : ResNo) → HasRestOf s (release_resource_by app s c r)
-  unfolding release_resource
+  unfolding release_resource release_resource_isr
   release_keeps_rest Nobody r = refl
-  release_keeps_rest (Routine k) r = refl
+  release_keeps_rest (Routine k) r =
+      either_way (HasRestOf s) (nat_lt (interrupt_ceiling app r.0) (own_level app k.0)) _ _ refl (either_way (HasRestOf s) (is_on_top r.0 (stack_of_source app s k.0)) _ _ refl refl)
   release_keeps_rest (Task c) r = either_way (HasRestOf s) (nat_lt (ceiling app r.0) (base_priority app c.0)) _ _ refl (either_way (HasRestOf s) (is_on_top r.0 (held (task_state s c.0))) _ _ refl refl)
 
   set_event_keeps_rest : (t m : ℕ) → HasRestOf s (set_event app s t m)
@@ -116,11 +120,15 @@ given_back_keeps_rest : (app : App) (s : State) (over : Option TaskNo) → rest 
 given_back_keeps_rest app s None = refl
 given_back_keeps_rest app s (Some t) = refl
 
+returned_to_keeps_rest : (app : App) (s : State) (over : Option TaskNo) (next : Option SourceNo) → rest (returned_to app s over next).state ≡ rest s
+returned_to_keeps_rest app s over None = given_back_keeps_rest app s over
+returned_to_keeps_rest app s over (Some k) = refl
+
 returned_keeps_rest : (app : App) (s : State) (p : Processor) → rest (returned_by app s p).state ≡ rest s
 returned_keeps_rest app s processor.Halted = refl
 returned_keeps_rest app s processor.Idle = refl
 returned_keeps_rest app s (processor.Running t) = refl
-returned_keeps_rest app s (processor.Interrupted k over) = given_back_keeps_rest app (with_source s k.0 source.Out) over
+returned_keeps_rest app s (processor.Interrupted k over) = let r = with_source s k.0 source.Out in returned_to_keeps_rest app r over (next_routine app r)
 
 site_kind : (end may task : Bool) → (if end then true else if may then task else false) ≡ true → (end || may) ≡ true
 site_kind true may task e = refl

@@ -1,19 +1,16 @@
--- After the effect of a site no routine runs.
-use Rattle.std.proofs.Common.{◌≡◌, ℕ, ◌+◌, ◌<◌, Bool, true, false, List, refl, sym, ◌∙◌, ap, subst, inl, inr, Some, None, not, nat_lt, slice_index_or}
-use Rattle.std.specs.{Prelude.{⊤, if◌then◌else◌}, declared.option.Option.{Option}}
-use Rattle.std.proofs.lemmas.Bool.{cases_Bool}
-use Rattle.osek_values.specs.declared.numbers.{TaskNo.{TaskNo}, BlockNo.{BlockNo}}
+-- What an instruction at a site does to the sources: in a task nothing, and in a routine its end alone is a site.
+use Rattle.std.proofs.{Common.{◌≡◌, ℕ, ◌+◌, ◌<◌, Bool, true, false, refl, sym, ◌∙◌, subst, inl, inr, not, nat_lt}, lemmas.Bool.{cases_Bool}}
+use Rattle.std.specs.Prelude.{⊤, if◌then◌else◌}
+use Rattle.osek_values.specs.declared.numbers.BlockNo.{BlockNo}
 use Rattle.osek_standard.specs.declared.{app.App.{App}, block.{Block.{Block}, Kind.{Kind}}}
+use Rattle.osek_standard.specs.declared.{state.{State.{State}, Processor.{Processor}, Caller.{Caller, TheVariants.{Nobody, Task, Routine}}}, task_state.Place.{Place}}
+use Rattle.osek_standard.specs.{Apps.{the_block, is_extended, is_routine_end, is_site, is_task_block, may_dispatch, source_count}, States.{caller, task_state}}
+use Rattle.osek_standard.specs.Services.{Answer, holds_some, share, wait_event}
+use Rattle.osek_standard.specs.{Effects.{effect_at, end_task, goes_on_unless_left, halted_by, moved_by, moved_to, place_at, returned_by, called}, Well.{IsOfRoutine}}
 use Rattle.osek_standard.specs.declared.block.Kind.TheVariants as kind
-use Rattle.image_model.specs.CallNames as call
-use Rattle.osek_standard.specs.declared.state.{State.{State}, Source.{Source}, Processor.{Processor}, Caller.{Caller, TheVariants.{Nobody, Task, Routine}}}
-use Rattle.osek_standard.specs.declared.state.Source.TheVariants as source
 use Rattle.osek_standard.specs.declared.state.Processor.TheVariants as processor
-use Rattle.osek_standard.specs.{declared.task_state.Place.{Place}, Apps.{the_block, is_extended, is_routine_end, is_site, is_task_block, may_dispatch, source_count}}
-use Rattle.osek_standard.specs.{States.{caller, here, task_state, with_source}, Services.{Answer, holds_some, share, wait_event}}
-use Rattle.osek_standard.specs.Effects.{effect, effect_at, effect_by, end_task, given_back, goes_on_unless_left, halted_by, moved_by, moved_to, place_at, returned_by}
-use Rattle.osek_standard.specs.Well.{Well, AreOut, InOwner, IsActive, IsOfRoutine, IsProcessor}
-use Rattle.osek_standard.proofs.{BoolLaws.{either_way}, Callers.{moved_processor}, Keeps.{here_own}, SourceLaws.{called_leaves}, RoutineKeeps.{ended_out}}
+use Rattle.osek_standard.proofs.{BoolLaws.{either_way}, Callers.{moved_processor}, SourceLaws.{called_leaves}}
+use Rattle.image_model.specs.CallNames as call
 use Rattle.image_run.proofs.Apart.{routine_is_no_task_block}
 
 -- a task has the processor
@@ -54,6 +51,12 @@ wait_leaves app s (Task c) m next h =
     let P : Answer → Type 0 = λ a. (goes_on_unless_left next a).state.sources ≡ s.sources in
     either_way P (not (is_extended app c.0)) _ _ h (either_way P (holds_some s c.0) _ _ h (either_way P (share (task_state s c.0).events.0 m) _ _ h refl))
 
+called_leaves_by : (app : App) (s : State) (p : Processor) → TaskRuns p → (k : Kind) → (called app s (caller p) k).state.sources ≡ s.sources
+called_leaves_by app s processor.Halted r k = absurd r
+called_leaves_by app s processor.Idle r k = absurd r
+called_leaves_by app s (processor.Running t) r k = called_leaves app s t k
+called_leaves_by app s (processor.Interrupted j over) r k = absurd r
+
 -- an instruction of a task leaves the sources as they are
 pub task_leaves : (app : App) (s : State) → TaskRuns s.processor → (choice : Bool) (p : Place) (b : Block) (k : Kind) → (effect_at app s choice p b k).state.sources ≡ s.sources
 task_leaves app s r choice p b (kind.Work n) =
@@ -65,21 +68,7 @@ task_leaves app s r choice p b (kind.Call call.ShutdownOs) =
     halted_leaves moved moved.processor (subst TaskRuns (sym (moved_processor s (place_at b.next 0) s.processor)) r) ∙ moved_leaves s (place_at b.next 0) s.processor r
 task_leaves app s r choice p b kind.TaskEnd = end_leaves app s (caller s.processor)
 task_leaves app s r choice p b kind.IsrEnd = returned_leaves app s s.processor r
-task_leaves app s r choice p b k = called_leaves app (moved_to s b.next) (caller s.processor) k ∙ moved_leaves s (place_at b.next 0) s.processor r
-
-out_along : (app : App) (s r : State) → r.sources ≡ s.sources → AreOut app s → AreOut app r
-out_along app s r e out k = ap (λ (xs : List Source). slice_index_or xs k source.Out) e ∙ out k
-
-given_back_out : (app : App) (s : State) (over : Option TaskNo) → AreOut app s → AreOut app (given_back app s over).state
-given_back_out app s None out = out
-given_back_out app s (Some t) out = out
-
--- after the end of a routine no routine runs
-returned_out : (app : App) (s : State) → Well app s → (p : Processor) → IsProcessor app s p → AreOut app (returned_by app s p).state
-returned_out app s w processor.Halted h = h
-returned_out app s w processor.Idle h = h
-returned_out app s w (processor.Running t) h = h.out
-returned_out app s w (processor.Interrupted k over) h = given_back_out app (with_source s k.0 source.Out) over (ended_out app s k over w h)
+task_leaves app s r choice p b k = called_leaves_by app (moved_to s b.next) s.processor r k ∙ moved_leaves s (place_at b.next 0) s.processor r
 
 end_kind : (k : Kind) → is_routine_end k ≡ true → k ≡ kind.IsrEnd
 end_kind kind.IsrEnd e = refl
@@ -96,24 +85,3 @@ routine_site app k b known own site = elim (cases_Bool (is_routine_end (the_bloc
   | inl e ↦ end_kind (the_block app b).kind e
   | inr e ↦ absurd (routine_is_no_task_block app k b known own (end_or_task (is_routine_end (the_block app b).kind) (may_dispatch (the_block app b).kind) (is_task_block app b) site e))
 ]
-
-module _ (app : App) (s : State) (w : Well app s) (choice : Bool) (site : is_site app (here s).block.0 ≡ true) where
-  abbrev at : Place
-  at = here s
-
-  out_after : (p : Processor) → s.processor ≡ p → AreOut app (effect_by app s choice p).state
-  out_after processor.Halted e = subst (IsProcessor app s) e w.processor
-  out_after processor.Idle e = subst (IsProcessor app s) e w.processor
-  out_after (processor.Running t) e =
-      let h = subst (IsProcessor app s) e w.processor in
-      out_along app s (effect_at app s choice at (the_block app at.block.0) (the_block app at.block.0).kind).state
-      (task_leaves app s (subst TaskRuns (sym e) tt) choice at (the_block app at.block.0) (the_block app at.block.0).kind) h.out
-  out_after (processor.Interrupted k over) e =
-      let h = subst (IsProcessor app s) e w.processor in
-      let own = subst (λ (p : Processor). InOwner app p at.block.0) e (here_own app s w (subst IsActive (sym e) tt)) in
-      let end = routine_site app k.0 at.block.0 h.known own site in
-      subst (λ (x : Kind). AreOut app (effect_at app s choice at (the_block app at.block.0) x).state) (sym end) (returned_out app s w s.processor w.processor)
-
-  pub out_after_site : AreOut app (effect app s choice).state
-  unfolding effect
-  out_after_site = out_after s.processor refl

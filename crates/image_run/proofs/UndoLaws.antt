@@ -1,31 +1,32 @@
 -- What an instruction at a site changed, put back, is the state as it was.
-use Rattle.std.proofs.Common.{◌≡◌, ℕ, ◌<◌, Bool, true, false, List, length, refl, sym, ◌∙◌, ap, subst, inl, inr, arith, Some, None, slice_index_or, slice_set, get_or-set_same, get_or-set_other}
+use Rattle.std.proofs.Common.{◌≡◌, ℕ, ◌<◌, Bool, true, false, List, length, refl, sym, ◌∙◌, ap, subst, inl, inr, arith, Some, None, slice_index_or, slice_set, get_or-set_same}
+use Rattle.std.proofs.Common.{get_or-set_other, take}
 use Rattle.std.proofs.{Math.ListN.{length-set}, lemmas.{Bool.{cases_Bool, Decides.{nat_tests}}, List.{ext_get_or, set-get_or, set-set}}}
 use Rattle.std.specs.declared.option.Option.{Option}
-use Rattle.osek_values.specs.declared.numbers.{ModeNo.{ModeNo}, TaskNo.{TaskNo}}
-use Rattle.osek_standard.specs.declared.{app.App.{App}, block.Kind.{Kind}}
+use Rattle.osek_values.specs.declared.numbers.{ModeNo.{ModeNo}, TaskNo.{TaskNo}, SourceNo.{SourceNo}}
+use Rattle.osek_standard.specs.declared.{app.App.{App}, block.Kind.{Kind}, state.{State.{State}, AlarmState.{AlarmState}, Source.{Source}, Processor.{Processor}}}
+use Rattle.osek_standard.specs.declared.task_state.TaskState.{TaskState}
+use Rattle.osek_standard.specs.{Apps.{is_site, the_block}, TaskStates.{suspended}, States.{here, is_that_task, source_state, task_of, task_state, with_source}}
+use Rattle.osek_standard.specs.{Effects.{effect, effect_at, effect_by, given_back, returned_by, returned_to}, Well.{Well, InOwner, IsActive, IsProcessor}, Levels.{next_routine}}
 use Rattle.osek_standard.specs.declared.block.Kind.TheVariants as kind
-use Rattle.osek_standard.specs.declared.state.{State.{State}, AlarmState.{AlarmState}, Source.{Source}, Processor.{Processor}}
 use Rattle.osek_standard.specs.declared.state.Source.TheVariants as source
 use Rattle.osek_standard.specs.declared.state.Processor.TheVariants as processor
-use Rattle.osek_standard.specs.{declared.task_state.TaskState.{TaskState}, Apps.{is_site, the_block}, TaskStates.{suspended}}
-use Rattle.osek_standard.specs.{States.{here, is_that_task, source_state, task_of, task_state, with_source}, Effects.{effect, effect_at, effect_by, given_back, returned_by}}
-use Rattle.osek_standard.specs.Well.{Well, InOwner, IsActive, IsProcessor}
-use Rattle.osek_standard.proofs.{EffectKeeps.{effect_keeps}, Keeps.{here_own}}
+use Rattle.osek_standard.proofs.{EffectKeeps.{effect_keeps}, MoveKeeps.{here_own}}
 use Rattle.generic_kernel.specs.Changes.{ChangesOnly, named_here}
 use Rattle.generic_kernel.proofs.TaskLaws.{effect_changes_own}
 use Rattle.image_run.specs.{declared.before.OldTask.{OldTask}, Befores.{before, old_task, put_back, source_by, with_old_source, with_old_task}}
-use Rattle.image_run.proofs.{SiteEffects.{TaskRuns, routine_site, task_leaves}, SiteChanges.{rest, site_keeps_rest}}
+use Rattle.image_run.proofs.{SiteEffects.{TaskRuns, routine_site, task_leaves}, SiteChanges.{rest, site_keeps_rest}, SiteLines.{site_lengthens}}
 
-abbrev state_of : ModeNo → Processor → List TaskState → List ℕ → List AlarmState → List Source → List Bool → State
-state_of m p t c a s l = record { mode = m; processor = p; tasks = t; counters = c; alarms = a; sources = s; latched = l }
+abbrev state_of : ModeNo → Processor → List TaskState → List ℕ → List AlarmState → List Source → List Bool → List TaskNo → State
+state_of m p t c a s l n = record { mode = m; processor = p; tasks = t; counters = c; alarms = a; sources = s; latched = l; line = n }
 
-same_state : (r s : State) → rest r ≡ rest s → r.processor ≡ s.processor → r.tasks ≡ s.tasks → r.sources ≡ s.sources → r ≡ s
-same_state r s e p t k =
-    ap (λ x. state_of x.0 r.processor r.tasks x.1.0 x.1.1.0 r.sources x.1.1.1) e
-    ∙ ap (λ x. state_of s.mode x r.tasks s.counters s.alarms r.sources s.latched) p
-    ∙ ap (λ x. state_of s.mode s.processor x s.counters s.alarms r.sources s.latched) t
-    ∙ ap (λ x. state_of s.mode s.processor s.tasks s.counters s.alarms x s.latched) k
+same_state : (r s : State) → rest r ≡ rest s → r.processor ≡ s.processor → r.tasks ≡ s.tasks → r.sources ≡ s.sources → r.line ≡ s.line → r ≡ s
+same_state r s e p t k n =
+    ap (λ x. state_of x.0 r.processor r.tasks x.1.0 x.1.1.0 r.sources x.1.1.1 r.line) e
+    ∙ ap (λ x. state_of s.mode x r.tasks s.counters s.alarms r.sources s.latched r.line) p
+    ∙ ap (λ x. state_of s.mode s.processor x s.counters s.alarms r.sources s.latched r.line) t
+    ∙ ap (λ x. state_of s.mode s.processor s.tasks s.counters s.alarms x s.latched r.line) k
+    ∙ ap (λ x. state_of s.mode s.processor s.tasks s.counters s.alarms s.sources s.latched x) n
 
 -- a state with a task's old state
 old_task_length : (r : State) (o : Option OldTask) → length (with_old_task r o).tasks ≡ length r.tasks
@@ -80,9 +81,23 @@ old_source_tasks r processor.Idle x = refl
 old_source_tasks r (processor.Running t) x = refl
 old_source_tasks r (processor.Interrupted k over) x = refl
 
+old_task_line : (r : State) (o : Option OldTask) → (with_old_task r o).line ≡ r.line
+old_task_line r None = refl
+old_task_line r (Some x) = refl
+
+old_source_line : (r : State) (p : Processor) (x : Source) → (with_old_source r p x).line ≡ r.line
+old_source_line r processor.Halted x = refl
+old_source_line r processor.Idle x = refl
+old_source_line r (processor.Running t) x = refl
+old_source_line r (processor.Interrupted k over) x = refl
+
 given_back_sources : (app : App) (s : State) (over : Option TaskNo) → (given_back app s over).state.sources ≡ s.sources
 given_back_sources app s None = refl
 given_back_sources app s (Some t) = refl
+
+returned_to_sources : (app : App) (s : State) (over : Option TaskNo) (next : Option SourceNo) → (returned_to app s over next).state.sources ≡ s.sources
+returned_to_sources app s over None = given_back_sources app s over
+returned_to_sources app s over (Some k) = refl
 
 -- what a source was, set over anything at its place
 set_back : (xs : List Source) (k : ℕ) (x : Source) → slice_set (slice_set xs k x) k (slice_index_or xs k source.Out) ≡ xs
@@ -104,7 +119,7 @@ module _ (app : App) (s : State) (w : Well app s) (choice : Bool) (site : is_sit
       e
       ∙ ap (λ (x : Kind). (effect_at app s choice (here s) (the_block app (here s).block.0) x).state.sources) end
       ∙ ap (λ (p : Processor). (returned_by app s p).state.sources) is
-      ∙ given_back_sources app (with_source s k.0 source.Out) over in
+      ∙ (let q = with_source s k.0 source.Out in returned_to_sources app q over (next_routine app q)) in
       ap (λ (xs : List Source). slice_set xs k.0 (source_state s k.0)) out ∙ set_back s.sources k.0 source.Out
 
   effect_sources : (effect app s choice).state.sources ≡ (effect_by app s choice s.processor).state.sources
@@ -124,3 +139,4 @@ module _ (app : App) (s : State) (w : Well app s) (choice : Bool) (site : is_sit
       refl
       (old_source_tasks p s.processor (source_by s s.processor) ∙ tasks_back r s (task_of s.processor) (named_here app s) size (effect_changes_own app s choice))
       (sources_back p s.processor refl (old_task_sources q y ∙ old_task_sources r x ∙ effect_sources))
+      (ap (λ (l : List TaskNo). take (length s.line) l) (old_source_line p s.processor (source_by s s.processor) ∙ old_task_line q y ∙ old_task_line r x) ∙ site_lengthens app s choice site)

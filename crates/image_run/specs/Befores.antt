@@ -1,12 +1,12 @@
 -- What an instruction may change at a site, as it was, and the state with these parts put back.
-use Rattle.std.specs.{Prelude.{⊤, ◌≡◌, ℕ, ◌<◌, Bool, true, Some, None}, declared.option.Option.{Option}}
+use Rattle.std.specs.{Prelude.{⊤, ◌≡◌, ℕ, ◌<◌, Bool, true, Some, None, take, length}, declared.option.Option.{Option}}
 use Rattle.osek_values.specs.declared.numbers.TaskNo.{TaskNo}
-use Rattle.osek_standard.specs.declared.{app.App.{App}, state.{State.{State}, Source.{Source}, Processor.{Processor}}}
+use Rattle.osek_standard.specs.{declared.{app.App.{App}, state.{State.{State}, Source.{Source}, Processor.{Processor}}}, Apps.{is_site}, Effects.{effect}, Well.{Well, IsActive}}
+use Rattle.osek_standard.specs.{States.{here, source_state, task_of, task_state, with_processor, with_source, with_task}, Line.{with_line}}
 use Rattle.osek_standard.specs.declared.state.Source.TheVariants as source
 use Rattle.osek_standard.specs.declared.state.Processor.TheVariants as processor
-use Rattle.osek_standard.specs.{Apps.{is_site}, Effects.{effect}, Well.{Well, IsActive}, States.{here, source_state, task_of, task_state, with_processor, with_source, with_task}}
-use Rattle.image_model.specs.declared.image.Image.{Image}
 use Rattle.generic_kernel.specs.Changes.{named_here}
+use Rattle.image_model.specs.declared.image.Image.{Image}
 use Rattle.image_run.specs.declared.before.{Before.{Before}, OldTask.{OldTask}}
 
 abbrev pub old_task : State → Option TaskNo → Option OldTask
@@ -26,6 +26,7 @@ before app s = record {
   source = source_by s s.processor;
   own = old_task s (task_of s.processor);
   named = old_task s (named_here app s);
+  places = length s.line;
 }
 
 abbrev pub task_in : Option OldTask → Option TaskNo
@@ -44,7 +45,9 @@ with_old_source r (processor.Interrupted k over) x = with_source r k.0 x
 
 -- the state with these parts as they were
 abbrev pub put_back : Before → State → State
-put_back b r = with_processor (with_old_source (with_old_task (with_old_task r b.own) b.named) b.processor b.source) b.processor
+put_back b r =
+    let rest = with_old_source (with_old_task (with_old_task r b.own) b.named) b.processor b.source in
+    with_processor (with_line rest (take b.places rest.line)) b.processor
 
 -- the task has its place, if there is one
 abbrev pub IsKnownTask : ℕ → Option OldTask → Type 0

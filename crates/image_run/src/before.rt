@@ -25,6 +25,8 @@ pub struct Before {
     pub own: Option<OldTask>,
     /// The task that the instruction names.
     pub named: Option<OldTask>,
+    /// The length of the line: an instruction at a site puts at most one more place at its end.
+    pub places: usize,
 }
 
 /// A task's state, if there is a task.
@@ -69,7 +71,7 @@ fn source_before(state: &State) -> Source
 {
     match state.processor {
         Processor::Halted | Processor::Idle | Processor::Running(_) => Source::Out,
-        Processor::Interrupted { source, .. } => *state.sources.at(source.index()),
+        Processor::Interrupted { source, .. } => state.sources.at(source.index()).copy(),
     }
 }
 
@@ -96,6 +98,7 @@ impl Before {
             source: source_before(state),
             own: task_before(state, state.current()),
             named: task_before(state, named_here(app, state)),
+            places: state.line.as_slice().len(),
         }
     }
 
@@ -109,6 +112,7 @@ impl Before {
         put_task_back(state, self.own);
         put_task_back(state, self.named);
         put_source_back(state, self.processor, self.source);
+        state.line.truncate(self.places);
         state.processor = self.processor;
     }
 }

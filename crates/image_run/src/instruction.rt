@@ -1,15 +1,16 @@
 //! One instruction of an image.
-ghost use Rattle.std.specs.Prelude.{◌≡◌, true, false, ◌≢◌, ◌+◌, ◌≤◌, length, Option, Some, None, IfSome, IfNone, option_map};
-ghost use Rattle.osek_standard.specs.{States.{here as here_of}, Effects.{effected, effect as effect_of}};
-ghost use Rattle.osek_standard.specs.{Dispatch.{concluded, nothing_noted, outcome_by, stepped, with_hooks as with_hooks_of}, Well.{Well, AreOut, IsActive}, Apps.{IsDeclared}};
+ghost use Rattle.std.specs.Prelude.{◌≡◌, true, false, ◌≢◌, ◌+◌, ◌≤◌, length, Option, Some, None, IfSome, IfNone, option_map, ℕ};
+ghost use Rattle.osek_standard.specs.{States.{here as here_of, is_that_task, task_of, task_state}, Effects.{effected, effect as effect_of}};
+ghost use Rattle.osek_standard.specs.{Dispatch.{concluded, nothing_noted, outcome_by, stepped, with_hooks as with_hooks_of}, Well.{Well, IsActive}, Apps.{IsDeclared}};
 ghost use Rattle.generic_kernel.specs.{Levels.{IsReady}, Moves.{MayDispatch, instruction_due}};
-ghost use Rattle.image_model.specs.declared.site.Form.TheVariants as form;
 ghost use Rattle.image_model.specs.{Sites.{IsForm}, ImageStep.{form_at, formed_by, formed_at, instructed, image_step as image_step_of, site_at as site_at_of}};
+ghost use Rattle.image_model.specs.declared.site.Form.TheVariants as form;
 ghost use Rattle.image_run.specs.{Befores.{put_back, IsAfter}, Noted.{hooks_noted, noted_if}, Scans.{scans_at, scans_due}};
 
 use crate::before::{Before, task_of};
 use generic_kernel::{
-    Effect, Ready, conclude, effect, here, nothing, silent_effect, switch_to, take_event,
+    Effect, Ready, conclude, effect, here, keep, keep_ready, nothing, silent_effect, switch_to,
+    take_event,
 };
 use image_model::{Form, Image, Site, site_at};
 use osek_standard::{App, Place, State};
@@ -38,11 +39,10 @@ fn conclude_formed<L: Ledger>(
     requires well { Well app.now state.old }
     requires ready { IsReady app.now state.old ready.now }
     requires dispatch { MayDispatch app.now state.old done.ask }
-    requires out { AreOut app.now state.old }
     requires names { IsForm (length app.now.tasks) form }
     ensures step { option_map (concluded app.now (effected state.old done.notes done.ask)) (formed_by app.now (effected state.old done.notes done.ask) form) ≡ option_map (stepped state.new) result }
     ensures well { Well app.now state.new }
-    ensures tasks { state.new.tasks ≡ state.old.tasks }
+    ensures others { (u : ℕ) → is_that_task (task_of state.new.processor) u ≡ false → task_state state.new u ≡ task_state state.old u }
     ensures trap { IfNone result (state.new ≡ state.old) }
     ensures scans { scans.new ≤ scans.old + scans_at (Some form) (length app.now.tasks) }
 {
@@ -50,7 +50,10 @@ fn conclude_formed<L: Ledger>(
     match form {
         Form::Never => None,
         Form::Stay => match done.ask {
-            Ask::No | Ask::Maybe | Ask::Free => Some(with_hooks(done.notes, none)),
+            Ask::No | Ask::Maybe | Ask::Free => {
+                keep(app, state);
+                Some(with_hooks(done.notes, none))
+            }
             Ask::Left => None,
         },
         Form::Direct(None) => match done.ask {
@@ -61,7 +64,7 @@ fn conclude_formed<L: Ledger>(
             }
         },
         Form::Direct(Some(task)) => {
-            if !state.task(task).is_live() {
+            if state.processor.is_interrupted() || !state.task(task).is_live() {
                 return None;
             }
             let hooks = switch_to(app, state, Some(task), done.ask);
@@ -86,17 +89,19 @@ fn conclude_by<L: Ledger>(
     requires well { Well app.now state.old }
     requires ready { IsReady app.now state.old ready.now }
     requires dispatch { MayDispatch app.now state.old done.ask }
-    requires site { IfSome site (λ x. AreOut app.now state.old) }
     requires names { IfSome site (λ x. IsForm (length app.now.tasks) x.form) }
     requires other { site ≡ None → done.ask ≡ Ask.No }
     ensures step { option_map (concluded app.now (effected state.old done.notes done.ask)) (formed_at app.now (effected state.old done.notes done.ask) site) ≡ option_map (stepped state.new) result }
     ensures well { Well app.now state.new }
-    ensures tasks { state.new.tasks ≡ state.old.tasks }
+    ensures others { (u : ℕ) → is_that_task (task_of state.new.processor) u ≡ false → task_state state.new u ≡ task_state state.old u }
     ensures trap { IfNone result ((site ≢ None) × (state.new ≡ state.old)) }
     ensures scans { scans.new ≤ scans.old + scans_at (option_map (λ x. x.form) site) (length app.now.tasks) }
 {
     match site {
-        None => Some(with_hooks(done.notes, app.hooks.among(HookSet::none()))),
+        None => {
+            keep(app, state);
+            Some(with_hooks(done.notes, app.hooks.among(HookSet::none())))
+        }
         Some(site) => {
             if !site.known.allows(done.notes.status) {
                 return None;
@@ -126,7 +131,10 @@ fn attempt<L: Ledger>(
     ensures scans { scans.new ≤ scans.old + scans_at (form_at image.now (here_of state.old).block.0) (length image.now.app.tasks) }
 {
     let done = effect(&image.app, state, ready, choice);
-    conclude_by(&image.app, state, ready, done, site, scans)
+    let notes = conclude_by(&image.app, state, ready, done, site, scans);
+    let current = state.current();
+    ready.take_in(&image.app, state, current, None);
+    notes
 }
 
 /// Whether a site, if there is one, has the general form, so that as anywhere else the kernel's own rescheduling follows.
@@ -147,24 +155,32 @@ fn is_free(site: Option<Site>) -> bool
 fn settle<L: Ledger>(
     app: &App,
     state: &mut State,
-    ready: &Ready,
+    ready: &mut Ready,
     ask: Ask,
     site: Option<Site>,
     scans: &mut Steps<L>,
 ) -> HookSet
     requires well { Well app.now state.old }
-    requires ready { IsReady app.now state.old ready.now }
+    requires ready { IsReady app.now state.old ready.old }
     requires dispatch { MayDispatch app.now state.old ask }
     requires free { IfSome site (λ x. x.form ≡ form.General) }
     requires other { site ≡ None → ask ≡ Ask.No }
     ensures step { concluded app.now (effected state.old nothing_noted ask) (outcome_by app.now state.old ask) ≡ stepped state.new (hooks_noted result) }
     ensures well { Well app.now state.new }
-    ensures tasks { state.new.tasks ≡ state.old.tasks }
+    ensures ready { IsReady app.now state.new ready.new }
     ensures scans { scans.new ≤ scans.old + scans_at (option_map (λ x. x.form) site) (length app.now.tasks) }
 {
     match site {
-        None => HookSet::none(),
-        Some(_) => conclude(app, state, ready, ask, scans),
+        None => {
+            keep_ready(app, state, ready);
+            HookSet::none()
+        }
+        Some(_) => {
+            let hooks = conclude(app, state, ready, ask, scans);
+            let current = state.current();
+            ready.take_in(app, state, current, None);
+            hooks
+        }
     }
 }
 
@@ -173,21 +189,21 @@ fn settle<L: Ledger>(
 fn instruct_silently<L: Ledger>(
     image: &Image,
     state: &mut State,
-    ready: &Ready,
+    ready: &mut Ready,
     choice: bool,
     place: Place,
     site: Option<Site>,
     scans: &mut Steps<L>,
 ) -> Option<HookSet>
     requires well { Well image.now.app state.old }
-    requires ready { IsReady image.now.app state.old ready.now }
+    requires ready { IsReady image.now.app state.old ready.old }
     requires active { IsActive state.old.processor }
     requires here { here_of state.old ≡ place }
     requires site { site ≡ site_at_of image.now place.block.0 }
     ensures step { IfSome result (λ hooks. instructed image.now state.old choice ≡ Some (stepped state.new (hooks_noted hooks))) }
     ensures other { IfNone result ((state.new ≡ state.old) × (scans.new ≡ scans.old)) }
     ensures well { Well image.now.app state.new }
-    ensures ready { IsReady image.now.app state.new ready.now }
+    ensures ready { IsReady image.now.app state.new ready.new }
     ensures scans { scans.new ≤ scans.old + scans_at (form_at image.now place.block.0) (length image.now.app.tasks) }
 {
     if !is_free(site) {

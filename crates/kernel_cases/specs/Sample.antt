@@ -20,4 +20,5 @@ sample_state = record {
   alarms = [];
   sources = Out ∷ Out ∷ [];
   latched = false ∷ false ∷ [];
+  line = [];
 }

@@ -27,6 +27,8 @@ mod shelves_and_sinks;
 #[cfg(test)]
 mod stored_images;
 #[cfg(test)]
+mod tied_tasks;
+#[cfg(test)]
 mod trace_lines;
 #[cfg(test)]
 mod version_2_bytes;

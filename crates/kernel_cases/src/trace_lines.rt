@@ -1,6 +1,6 @@
 //! Lines of a small application: an extended task, an ISR and a counter.
-ghost use Rattle.std.specs.{Prelude.{◌≡◌, IfOk}, Bool.{OnTrue}};
-ghost use Rattle.osek_standard.specs.Well.{Well};
+ghost use Rattle.std.specs.{Prelude.{◌≡◌, IfOk, [], ◌∷◌}, Bool.{OnTrue}};
+ghost use Rattle.osek_standard.specs.{Well.{Well}, declared.state.Source.TheVariants.{Out}};
 ghost use Rattle.kernel_cases.specs.Sample.{IsOfSampleSize, sample_state};
 
 use crate::applications::sample;
@@ -9,7 +9,7 @@ use front_end::TextError;
 use osek_standard::{Activity, App, Processor, Source, State, TaskState};
 use osek_values::limits::LINE_MAX;
 use osek_values::{
-    CounterNo, Event, HookSet, IsrNo, Mask, Memory, ModeNo, Notes, Seq, Status, TaskNo, Value,
+    CounterNo, Event, HookSet, IsrNo, Line, Mask, Memory, ModeNo, Notes, Seq, Status, TaskNo, Value,
 };
 use std::alloc::Global;
 use std::test::*;
@@ -95,6 +95,15 @@ fn finds_the_first_fault(rt: HostRuntime) {
     assert_eq!(rt; sample_finds(rt.alloc()), Ok(true));
 }
 
+fn two_out(alloc: Global) -> Result<Seq<Source>, Memory>
+    ensures { IfOk result (λ s. s ≡ Out ∷ Out ∷ []) }
+{
+    let mut sources = Seq::new(alloc);
+    sources.push(Source::Out)?;
+    sources.push(Source::Out)?;
+    Ok(sources)
+}
+
 // The task is suspended, and nothing runs.
 fn idle(alloc: Global) -> Result<State, Memory>
     ensures { IfOk result (λ s. s ≡ sample_state) }
@@ -105,7 +114,7 @@ fn idle(alloc: Global) -> Result<State, Memory>
     };
     let tasks = one(alloc, asleep)?;
     let counters = listed(alloc, &[0])?;
-    let sources = listed(alloc, &[Source::Out, Source::Out])?;
+    let sources = two_out(alloc)?;
     let latched = listed(alloc, &[false, false])?;
     Ok(State {
         mode: ModeNo(0),
@@ -115,6 +124,7 @@ fn idle(alloc: Global) -> Result<State, Memory>
         alarms: Seq::new(alloc),
         sources,
         latched,
+        line: Line::new(),
     })
 }
 

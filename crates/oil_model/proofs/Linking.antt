@@ -158,6 +158,20 @@ ceilings_small exists tasks others h =
     each [] = tt
     each (x ∷ xs) = (ceiling_small (filter (names_resource x.name) tasks) (all_filtered (λ (o : Object). priority o ≤ 65535) (λ (o : Object). priority o ≤ 65535) (names_resource x.name) tasks (λ o t le. le) h), each xs)
 
+-- what is so of each resource that is read
+each_resource : (P : Resource → Type 0) → ((tasks : List Object) (o : Object) → P (resource tasks o)) → ((tasks : List Object) → P (scheduler tasks))
+    → (exists : Bool) (tasks others : List Object) → AllByRecursion P (map (resource tasks) others ++ (if exists then scheduler tasks ∷ [] else []))
+each_resource P one top exists tasks others =
+    all-append P (map (resource tasks) others) (if exists then scheduler tasks ∷ [] else []) (all_map P (resource tasks) others (each others)) (last exists)
+  where
+    each : (xs : List Object) → AllByRecursion (λ (o : Object). P (resource tasks o)) xs
+    each [] = tt
+    each (x ∷ xs) = (one tasks x, each xs)
+
+    last : (b : Bool) → AllByRecursion P (if b then scheduler tasks ∷ [] else [])
+    last true = (top tasks, tt)
+    last false = tt
+
 -- no name of one list is in the other
 abbrev AreApart : List Object → List Object → Type 0
 AreApart xs ys = AllByRecursion (λ (n : List ℕ). list_any (bytes_eq n) (map name_of ys) ≡ false) (map name_of xs)
@@ -307,5 +321,11 @@ linkable t each h =
       alarm_starts = all _ _ (all_map (λ (x : Alarm). x.autostart < 2 ^ length (modes objects)) the_alarm alarms (each_of (λ (o : Object). autostart_below (modes objects) (attr_list o.attrs) some) alarms));
       no_starts = all _ _ (all_map (λ (x : Alarm). x.autostart ≡ 0 → (x.time ≡ 0) × (x.cycle ≡ 0)) the_alarm alarms (each_of (λ (o : Object). no_start (modes objects) (attr_list o.attrs) some) alarms));
       ceilings = all _ _ (ceilings_small (has_scheduler objects) tasks (filter (is_ordinary (has_scheduler objects)) objects) small);
+      takable = all _ _
+          (each_resource (λ (x : Resource). IsTrue (not x.internal)) (λ others o. refl) (λ others. refl)
+          (has_scheduler objects) tasks (filter (is_ordinary (has_scheduler objects)) objects));
+      no_interrupt_ceilings = all _ _
+          (each_resource (λ (x : Resource). x.interrupt_ceiling ≡ 0) (λ others o. refl) (λ others. refl)
+          (has_scheduler objects) tasks (filter (is_ordinary (has_scheduler objects)) objects));
       each_event = all _ _ (all_masked used (objects_of (codes "EVENT") objects) masks);
     }

@@ -1,10 +1,10 @@
 -- What linking needs of a system, and resolving gives: all that an application keeps, but for what comes with code.
-use Rattle.std.specs.Prelude.{◌≡◌, ℕ, ◌^◌, ◌<◌, ◌≤◌, Bool, ◌==◌, nat_le, nat_eq, ◌||◌, ◌&&◌, IsTrue, List, length, map, slice_index_or, All, [], false}
+use Rattle.std.specs.Prelude.{◌≡◌, ℕ, ◌^◌, ◌<◌, ◌≤◌, Bool, ◌==◌, nat_le, nat_eq, ◌||◌, ◌&&◌, IsTrue, List, length, map, slice_index_or, All, [], false, not}
 use Rattle.std.specs.{List.{IsDistinct, list_any}, Str.{bytes_eq}}
-use Rattle.osek_values.specs.declared.limits.TheConstants.{MAX_TASKS, MAX_ISRS, MAX_COUNTERS, MAX_ALARMS, MAX_RESOURCES, MAX_MODES}
+use Rattle.osek_values.specs.{declared.limits.TheConstants.{MAX_TASKS, MAX_ISRS, MAX_COUNTERS, MAX_ALARMS, MAX_RESOURCES, MAX_MODES}, Names.{AreNames}}
 use Rattle.oil_system.specs.declared.objects.{Action.{Action, TheVariants.{ActivateTask, SetEvent}}, Alarm.{Alarm}, Resource.{Resource}}
-use Rattle.osek_values.specs.Names.{AreNames}
-use Rattle.oil_system.specs.{Objects.{greatest_ceiling}, declared.system.{TaskObject.{TaskObject}, CounterObject.{CounterObject}, EventObject.{EventObject}, System.{System}}}
+use Rattle.oil_system.specs.declared.system.{TaskObject.{TaskObject}, CounterObject.{CounterObject}, EventObject.{EventObject}, System.{System}}
+use Rattle.oil_system.specs.Objects.{greatest_ceiling}
 
 -- past the end of the table stands a counter that declares nothing
 abbrev pub no_counter_object : CounterObject
@@ -53,4 +53,7 @@ pub record IsLinkable (s : System) : Type 0 where
   pub alarm_starts : All (λ (x : Alarm). x.autostart < 2 ^ length s.modes) s.alarms
   pub no_starts : All (λ (x : Alarm). x.autostart ≡ 0 → (x.time ≡ 0) × (x.cycle ≡ 0)) s.alarms
   pub ceilings : All (λ (x : Resource). x.ceiling ≤ greatest_ceiling) s.resources
+  -- no resource is INTERNAL yet, and none keeps an ISR out
+  pub takable : All (λ (x : Resource). IsTrue (not x.internal)) s.resources
+  pub no_interrupt_ceilings : All (λ (x : Resource). x.interrupt_ceiling ≡ 0) s.resources
   pub each_event : All (λ (x : EventObject). 0 < x.mask.0) s.events

@@ -1,11 +1,13 @@
 -- The system that a tree declares: a clause for each attribute (ISO 17356-6, standard objects).
-use Rattle.std.specs.{Prelude.{ℕ, ◌+◌, ◌-◌, ◌*◌, ◌^◌, max, List, [], ◌∷◌, ◌++◌, map, length, Bool, ◌&&◌, if◌then◌else◌, codes, filter, bit_or}, List.{list_any}, Str.{bytes_eq}}
+use Rattle.std.specs.{Prelude.{ℕ, ◌+◌, ◌-◌, ◌*◌, ◌^◌, max, List, [], ◌∷◌, ◌++◌, map, length, Bool, ◌&&◌, if◌then◌else◌, codes, filter, bit_or, false}, List.{list_any}}
+use Rattle.std.specs.Str.{bytes_eq}
 use Rattle.osek_values.specs.{Hooks.{hook_set, when, startup, shutdown, error, pre_task, post_task}, Numbers.{mask, task_no, counter_no}}
 use Rattle.oil_system.specs.declared.objects.{Schedule.{Schedule, TheVariants.{Non, Full}}, Action.{Action, TheVariants.{ActivateTask, SetEvent}}, Alarm.{Alarm}, Resource.{Resource}}
 use Rattle.oil_system.specs.declared.system.{TaskObject.{TaskObject}, CounterObject.{CounterObject}, EventObject.{EventObject}, System.{System}}
 use Rattle.oil_tree.specs.{declared.tree.{Attr.{Attr}, Object.{Object}}, AttrLists.{attr_list}}
 use Rattle.oil_model.specs.{declared.objects.Category.TheVariants.{One, Two}, LookUp.{is_named, has, number, says, word_of, word, inner}}
-use Rattle.oil_model.specs.Objects.{objects_of, name_of, os_attrs, has_scheduler, is_other_mode, is_ordinary, is_isr, priority, maximum, minimum, alarm_time, cycle_time, is_started, start, explicit_bits, mask_of, used_after}
+use Rattle.oil_model.specs.Objects.{objects_of, name_of, os_attrs, has_scheduler, is_other_mode, is_ordinary, is_isr, priority, maximum, minimum, alarm_time, cycle_time}
+use Rattle.oil_model.specs.Objects.{is_started, start, explicit_bits, mask_of, used_after}
 
 -- OS: the hooks that are TRUE
 abbrev pub hook : List ℕ → ℕ → List Object → ℕ
@@ -129,10 +131,10 @@ abbrev pub top_ceiling : List Object → ℕ
 top_ceiling tasks = max 1 (above_all tasks)
 
 abbrev pub resource : List Object → Object → Resource
-resource tasks o = record { name = o.name; ceiling = ceiling o.name tasks }
+resource tasks o = record { name = o.name; ceiling = ceiling o.name tasks; internal = false; interrupt_ceiling = 0 }
 
 abbrev pub scheduler : List Object → Resource
-scheduler tasks = record { name = codes "RES_SCHEDULER"; ceiling = top_ceiling tasks }
+scheduler tasks = record { name = codes "RES_SCHEDULER"; ceiling = top_ceiling tasks; internal = false; interrupt_ceiling = 0 }
 
 abbrev pub resources_with : Bool → List Object → List Object → List Resource
 resources_with exists tasks objects =

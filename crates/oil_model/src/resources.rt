@@ -77,7 +77,12 @@ fn ordinary(alloc: Global, scheduler: bool, objects: &[Object]) -> Result<Vec<Re
         if is_ordinary(scheduler, object) {
             let name = copied(alloc, &object.name)?;
             let ceiling = ceiling(object.name.as_bytes(), objects);
-            found.push(Resource { name, ceiling })?;
+            found.push(Resource {
+                name,
+                ceiling,
+                internal: false,
+                interrupt_ceiling: 0,
+            })?;
         }
     }
     Ok(found)
@@ -91,6 +96,8 @@ fn scheduler(alloc: Global, objects: &[Object]) -> Result<Resource, Memory>
     Ok(Resource {
         name,
         ceiling: top_ceiling(objects),
+        internal: false,
+        interrupt_ceiling: 0,
     })
 }
 

@@ -27,9 +27,13 @@ pub struct Alarm {
     pub cycle: u32,
 }
 
-/// A resource, with its ceiling priority.
+/// A resource, with its ceiling priority for tasks and for interrupts.
 #[derive(Debug, Drop)]
 pub struct Resource {
     pub name: Name,
     pub ceiling: u32,
+    /// Whether its RESOURCEPROPERTY is INTERNAL.
+    pub internal: bool,
+    /// One more than the highest priority of the ISRs that name it, and 0 if none does.
+    pub interrupt_ceiling: u16,
 }

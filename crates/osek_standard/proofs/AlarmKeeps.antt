@@ -1,5 +1,6 @@
 -- The alarm services, an alarm that expires and a counter that goes on keep a state well-formed (ISO 17356-3, alarms).
-use Rattle.std.proofs.Common.{◌≡◌, ℕ, ◌+◌, ◌%◌, ◌<◌, ◌≤◌, false, length, refl, sym, ◌∙◌, subst, inl, inr, arith, Some, None, not, ◌||◌, nat_lt, nat_eq, slice_set, slice_index_or, get_or-set_same, get_or-set_other}
+use Rattle.std.proofs.Common.{◌≡◌, ℕ, ◌+◌, ◌%◌, ◌<◌, ◌≤◌, false, length, refl, sym, ◌∙◌, subst, inl, inr, arith, Some, None, not, ◌||◌, nat_lt, nat_eq, slice_set, slice_index_or}
+use Rattle.std.proofs.Common.{get_or-set_same, get_or-set_other}
 use Rattle.std.proofs.{lemmas.Bool.{cases_Bool, cases_eq, or_parts, not-false, Decides.{nat_tests}}, Math.ListN.{length-set}}
 use Rattle.std.specs.{Prelude.{if◌then◌else◌}, declared.option.Option.{Option}}
 use Rattle.oil_system.specs.declared.objects.Action.{Action}
@@ -7,9 +8,10 @@ use Rattle.oil_system.specs.declared.objects.Action.TheVariants as action
 use Rattle.osek_standard.specs.declared.app.App.{App}
 use Rattle.osek_standard.specs.declared.state.{State.{State}, AlarmState.{AlarmState, TheVariants.{Idle, Armed}}, Caller.{Caller, TheVariants.{Nobody, Task, Routine}}}
 use Rattle.osek_standard.specs.{Validity.{IsAction}, Apps.{tables, the_alarm, the_counter, max_of, is_cycle, is_counter, no_alarm}, States.{with_alarm, alarm_state, counter_value}}
-use Rattle.osek_standard.specs.Services.{set_rel_alarm, set_abs_alarm, cancel_alarm, get_alarm, time_left, count_up, counted_by, expire, acted, rearmed, value_of, due, is_due_at, is_idle}
+use Rattle.osek_standard.specs.Services.{set_rel_alarm, set_abs_alarm, cancel_alarm, get_alarm, time_left, count_up, counted_by, expire, acted, rearmed, value_of, due, is_due_at}
+use Rattle.osek_standard.specs.Services.{is_idle}
 use Rattle.osek_standard.specs.Well.{Well, IsAlarmState}
-use Rattle.osek_standard.proofs.{Keeps.{processor_keeps, activate_keeps}, EventKeeps.{set_event_keeps}}
+use Rattle.osek_standard.proofs.{Keeps.{processor_keeps}, ActivationKeeps.{activate_keeps}, EventKeeps.{set_event_keeps}}
 
 -- a remainder is at most the greatest value
 below_round : (n m : ℕ) → n % (m + 1) ≤ m
@@ -46,6 +48,7 @@ module _ (app : App) (s : State) where
     counters = w.counters;
     alarms = alarm_after a x here right w.alarms;
     processor = processor_keeps app s (with_alarm s a x) (λ u h. h) (λ k. refl) s.processor w.processor;
+    line = w.line;
   }
 
   pub set_rel_alarm_keeps : (a i c : ℕ) → Well app s → a < length app.alarms → Well app (set_rel_alarm app s a i c).state
@@ -111,6 +114,7 @@ module _ (app : App) (s : State) where
         counters = counter_after c n here (counted (counter_value s c) (the_counter app c).max (w.counters c known)) w.counters;
         alarms = w.alarms;
         processor = processor_keeps app s (record s { counters = slice_set s.counters c n }) (λ u h. h) (λ k. refl) s.processor w.processor;
+        line = w.line;
       }
 
   pub counted_by_keeps : (c : Caller) → Well app s → Well app (counted_by app s c)

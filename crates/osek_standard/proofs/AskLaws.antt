@@ -1,19 +1,20 @@
 -- An instruction asks for another dispatch only where no routine runs after its effect.
 use Rattle.std.proofs.Common.{◌≡◌, ℕ, ◌+◌, Bool, List, refl, ◌∙◌, ap, ◌⊎◌, inl, inr, Some, None, not, nat_lt, slice_index_or}
 use Rattle.std.specs.declared.option.Option.{Option}
+use Rattle.osek_values.specs.declared.numbers.{TaskNo.{TaskNo}, BlockNo.{BlockNo}, SourceNo.{SourceNo}}
 use Rattle.osek_values.specs.declared.status.Ask.TheVariants as ask
-use Rattle.osek_values.specs.declared.numbers.{TaskNo.{TaskNo}, BlockNo.{BlockNo}}
 use Rattle.osek_standard.specs.declared.{app.App.{App}, block.{Block.{Block}, Kind.{Kind}}}
-use Rattle.osek_standard.specs.declared.block.Kind.TheVariants as kind
-use Rattle.osek_standard.specs.CallNames as call
 use Rattle.osek_standard.specs.declared.state.{State.{State}, Source.{Source}, Processor.{Processor}, Caller.{Caller, TheVariants.{Nobody, Task, Routine}}}
+use Rattle.osek_standard.specs.declared.task_state.Place.{Place}
+use Rattle.osek_standard.specs.{Apps.{the_block, is_extended}, States.{caller, here, task_state, with_source}, Services.{Answer, holds_some, share, wait_event}}
+use Rattle.osek_standard.specs.Effects.{Effect, asks_as, called, effect, effect_at, effect_by, end_task, given_back, goes_on_unless_left, moved_by, moved_to, noted, place_at}
+use Rattle.osek_standard.specs.Effects.{returned_by, returned_to}
+use Rattle.osek_standard.specs.{Well.{Well, AreOut, IsTaskLevel}, Levels.{next_routine}}
+use Rattle.osek_standard.specs.CallNames as call
+use Rattle.osek_standard.specs.declared.block.Kind.TheVariants as kind
 use Rattle.osek_standard.specs.declared.state.Source.TheVariants as source
 use Rattle.osek_standard.specs.declared.state.Processor.TheVariants as processor
-use Rattle.osek_standard.specs.{declared.task_state.Place.{Place}, Apps.{the_block, is_extended}, States.{caller, here, task_state, with_source}}
-use Rattle.osek_standard.specs.Services.{Answer, holds_some, share, wait_event}
-use Rattle.osek_standard.specs.Effects.{Effect, asks_as, called, effect, effect_at, effect_by, end_task, given_back, goes_on_unless_left, moved_by, moved_to, noted, place_at, returned_by}
-use Rattle.osek_standard.specs.Well.{Well, AreOut, IsProcessor, IsTaskLevel}
-use Rattle.osek_standard.proofs.{BoolLaws.{either_way}, Callers.{IfTask, calls, if_task_onward}, SourceLaws.{called_leaves}, RoutineKeeps.{ended_out}}
+use Rattle.osek_standard.proofs.{BoolLaws.{either_way}, Callers.{IfTask, calls, if_task_onward}, SourceLaws.{called_leaves}, NestLaws.{none_next}}
 
 -- it asks nothing, or no routine runs
 abbrev pub MayDispatch : App → Effect → Type 0
@@ -27,7 +28,7 @@ module _ (app : App) where
   row_may : (s : State) (c : Caller) (k : Kind) → IfTask c (λ (t : TaskNo). AreOut app s) → MayDispatch app (noted app (asks_as app c k (called app s c k)))
   row_may s Nobody k out = inl refl
   row_may s (Routine r) k out = inl refl
-  row_may s (Task t) k out = inr (still_out s (called app s (Task t) k).state.sources (called_leaves app s (Task t) k) out)
+  row_may s (Task t) k out = inr (still_out s (called app s (Task t) k).state.sources (called_leaves app s t k) out)
 
   wait_may : (s : State) (c : Caller) (m : ℕ) (next : BlockNo) → IfTask c (λ (t : TaskNo). AreOut app s) → MayDispatch app (noted app (goes_on_unless_left next (wait_event app s c m)))
   unfolding wait_event
@@ -46,11 +47,15 @@ module _ (app : App) where
   given_back_may s None out = inr out
   given_back_may s (Some t) out = inr out
 
-  returned_may : (s : State) (p : Processor) → Well app s → IsProcessor app s p → MayDispatch app (noted app (returned_by app s p))
-  returned_may s processor.Halted w h = inl refl
-  returned_may s processor.Idle w h = inl refl
-  returned_may s (processor.Running t) w h = inl refl
-  returned_may s (processor.Interrupted k over) w h = given_back_may (with_source s k.0 source.Out) over (ended_out app s k over w h)
+  returned_to_may : (s : State) (over : Option TaskNo) (o : Option SourceNo) → next_routine app s ≡ o → MayDispatch app (noted app (returned_to app s over o))
+  returned_to_may s over None e = given_back_may s over (none_next app s e)
+  returned_to_may s over (Some k) e = inl refl
+
+  returned_may : (s : State) (p : Processor) → MayDispatch app (noted app (returned_by app s p))
+  returned_may s processor.Halted = inl refl
+  returned_may s processor.Idle = inl refl
+  returned_may s (processor.Running t) = inl refl
+  returned_may s (processor.Interrupted k over) = let r = with_source s k.0 source.Out in returned_to_may r over (next_routine app r) refl
 
   out_after_move : (s : State) (to : Place) (p : Processor) → IfTask (caller p) (λ (t : TaskNo). AreOut app s) → IfTask (caller p) (λ (t : TaskNo). AreOut app (moved_by s p to))
   out_after_move s to processor.Halted out = tt
@@ -71,7 +76,7 @@ module _ (app : App) where
     effect_at_may choice p b (kind.Call (call.Mask call.WaitEvent m)) = wait_may s (caller s.processor) m.0 b.next task_out
     effect_at_may choice p b (kind.Call call.ShutdownOs) = inl refl
     effect_at_may choice p b kind.TaskEnd = end_may s (caller s.processor) task_out
-    effect_at_may choice p b kind.IsrEnd = returned_may s s.processor w w.processor
+    effect_at_may choice p b kind.IsrEnd = returned_may s s.processor
     effect_at_may choice p b k = row_after b k
 
     effect_by_may : (choice : Bool) (p : Processor) → MayDispatch app (effect_by app s choice p)

@@ -1,14 +1,14 @@
 -- Who calls a service in a well-formed state, and what is known of the block where the processor stands.
-use Rattle.std.proofs.Common.{◌≡◌, ℕ, ◌<◌, length, refl, subst}
-use Rattle.std.specs.Prelude.{⊤}
-use Rattle.osek_values.specs.declared.numbers.{TaskNo.{TaskNo}, BlockNo.{BlockNo}}
-use Rattle.osek_standard.specs.declared.{app.App.{App}, block.Kind.{Kind}}
+use Rattle.std.proofs.Common.{◌≡◌, ℕ, ◌<◌, length, refl, subst, false}
+use Rattle.std.specs.{Prelude.{⊤}, declared.option.Option.{Option}}
+use Rattle.osek_values.specs.declared.numbers.{TaskNo.{TaskNo}, BlockNo.{BlockNo}, SourceNo.{SourceNo}}
+use Rattle.osek_standard.specs.declared.{app.App.{App}, block.Kind.{Kind}, state.{State.{State}, Processor.{Processor}, Caller.{Caller, TheVariants.{Nobody, Task, Routine}}}}
+use Rattle.osek_standard.specs.declared.{task_state.Place.{Place}, call.Call.{Call}}
+use Rattle.osek_standard.specs.{Validity.{IsAmong, IsOtherWay, NamesEntries}, Apps.{tables, the_block, is_counter}, States.{caller, IfRoutine}, Effects.{moved_by}}
+use Rattle.osek_standard.specs.Well.{Well, InOwner, IsOffsetAt, IsOwn, IsProcessor, IsTaskLevel, IsRoutine}
 use Rattle.osek_standard.specs.declared.block.Kind.TheVariants as kind
-use Rattle.osek_standard.specs.declared.state.{State.{State}, Processor.{Processor}, Caller.{Caller, TheVariants.{Nobody, Task, Routine}}}
 use Rattle.osek_standard.specs.declared.state.Processor.TheVariants as processor
-use Rattle.osek_standard.specs.{declared.task_state.Place.{Place}, Validity.{IsAmong, IsOtherWay, NamesEntries}, Apps.{tables, the_block}, States.{caller}, Effects.{moved_by}}
-use Rattle.osek_standard.specs.Well.{Well, InOwner, IsOffsetAt, IsOwn, IsProcessor, IsTaskLevel}
-use Rattle.osek_standard.proofs.{WellLaws.{own_block, routine_block}, Keeps.{offset_0}}
+use Rattle.osek_standard.proofs.WellLaws.{own_block, routine_block, calls_by_isr, offset_0}
 
 -- a fact of the task that calls, if a task calls
 abbrev pub IfTask : Caller → (TaskNo → Type 0) → Type 0
@@ -21,12 +21,34 @@ if_task_onward P Q f Nobody h = tt
 if_task_onward P Q f (Routine k) h = tt
 if_task_onward P Q f (Task t) h = f t h
 
+-- who calls has the processor
+abbrev pub IsAtProcessor : State → Caller → Type 0
+IsAtProcessor s Nobody = ⊤
+IsAtProcessor s (Routine k) = (over : Option TaskNo) × (s.processor ≡ processor.Interrupted k over)
+IsAtProcessor s (Task t) = s.processor ≡ processor.Running t
+
+at_processor_by : (s : State) (p : Processor) → s.processor ≡ p → IsAtProcessor s (caller p)
+at_processor_by s processor.Halted e = tt
+at_processor_by s processor.Idle e = tt
+at_processor_by s (processor.Running t) e = e
+at_processor_by s (processor.Interrupted k over) e = (over, e)
+
+pub at_processor : (s : State) → IsAtProcessor s (caller s.processor)
+at_processor s = at_processor_by s s.processor refl
+
 -- a move leaves the processor to whom it was
 pub moved_processor : (s : State) (to : Place) (p : Processor) → (moved_by s p to).processor ≡ s.processor
 moved_processor s to processor.Halted = refl
 moved_processor s to processor.Idle = refl
 moved_processor s to (processor.Running t) = refl
 moved_processor s to (processor.Interrupted k over) = refl
+
+-- what is known of a task and of a routine that has the processor
+pub task_level_of : (app : App) (s : State) (t : TaskNo) → Well app s → s.processor ≡ processor.Running t → IsTaskLevel app s t
+task_level_of app s t w e = subst (IsProcessor app s) e w.processor
+
+pub routine_level_of : (app : App) (s : State) (k : SourceNo) (over : Option TaskNo) → Well app s → s.processor ≡ processor.Interrupted k over → IsRoutine app s k over
+routine_level_of app s k over w e = subst (IsProcessor app s) e w.processor
 
 module _ (app : App) where
   calls_by : (s : State) (p : Processor) → IsProcessor app s p → IfTask (caller p) (IsTaskLevel app s)
@@ -48,6 +70,13 @@ module _ (app : App) where
   caller_owns b processor.Idle h = tt
   caller_owns b (processor.Running t) h = h
   caller_owns b (processor.Interrupted k over) h = tt
+
+  -- a routine that stands at a call is an ISR's
+  pub isr_calls : (p : Processor) (b : ℕ) (c : Call) → InOwner app p b → (the_block app b).kind ≡ kind.Call c → IfRoutine (caller p) (λ (k : SourceNo). is_counter app k.0 ≡ false)
+  isr_calls processor.Halted b c own e = tt
+  isr_calls processor.Idle b c own e = tt
+  isr_calls (processor.Running t) b c own e = tt
+  isr_calls (processor.Interrupted k over) b c own e = calls_by_isr app k.0 b c own e
 
   -- what is known of a block of the caller's owner
   pub record BlockHere (p : Processor) (b : ℕ) : Type 0 where

@@ -1,23 +1,6 @@
--- The heights of tasks, summed, and how many stacks there are at most.
-use Rattle.std.proofs.{Common.{◌≡◌, ℕ, zero, suc, ◌+◌, ◌*◌, ◌<◌, ◌≤◌, List, [], ◌∷◌, length, sym, ◌∙◌, ap, subst, inl, inr, arith}, lemmas.Bool.{cases_eq}}
-use Rattle.std.proofs.{Math.Nat.{add-mul, mul-add, mul-le-mul}, lemmas.List.Sums.{sum_by-cons}}
-use Rattle.std.specs.List.{sum_by}
-use Rattle.osek_standard.specs.{declared.objects.Task.{Task}, Counts.{stacks, task_height}}
-
--- one more task of c blocks, where there are n tasks of b blocks, and s stacks
-one_more : (c b s n : ℕ) → 1 + c + c * s + (n + b * (1 + s)) ≡ n + 1 + (c + b) * (1 + s)
-one_more c b s n = omega (arith, add-mul c b (1 + s), mul-add c 1 s, mul-add b 1 s)
-
--- a state for each task that is suspended, and for each block one that waits there and the stacks
-pub heights_together : (r : ℕ) (xs : List Task) → sum_by (task_height r) xs ≡ length xs + sum_by (λ (x : Task). x.count) xs * (1 + stacks r)
-heights_together r [] = omega arith
-heights_together r (x ∷ xs) =
-    let blocks : Task → ℕ = λ x. x.count in
-    let rest = ap (λ (n : ℕ). 1 + x.count + x.count * stacks r + n) (heights_together r xs) in
-    let size : length xs + 1 ≡ length (x ∷ xs) = omega arith in
-    sum_by-cons (task_height r) x xs ∙ rest ∙ one_more x.count (sum_by blocks xs) (stacks r) (length xs)
-    ∙ ap (λ (n : ℕ). n + (x.count + sum_by blocks xs) * (1 + stacks r)) size
-    ∙ ap (λ (b : ℕ). length (x ∷ xs) + b * (1 + stacks r)) (sym (sum_by-cons blocks x xs))
+-- How many stacks there are at most, and how high the states of tasks.
+use Rattle.std.proofs.{Common.{◌≡◌, ℕ, zero, suc, ◌+◌, ◌*◌, ◌<◌, ◌≤◌, sym, ◌∙◌, ap, subst, inl, inr, arith}, lemmas.Bool.{cases_eq}, Math.Nat.{add-mul, mul-le-mul}}
+use Rattle.osek_standard.specs.Counts.{stacks}
 
 stacks_grow : (n : ℕ) → stacks n ≤ stacks (suc n)
 stacks_grow n =
@@ -44,3 +27,9 @@ more_stacks n = let next : n + 1 ≡ suc n = omega arith in
 -- so many resources and stacks, multiplied
 pub few_products : (n s : ℕ) → n < 8 → s ≤ 109601 → (n + 1) * s ≤ 876808
 few_products n s h k = let fewer : n + 1 ≤ 8 = omega (arith, h) in omega (arith, mul-le-mul {n₁ = n + 1} {m₁ = s} {n₂ = 8} {m₂ = 109601} fewer k)
+
+-- so many blocks, stacks and activations, multiplied
+pub few_live : (count stacks activation : ℕ) → count ≤ 65535 → stacks ≤ 109601 → activation ≤ 255 → (count * stacks ≤ 7182701535) × (count * stacks * activation ≤ 1831588891425)
+few_live count stacks activation h k m =
+    let both : count * stacks ≤ 7182701535 = omega (arith, mul-le-mul {n₁ = count} {m₁ = stacks} {n₂ = 65535} {m₂ = 109601} h k) in
+    (both, omega (arith, mul-le-mul {n₁ = count * stacks} {m₁ = activation} {n₂ = 7182701535} {m₂ = 255} both m))

@@ -1,5 +1,5 @@
 -- The first of some numbers, by a test that orders all numbers.
-use Rattle.std.proofs.{Common.{◌≡◌, ℕ, Bool, true, List, [], ◌∷◌, refl, sym, subst, ◌⊎◌, inl, inr, arith, Some, None, nat_le}, lemmas.Bool.{cases_Bool, Decides.{nat_tests}}}
+use Rattle.std.proofs.Common.{◌≡◌, ℕ, Bool, true, List, [], ◌∷◌, refl, sym, subst, ◌⊎◌, inl, inr, Some, None}
 use Rattle.std.specs.List.{list_all}
 use Rattle.osek_standard.specs.Priority.{first_of_all}
 use Rattle.osek_standard.proofs.Members.{Among, all_of, of_all, find_one, find_among}
@@ -10,14 +10,6 @@ pub record Orders (before : ℕ → ℕ → Bool) : Type 0 where
   pub either : (x y : ℕ) → (before x y ≡ true) ⊎ (before y x ≡ true)
   pub once : (x y : ℕ) → before x y ≡ true → before y x ≡ true → x ≡ y
   pub onward : (x y z : ℕ) → before x y ≡ true → before y z ≡ true → before x z ≡ true
-
--- the lower of two numbers orders all numbers
-pub lower_orders : Orders (λ x y. nat_le x y)
-lower_orders = record {
-  either = λ k l. elim (cases_Bool (nat_le k l)) [ inl e ↦ inl e | inr e ↦ inr (grind (arith, nat_tests)) ];
-  once = λ k l e f. grind (arith, nat_tests);
-  onward = λ k l m e f. grind (arith, nat_tests);
-}
 
 -- t is one of them and goes before each
 pub record IsFirst (before : ℕ → ℕ → Bool) (xs : List ℕ) (t : ℕ) : Type 0 where
@@ -35,7 +27,7 @@ module _ (before : ℕ → ℕ → Bool) where
   is_first o xs t h = find_one (λ x. list_all (before x) xs) t xs h.among (all_of (before t) xs h.before_each)
       (λ u m all. o.once u t (of_all (before u) xs all t h.among) (h.before_each u m))
 
-  pub before_itself : Orders before → (x : ℕ) → before x x ≡ true
+  before_itself : Orders before → (x : ℕ) → before x x ≡ true
   before_itself o x = elim (o.either x x) [ inl f ↦ f | inr f ↦ f ]
 
   first_with : Orders before → (x : ℕ) (xs : List ℕ) (t : ℕ) → IsFirst before xs t → (before x t ≡ true) ⊎ (before t x ≡ true) → (r : ℕ) × IsFirst before (x ∷ xs) r

@@ -1,12 +1,11 @@
 -- Which task is best: the computed one is the one with the property.
-use Rattle.std.proofs.Common.{◌≡◌, ◌∙◌, ℕ, ◌<◌, ◌||◌, ◌&&◌, Bool, true, false, length, refl, sym, ap, subst, ◌⊎◌, inl, inr, arith, Some, None, nat_eq, nat_lt}
-use Rattle.std.proofs.lemmas.{Bool.{cases_Bool, cases_lt, cases_eq, Decides.{nat_tests}}, List.{get_or_past}}
+use Rattle.std.proofs.{Common.{◌≡◌, ℕ, ◌<◌, true, false, length, refl, sym, ap, subst, inl, inr, Some, None}, lemmas.{Bool.{cases_Bool, cases_lt, cases_eq}, List.{get_or_past}}}
 use Rattle.std.specs.{Prelude.{option_map}, declared.option.Option.{Option}}
 use Rattle.osek_values.specs.{declared.numbers.TaskNo.{TaskNo}, Numbers.{task_no}}
 use Rattle.osek_standard.specs.{declared.{app.App.{App}, state.State.{State}, task_state.TaskState.{TaskState}}, TaskStates.{is_live, suspended}, States.{task_state, live_tasks}}
-use Rattle.osek_standard.specs.Priority.{best, IsBest, goes_before, precedes, current_priority}
-use Rattle.osek_standard.proofs.Members.{Among, among_passing, passing_among}
-use Rattle.osek_standard.proofs.FirstLaws.{Orders, lower_orders, before_itself, IsFirst, first_is, is_first, none_first, first_none}
+use Rattle.osek_standard.specs.{Priority.{best, IsBest, goes_before, current_priority}, Line.{turn}}
+use Rattle.osek_standard.proofs.{Members.{Among, among_passing, passing_among}, FirstLaws.{Orders, IsFirst, first_is, is_first, none_first, first_none}, TurnLaws.{turn_once}}
+use Rattle.osek_standard.proofs.AheadLaws.{either_ahead, once_ahead, onward_ahead, ahead_apart, apart_ahead, ahead_of_itself}
 
 number_of : (o : Option ℕ) (t : TaskNo) → option_map task_no o ≡ Some t → o ≡ Some t.0
 number_of None t e = absurd (cc)
@@ -16,45 +15,6 @@ no_number : (o : Option ℕ) → option_map task_no o ≡ None → o ≡ None
 no_number None e = refl
 no_number (Some n) e = absurd (cc)
 
--- the higher of two priorities, and between equal ones what orders the numbers
-module _ (before : ℕ → ℕ → Bool) (o : Orders before) where
-  abbrev ahead : ℕ → ℕ → ℕ → ℕ → Bool
-  ahead p t q u = nat_lt q p || (nat_eq p q && before t u)
-
-  ahead_if : (p t q u : ℕ) → (q < p) ⊎ ((q ≡ p) × (before t u ≡ true)) → ahead p t q u ≡ true
-  ahead_if p t q u (inl h) = grind (arith, nat_tests)
-  ahead_if p t q u (inr h) = let same : q ≡ p = h.0 in let first : before t u ≡ true = h.1 in grind (arith, nat_tests)
-
-  if_ahead : (p t q u : ℕ) → ahead p t q u ≡ true → (q < p) ⊎ ((q ≡ p) × (before t u ≡ true))
-  if_ahead p t q u e = elim (cases_lt q p) [
-    | inl h ↦ inl h
-    | inr h ↦ inr (grind (arith, nat_tests), grind (arith, nat_tests))
-  ]
-
-  either_ahead : (p t q u : ℕ) → (ahead p t q u ≡ true) ⊎ (ahead q u p t ≡ true)
-  either_ahead p t q u = elim (cases_lt q p) [
-    | inl h ↦ inl (ahead_if p t q u (inl h))
-    | inr h ↦ elim (cases_lt p q) [
-      | inl k ↦ inr (ahead_if q u p t (inl k))
-      | inr k ↦ elim (o.either t u) [
-        | inl f ↦ inl (ahead_if p t q u (inr (omega (arith, h, k), f)))
-        | inr f ↦ inr (ahead_if q u p t (inr (omega (arith, h, k), f)))
-      ]
-    ]
-  ]
-
-  once_by : (p t q u : ℕ) → (q < p) ⊎ ((q ≡ p) × (before t u ≡ true)) → (p < q) ⊎ ((p ≡ q) × (before u t ≡ true)) → t ≡ u
-  once_by p t q u (inl h) (inl k) = absurd (omega (arith, h, k))
-  once_by p t q u (inl h) (inr k) = absurd (omega (arith, h, k.0))
-  once_by p t q u (inr h) (inl k) = absurd (omega (arith, h.0, k))
-  once_by p t q u (inr h) (inr k) = o.once t u h.1 k.1
-
-  onward_by : (p t q u r v : ℕ) → (q < p) ⊎ ((q ≡ p) × (before t u ≡ true)) → (r < q) ⊎ ((r ≡ q) × (before u v ≡ true)) → (r < p) ⊎ ((r ≡ p) × (before t v ≡ true))
-  onward_by p t q u r v (inl h) (inl k) = inl (omega (arith, h, k))
-  onward_by p t q u r v (inl h) (inr k) = inl (omega (arith, h, k.0))
-  onward_by p t q u r v (inr h) (inl k) = inl (omega (arith, h.0, k))
-  onward_by p t q u r v (inr h) (inr k) = inr (k.0 ∙ h.0, o.onward t u v h.1 k.1)
-
 -- a Live task is in the table
 pub live_known : (s : State) (t : ℕ) → is_live (task_state s t) ≡ true → t < length s.tasks
 live_known s t live = elim (cases_lt t (length s.tasks)) [
@@ -63,21 +23,12 @@ live_known s t live = elim (cases_lt t (length s.tasks)) [
 ]
 
 module _ (app : App) (s : State) where
-  ties : Orders (precedes app s)
-  ties = lower_orders
-
-  abbrev cp : ℕ → ℕ
-  cp t = current_priority app s t
-
-  apart : (t u : ℕ) → goes_before app s t u ≡ true → (cp u < cp t) ⊎ ((cp u ≡ cp t) × (precedes app s t u ≡ true))
-  apart t u e = if_ahead (precedes app s) ties (cp t) t (cp u) u e
-
   -- the rule of the best task orders all tasks
   pub before_orders : Orders (goes_before app s)
   before_orders = record {
-    either = λ t u. either_ahead (precedes app s) ties (cp t) t (cp u) u;
-    once = λ t u e f. once_by (precedes app s) ties (cp t) t (cp u) u (apart t u e) (apart u t f);
-    onward = λ t u v e f. ahead_if (precedes app s) ties (cp t) t (cp v) v (onward_by (precedes app s) ties (cp t) t (cp u) u (cp v) v (apart t u e) (apart u v f));
+    either = λ t u. either_ahead (current_priority app s t) (turn s t) (current_priority app s u) (turn s u);
+    once = λ t u e f. turn_once s t u (once_ahead (current_priority app s t) (turn s t) (current_priority app s u) (turn s u) e f);
+    onward = λ t u v e f. onward_ahead (current_priority app s t) (turn s t) (current_priority app s u) (turn s u) (current_priority app s v) (turn s v) e f;
   }
 
   among_live : (t : ℕ) → is_live (task_state s t) ≡ true → Among t (live_tasks s)
@@ -112,14 +63,16 @@ module _ (app : App) (s : State) where
   pub best_is : (t : TaskNo) → best app s ≡ Some t → IsBest app s t.0
   best_is t e = record {
     live = (best_is_live t e).0;
-    others = λ u live other. apart t.0 u ((first_live t e).before_each u (among_live u live));
+    others =
+        λ u live other. ahead_apart (current_priority app s t.0) (turn s t.0) (current_priority app s u) (turn s u) ((first_live t e).before_each u (among_live u live))
+        (λ same. other (turn_once s u t.0 same));
   }
 
   -- a task with the property is the best
   pub is_best : (t : ℕ) → IsBest app s t → best app s ≡ Some (task_no t)
   is_best t h = best_found t (live_known s t h.live) h.live (λ u _ live. elim (cases_eq u t) [
-    | inl e ↦ subst (λ (v : ℕ). goes_before app s t v ≡ true) (sym e) (ahead_if (precedes app s) ties (cp t) t (cp t) t (inr (refl, before_itself (precedes app s) ties t)))
-    | inr other ↦ ahead_if (precedes app s) ties (cp t) t (cp u) u (h.others u live other)
+    | inl e ↦ subst (λ (v : ℕ). goes_before app s t v ≡ true) (sym e) (ahead_of_itself (current_priority app s t) (turn s t))
+    | inr other ↦ apart_ahead (current_priority app s t) (turn s t) (current_priority app s u) (turn s u) (h.others u live other)
   ])
 
   -- where none is best, no task is Live

@@ -99,6 +99,10 @@ module _ (app : App) where
   abbrev pub routine_count : ℕ → ℕ
   routine_count k = if is_counter k then (the_counter k).count else (the_isr (k - length app.counters)).count
 
+  -- an ISR's priority; tick routines have the lowest
+  abbrev pub source_priority : ℕ → ℕ
+  source_priority k = if is_counter k then 0 else (the_isr (k - length app.counters)).priority
+
   -- the greatest value of an alarm's counter
   abbrev pub max_of : ℕ → ℕ
   max_of a = (the_counter (the_alarm a).counter.0).max

@@ -1,5 +1,6 @@
 -- How many points an application has, and how high its tables of possible states are (this project's profile).
-use Rattle.std.specs.{Prelude.{ℕ, zero, suc, ◌+◌, ◌*◌, count_ones, length}, List.{sum_by}}
+use Rattle.std.specs.{Prelude.{ℕ, zero, suc, ◌+◌, ◌*◌, count_ones, length, not, is_some, if◌then◌else◌}, List.{sum_by, count_by}}
+use Rattle.oil_system.specs.declared.objects.Resource.{Resource}
 use Rattle.osek_standard.specs.declared.{app.App.{App}, objects.{Task.{Task}, Isr.{Isr}, Counter.{Counter}}}
 
 -- the stacks of distinct resources out of n: the empty one, and each of the n above a stack of the others
@@ -7,9 +8,13 @@ abbrev pub stacks : ℕ → ℕ
 stacks zero = 1
 stacks (suc n) = 1 + suc n * stacks n
 
--- the states that a task can be in: suspended, waiting at a block, or Live at a block with a stack
+-- Live at a block, with one of so many stacks and with further activations
+abbrev pub live_height : ℕ → Task → ℕ
+live_height stack_count x = x.count * stack_count * x.activation
+
+-- a task is suspended, waits at a block, or is Live, inside or not where it names an INTERNAL resource
 abbrev pub task_height : ℕ → Task → ℕ
-task_height resources x = 1 + x.count + x.count * stacks resources
+task_height stack_count x = 1 + x.count + (if is_some x.internal then 2 * live_height stack_count x else live_height stack_count x)
 
 -- an event of an extended task is set or not
 abbrev pub event_height : Task → ℕ
@@ -27,6 +32,10 @@ module _ (app : App) where
   abbrev pub points : ℕ
   points = 2 + task_blocks + routine_blocks * (length app.tasks + 1)
 
+  -- the resources that may stand on a stack
+  abbrev pub takable_count : ℕ
+  takable_count = count_by (λ (r : Resource). not r.internal) app.resources
+
   -- what each task can be in, whether each event is set, and whether each alarm is armed
   abbrev pub height : ℕ
-  height = sum_by (task_height (length app.resources)) app.tasks + sum_by event_height app.tasks + 2 * length app.alarms
+  height = sum_by (task_height (stacks takable_count)) app.tasks + sum_by event_height app.tasks + 2 * length app.alarms

@@ -1,12 +1,12 @@
 -- What a step does with the processor after the effect of its instruction (ISO 17356-3, scheduling policy), and the
 -- hooks of a dispatch (ISO 17356-3, PreTaskHook and PostTaskHook).
 use Rattle.std.specs.{Prelude.{ℕ, Bool, true, false, nat_lt, ◌||◌, bit_or, if◌then◌else◌, Some, None, is_some}, declared.option.Option.{Option}}
-use Rattle.osek_values.specs.{declared.{hooks.HookSet.{HookSet}, status.Ask.{Ask}}, Hooks.{hook_set, pre_task, post_task, when}}
+use Rattle.osek_values.specs.{declared.{hooks.HookSet.{HookSet}, status.Ask.{Ask}, notes.Notes.{Notes}, numbers.TaskNo.{TaskNo}}, Hooks.{hook_set, pre_task, post_task, when}}
 use Rattle.osek_values.specs.declared.status.Ask.TheVariants as ask
-use Rattle.osek_values.specs.declared.{notes.Notes.{Notes}, numbers.TaskNo.{TaskNo}}
 use Rattle.osek_standard.specs.declared.{app.App.{App}, state.{State.{State}, Processor.{Processor}, Caller.{Caller, TheVariants.{Nobody, Task, Routine}}}}
+use Rattle.osek_standard.specs.{States.{task_of, caller, with_processor}, Priority.{current_priority, best}, Effects.{Effect, effect, wanted}, Line.{first_in_line, out_of_line}}
+use Rattle.osek_standard.specs.Internal.{put_inside, kept}
 use Rattle.osek_standard.specs.declared.state.Processor.TheVariants as processor
-use Rattle.osek_standard.specs.{States.{task_of, caller, with_processor}, Priority.{current_priority, best}, Effects.{Effect, effect, wanted}}
 
 -- who had the processor keeps it, or it goes to a task or to none
 pub data Outcome : Type 0 where
@@ -45,11 +45,12 @@ abbrev pub processor_for : Option TaskNo → Processor
 processor_for None = processor.Idle
 processor_for (Some t) = processor.Running t
 
+-- who had the processor goes first in the line, and who gets it leaves the line and is inside
 abbrev pub dispatched : App → State → Option TaskNo → State
-dispatched app s x = with_processor s (processor_for x)
+dispatched app s x = with_processor (put_inside app (out_of_line (first_in_line s (task_of s.processor)) x) x) (processor_for x)
 
 abbrev pub settled : App → State → Outcome → State
-settled app s Keep = s
+settled app s Keep = kept app s
 settled app s (To x) = dispatched app s x
 
 abbrev pub is_left : Ask → Bool

@@ -1,21 +1,24 @@
 -- The effect of one instruction: what it does to the state, what it notes, and what it asks of the scheduler.
 use Rattle.std.specs.{Prelude.{ℕ, ◌+◌, Bool, true, false, nat_lt, bit_and, if◌then◌else◌, Some, None}, declared.option.Option.{Option}}
-use Rattle.osek_values.specs.{declared.{hooks.HookSet.{HookSet}, status.{Status.{Status}, Ask.{Ask}}}, Hooks.{hook_set, shutdown, error, when}}
+use Rattle.osek_values.specs.declared.{hooks.HookSet.{HookSet}, status.{Status.{Status}, Ask.{Ask}}, notes.Notes.{Notes}}
+use Rattle.osek_values.specs.declared.numbers.{TaskNo.{TaskNo}, BlockNo.{BlockNo}, SourceNo.{SourceNo}}
+use Rattle.osek_values.specs.Hooks.{hook_set, shutdown, error, when}
 use Rattle.osek_values.specs.declared.status.Status.TheVariants as status
 use Rattle.osek_values.specs.declared.status.Ask.TheVariants as ask
 use Rattle.osek_values.specs.declared.notes.Value.TheVariants as value
-use Rattle.osek_values.specs.declared.{notes.Notes.{Notes}, numbers.{TaskNo.{TaskNo}, BlockNo.{BlockNo}}}
 use Rattle.oil_system.specs.declared.objects.Schedule.{Schedule, TheVariants.{Non, Full}}
-use Rattle.osek_standard.specs.declared.{app.App.{App}, block.{Block.{Block}, Kind.{Kind}}}
-use Rattle.osek_standard.specs.declared.block.Kind.TheVariants as kind
-use Rattle.osek_standard.specs.declared.call.Call.{Call}
-use Rattle.osek_standard.specs.CallNames as call
+use Rattle.osek_standard.specs.declared.{app.App.{App}, block.{Block.{Block}, Kind.{Kind}}, call.Call.{Call}}
 use Rattle.osek_standard.specs.declared.task_state.{Place.{Place}, TaskState.{TaskState}, Activity.{Activity, TheVariants.{Suspended, Live, Waiting}}}
 use Rattle.osek_standard.specs.declared.state.{State.{State}, Source.{Source}, Processor.{Processor}, Caller.{Caller, TheVariants.{Nobody, Task, Routine}}}
+use Rattle.osek_standard.specs.{Apps.{the_task, the_block}, States.{caller, task_state, with_task, source_state, with_source, with_processor, here, all_out}}
+use Rattle.osek_standard.specs.Services.{Answer, unnoted, left, ended, activate_task, terminate_task, chain_task, schedule, get_task_id, get_task_state, get_resource_by}
+use Rattle.osek_standard.specs.Services.{release_resource_by, set_event, clear_event, get_event, wait_event, set_rel_alarm, set_abs_alarm, cancel_alarm, get_alarm, counted_by}
+use Rattle.osek_standard.specs.Services.{expire}
+use Rattle.osek_standard.specs.{Line.{first_in_line}, Levels.{next_routine}}
+use Rattle.osek_standard.specs.CallNames as call
+use Rattle.osek_standard.specs.declared.block.Kind.TheVariants as kind
 use Rattle.osek_standard.specs.declared.state.Source.TheVariants as source
 use Rattle.osek_standard.specs.declared.state.Processor.TheVariants as processor
-use Rattle.osek_standard.specs.{Apps.{the_task, the_block}, States.{caller, task_state, with_task, source_state, with_source, with_processor, here}}
-use Rattle.osek_standard.specs.Services.{Answer, unnoted, left, ended, activate_task, terminate_task, chain_task, schedule, get_task_id, get_task_state, get_resource_by, release_resource_by, set_event, clear_event, get_event, wait_event, set_rel_alarm, set_abs_alarm, cancel_alarm, get_alarm, counted_by, expire}
 
 -- what an instruction leaves, notes and asks
 pub record Effect : Type 0 where
@@ -155,22 +158,27 @@ abbrev pub given_back : App → State → Option TaskNo → Answer
 given_back app s None = unnoted (with_processor s processor.Idle) ask.Free
 given_back app s (Some t) = unnoted (with_processor s (processor.Running t)) (asked_over (the_task app t.0).schedule)
 
--- the end of a routine
+-- to the routine that goes on, or else to what the routines interrupted
+abbrev pub returned_to : App → State → Option TaskNo → Option SourceNo → Answer
+returned_to app s over None = given_back app s over
+returned_to app s over (Some k) = unnoted (with_processor s (processor.Interrupted k over)) ask.No
+
+-- the end of a routine gives back what it holds
 abbrev pub returned_by : App → State → Processor → Answer
 returned_by app s processor.Halted = unnoted s ask.No
 returned_by app s processor.Idle = unnoted s ask.No
 returned_by app s (processor.Running t) = unnoted s ask.No
-returned_by app s (processor.Interrupted k over) = given_back app (with_source s k.0 source.Out) over
+returned_by app s (processor.Interrupted k over) = returned_to app (with_source s k.0 source.Out) over (next_routine app (with_source s k.0 source.Out))
 
 abbrev pub returned : App → State → Answer
 returned app s = returned_by app s s.processor
 
--- all that a state has of routines is over
+-- all routines are over, and the task that runs or is interrupted is ready
 abbrev pub halted_by : State → Processor → State
 halted_by s processor.Halted = s
 halted_by s processor.Idle = with_processor s processor.Halted
-halted_by s (processor.Running t) = with_processor s processor.Halted
-halted_by s (processor.Interrupted k over) = with_processor (with_source s k.0 source.Out) processor.Halted
+halted_by s (processor.Running t) = with_processor (first_in_line s (Some t)) processor.Halted
+halted_by s (processor.Interrupted k over) = with_processor (all_out (first_in_line s over)) processor.Halted
 
 -- ShutdownOS: the kernel halts and ShutdownHook runs (the standard); the caller stands at its next block, and no
 -- PostTaskHook runs (the profile)

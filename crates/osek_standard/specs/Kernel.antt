@@ -1,16 +1,17 @@
 -- One step of the kernel, its start in an application mode, and its runs (ISO 17356-3).
 use Rattle.std.specs.{Prelude.{ℕ, ◌+◌, Bool, false, true, List, [], ◌∷◌, length, map, replicate, if◌then◌else◌, Some, None}, declared.option.Option.{Option}}
-use Rattle.osek_values.specs.{Bits.{has_bit}, Hooks.{startup}, Numbers.{mask}}
-use Rattle.osek_values.specs.declared.status.Ask.TheVariants as ask
+use Rattle.std.specs.List.{filter, range_with_len}
+use Rattle.osek_values.specs.{Bits.{has_bit}, Hooks.{startup}, Numbers.{mask, task_no}}
 use Rattle.osek_values.specs.declared.{event.Event.{Event, TheVariants.{Run, Irq, Tick}}, numbers.{ModeNo.{ModeNo}, SourceNo.{SourceNo}}}
+use Rattle.osek_values.specs.declared.status.Ask.TheVariants as ask
 use Rattle.oil_system.specs.declared.objects.Alarm.{Alarm}
-use Rattle.osek_standard.specs.declared.{app.App.{App}, objects.Task.{Task}, task_state.{TaskState.{TaskState}, Activity.TheVariants.{Live}}}
+use Rattle.osek_standard.specs.declared.{app.App.{App}, objects.Task.{Task}, task_state.TaskState.{TaskState}}
 use Rattle.osek_standard.specs.declared.state.{State.{State}, AlarmState.{AlarmState}, Processor.{Processor}}
+use Rattle.osek_standard.specs.{Apps.{source_count, the_task}, TaskStates.{suspended}, States.{with_latch}, Priority.{best}, Effects.{wanted, effected}}
+use Rattle.osek_standard.specs.{Dispatch.{Stepped, silent, nothing_noted, with_hooks, if_any, concluded, instruction}, Arrivals.{arrival, entered}, Services.{live_at}}
 use Rattle.osek_standard.specs.declared.state.AlarmState.TheVariants as alarm
 use Rattle.osek_standard.specs.declared.state.Source.TheVariants as source
 use Rattle.osek_standard.specs.declared.state.Processor.TheVariants as processor
-use Rattle.osek_standard.specs.{Apps.{source_count}, TaskStates.{suspended}, States.{with_latch}, Priority.{best}, Effects.{place_at, wanted, effected}}
-use Rattle.osek_standard.specs.{Dispatch.{Stepped, silent, nothing_noted, with_hooks, if_any, concluded, instruction}, Arrivals.{arrival, entered}}
 
 -- Steps of the kernel and of images differ in the instruction alone, whose result may be a trap of an image: so the
 -- result is of a type R into which each plain step is put.
@@ -40,11 +41,15 @@ step app s e = step_with (λ n. n) app s (instruction app s) e
 abbrev pub started_task : ℕ → Task → TaskState
 started_task mode x =
     if has_bit x.autostart mode
-    then record { activity = Live (record { at = place_at x.first 0; held = [] }); events = mask 0 }
+    then record { activity = live_at x.first 0; events = mask 0 }
     else suspended
 
 abbrev pub started_alarm : ℕ → Alarm → AlarmState
 started_alarm mode x = if has_bit x.autostart mode then alarm.Armed x.time x.cycle else alarm.Idle
+
+-- the tasks that are autostarted in a mode, in order of declaration
+abbrev pub autostarted : App → ℕ → List ℕ
+autostarted app mode = filter (λ t. has_bit (the_task app t).autostart mode) (range_with_len 0 (length app.tasks))
 
 -- the state at the start, before the dispatch
 abbrev pub initial : App → ModeNo → State
@@ -56,6 +61,7 @@ initial app mode = record {
   alarms = map (started_alarm mode.0) app.alarms;
   sources = replicate (source_count app) source.Out;
   latched = replicate (source_count app) false;
+  line = map task_no (autostarted app mode.0);
 }
 
 -- The start in a mode (ISO 17356-3, application modes and StartOS): StartupHook, and the best task is dispatched.

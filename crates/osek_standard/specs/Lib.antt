@@ -5,6 +5,9 @@ pub mod Counts
 pub mod Dispatch
 pub mod Effects
 pub mod Kernel
+pub mod Internal
+pub mod Levels
+pub mod Line
 pub mod Outcomes
 pub mod Points
 pub mod Priority

@@ -5,22 +5,23 @@
 -- From the standard, where a row doesn't say otherwise: the refusals and their codes (extended status) and what an
 -- accepted call does. This project's profile, in every row: the order of the tests, CALLEVEL, ACCESS, RESOURCE, STATE,
 -- VALUE, LIMIT, NOFUNC; and that no status is noted where a call doesn't return one to its caller.
-use Rattle.std.specs.Prelude.{ℕ, ◌+◌, ◌-◌, ◌%◌, Bool, true, false, ◌==◌, slice_get, nat_lt, ◌&&◌, ◌||◌, not, bit_and, bit_or, bit_xor, List, [], ◌∷◌, ◌++◌, length, slice_set, take, if◌then◌else◌, Some, None}
+use Rattle.std.specs.Prelude.{ℕ, ◌+◌, ◌-◌, ◌%◌, Bool, true, false, ◌==◌, slice_get, nat_lt, ◌&&◌, ◌||◌, not, bit_and, bit_or, bit_xor, List, [], ◌∷◌, ◌++◌, length, slice_set, take}
+use Rattle.std.specs.Prelude.{if◌then◌else◌, Some, None, nat_le}
 use Rattle.std.specs.declared.option.Option.{Option}
-use Rattle.osek_values.specs.declared.status.{Status.{Status}, Ask.{Ask}}
+use Rattle.osek_values.specs.{declared.{status.{Status.{Status}, Ask.{Ask}}, notes.Value.{Value}, numbers.{ResNo.{ResNo}, BlockNo.{BlockNo}}}, Numbers.{mask}}
 use Rattle.osek_values.specs.declared.status.Status.TheVariants as status
 use Rattle.osek_values.specs.declared.status.Ask.TheVariants as ask
-use Rattle.osek_values.specs.declared.notes.Value.{Value}
 use Rattle.osek_values.specs.declared.notes.Value.TheVariants as value
-use Rattle.osek_values.specs.{declared.numbers.ResNo.{ResNo}, Numbers.{mask}}
 use Rattle.oil_system.specs.declared.objects.Action.{Action}
 use Rattle.oil_system.specs.declared.objects.Action.TheVariants as action
 use Rattle.osek_standard.specs.declared.{app.App.{App}, task_state.{TaskState.{TaskState}, Activity.{Activity, TheVariants.{Suspended, Live, Waiting}}}}
-use Rattle.osek_standard.specs.declared.state.{State.{State}, AlarmState.{AlarmState, TheVariants.{Idle, Armed}}, Caller.{Caller, TheVariants.{Nobody, Task, Routine}}}
-use Rattle.osek_standard.specs.declared.state.Processor.TheVariants as processor
+use Rattle.osek_standard.specs.declared.state.{State.{State}, AlarmState.{AlarmState, TheVariants.{Idle, Armed}}, Caller.{Caller, TheVariants.{Nobody, Task, Routine}}, Source.{Source}}
 use Rattle.osek_standard.specs.{Apps.{the_task, the_counter, the_alarm, the_block, is_extended, is_counter, max_of, is_cycle, awaited}, TaskStates.{is_suspended, held}}
-use Rattle.osek_standard.specs.States.{task_of, letter_of, is_taken, task_state, with_task, alarm_state, with_alarm, counter_value, with_processor, here}
-use Rattle.osek_standard.specs.Priority.{base_priority, ceiling}
+use Rattle.osek_standard.specs.States.{task_of, letter_of, is_taken, task_state, with_task, alarm_state, with_alarm, counter_value, with_processor, here, held_by_source}
+use Rattle.osek_standard.specs.States.{source_state, with_source}
+use Rattle.osek_standard.specs.{Priority.{base_priority, ceiling}, Line.{last_in_line}, Internal.{with_inside}, Levels.{own_level, interrupt_ceiling}}
+use Rattle.osek_standard.specs.declared.state.Processor.TheVariants as processor
+use Rattle.osek_standard.specs.declared.state.Source.TheVariants as source
 
 -- what a service leaves, answers and asks
 pub record Answer : Type 0 where
@@ -73,19 +74,36 @@ with_stack Suspended h = Suspended
 with_stack (Live x) h = Live (record x { held = h })
 with_stack (Waiting b) h = Waiting b
 
--- an activated task is Live at its first block, holds nothing, and has no event (the standard: activation clears the
--- events of an extended task)
+abbrev pub source_with_stack : Source → List ResNo → Source
+source_with_stack source.Out h = source.Out
+source_with_stack (source.In x) h = source.In (record x { held = h })
+
+-- Live at a block, with these further activations: it holds nothing and isn't inside
+abbrev pub live_at : BlockNo → ℕ → Activity
+live_at b n = Live (record { at = record { block = b; offset = 0 }; held = []; further = n; inside = false })
+
+-- an activated task is Live at its first block, and has no event (the standard: activation clears the events of an
+-- extended task)
 abbrev pub activated_state : App → ℕ → TaskState
-activated_state app t = record {
-  activity = Live (record { at = record { block = (the_task app t).first; offset = 0 }; held = [] });
-  events = mask 0;
-}
+activated_state app t = record { activity = live_at (the_task app t).first 0; events = mask 0 }
+
+-- a Live one keeps the activation for later
+abbrev pub activated_by : App → ℕ → TaskState → Activity → TaskState
+activated_by app t x Suspended = activated_state app t
+activated_by app t x (Live y) = record x { activity = Live (record y { further = y.further + 1 }) }
+activated_by app t x (Waiting b) = x
+
+-- a task that ends is suspended, or begins anew where a further activation is left
+abbrev pub ended_by : App → ℕ → Activity → Activity
+ended_by app t Suspended = Suspended
+ended_by app t (Live x) = if x.further == 0 then Suspended else live_at (the_task app t).first (x.further - 1)
+ended_by app t (Waiting b) = Suspended
 
 -- a task that is released from waiting is Live at the block after
 abbrev pub released_from : App → Activity → Activity
 released_from app Suspended = Suspended
 released_from app (Live x) = Live x
-released_from app (Waiting b) = Live (record { at = record { block = (the_block app b.0).next; offset = 0 }; held = [] })
+released_from app (Waiting b) = live_at (the_block app b.0).next 0
 
 abbrev pub waits_in : App → Activity → ℕ → Bool
 waits_in app Suspended m = false
@@ -106,12 +124,12 @@ is_due_at None v = false
 is_due_at (Some at) v = at == v
 
 module _ (app : App) (s : State) where
+  -- each activation has a place in the line
   abbrev pub activated : ℕ → State
-  activated t = with_task s t (activated_state app t)
+  activated t = last_in_line (with_task s t (activated_by app t (task_state s t) (task_state s t).activity)) t
 
-  -- a task that ends is suspended
   abbrev pub ended : ℕ → State
-  ended t = with_task s t (record (task_state s t) { activity = Suspended })
+  ended t = with_task s t (record (task_state s t) { activity = ended_by app t (task_state s t).activity })
 
 -- a caller that ended or waits leaves the processor
 abbrev pub left : State → State
@@ -126,9 +144,14 @@ with_held s t h = with_task s t (record (task_state s t) { activity = with_stack
 abbrev pub with_events : State → ℕ → ℕ → State
 with_events s t m = with_task s t (record (task_state s t) { events = mask m })
 
--- the task takes no further activation (the standard's limit for tasks of one activation)
+-- the task takes no further activation: it waits, or has as many as its ACTIVATION
+abbrev pub is_full_by : ℕ → Activity → Bool
+is_full_by activation Suspended = false
+is_full_by activation (Live x) = nat_le activation (x.further + 1)
+is_full_by activation (Waiting b) = true
+
 abbrev pub is_full : App → State → ℕ → Bool
-is_full app s t = not (is_suspended (task_state s t))
+is_full app s t = is_full_by (the_task app t).activation (task_state s t).activity
 
 -- ActivateTask(t)
 unfoldable pub activate_task : App → State → ℕ → Answer
@@ -154,13 +177,14 @@ chain_task app s (Task c) t =
     else if not (t == c.0) && is_full app s t then refused s status.Limit
     else unnoted (activated app (left (ended app s c.0)) t) ask.Left
 
--- Schedule. A non-preemptive caller reschedules here too (the standard).
+-- Schedule: the caller gives its INTERNAL resource back (the profile says how). A non-preemptive caller reschedules here
+-- too (the standard).
 unfoldable pub schedule : State → Caller → Answer
 schedule s Nobody = unnoted s ask.No
 schedule s (Routine k) = refused s status.CallLevel
 schedule s (Task c) =
     if holds_some s c.0 then refused s status.Resource
-    else accepted s ask.Maybe
+    else accepted (with_inside s c.0 false) ask.Maybe
 
 -- GetTaskID. At interrupt level it is the interrupted task (the profile).
 abbrev pub get_task_id : State → Answer
@@ -186,15 +210,35 @@ module _ (app : App) (s : State) where
       then accepted (with_held s c (take (length (held (task_state s c)) - 1) (held (task_state s c)))) ask.Maybe
       else refused s status.NoFunc
 
-  -- No application has the two resource services in a routine (the profile): they do nothing there.
+  abbrev pub stack_of_source : ℕ → List ResNo
+  stack_of_source k = held_by_source (source_state s k)
+
+  abbrev pub with_source_stack : ℕ → List ResNo → State
+  with_source_stack k h = with_source s k (source_with_stack (source_state s k) h)
+
+  -- GetResource(r) of a routine: ACCESS where r is taken, or the routine's level is above r's interrupt ceiling (the
+  -- standard)
+  unfoldable pub get_resource_isr : ℕ → ResNo → Answer
+  get_resource_isr k r =
+      if is_taken s r.0 || nat_lt (interrupt_ceiling app r.0) (own_level app k) then refused s status.Access
+      else accepted (with_source_stack k (stack_of_source k ++ r ∷ [])) ask.No
+
+  -- ReleaseResource(r) of a routine: refused as a task's is
+  unfoldable pub release_resource_isr : ℕ → ResNo → Answer
+  release_resource_isr k r =
+      if nat_lt (interrupt_ceiling app r.0) (own_level app k) then refused s status.Access
+      else if is_on_top r.0 (stack_of_source k)
+      then accepted (with_source_stack k (take (length (stack_of_source k) - 1) (stack_of_source k))) ask.No
+      else refused s status.NoFunc
+
   abbrev pub get_resource_by : Caller → ResNo → Answer
   get_resource_by Nobody r = unnoted s ask.No
-  get_resource_by (Routine k) r = unnoted s ask.No
+  get_resource_by (Routine k) r = get_resource_isr k.0 r
   get_resource_by (Task c) r = get_resource c.0 r
 
   abbrev pub release_resource_by : Caller → ResNo → Answer
   release_resource_by Nobody r = unnoted s ask.No
-  release_resource_by (Routine k) r = unnoted s ask.No
+  release_resource_by (Routine k) r = release_resource_isr k.0 r
   release_resource_by (Task c) r = release_resource c.0 r
 
   -- the events of t that m names: bits outside of its own are ignored (the profile)
@@ -208,7 +252,7 @@ module _ (app : App) (s : State) where
   waits_for t m = waits_in app (task_state s t).activity (own_events t m)
 
   abbrev pub woken : ℕ → ℕ → State
-  woken t m = with_task s t (record { activity = released_from app (task_state s t).activity; events = mask (events_set t m) })
+  woken t m = last_in_line (with_task s t (record { activity = released_from app (task_state s t).activity; events = mask (events_set t m) })) t
 
   -- SetEvent(t, m): the events are set, and t is released if it waits for one of these. ACCESS before STATE is the
   -- profile's order.

@@ -1,14 +1,14 @@
 -- The parts of a state, looked up by number, and who has the processor.
-use Rattle.std.specs.{Prelude.{ℕ, Bool, false, ◌==◌, Some, None, List, length, slice_index_or, slice_set, if◌then◌else◌}, List.{list_any, filter, range_with_len}}
-use Rattle.std.specs.declared.option.Option.{Option}
-use Rattle.osek_values.specs.{declared.{numbers.TaskNo.{TaskNo}, status.Letter.{Letter, TheVariants.{S, Y, R, W}}}, Numbers.{block_no}}
+use Rattle.std.specs.Prelude.{ℕ, Bool, false, ◌==◌, Some, None, List, length, slice_index_or, slice_set, if◌then◌else◌, true, ◌||◌, [], map, ⊤}
+use Rattle.std.specs.{List.{list_any, filter, range_with_len}, declared.option.Option.{Option}}
+use Rattle.osek_values.specs.{declared.{numbers.{TaskNo.{TaskNo}, ResNo.{ResNo}, SourceNo.{SourceNo}}, status.Letter.{Letter, TheVariants.{S, Y, R, W}}}, Numbers.{block_no}}
 use Rattle.osek_standard.specs.declared.task_state.{TaskState.{TaskState}, Activity.{Activity, TheVariants.{Suspended, Live, Waiting}}, Place.{Place}}
 use Rattle.osek_standard.specs.declared.state.{State.{State}, AlarmState.{AlarmState}, Source.{Source}, Processor.{Processor}, Caller.{Caller}}
+use Rattle.osek_standard.specs.TaskStates.{suspended, is_live, held, holds}
 use Rattle.osek_standard.specs.declared.state.AlarmState.TheVariants as alarm
 use Rattle.osek_standard.specs.declared.state.Source.TheVariants as source
 use Rattle.osek_standard.specs.declared.state.Processor.TheVariants as processor
 use Rattle.osek_standard.specs.declared.state.Caller.TheVariants as caller_is
-use Rattle.osek_standard.specs.TaskStates.{suspended, is_live, held, holds}
 
 -- the running task, or the one that is interrupted
 abbrev pub task_of : Processor → Option TaskNo
@@ -23,6 +23,26 @@ caller processor.Halted = caller_is.Nobody
 caller processor.Idle = caller_is.Nobody
 caller (processor.Running t) = caller_is.Task t
 caller (processor.Interrupted k over) = caller_is.Routine k
+
+-- a routine has the processor
+abbrev pub is_interrupted : Processor → Bool
+is_interrupted processor.Halted = false
+is_interrupted processor.Idle = false
+is_interrupted (processor.Running t) = false
+is_interrupted (processor.Interrupted k over) = true
+
+-- and it is this source's
+abbrev pub is_source_at : Processor → ℕ → Bool
+is_source_at processor.Halted k = false
+is_source_at processor.Idle k = false
+is_source_at (processor.Running t) k = false
+is_source_at (processor.Interrupted l over) k = l.0 == k
+
+-- a fact of the routine that calls, if a routine calls
+abbrev pub IfRoutine : Caller → (SourceNo → Type 0) → Type 0
+IfRoutine caller_is.Nobody P = ⊤
+IfRoutine (caller_is.Routine k) P = P k
+IfRoutine (caller_is.Task t) P = ⊤
 
 abbrev pub is_that_task : Option TaskNo → ℕ → Bool
 is_that_task None t = false
@@ -49,6 +69,16 @@ abbrev pub place_of_source : Source → Place
 place_of_source source.Out = nowhere
 place_of_source (source.In x) = x.at
 
+-- it began and hasn't ended
+abbrev pub is_in : Source → Bool
+is_in source.Out = false
+is_in (source.In x) = true
+
+-- the resources that a routine holds, the first taken first
+abbrev pub held_by_source : Source → List ResNo
+held_by_source source.Out = []
+held_by_source (source.In x) = x.held
+
 module _ (s : State) where
   abbrev pub task_state : ℕ → TaskState
   task_state t = slice_index_or s.tasks t suspended
@@ -60,9 +90,9 @@ module _ (s : State) where
   abbrev pub live_tasks : List ℕ
   live_tasks = filter (λ t. is_live (task_state t)) (range_with_len 0 (length s.tasks))
 
-  -- the resource is on some task's stack
+  -- the resource is on the stack of some task or routine
   abbrev pub is_taken : ℕ → Bool
-  is_taken r = list_any (λ x. holds (held x) r) s.tasks
+  is_taken r = list_any (λ x. holds (held x) r) s.tasks || list_any (λ x. holds (held_by_source x) r) s.sources
 
   abbrev pub alarm_state : ℕ → AlarmState
   alarm_state a = slice_index_or s.alarms a alarm.Idle
@@ -78,6 +108,10 @@ module _ (s : State) where
 
   abbrev pub with_source : ℕ → Source → State
   with_source k x = record s { sources = slice_set s.sources k x }
+
+  -- no routine is left
+  abbrev pub all_out : State
+  all_out = record s { sources = map (λ _. source.Out) s.sources }
 
   abbrev pub is_latched : ℕ → Bool
   is_latched k = slice_index_or s.latched k false

@@ -32,6 +32,24 @@ held_in (Waiting b) = []
 abbrev pub held : TaskState → List ResNo
 held x = held_in x.activity
 
+-- the activations that wait for it to end
+abbrev pub further_in : Activity → ℕ
+further_in Suspended = 0
+further_in (Live x) = x.further
+further_in (Waiting b) = 0
+
+abbrev pub further : TaskState → ℕ
+further x = further_in x.activity
+
+-- it has its INTERNAL resource
+abbrev pub is_inside_in : Activity → Bool
+is_inside_in Suspended = false
+is_inside_in (Live x) = x.inside
+is_inside_in (Waiting b) = false
+
+abbrev pub is_inside : TaskState → Bool
+is_inside x = is_inside_in x.activity
+
 -- a stack has this resource
 abbrev pub holds : List ResNo → ℕ → Bool
 holds stack r = list_any (λ q. q.0 == r) stack

@@ -1,16 +1,16 @@
 -- Trace text: a line for the start, and one for each event (this project's profile).
-use Rattle.std.specs.Prelude.{ℕ, ◌+◌, ◌-◌, Bool, not, ◌==◌, bit_and, List, [], ◌∷◌, ◌++◌, length, slice_index_or, if◌then◌else◌, Some, None, codes}
+use Rattle.std.specs.Prelude.{ℕ, ◌+◌, ◌-◌, Bool, not, ◌==◌, bit_and, List, [], ◌∷◌, ◌++◌, length, slice_index_or, if◌then◌else◌, Some, None, codes, ◌&&◌}
 use Rattle.std.specs.{List.{flat_map, enumerate_from}, Fmt.{decimal}, declared.option.Option.{Option}}
-use Rattle.osek_values.specs.declared.status.{Status.{Status}, Letter.{Letter, TheVariants.{S, Y, R, W}}}
-use Rattle.osek_values.specs.declared.status.Status.TheVariants as status
-use Rattle.osek_values.specs.declared.notes.{Value.{Value}, Notes.{Notes}}
-use Rattle.osek_values.specs.declared.notes.Value.TheVariants as value
-use Rattle.osek_values.specs.declared.{event.Event.{Event}, numbers.{ModeNo.{ModeNo}, ResNo.{ResNo}}, hooks.HookSet.{HookSet}}
+use Rattle.osek_values.specs.declared.{status.{Status.{Status}, Letter.{Letter, TheVariants.{S, Y, R, W}}}, notes.{Value.{Value}, Notes.{Notes}}, event.Event.{Event}}
+use Rattle.osek_values.specs.declared.{numbers.{ModeNo.{ModeNo}, ResNo.{ResNo}}, hooks.HookSet.{HookSet}}
 use Rattle.osek_values.specs.{Hooks.{startup, shutdown, error, pre_task, post_task}, Numbers.{hexadecimal}}
-use Rattle.osek_standard.specs.declared.{app.App.{App}, objects.Task.{Task}, state.{State.{State}, Processor.{Processor}}, task_state.TaskState.{TaskState}}
+use Rattle.osek_values.specs.declared.status.Status.TheVariants as status
+use Rattle.osek_values.specs.declared.notes.Value.TheVariants as value
+use Rattle.osek_standard.specs.declared.{app.App.{App}, objects.Task.{Task}, state.{State.{State}, Processor.{Processor}, Source.{Source}}, task_state.TaskState.{TaskState}}
+use Rattle.osek_standard.specs.{Apps.{the_task, the_counter, the_isr, the_resource, is_counter}, TaskStates.{is_suspended, further}, States.{task_state, letter_of, is_source_at}}
+use Rattle.osek_standard.specs.{Dispatch.{Stepped}, Kernel.{run}, Internal.{occupied}}
 use Rattle.osek_standard.specs.declared.state.Processor.TheVariants as processor
-use Rattle.osek_standard.specs.{Apps.{the_task, the_counter, the_isr, the_resource, is_counter}, TaskStates.{is_suspended, held}, States.{task_state, letter_of}}
-use Rattle.osek_standard.specs.{Dispatch.{Stepped}, Kernel.{run}}
+use Rattle.osek_standard.specs.declared.state.Source.TheVariants as source
 
 abbrev pub status_name : Status → List ℕ
 status_name status.Ok = codes "E_OK"
@@ -53,6 +53,10 @@ who app processor.Idle = codes "-"
 who app (processor.Running t) = task_name app t.0
 who app (processor.Interrupted k over) = source_text app k.0
 
+-- the further activations of a task
+abbrev pub further_text : ℕ → List ℕ
+further_text n = if n == 0 then [] else codes "*" ++ decimal n
+
 -- the events of an extended task that isn't suspended
 abbrev pub events_text : Task → TaskState → List ℕ
 events_text d x =
@@ -60,17 +64,25 @@ events_text d x =
     else if is_suspended x then []
     else codes ":" ++ hexadecimal x.events.0
 
--- a resource that a task holds
+-- a resource that a task or a routine holds
 abbrev pub resource_text : App → ResNo → List ℕ
 resource_text app r = codes "+" ++ (the_resource app r.0).name
 
--- a task: its name, its state, its events, and the resources that it holds
+-- a task: its name, its state, its further activations, its events, and the resources that it has
 abbrev pub task_text : App → State → ℕ × Task → List ℕ
 task_text app s d =
     codes " " ++ d.1.name ++ codes "="
     ++ letter (letter_of s.processor d.0 (task_state s d.0))
+    ++ further_text (further (task_state s d.0))
     ++ events_text d.1 (task_state s d.0)
-    ++ flat_map (resource_text app) (held (task_state s d.0))
+    ++ flat_map (resource_text app) (occupied app d.0 (task_state s d.0))
+
+-- a routine that began and hasn't ended, and the resources that it holds; the one at the processor only where it holds some
+abbrev pub routine_text : App → Processor → ℕ × Source → List ℕ
+routine_text app p (k, source.Out) = []
+routine_text app p (k, source.In x) =
+    if is_source_at p k && (length x.held == 0) then []
+    else codes " " ++ source_text app k ++ flat_map (resource_text app) x.held
 
 abbrev pub status_text : Option Status → List ℕ
 status_text None = []
@@ -101,6 +113,7 @@ abbrev pub line_text : App → ℕ → Stepped → List ℕ
 line_text app n x =
     decimal n ++ codes " " ++ who app x.state.processor
     ++ flat_map (task_text app x.state) (enumerate_from 0 app.tasks)
+    ++ flat_map (routine_text app x.state.processor) (enumerate_from 0 x.state.sources)
     ++ notes_text app x.notes
 
 -- The lines from line n on, each ended by LF.

@@ -1,23 +1,24 @@
 -- What each application keeps: the conditions on its tables.
-use Rattle.std.specs.Prelude.{◌≡◌, ⊤, ℕ, ◌+◌, ◌-◌, ◌^◌, ◌<◌, ◌≤◌, Bool, true, false, not, ◌==◌, nat_lt, nat_le, ◌||◌, ◌&&◌, IsTrue, [], ◌++◌, List, length, map, slice_index_or, All, if◌then◌else◌}
-use Rattle.std.specs.{List.{IsDistinct, IsDistinct-prop, list_any, filter, enumerate_from}, Coded.{×_prop, Unit-prop, le_prop}}
 use Rattle.std.proofs.Props.{props}
-use Rattle.osek_values.specs.{declared.limits.TheConstants.{MAX_TASKS, MAX_ISRS, MAX_COUNTERS, MAX_ALARMS, MAX_RESOURCES, MAX_MODES, MAX_BLOCKS}, Names.{AreNames}}
-use Rattle.osek_values.specs.Numbers.{task_no, counter_no, block_no, mask}
+use Rattle.std.specs.Prelude.{◌≡◌, ⊤, ℕ, ◌+◌, ◌-◌, ◌^◌, ◌<◌, ◌≤◌, Bool, true, false, not, ◌==◌, nat_lt, nat_le, ◌||◌, ◌&&◌, IsTrue, [], ◌++◌, List, length, map, slice_index_or}
+use Rattle.std.specs.Prelude.{All, if◌then◌else◌, Some, None}
+use Rattle.std.specs.{List.{IsDistinct, IsDistinct-prop, list_any, filter, enumerate_from}, Coded.{×_prop, Unit-prop, le_prop}, declared.option.Option.{Option}}
+use Rattle.osek_values.specs.declared.limits.TheConstants.{MAX_TASKS, MAX_ISRS, MAX_COUNTERS, MAX_ALARMS, MAX_RESOURCES, MAX_MODES, MAX_BLOCKS, MAX_ACTIVATIONS}
+use Rattle.osek_values.specs.declared.numbers.ResNo.{ResNo}
+use Rattle.osek_values.specs.{Names.{AreNames}, Numbers.{task_no, counter_no, block_no, mask}}
 use Rattle.oil_system.specs.{Objects.{greatest_ceiling}, declared.objects.{Alarm.{Alarm}, Resource.{Resource}, Action.{Action}}}
 use Rattle.oil_system.specs.declared.objects.Action.TheVariants as action
 use Rattle.oil_system.specs.declared.objects.Schedule.TheVariants as schedule
-use Rattle.osek_standard.specs.{declared.{objects.{Task.{Task}, Isr.{Isr}, Counter.{Counter}}, block.{Block.{Block}, Kind.{Kind}}}, Tables.{Tables}}
-use Rattle.osek_standard.specs.declared.block.Kind.TheVariants as kind
-use Rattle.osek_standard.specs.declared.call.Call.{Call}
+use Rattle.osek_standard.specs.{declared.{objects.{Task.{Task}, Isr.{Isr}, Counter.{Counter}}, block.{Block.{Block}, Kind.{Kind}}, call.Call.{Call}}, Tables.{Tables}}
 use Rattle.osek_standard.specs.CallNames as call
+use Rattle.osek_standard.specs.declared.block.Kind.TheVariants as kind
 
 -- Past the end of a table stands an entry that declares nothing.
 abbrev pub no_task : Task
-no_task = record { name = []; priority = 0; schedule = schedule.Full; own = mask 0; autostart = 0; first = block_no 0; count = 0 }
+no_task = record { name = []; priority = 0; schedule = schedule.Full; own = mask 0; autostart = 0; first = block_no 0; count = 0; activation = 1; internal = None }
 
 abbrev pub no_isr : Isr
-no_isr = record { name = []; first = block_no 0; count = 0 }
+no_isr = record { name = []; first = block_no 0; count = 0; priority = 0 }
 
 abbrev pub no_counter : Counter
 no_counter = record { name = []; max = 1; min_cycle = 1; first = block_no 0; count = 0 }
@@ -26,7 +27,7 @@ abbrev pub no_alarm : Alarm
 no_alarm = record { name = []; counter = counter_no 0; action = action.ActivateTask (task_no 0); autostart = 0; time = 0; cycle = 0 }
 
 abbrev pub no_resource : Resource
-no_resource = record { name = []; ceiling = 0 }
+no_resource = record { name = []; ceiling = 0; internal = false; interrupt_ceiling = 0 }
 
 abbrev pub no_block : Block
 no_block = record { kind = kind.Loop; locked = false; line = 0; next = block_no 0 }
@@ -34,6 +35,14 @@ no_block = record { kind = kind.Loop; locked = false; line = 0; next = block_no 
 -- block b is among count blocks from first on
 abbrev pub IsAmong : ℕ → ℕ → ℕ → Type 0
 IsAmong b first count = (first ≤ b) × (b < first + count)
+
+-- one more than the greatest priority of an ISR
+abbrev pub greatest_interrupt_ceiling : ℕ
+greatest_interrupt_ceiling = 256
+
+-- whether a resource of this number is INTERNAL
+abbrev pub is_internal : List Resource → ℕ → Bool
+is_internal resources r = (slice_index_or resources r no_resource).internal
 
 -- a cycle is 0, for a single alarm, or from MINCYCLE to MAXALLOWEDVALUE
 abbrev pub is_cycle_of : Counter → ℕ → Bool
@@ -73,7 +82,7 @@ abbrev pub is_for_resource : Call → Bool
 is_for_resource (call.Resource k r) = true
 is_for_resource _ = false
 
--- IsrEnd stands last in an ISR, and nowhere else; an ISR takes no resource
+-- IsrEnd stands last in an ISR, and nowhere else; an ISR takes no resource yet
 abbrev pub isr_may : Bool → Kind → Bool
 isr_may last (kind.Work n) = not last
 isr_may last (kind.Choice o) = not last
@@ -101,7 +110,7 @@ module _ (t : Tables) where
   abbrev pub HasOperands : Call → Type 0
   HasOperands (call.Plain k) = ⊤
   HasOperands (call.Task k x) = x.0 < length t.tasks
-  HasOperands (call.Resource k r) = r.0 < length t.resources
+  HasOperands (call.Resource k r) = (r.0 < length t.resources) × IsTrue (not (is_internal t.resources r.0))
   HasOperands (call.SetEvent x m) = (x.0 < length t.tasks) × (0 < m.0)
   HasOperands (call.Mask k m) = 0 < m.0
   HasOperands (call.Alarm k a) = a.0 < length t.alarms
@@ -118,6 +127,11 @@ module _ (t : Tables) where
   NamesEntries kind.IsrEnd = ⊤
   NamesEntries kind.CountUp = ⊤
   NamesEntries (kind.Expire a) = a.0 < length t.alarms
+
+  -- the INTERNAL resource that a task names, if it names one
+  abbrev pub IsInternal : Option ResNo → Type 0
+  IsInternal None = ⊤
+  IsInternal (Some r) = (r.0 < length t.resources) × IsTrue (is_internal t.resources r.0)
 
   abbrev pub IsAction : Action → Type 0
   IsAction (action.ActivateTask x) = x.0 < length t.tasks
@@ -161,6 +175,22 @@ module _ (t : Tables) where
     pub each : (b : ℕ) → IsAmong b first count → IsTrue (tick_may due (b - first) (block_at b).kind)
     pub next : (b : ℕ) → IsAmong b first count → b + 1 < first + count → (block_at b).next.0 ≡ b + 1
 
+  -- each task takes one activation at a time
+  abbrev pub TakesOneActivation : Type 0
+  TakesOneActivation = All (λ (x : Task). x.activation ≡ 1) t.tasks
+
+  -- no resource is INTERNAL
+  abbrev pub NoneIsInternal : Type 0
+  NoneIsInternal = All (λ (x : Resource). IsTrue (not x.internal)) t.resources
+
+  -- the ISRs have one priority, and no resource keeps one of them out
+  abbrev pub NoneNests : Type 0
+  NoneNests = All (λ (x : Isr). x.priority ≡ 0) t.isrs × All (λ (x : Resource). x.interrupt_ceiling ≡ 0) t.resources
+
+  -- What no text and no image brings yet. It is shut, so that a proof rests on it only where it opens it.
+  unfoldable pub IsClosed : Type 0
+  IsClosed = TakesOneActivation × NoneIsInternal × NoneNests
+
   pub record IsValid : Type 0 where
     -- five hooks, a bit each
     pub known_hooks : t.hooks.0 < 32
@@ -183,8 +213,12 @@ module _ (t : Tables) where
     pub each_task : All (λ (x : Task). IsOwner x.first.0 x.count) t.tasks
     pub task_code : All (λ (x : Task). IsTaskCode x.first.0 x.count) t.tasks
     pub task_starts : All (λ (x : Task). x.autostart < 2 ^ length t.modes) t.tasks
+    pub activations : All (λ (x : Task). (1 ≤ x.activation) × (x.activation ≤ MAX_ACTIVATIONS)) t.tasks
+    pub extended_once : All (λ (x : Task). 0 < x.own.0 → x.activation ≡ 1) t.tasks
+    pub internals : All (λ (x : Task). IsInternal x.internal) t.tasks
     pub each_isr : All (λ (x : Isr). IsOwner x.first.0 x.count) t.isrs
     pub isr_code : All (λ (x : Isr). IsIsrCode x.first.0 x.count) t.isrs
+    pub isr_priorities : All (λ (x : Isr). x.priority < greatest_interrupt_ceiling) t.isrs
     pub each_counter : All (λ (x : Counter). (1 ≤ x.max) × IsOwner x.first.0 x.count) t.counters
     pub min_cycles : All (λ (x : Counter). x.min_cycle ≤ x.max) t.counters
     pub tick_code : (c : ℕ) → c < length t.counters → IsTickCode (due_of t.alarms c) (slice_index_or t.counters c no_counter).first.0 (slice_index_or t.counters c no_counter).count
@@ -192,16 +226,18 @@ module _ (t : Tables) where
     pub alarm_starts : All (λ (x : Alarm). x.autostart < 2 ^ length t.modes) t.alarms
     pub no_starts : All (λ (x : Alarm). x.autostart ≡ 0 → (x.time ≡ 0) × (x.cycle ≡ 0)) t.alarms
     pub ceilings : All (λ (x : Resource). x.ceiling ≤ greatest_ceiling) t.resources
+    pub interrupt_ceilings : All (λ (x : Resource). x.interrupt_ceiling ≤ greatest_interrupt_ceiling) t.resources
     -- each block has one owner
     pub apart : IsDistinct meet (owners t.tasks t.isrs t.counters)
     pub owned : (b : ℕ) → b < length t.blocks → IsTrue (list_any (is_within b) (owners t.tasks t.isrs t.counters))
+    pub closed : IsClosed
 
 module _ (t : Tables) where
   -- Each of these facts has one proof at most, so that an application may keep it.
   pub HasOperands-prop : (c : Call) → IsProp (HasOperands t c)
   HasOperands-prop (call.Plain k) = Unit-prop
   HasOperands-prop (call.Task k x) = le_prop
-  HasOperands-prop (call.Resource k r) = le_prop
+  HasOperands-prop (call.Resource k r) = ×_prop le_prop (hlevel (props))
   HasOperands-prop (call.SetEvent x m) = ×_prop le_prop le_prop
   HasOperands-prop (call.Mask k m) = le_prop
   HasOperands-prop (call.Alarm k a) = le_prop
@@ -219,6 +255,10 @@ module _ (t : Tables) where
   NamesEntries-prop kind.CountUp = Unit-prop
   NamesEntries-prop (kind.Expire a) = le_prop
 
+  pub IsInternal-prop : (r : Option ResNo) → IsProp (IsInternal t r)
+  IsInternal-prop None = Unit-prop
+  IsInternal-prop (Some r) = ×_prop le_prop (hlevel (props))
+
   pub IsAction-prop : (x : Action) → IsProp (IsAction t x)
   IsAction-prop (action.ActivateTask x) = le_prop
   IsAction-prop (action.SetEvent x m) = ×_prop le_prop le_prop
@@ -227,5 +267,9 @@ module _ (t : Tables) where
   IsOtherWay-prop first count (kind.Choice other) = ×_prop le_prop le_prop
   IsOtherWay-prop first count _ = Unit-prop
 
+  pub IsClosed-prop : IsProp (IsClosed t)
+  unfolding IsClosed
+  IsClosed-prop = hlevel (props)
+
   pub IsValid-prop : IsProp (IsValid t)
-  IsValid-prop = hlevel (props, NamesEntries-prop, IsAction-prop, IsOtherWay-prop, IsDistinct-prop)
+  IsValid-prop = hlevel (props, NamesEntries-prop, IsAction-prop, IsOtherWay-prop, IsInternal-prop, IsDistinct-prop, IsClosed-prop)

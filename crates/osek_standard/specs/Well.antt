@@ -1,16 +1,16 @@
 -- The states that the kernel can be in, for an application.
-use Rattle.std.specs.{Prelude.{◌≡◌, ◌≢◌, ⊤, ℕ, ◌<◌, ◌≤◌, Bool, nat_eq, bit_and, List, length, All, IsTrue, IfSome}, List.{IsDistinct}}
+use Rattle.std.specs.{Prelude.{◌≡◌, ⊤, ℕ, ◌<◌, ◌≤◌, Bool, nat_eq, bit_and, List, length, All, IsTrue, IfSome, true, not, []}, List.{IsDistinct}, declared.option.Option.{Option}}
 use Rattle.osek_values.specs.declared.numbers.{TaskNo.{TaskNo}, ResNo.{ResNo}, SourceNo.{SourceNo}}
 use Rattle.osek_standard.specs.declared.{app.App.{App}, block.Kind.{Kind}}
-use Rattle.osek_standard.specs.declared.block.Kind.TheVariants as kind
+use Rattle.osek_standard.specs.declared.state.{State.{State}, AlarmState.{AlarmState, TheVariants.{Idle, Armed}}, Source.{Source}, Processor.{Processor}, RoutineStanding.{RoutineStanding}}
+use Rattle.osek_standard.specs.declared.task_state.{TaskState.{TaskState}, Activity.{Activity, TheVariants.{Suspended, Live, Waiting}}, Standing.{Standing}}
+use Rattle.osek_standard.specs.Validity.{IsAmong, is_internal}
+use Rattle.osek_standard.specs.Apps.{the_task, the_counter, the_block, is_extended, source_count, routine_start, routine_count, max_of, is_cycle, is_counter}
+use Rattle.osek_standard.specs.{TaskStates.{is_live}, States.{task_state, alarm_state, counter_value, source_state, task_of}, Line.{places, places_due}}
 use Rattle.osek_standard.specs.CallNames as call
-use Rattle.osek_standard.specs.declared.state.{State.{State}, AlarmState.{AlarmState, TheVariants.{Idle, Armed}}, Source.{Source}, Processor.{Processor}}
-use Rattle.osek_standard.specs.declared.task_state.{TaskState.{TaskState}, Activity.{Activity, TheVariants.{Suspended, Live, Waiting}}, Place.{Place}, Standing.{Standing}}
+use Rattle.osek_standard.specs.declared.block.Kind.TheVariants as kind
 use Rattle.osek_standard.specs.declared.state.Source.TheVariants as source
-use Rattle.std.specs.declared.option.Option.{Option}
 use Rattle.osek_standard.specs.declared.state.Processor.TheVariants as processor
-use Rattle.osek_standard.specs.{Validity.{IsAmong}, Apps.{the_task, the_counter, the_block, is_extended, source_count, routine_start, routine_count, max_of, is_cycle}}
-use Rattle.osek_standard.specs.{TaskStates.{is_live}, States.{task_state, alarm_state, counter_value, source_state}}
 
 -- an offset counts the instructions of `work n` that are done, and is 0 elsewhere
 abbrev pub IsOffsetAt : Kind → ℕ → Type 0
@@ -30,9 +30,10 @@ pub record IsStackOutOf (resources : ℕ) (stack : List ResNo) : Type 0 where
   pub known : All (λ (r : ResNo). r.0 < resources) stack
 
 module _ (app : App) where
-  -- a stack names resources, none of them twice
-  abbrev pub IsStack : List ResNo → Type 0
-  IsStack stack = IsStackOutOf (length app.resources) stack
+  -- a stack names resources that aren't INTERNAL, none of them twice
+  pub record IsStack (stack : List ResNo) : Type 0 where
+    pub out_of : IsStackOutOf (length app.resources) stack
+    pub takable : All (λ (r : ResNo). IsTrue (not (is_internal app.resources r.0))) stack
 
   -- block b is the task's own
   abbrev pub IsOwn : ℕ → ℕ → Type 0
@@ -42,6 +43,7 @@ module _ (app : App) where
     pub own : IsOwn t x.at.block.0
     pub offset : IsOffsetAt (the_block app x.at.block.0).kind x.at.offset
     pub stack : IsStack x.held
+    pub further : x.further < (the_task app t).activation
 
   -- an extended task waits at a WaitEvent block of its own
   pub record IsWaitingAt (t b : ℕ) : Type 0 where
@@ -75,19 +77,26 @@ module _ (app : App) where
   abbrev pub IsOfRoutine : ℕ → ℕ → Type 0
   IsOfRoutine k b = IsAmong b (routine_start app k).0 (routine_count app k)
 
-  pub record IsPlaceOf (k : ℕ) (p : Place) : Type 0 where
-    pub own : IsOfRoutine k p.block.0
-    pub offset : IsOffsetAt (the_block app p.block.0).kind p.offset
+  -- a routine stands at a block of its own, and a tick routine holds nothing
+  pub record IsRoutineOf (k : ℕ) (x : RoutineStanding) : Type 0 where
+    pub own : IsOfRoutine k x.at.block.0
+    pub offset : IsOffsetAt (the_block app x.at.block.0).kind x.at.offset
+    pub stack : IsStack x.held
+    pub none : is_counter app k ≡ true → x.held ≡ []
+
+  abbrev pub IsSourceState : ℕ → Source → Type 0
+  IsSourceState k source.Out = ⊤
+  IsSourceState k (source.In x) = IsRoutineOf k x
 
   abbrev pub IsRunningAt : ℕ → Source → Type 0
   IsRunningAt k source.Out = ⊥
-  IsRunningAt k (source.In x) = IsPlaceOf k x.at
+  IsRunningAt k (source.In x) = IsRoutineOf k x
 
-  -- the source at the processor runs, and every other is out
+  -- the source at the processor runs, and others may be in too
   pub record IsRoutine (s : State) (k : SourceNo) (task : Option TaskNo) : Type 0 where
     pub known : k.0 < source_count app
     pub runs : IsRunningAt k.0 (source_state s k.0)
-    pub others : (l : ℕ) → l ≢ k.0 → source_state s l ≡ source.Out
+    pub others : (l : ℕ) → IsSourceState l (source_state s l)
     pub over : IfSome task (HasProcessor s)
 
   abbrev pub AreOut : State → Type 0
@@ -115,6 +124,8 @@ module _ (app : App) where
     pub counters : (c : ℕ) → c < length app.counters → counter_value s c ≤ (the_counter app c).max
     pub alarms : (a : ℕ) → a < length app.alarms → IsAlarmState a (alarm_state s a)
     pub processor : IsProcessor s s.processor
+    -- each Live task has its places in the line, and no other task has one
+    pub line : (t : ℕ) → places s t ≡ places_due (task_of s.processor) t (task_state s t).activity
 
 -- A task or a routine has the processor.
 abbrev pub IsActive : Processor → Type 0

@@ -3,10 +3,8 @@ ghost use Rattle.osek_standard.specs.{Validity.{IsValid, IsValid-prop}, Tables.{
 
 use crate::block::Block;
 use crate::objects::{Alarm, Counter, Isr, Resource, Task};
-use crate::task_state::{Activity, Place, Standing, TaskState};
-use osek_values::{
-    AlarmNo, BlockNo, CounterNo, Held, HookSet, Mask, Name, ResNo, Seq, SourceNo, TaskNo,
-};
+use crate::task_state::{Activity, TaskState};
+use osek_values::{AlarmNo, BlockNo, CounterNo, HookSet, Mask, Name, ResNo, Seq, SourceNo, TaskNo};
 
 /// An application. Entries stand in order of declaration, RES_SCHEDULER last among the resources, and
 /// OSDEFAULTAPPMODE first among the modes.
@@ -26,7 +24,7 @@ pub struct App {
 
 impl App {
     ghost use Rattle.std.specs.Prelude.{◌≡◌, ◌<◌, length};
-    ghost use Rattle.osek_standard.specs.{Apps.{the_task, the_block, the_alarm, the_counter, the_resource, source_count, routine_start}, Services.{activated_state}};
+    ghost use Rattle.osek_standard.specs.{Apps.{the_task, the_block, the_alarm, the_counter, the_resource, source_count, source_priority, routine_start}, Services.{activated_state}};
 
     /// A task's declaration.
     pub fn task(&self, task: TaskNo) -> &Task
@@ -42,13 +40,7 @@ impl App {
         ensures { result ≡ activated_state self.now task.0 }
     {
         TaskState {
-            activity: Activity::Live(Standing {
-                at: Place {
-                    block: self.task(task).first,
-                    offset: 0,
-                },
-                held: Held::new(),
-            }),
+            activity: Activity::live_at(self.task(task).first, 0),
             events: Mask(0),
         }
     }
@@ -103,6 +95,19 @@ impl App {
             self.counters.at(source.index()).first
         } else {
             self.isrs.at(source.index() - counters).first
+        }
+    }
+
+    /// The priority of a source's routine: an ISR's, and the lowest for a counter.
+    pub fn source_priority(&self, source: SourceNo) -> u8
+        requires { source.0 < source_count self.now }
+        ensures { result ≡ source_priority self.now source.0 }
+    {
+        let counters = self.counters.len();
+        if source.index() < counters {
+            0
+        } else {
+            self.isrs.at(source.index() - counters).priority
         }
     }
 }

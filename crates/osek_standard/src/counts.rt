@@ -1,10 +1,13 @@
 //! How many points an application has, and how high its tables of possible states are.
-ghost use Rattle.std.specs.{Prelude.{◌≡◌, ◌≤◌, length}, List.{sum_by}};
-ghost use Rattle.osek_standard.specs.Counts.{stacks, event_height};
+ghost use Rattle.std.specs.{Prelude.{◌≡◌, ◌≤◌, length, ◌*◌, not}, List.{sum_by, count_by}};
+ghost use Rattle.osek_standard.specs.Counts.{stacks, event_height, task_height};
 
 use crate::app::App;
-use crate::objects::{Counter, Isr, Task};
+use crate::objects::{Counter, Isr, Resource, Task};
 use osek_values::limits::{MAX_COUNTERS, MAX_ISRS, MAX_RESOURCES, MAX_TASKS};
+
+// suspended; 65,535 blocks to wait at; and as many, each with 109,601 stacks, 255 activations, inside or not
+const MAX_TASK_HEIGHT: u64 = 1 + 65_535 + 65_535 * 109_601 * 255 * 2;
 
 fn blocks_of_tasks(tasks: &[Task]) -> u32
     requires { length tasks.now ≤ MAX_TASKS }
@@ -40,6 +43,43 @@ fn stacks(resources: usize) -> u64
     found
 }
 
+// how many resources may stand on a stack
+fn takable_of(resources: &[Resource]) -> usize
+    ensures { result ≡ count_by (λ x. not x.internal) resources.now }
+{
+    resources
+        .iter()
+        .filter(|resource| !resource.internal)
+        .count()
+}
+
+// the activities of a task, over so many stacks
+fn height_of(task: &Task, stacks: u64) -> u64
+    requires { stacks ≤ 109601 }
+    ensures value { result ≡ task_height stacks task.now }
+    ensures few { result ≤ MAX_TASK_HEIGHT }
+{
+    let live = task.count as u64 * stacks * task.activation as u64;
+    let inside_or_not = match task.internal {
+        Some(_) => 2 * live,
+        None => live,
+    };
+    1 + task.count as u64 + inside_or_not
+}
+
+fn heights_of_tasks(tasks: &[Task], stacks: u64) -> u64
+    requires few { length tasks.now ≤ MAX_TASKS }
+    requires stacks { stacks ≤ 109601 }
+    ensures value { result ≡ sum_by (task_height stacks) tasks.now }
+    ensures few { result ≤ 16 * MAX_TASK_HEIGHT }
+{
+    let mut height = 0;
+    for task in tasks {
+        height += height_of(task, stacks);
+    }
+    height
+}
+
 fn events_of_tasks(tasks: &[Task]) -> u32
     requires { length tasks.now ≤ MAX_TASKS }
     ensures { result ≡ sum_by event_height tasks.now }
@@ -68,8 +108,9 @@ impl App {
         ensures { result ≡ height self.now }
     {
         let tasks = self.tasks.as_slice();
-        let blocks = blocks_of_tasks(tasks) as u64;
-        let activities = tasks.len() as u64 + blocks * (1 + stacks(self.resources.len()));
-        activities + events_of_tasks(tasks) as u64 + 2 * self.alarms.len() as u64
+        let stacks = stacks(takable_of(self.resources.as_slice()));
+        heights_of_tasks(tasks, stacks)
+            + events_of_tasks(tasks) as u64
+            + 2 * self.alarms.len() as u64
     }
 }

@@ -13,7 +13,7 @@ mod point;
 mod state;
 mod task_state;
 
-pub use activation::activate;
+pub use activation::{activate, is_full};
 pub use app::App;
 pub use block::{Block, Kind};
 pub use call::{

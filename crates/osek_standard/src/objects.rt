@@ -1,6 +1,6 @@
 //! The objects of an application, each with what an image holds of it.
 pub use oil_system::{Action, Alarm, Resource, Schedule};
-use osek_values::{BlockNo, Mask, Name};
+use osek_values::{BlockNo, Mask, Name, ResNo};
 
 /// A task. It has the `count` blocks from `first` on, and begins at `first`.
 #[derive(Debug, Drop)]
@@ -15,6 +15,10 @@ pub struct Task {
     pub autostart: u8,
     pub first: BlockNo,
     pub count: u16,
+    /// How many activations it takes at a time: 1 to 255, and 1 for an extended task.
+    pub activation: u8,
+    /// The INTERNAL resource that it names.
+    pub internal: Option<ResNo>,
 }
 
 /// A category 2 ISR, with its blocks.
@@ -23,6 +27,8 @@ pub struct Isr {
     pub name: Name,
     pub first: BlockNo,
     pub count: u16,
+    /// Larger is higher; tick routines have 0.
+    pub priority: u8,
 }
 
 /// A counter, with the blocks of its tick routine.

@@ -2,7 +2,7 @@
 ghost use Rattle.std.specs.Prelude.{◌≡◌, length};
 
 use crate::task_state::{Activity, Place, TaskState};
-use osek_values::{AlarmNo, CounterNo, Letter, ModeNo, Seq, SourceNo, TaskNo};
+use osek_values::{AlarmNo, CounterNo, Held, Letter, Line, ModeNo, ResNo, Seq, SourceNo, TaskNo};
 
 /// An alarm's part of the state.
 #[derive(Clone, Copy, PartialEq, Eq, Debug)]
@@ -12,18 +12,19 @@ pub enum AlarmState {
     Armed { at: u32, cycle: u32 },
 }
 
-/// Where a routine that runs stands: at a block of its own.
-#[derive(Clone, Copy, PartialEq, Eq, Debug)]
+/// Where a routine that began stands, at a block of its own, and the resources that it holds; a tick routine holds none.
+#[derive(Drop)]
 pub struct RoutineStanding {
     pub at: Place,
+    pub held: Held,
 }
 
 /// A source's routine: a counter's tick routine or a category 2 ISR.
-#[derive(Clone, Copy, PartialEq, Eq, Debug)]
+#[derive(Drop)]
 pub enum Source {
     /// It isn't running.
     Out,
-    /// It runs.
+    /// It began and hasn't ended: it has the processor, or is interrupted by another.
     In(RoutineStanding),
 }
 
@@ -34,11 +35,26 @@ pub enum Processor {
     Halted,
     Idle,
     Running(TaskNo),
-    /// The routine of a source, over the task that it interrupted or over none.
+    /// The routine of a source, over the task that the routines interrupted or over none.
     Interrupted {
         source: SourceNo,
         over: Option<TaskNo>,
     },
+}
+
+impl Processor {
+    ghost use Rattle.std.specs.Prelude.{◌≡◌};
+    ghost use Rattle.osek_standard.specs.States.{is_interrupted};
+
+    /// Whether a routine has it.
+    pub fn is_interrupted(self) -> bool
+        ensures { result ≡ is_interrupted self }
+    {
+        match self {
+            Processor::Halted | Processor::Idle | Processor::Running(_) => false,
+            Processor::Interrupted { .. } => true,
+        }
+    }
 }
 
 /// Who calls a service.
@@ -66,6 +82,9 @@ pub struct State {
     pub sources: Seq<Source>,
     /// The sources that came and whose routine hasn't begun.
     pub latched: Seq<bool>,
+    /// The tasks that are to run, the oldest activation first. A Live task stands in it once for each of its further
+    /// activations, and once more unless it runs or is interrupted.
+    pub line: Line,
 }
 
 fn copy_tasks(to: &mut Seq<TaskState>, from: &Seq<TaskState>)
@@ -74,6 +93,53 @@ fn copy_tasks(to: &mut Seq<TaskState>, from: &Seq<TaskState>)
 {
     for task in 0..from.len() {
         to.put(task, from.at(task).copy());
+    }
+}
+
+impl RoutineStanding {
+    /// Another that is the same. It takes no memory.
+    pub fn copy(&self) -> RoutineStanding
+        ensures { result ≡ self.now }
+    {
+        RoutineStanding {
+            at: self.at,
+            held: self.held.copy(),
+        }
+    }
+}
+
+impl Source {
+    ghost use Rattle.std.specs.Prelude.{◌≡◌};
+    ghost use Rattle.osek_standard.specs.TaskStates.{holds};
+    ghost use Rattle.osek_standard.specs.States.{held_by_source};
+
+    /// Another that is the same. It takes no memory.
+    pub fn copy(&self) -> Source
+        ensures { result ≡ self.now }
+    {
+        match self {
+            Source::Out => Source::Out,
+            Source::In(standing) => Source::In(standing.copy()),
+        }
+    }
+
+    /// Whether the resource is on its stack.
+    pub fn holds(&self, resource: ResNo) -> bool
+        ensures { result ≡ holds (held_by_source self.now) resource.0 }
+    {
+        match self {
+            Source::Out => false,
+            Source::In(standing) => standing.held.has(resource),
+        }
+    }
+}
+
+fn copy_sources(to: &mut Seq<Source>, from: &Seq<Source>)
+    requires { length to.old ≡ length from.now }
+    ensures { to.new ≡ from.now }
+{
+    for source in 0..from.len() {
+        to.put(source, from.at(source).copy());
     }
 }
 
@@ -121,8 +187,9 @@ impl State {
         copy_tasks(&mut self.tasks, &other.tasks);
         self.counters.copy_from(&other.counters);
         self.alarms.copy_from(&other.alarms);
-        self.sources.copy_from(&other.sources);
+        copy_sources(&mut self.sources, &other.sources);
         self.latched.copy_from(&other.latched);
+        self.line.copy_from(&other.line);
     }
 
     /// Who calls a service now.

@@ -16,6 +16,10 @@ pub struct Place {
 pub struct Standing {
     pub at: Place,
     pub held: Held,
+    /// The activations that wait for it to end.
+    pub further: u8,
+    /// Whether it has its INTERNAL resource.
+    pub inside: bool,
 }
 
 /// The states of the task models of ISO 17356-3. A Live task is ready or running; which, the processor says.
@@ -42,13 +46,32 @@ impl Standing {
         Standing {
             at: self.at,
             held: self.held.copy(),
+            further: self.further,
+            inside: self.inside,
         }
+    }
+}
+
+impl Activity {
+    ghost use Rattle.std.specs.Prelude.{◌≡◌};
+    ghost use Rattle.osek_standard.specs.Services.{live_at};
+
+    /// Live at a block, with these further activations: it holds nothing and isn't inside.
+    pub fn live_at(block: BlockNo, further: u8) -> Activity
+        ensures { result ≡ live_at block further }
+    {
+        Activity::Live(Standing {
+            at: Place { block, offset: 0 },
+            held: Held::new(),
+            further,
+            inside: false,
+        })
     }
 }
 
 impl TaskState {
     ghost use Rattle.std.specs.Prelude.{◌≡◌, ◌==◌, not, length};
-    ghost use Rattle.osek_standard.specs.TaskStates.{is_live, is_suspended, holds, held};
+    ghost use Rattle.osek_standard.specs.TaskStates.{is_live, is_suspended, is_inside, further, holds, held};
 
     /// Another that is the same. It takes no memory.
     pub fn copy(&self) -> TaskState
@@ -101,6 +124,26 @@ impl TaskState {
     {
         match &self.activity {
             Activity::Live(standing) => !standing.held.is_empty(),
+            Activity::Suspended | Activity::Waiting(_) => false,
+        }
+    }
+
+    /// The activations that wait for it to end.
+    pub fn further(&self) -> u8
+        ensures { result ≡ further self.now }
+    {
+        match &self.activity {
+            Activity::Live(standing) => standing.further,
+            Activity::Suspended | Activity::Waiting(_) => 0,
+        }
+    }
+
+    /// Whether it has its INTERNAL resource.
+    pub fn is_inside(&self) -> bool
+        ensures { result ≡ is_inside self.now }
+    {
+        match &self.activity {
+            Activity::Live(standing) => standing.inside,
             Activity::Suspended | Activity::Waiting(_) => false,
         }
     }

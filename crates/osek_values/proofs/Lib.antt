@@ -2,3 +2,4 @@ pub mod BitCounts
 pub mod LeastFaults
 pub mod OneAnswer
 pub mod Refusals
+pub mod Places

@@ -2,6 +2,7 @@ pub mod Answers
 pub mod Bits
 pub mod Hooks
 pub mod LeastFaults
+pub mod Line
 pub mod Lines
 pub mod Names
 pub mod Numbers

@@ -6,6 +6,10 @@ pub const MAX_TASKS: usize = 16;
 pub const MAX_ISRS: usize = 8;
 /// Counters.
 pub const MAX_COUNTERS: usize = 8;
+/// Activations that a task takes at a time.
+pub const MAX_ACTIVATIONS: usize = 255;
+/// Places in the line of the tasks that are to run: one for each activation of each task.
+pub const MAX_LINE: usize = MAX_TASKS * MAX_ACTIVATIONS;
 /// Alarms.
 pub const MAX_ALARMS: usize = 16;
 /// Events.
@@ -32,7 +36,7 @@ pub const MAX_EVENT_LINE: usize = 256;
 /// Bytes of a name.
 pub const MAX_NAME: usize = 64;
 /// Bytes of a line of the trace, with its LF.
-pub const LINE_MAX: usize = 10_240;
+pub const LINE_MAX: usize = 20_480;
 
 /// Open braces in OIL.
 pub const MAX_OIL_DEPTH: u32 = 16;

@@ -1,5 +1,5 @@
 -- Lists of cells: their order, and what a join leaves of them.
-use Rattle.std.proofs.Common.{◌≡◌, ◌≢◌, ◌⊎◌, ℕ, ◌+◌, ◌-◌, ◌<◌, ◌≤◌, true, false, List, [], length, get_or, ltb, leb, set, refl, sym, ap, subst, ◌∙◌, inl, inr, arith, get_or-set_same, get_or-set_other}
+use Rattle.std.proofs.Common.{◌≡◌, ◌≢◌, ◌⊎◌, ℕ, ◌+◌, ◌-◌, ◌<◌, ◌≤◌, true, false, List, length, get_or, ltb, leb, set, refl, sym, ap, subst, ◌∙◌, inl, inr, arith, get_or-set_same, get_or-set_other}
 use Rattle.std.specs.{Prelude.{Contains}, List.{insert, Sorted.{IsPartitionedBy, IsPartitionPoint}}}
 use Rattle.std.proofs.lemmas.{Bool.{cases_eq, cases_lt, cases_order, lt-ltb, ltb-true, ltb-false, le-leb, leb-true, leb-false}, List.{length-set, get_or_default}}
 use Rattle.std.proofs.lemmas.List.{Elements.{Contains-get_or}, Edits.{length-insert, get_or-insert_below, get_or-insert_at, get_or-insert_above}, Sums.{sum_by-set, sum_by-insert}}

@@ -9,7 +9,8 @@ use Rattle.osek_standard.specs.{Points.{point_of}, Kernel.{start, step}, Outcome
 use Rattle.osek_standard.proofs.StepKeeps.{start_is_well, step_keeps}
 use Rattle.abstract_state.specs.{declared.table.{PlainEntry.{PlainEntry}, TableRow.{TableRow}}, Components.{abstract_of}}
 use Rattle.abstract_state.specs.Tables.{Sets, In, Inductive, IsContained, Least, entry_values, sets_of}
-use Rattle.abstract_state.proofs.{ContainmentLaws.{in_larger}, AlikeLaws.{in_alike}, MarkLaws.{shown_silent}}
+use Rattle.abstract_state.specs.Regular.{IsRegular}
+use Rattle.abstract_state.proofs.{RegularLaws.{start_regular, step_regular}, ContainmentLaws.{in_larger}, AlikeLaws.{in_alike}, MarkLaws.{shown_silent}}
 use Rattle.flow_model.specs.Effects.{IsAt}
 use Rattle.numbered_sets.specs.PlainTables.{row_at}
 use Rattle.state_flow.specs.{declared.cells.Cell.{Cell}, Cells.{AreInOrder, IsWaitingAt, NoneWaitsFrom, cell_number, waits, waiting_count}}
@@ -26,11 +27,12 @@ silent_or (Did does status) = inr (λ e. cc)
 
 module _ (app : App) where
   -- a state that rows lead to is in a table that has them
-  in_led : (table : Sets) (rows : List TableRow) (s : State) → ((row : TableRow) → Contains rows row → IsRowIn table row) → Well app s → IsLed app rows s → In app table s
-  in_led table rows s has w l =
+  in_led : (table : Sets) (rows : List TableRow) (s : State) → ((row : TableRow) → Contains rows row → IsRowIn table row) → Well app s → IsRegular s → IsLed app rows s → In app table s
+  in_led table rows s has w regular l =
       let row = has l.row l.listed in
       record {
         well = w;
+        regular = regular;
         entry = subst (λ (q : Point). IsTrue (table.entry q)) (sym l.point) row.entry;
         within = λ c lt. subst (λ (q : Point). IsTrue (table.has q c (abstract_of app s c))) (sym l.point) (row.has c (abstract_of app s c) (l.within c lt));
       }
@@ -40,6 +42,7 @@ module _ (app : App) where
     at_cell : (s : State) → In app (sets_in cells) s → point_of s ≡ cell.point → IsAt app cell.point cell.entry s
     at_cell s h at = record {
       well = h.well;
+      regular = h.regular;
       point = at;
       within = λ c lt. only_there cells cell c (abstract_of app s c) order among (subst (λ (q : Point). IsTrue ((sets_in cells).has q c (abstract_of app s c))) at (h.within c lt));
     }
@@ -52,7 +55,7 @@ module _ (app : App) where
           let w : Well app next = step_keeps app s e h.well in
           elim (silent_or (shows app s e)) [
             | inl silent ↦ in_alike app (sets_in cells) s next w (shown_silent app s e silent) h
-            | inr shown ↦ in_led (sets_in cells) rows next has w (leads.covers s e (at_cell s h at) shown)
+            | inr shown ↦ in_led (sets_in cells) rows next has w (step_regular app s e h.well h.regular) (leads.covers s e (at_cell s h at) shown)
           ];
     }
 
@@ -63,6 +66,7 @@ module _ (app : App) where
           let inside = at_cell s h at in
           let was : In app (sets_in before) s = record {
             well = h.well;
+            regular = h.regular;
             entry = subst (λ (q : Point). IsTrue ((sets_in before).entry q)) (sym at) (cell_entry before cell there);
             within = λ c lt. subst (λ (q : Point). IsTrue ((sets_in before).has q c (abstract_of app s c))) (sym at) (cell_value before cell c (abstract_of app s c) there (inside.within c lt));
           } in
@@ -141,6 +145,7 @@ module _ (app : App) where
       let here : IsRowIn (sets_in after) row = joined.joins row (0, omega arith, refl) in
       let there : In app (sets_in after) (start app mode).state = record {
         well = start_is_well app mode known;
+        regular = start_regular app mode known;
         entry = subst (λ (q : Point). IsTrue ((sets_in after).entry q)) (sym first.point) here.entry;
         within = λ c lt. subst (λ (q : Point). IsTrue ((sets_in after).has q c (abstract_of app (start app mode).state c))) (sym first.point) (here.has c (abstract_of app (start app mode).state c) (first.within c lt));
       } in

@@ -70,7 +70,7 @@ module _ (app : App) (masks : HasMasks app) (p : Point) (pool : List Values) (en
     after_domains = longer.domains ∙ sym numbers.domains ∙ its_domains
 
     exact : AreExact app p (plain_entry pool entry) (all_exits after groups)
-    exact = exits_shown app p (plain_entry pool entry) (all_exits after groups) proper.row.point are proper.allowed proper.filled
+    exact = exits_shown app p (plain_entry pool entry) (all_exits after groups) proper.row.point are proper.allowed
 
     pub rows_lead : Leads app p (plain_entry pool entry) (all_rows after groups)
     rows_lead = subst (Leads app p (plain_entry pool entry)) (rows_of_exits after groups)

@@ -81,6 +81,7 @@ module _ (app : App) (p : Point) (entry : PlainEntry) (x : Exit) (exact : IsExac
     at_in : (s : State) → IsAt app p entry s → In app other s
     at_in s at = record {
       well = at.well;
+      regular = at.regular;
       entry = subst (λ (q : Point). IsTrue (other.entry q)) (sym at.point) has.entry;
       within = λ c lt. subst (λ (q : Point). IsTrue (other.has q c (abstract_of app s c))) (sym at.point) (has.has c (abstract_of app s c) (at.within c lt));
     }

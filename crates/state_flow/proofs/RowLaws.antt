@@ -7,7 +7,7 @@ use Rattle.osek_standard.specs.declared.{app.App.{App}, point.Point.{Point}}
 use Rattle.osek_standard.specs.declared.point.Point.TheVariants as point
 use Rattle.osek_standard.specs.Points.{point_number, IsPoint}
 use Rattle.osek_standard.proofs.Members.{among_map, map_among, contained_among, among_contained}
-use Rattle.abstract_state.specs.{declared.{value.PartValue.{PartValue}, table.{PlainEntry.{PlainEntry}, TableRow.{TableRow}}}, Components.{IsAllowed}, Domains.{domains}}
+use Rattle.abstract_state.specs.{declared.{value.PartValue.{PartValue}, table.{PlainEntry.{PlainEntry}, TableRow.{TableRow}}}, Components.{IsAllowed}}
 use Rattle.abstract_state.specs.{Tables.{Sets, IsContained, IsProper, set_at, is_member}, Written.{IsRow, IsWritten}}
 use Rattle.abstract_state.proofs.{OrderLaws.{part_right, part_laws}, EqualityLaws.{written_entry, written_value}}
 use Rattle.state_flow.specs.{declared.cells.Cell.{Cell}, Cells.{cell_number, AreInOrder}}

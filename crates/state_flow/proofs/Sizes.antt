@@ -1,8 +1,8 @@
 -- How many points an application has at most, and how high its tables are, so that a count of 64 bits holds the values.
-use Rattle.std.proofs.{Common.{◌+◌, ◌^◌, ◌<◌, ◌≤◌, length, get_or, All, arith}, Math.Nat.{mul-le-mul}, lemmas.{List.Sums.{sum_by-le}, Nat.{ones-le}}}
+use Rattle.std.proofs.{Common.{◌+◌, ◌^◌, ◌<◌, ◌≤◌, length, All, arith}, Math.Nat.{mul-le-mul}, lemmas.List.Sums.{sum_by-le}}
 use Rattle.osek_standard.specs.declared.{app.App.{App}, objects.{Task.{Task}, Isr.{Isr}, Counter.{Counter}}}
-use Rattle.osek_standard.specs.Counts.{stacks, event_height, points, height, task_blocks, routine_blocks}
-use Rattle.osek_standard.proofs.CountLaws.{few_stacks, heights_together}
+use Rattle.osek_standard.specs.Counts.{points, height, task_blocks, routine_blocks}
+use Rattle.abstract_state.proofs.HeightLaws.{height_most}
 use Rattle.abstract_state.specs.{declared.table.PlainTable.{PlainTable}, Domains.{HasMasks}, Tables.{value_count}, Written.{IsWritten}}
 use Rattle.state_flow.proofs.Bounds.{values_few}
 
@@ -29,19 +29,8 @@ module _ (app : App) where
       let over : length app.tasks + 1 ≤ 17 = omega (arith, app.valid.few_tasks) in
       omega (arith, task_blocks_few, mul-le-mul {n₁ = routine_blocks app} {m₁ = length app.tasks + 1} {n₂ = 16896} {m₂ = 17} routine_blocks_few over)
 
-  event_few : HasMasks app → All (λ (x : Task). event_height x ≤ 128) app.tasks
-  event_few masks k d lt = omega (arith, ones-le 64 (get_or app.tasks k d).own.0 (masks k d lt))
-
-  height_few : HasMasks app → height app ≤ 1851837488
-  height_few masks =
-      let events = sum_by-le event_height 128 app.tasks (event_few masks) in
-      let deep = few_stacks (length app.resources) app.valid.few_resources in
-      let over : 1 + stacks (length app.resources) ≤ 109602 = omega (arith, deep) in
-      let tasks = mul-le-mul {n₁ = task_blocks app} {m₁ = 1 + stacks (length app.resources)} {n₂ = 16896} {m₂ = 109602} task_blocks_few over in
-      omega (arith, heights_together (length app.resources) app.tasks, tasks, events, app.valid.few_tasks, app.valid.few_alarms)
-
   -- a count of 64 bits holds the number of values of a written table
   pub values_fit : HasMasks app → (table : PlainTable) → IsWritten app table → value_count table < 2 ^ 64
   values_fit masks table written =
-      let product = mul-le-mul {n₁ = points app} {m₁ = height app} {n₂ = 304130} {m₂ = 1851837488} points_few (height_few masks) in
+      let product = mul-le-mul {n₁ = points app} {m₁ = height app} {n₂ = 304130} {m₂ = 58610845576256} points_few (height_most app masks) in
       omega (arith, values_few app table written masks, product)

@@ -1,5 +1,5 @@
 -- Rows of a table, and the table that cells stand for.
-use Rattle.std.specs.Prelude.{ℕ, ◌<◌, List, map}
+use Rattle.std.specs.Prelude.{List, map}
 use Rattle.abstract_state.specs.{declared.table.{PlainEntry.{PlainEntry}, TableRow.{TableRow}, PlainTable.{PlainTable}}, Tables.{Sets, sets_of}}
 use Rattle.numbered_sets.specs.PlainTables.{row_at}
 use Rattle.state_flow.specs.declared.cells.Cell.{Cell}

@@ -4,7 +4,7 @@ use Rattle.std.specs.{Int.{to_be_bytes, w16, w32}, List.{flat_map}}
 use Rattle.std.proofs.lemmas.{Bool.{cases_lt, cases_Bool}, List.{length_push}}
 use Rattle.osek_values.specs.{declared.numbers.{TaskNo.{TaskNo}, ResNo.{ResNo}}, Numbers.{block_no, res_no}}
 use Rattle.osek_standard.specs.{declared.{app.App.{App}, point.Point.{Point}}, TaskStates.{holds}, Validity.{IsAmong}, Well.{IsStack, IsWaitingAt}}
-use Rattle.osek_standard.proofs.StackLaws.{push_stack}
+use Rattle.abstract_state.proofs.ClosedLaws.{pushed}
 use Rattle.abstract_state.specs.declared.value.{Val.TheVariants.{Suspended, Live, Waiting}, Component.{Component}, PartValue.{PartValue, TheVariants.{OfTask, OfEvent, OfAlarm}}}
 use Rattle.abstract_state.specs.declared.value.Component.TheVariants as component
 use Rattle.abstract_state.specs.{declared.table.ValueSet.{ValueSet}, ValueOrder.{IsAscending}, Components.{live_val, IsComponent}, Domains.{domain_of}}
@@ -26,7 +26,7 @@ module _ (app : App) (size : ℕ) (bytes : List ℕ) where
   decide_resource held stack n = by_tests (decide_less n (length app.resources)) (cases_Bool (holds held n))
     where
       by_tests : Decided (n < length app.resources) → (holds held n ≡ true) ⊎ (holds held n ≡ false) → Decided (IsStack app (held ++ res_no n ∷ []))
-      by_tests (inl known) (inr free) = inl (push_stack app held (res_no n) stack known free)
+      by_tests (inl known) (inr free) = inl (pushed app held (res_no n) stack known free)
       by_tests (inl known) (inl there) = inr (λ h. let free = (stack_last app held (res_no n) h).1 in cc)
       by_tests (inr bars) there = inr (λ h. bars (stack_last app held (res_no n) h).0)
 

@@ -1,13 +1,14 @@
 -- A stack goes on to any size up to the number of resources.
 use Rattle.std.proofs.Common.{◌≡◌, ◌⊎◌, ℕ, zero, suc, ◌+◌, ◌-◌, ◌<◌, ◌≤◌, Bool, ◌||◌, true, false, List, [], ◌∷◌, ◌++◌, length, take, refl, sym, ap, subst, ◌∙◌, inl, inr, arith, append_assoc, append-nil, length-append, nat_eq, eqb-true}
 use Rattle.std.specs.List.{range_with_len, list_any, IsDistinct, AllByRecursion}
-use Rattle.std.proofs.lemmas.List.Elements.{All-nil, recursion_from_All}
+use Rattle.std.proofs.lemmas.List.Elements.{recursion_from_All}
 use Rattle.std.specs.Cmp.{nat_eq_equiv}
 use Rattle.std.proofs.{Math.Seq.{take-append-add}, lemmas.{Bool.{cases_Bool, cases_eq, eqb-false, ne_eqb}, List.{length-map, FromFn.{length-range_with_len}}}}
 use Rattle.std.proofs.lemmas.Map.Made.{length-le_from_is_member}
 use Rattle.osek_values.specs.{declared.numbers.ResNo.{ResNo}, Numbers.{res_no}}
 use Rattle.osek_standard.specs.{declared.app.App.{App}, TaskStates.{holds}, Well.{IsStack, same_resource}}
-use Rattle.osek_standard.proofs.{Distinct.{distinct_range}, StackLaws.{push_stack, pop_stack}}
+use Rattle.osek_standard.proofs.{Distinct.{distinct_range}, StackLaws.{no_stack, pop_stack}}
+use Rattle.abstract_state.proofs.ClosedLaws.{pushed}
 use Rattle.table_codec.specs.Spelling.{resource_numbers}
 
 -- one of so many numbers isn't held, or all are
@@ -64,8 +65,8 @@ goes_by app zero h size stack is few = record {
 }
 goes_by app (suc k) h size stack is few =
     let free = free_resource (length app.resources) h (omega (arith, is, few)) in
-    let pushed = push_stack app h (res_no free.0) stack free.1 free.2 in
-    let rest = goes_by app k (h ++ res_no free.0 ∷ []) size pushed (omega (arith, is, length-append h (res_no free.0 ∷ []))) few in
+    let longer = pushed app h (res_no free.0) stack free.1 free.2 in
+    let rest = goes_by app k (h ++ res_no free.0 ∷ []) size longer (omega (arith, is, length-append h (res_no free.0 ∷ []))) few in
     record {
       more = res_no free.0 ∷ rest.more;
       stack = subst (IsStack app) (append_assoc h (res_no free.0 ∷ []) rest.more) rest.stack;
@@ -83,8 +84,7 @@ stack_prefix app h r more stack =
     subst (IsStack app) e (pop_stack app (length h + 1) (h ++ r ∷ more) stack)
 
 pub empty_stack : (app : App) → IsStack app []
-unfolding IsDistinct
-empty_stack app = record { distinct = tt; known = All-nil (λ (r : ResNo). r.0 < length app.resources) }
+empty_stack app = no_stack app
 
 last_each : (P : ResNo → Type 0) (h : List ResNo) (r : ResNo) → AllByRecursion P (h ++ r ∷ []) → P r
 last_each P [] r all = all.0
@@ -97,4 +97,6 @@ last_free (x ∷ h) r d = ap (λ (b : Bool). b || holds h r.0) (last_each (λ (y
 
 -- the last of a stack is a resource, and not among those before it
 pub stack_last : (app : App) (h : List ResNo) (r : ResNo) → IsStack app (h ++ r ∷ []) → (r.0 < length app.resources) × (holds h r.0 ≡ false)
-stack_last app h r stack = (last_each (λ (q : ResNo). q.0 < length app.resources) h r (recursion_from_All (λ (q : ResNo). q.0 < length app.resources) (h ++ r ∷ []) stack.known), last_free h r stack.distinct)
+stack_last app h r stack =
+    let known = recursion_from_All (λ (q : ResNo). q.0 < length app.resources) (h ++ r ∷ []) stack.out_of.known in
+    (last_each (λ (q : ResNo). q.0 < length app.resources) h r known, last_free h r stack.out_of.distinct)

@@ -44,7 +44,7 @@ module _ (app : App) (p : Point) (t : TaskNo) (known : t.0 < length app.tasks) w
   val_within : (v : Val) → IsVal app t.0 v → AreWithin 0 (task_fields v)
   val_within Suspended h = (omega arith, tt)
   val_within (Live x) h =
-      let few : length x.held ≤ 8 = omega (arith, stack_few (length app.resources) x.held h.1, app.valid.few_resources) in (
+      let few : length x.held ≤ 8 = omega (arith, stack_few (length app.resources) x.held h.1.out_of, app.valid.few_resources) in (
         omega arith,
         (
           block_few x.block.0 h.0,
@@ -54,7 +54,7 @@ module _ (app : App) (p : Point) (t : TaskNo) (known : t.0 < length app.tasks) w
               omega arith,
               (
                 omega (arith, few),
-                bytes_within 3 x.held (each_few (length app.resources) x.held app.valid.few_resources (recursion_from_All (λ (r : ResNo). r.0 < length app.resources) x.held h.1.known)),
+                bytes_within 3 x.held (each_few (length app.resources) x.held app.valid.few_resources (recursion_from_All (λ (r : ResNo). r.0 < length app.resources) x.held h.1.out_of.known)),
               ),
             ),
           ),

@@ -188,7 +188,7 @@ module _ (app : App) (x : Shape) (s : IsShape app x) where
           (λ n begins.
           let l = live_of (b.0 ∷ 0 ∷ 0 ∷ n ∷ []) begins in
           let same : length l.live.held ≡ n = cc (l.is) in
-          omega (arith, same, stack_few (length app.resources) l.live.held l.stack)) bad;
+          omega (arith, same, stack_few (length app.resources) l.live.held l.stack.out_of)) bad;
     }
 
     -- a block, the two bytes and a size stand before a stack's numbers

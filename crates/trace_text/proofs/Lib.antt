@@ -13,6 +13,7 @@ pub mod TextLaws
 pub mod WordLaws
 pub mod RecordLaws
 pub mod ShownLaws
+pub mod RoutineTexts
 pub mod PlainLines
 pub mod PointForms
 pub mod PointParts

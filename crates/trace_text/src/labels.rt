@@ -10,7 +10,7 @@ use osek_values::{Name, ResNo, SourceNo, TaskNo};
 use std::marker::Model;
 use text_pieces::Label;
 
-const MAX_SOURCES: usize = MAX_COUNTERS + MAX_ISRS;
+pub(crate) const MAX_SOURCES: usize = MAX_COUNTERS + MAX_ISRS;
 
 /// The texts of an application that stand in many lines of its trace. It holds no memory.
 #[derive(Drop)]

@@ -12,7 +12,9 @@ use osek_values::{Held, Letter, Mask, ResNo, TaskNo};
 #[derive(Drop)]
 pub(crate) struct Shown {
     pub letter: Letter,
+    pub further: u8,
     pub events: Mask,
+    pub inside: bool,
     pub stack: Held,
 }
 
@@ -20,7 +22,9 @@ impl Default for Shown {
     fn default() -> Shown {
         Shown {
             letter: Letter::S,
+            further: 0,
             events: Mask(0),
+            inside: false,
             stack: Held::new(),
         }
     }
@@ -42,7 +46,9 @@ fn shown_of(state: &State, task: TaskNo) -> Shown
     let task_state = state.task(task);
     Shown {
         letter: state.letter(task),
+        further: task_state.further(),
         events: task_state.events,
+        inside: task_state.is_inside(),
         stack: held_of(task_state),
     }
 }
@@ -115,6 +121,9 @@ fn is_as_shown(shown: &Shown, state: &State, current: Option<TaskNo>, task: Task
         return false;
     }
     if shown.events != task_state.events {
+        return false;
+    }
+    if shown.further != task_state.further() || shown.inside != task_state.is_inside() {
         return false;
     }
     holds_as(&shown.stack, task_state)

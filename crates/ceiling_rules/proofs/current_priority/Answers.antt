@@ -1,12 +1,7 @@
--- one more ceiling is counted
-use Rattle.std.proofs.Common.{◌≡◌, ℕ, ◌+◌, ◌<◌, max, List, length, drop, get_or, add-one, drop-cons}
-use Rattle.osek_values.specs.{Numbers.{res_no}, declared.numbers.ResNo.{ResNo}}
-use Rattle.osek_standard.specs.{declared.app.App.{App}, Priority.{ceiling, highest}}
+-- the ceilings of what it has
+use Rattle.ceiling_rules.proofs.Occupied.{highest_occupied}
 use Rattle.ceiling_rules.proofs.current_priority.Goals as goal
 
-counts : (app : App) (p q i : ℕ) (xs : List ResNo) (whole : ℕ) → i < length xs → highest app p (drop i xs) ≡ whole → q ≡ max p (ceiling app (get_or xs i (res_no 0)).0) → highest app q (drop (i + 1) xs) ≡ whole
-unfolding highest
-counts app p q i xs whole here h e = let left = rw (drop-cons xs i (res_no 0)) at h in rw (add-one, e) left
-
-pub loop-resource-preserved : goal.loop-resource-preserved
-loop-resource-preserved c = counts _ _ _ _ _ _ c.loop-resource-test.true c.loop-resource.invariant (cc)
+pub returns-in-Live : goal.returns-in-Live
+returns-in-Live c =
+    highest_occupied c.args.app.now c.args.task.0 _ _ c.in-Live.standing _ c.task.ensures c.in-Live.is c.as_slice.ensures _ _ _ c.inside_priority.ensures c.highest.ensures

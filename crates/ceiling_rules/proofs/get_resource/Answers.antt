@@ -30,7 +30,7 @@ returns-then-is_taken-clause-row c =
 
 pub push-requires : goal.push-requires
 push-requires c =
-    room_at c.args.app.now c.args.state.now c.requires.well c.args.task.0 c.args.resource.0 c.requires.known c.requires.resource
+    room_at c.args.app.now c.args.state.now c.requires.well c.args.task.0 c.args.resource c.requires.known (c.requires.resource, c.requires.takable)
     (sym c.is_taken.ensures ∙ c.if-is_taken.false) _ c.task_mut.ensures.value _ c.in-Live.is
 
 pub returns-in-Live-clause-row : goal.returns-in-Live-clause-row
@@ -41,4 +41,4 @@ returns-in-Live-clause-row c =
 pub returns-in-Live-clause-well : goal.returns-in-Live-clause-well
 returns-in-Live-clause-well c =
     subst (Well c.args.app.now) (ap (λ (x : Answer). x.state) (returns-in-Live-clause-row c))
-    (get_resource_keeps c.args.app.now c.args.state.now c.args.task.0 c.args.resource c.requires.well c.requires.known c.requires.live c.requires.resource)
+    (get_resource_keeps c.args.app.now c.args.state.now c.args.task.0 c.args.resource c.requires.well c.requires.known c.requires.live (c.requires.resource, c.requires.takable))

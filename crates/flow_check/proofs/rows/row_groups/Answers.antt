@@ -27,5 +27,5 @@ returns-clause-exits c =
     record {
       steps = c.steps_end_at_exits.ensures.steps app row.point row.entry exits point are;
       instructions = c.steps_end_at_exits.ensures.instructions app row.point row.entry exits point are;
-      exact = c.steps_end_at_exits.ensures.exact app row.point row.entry exits point are c.requires.proper.allowed c.requires.proper.filled;
+      exact = c.steps_end_at_exits.ensures.exact app row.point row.entry exits point are c.requires.proper.allowed;
     }

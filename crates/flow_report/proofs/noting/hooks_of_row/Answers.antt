@@ -38,5 +38,5 @@ returns-clause-hooks c =
     let exits = all_exits pool c.in_ok-groups.groups.items in
     let are = c.in_ok-groups.ensures.exits in
     hooks_in_row app row exits (c.steps_end_at_exits.ensures.steps app row.point row.entry exits c.requires.proper.row.point are)
-    (c.steps_end_at_exits.ensures.exact app row.point row.entry exits c.requires.proper.row.point are c.requires.proper.allowed c.requires.proper.filled) c.loop-group.hooks
+    (c.steps_end_at_exits.ensures.exact app row.point row.entry exits c.requires.proper.row.point are c.requires.proper.allowed) c.loop-group.hooks
     (subst (λ (done : List ExitGroup). AreHooks (NotesByExit app row.point (all_exits pool done)) c.loop-group.hooks) (take_all c.loop-group.group-index c.as_slice-group-items.result.now c.loop-group-test.false ∙ c.as_slice-group-items.ensures.value) (c.loop-group.invariant pool))

@@ -1,7 +1,7 @@
 use Rattle.std.proofs.Common.{◌≡◌, sym, subst, ap, ◌∙◌, List}
 use Rattle.std.specs.Prelude.{Contains}
 use Rattle.numbered_sets.specs.{declared.numbered_entry.NumberedEntry.{NumberedEntry}, NumberedEntries.{numbers_at}}
-use Rattle.flow_rules.specs.{declared.group.{NumberEnd.{NumberEnd}, Ends.{Ends}}, Groups.{AreKnownEnds}}
+use Rattle.flow_rules.specs.{declared.group.NumberEnd.{NumberEnd}, Groups.{AreKnownEnds}}
 use Rattle.flow_rules.proofs.ruling.push_exits.Goals as goal
 
 -- the numbers of an end are of the domain of its component's set

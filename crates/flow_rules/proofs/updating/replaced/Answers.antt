@@ -1,6 +1,6 @@
 use Rattle.std.proofs.{Common.{◌≡◌, sym, ap, subst, ◌∙◌}, lemmas.Bool.{eqb-true}}
 use Rattle.abstract_state.specs.{declared.value.{Domain.{Domain}, PartValue.{PartValue}}, Domains.{IsWithin}}
-use Rattle.flow_model.specs.{declared.change.Change.{Change}, Tests.{value_after}}
+use Rattle.flow_model.specs.Tests.{value_after}
 use Rattle.numbered_sets.specs.{Numbers.{Numbers, numbers, with_number}, Pools.{values_at, domain_at, IsLonger}}
 use Rattle.numbered_sets.proofs.{SiftLaws.{some_value}, ViewLaws.{longer_with}}
 use Rattle.flow_rules.specs.{Applying.{IsPassedSet}, Changing.{making}}

@@ -1,7 +1,7 @@
 use Rattle.std.proofs.Common.{◌≡◌, ℕ, ◌∙◌, ap, subst}
 use Rattle.std.specs.{Prelude.{IfSome}, declared.option.Option.{Option}}
 use Rattle.std.proofs.lemmas.Result.{IfOk-weaker}
-use Rattle.abstract_state.specs.{declared.value.PartValue.{PartValue}, Domains.{IsWithin}}
+use Rattle.abstract_state.specs.Domains.{IsWithin}
 use Rattle.flow_model.specs.{declared.change.Update.{Update}, Tests.{updated, value_after}}
 use Rattle.numbered_sets.specs.Pools.{domain_at}
 use Rattle.flow_rules.specs.Changing.{IsAlone}

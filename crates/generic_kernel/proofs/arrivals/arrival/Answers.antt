@@ -1,19 +1,37 @@
--- the lowest latched source is the first flag that is set
-use Rattle.std.proofs.Common.{◌≡◌, ℕ, ◌∙◌, Bool, false, cond, List, Some, None, sym, ap}
-use Rattle.std.specs.{Prelude.{option_map, position}, declared.option.Option.{Option}}
-use Rattle.osek_values.specs.Numbers.{source_no}
-use Rattle.osek_standard.specs.{declared.{app.App.{App}, state.State.{State}}, Arrivals.{arrival, takes_none}}
-use Rattle.osek_standard.proofs.ArrivalLaws.{arrival_by_flags}
+-- the first of the latched sources, where the level lets it in
+use Rattle.std.proofs.{Common.{◌≡◌, ℕ, ◌≤◌, ◌<◌, ◌∙◌, true, false, None, Some, sym, length, arith}, lemmas.Bool.{le-leb, lt-leb}}
+use Rattle.std.specs.declared.option.Option.{Option}
+use Rattle.osek_values.specs.declared.numbers.SourceNo.{SourceNo}
+use Rattle.osek_standard.specs.declared.{app.App.{App}, state.State.{State}}
+use Rattle.osek_standard.specs.{Apps.{source_priority}, States.{is_latched}, Levels.{level}, Arrivals.{arrival, may_arrive, takes_none}}
+use Rattle.generic_kernel.specs.Nests.{IsFirstBelow}
+use Rattle.generic_kernel.proofs.NestSteps.{each_kept_out, first_found, first_let_in, none_passes}
 use Rattle.generic_kernel.proofs.arrivals.arrival.Goals as goal
 
-by_flags : (app : App) (s : State) (f : List Bool) (o : Option ℕ) → takes_none app s ≡ false → f ≡ s.latched → o ≡ position (λ b. b) f → option_map source_no o ≡ arrival app s
-by_flags app s f o taken flags e =
-    ap (option_map source_no) (e ∙ ap (λ (l : List Bool). position (λ b. b) l) flags)
-    ∙ ap (λ (b : Bool). cond b None (option_map source_no (position (λ b. b) s.latched))) (sym taken)
-    ∙ sym (arrival_by_flags app s)
+-- where the processor stands at no locked block
+first_of_those : (app : App) (s : State) (o : Option SourceNo) → takes_none app s ≡ false → IsFirstBelow app (may_arrive app s) (length s.latched) o → o ≡ arrival app s
+first_of_those app s o unlocked h = rw unlocked (sym (first_found app (may_arrive app s) (length s.latched) o h))
 
 pub returns-in-None : goal.returns-in-None
-returns-in-None c = by_flags c.args.app.now c.args.state.now c.as_slice.result.now None (sym c.takes_none.ensures ∙ c.if-takes_none.false) c.as_slice.ensures c.in-None.ensures
+returns-in-None c =
+    let app = c.args.app.now in
+    let s = c.args.state.now in
+    first_of_those app s None (sym c.takes_none.ensures ∙ c.if-takes_none.false) (none_passes app (is_latched s) (level app s) (length s.latched) c.in-None.ensures)
 
-pub returns-in-Some : goal.returns-in-Some
-returns-in-Some c = by_flags c.args.app.now c.args.state.now c.as_slice.result.now (Some c.in-Some.source) (sym c.takes_none.ensures ∙ c.if-takes_none.false) c.as_slice.ensures c.in-Some.ensures
+pub returns-then-level-source_priority : goal.returns-then-level-source_priority
+returns-then-level-source_priority c =
+    let app = c.args.app.now in
+    let s = c.args.state.now in
+    let k = c.in-Some.source in
+    let within : level app s ≤ source_priority app k.0 = omega (arith, c.level.ensures, c.source_priority.ensures, c.if-level-source_priority.true) in
+    first_of_those app s (Some k) (sym c.takes_none.ensures ∙ c.if-takes_none.false)
+    (first_let_in app (is_latched s) (level app s) (length s.latched) k c.in-Some.ensures (le-leb _ _ within))
+
+pub returns-else-level-source_priority : goal.returns-else-level-source_priority
+returns-else-level-source_priority c =
+    let app = c.args.app.now in
+    let s = c.args.state.now in
+    let k = c.in-Some.source in
+    let above : source_priority app k.0 < level app s = omega (arith, c.level.ensures, c.source_priority.ensures, c.if-level-source_priority.false) in
+    first_of_those app s None (sym c.takes_none.ensures ∙ c.if-takes_none.false)
+    (each_kept_out app (is_latched s) (level app s) (length s.latched) k.0 c.in-Some.ensures (lt-leb _ _ above))

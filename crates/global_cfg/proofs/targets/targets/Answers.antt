@@ -36,6 +36,6 @@ returns-clause-targets c =
     let pool = c.exit_groups.new.pool in
     let exits = all_exits pool c.in_ok-groups.groups.items in
     let are = c.in_ok-groups.ensures.exits in
-    ends_are_targets app row.point row.entry exits (c.steps_end_at_exits.ensures.exact app row.point row.entry exits c.requires.row.point are c.requires.allowed c.requires.filled)
+    ends_are_targets app row.point row.entry exits (c.steps_end_at_exits.ensures.exact app row.point row.entry exits c.requires.row.point are c.requires.allowed)
     c.loop-group.targets.items (c.steps_end_at_exits.ensures.steps app row.point row.entry exits c.requires.row.point are)
     (subst (λ (done : List ExitGroup). AreEndsPut row.point (all_exits pool done) [] c.loop-group.targets.items) (take_all c.loop-group.group-index c.as_slice-group-items.result.now c.loop-group-test.false ∙ c.as_slice-group-items.ensures.value) (c.loop-group.invariant pool))

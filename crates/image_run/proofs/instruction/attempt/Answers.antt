@@ -1,25 +1,15 @@
--- after the effect of a site no routine runs, and elsewhere nothing is asked; so the form gives the outcome
-use Rattle.std.proofs.Common.{◌≡◌, ◌∙◌, true, sym, ap, subst, IfSome}
+-- the form of a site gives the outcome, and elsewhere nothing is asked
+use Rattle.std.proofs.Common.{◌≡◌, ◌∙◌, sym, ap, subst, false}
 use Rattle.std.specs.{Prelude.{option_map}, declared.option.Option.{Option}}
-use Rattle.osek_standard.specs.{Apps.{is_site}, States.{here}, Effects.{Effect, effected}, Well.{AreOut}, Dispatch.{concluded}}
-use Rattle.osek_standard.proofs.{WellLaws.{in_owner_known}, Keeps.{here_own}}
+use Rattle.osek_values.specs.declared.numbers.TaskNo.{TaskNo}
+use Rattle.osek_standard.specs.{States.{here, is_that_task}, Effects.{Effect, effected}, Dispatch.{concluded}}
+use Rattle.osek_standard.proofs.{WellLaws.{in_owner_known}, MoveKeeps.{here_own}}
 use Rattle.image_model.specs.{declared.site.Site.{Site}, ImageStep.{site_at, formed_at, instructed}}
-use Rattle.image_run.proofs.{SiteEffects.{out_after_site}, OtherEffects.{asks_none_elsewhere}, SiteForms.{is_of_site, no_site_there, if_some_onward}}
+use Rattle.image_run.proofs.{OtherEffects.{asks_none_elsewhere}, SiteForms.{no_site_there}}
 use Rattle.image_run.proofs.instruction.attempt.Goals as goal
 
-pub conclude_by-requires-clause-site : goal.conclude_by-requires-clause-site
-conclude_by-requires-clause-site g c =
-    let i = c.args.image.now in
-    let s = c.args.state.now in
-    let b = (here s).block.0 in
-    let known = in_owner_known i.app s s.processor c.requires.well.processor b (here_own i.app s c.requires.well c.requires.active) in
-    let out : is_site i.app b ≡ true → AreOut i.app c.effect-done.new.state
-    = λ site. subst (AreOut i.app) (ap (λ (e : Effect). e.state) c.effect-done.ensures.row) (out_after_site i.app s c.requires.well c.args.choice site) in
-    if_some_onward (is_site i.app b ≡ true) (AreOut i.app c.effect-done.new.state) c.args.site out
-    (subst (λ (o : Option Site). IfSome o (λ (x : Site). is_site i.app b ≡ true)) (sym c.requires.site) (is_of_site i b known))
-
-pub conclude_by-requires-clause-other : goal.conclude_by-requires-clause-other
-conclude_by-requires-clause-other g c =
+pub conclude_by-notes-requires-clause-other : goal.conclude_by-notes-requires-clause-other
+conclude_by-notes-requires-clause-other g c =
     let i = c.args.image.now in
     let s = c.args.state.now in
     let b = (here s).block.0 in
@@ -33,4 +23,8 @@ returns-clause-step g c =
     let done : Effect = effected c.effect-done.new.state c.effect-done.result.notes c.effect-done.result.ask in
     ap (λ (e : Effect). option_map (concluded i.app e) (formed_at i.app e (site_at i (here c.args.state.now).block.0))) c.effect-done.ensures.row
     ∙ ap (λ (o : Option Site). option_map (concluded i.app done) (formed_at i.app done o)) (sym c.requires.site)
-    ∙ c.conclude_by.ensures.step
+    ∙ c.conclude_by-notes.ensures.step
+
+pub returns-clause-ready : goal.returns-clause-ready
+returns-clause-ready g c = c.take_in.ensures.ready c.effect-done.new.state c.effect-done.ensures.ready
+    (λ u n _. c.conclude_by-notes.ensures.others u (subst (λ (o : Option TaskNo). is_that_task o u ≡ false) c.current-current.ensures n))

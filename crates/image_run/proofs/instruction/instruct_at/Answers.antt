@@ -2,7 +2,7 @@
 use Rattle.std.proofs.Common.{◌≡◌, ◌≢◌, refl, ◌∙◌, true, sym, ap, Some, None, IfSome, subst}
 use Rattle.std.specs.declared.option.Option.{Option}
 use Rattle.osek_standard.specs.{Apps.{is_site}, States.{here}}
-use Rattle.osek_standard.proofs.{WellLaws.{in_owner_known}, Keeps.{here_own}}
+use Rattle.osek_standard.proofs.{WellLaws.{in_owner_known}, MoveKeeps.{here_own}}
 use Rattle.image_model.specs.{declared.site.Site.{Site}, ImageStep.{site_at}}
 use Rattle.image_run.specs.{declared.before.Before.{Before}, Befores.{before, put_back}}
 use Rattle.image_run.proofs.{SiteForms.{is_of_site}, UndoLaws.{undone}}

@@ -5,10 +5,10 @@ use Rattle.std.specs.{Prelude.{option_map, if◌then◌else◌}, declared.option
 use Rattle.osek_values.specs.declared.status.Ask.{Ask}
 use Rattle.osek_standard.specs.{declared.{app.App.{App}, state.State.{State}, task_state.Place.{Place}}, States.{here}, Effects.{Effect, effected}}
 use Rattle.osek_standard.specs.Dispatch.{Outcome, concluded, nothing_noted, outcome_by}
-use Rattle.osek_standard.proofs.{WellLaws.{in_owner_known}, Keeps.{here_own}}
-use Rattle.image_model.specs.declared.site.{Form.{Form}, Known.{Known}, Site.{Site}}
+use Rattle.osek_standard.proofs.{WellLaws.{in_owner_known}, MoveKeeps.{here_own}}
+use Rattle.image_model.specs.{declared.site.{Form.{Form}, Known.{Known, TheVariants.{Any, Always}}, Site.{Site}}, Statuses.{allows_status}}
+use Rattle.image_model.specs.ImageStep.{site_at, formed_at, formed_by, instructed}
 use Rattle.image_model.specs.declared.site.Form.TheVariants as form
-use Rattle.image_model.specs.{declared.site.Known.TheVariants.{Any, Always}, Statuses.{allows_status}, ImageStep.{site_at, formed_at, formed_by, instructed}}
 use Rattle.image_run.proofs.{OtherEffects.{asks_none_elsewhere}, SiteForms.{no_site_there}}
 use Rattle.image_run.proofs.instruction.instruct_silently.Goals as goal
 

@@ -1,4 +1,4 @@
-use Rattle.osek_standard.proofs.ArrivalLaws.{arrival_is, is_arrival, no_arrival, none_taken, none_latched, lowest_latched}
+use Rattle.osek_standard.proofs.ArrivalLaws.{arrival_is, is_arrival, no_arrival, none_taken, none_latched, all_below}
 use Rattle.osek_standard.proofs.laws.arrival_has_the_property.Goals as goal
 
 pub returns : goal.returns
@@ -7,6 +7,6 @@ returns c = record {
   found = is_arrival;
   none = no_arrival;
   none_taken = none_taken;
+  all_below = all_below;
   none_latched = none_latched;
-  first_flag = lowest_latched;
 }

@@ -1,5 +1,5 @@
-use Rattle.std.proofs.Common.{ℕ, ◌≡◌, ◌∙◌, ◌+◌, ◌<◌, List, [], length, sym, ap, subst, arith}
-use Rattle.std.specs.{Prelude.{All}, List.{IsDistinct}}
+use Rattle.std.proofs.Common.{ℕ, ◌∙◌, ◌+◌, ◌<◌, [], sym, subst, arith}
+use Rattle.std.specs.List.{IsDistinct}
 use Rattle.std.proofs.{Math.Nat.{min-le_left}, lemmas.List.Elements.{All-nil}}
 use Rattle.osek_values.specs.declared.numbers.ResNo.{ResNo}
 use Rattle.osek_standard.specs.Well.{IsStackOutOf}

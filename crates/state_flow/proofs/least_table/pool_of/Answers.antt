@@ -1,4 +1,4 @@
-use Rattle.std.proofs.Common.{◌≡◌, ◌∙◌, ap}
+use Rattle.std.proofs.Common.{◌∙◌, ap}
 use Rattle.numbered_sets.specs.Pools.{pool_domains}
 use Rattle.state_flow.proofs.NumberedCells.{domains_kept}
 use Rattle.state_flow.proofs.least_table.pool_of.Goals as goal

@@ -1,14 +1,14 @@
 use Rattle.std.proofs.Common.{◌≡◌, ◌∙◌, ◌<◌, ◌++◌, ◌∷◌, [], true, false, sym, arith}
 use Rattle.osek_values.specs.Numbers.{res_no}
 use Rattle.osek_standard.specs.Well.{IsStack}
-use Rattle.osek_standard.proofs.StackLaws.{push_stack}
+use Rattle.abstract_state.proofs.ClosedLaws.{pushed}
 use Rattle.table_codec.proofs.{FieldReads.{number_barred}, StackEnds.{stack_last}}
 use Rattle.table_codec.proofs.values.resource.Goals as goal
 use Rattle.table_codec.proofs.values.resource.Goals.{else-number-len-via-then-number-len+else-not-has, else-number-len-via-else-number-len}
 
 pub returns-then-not-has-clause-ok : goal.returns-then-not-has-clause-ok
 returns-then-not-has-clause-ok c =
-    (push_stack c.args.app.now c.args.held.now (res_no c.in-Some.number) c.requires (omega (arith, c.if-number-len.true, c.len.ensures)) (sym c.has.ensures ∙ c.if-not-has.true), c.in-Some.ensures.number)
+    (pushed c.args.app.now c.args.held.now (res_no c.in-Some.number) c.requires (omega (arith, c.if-number-len.true, c.len.ensures)) (sym c.has.ensures ∙ c.if-not-has.true), c.in-Some.ensures.number)
 
 pub returns-else-number-len-clause-err : goal.returns-else-number-len-clause-err
 returns-else-number-len-clause-err c =

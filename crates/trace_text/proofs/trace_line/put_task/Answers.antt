@@ -1,7 +1,8 @@
+-- what a task of a well-formed state has
 use Rattle.std.proofs.Common.{subst}
-use Rattle.osek_standard.specs.{Well.{IsStack}, TaskStates.{held}}
-use Rattle.osek_standard.proofs.StackLaws.{held_stack}
+use Rattle.osek_standard.specs.{declared.task_state.TaskState.{TaskState}, Well.{IsActivityOf}}
 use Rattle.trace_text.proofs.trace_line.put_task.Goals as goal
 
-pub put_held-requires-clause-stack : goal.put_held-requires-clause-stack
-put_held-requires-clause-stack c = subst (λ x. IsStack c.args.app.now (held x)) c.task-4.ensures (held_stack c.args.app.now c.args.state.now c.args.task.0 c.requires.well c.requires.known)
+pub put_occupied-requires-clause-right : goal.put_occupied-requires-clause-right
+put_occupied-requires-clause-right c =
+    subst (λ (x : TaskState). IsActivityOf c.args.app.now c.args.task.0 x.activity) c.task-task_state.ensures (c.requires.well.tasks c.args.task.0 c.requires.known).activity

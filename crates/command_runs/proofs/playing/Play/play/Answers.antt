@@ -1,5 +1,5 @@
 -- the start's line and then the play, or a prefix of the line
-use Rattle.std.proofs.{Common.{◌≡◌, List, ℕ, refl, subst, inl, Ok, Err}, lemmas.Result.{err_from_is_err_and}}
+use Rattle.std.proofs.{Common.{List, ℕ, refl, subst, inl, Ok, Err}, lemmas.Result.{err_from_is_err_and}}
 use Rattle.osek_standard.specs.Dispatch.{stepped}
 use Rattle.image_run.specs.Machines.{AtWork}
 use Rattle.trace_text.specs.EventText.{numbered_lines}

@@ -1,5 +1,5 @@
 -- what is held back at the end of a play is printed, or a prefix of it
-use Rattle.std.proofs.{Common.{◌≡◌, List, ℕ, [], subst, sym}, lemmas.Result.{err_from_is_err_and}}
+use Rattle.std.proofs.{Common.{List, ℕ, [], subst, sym}, lemmas.Result.{err_from_is_err_and}}
 use Rattle.osek_standard.specs.Dispatch.{stepped}
 use Rattle.trace_text.specs.EventText.{numbered_lines}
 use Rattle.osek_io.specs.Sunk.{sunk}

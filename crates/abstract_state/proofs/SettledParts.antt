@@ -1,0 +1,115 @@
+-- What an outcome does with the flag of a task, with the line and with the processor is no component's.
+use Rattle.std.proofs.Common.{◌≡◌, ℕ, Bool, length, refl, sym, ap, ◌∙◌, inl, inr, arith, Some, None, get_or-set_same, get_or-set_other}
+use Rattle.std.proofs.{lemmas.{Bool.{cases_eq, cases_lt}, List.{get_or_past}}, Math.ListN.{length-set}}
+use Rattle.std.specs.{Prelude.{is_some}, declared.option.Option.{Option}}
+use Rattle.osek_values.specs.{Bits.{has_bit}, declared.{numbers.{TaskNo.{TaskNo}, BlockNo.{BlockNo}}}}
+use Rattle.osek_standard.specs.declared.{app.App.{App}, task_state.{TaskState.{TaskState}, Activity.{Activity}}, state.{State.{State}, Processor.{Processor}}}
+use Rattle.osek_standard.specs.declared.task_state.Activity.TheVariants as activity
+use Rattle.osek_standard.specs.declared.state.Processor.TheVariants as processor
+use Rattle.osek_standard.specs.{TaskStates.{suspended}, States.{task_of, task_state, place_in, place_by}, Line.{first_in_line, out_of_line}, Internal.{inside_as, internal_of, kept_by, put_inside, with_inside}}
+use Rattle.osek_standard.specs.{Dispatch.{Outcome, Keep, To, settled}, Points.{point_at, point_of}}
+use Rattle.abstract_state.specs.declared.value.{Component.{Component}, PartValue.TheVariants.{OfTask, OfEvent}}
+use Rattle.abstract_state.specs.declared.value.Component.TheVariants as component
+use Rattle.abstract_state.specs.Components.{part_of, value_in}
+
+-- what doesn't look at the flag of a task is the same of each
+module _ {X : Type 0} (f : TaskState → X) (same : (b : Bool) (x : TaskState) → f (record x { activity = inside_as b x.activity }) ≡ f x) where
+  inside_task : (s : State) (t : ℕ) (b : Bool) (u : ℕ) → f (task_state (with_inside s t b) u) ≡ f (task_state s u)
+  inside_task s t b u =
+      let x : TaskState = record (task_state s t) { activity = inside_as b (task_state s t).activity } in
+      elim (cases_eq u t) [
+        | inl e ↦ elim (cases_lt t (length s.tasks)) [
+          | inl lt ↦ (ap (λ (k : ℕ). f (task_state (with_inside s t b) k)) e ∙ ap f (get_or-set_same s.tasks t x suspended lt) ∙ same b (task_state s t) ∙ ap (λ (k : ℕ). f (task_state s k)) (sym e))
+          | inr past ↦
+              (let long = length-set s.tasks t x in
+              ap f (get_or_past (with_inside s t b).tasks u suspended (omega (arith, past, long, e))) ∙ ap f (sym (get_or_past s.tasks u suspended (omega (arith, past, e)))))
+        ]
+        | inr other ↦ ap f (get_or-set_other s.tasks t u x suspended other)
+      ]
+
+  put_task : (app : App) (s : State) (o : Option TaskNo) (u : ℕ) → f (task_state (put_inside app s o) u) ≡ f (task_state s u)
+  put_task app s None u = refl
+  put_task app s (Some t) u = inside_task s t.0 (is_some (internal_of app t.0)) u
+
+  kept_task : (app : App) (s : State) (p : Processor) (u : ℕ) → f (task_state (kept_by app s p) u) ≡ f (task_state s u)
+  kept_task app s processor.Halted u = refl
+  kept_task app s processor.Idle u = refl
+  kept_task app s (processor.Running t) u = put_task app s (Some t) u
+  kept_task app s (processor.Interrupted k over) u = refl
+
+  queued_task : (s : State) (c o : Option TaskNo) (u : ℕ) → f (task_state (out_of_line (first_in_line s c) o) u) ≡ f (task_state s u)
+  queued_task s None None u = refl
+  queued_task s None (Some t) u = refl
+  queued_task s (Some v) None u = refl
+  queued_task s (Some v) (Some t) u = refl
+
+  pub settled_task : (app : App) (s : State) (o : Outcome) (u : ℕ) → f (task_state (settled app s o) u) ≡ f (task_state s u)
+  settled_task app s Keep u = kept_task app s s.processor u
+  settled_task app s (To o) u = put_task app (out_of_line (first_in_line s (task_of s.processor)) o) o u ∙ queued_task s (task_of s.processor) o u
+
+value_inside : (b : Bool) (a : Activity) → value_in (inside_as b a) ≡ value_in a
+value_inside b activity.Suspended = refl
+value_inside b (activity.Live x) = refl
+value_inside b (activity.Waiting c) = refl
+
+block_inside : (b : Bool) (a : Activity) → (place_in (inside_as b a)).block ≡ (place_in a).block
+block_inside b activity.Suspended = refl
+block_inside b (activity.Live x) = refl
+block_inside b (activity.Waiting c) = refl
+
+-- alarms stay too
+same_alarms : (app : App) (s : State) (o : Outcome) → (settled app s o).alarms ≡ s.alarms
+same_alarms app s Keep = kept_alarms s.processor
+  where
+    kept_alarms : (p : Processor) → (kept_by app s p).alarms ≡ s.alarms
+    kept_alarms processor.Halted = refl
+    kept_alarms processor.Idle = refl
+    kept_alarms (processor.Running t) = refl
+    kept_alarms (processor.Interrupted k over) = refl
+same_alarms app s (To o) = queued_alarms (task_of s.processor) o
+  where
+    queued_alarms : (c o : Option TaskNo) → (put_inside app (out_of_line (first_in_line s c) o) o).alarms ≡ s.alarms
+    queued_alarms None None = refl
+    queued_alarms None (Some t) = refl
+    queued_alarms (Some v) None = refl
+    queued_alarms (Some v) (Some t) = refl
+
+-- an outcome changes no component
+pub settled_part : (app : App) (s : State) (o : Outcome) (k : Component) → part_of (settled app s o) k ≡ part_of s k
+settled_part app s o (component.Task t) = settled_task (λ x. OfTask (value_in x.activity)) (λ b x. ap OfTask (value_inside b x.activity)) app s o t.0
+settled_part app s o (component.Event t j) = settled_task (λ x. OfEvent (has_bit x.events.0 j.0)) (λ b x. refl) app s o t.0
+settled_part app s o (component.Alarm a) = ap (λ alarms. part_of (record s { alarms = alarms }) (component.Alarm a)) (same_alarms app s o)
+
+-- nor where a task stands
+pub settled_block : (app : App) (s : State) (o : Outcome) (t : ℕ) → (place_in (task_state (settled app s o) t).activity).block ≡ (place_in (task_state s t).activity).block
+settled_block app s o t = settled_task (λ x. (place_in x.activity).block) (λ b x. block_inside b x.activity) app s o t
+
+-- nor does the flag of a task alone
+pub inside_part : (s : State) (t : ℕ) (b : Bool) (k : Component) → part_of (with_inside s t b) k ≡ part_of s k
+inside_part s t b (component.Task u) = inside_task (λ x. OfTask (value_in x.activity)) (λ c x. ap OfTask (value_inside c x.activity)) s t b u.0
+inside_part s t b (component.Event u j) = inside_task (λ x. OfEvent (has_bit x.events.0 j.0)) (λ c x. refl) s t b u.0
+inside_part s t b (component.Alarm a) = refl
+
+inside_at : (s : State) (t : ℕ) (b : Bool) (p : Processor) → point_at (place_by (with_inside s t b) p).block p ≡ point_at (place_by s p).block p
+inside_at s t b processor.Halted = refl
+inside_at s t b processor.Idle = refl
+inside_at s t b (processor.Running u) = ap (λ (n : BlockNo). point_at n (processor.Running u)) (inside_task (λ x. (place_in x.activity).block) (λ c x. block_inside c x.activity) s t b u.0)
+inside_at s t b (processor.Interrupted k over) = refl
+
+pub inside_point : (s : State) (t : ℕ) (b : Bool) → point_of (with_inside s t b) ≡ point_of s
+inside_point s t b = inside_at s t b s.processor
+
+kept_at : (app : App) (s : State) (p : Processor) → s.processor ≡ p → point_of (kept_by app s p) ≡ point_of s
+kept_at app s processor.Halted e = refl
+kept_at app s processor.Idle e = refl
+kept_at app s (processor.Running t) e =
+    let after : point_of (kept_by app s (processor.Running t)) ≡ point_at (place_by (kept_by app s (processor.Running t)) (processor.Running t)).block (processor.Running t)
+    = ap (λ (p : Processor). point_at (place_by (kept_by app s (processor.Running t)) p).block p) e in
+    after
+    ∙ ap (λ (b : BlockNo). point_at b (processor.Running t)) (kept_task (λ x. (place_in x.activity).block) (λ b x. block_inside b x.activity) app s (processor.Running t) t.0)
+    ∙ ap (λ (p : Processor). point_at (place_by s p).block p) (sym e)
+kept_at app s (processor.Interrupted k over) e = refl
+
+-- who keeps the processor stands where it stood
+pub kept_point : (app : App) (s : State) → point_of (settled app s Keep) ≡ point_of s
+kept_point app s = kept_at app s s.processor refl

@@ -1,0 +1,8 @@
+-- What each state of a run has beside being well-formed, and so is asked of the states of a table.
+use Rattle.std.specs.Prelude.{◌≡◌, ℕ, false}
+use Rattle.osek_standard.specs.{declared.state.State.{State}, States.{source_state, is_source_at}}
+use Rattle.osek_standard.specs.declared.state.Source.TheVariants as source
+
+pub record IsRegular (s : State) : Type 0 where
+  -- no routine is in but the one that has the processor: routines don't nest yet
+  pub alone : (k : ℕ) → is_source_at s.processor k ≡ false → source_state s k ≡ source.Out

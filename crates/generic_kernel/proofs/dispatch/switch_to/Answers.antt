@@ -1,0 +1,12 @@
+-- a dispatch keeps a state well-formed
+use Rattle.std.proofs.Common.{subst, rules}
+use Rattle.osek_standard.specs.Well.{Well}
+use Rattle.osek_standard.proofs.StepKeeps.{dispatched_keeps}
+use Rattle.generic_kernel.proofs.dispatch.switch_to.Goals as goal
+
+pub returns-clause-state : goal.returns-clause-state
+returns-clause-state c = search rules
+
+pub returns-clause-well : goal.returns-clause-well
+returns-clause-well c =
+    subst (Well c.args.app.now) (returns-clause-state c) (dispatched_keeps c.args.app.now c.args.state.now c.args.task c.requires.well c.requires.out c.requires.live)
