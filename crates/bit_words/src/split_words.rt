@@ -1,5 +1,5 @@
 //! The words of a set, of which the first two stand apart.
-ghost use Rattle.std.specs.Prelude.{ℕ, List, false, IsTrue, ◌≡◌, ◌∷◌, ◌<◌, ◌≤◌, ◌==◌};
+ghost use Rattle.std.specs.Prelude.{ℕ, List, false, IsTrue, ◌≡◌, ◌∷◌, ◌<◌, ◌≤◌, ◌==◌, ◌^◌, count_ones};
 ghost use Rattle.bit_words.specs.Words.{bits_of_words};
 ghost use Rattle.osek_values.specs.Bits.{has_bit as has_bit_of};
 
@@ -26,6 +26,10 @@ pub fn next(low: u64, high: u64, more: &[u64], from: usize, below: usize) -> usi
     ensures has { result < below → IsTrue (has_bit_of (bits_of_words (low ∷ high ∷ more.now)) result) }
     ensures none { (k : ℕ) → from ≤ k → k < result → has_bit_of (bits_of_words (low ∷ high ∷ more.now)) k ≡ false }
 {
+    if from >= 128 {
+        let further = words::next(more, from - 128, below - 128);
+        return 128 + further;
+    }
     let number = next_of_two(low, high, from);
     if number >= below {
         return below;
@@ -39,13 +43,11 @@ pub fn next(low: u64, high: u64, more: &[u64], from: usize, below: usize) -> usi
 
 // the first number of the first two words from one on; where there is none a number that is in neither
 fn next_of_two(low: u64, high: u64, from: usize) -> usize
+    requires { from < 128 }
     ensures up { from ≤ result }
     ensures has { result < 128 → (ws : List ℕ) → IsTrue (has_bit_of (bits_of_words (low ∷ high ∷ ws)) result) }
     ensures none { (k : ℕ) → from ≤ k → k < result → (ws : List ℕ) → has_bit_of (bits_of_words (low ∷ high ∷ ws)) k ≡ false }
 {
-    if from >= 128 {
-        return from;
-    }
     if from >= 64 {
         let next = words::next_bit(high, from - 64);
         return 64 + next;
@@ -69,4 +71,12 @@ pub fn are_clear(low: u64, high: u64, more: &[u64]) -> bool
         return false;
     }
     words::are_clear(more)
+}
+
+/// How many bits are set.
+pub fn count(low: u64, high: u64, more: &[u64]) -> u64
+    requires { count_ones (bits_of_words (low ∷ high ∷ more.now)) < 2 ^ 64 }
+    ensures { result ≡ count_ones (bits_of_words (low ∷ high ∷ more.now)) }
+{
+    low.count_ones() as u64 + high.count_ones() as u64 + words::count(more)
 }

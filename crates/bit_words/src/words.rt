@@ -99,28 +99,31 @@ pub fn next(words: &[u64], from: usize, below: usize) -> usize
     ensures none { (k : ℕ) → from ≤ k → k < result → has_bit_of (bits_of_words words.now) k ≡ false }
 {
     are_words(words);
-    for place in from / 64..words.len() {
-        if place > below / 64 {
-            return below;
-        }
-        let bit = next_bit(words[place], begin_in(place, from));
+    // mostly the word where the numbers begin has one
+    let begin = from / 64;
+    let bit = next_bit(word_at(words, begin), from % 64);
+    if bit < 64 {
+        return at_most(64 * begin + bit, below);
+    }
+    next_in_words(words, begin + 1, below)
+}
+
+// the first number of the words from one on, if it is below a bound; else the bound
+fn next_in_words(words: &[u64], from: usize, below: usize) -> usize
+    ensures up { result < below → 64 * from ≤ result }
+    ensures few { result ≤ below }
+    ensures has { result < below → IsTrue (has_bit_of (bits_of_words words.now) result) }
+    ensures none { (k : ℕ) → 64 * from ≤ k → k < result → has_bit_of (bits_of_words words.now) k ≡ false }
+{
+    are_words(words);
+    let end = words.len().min(below / 64 + 1);
+    for place in from..end {
+        let bit = next_bit(words[place], 0);
         if bit < 64 {
             return at_most(64 * place + bit, below);
         }
     }
     below
-}
-
-// where the numbers from one on begin in the word at a place
-fn begin_in(place: usize, from: usize) -> usize
-    ensures bit { result < 64 }
-    ensures up { from / 64 ≤ place → from ≤ 64 * place + result }
-    ensures all { (k : ℕ) → from ≤ k → 64 * place ≤ k → 64 * place + result ≤ k }
-{
-    if place > from / 64 {
-        return 0;
-    }
-    from % 64
 }
 
 fn at_most(number: usize, bound: usize) -> usize
@@ -206,6 +209,19 @@ fn join_each(words: &mut [u64], other: &[u64]) -> u64
     added
 }
 
+/// How many bits are set.
+pub fn count(words: &[u64]) -> u64
+    requires { count_ones (bits_of_words words.now) < 2 ^ 64 }
+    ensures { result ≡ count_ones (bits_of_words words.now) }
+{
+    are_words(words);
+    let mut found = 0;
+    for place in 0..words.len() {
+        found += words[place].count_ones() as u64;
+    }
+    found
+}
+
 /// The same words again.
 pub fn copied(alloc: Global, words: &[u64]) -> Result<Vec<u64>, Memory>
     ensures { IfOk result (λ copy. copy.items ≡ words.now) }
@@ -228,19 +244,8 @@ pub fn assign(words: &mut Vec<u64>, other: &[u64]) -> Result<(), Memory>
     ensures bits { OnOk result (bits_of_words words.new.items ≡ bits_of_words other.now) }
     ensures err { OnErr result (bits_of_words words.new.items ≡ bits_of_words words.old.items) }
 {
-    widen(words, other.len())?;
-    put_all(words.as_mut_slice(), other);
+    *words = copied(*words.allocator(), other)?;
     Ok(())
-}
-
-/// Makes the bits those of other words, of which there are no more.
-pub fn put_all(words: &mut [u64], other: &[u64])
-    requires { length other.now ≤ length words.old }
-    ensures { bits_of_words words.new ≡ bits_of_words other.now }
-{
-    for place in 0..words.len() {
-        words[place] = word_at(other, place);
-    }
 }
 
 /// The word at a place; past the end it is 0.

@@ -34,3 +34,4 @@ pub mod RuledExits
 pub mod RuledPoints
 pub mod ProperRows
 pub mod StartEntry
+pub mod MadeSets

@@ -253,11 +253,11 @@ fn put_number(
             *place = ends.len();
         }
         let mut numbers = NumberedSet::new(alloc, domain);
-        numbers.insert(number)?;
+        numbers.put(number)?;
         return ends.push(NumberEnd { numbers, target });
     };
     let end = ends.at_mut(place);
-    end.numbers.insert(number)?;
+    end.numbers.put(number)?;
     Ok(())
 }
 

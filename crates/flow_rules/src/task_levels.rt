@@ -160,7 +160,7 @@ impl TaskLevels {
         ensures judged { OnOk result (self.new.judged ≡ self.old.judged) }
     {
         let level = self.levels.at_mut(place);
-        level.numbers.insert(number)?;
+        level.numbers.put(number)?;
         Ok(())
     }
 

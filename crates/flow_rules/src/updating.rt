@@ -30,11 +30,12 @@ pub fn updated(
     ensures passed { IfOk result (IsPassedSet (making changes.now) pool.old component numbers.now pool.new) }
 {
     if let Some(place) = alone {
-        if let Update::Set(to) = &changes.at(place).update {
-            return replaced(alloc, to, pool, component, numbers);
-        }
+        return match &changes.at(place).update {
+            Update::Set(to) => replaced(alloc, to, pool, component, numbers),
+            update => pool.numbers_after(alloc, component, numbers, update),
+        };
     }
-    moved(alloc, changes, alone, pool, component, numbers)
+    moved(alloc, changes, pool, component, numbers)
 }
 
 // the number of a value that changes set, where there is one to be set
@@ -56,7 +57,7 @@ fn replaced(
         return Ok(new);
     }
     let number = pool.number(component, to.copy())?;
-    new.insert(number)?;
+    new.put(number)?;
     Ok(new)
 }
 
@@ -64,12 +65,10 @@ fn replaced(
 fn moved(
     alloc: Global,
     changes: &Seq<Change>,
-    alone: Option<usize>,
     pool: &mut Pool,
     component: usize,
     numbers: &NumberedSet,
 ) -> Result<NumberedSet, Memory>
-    requires alone { IfSome alone (IsAlone changes.now component) }
     requires known { component < length pool.old }
     requires alike { numbers.now.domain ≡ domain_at pool.old component }
     requires numbers { (n : ℕ) → IsTrue (has_number numbers.now n) → n < length (values_at pool.old component) }
@@ -81,7 +80,7 @@ fn moved(
     let count = pool.len(component);
     let mut number = numbers.next(0, count);
     while number < count {
-        put_updated(changes, alone, pool, component, number, &mut new)?;
+        put_updated(changes, pool, component, number, &mut new)?;
         number = numbers.next(number + 1, count);
     }
     Ok(new)
@@ -90,13 +89,11 @@ fn moved(
 // puts in the number of what changes make of the value with a number
 fn put_updated(
     changes: &Seq<Change>,
-    alone: Option<usize>,
     pool: &mut Pool,
     component: usize,
     number: usize,
     new: &mut NumberedSet,
 ) -> Result<(), Memory>
-    requires alone { IfSome alone (IsAlone changes.now component) }
     requires known { component < length pool.old }
     requires given { number < length (values_at pool.old component) }
     requires domain { (v : PartValue) → IsNumberOf (values_at pool.old component) v number → IsWithin (domain_at pool.old component) (value_after_of changes.now component v) }
@@ -104,32 +101,9 @@ fn put_updated(
     ensures passed { OnOk result ((before : List Values) (d : Domain) (done : List PartValue) (v : PartValue) → IsNumberOf (values_at pool.old component) v number →
         IsPassedSoFar (making changes.now) before component d done pool.old new.old → IsPassedSoFar (making changes.now) before component d (done ++ v ∷ []) pool.new new.new) }
 {
-    let made = number_after(changes, alone, pool, component, number)?;
-    new.insert(made)?;
-    Ok(())
-}
-
-// the number of what changes make of the value with a number
-fn number_after(
-    changes: &Seq<Change>,
-    alone: Option<usize>,
-    pool: &mut Pool,
-    component: usize,
-    number: usize,
-) -> Result<usize, Memory>
-    requires alone { IfSome alone (IsAlone changes.now component) }
-    requires known { component < length pool.old }
-    requires given { number < length (values_at pool.old component) }
-    requires domain { (v : PartValue) → IsNumberOf (values_at pool.old component) v number → IsWithin (domain_at pool.old component) (value_after_of changes.now component v) }
-    ensures pool { OnOk result ((v : PartValue) → IsNumberOf (values_at pool.old component) v number → pool.new ≡ slice_set pool.old component (value_seen (seen_at pool.old component) (value_after_of changes.now component v))) }
-    ensures number { IfOk result (λ n. (v : PartValue) → IsNumberOf (values_at pool.old component) v number → IsNumberOf (values_at pool.new component) (value_after_of changes.now component v) n) }
-    ensures err { OnErr result (pool.new ≡ pool.old) }
-{
-    if let Some(place) = alone {
-        // mostly one change alone says it, and then no value is made
-        return pool.number_after(component, number, &changes.at(place).update);
-    }
     let before = pool.value(component, number);
     let after = value_after(changes.as_slice(), component, &before);
-    pool.number(component, after)
+    let made = pool.number(component, after)?;
+    new.put(made)?;
+    Ok(())
 }

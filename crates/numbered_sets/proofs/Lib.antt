@@ -17,3 +17,4 @@ pub mod CountedNumbers
 pub mod RowsByNumber
 pub mod WrittenRows
 pub mod WithinLaws
+pub mod MadeLaws

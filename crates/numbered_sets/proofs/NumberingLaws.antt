@@ -19,7 +19,7 @@ use Rattle.numbered_sets.proofs.{ViewLaws.{false_unless, extended_by_none, longe
 pub longer_itself : (pool : List Values) → IsLonger pool pool
 longer_itself pool = record { domains = refl; values = λ c. extended_by_none (values_at pool c) }
 
-extended_onward : (us vs ws : List PartValue) → IsExtended us vs → IsExtended vs ws → IsExtended us ws
+pub extended_onward : (us vs ws : List PartValue) → IsExtended us vs → IsExtended vs ws → IsExtended us ws
 extended_onward us vs ws h k = record { more = h.more ++ k.more; is = k.is ∙ ap (λ (xs : List PartValue). xs ++ k.more) h.is ∙ append_assoc us h.more k.more }
 
 pub longer_onward : (a b c : List Values) → IsLonger a b → IsLonger b c → IsLonger a c

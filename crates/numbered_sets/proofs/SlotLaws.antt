@@ -1,5 +1,5 @@
 -- Slots of values: each is the only one of its value, and stays as more stacks come in.
-use Rattle.std.proofs.Common.{◌≡◌, ◌≢◌, ◌⊎◌, ℕ, zero, suc, ◌+◌, ◌-◌, ◌*◌, ◌/◌, ◌%◌, ◌^◌, ◌<◌, Bool, false, List, [], ◌∷◌, ◌++◌, length, get_or, cond, refl, sym, ap, ap₂, subst, ◌∙◌, inl, inr, arith}
+use Rattle.std.proofs.Common.{◌≡◌, ◌≢◌, ℕ, zero, suc, ◌+◌, ◌-◌, ◌*◌, ◌/◌, ◌%◌, ◌^◌, ◌<◌, Bool, false, List, [], ◌∷◌, ◌++◌, length, get_or, cond, refl, sym, ap, ap₂, subst, ◌∙◌, inl, inr, arith}
 use Rattle.std.specs.{Prelude.{Option, Some, None, IfSome, IfNone}, List.{list_any}}
 use Rattle.std.proofs.Math.{Nat.{div-lt_iff_lt-mul, div-add-mod, mul_comm}, Seq.{get_or-append_seam}}
 use Rattle.std.proofs.lemmas.{Bool.{cases_lt}, Nat.{div-mul-add, mod-mul-add}, List.{append-nil, length-append, length-map, map-append, get_or-map, get_or_append_left}, Map.Views.{Contains-from_any}}

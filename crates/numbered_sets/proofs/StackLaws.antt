@@ -1,5 +1,5 @@
 -- Stacks by number: what a search among their keys says of them.
-use Rattle.std.proofs.Common.{◌≡◌, ◌≢◌, ℕ, ◌+◌, ◌^◌, ◌<◌, ◌≤◌, Bool, true, false, List, [], ◌∷◌, ◌++◌, length, get_or, cond, refl, sym, ap, ◌∙◌, inl, inr, arith}
+use Rattle.std.proofs.Common.{◌≡◌, ◌≢◌, ℕ, ◌^◌, ◌<◌, ◌≤◌, Bool, true, false, List, [], ◌∷◌, ◌++◌, length, get_or, cond, refl, sym, ap, ◌∙◌, inl, inr, arith}
 use Rattle.std.specs.{Prelude.{Option, Some, None, is_some, IfSome, IfNone, position, slice_get}, List.{list_any, IsDistinct}}
 use Rattle.std.proofs.lemmas.{Bool.{cases_Bool, cases_lt}, List.{append-nil, length-append, length-map, map-append, get_or-map, Folds.{list_any_at}, Quantifiers.{position-Some}}, Map.Keys.{apart_from_distinct}, Option.{get_or_from_slice_get}}
 use Rattle.indexmap.specs.IndexSet.{insert_key}

@@ -9,4 +9,5 @@ pub mod SetLists
 pub mod Views
 pub mod PlainTables
 pub mod Counts
+pub mod Made
 pub mod Within

@@ -34,7 +34,7 @@ impl Model for NumberedSets {
 impl NumberedSets {
     ghost use Rattle.std.specs.Prelude.{ℕ, false, IsTrue, ◌≡◌, ◌<◌, ◌≤◌, ◌+◌, ◌^◌, ◌==◌, not, length, map, slice_set, IfOk, OnOk, OnErr, EachIndex, SomeIndex};
     ghost use Rattle.std.specs.Bool.{OnTrue, OnFalse};
-    ghost use Rattle.numbered_sets.specs.{Numbers.{numbers, has_number, with_number, kept_numbers, other_numbers, meets}, SetLists.{set_of, all_numbers, AreJoined}};
+    ghost use Rattle.numbered_sets.specs.{Numbers.{numbers, has_number, with_number, kept_numbers, other_numbers, number_count, meets}, SetLists.{set_of, all_numbers, AreJoined}};
 
     /// The sets without a number, for a component of each domain.
     pub fn new(alloc: Global, domains: &[Domain]) -> Result<NumberedSets, Memory>
@@ -92,6 +92,18 @@ impl NumberedSets {
             further::of(&self.more, component),
             from,
             below,
+        )
+    }
+
+    /// How many numbers a component's set has.
+    pub fn count(&self, component: usize) -> u64
+        requires { number_count (set_of self.now component) < 2 ^ 64 }
+        ensures { result ≡ number_count (set_of self.now component) }
+    {
+        split_words::count(
+            words::word_at(self.low.as_slice(), component),
+            words::word_at(self.high.as_slice(), component),
+            further::of(&self.more, component),
         )
     }
 

@@ -5,6 +5,7 @@
 mod counts;
 mod flat_sets;
 pub mod laws;
+mod moving;
 mod numbered_entry;
 mod numbered_form;
 mod numbered_set;

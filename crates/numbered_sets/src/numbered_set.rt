@@ -44,6 +44,26 @@ impl NumberedSet {
         }
     }
 
+    /// The same with room for as many numbers as another set has words for.
+    pub fn beside(alloc: Global, other: &NumberedSet) -> Result<NumberedSet, Memory>
+        ensures { IfOk result (λ set. set ≡ numbers other.now.domain 0) }
+    {
+        let more = words::clear_words(alloc, other.more.len())?;
+        Ok(NumberedSet {
+            domain: other.domain,
+            low: 0,
+            high: 0,
+            more,
+        })
+    }
+
+    /// Gives up the words after the last number. No number changes.
+    pub fn trim(&mut self)
+        ensures { self.new ≡ self.old }
+    {
+        words::trim(&mut self.more);
+    }
+
     /// What its numbers are numbers of.
     pub fn domain(&self) -> Domain
         ensures { result ≡ self.now.domain }
@@ -82,7 +102,8 @@ impl NumberedSet {
         Ok(true)
     }
 
-    fn put(&mut self, number: usize) -> Result<(), Memory>
+    /// Puts a number in the set.
+    pub fn put(&mut self, number: usize) -> Result<(), Memory>
         ensures set { OnOk result (self.new ≡ with_number self.old number) }
         ensures err { OnErr result (self.new ≡ self.old) }
     {

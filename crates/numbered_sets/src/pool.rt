@@ -2,6 +2,7 @@
 ghost use Rattle.std.specs.Prelude.{◌≡◌};
 
 use crate::numbered_entry::NumberedEntry;
+use crate::numbered_set::NumberedSet;
 use crate::shared_values::SharedValues;
 use abstract_state::{Domain, PartValue};
 use flow_model::{Test, Update};
@@ -25,11 +26,11 @@ impl Model for Pool {
 }
 
 impl Pool {
-    ghost use Rattle.std.specs.Prelude.{◌≡◌, ◌<◌, length, map, slice_set, IfOk, OnOk, OnErr, IfSome, All};
+    ghost use Rattle.std.specs.Prelude.{ℕ, ◌≡◌, ◌<◌, length, map, slice_set, IfOk, OnOk, OnErr, IfSome, IsTrue, All};
     ghost use Rattle.abstract_state.specs.{declared.value.PartValue.{PartValue}, Domains.{IsWithin, domain_size}, Tables.{is_member}};
     ghost use Rattle.flow_model.specs.Tests.{updated};
-    ghost use Rattle.numbered_sets.specs.{Passing.{IsSifted}, Pools.{no_values, value_seen, seen_at, values_at, domain_at, AreValues, IsNumberOf, IsBeside}};
-    ghost use Rattle.numbered_sets.specs.{NumberedEntries.{numbers_at}, Views.{plain_set}};
+    ghost use Rattle.numbered_sets.specs.{Passing.{IsSifted}, Pools.{no_values, value_seen, seen_at, values_at, domain_at, AreValues, IsNumberOf, IsBeside, IsLonger}};
+    ghost use Rattle.numbered_sets.specs.{Numbers.{has_number}, NumberedEntries.{numbers_at}, Views.{plain_set}, Made.{AreMade}};
 
     /// A pool without values, for a component of each domain.
     pub fn new(alloc: Global, domains: &[Domain]) -> Result<Pool, Memory>
@@ -69,23 +70,23 @@ impl Pool {
         Ok(number)
     }
 
-    /// The number of what an update makes of a component's value with a number, which comes in last where it is new.
-    pub fn number_after(
+    /// The numbers of what an update makes of a component's values with the numbers of a set. Those that are new come in
+    /// last, also where memory is wanted.
+    pub fn numbers_after(
         &mut self,
+        alloc: Global,
         component: usize,
-        number: usize,
+        numbers: &NumberedSet,
         update: &Update,
-    ) -> Result<usize, Memory>
+    ) -> Result<NumberedSet, Memory>
         requires known { component < length self.old }
-        requires given { number < length (values_at self.old component) }
-        requires within { (v : PartValue) → IsNumberOf (values_at self.old component) v number → IsWithin (domain_at self.old component) (updated update.now v) }
-        ensures pool { OnOk result ((v : PartValue) → IsNumberOf (values_at self.old component) v number → self.new ≡ slice_set self.old component (value_seen (seen_at self.old component) (updated update.now v))) }
-        ensures number { IfOk result (λ n. (v : PartValue) → IsNumberOf (values_at self.old component) v number → IsNumberOf (values_at self.new component) (updated update.now v) n) }
-        ensures err { OnErr result (self.new ≡ self.old) }
+        requires given { (n : ℕ) → IsTrue (has_number numbers.now n) → n < length (values_at self.old component) }
+        requires within { (n : ℕ) (v : PartValue) → IsTrue (has_number numbers.now n) → IsNumberOf (values_at self.old component) v n → IsWithin (domain_at self.old component) (updated update.now v) }
+        ensures pool { IsLonger self.old self.new }
+        ensures made { IfOk result (AreMade (updated update.now) (values_at self.new component) numbers.now (length (values_at self.old component))) }
     {
         let seen = self.components.at_mut(component);
-        let after = seen.number_after(number, update)?;
-        Ok(after)
+        seen.numbers_after(alloc, numbers, update)
     }
 
     /// How many values a component was seen with.

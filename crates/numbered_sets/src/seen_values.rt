@@ -47,7 +47,7 @@ impl Clone for SeenValues {
 impl SeenValues {
     ghost use Rattle.std.specs.{Prelude.{◌≡◌, ◌<◌, false, length, IfOk, OnOk, OnErr, IfSome, IfNone}, List.{list_any}, Bool.{OnTrue}};
     ghost use Rattle.abstract_state.specs.{declared.value.PartValue.{PartValue}, Domains.{IsWithin, domain_size}, ValueOrder.{same_part}};
-    ghost use Rattle.flow_model.specs.Tests.{updated};
+    ghost use Rattle.flow_model.specs.{declared.change.Update.TheVariants.{Block}, Tests.{updated}};
     ghost use Rattle.numbered_sets.specs.Pools.{no_values, value_seen, AreValues, IsNumberOf, IsBeside};
 
     /// No value yet.
@@ -126,19 +126,16 @@ impl SeenValues {
         self.number(&value)
     }
 
-    /// The number of what an update makes of the value with a number, if it was seen.
-    pub fn found_after(&self, number: usize, update: &Update) -> Option<usize>
+    /// The number of what the value with a number is at a block, if it was seen.
+    pub fn found_at(&self, number: usize, block: BlockNo) -> Option<usize>
         requires { number < length self.now.values }
-        ensures { IfSome result (λ n. (v : PartValue) → IsNumberOf self.now.values v number → IsNumberOf self.now.values (updated update.now v) n) }
+        ensures { IfSome result (λ n. (v : PartValue) → IsNumberOf self.now.values v number → IsNumberOf self.now.values (updated (Block block) v) n) }
     {
-        if let Update::Block(block) = update {
-            let slot = self.slots.at(number);
-            if let Some(moved) = slot_at_block(self.domain, &self.stacks, slot, *block) {
-                return self.slots.find(moved);
-            }
+        let slot = self.slots.at(number);
+        match slot_at_block(self.domain, &self.stacks, slot, block) {
+            None => None,
+            Some(moved) => self.slots.find(moved),
         }
-        let value = update.of(&self.value(number));
-        self.number_of(&value)
     }
 
     /// The number of what a Live value would be at the block before its own, if it was seen.

@@ -1,6 +1,7 @@
 //! The values of one domain that were seen, which pools may share.
 ghost use Rattle.std.specs.Prelude.{◌≡◌};
 
+use crate::numbered_set::NumberedSet;
 use crate::seen_values::SeenValues;
 use abstract_state::{Domain, PartValue};
 use flow_model::Update;
@@ -24,10 +25,10 @@ impl Model for SharedValues {
 }
 
 impl SharedValues {
-    ghost use Rattle.std.specs.Prelude.{◌≡◌, ◌<◌, length, IfOk, OnOk, OnErr};
+    ghost use Rattle.std.specs.Prelude.{ℕ, ◌≡◌, ◌<◌, length, IfOk, OnOk, OnErr, IsTrue};
     ghost use Rattle.abstract_state.specs.{declared.value.PartValue.{PartValue}, Domains.{IsWithin, domain_size}};
     ghost use Rattle.flow_model.specs.Tests.{updated};
-    ghost use Rattle.numbered_sets.specs.Pools.{no_values, value_seen, IsNumberOf};
+    ghost use Rattle.numbered_sets.specs.{Numbers.{has_number}, Pools.{no_values, value_seen, IsNumberOf, IsExtended}, Made.{AreMade}};
 
     /// No value yet.
     pub fn new(alloc: Global, domain: Domain) -> Result<SharedValues, Memory>
@@ -66,25 +67,30 @@ impl SharedValues {
         Ok(number)
     }
 
-    /// The number of what an update makes of the value with a number, which comes in last where it is new.
-    pub fn number_after(&mut self, number: usize, update: &Update) -> Result<usize, Memory>
-        requires known { number < length self.old.values }
-        requires within { (v : PartValue) → IsNumberOf self.old.values v number → IsWithin self.old.domain (updated update.now v) }
-        ensures values { OnOk result ((v : PartValue) → IsNumberOf self.old.values v number → self.new ≡ value_seen self.old (updated update.now v)) }
-        ensures number { IfOk result (λ n. (v : PartValue) → IsNumberOf self.old.values v number → IsNumberOf self.new.values (updated update.now v) n) }
-        ensures err { OnErr result (self.new ≡ self.old) }
+    /// The numbers of what an update makes of the values with the numbers of a set. Those that are new come in last, also
+    /// where memory is wanted.
+    pub fn numbers_after(
+        &mut self,
+        alloc: Global,
+        numbers: &NumberedSet,
+        update: &Update,
+    ) -> Result<NumberedSet, Memory>
+        requires known { (n : ℕ) → IsTrue (has_number numbers.now n) → n < length self.old.values }
+        requires within { (n : ℕ) (v : PartValue) → IsTrue (has_number numbers.now n) → IsNumberOf self.old.values v n → IsWithin self.old.domain (updated update.now v) }
+        ensures domain { self.new.domain ≡ self.old.domain }
+        ensures grown { IsExtended self.old.values self.new.values }
+        ensures made { IfOk result (AreMade (updated update.now) self.new.values numbers.now (length self.old.values)) }
     {
         if self.is_shared() {
-            if let Some(after) = self.seen.found_after(number, update) {
-                return Ok(after);
+            if let Some(found) = self.seen.found_after(alloc, numbers, update)? {
+                return Ok(found);
             }
             self.make_own()?;
         }
         let Some(own) = Rc::get_mut(&mut self.seen) else {
             return Err(Memory);
         };
-        let after = own.number_after(number, update)?;
-        Ok(after)
+        own.numbers_after(alloc, numbers, update)
     }
 
     // Whether another pool has them too. Then a value is looked up first, so that none that is there makes a copy.

@@ -79,6 +79,6 @@ impl Table {
         ensures { result ≡ value_count self.now }
     {
         self.pool.are_values();
-        count_rows(&self.pool, self.rows.as_slice())
+        count_rows(self.rows.as_slice())
     }
 }

@@ -12,7 +12,7 @@ returns-in_default-clause-some c =
     let n = c.args.number in
     let d = c.args.domain in
     let xs = c.args.ends.now in
-    let is : c.insert.new.self ≡ with_number (numbers d 0) n = c.in_ok-insert.ensures.set ∙ ap (λ (x : Numbers). with_number x n) c.new-numbers.ensures in
+    let is : c.put.new.self ≡ with_number (numbers d 0) n = c.in_ok-put.ensures.set ∙ ap (λ (x : Numbers). with_number x n) c.new-numbers.ensures in
     on_ok_weaker c.push.result
     (λ pushed. some_new d (point.Task c.args.block) n xs c.push.new.self (pushed ∙ ap (λ (x : Numbers). xs ++ (record { numbers = x; target = point.Task c.args.block }) ∷ []) is)) c.push.ensures.ok
 
@@ -21,7 +21,7 @@ returns-in_default-clause-put c =
     let n = c.args.number in
     let d = c.args.domain in
     let xs = c.args.ends.now in
-    let is : c.insert.new.self ≡ with_number (numbers d 0) n = c.in_ok-insert.ensures.set ∙ ap (λ (x : Numbers). with_number x n) c.new-numbers.ensures in
+    let is : c.put.new.self ≡ with_number (numbers d 0) n = c.in_ok-put.ensures.set ∙ ap (λ (x : Numbers). with_number x n) c.new-numbers.ensures in
     on_ok_weaker c.push.result
     (λ pushed. end_new d (point.Task c.args.block) n xs c.push.new.self (pushed ∙ ap (λ (x : Numbers). xs ++ (record { numbers = x; target = point.Task c.args.block }) ∷ []) is)) c.push.ensures.ok
 
@@ -29,12 +29,12 @@ returns-in_default-clause-put c =
 pub returns-clause-some : goal.returns-clause-some
 returns-clause-some c =
     let old = c.at_mut-end.result.now in
-    let new : NumberEnd = record old { numbers = c.insert-2.new.self } in
-    some_there (point.Task c.args.block) c.args.number c.args.ends.now c.in-Some.place c.in-Some.ensures.0 old new c.at_mut-end.ensures.item (ap (λ (e : NumberEnd). e.target) (sym (c.at_mut-end.ensures.item old)) ∙ c.in-Some.ensures.1 old) refl c.in_ok-insert-2.ensures.set
+    let new : NumberEnd = record old { numbers = c.put-2.new.self } in
+    some_there (point.Task c.args.block) c.args.number c.args.ends.now c.in-Some.place c.in-Some.ensures.0 old new c.at_mut-end.ensures.item (ap (λ (e : NumberEnd). e.target) (sym (c.at_mut-end.ensures.item old)) ∙ c.in-Some.ensures.1 old) refl c.in_ok-put-2.ensures.set
     c.args.domain _ refl
 
 pub returns-clause-put : goal.returns-clause-put
 returns-clause-put c =
     let old = c.at_mut-end.result.now in
-    let new : NumberEnd = record old { numbers = c.insert-2.new.self } in
-    end_there (point.Task c.args.block) c.args.number c.args.ends.now c.in-Some.place c.in-Some.ensures.0 old new c.at_mut-end.ensures.item (ap (λ (e : NumberEnd). e.target) (sym (c.at_mut-end.ensures.item old)) ∙ c.in-Some.ensures.1 old) refl c.in_ok-insert-2.ensures.set _ refl
+    let new : NumberEnd = record old { numbers = c.put-2.new.self } in
+    end_there (point.Task c.args.block) c.args.number c.args.ends.now c.in-Some.place c.in-Some.ensures.0 old new c.at_mut-end.ensures.item (ap (λ (e : NumberEnd). e.target) (sym (c.at_mut-end.ensures.item old)) ∙ c.in-Some.ensures.1 old) refl c.in_ok-put-2.ensures.set _ refl

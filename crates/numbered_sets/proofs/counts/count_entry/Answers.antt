@@ -3,10 +3,15 @@ use Rattle.numbered_sets.specs.{Numbers.{number_count}, NumberedEntries.{no_set}
 use Rattle.numbered_sets.proofs.CountedNumbers.{counted_more}
 use Rattle.numbered_sets.proofs.counts.count_entry.Goals as goal
 
-pub count_set-found-requires : goal.count_set-found-requires
-count_set-found-requires c = λ n has.
-    let known = c.requires.numbers.known c.loop-component.component n has in
-    omega (arith, known, c.len.ensures)
+pub count-found-requires : goal.count-found-requires
+count-found-requires c =
+    let sets = c.args.entry.now.sets in
+    let k = c.loop-component.component in
+    let there : k < length sets = omega (arith, c.loop-component-test.true, c.len-component-end.ensures) in
+    let x = get_or sets k no_set in
+    let more = counted_more number_count sets k x there (get_or_default sets k x no_set there) in
+    let all = sum_by-take-le number_count sets (k + 1) in
+    omega (arith, more, all, c.requires)
 
 pub overflow_add-found : goal.overflow_add-found
 overflow_add-found c =
@@ -16,7 +21,7 @@ overflow_add-found c =
     let x = get_or sets k no_set in
     let more = counted_more number_count sets k x there (get_or_default sets k x no_set there) in
     let all = sum_by-take-le number_count sets (k + 1) in
-    let fits : c.loop-component.found + c.count_set-found.result < 2 ^ 64 = omega (arith, c.loop-component.invariant, c.count_set-found.ensures, more, all, c.requires.few) in
+    let fits : c.loop-component.found + c.count-found.result < 2 ^ 64 = omega (arith, c.loop-component.invariant, c.count-found.ensures, more, all, c.requires) in
     search (rules, fits)
 
 pub loop-component-preserved : goal.loop-component-preserved
@@ -26,4 +31,4 @@ loop-component-preserved c =
     let there : k < length sets = omega (arith, c.loop-component-test.true, c.len-component-end.ensures) in
     let x = get_or sets k no_set in
     let more = counted_more number_count sets k x there (get_or_default sets k x no_set there) in
-    omega (arith, c.loop-component.invariant, c.count_set-found.ensures, more)
+    omega (arith, c.loop-component.invariant, c.count-found.ensures, more)

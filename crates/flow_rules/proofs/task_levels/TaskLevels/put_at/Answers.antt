@@ -10,7 +10,7 @@ returns-clause-levels c = λ app u vs v h is live.
     let place = c.args.place in
     let level = c.at_mut-level.result.now in
     let at = c.at_mut-level.ensures.item level in
-    let numbers : c.insert.new.self ≡ with_number level.numbers x.judged = c.in_ok-insert.ensures.set ∙ ap (with_number level.numbers) c.requires.next in
+    let numbers : c.put.new.self ≡ with_number level.numbers x.judged = c.in_ok-put.ensures.set ∙ ap (with_number level.numbers) c.requires.next in
     subst (λ (y : Numbers). AreTaskLevels app u vs (with_next (record x { levels = set x.levels place (record level { numbers = y }) }))) (sym numbers)
     (level_judged app u vs x v h (subst (IsNumberOf vs v) c.requires.next is) place level c.requires.known at
     (subst (λ (l : Level). IsLiveAt app u l.priority v) at (live level)))

@@ -4,8 +4,8 @@ use Rattle.numbered_sets.specs.Counts.{row_numbers}
 use Rattle.numbered_sets.proofs.CountedNumbers.{values_are_numbers}
 use Rattle.numbered_sets.proofs.table.Table.values.Goals as goal
 
-pub count_rows-requires-clause-few : goal.count_rows-requires-clause-few
-count_rows-requires-clause-few c =
+pub count_rows-requires : goal.count_rows-requires
+count_rows-requires c =
     let same = values_are_numbers c.self.inside.pool c.self.inside.rows c.are_values.ensures c.self.invariant in
     let whole = ap value_count c.self.view_is in
     let slice = ap row_numbers c.as_slice.ensures in
