@@ -10,36 +10,9 @@ use Rattle.osek_standard.specs.Apps.{tables, the_isr, the_task, no_isr, no_resou
 use Rattle.osek_standard.specs.{Validity.{IsClosed, IsInternal}, TaskStates.{held, holds, is_inside}, States.{is_interrupted, source_state, task_of, task_state}}
 use Rattle.osek_standard.specs.{Levels.{highest_level, interrupt_ceiling, level, own_level, routine_level, task_level}, Internal.{internal_of, occupied}, Well.{Well, IsProcessor, IsRunningAt, IsStack}}
 use Rattle.osek_standard.specs.declared.state.Source.TheVariants as source
-use Rattle.osek_standard.proofs.{Members.{Among, among_range}, StackLaws.{IsTakable, push_stack}, WellLaws.{out_at_task_level}}
-use Rattle.abstract_state.proofs.AloneLaws.{Interrupts}
-
-module _ {X : Type 0} (f : X → ℕ) where
-  -- the greatest of a number and of what the elements give
-  abbrev greatest : ℕ → List X → ℕ
-  greatest n xs = fold (λ m x. max m (f x)) n xs
-
-  greatest_from : (n : ℕ) (xs : List X) → n ≤ greatest n xs
-  greatest_from n [] = omega arith
-  greatest_from n (x ∷ xs) = omega (arith, greatest_from (max n (f x)) xs)
-
-  greatest_of : (n : ℕ) (xs : List X) (x : X) → Among x xs → f x ≤ greatest n xs
-  greatest_of n [] x m = absurd m
-  greatest_of n (y ∷ xs) x (inl e) = omega (arith, greatest_from (max n (f y)) xs, ap f e)
-  greatest_of n (y ∷ xs) x (inr m) = greatest_of (max n (f y)) xs x m
-
-  greatest_is : (n : ℕ) (xs : List X) → ((x : X) → Among x xs → f x ≡ 0) → greatest n xs ≡ n
-  greatest_is n [] none = refl
-  greatest_is n (x ∷ xs) none = greatest_is (max n (f x)) xs (λ y m. none y (inr m)) ∙ omega (arith, none x (inl refl))
+use Rattle.osek_standard.proofs.{LevelLaws.{greatest_is, level_of_task}, StackLaws.{IsTakable, push_stack}}
 
 module _ (app : App) where
-  own_or_more : (n : ℕ) (held : List ResNo) → n ≤ highest_level app n held
-  unfolding highest_level
-  own_or_more n held = greatest_from (λ (r : ResNo). interrupt_ceiling app r.0) n held
-
-  runs_above : (k : ℕ) (x : Source) → IsRunningAt app k x → 0 < routine_level app k x
-  runs_above k source.Out h = absurd h
-  runs_above k (source.In x) h = omega (arith, own_or_more (own_level app k) x.held)
-
   isr_lowest : (i : ℕ) → (the_isr app i).priority ≡ 0
   unfolding IsClosed
   isr_lowest i = elim (cases_lt i (length app.isrs)) [
@@ -53,16 +26,6 @@ module _ (app : App) where
     | inl e ↦ (rw e refl)
     | inr e ↦ (rw e (isr_lowest (k - length app.counters)))
   ]
-
-  module _ (s : State) (w : Well app s) where
-    -- so none begins over another routine
-    pub level_above : (k : SourceNo) (over : Option TaskNo) → Interrupts s k over → 0 < level app s
-    unfolding level
-    level_above k over at =
-        let h = subst (IsProcessor app s) at w.processor in
-        let there : k.0 < length s.sources = omega (arith, h.known, w.sources_len) in
-        let least = greatest_of (λ (l : ℕ). routine_level app l (source_state s l)) (task_level app s (task_of s.processor)) (range_with_len 0 (length s.sources)) k.0 (among_range 0 (length s.sources) k.0 (omega arith) (omega (arith, there))) in
-        omega (arith, least, runs_above k.0 (source_state s k.0) h.runs)
 
   pub ceiling_lowest : (r : ℕ) → interrupt_ceiling app r ≡ 0
   unfolding IsClosed
@@ -78,11 +41,7 @@ module _ (app : App) where
 
   -- at task level every source may begin
   pub level_lowest : (s : State) → Well app s → is_interrupted s.processor ≡ false → level app s ≡ 0
-  unfolding level
-  level_lowest s w e =
-      let out = out_at_task_level app s s.processor w.processor e in
-      greatest_is (λ (k : ℕ). routine_level app k (source_state s k)) (task_level app s (task_of s.processor)) (range_with_len 0 (length s.sources)) (λ k _. ap (routine_level app k) (out k))
-      ∙ lowest_of_task s (task_of s.processor)
+  level_lowest s w e = level_of_task app s w e ∙ lowest_of_task s (task_of s.processor)
 
   no_internal_by : (o : Option ResNo) → IsInternal (tables app) o → o ≡ None
   unfolding IsClosed

@@ -9,14 +9,14 @@ use Rattle.osek_standard.specs.Dispatch.{Outcome, Keep, To, Stepped, if_any, ins
 use Rattle.osek_standard.specs.{Kernel.{entered_or, initial, run_by, start, step}, Well.{Well, AreOut, IsProcessor}}
 use Rattle.osek_standard.specs.declared.state.Source.TheVariants as source
 use Rattle.osek_standard.specs.declared.state.Processor.TheVariants as processor
-use Rattle.osek_standard.proofs.{ArrivalLaws.{all_below}, StepKeeps.{initial_is_well, instruction_keeps, start_is_well}}
+use Rattle.osek_standard.proofs.{ArrivalLaws.{all_below}, LevelLaws.{level_above}, StepKeeps.{initial_is_well, instruction_keeps, start_is_well}}
 use Rattle.abstract_state.specs.Regular.{IsRegular}
-use Rattle.abstract_state.proofs.{AloneLaws.{IsAlone, Interrupts, effect_alone}, ClosedLaws.{lowest, level_above}}
+use Rattle.abstract_state.proofs.{AloneLaws.{IsAlone, Interrupts, effect_alone}, ClosedLaws.{lowest}}
 
 module _ (app : App) where
   -- no routine begins over another
   pub none_over : (s : State) → Well app s → (k : SourceNo) (over : Option TaskNo) → Interrupts s k over → arrival app s ≡ None
-  none_over s w k over at = all_below app s (λ l set. omega (arith, lowest app l, level_above app s w k over at))
+  none_over s w k over at = all_below app s (λ l set. omega (arith, lowest app l, level_above app s w k over (subst (IsProcessor app s) at w.processor)))
 
   entered_alone : (s : State) (k : SourceNo) → AreOut app s → IsAlone (entered app s k)
   entered_alone s k out l f = get_or-set_other s.sources k.0 l (source.In (begun app k.0)) source.Out (λ e. false≢true (sym f ∙ eq-eqb k.0 l (sym e))) ∙ out l

@@ -89,13 +89,16 @@ fn task_level(app: &App, state: &State) -> u32
 }
 
 /// The interrupt level: the greatest of those of the routines that began and haven't ended, and of the task that runs or is
-/// interrupted.
+/// interrupted. At task level no routine is in.
 #[tactic(auto, unfolding(osek_standard::specs::Levels::level))]
 pub fn level(app: &App, state: &State) -> u32
     requires { Well app.now state.now }
     ensures { result ≡ level_of app.now state.now }
 {
     let mut level = task_level(app, state);
+    if !state.processor.is_interrupted() {
+        return level;
+    }
     for source in 0..state.sources.len() {
         level = level.max(routine_level(app, state, SourceNo(source as u8)));
     }

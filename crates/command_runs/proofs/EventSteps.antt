@@ -4,8 +4,10 @@ use Rattle.std.specs.{Prelude.{if◌then◌else◌}, declared.{option.Option.{Op
 use Rattle.osek_values.specs.declared.{event.Event.{Event}, notes.Notes.{Notes}}
 use Rattle.osek_standard.specs.{declared.state.State.{State}, Dispatch.{Stepped, stepped}}
 use Rattle.image_model.specs.{declared.image.Image.{Image}, ImageStep.{image_step}}
-use Rattle.image_run.specs.{Machines.{AtWork, Turn, turned, turned_by, turn}, Noted.{noted_if}}
-use Rattle.command_runs.specs.{Playing.{Given, played, line_of, HeldAnswers, AnswersEvent}, declared.{showing.Showing.{Showing}, stop.Stop.{Stop}}}
+use Rattle.image_run.specs.{Machines.{AtWork, Turn, turned, turned_by, turn}, Noted.{noted_if}, Quiet.{KeepsTasks}}
+use Rattle.trace_text.specs.LineParts.{tasks_text}
+use Rattle.command_runs.proofs.QuietLines.{same_text}
+use Rattle.command_runs.specs.{Playing.{Given, played, line_of, HeldAnswers, AnswersEvent}, declared.{showing.Showing.{Showing, TheVariants.{Trace}}, stop.Stop.{Stop}}}
 
 -- a turn of a machine that didn't trap is a step of its image
 pub turn_is : (m : AtWork) (e : Event) (t : Turn) → m.trapped ≡ false → turn m e ≡ t → turned_by m (image_step m.image m.state e) ≡ t
@@ -44,3 +46,17 @@ event_put old mid new w i j n k s o x r is held image number state h =
           (subst (λ (m : ℕ). HeldAnswers mid new (played (line_of w i m x) (Ok tt)) r) number
           (subst (λ (l : Image). HeldAnswers mid new (played (line_of w l k x) (Ok tt)) r) image h)),
     )
+
+-- the line is the same where the machine, the number and what was printed are
+pub line_put : (old mid new : Given) (m k : AtWork) (n j : ℕ) (notes : Notes) (r : Result (Unit {0}) Stop) → mid ≡ old → k ≡ m → j ≡ n →
+    HeldAnswers mid new (played (line_of Trace k.image j (stepped k.state notes)) (Ok tt)) r → HeldAnswers old new (played (line_of Trace m.image n (stepped m.state notes)) (Ok tt)) r
+line_put old mid new m k n j notes r given machine number h =
+    subst (λ (p : Given). HeldAnswers p new (played (line_of Trace m.image n (stepped m.state notes)) (Ok tt)) r) given
+    (subst (λ (w : AtWork). HeldAnswers mid new (played (line_of Trace w.image n (stepped w.state notes)) (Ok tt)) r) machine
+    (subst (λ (i : ℕ). HeldAnswers mid new (played (line_of Trace k.image i (stepped k.state notes)) (Ok tt)) r) number h))
+
+-- after a quiet step, and after a trap, a line shows the same of the tasks
+pub same_tasks : (m new : AtWork) (o : Option Stepped) (n : Option Notes) → ((x : Stepped) → o ≡ Some x → KeepsTasks m.state x.state) → turned_by m o ≡ turned new n
+    → tasks_text m.image.app m.state ≡ tasks_text new.image.app new.state
+same_tasks m new None n quiet e = ap (λ (t : Turn). tasks_text t.machine.image.app t.machine.state) e
+same_tasks m new (Some x) n quiet e = sym (same_text m.state x.state (quiet x refl) m.image.app) ∙ ap (λ (t : Turn). tasks_text t.machine.image.app t.machine.state) e

@@ -1,4 +1,5 @@
 pub mod EndedLines
+pub mod QuietLines
 pub mod EventSteps
 pub mod FaultlessReads
 pub mod FedPlays

@@ -5,7 +5,7 @@ ghost use Rattle.osek_io.specs.{Counts.{Rose}, Reads.{OnlyReads}, Stored.{Writes
 ghost use Rattle.image_model.specs.{ImageStep.{image_step}, ImageTrace.{trap_line}};
 ghost use Rattle.command_runs.specs.Inputs.{OfFile};
 ghost use Rattle.command_runs.specs.Playing.{played, plays, plays_fed, played_line, printing, line_of, point_line, given, MayFollow, HasNoEnd, PlaysOn, HeldAnswers, HeldReadAnswers, ReadAnswers, AnswersEvent, AnswersLine};
-ghost use Rattle.trace_text.specs.{EventWords.{read_line}, EventText.{numbered_lines}, Feeds.{no_bytes}, LineParts.{ArePartsOf}};
+ghost use Rattle.trace_text.specs.{EventWords.{read_line}, EventText.{numbered_lines}, Feeds.{no_bytes}, LineParts.{ArePartsOf, tasks_text}};
 ghost use Rattle.command_runs.specs.declared.{showing.Showing.TheVariants.{Trace}, stop.Stop.TheVariants.{Trapped, Unprinted}};
 
 use crate::inputs::read_on;
@@ -39,25 +39,42 @@ pub struct Place {
 pub struct Play<L: Ledger> {
     pub machine: Machine,
     pub parts: LineParts,
+    /// Whether the parts show the tasks of the state.
+    pub is_shown: bool,
     /// What is held back of what is printed.
     pub buffer: PutBuffer,
     pub place: Place,
     /// How often the machine compared priorities.
     pub scans: Steps<L>,
     ghost of_app: { ArePartsOf machine.image.app parts },
+    ghost shown: { is_shown ≡ true → parts.tasks ≡ tasks_text machine.image.app machine.state },
     // events are no more than lines
     ghost few: { place.event ≤ place.line },
 }
 
 impl<L: Ledger> Play<L> {
-    /// Prints the line of the trace that has the number of the next event, or holds it back.
+    /// Makes the parts show the tasks of the state. After a quiet step they do.
     #[inline(always)]
-    fn print_step<O: Sink>(&mut self, out: &mut O, notes: &Notes) -> Result<(), Stop>
+    fn show_tasks(&mut self)
+        ensures machine { self.new.machine ≡ self.old.machine }
+        ensures place { self.new.place ≡ self.old.place }
+        ensures buffer { self.new.buffer ≡ self.old.buffer }
+        ensures shown { self.new.parts.tasks ≡ tasks_text self.old.machine.image.app self.old.machine.state }
+    {
+        if !self.is_shown {
+            self.parts.show(self.machine.app(), self.machine.state());
+            self.is_shown = true;
+        }
+    }
+
+    /// Prints the line of the trace that has the number of the next event, or holds it back, where the parts show the tasks.
+    #[inline(always)]
+    fn print_shown<O: Sink>(&mut self, out: &mut O, notes: &Notes) -> Result<(), Stop>
+        requires shown { self.old.parts.tasks ≡ tasks_text self.old.machine.image.app self.old.machine.state }
         ensures machine { self.new.machine ≡ self.old.machine }
         ensures place { self.new.place ≡ self.old.place }
         ensures line { HeldAnswers (given (sunk O.Sink out.old) self.old.buffer) (given (sunk O.Sink out.new) self.new.buffer) (played (line_of Trace self.old.machine.image self.old.place.event (stepped self.old.machine.state notes.now)) (Ok tt)) result }
     {
-        self.parts.show(self.machine.app(), self.machine.state());
         self.parts.count(self.place.event);
         let line = TraceLine {
             parts: &self.parts,
@@ -69,6 +86,17 @@ impl<L: Ledger> Play<L> {
             Ok(()) => Ok(()),
             Err(PutError::Write) => Err(Stop::Unprinted),
         }
+    }
+
+    /// Prints the line of the trace that has the number of the next event, or holds it back.
+    #[inline(always)]
+    fn print_step<O: Sink>(&mut self, out: &mut O, notes: &Notes) -> Result<(), Stop>
+        ensures machine { self.new.machine ≡ self.old.machine }
+        ensures place { self.new.place ≡ self.old.place }
+        ensures line { HeldAnswers (given (sunk O.Sink out.old) self.old.buffer) (given (sunk O.Sink out.new) self.new.buffer) (played (line_of Trace self.old.machine.image self.old.place.event (stepped self.old.machine.state notes.now)) (Ok tt)) result }
+    {
+        self.show_tasks();
+        self.print_shown(out, notes)
     }
 
     /// Prints the point of the state, or holds it back.
@@ -149,6 +177,7 @@ impl<L: Ledger> Play<L> {
         ensures buffer { self.new.buffer ≡ self.old.buffer }
         ensures step { image_step self.old.machine.image self.old.machine.state event ≡ (if result then Some (stepped self.new.machine.state notes.new) else None) }
     {
+        self.is_shown = self.is_shown && self.machine.is_quiet(event);
         self.machine.step_into(event, &mut self.scans, notes)
     }
 

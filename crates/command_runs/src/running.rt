@@ -106,6 +106,7 @@ fn play_started<L: Ledger, F: Shelf, O: Sink>(
     let mut play = Play {
         machine,
         parts,
+        is_shown: false,
         buffer,
         place: Place { event: 0, line: 0 },
         scans: Steps::<L>::of(blank),

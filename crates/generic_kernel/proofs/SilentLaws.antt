@@ -1,15 +1,16 @@
 -- Instructions that note nothing leave each task as high as it was.
-use Rattle.std.proofs.{Common.{◌≡◌, ℕ, refl, ap, arith, Bool, true, false, None, Some, sym, ◌∙◌}, lemmas.Bool.{false≢true, eq-eqb}}
+use Rattle.std.proofs.{Common.{◌≡◌, ℕ, refl, ap, arith, Bool, true, false, None, Some, IfSome, ◌<◌, List, length, sym, subst, ◌∙◌}, lemmas.Bool.{false≢true, eq-eqb}}
 use Rattle.std.specs.{Int.Bits.{and_zero_r}, declared.option.Option.{Option}, Prelude.{if◌then◌else◌, is_some}, List.{cons_option}}
 use Rattle.osek_values.specs.{Hooks.{hook_set}, declared.{mask.Mask.{Mask}, numbers.{ResNo.{ResNo}, TaskNo.{TaskNo}}}}
 use Rattle.osek_standard.specs.declared.{app.App.{App}, state.{State.{State}, Processor.{Processor}}}
 use Rattle.osek_standard.specs.declared.task_state.{Place.{Place}, TaskState.{TaskState}, Activity.{Activity, TheVariants.{Suspended, Live, Waiting}}}
-use Rattle.osek_standard.specs.{TaskStates.{is_live}, States.{caller, task_state, is_that_task}, Priority.{base_priority, highest}, Services.{counted_by}}
-use Rattle.osek_standard.specs.{Effects.{moved, moved_by, standing_at, task_at, wanted, returned}, Well.{Well, IsProcessor}}
-use Rattle.osek_standard.specs.Internal.{occupied, internal_of, inside_as, kept, kept_by}
+use Rattle.osek_standard.specs.{TaskStates.{is_live}, States.{caller, task_of, task_state, is_that_task}, Priority.{base_priority, highest}, Services.{counted_by}}
+use Rattle.osek_standard.specs.{Line.{first_in_line, out_of_line}, Dispatch.{dispatched}}
+use Rattle.osek_standard.specs.{Effects.{moved, moved_by, standing_at, task_at, wanted, returned}, Well.{Well, HasProcessor, IsProcessor}}
+use Rattle.osek_standard.specs.Internal.{occupied, internal_of, inside_as, kept, kept_by, put_inside}
 use Rattle.osek_standard.specs.declared.state.Processor.TheVariants as processor
 use Rattle.osek_standard.proofs.Keeps.{task_after}
-use Rattle.generic_kernel.specs.{Levels.{level, level_if}, Moves.{task_inside}}
+use Rattle.generic_kernel.specs.{Levels.{level, level_if}, Moves.{task_inside, KeepsLevels}}
 use Rattle.generic_kernel.proofs.TaskLaws.{counted_leaves_task, returned_leaves_task}
 
 pub nothing_wanted : (app : App) → wanted app 0 ≡ hook_set 0
@@ -68,16 +69,46 @@ module _ (app : App) where
   kept_level s t None e f = inside_or_not t.0 false (task_state s t.0).events (task_state s t.0).activity e
   kept_level s t (Some r) e f = absurd (false≢true (sym f ∙ eq-eqb t.0 t.0 refl))
 
+  -- a task that is inside, or no longer, where it names an INTERNAL resource: no other is higher or lower
+  inside_levels : (s : State) (t : TaskNo) → t.0 < length s.tasks → (u : ℕ) → is_that_task (task_inside app (processor.Running t)) u ≡ false → level app (put_inside app s (Some t)) u ≡ level app s u
+  inside_levels s t known u e =
+      let o = internal_of app t.0 in
+      task_after s t.0 (record (task_state s t.0) { activity = inside_as (is_some o) (task_state s t.0).activity }) known
+      (λ (v : ℕ) (y : TaskState). is_that_task (task_inside app (processor.Running t)) v ≡ false → level_in v y ≡ level app s v)
+      (kept_level s t o refl) (λ v other f. refl) u e
+
   kept_levels_by : (s : State) → Well app s → (p : Processor) → IsProcessor app s p → (u : ℕ) → is_that_task (task_inside app p) u ≡ false → level app (kept_by app s p) u ≡ level app s u
   kept_levels_by s w processor.Halted h u e = refl
   kept_levels_by s w processor.Idle h u e = refl
-  kept_levels_by s w (processor.Running t) h u e =
-      let o = internal_of app t.0 in
-      task_after s t.0 (record (task_state s t.0) { activity = inside_as (is_some o) (task_state s t.0).activity }) (omega (arith, w.tasks_len, h.running.0))
-      (λ (v : ℕ) (y : TaskState). is_that_task (task_inside app (processor.Running t)) v ≡ false → level_in v y ≡ level app s v)
-      (kept_level s t o refl) (λ v other f. refl) u e
+  kept_levels_by s w (processor.Running t) h u e = inside_levels s t (omega (arith, w.tasks_len, h.running.0)) u e
   kept_levels_by s w (processor.Interrupted k over) h u e = refl
 
+  kept_processor : (s : State) (p : Processor) → (kept_by app s p).processor ≡ s.processor
+  kept_processor s processor.Halted = refl
+  kept_processor s processor.Idle = refl
+  kept_processor s (processor.Running t) = refl
+  kept_processor s (processor.Interrupted k over) = refl
+
   -- a task that keeps the processor is as high as it was, unless it names an INTERNAL resource
-  pub kept_levels : (s : State) → Well app s → (u : ℕ) → is_that_task (task_inside app s.processor) u ≡ false → level app (kept app s) u ≡ level app s u
-  kept_levels s w u e = kept_levels_by s w s.processor w.processor u e
+  pub kept_levels : (s : State) → Well app s → KeepsLevels app s (kept app s)
+  kept_levels s w u e = kept_levels_by s w s.processor w.processor u (subst (λ (p : Processor). is_that_task (task_inside app p) u ≡ false) (kept_processor s s.processor) e)
+
+  line_levels : (s : State) (c x : Option TaskNo) (u : ℕ) → level app (out_of_line (first_in_line s c) x) u ≡ level app s u
+  line_levels s None None u = refl
+  line_levels s None (Some t) u = refl
+  line_levels s (Some c) None u = refl
+  line_levels s (Some c) (Some t) u = refl
+
+  line_tasks : (s : State) (c x : Option TaskNo) → (out_of_line (first_in_line s c) x).tasks ≡ s.tasks
+  line_tasks s None None = refl
+  line_tasks s None (Some t) = refl
+  line_tasks s (Some c) None = refl
+  line_tasks s (Some c) (Some t) = refl
+
+  -- and so is one that gets it, and each other
+  pub dispatched_levels : (s : State) → Well app s → (o : Option TaskNo) → IfSome o (HasProcessor app s) → KeepsLevels app s (dispatched app s o)
+  dispatched_levels s w None live u e = line_levels s (task_of s.processor) None u
+  dispatched_levels s w (Some t) live u e =
+      let r = out_of_line (first_in_line s (task_of s.processor)) (Some t) in
+      let known : t.0 < length r.tasks = omega (arith, w.tasks_len, live.0, ap (λ (xs : List TaskState). length xs) (line_tasks s (task_of s.processor) (Some t))) in
+      inside_levels r t known u e ∙ line_levels s (task_of s.processor) (Some t) u

@@ -1,16 +1,12 @@
 -- The best of the tasks below a number, and whether there is one.
-use Rattle.std.specs.{Prelude.{◌≡◌, ℕ, ◌<◌, true, false, MatchOption, Some, None, List, slice_index_or}, declared.option.Option.{Option}}
-use Rattle.osek_values.specs.declared.{numbers.TaskNo.{TaskNo}, limits.TheConstants.{MAX_TASKS}}
-use Rattle.osek_standard.specs.{declared.{app.App.{App}, state.State.{State}}, TaskStates.{is_live}, States.{task_state}, Priority.{goes_before}, Line.{turn}}
+use Rattle.std.specs.{Prelude.{◌≡◌, ℕ, ◌<◌, true, false, MatchOption, Some, None}, declared.option.Option.{Option}}
+use Rattle.osek_values.specs.declared.{numbers.TaskNo.{TaskNo}}
+use Rattle.osek_standard.specs.{declared.{app.App.{App}, state.State.{State}}, TaskStates.{is_live}, States.{task_state}, Priority.{goes_before}}
 
 -- 1 where there is a task
 abbrev pub some_of : Option TaskNo → ℕ
 some_of None = 0
 some_of (Some t) = 1
-
--- of each task that there can be its turn
-abbrev pub AreTurns : State → List ℕ → Type 0
-AreTurns s turns = (t : ℕ) → t < MAX_TASKS → slice_index_or turns t 0 ≡ turn s t
 
 module _ (app : App) (s : State) where
   pub record IsBestOfBelow (n t : ℕ) : Type 0 where

@@ -1,10 +1,11 @@
 -- What callers of the kernel know of its parts.
-use Rattle.std.specs.{Prelude.{⊤, ◌+◌, ◌<◌, Bool, true, length, Some, None, is_some, if◌then◌else◌}, declared.option.Option.{Option}}
+use Rattle.std.specs.{Prelude.{◌≡◌, ⊤, ℕ, ◌+◌, ◌<◌, Bool, true, false, length, Some, None, is_some, if◌then◌else◌}, declared.option.Option.{Option}}
 use Rattle.osek_values.specs.declared.{numbers.{SourceNo.{SourceNo}, TaskNo.{TaskNo}}, status.Ask.{Ask}, event.Event.{Event, TheVariants.{Run, Irq, Tick}}}
 use Rattle.osek_values.specs.declared.status.Ask.TheVariants as ask
-use Rattle.osek_standard.specs.{declared.{app.App.{App}, state.{State.{State}, Processor.{Processor}, Caller.{Caller, TheVariants.{Nobody, Task, Routine}}}}, States.{with_latch}}
+use Rattle.osek_standard.specs.{declared.{app.App.{App}, state.{State.{State}, Processor.{Processor}, Caller.{Caller, TheVariants.{Nobody, Task, Routine}}}}, States.{is_that_task, with_latch}}
 use Rattle.osek_standard.specs.{Arrivals.{arrival, entered}, Well.{AreOut}, Apps.{source_count}, Internal.{internal_of}}
 use Rattle.osek_standard.specs.declared.state.Processor.TheVariants as processor
+use Rattle.generic_kernel.specs.Levels.{level}
 
 -- the state after an arrival, if there is one
 abbrev pub entered_if : App → State → Option SourceNo → State
@@ -23,6 +24,10 @@ task_inside app processor.Halted = None
 task_inside app processor.Idle = None
 task_inside app (processor.Running t) = if is_some (internal_of app t.0) then Some t else None
 task_inside app (processor.Interrupted k over) = None
+
+-- each task is as high as it was, but for one that runs and names an INTERNAL resource
+abbrev pub KeepsLevels : App → State → State → Type 0
+KeepsLevels app s r = (t : ℕ) → is_that_task (task_inside app r.processor) t ≡ false → level app r t ≡ level app s t
 
 -- where the processor is asked for, no routine runs
 abbrev pub MayDispatch : App → State → Ask → Type 0

@@ -1,6 +1,6 @@
 //! Interrupts: the routine that begins now.
-ghost use Rattle.std.specs.Prelude.{◌≡◌, ◌<◌, length, is_some, ◌+◌};
-ghost use Rattle.osek_standard.specs.{Apps.{source_count}, States.{is_latched as is_latched_of}, Arrivals.{arrival as arrival_of, entered, takes_none as takes_none_of}, Well.{Well}};
+ghost use Rattle.std.specs.Prelude.{◌≡◌, ◌<◌, length, is_some, ◌+◌, nat_le};
+ghost use Rattle.osek_standard.specs.{Apps.{source_count, source_priority}, States.{is_latched as is_latched_of}, Arrivals.{arrival as arrival_of, entered, takes_none as takes_none_of}, Levels.{level as level_of}, Well.{Well}};
 ghost use Rattle.generic_kernel.specs.{Moves.{entered_if}, Nests.{IsFirstBelow}};
 
 use crate::nests::first_of;
@@ -61,8 +61,23 @@ fn first_latched(app: &App, state: &State) -> Option<SourceNo>
     found
 }
 
+/// Whether the level lets a source in. It is above the routine that has the processor, so a source that doesn't go before
+/// that one is kept out without a look at the others.
+fn is_let_in(app: &App, state: &State, source: SourceNo) -> bool
+    requires known { source.0 < source_count app.now }
+    requires well { Well app.now state.now }
+    ensures { result ≡ nat_le (level_of app.now state.now) (source_priority app.now source.0) }
+{
+    if let Processor::Interrupted { source: top, .. } = state.processor {
+        if app.source_priority(source) <= app.source_priority(top) {
+            return false;
+        }
+    }
+    level(app, state) <= app.source_priority(source) as u32
+}
+
 /// The source whose routine begins now. Where the level keeps the first of the latched sources out, it keeps all of them
-/// out; so it is asked for only where a source is latched.
+/// out.
 fn arrival(app: &App, state: &State) -> Option<SourceNo>
     requires { Well app.now state.now }
     ensures { result ≡ arrival_of app.now state.now }
@@ -73,7 +88,7 @@ fn arrival(app: &App, state: &State) -> Option<SourceNo>
     match first_latched(app, state) {
         None => None,
         Some(source) => {
-            if level(app, state) <= app.source_priority(source) as u32 {
+            if is_let_in(app, state, source) {
                 Some(source)
             } else {
                 None

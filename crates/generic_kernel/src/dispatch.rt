@@ -1,12 +1,12 @@
 //! What a step does with the processor after the effect of its instruction.
-ghost use Rattle.std.specs.Prelude.{◌≡◌, ◌+◌, ◌≤◌, length, nat_lt, IfSome, ℕ, false};
+ghost use Rattle.std.specs.Prelude.{◌≡◌, ◌+◌, ◌≤◌, length, nat_lt, IfSome};
 ghost use Rattle.osek_standard.specs.{Priority.{best, current_priority}, Effects.{wanted}};
 ghost use Rattle.osek_standard.specs.{Dispatch.{dispatched, dispatch_hooks, settled, outcome_by, outcome_hooks, instruction, stepped}, Well.{Well, AreOut, HasProcessor, IsActive}};
-ghost use Rattle.osek_standard.specs.{States.{is_that_task, task_of, task_state}, Internal.{kept}};
-ghost use Rattle.generic_kernel.specs.{BestBelow.{some_of}, Levels.{IsReady}, Moves.{MayDispatch}};
+ghost use Rattle.osek_standard.specs.Internal.{kept};
+ghost use Rattle.generic_kernel.specs.{BestBelow.{some_of}, Levels.{IsReady}, Moves.{KeepsLevels, MayDispatch}};
 
 use crate::effects::effect;
-use crate::inside::{keep, put_inside};
+use crate::inside::{keep, put_inside, take_in_running};
 use crate::queue::{come_out, go_first};
 use crate::ready::Ready;
 use osek_standard::{App, Caller, Processor, State};
@@ -23,6 +23,7 @@ pub fn switch_to(app: &App, state: &mut State, task: Option<TaskNo>, ask: Ask) -
     ensures state { dispatched app.now state.old task ≡ state.new }
     ensures hooks { result ≡ wanted app.now (dispatch_hooks state.old ask task) }
     ensures well { Well app.now state.new }
+    ensures levels { KeepsLevels app.now state.old state.new }
 {
     let left = ask == Ask::Left || state.current().is_some();
     let due = HookSet::POST_TASK
@@ -44,6 +45,7 @@ fn stay(app: &App, state: &mut State) -> HookSet
     ensures state { kept app.now state.old ≡ state.new }
     ensures hooks { result ≡ wanted app.now 0 }
     ensures well { Well app.now state.new }
+    ensures levels { KeepsLevels app.now state.old state.new }
 {
     keep(app, state);
     app.hooks.among(HookSet::none())
@@ -98,7 +100,7 @@ pub fn conclude<L: Ledger>(
     ensures state { settled app.now state.old (outcome_by app.now state.old ask) ≡ state.new }
     ensures hooks { result ≡ wanted app.now (outcome_hooks state.old ask (outcome_by app.now state.old ask)) }
     ensures well { Well app.now state.new }
-    ensures others { (u : ℕ) → is_that_task (task_of state.new.processor) u ≡ false → task_state state.new u ≡ task_state state.old u }
+    ensures levels { KeepsLevels app.now state.old state.new }
     ensures scans { scans.new ≤ scans.old + length app.now.tasks }
 {
     match ask {
@@ -148,8 +150,7 @@ pub fn instruct<L: Ledger>(
 {
     let done = effect(app, state, ready, choice);
     let hooks = conclude(app, state, ready, done.ask, scans);
-    let current = state.current();
-    ready.take_in(app, state, current, None);
+    take_in_running(app, state, ready);
     Notes {
         hooks: done.notes.hooks.with(hooks),
         ..done.notes

@@ -1,7 +1,7 @@
 //! INTERNAL resources: a task that gets or keeps the processor is inside.
 ghost use Rattle.std.specs.Prelude.{◌≡◌, ◌<◌, length, is_some, IfSome};
 ghost use Rattle.osek_standard.specs.{Internal.{internal_of, kept as kept_of, put_inside as put_inside_of, with_inside}, Well.{Well, HasProcessor}};
-ghost use Rattle.generic_kernel.specs.{Levels.{IsReady}, Moves.{task_inside as task_inside_of}};
+ghost use Rattle.generic_kernel.specs.{Levels.{IsReady}, Moves.{task_inside as task_inside_of, KeepsLevels}};
 
 use crate::ready::Ready;
 use osek_standard::{Activity, App, Processor, State};
@@ -33,6 +33,7 @@ pub fn keep(app: &App, state: &mut State)
     requires { Well app.now state.old }
     ensures kept { kept_of app.now state.old ≡ state.new }
     ensures well { Well app.now state.new }
+    ensures levels { KeepsLevels app.now state.old state.new }
 {
     match state.processor {
         Processor::Halted | Processor::Idle | Processor::Interrupted { .. } => {}
@@ -58,8 +59,17 @@ fn task_inside(app: &App, state: &State) -> Option<TaskNo>
     }
 }
 
-/// The same, with the Live tasks kept as those of the state. Only a task that names an INTERNAL resource gets another
-/// priority.
+/// Takes in who runs, where that task names an INTERNAL resource: who gets or keeps the processor may be inside from then
+/// on, and no other task gets another priority.
+pub fn take_in_running(app: &App, state: &State, ready: &mut Ready)
+    requires { Well app.now state.now }
+    ensures { (s : State) → IsReady app.now s ready.old → KeepsLevels app.now s state.now → IsReady app.now state.now ready.new }
+{
+    let running = task_inside(app, state);
+    ready.take_in(app, state, running, None);
+}
+
+/// A task keeps the processor, and the Live tasks are kept as those of the state.
 pub fn keep_ready(app: &App, state: &mut State, ready: &mut Ready)
     requires well { Well app.now state.old }
     requires ready { IsReady app.now state.old ready.old }
@@ -67,7 +77,6 @@ pub fn keep_ready(app: &App, state: &mut State, ready: &mut Ready)
     ensures well { Well app.now state.new }
     ensures ready { IsReady app.now state.new ready.new }
 {
-    let running = task_inside(app, state);
     keep(app, state);
-    ready.take_in(app, state, running, None);
+    take_in_running(app, state, ready);
 }

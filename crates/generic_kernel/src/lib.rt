@@ -21,7 +21,7 @@ pub use arrivals::take_arrival;
 pub use changes::named_here;
 pub use dispatch::{conclude, switch_to};
 pub use effects::{effect, silent_effect};
-pub use inside::{keep, keep_ready};
+pub use inside::{keep, keep_ready, take_in_running};
 pub use places::{here, point_of};
 pub use ready::Ready;
 pub use replies::Effect;

@@ -1,9 +1,10 @@
 //! The tasks that are ready or running, kept from step to step, and the best of them.
-ghost use Rattle.std.specs.Prelude.{◌≡◌, ◌≢◌, ◌+◌, ◌<◌, ◌≤◌, length, nat_lt, ℕ, None, IfSome, IfNone, IsTrue, ◌||◌, true, false, slice_index_or, ◌==◌, if◌then◌else◌};
+ghost use Rattle.std.specs.Prelude.{◌≡◌, ◌≢◌, ◌+◌, ◌<◌, ◌≤◌, length, nat_lt, ℕ, None, IfSome, IfNone, IsTrue, ◌||◌, true, false, slice_index_or};
 ghost use Rattle.std.specs.List.{count_by};
 ghost use Rattle.osek_standard.specs.{declared.{app.App.{App}, state.State.{State}}, TaskStates.{is_live}, States.{is_that_task, task_state}, Priority.{best}};
-ghost use Rattle.osek_standard.specs.Well.{Well, HasProcessor};
-ghost use Rattle.generic_kernel.specs.{BestBelow.{IsBestBelow, some_of, AreTurns}, Changes.{ChangesOnly}, Levels.{IsReady, count_of, level as level_of, priority_in}};
+ghost use Rattle.osek_values.specs.Line.{place_in_line};
+ghost use Rattle.osek_standard.specs.{Line.{turn}, Well.{Well, HasProcessor}};
+ghost use Rattle.generic_kernel.specs.{BestBelow.{IsBestBelow, some_of}, Changes.{ChangesOnly}, Levels.{IsReady, count_of, level as level_of, priority_in}};
 
 use ceiling_rules::current_priority;
 use osek_standard::{App, State};
@@ -50,33 +51,33 @@ fn priority(level: Option<u32>) -> u32
     }
 }
 
-// a task gets a turn
-fn put_turn(turns: &mut [usize; MAX_TASKS], task: TaskNo, turn: usize)
-    ensures { (t : ℕ) → t < MAX_TASKS → slice_index_or turns.new t 0 ≡ (if task.0 == t then turn else slice_index_or turns.old t 0) }
+/// Whether a task stands in the line before another; those that don't stand there come behind all, by number.
+fn stands_before(line: &[TaskNo], task: TaskNo, other: TaskNo) -> bool
+    ensures { result ≡ nat_lt (place_in_line line.now task.0) (place_in_line line.now other.0) }
 {
-    if task.index() < MAX_TASKS {
-        turns[task.index()] = turn;
+    for next in line {
+        if *next == other {
+            return false;
+        }
+        if *next == task {
+            return true;
+        }
     }
+    task.0 < other.0
 }
 
-/// The turn of each task: of the running or interrupted one 0, of each other one more than its first place in the line,
-/// and behind the line where it has none.
-fn turns_of(state: &State) -> [usize; MAX_TASKS]
-    ensures { AreTurns state.now result }
+/// Whether a task's turn comes before another's.
+fn is_earlier(state: &State, task: TaskNo, other: TaskNo) -> bool
+    ensures { result ≡ nat_lt (turn state.now task.0) (turn state.now other.0) }
 {
-    let places = state.line.as_slice();
-    let mut turns = [0; MAX_TASKS];
-    for task in 0..MAX_TASKS {
-        turns[task] = 1 + places.len() + task;
+    let current = state.current();
+    if current == Some(other) {
+        return false;
     }
-    for back in 0..places.len() {
-        let place = places.len() - 1 - back;
-        put_turn(&mut turns, places[place], 1 + place);
+    if current == Some(task) {
+        return true;
     }
-    if let Some(task) = state.current() {
-        put_turn(&mut turns, task, 0);
-    }
-    turns
+    stands_before(state.line.as_slice(), task, other)
 }
 
 impl Ready {
@@ -152,7 +153,7 @@ impl Ready {
     /// turn is earlier.
     fn better<L: Ledger>(
         &self,
-        turns: &[usize; MAX_TASKS],
+        state: &State,
         found: Option<TaskNo>,
         task: TaskNo,
         scans: &mut Steps<L>,
@@ -160,7 +161,7 @@ impl Ready {
         requires known { task.0 < MAX_TASKS }
         requires below { IfSome found (λ t. t.0 < task.0) }
         ensures below { IfSome result (λ t. t.0 < task.0 + 1) }
-        ensures best { (app : App) (s : State) → IsReady app s self.now → AreTurns s turns.now → IsBestBelow app s task.0 found → IsBestBelow app s (task.0 + 1) result }
+        ensures best { (app : App) → IsReady app state.now self.now → IsBestBelow app state.now task.0 found → IsBestBelow app state.now (task.0 + 1) result }
         ensures scans { scans.new + some_of result ≡ scans.old + some_of found + count_of (slice_index_or self.now task.0 None) }
     {
         if self.levels[task.index()].is_none() {
@@ -173,7 +174,7 @@ impl Ready {
             return Some(task);
         }
         let tie = priority(self.levels[other.index()]) == priority(self.levels[task.index()]);
-        if tie && turns[task.index()] < turns[other.index()] {
+        if tie && is_earlier(state, task, other) {
             Some(task)
         } else {
             Some(other)
@@ -181,7 +182,7 @@ impl Ready {
     }
 
     /// The Live task that is to run, of the state of which these are the Live tasks, after one scan fewer than there are
-    /// such tasks. The line is read once.
+    /// such tasks. The line is read where two tie, as far as to the first of them.
     pub fn best<L: Ledger>(&self, state: &State, scans: &mut Steps<L>) -> Option<TaskNo>
         ensures best { (app : App) → Well app state.now → IsReady app state.now self.now → result ≡ best app state.now }
         ensures live { (app : App) → Well app state.now → IsReady app state.now self.now → IfSome result (HasProcessor app state.now) }
@@ -189,10 +190,9 @@ impl Ready {
         ensures scans { (app : App) → Well app state.now → IsReady app state.now self.now → scans.new + some_of result ≡ scans.old + count_by is_live state.now.tasks }
         ensures few { (app : App) → Well app state.now → IsReady app state.now self.now → scans.new + some_of result ≤ scans.old + length app.tasks }
     {
-        let turns = turns_of(state);
         let mut found = None;
         for task in 0..MAX_TASKS {
-            found = self.better(&turns, found, TaskNo(task as u8), scans);
+            found = self.better(state, found, TaskNo(task as u8), scans);
         }
         found
     }

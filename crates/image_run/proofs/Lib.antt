@@ -5,3 +5,4 @@ pub mod SiteForms
 pub mod SiteChanges
 pub mod SiteLines
 pub mod UndoLaws
+pub mod QuietSteps

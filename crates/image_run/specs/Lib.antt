@@ -2,3 +2,4 @@ pub mod Befores
 pub mod Machines
 pub mod Scans
 pub mod Noted
+pub mod Quiet

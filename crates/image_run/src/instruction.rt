@@ -1,8 +1,8 @@
 //! One instruction of an image.
 ghost use Rattle.std.specs.Prelude.{◌≡◌, true, false, ◌≢◌, ◌+◌, ◌≤◌, length, Option, Some, None, IfSome, IfNone, option_map, ℕ};
-ghost use Rattle.osek_standard.specs.{States.{here as here_of, is_that_task, task_of, task_state}, Effects.{effected, effect as effect_of}};
+ghost use Rattle.osek_standard.specs.{States.{here as here_of}, Effects.{effected, effect as effect_of}};
 ghost use Rattle.osek_standard.specs.{Dispatch.{concluded, nothing_noted, outcome_by, stepped, with_hooks as with_hooks_of}, Well.{Well, IsActive}, Apps.{IsDeclared}};
-ghost use Rattle.generic_kernel.specs.{Levels.{IsReady}, Moves.{MayDispatch, instruction_due}};
+ghost use Rattle.generic_kernel.specs.{Levels.{IsReady}, Moves.{KeepsLevels, MayDispatch, instruction_due}};
 ghost use Rattle.image_model.specs.{Sites.{IsForm}, ImageStep.{form_at, formed_by, formed_at, instructed, image_step as image_step_of, site_at as site_at_of}};
 ghost use Rattle.image_model.specs.declared.site.Form.TheVariants as form;
 ghost use Rattle.image_run.specs.{Befores.{put_back, IsAfter}, Noted.{hooks_noted, noted_if}, Scans.{scans_at, scans_due}};
@@ -10,7 +10,7 @@ ghost use Rattle.image_run.specs.{Befores.{put_back, IsAfter}, Noted.{hooks_note
 use crate::before::{Before, task_of};
 use generic_kernel::{
     Effect, Ready, conclude, effect, here, keep, keep_ready, nothing, silent_effect, switch_to,
-    take_event,
+    take_event, take_in_running,
 };
 use image_model::{Form, Image, Site, site_at};
 use osek_standard::{App, Place, State};
@@ -42,7 +42,7 @@ fn conclude_formed<L: Ledger>(
     requires names { IsForm (length app.now.tasks) form }
     ensures step { option_map (concluded app.now (effected state.old done.notes done.ask)) (formed_by app.now (effected state.old done.notes done.ask) form) ≡ option_map (stepped state.new) result }
     ensures well { Well app.now state.new }
-    ensures others { (u : ℕ) → is_that_task (task_of state.new.processor) u ≡ false → task_state state.new u ≡ task_state state.old u }
+    ensures levels { KeepsLevels app.now state.old state.new }
     ensures trap { IfNone result (state.new ≡ state.old) }
     ensures scans { scans.new ≤ scans.old + scans_at (Some form) (length app.now.tasks) }
 {
@@ -93,7 +93,7 @@ fn conclude_by<L: Ledger>(
     requires other { site ≡ None → done.ask ≡ Ask.No }
     ensures step { option_map (concluded app.now (effected state.old done.notes done.ask)) (formed_at app.now (effected state.old done.notes done.ask) site) ≡ option_map (stepped state.new) result }
     ensures well { Well app.now state.new }
-    ensures others { (u : ℕ) → is_that_task (task_of state.new.processor) u ≡ false → task_state state.new u ≡ task_state state.old u }
+    ensures levels { KeepsLevels app.now state.old state.new }
     ensures trap { IfNone result ((site ≢ None) × (state.new ≡ state.old)) }
     ensures scans { scans.new ≤ scans.old + scans_at (option_map (λ x. x.form) site) (length app.now.tasks) }
 {
@@ -132,8 +132,7 @@ fn attempt<L: Ledger>(
 {
     let done = effect(&image.app, state, ready, choice);
     let notes = conclude_by(&image.app, state, ready, done, site, scans);
-    let current = state.current();
-    ready.take_in(&image.app, state, current, None);
+    take_in_running(&image.app, state, ready);
     notes
 }
 
@@ -177,8 +176,7 @@ fn settle<L: Ledger>(
         }
         Some(_) => {
             let hooks = conclude(app, state, ready, ask, scans);
-            let current = state.current();
-            ready.take_in(app, state, current, None);
+            take_in_running(app, state, ready);
             hooks
         }
     }

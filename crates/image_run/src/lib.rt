@@ -5,6 +5,7 @@
 mod before;
 mod instruction;
 mod machine;
+mod quiet;
 mod trap;
 
 pub use machine::Machine;

@@ -1,9 +1,11 @@
 //! The machine.
-ghost use Rattle.std.specs.Prelude.{◌≡◌, ◌+◌, ◌<◌, ◌≤◌, length, false, IfOk};
-ghost use Rattle.osek_standard.specs.{Dispatch.{stepped}, Kernel.{start as start_of}, Well.{Well}, Apps.{IsDeclared}};
-ghost use Rattle.image_run.specs.{Machines.{at_work, turn, turned, noted}, Noted.{noted_if}, Scans.{most_scans}};
+ghost use Rattle.std.specs.Prelude.{◌≡◌, ◌+◌, ◌<◌, ◌≤◌, length, true, false, IfOk, Some};
+ghost use Rattle.osek_standard.specs.{Dispatch.{Stepped, stepped}, Kernel.{start as start_of}, Well.{Well}, Apps.{IsDeclared}};
+ghost use Rattle.image_model.specs.ImageStep.{image_step as image_step_of};
+ghost use Rattle.image_run.specs.{Machines.{at_work, turn, turned, noted}, Noted.{noted_if}, Quiet.{KeepsTasks}, Scans.{most_scans}};
 
 use crate::instruction::image_step;
+use crate::quiet::runs_quietly;
 use crate::trap::Trap;
 use generic_kernel::{Ready, nothing, start};
 use image_model::Image;
@@ -102,6 +104,18 @@ impl Machine {
         }
         self.trapped = true;
         false
+    }
+
+    /// Whether the next step is known to change of no task more than its place, and to leave who runs or is interrupted: a
+    /// source latches, a routine begins, or an instruction only moves on. It may say no where that is so.
+    pub fn is_quiet(&self, event: Event) -> bool
+        requires { IsDeclared self.now.image.app event }
+        ensures { (r : Stepped) → result ≡ true → image_step_of self.now.image self.now.state event ≡ Some r → KeepsTasks self.now.state r.state }
+    {
+        match event {
+            Event::Irq(_) | Event::Tick(_) => true,
+            Event::Run(_) => runs_quietly(&self.image, &self.state),
+        }
     }
 
     /// The state now.

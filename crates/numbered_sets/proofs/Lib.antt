@@ -9,6 +9,7 @@ pub mod SiftLaws
 pub mod AloneLaws
 pub mod FlatLaws
 pub mod SlotLaws
+pub mod ColumnLaws
 pub mod UnmovedLaws
 pub mod StackLaws
 pub mod CopiedEntries

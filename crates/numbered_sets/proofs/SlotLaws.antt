@@ -1,7 +1,7 @@
 -- Slots of values: each is the only one of its value, and stays as more stacks come in.
 use Rattle.std.proofs.Common.{◌≡◌, ◌≢◌, ℕ, zero, suc, ◌+◌, ◌-◌, ◌*◌, ◌/◌, ◌%◌, ◌^◌, ◌<◌, Bool, false, List, [], ◌∷◌, ◌++◌, length, get_or, cond, refl, sym, ap, ap₂, subst, ◌∙◌, inl, inr, arith}
 use Rattle.std.specs.{Prelude.{Option, Some, None, IfSome, IfNone}, List.{list_any}}
-use Rattle.std.proofs.Math.{Nat.{div-lt_iff_lt-mul, div-add-mod, mul_comm}, Seq.{get_or-append_seam}}
+use Rattle.std.proofs.Math.{Nat.{div-lt_iff_lt-mul, div-add-mod, mul_comm, add-mul}, Seq.{get_or-append_seam}}
 use Rattle.std.proofs.lemmas.{Bool.{cases_lt}, Nat.{div-mul-add, mod-mul-add}, List.{append-nil, length-append, length-map, map-append, get_or-map, get_or_append_left}, Map.Views.{Contains-from_any}}
 use Rattle.osek_values.specs.{Numbers.{block_no}, declared.numbers.{BlockNo.{BlockNo}, ResNo.{ResNo}}}
 use Rattle.abstract_state.specs.declared.value.{Val.{Val, TheVariants.{Suspended, Live, Waiting}}, LiveVal.{LiveVal}, Domain.{Domain}, PartValue.{PartValue, TheVariants.{OfTask}}}
@@ -11,7 +11,8 @@ use Rattle.abstract_state.specs.{Domains.{IsWithin}, ValueOrder.{same_part}}
 use Rattle.abstract_state.proofs.OrderLaws.{part_right}
 use Rattle.flow_model.specs.{Values.{at_block}, Tests.{on_task}}
 use Rattle.numbered_sets.specs.{Pools.{Values, with_value, AreNumbered, IsNumberOf}, Slots.{in_row, val_in, value_in, slot_values, IsTaskSlot, IsSlot, AreSlots, IsSlotInRow, IsTaskSlotOf, IsSlotOf, IsStackNumber, AreMoreStacks}}
-use Rattle.numbered_sets.specs.Slots.{IsPlaceOf, IsUnused, IsSlotGiven, AreDistinct, none}
+use Rattle.numbered_sets.specs.{declared.slot_values.{BlockColumn.{BlockColumn}, SlotPlace.{SlotPlace}}, SeenSlots.{AreSeen}}
+use Rattle.numbered_sets.specs.Slots.{IsPlaceOf, IsUnused, IsSlotGiven, AreDistinct, UsedSlots, slot_width, IsBlockColumn, IsSlotPlace}
 use Rattle.numbered_sets.proofs.{PoolLaws.{numbered_with, seen_already}, ViewLaws.{false_unless}}
 
 -- ---- what stands in a row
@@ -166,6 +167,78 @@ slot_moved first count resources (suc n) block stacks found distinct known some 
     lifted None h = tt
     lifted (Some t) h = of_task first count resources stacks (at_block block (val_in first.0 count stacks (suc n))) t h
 
+-- ---- slots by column and row
+
+width_of_task : (first : BlockNo) (count resources : ℕ) → 0 < count → slot_width (domain.Task first count resources) ≡ count
+width_of_task first zero resources some = absurd (omega (arith, some))
+width_of_task first (suc n) resources some = refl
+
+-- what tells them
+pub column_there : (d : Domain) (first : BlockNo) (count resources slot : ℕ) (c : BlockColumn) → d ≡ domain.Task first count resources → c.column < count → c.block.0 < 2 ^ 16 → IsSlotInRow first.0 count 0 c.block.0 slot
+    → c.row * count + c.column ≡ slot → IsBlockColumn d c
+column_there d first count resources slot c is low small at same = subst (λ (x : Domain). IsBlockColumn x c) (sym is) (low, small, subst (IsSlotInRow first.0 count 0 c.block.0) (sym same) at)
+
+pub place_there : (d : Domain) (first : BlockNo) (count resources slot : ℕ) (p : SlotPlace) → d ≡ domain.Task first count resources → p.offset < count → slot ≡ 1 + p.row * count + p.offset → IsSlotPlace d slot p
+place_there d first count resources slot p is lt same = subst (λ (x : Domain). IsSlotPlace x slot p) (sym is) (lt, same)
+
+pub column_known : (d : Domain) (c : BlockColumn) → IsBlockColumn d c → c.column < slot_width d
+column_known (domain.Task first count resources) c at = omega (arith, at.0, width_of_task first count resources (omega (arith, at.0)))
+column_known domain.Event c at = absurd at
+column_known domain.Alarm c at = absurd at
+
+pub offset_known : (d : Domain) (s : ℕ) (p : SlotPlace) → IsSlotPlace d s p → p.offset < slot_width d
+offset_known (domain.Task first count resources) s p at = omega (arith, at.0, width_of_task first count resources (omega (arith, at.0)))
+offset_known domain.Event s p at = absurd at
+offset_known domain.Alarm s p at = absurd at
+
+module _ (first : BlockNo) (count resources slot : ℕ) (stacks : List (List ResNo)) (p : SlotPlace) (distinct : AreDistinct stacks) (known : IsTaskSlot first.0 count stacks slot) (at : IsSlotPlace (domain.Task first count resources) slot p) (live : p.row ≡ 0 → ⊥) where
+  behind_first : slot - 1 ≡ p.row * count + p.offset
+  behind_first = omega (arith, at.1)
+
+  row_of_place : (slot - 1) / count ≡ p.row
+  row_of_place = ap (λ (m : ℕ). m / count) behind_first ∙ div-mul-add p.row count p.offset at.0
+
+  offset_of_place : (slot - 1) % count ≡ p.offset
+  offset_of_place = ap (λ (m : ℕ). m % count) behind_first ∙ mod-mul-add p.row count p.offset at.0
+
+  block_of_place : first.0 + p.offset < 2 ^ 16
+  block_of_place = (let known = block_small slot (omega (arith, at.1)) known in omega (arith, known, offset_of_place))
+    where
+      block_small : (s : ℕ) → 0 < s → IsTaskSlot first.0 count stacks s → first.0 + (s - 1) % count < 2 ^ 16
+      block_small zero some known = absurd (omega (arith, some))
+      block_small (suc n) some known = subst (λ (m : ℕ). first.0 + m % count < 2 ^ 16) (omega arith) known.1
+
+  moved_in_row : (block : BlockNo) (t : ℕ) → block.0 < 2 ^ 16 → IsSlotInRow first.0 count p.row block.0 t → value_in (domain.Task first count resources) stacks t ≡ on_task (at_block block) (value_in (domain.Task first count resources) stacks slot)
+  moved_in_row block t small there =
+      (slot_moved first count resources slot block stacks (Some t) distinct known (λ e. omega (arith, e, at.1)) (λ e. live (sym row_of_place ∙ e)) small
+      (subst (λ (r : ℕ). IsSlotInRow first.0 count r block.0 t) (sym row_of_place) there)).is
+
+-- the slot in a block's column and the row of a Live one
+pub moved_in_column : (d : Domain) (width slot : ℕ) (stacks : List (List ResNo)) (p : SlotPlace) (c : BlockColumn) → AreDistinct stacks → IsSlot d stacks slot → width ≡ slot_width d → IsSlotPlace d slot p → (p.row ≡ 0 → ⊥) → IsBlockColumn d c
+    → value_in d stacks ((c.row + p.row) * width + c.column) ≡ on_task (at_block c.block) (value_in d stacks slot)
+moved_in_column (domain.Task first count resources) width slot stacks p c distinct known wide at live column =
+    let same : width ≡ count = wide ∙ width_of_task first count resources (omega (arith, at.0)) in
+    let sum : (c.row + p.row) * width ≡ c.row * count + p.row * count = ap (λ (w : ℕ). (c.row + p.row) * w) same ∙ add-mul c.row p.row count in
+    let there = column.2 in
+    moved_in_row first count resources slot stacks p distinct known at live c.block ((c.row + p.row) * width + c.column) column.1 (record { low = there.low; high = there.high; is = omega (arith, sum, there.is) })
+moved_in_column domain.Event width slot stacks p c distinct known wide at live column = absurd at
+moved_in_column domain.Alarm width slot stacks p c distinct known wide at live column = absurd at
+
+-- the slot before a Live one in its row
+pub moved_before : (d : Domain) (width slot : ℕ) (stacks : List (List ResNo)) (p : SlotPlace) → AreDistinct stacks → IsSlot d stacks slot → width ≡ slot_width d → IsSlotPlace d slot p → (p.row ≡ 0 → ⊥) → (p.offset ≡ 0 → ⊥)
+    → (b : BlockNo) × (value_in d stacks (p.row * width + p.offset) ≡ on_task (at_block b) (value_in d stacks slot))
+moved_before (domain.Task first count resources) width slot stacks p distinct known wide at live later =
+    let same : width ≡ count = wide ∙ width_of_task first count resources (omega (arith, at.0)) in
+    let product : p.row * width ≡ p.row * count = ap (λ (w : ℕ). p.row * w) same in
+    let small = block_of_place first count resources slot stacks p distinct known at live in
+    let block = block_no (first.0 + p.offset - 1) in (
+      block,
+      moved_in_row first count resources slot stacks p distinct known at live block (p.row * width + p.offset) (omega (arith, small))
+          (record { low = omega (arith, later); high = omega (arith, at.0, later); is = omega (arith, product, later) }),
+    )
+moved_before domain.Event width slot stacks p distinct known wide at live later = absurd at
+moved_before domain.Alarm width slot stacks p distinct known wide at live later = absurd at
+
 -- ---- slots as more stacks come in
 
 slot_stays : (d : Domain) (stacks more : List (List ResNo)) (s : ℕ) → IsSlot d stacks s → IsSlot d (stacks ++ more) s
@@ -257,44 +330,54 @@ slots_pushed d stacks slots s known its = record {
   ];
 }
 
--- what is kept of values and slots
-abbrev pub AreSeen : Domain → List (List ResNo) → List ℕ → Type 0
-AreSeen d stacks slots = AreNumbered d (slot_values d stacks slots) × AreSlots d stacks slots
+pub seen_stay : (d : Domain) (stacks after : List (List ResNo)) (slots : UsedSlots) → AreMoreStacks stacks after → AreSeen d stacks slots → AreSeen d after slots
+seen_stay d stacks after slots grown h = record {
+  numbered = subst (AreNumbered d) (sym (values_stay d stacks after slots.used grown h.known)) h.numbered;
+  known = slots_stay d stacks after slots.used grown h.known;
+  wide = h.wide;
+}
 
-pub seen_stay : (d : Domain) (stacks after : List (List ResNo)) (slots : List ℕ) → AreMoreStacks stacks after → AreSeen d stacks slots → AreSeen d after slots
-seen_stay d stacks after slots grown h = (subst (AreNumbered d) (sym (values_stay d stacks after slots grown h.1)) h.0, slots_stay d stacks after slots grown h.1)
-
-module _ (d : Domain) (stacks after : List (List ResNo)) (slots more : List ℕ) (s : ℕ) (v : PartValue) (grown : AreMoreStacks stacks after) (h : AreSeen d stacks slots) (slot : IsSlotOf d after v s) (unused : IsUnused slots s) (pushed : more ≡ slots ++ s ∷ []) where
-  pub values_pushed : slot_values d after more ≡ with_value (slot_values d stacks slots) v
+module _ (d : Domain) (stacks after : List (List ResNo)) (slots more : UsedSlots) (s : ℕ) (v : PartValue) (grown : AreMoreStacks stacks after) (h : AreSeen d stacks slots) (slot : IsSlotOf d after v s) (unused : IsUnused slots.used s)
+    (pushed : more.used ≡ slots.used ++ s ∷ []) where
+  pub values_pushed : slot_values d after more.used ≡ with_value (slot_values d stacks slots.used) v
   values_pushed =
-      ap (slot_values d after) pushed ∙ value_pushed d after slots s v (value_unused d after slots s v (slots_stay d stacks after slots grown h.1) unused slot) slot.is
-      ∙ ap (λ (vs : List PartValue). with_value vs v) (values_stay d stacks after slots grown h.1)
+      ap (slot_values d after) pushed ∙ value_pushed d after slots.used s v (value_unused d after slots.used s v (slots_stay d stacks after slots.used grown h.known) unused slot) slot.is
+      ∙ ap (λ (vs : List PartValue). with_value vs v) (values_stay d stacks after slots.used grown h.known)
 
-  pub seen_pushed : IsWithin d v → AreSeen d after more
-  seen_pushed within = (
-    subst (AreNumbered d) (sym values_pushed) (numbered_with d (slot_values d stacks slots) v h.0 within),
-    subst (AreSlots d after) (sym pushed) (slots_pushed d after slots s (slots_stay d stacks after slots grown h.1) slot.known),
-  )
+  pub seen_pushed : more.width ≡ slots.width → IsWithin d v → AreSeen d after more
+  seen_pushed kept within = record {
+    numbered = subst (AreNumbered d) (sym values_pushed) (numbered_with d (slot_values d stacks slots.used) v h.numbered within);
+    known = subst (AreSlots d after) (sym pushed) (slots_pushed d after slots.used s (slots_stay d stacks after slots.used grown h.known) slot.known);
+    wide = kept ∙ h.wide;
+  }
 
 -- a slot with a number stays, and another comes in last
-module _ (d : Domain) (stacks after : List (List ResNo)) (slots more : List ℕ) (s n : ℕ) (v : PartValue) (grown : AreMoreStacks stacks after) (h : AreSeen d stacks slots) (slot : IsSlotOf d after v s) (given : IsSlotGiven slots s more) (place : IsPlaceOf more s n) where
-  pub given_values : slot_values d after more ≡ with_value (slot_values d stacks slots) v
+module _ (d : Domain) (stacks after : List (List ResNo)) (slots more : UsedSlots) (s n : ℕ) (v : PartValue) (grown : AreMoreStacks stacks after) (h : AreSeen d stacks slots) (slot : IsSlotOf d after v s) (given : IsSlotGiven slots.used s more.used)
+    (place : IsPlaceOf more.used s n) where
+  pub given_values : slot_values d after more.used ≡ with_value (slot_values d stacks slots.used) v
   given_values = elim given [
     | inl same ↦
-        (let stay = values_stay d stacks after slots grown h.1 in
-        let there : IsNumberOf (slot_values d stacks slots) v n = subst (λ (vs : List PartValue). IsNumberOf vs v n) stay (value_numbered d after slots s n v (subst (λ (us : List ℕ). IsPlaceOf us s n) same place) slot.is) in
-        ap (slot_values d after) same ∙ stay ∙ sym (ap (λ (x : Values). x.values) (seen_already (record { domain = d; values = slot_values d stacks slots }) v n there)))
+        (let stay = values_stay d stacks after slots.used grown h.known in
+        let vs = slot_values d stacks slots.used in
+        let there : IsNumberOf vs v n = subst (λ (ws : List PartValue). IsNumberOf ws v n) stay (value_numbered d after slots.used s n v (subst (λ (us : List ℕ). IsPlaceOf us s n) same place) slot.is) in
+        ap (slot_values d after) same ∙ stay ∙ sym (ap (λ (x : Values). x.values) (seen_already (record { domain = d; values = vs }) v n there)))
     | inr new ↦ values_pushed d stacks after slots more s v grown h slot new.0 new.1
   ]
 
-  pub given_seen : IsWithin d v → AreSeen d after more
-  given_seen within = elim given [
-    | inl same ↦ subst (AreSeen d after) (sym same) (seen_stay d stacks after slots grown h)
-    | inr new ↦ seen_pushed d stacks after slots more s v grown h slot new.0 new.1 within
+  pub given_seen : more.width ≡ slots.width → IsWithin d v → AreSeen d after more
+  given_seen kept within = elim given [
+    | inl same ↦
+        (let stay = seen_stay d stacks after slots grown h in
+        record {
+          numbered = subst (λ (us : List ℕ). AreNumbered d (slot_values d after us)) (sym same) stay.numbered;
+          known = subst (AreSlots d after) (sym same) stay.known;
+          wide = kept ∙ h.wide;
+        })
+    | inr new ↦ seen_pushed d stacks after slots more s v grown h slot new.0 new.1 kept within
   ]
 
-  pub given_number : IsNumberOf (slot_values d after more) v n
-  given_number = value_numbered d after more s n v place slot.is
+  pub given_number : IsNumberOf (slot_values d after more.used) v n
+  given_number = value_numbered d after more.used s n v place slot.is
 
 pub same_stacks : (stacks : List (List ResNo)) → AreMoreStacks stacks stacks
 same_stacks stacks = record { more = []; is = sym (append-nil stacks) }

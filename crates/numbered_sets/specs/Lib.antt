@@ -4,6 +4,7 @@ pub mod NumberedEntries
 pub mod Numbers
 pub mod Pools
 pub mod Slots
+pub mod SeenSlots
 pub mod StackKeys
 pub mod SetLists
 pub mod Views

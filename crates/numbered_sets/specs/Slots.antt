@@ -4,6 +4,7 @@ use Rattle.osek_values.specs.{Numbers.{block_no}, declared.numbers.{BlockNo.{Blo
 use Rattle.abstract_state.specs.declared.value.{Val.{Val, TheVariants.{Suspended, Live, Waiting}}, Domain.{Domain}, PartValue.{PartValue, TheVariants.{OfTask, OfEvent, OfAlarm}}}
 use Rattle.abstract_state.specs.declared.value.Domain.TheVariants as domain
 use Rattle.abstract_state.specs.Components.{live_val}
+use Rattle.numbered_sets.specs.declared.slot_values.{BlockColumn.{BlockColumn}, SlotPlace.{SlotPlace}}
 
 -- A row has a value for each block of a task: waiting there, or Live there with a stack, the first one in the row after the first.
 abbrev pub in_row : List (List ResNo) → ℕ → BlockNo → Val
@@ -87,8 +88,47 @@ IsSlotGiven used s after = (after ≡ used) ⊎ (IsUnused used s × (after ≡ u
 abbrev pub none : ℕ
 none = 4294967295
 
--- the number of each slot stands at its place; none stands where the slot has none
-pub record AreNumbersBySlot (used numbers : List ℕ) : Type 0 where
+-- Slots in the order of first use, and how many columns they stand in: what is left over by the width is a slot's column, how often it goes in is its row.
+pub record UsedSlots : Type 0 where
+  pub width : ℕ
+  pub used : List ℕ
+
+abbrev pub used_slots : ℕ → List ℕ → UsedSlots
+used_slots width used = record { width = width; used = used }
+
+-- the number that stands in a row of a column
+abbrev pub number_in : List (List ℕ) → (column : ℕ) → (row : ℕ) → ℕ
+number_in columns column row = slice_index_or (slice_index_or columns column []) row none
+
+-- the number of each slot stands in its column and row; none stands where the slot has none
+pub record AreNumbersBySlot (width : ℕ) (used : List ℕ) (columns : List (List ℕ)) : Type 0 where
+  pub wide : 0 < width
   pub few : length used ≤ none
-  pub each : (n d : ℕ) → n < length used → slice_index_or numbers (slice_index_or used n d) none ≡ n
-  pub only : (s : ℕ) → slice_index_or numbers s none ≢ none → IsPlaceOf used s (slice_index_or numbers s none)
+  pub each : (n d : ℕ) → n < length used → number_in columns (slice_index_or used n d % width) (slice_index_or used n d / width) ≡ n
+  pub only : (column row : ℕ) → column < width → number_in columns column row ≢ none → IsPlaceOf used (row * width + column) (number_in columns column row)
+
+pub record AreSameNumbers (columns after : List (List ℕ)) : Type 0 where
+  pub each : (column row : ℕ) → number_in after column row ≡ number_in columns column row
+
+pub record IsRoomAt (columns : List (List ℕ)) (column row : ℕ) : Type 0 where
+  pub wide : column < length columns
+  pub long : row < length (slice_index_or columns column [])
+
+-- a task's slots are as wide as it has blocks
+abbrev pub slot_width : Domain → ℕ
+slot_width (domain.Task first zero resources) = 1
+slot_width (domain.Task first (suc n) resources) = suc n
+slot_width domain.Event = 1
+slot_width domain.Alarm = 1
+
+-- where the slots of a block stand: that of a waiting task in this column and row, and that of one with a stack as many rows on as the stack's row
+abbrev pub IsBlockColumn : Domain → BlockColumn → Type 0
+IsBlockColumn (domain.Task first count resources) c = (c.column < count) × (c.block.0 < 2 ^ 16) × IsSlotInRow first.0 count 0 c.block.0 (c.row * count + c.column)
+IsBlockColumn domain.Event c = ⊥
+IsBlockColumn domain.Alarm c = ⊥
+
+-- the row of a slot behind the first one, and which block of the task's it is
+abbrev pub IsSlotPlace : Domain → ℕ → SlotPlace → Type 0
+IsSlotPlace (domain.Task first count resources) s p = (p.offset < count) × (s ≡ 1 + p.row * count + p.offset)
+IsSlotPlace domain.Event s p = ⊥
+IsSlotPlace domain.Alarm s p = ⊥

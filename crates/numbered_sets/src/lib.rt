@@ -2,6 +2,7 @@
 //! numbers. Tables, whose values stand once, in a pool. What such sets and tables mean are the ordered forms of `abstract_state`.
 #![tactic(auto)]
 
+mod column;
 mod counts;
 mod flat_sets;
 pub mod laws;

@@ -23,12 +23,26 @@ impl SeenValues {
         ensures { IfOk result (λ found. IfSome found (AreMade (updated update.now) self.now.values numbers.now (length self.now.values))) }
     {
         let mut made = NumberedSet::beside(alloc, numbers)?;
-        let number = self.pass_seen(numbers, update, 0, &mut made)?;
-        if number < self.len() {
-            return Ok(None);
+        let count = self.len();
+        let mut number = self.pass_seen(numbers, update, 0, &mut made)?;
+        while number < count {
+            let Some(after) = self.found_for(number, update) else {
+                return Ok(None);
+            };
+            made.put(after)?;
+            number = self.pass_seen(numbers, update, number + 1, &mut made)?;
         }
         made.trim();
         Ok(Some(made))
+    }
+
+    // the number of what an update makes of the value with a number, if it was seen
+    fn found_for(&self, number: usize, update: &Update) -> Option<usize>
+        requires { number < length self.now.values }
+        ensures { IfSome result (λ n. (v : PartValue) → IsNumberOf self.now.values v number → IsNumberOf self.now.values (updated update.now v) n) }
+    {
+        let value = update.of(&self.value(number));
+        self.number_of(&value)
     }
 
     /// The numbers of what an update makes of the values with the numbers of a set. Those that are new come in last, also
@@ -113,9 +127,12 @@ impl SeenValues {
         ensures made { IfOk result (λ n. AreMade (updated (Block block)) self.now.values numbers.now from made.old → AreMade (updated (Block block)) self.now.values numbers.now n made.new) }
     {
         let count = self.len();
+        let Some(column) = self.column(block) else {
+            return Ok(numbers.next(from, count));
+        };
         let mut number = numbers.next(from, count);
         while number < count {
-            let Some(after) = self.found_at(number, block) else {
+            let Some(after) = self.found_in(number, column) else {
                 return Ok(number);
             };
             made.put(after)?;

@@ -1,7 +1,10 @@
 //! The values of one domain that were seen, by number.
 ghost use Rattle.std.specs.Prelude.{◌≡◌};
 
-use crate::slot_values::{block_in, slot_at_block, slot_for, slot_of, value_at};
+use crate::slot_values::{
+    BlockColumn, block_column, block_in, slot_at_block, slot_for, slot_of, slot_place, slot_width,
+    value_at,
+};
 use crate::slots::Slots;
 use crate::stacks::Stacks;
 use abstract_state::{Domain, PartValue};
@@ -20,13 +23,13 @@ pub struct SeenValues {
 }
 
 impl Model for SeenValues {
-    ghost use Rattle.numbered_sets.specs.{Pools.{Values, AreNumbered}, Slots.{slot_values, AreSlots}};
+    ghost use Rattle.numbered_sets.specs.{Pools.{Values}, Slots.{slot_values}, SeenSlots.{AreSeen}};
 
     ghost Value = { Values };
 
-    ghost view = { λ s. record { domain = s.domain; values = slot_values s.domain s.stacks s.slots } };
+    ghost view = { λ s. record { domain = s.domain; values = slot_values s.domain s.stacks s.slots.used } };
 
-    ghost invariant = { λ s. AreNumbered s.domain (slot_values s.domain s.stacks s.slots) × AreSlots s.domain s.stacks s.slots };
+    ghost invariant = { λ s. AreSeen s.domain s.stacks s.slots };
 }
 
 impl Clone for SeenValues {
@@ -48,7 +51,7 @@ impl SeenValues {
     ghost use Rattle.std.specs.{Prelude.{◌≡◌, ◌<◌, false, length, IfOk, OnOk, OnErr, IfSome, IfNone}, List.{list_any}, Bool.{OnTrue}};
     ghost use Rattle.abstract_state.specs.{declared.value.PartValue.{PartValue}, Domains.{IsWithin, domain_size}, ValueOrder.{same_part}};
     ghost use Rattle.flow_model.specs.{declared.change.Update.TheVariants.{Block}, Tests.{updated}};
-    ghost use Rattle.numbered_sets.specs.Pools.{no_values, value_seen, AreValues, IsNumberOf, IsBeside};
+    ghost use Rattle.numbered_sets.specs.{Pools.{no_values, value_seen, AreValues, IsNumberOf, IsBeside}, Slots.{IsBlockColumn}};
 
     /// No value yet.
     pub fn new(alloc: Global, domain: Domain) -> SeenValues
@@ -57,7 +60,7 @@ impl SeenValues {
         SeenValues {
             domain,
             stacks: Stacks::new(alloc),
-            slots: Slots::new(alloc),
+            slots: Slots::new(alloc, slot_width(domain)),
         }
     }
 
@@ -126,16 +129,28 @@ impl SeenValues {
         self.number(&value)
     }
 
-    /// The number of what the value with a number is at a block, if it was seen.
-    pub fn found_at(&self, number: usize, block: BlockNo) -> Option<usize>
-        requires { number < length self.now.values }
-        ensures { IfSome result (λ n. (v : PartValue) → IsNumberOf self.now.values v number → IsNumberOf self.now.values (updated (Block block) v) n) }
+    /// The column of a block's slots, if it is one of the task's.
+    pub fn column(&self, block: BlockNo) -> Option<BlockColumn>
+        ensures column { IfSome result (IsBlockColumn self.now.domain) }
+        ensures block { IfSome result (λ column. column.block ≡ block) }
+    {
+        block_column(self.domain, block)
+    }
+
+    /// The number of what a Live value is at the block of a column, if it was seen.
+    pub fn found_in(&self, number: usize, column: BlockColumn) -> Option<usize>
+        requires known { number < length self.now.values }
+        requires column { IsBlockColumn self.now.domain column }
+        ensures { IfSome result (λ n. (v : PartValue) → IsNumberOf self.now.values v number → IsNumberOf self.now.values (updated (Block column.block) v) n) }
     {
         let slot = self.slots.at(number);
-        match slot_at_block(self.domain, &self.stacks, slot, block) {
-            None => None,
-            Some(moved) => self.slots.find(moved),
+        let place = slot_place(self.domain, slot)?;
+        if place.row == 0 {
+            return None;
         }
+        self.stacks.are_distinct();
+        let row = column.row as usize + place.row as usize;
+        self.slots.find_in(column.column, row)
     }
 
     /// The number of what a Live value would be at the block before its own, if it was seen.
@@ -144,11 +159,13 @@ impl SeenValues {
         ensures { IfSome result (IsBeside self.now.values number) }
     {
         let slot = self.slots.at(number);
-        let block = BlockNo(block_in(self.domain, slot).0.saturating_sub(1));
-        match slot_at_block(self.domain, &self.stacks, slot, block) {
-            None => None,
-            Some(moved) => self.slots.find(moved),
+        let place = slot_place(self.domain, slot)?;
+        if place.row == 0 || place.offset == 0 {
+            return None;
         }
+        self.stacks.are_distinct();
+        // the slot before
+        self.slots.find_in(place.offset, place.row as usize)
     }
 
     /// Whether two values are seen to be Live with one stack, so that they differ at most in their block.

@@ -4,11 +4,26 @@ ghost use Rattle.osek_values.specs.declared.numbers.ResNo.{ResNo};
 ghost use Rattle.osek_standard.specs.Validity.{IsAmong};
 ghost use Rattle.flow_model.specs.{declared.change.Update.TheVariants.{Block}, Tests.{updated}};
 ghost use Rattle.abstract_state.specs.declared.value.Val.TheVariants.{Live};
-ghost use Rattle.numbered_sets.specs.Slots.{val_in, value_in, IsTaskSlot, IsSlot, IsSlotOf, IsTaskSlotOf, IsSlotInRow, AreMoreStacks};
+ghost use Rattle.numbered_sets.specs.Slots.{val_in, value_in, IsTaskSlot, IsSlot, IsSlotOf, IsTaskSlotOf, IsSlotInRow, AreMoreStacks, slot_width, IsBlockColumn, IsSlotPlace};
 
 use crate::stacks::Stacks;
 use abstract_state::{Domain, LiveVal, PartValue, Val};
 use osek_values::{BlockNo, Memory};
+
+/// Where the slots of a block stand: that of a waiting task in this column and row.
+#[derive(Clone, Copy)]
+pub struct BlockColumn {
+    pub block: BlockNo,
+    pub column: usize,
+    pub row: u32,
+}
+
+/// The row of a slot, and its block by the number of those of the task's before it.
+#[derive(Clone, Copy)]
+pub struct SlotPlace {
+    pub row: u32,
+    pub offset: usize,
+}
 
 /// The value of a domain that has a slot.
 pub fn value_at(domain: Domain, stacks: &Stacks, slot: usize) -> PartValue
@@ -103,6 +118,62 @@ pub fn slot_at_block(domain: Domain, stacks: &Stacks, slot: usize, block: BlockN
     }
     stacks.are_distinct();
     slot_in_row(first, count, row, block)
+}
+
+/// How many slots of a domain stand side by side: one for each block of a task.
+pub fn slot_width(domain: Domain) -> u32
+    ensures is { result ≡ slot_width domain }
+    ensures wide { 0 < result }
+{
+    match domain {
+        Domain::Task { count, .. } if count > 0 => count as u32,
+        _ => 1,
+    }
+}
+
+/// Where the slots of a block stand, if it is one of the task's.
+pub fn block_column(domain: Domain, block: BlockNo) -> Option<BlockColumn>
+    ensures column { IfSome result (IsBlockColumn domain) }
+    ensures block { IfSome result (λ c. c.block ≡ block) }
+{
+    let Domain::Task { first, count, .. } = domain else {
+        return None;
+    };
+    let slot = slot_in_row(first, count, 0, block)?;
+    let width = count as usize;
+    // the slot of the last block is the first one of the next row
+    if slot == width {
+        return Some(BlockColumn {
+            block,
+            column: 0,
+            row: 1,
+        });
+    }
+    Some(BlockColumn {
+        block,
+        column: slot,
+        row: 0,
+    })
+}
+
+/// The row and the block of a task's slot, unless it is suspended there.
+pub fn slot_place(domain: Domain, slot: usize) -> Option<SlotPlace>
+    requires { slot < 2 ^ 32 }
+    ensures { IfSome result (IsSlotPlace domain slot) }
+{
+    let Domain::Task { count, .. } = domain else {
+        return None;
+    };
+    if slot == 0 || count == 0 {
+        return None;
+    }
+    // a division of 32 bits takes a third of the time
+    let place = (slot - 1) as u32;
+    let width = count as u32;
+    Some(SlotPlace {
+        row: place / width,
+        offset: (place % width) as usize,
+    })
 }
 
 /// The block of a slot, if it has one; what it gives is tried, and no more.

@@ -1,30 +1,29 @@
 //! Slots by number.
-ghost use Rattle.std.specs.Prelude.{ℕ, ◌≡◌, ◌≤◌, List, length, OnOk};
-ghost use Rattle.numbered_sets.specs.Slots.{AreNumbersBySlot};
+ghost use Rattle.std.specs.Prelude.{◌≡◌, ◌<◌, ◌≤◌, ◌^◌, length, IfOk, OnOk};
+ghost use Rattle.numbered_sets.specs.Slots.{AreSameNumbers, IsRoomAt};
 
-use osek_values::Memory;
+use crate::column::{Column, NONE};
+use osek_values::{Memory, Seq};
 use std::alloc::{AllocError, Global};
 use std::marker::Model;
 
 /// Different slots in the order of first use: each has its place as its number. Both are found by the other without a search.
+/// The numbers of slots that are the width apart lie side by side.
 #[derive(Drop)]
 pub struct Slots {
+    width: u32,
     used: Vec<u32>,
-    // for each slot its number, or `NONE`
-    numbers: Vec<u32>,
+    columns: Seq<Column>,
 }
 
-const NONE: u32 = 4294967295;
-
 impl Model for Slots {
-    ghost use Rattle.std.specs.Prelude.{ℕ, List};
-    ghost use Rattle.numbered_sets.specs.Slots.{AreNumbersBySlot};
+    ghost use Rattle.numbered_sets.specs.Slots.{UsedSlots, AreNumbersBySlot};
 
-    ghost Value = { List ℕ };
+    ghost Value = { UsedSlots };
 
-    ghost view = { λ s. s.used.items };
+    ghost view = { λ s. record { width = s.width; used = s.used.items } };
 
-    ghost invariant = { λ s. AreNumbersBySlot s.used.items s.numbers.items };
+    ghost invariant = { λ s. AreNumbersBySlot s.width s.used.items s.columns };
 }
 
 impl Clone for Slots {
@@ -33,36 +32,42 @@ impl Clone for Slots {
     fn clone(&self) -> Result<Slots, AllocError> {
         let alloc = *self.used.allocator();
         let used = Vec::from_slice(alloc, self.used.as_slice())?;
-        let numbers = Vec::from_slice(alloc, self.numbers.as_slice())?;
-        Ok(Slots { used, numbers })
+        let columns = copies(alloc, &self.columns)?;
+        Ok(Slots {
+            width: self.width,
+            used,
+            columns,
+        })
     }
 }
 
 impl Slots {
-    ghost use Rattle.std.specs.Prelude.{ℕ, ◌≡◌, ◌≢◌, ◌<◌, ◌^◌, [], ◌∷◌, ◌++◌, length, slice_index_or, IfOk, OnOk, OnErr, IfSome, IfNone};
-    ghost use Rattle.numbered_sets.specs.Slots.{IsUnused, IsPlaceOf, IsSlotGiven};
+    ghost use Rattle.std.specs.Prelude.{◌≡◌, ◌<◌, ◌+◌, ◌*◌, ◌^◌, [], ◌∷◌, ◌++◌, length, IfOk, OnOk, OnErr, IfSome, IfNone};
+    ghost use Rattle.numbered_sets.specs.Slots.{used_slots, IsUnused, IsPlaceOf, IsSlotGiven};
 
-    /// No slot yet.
-    pub fn new(alloc: Global) -> Slots
-        ensures { result ≡ [] }
+    /// No slot yet, of so many columns.
+    pub fn new(alloc: Global, width: u32) -> Slots
+        requires { 0 < width }
+        ensures { result ≡ used_slots width [] }
     {
         Slots {
+            width,
             used: Vec::new(alloc),
-            numbers: Vec::new(alloc),
+            columns: Seq::new(alloc),
         }
     }
 
     /// How many slots there are.
     pub fn len(&self) -> usize
-        ensures { result ≡ length self.now }
+        ensures { result ≡ length self.now.used }
     {
         self.used.len()
     }
 
     /// The slot with a number.
     pub fn at(&self, number: usize) -> usize
-        requires { number < length self.now }
-        ensures slot { IsPlaceOf self.now result number }
+        requires { number < length self.now.used }
+        ensures slot { IsPlaceOf self.now.used result number }
         ensures small { result < 2 ^ 32 }
     {
         self.used[number] as usize
@@ -70,13 +75,23 @@ impl Slots {
 
     /// The number of a slot, if it has one.
     pub fn find(&self, slot: usize) -> Option<usize>
-        ensures number { IfSome result (IsPlaceOf self.now slot) }
-        ensures none { IfNone result (IsUnused self.now slot) }
+        ensures number { IfSome result (IsPlaceOf self.now.used slot) }
+        ensures none { IfNone result (IsUnused self.now.used slot) }
     {
-        if slot >= self.numbers.len() {
+        let width = self.width as usize;
+        self.find_in(slot % width, slot / width)
+    }
+
+    /// The number of the slot in a column and a row, if it has one.
+    pub fn find_in(&self, column: usize, row: usize) -> Option<usize>
+        requires { column < self.now.width }
+        ensures number { IfSome result (IsPlaceOf self.now.used (row * self.now.width + column)) }
+        ensures none { IfNone result (IsUnused self.now.used (row * self.now.width + column)) }
+    {
+        if column >= self.columns.len() {
             return None;
         }
-        let number = self.numbers[slot];
+        let number = self.columns.at(column).at(row);
         if number == NONE {
             return None;
         }
@@ -85,8 +100,9 @@ impl Slots {
 
     /// The number of a slot, which gets the next one where it has none.
     pub fn number(&mut self, slot: usize) -> Result<usize, Memory>
-        ensures slots { OnOk result (IsSlotGiven self.old slot self.new) }
-        ensures number { IfOk result (IsPlaceOf self.new slot) }
+        ensures width { self.new.width ≡ self.old.width }
+        ensures slots { OnOk result (IsSlotGiven self.old.used slot self.new.used) }
+        ensures number { IfOk result (IsPlaceOf self.new.used slot) }
         ensures err { OnErr result (self.new ≡ self.old) }
     {
         if let Some(number) = self.find(slot) {
@@ -99,28 +115,58 @@ impl Slots {
 
     // gives the next number to a slot; there are no slots past 32 bits
     fn push(&mut self, slot: usize) -> Result<(), Memory>
-        requires { IsUnused self.old slot }
-        ensures slots { OnOk result (self.new ≡ self.old ++ slot ∷ []) }
+        requires { IsUnused self.old.used slot }
+        ensures width { self.new.width ≡ self.old.width }
+        ensures slots { OnOk result (self.new.used ≡ self.old.used ++ slot ∷ []) }
         ensures err { OnErr result (self.new ≡ self.old) }
     {
         let number = self.used.len();
         if slot >= NONE as usize || number >= NONE as usize {
             return Err(Memory);
         }
-        widen(&mut self.numbers, slot + 1)?;
+        let width = self.width as usize;
+        let (column, row) = (slot % width, slot / width);
+        widen(*self.used.allocator(), &mut self.columns, column, row)?;
         self.used.push(slot as u32)?;
-        self.numbers[slot] = number as u32;
+        self.columns.at_mut(column).put(row, number as u32);
         Ok(())
     }
 }
 
-// makes room for the numbers of so many slots
-fn widen(numbers: &mut Vec<u32>, count: usize) -> Result<(), Memory>
-    ensures room { OnOk result (count ≤ length numbers.new.items) }
-    ensures same { (used : List ℕ) → AreNumbersBySlot used numbers.old.items → AreNumbersBySlot used numbers.new.items }
+// makes room for a number in a column and a row
+fn widen(alloc: Global, columns: &mut Seq<Column>, column: usize, row: usize) -> Result<(), Memory>
+    requires column { column < 2 ^ 32 }
+    requires row { row < 2 ^ 32 }
+    ensures room { OnOk result (IsRoomAt columns.new column row) }
+    ensures same { AreSameNumbers columns.old columns.new }
 {
-    for _length in numbers.len()..count {
-        numbers.push(NONE)?;
+    add_columns(alloc, columns, column + 1)?;
+    let numbers = columns.at_mut(column);
+    numbers.widen(row + 1)?;
+    Ok(())
+}
+
+// makes room for so many columns
+fn add_columns(alloc: Global, columns: &mut Seq<Column>, count: usize) -> Result<(), Memory>
+    ensures room { OnOk result (count ≤ length columns.new) }
+    ensures same { AreSameNumbers columns.old columns.new }
+{
+    for _column in columns.len()..count {
+        columns.push(Column::new(alloc))?;
     }
     Ok(())
+}
+
+// the same columns once more
+fn copies(alloc: Global, columns: &Seq<Column>) -> Result<Seq<Column>, AllocError>
+    ensures { IfOk result (λ copies. copies ≡ columns.now) }
+{
+    let mut copies = Seq::new(alloc);
+    for column in columns.as_slice() {
+        let copy = column.clone()?;
+        let Ok(()) = copies.push(copy) else {
+            return Err(AllocError);
+        };
+    }
+    Ok(copies)
 }

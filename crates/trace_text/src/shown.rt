@@ -1,10 +1,11 @@
 //! What a line of the trace shows of the tasks.
-ghost use Rattle.std.specs.Prelude.{◌≡◌, ◌<◌, ◌≤◌, length, true};
-ghost use Rattle.osek_standard.specs.{TaskStates.{held}, declared.state.Processor.{Processor}, States.{letter_of, task_of}, Well.{Well}};
+ghost use Rattle.std.specs.Prelude.{◌≡◌, ◌<◌, ◌≤◌, length, true, false, [], if◌then◌else◌};
+ghost use Rattle.osek_values.specs.declared.status.Letter.TheVariants.{R, Y};
+ghost use Rattle.osek_standard.specs.{TaskStates.{held}, States.{is_that_task, task_of}, Well.{Well}};
 ghost use Rattle.trace_text.specs.LineParts.{shown_of as what_is_shown, all_shown as what_all_show};
 
 use arrayvec::ArrayVec;
-use osek_standard::{Activity, App, State, TaskState};
+use osek_standard::{Activity, App, Standing, State, TaskState};
 use osek_values::limits::MAX_TASKS;
 use osek_values::{Held, Letter, Mask, ResNo, TaskNo};
 
@@ -85,29 +86,41 @@ fn are_same(stack: &[ResNo], other: &[ResNo]) -> bool
     stack == other
 }
 
-fn holds_as(stack: &Held, state: &TaskState) -> bool
-    ensures { result ≡ true → stack.now ≡ held state.now }
+// Most tasks hold nothing.
+fn holds_as(stack: &Held, other: &Held) -> bool
+    ensures { result ≡ true → stack.now ≡ other.now }
 {
-    match &state.activity {
-        Activity::Suspended | Activity::Waiting(_) => stack.is_empty(),
-        Activity::Live(standing) => are_same(stack.as_slice(), standing.held.as_slice()),
+    if stack.is_empty() {
+        return other.is_empty();
     }
+    are_same(stack.as_slice(), other.as_slice())
 }
 
-// The letter of a task's state, where this is the task that runs or is interrupted.
-fn letter_by(current: Option<TaskNo>, task: TaskNo, state: &TaskState) -> Letter
-    ensures { (p : Processor) → current ≡ task_of p → result ≡ letter_of p task.0 state.now }
+// Whether of a task this letter is shown, and beside it at most events.
+fn is_bare(shown: &Shown, letter: Letter) -> bool
+    ensures { result ≡ true → shown.now ≡ record { letter = letter; further = 0; events = shown.now.events; inside = false; stack = [] } }
 {
-    match &state.activity {
-        Activity::Suspended => Letter::S,
-        Activity::Live(_) => {
-            if current == Some(task) {
-                Letter::R
-            } else {
-                Letter::Y
-            }
-        }
-        Activity::Waiting(_) => Letter::W,
+    shown.letter == letter && shown.further == 0 && !shown.inside && shown.stack.is_empty()
+}
+
+// Whether a Live task is shown so, which has the processor or is ready.
+fn is_live_as_shown(shown: &Shown, standing: &Standing, letter: Letter) -> bool
+    ensures { result ≡ true → shown.now ≡ record { letter = letter; further = standing.now.further; events = shown.now.events; inside = standing.now.inside; stack = standing.now.held } }
+{
+    shown.letter == letter
+        && shown.further == standing.further
+        && shown.inside == standing.inside
+        && holds_as(&shown.stack, &standing.held)
+}
+
+// whether the task is the one that runs or is interrupted
+fn live_letter(current: Option<TaskNo>, task: TaskNo) -> Letter
+    ensures { result ≡ (if is_that_task current task.0 then R else Y) }
+{
+    if current == Some(task) {
+        Letter::R
+    } else {
+        Letter::Y
     }
 }
 
@@ -117,16 +130,14 @@ fn is_as_shown(shown: &Shown, state: &State, current: Option<TaskNo>, task: Task
     ensures { result ≡ true → shown.now ≡ what_is_shown state.now task.0 }
 {
     let task_state = state.task(task);
-    if shown.letter != letter_by(current, task, task_state) {
-        return false;
-    }
     if shown.events != task_state.events {
         return false;
     }
-    if shown.further != task_state.further() || shown.inside != task_state.is_inside() {
-        return false;
+    match &task_state.activity {
+        Activity::Suspended => is_bare(shown, Letter::S),
+        Activity::Waiting(_) => is_bare(shown, Letter::W),
+        Activity::Live(standing) => is_live_as_shown(shown, standing, live_letter(current, task)),
     }
-    holds_as(&shown.stack, task_state)
 }
 
 /// Whether a line shows the tasks of a state so. It may say no where it does.

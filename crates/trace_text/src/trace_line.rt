@@ -1,7 +1,7 @@
 //! A line of the trace.
-ghost use Rattle.std.specs.{Prelude.{◌≡◌, ◌+◌, ◌*◌, ◌<◌, ◌≤◌, [], ◌∷◌, ◌++◌, All, length, take, if◌then◌else◌, None}, List.{flat_map, enumerate_from, cons_option}};
+ghost use Rattle.std.specs.{Prelude.{◌≡◌, ◌+◌, ◌*◌, ◌<◌, ◌≤◌, [], ◌∷◌, ◌++◌, All, length, take, if◌then◌else◌, None, true}, List.{flat_map, enumerate_from, cons_option}};
 ghost use Rattle.osek_values.specs.declared.numbers.ResNo.{ResNo as AResource};
-ghost use Rattle.osek_standard.specs.{Apps.{the_task, source_count}, Dispatch.{stepped}};
+ghost use Rattle.osek_standard.specs.{declared.app.App.{App}, Apps.{the_task, source_count}, Dispatch.{stepped}};
 ghost use Rattle.osek_standard.specs.{TraceText.{who, events_text, resource_text, task_text, line_text, further_text, routine_text}, Well.{Well, IsActivityOf}};
 ghost use Rattle.osek_standard.specs.{Internal.{internal_of, occupied}, States.{source_state, is_source_at}};
 ghost use Rattle.trace_text.specs.{Labels.{label_texts}, LineParts.{tasks_text, routines_text}};
@@ -239,6 +239,30 @@ fn put_routines(buf: &mut [u8], from: usize, labels: &Labels, app: &App, state: 
     at
 }
 
+// Whether nothing is shown of a routine: it isn't in, or it has the processor and holds nothing.
+fn is_hidden(state: &State, source: SourceNo) -> bool
+    requires { source.0 < length state.now.sources }
+    ensures { (app : App) → result ≡ true → routine_text app state.now.processor (source.0, source_state state.now source.0) ≡ [] }
+{
+    match state.sources.at(source.index()) {
+        Source::Out => true,
+        Source::In(standing) => is_at_processor(state, source) && standing.held.is_empty(),
+    }
+}
+
+// Whether no routine is shown, as in most lines.
+fn are_hidden(state: &State) -> bool
+    requires { (length state.now.sources) < 256 }
+    ensures { (app : App) → result ≡ true → routines_text app state.now ≡ [] }
+{
+    for source in 0..state.sources.len() {
+        if !is_hidden(state, SourceNo(source as u8)) {
+            return false;
+        }
+    }
+    true
+}
+
 // The same; where no routine has the processor none is in.
 fn put_nest(buf: &mut [u8], at: usize, labels: &Labels, app: &App, state: &State) -> usize
     requires well { Well app.now state.now }
@@ -248,6 +272,9 @@ fn put_nest(buf: &mut [u8], at: usize, labels: &Labels, app: &App, state: &State
     ensures most { result ≤ at + MAX_ALL_ROUTINES }
 {
     if !state.processor.is_interrupted() {
+        return at;
+    }
+    if are_hidden(state) {
         return at;
     }
     put_routines(buf, at, labels, app, state)

@@ -1,9 +1,9 @@
 -- the first of the latched sources, where the level lets it in
-use Rattle.std.proofs.{Common.{◌≡◌, ℕ, ◌≤◌, ◌<◌, ◌∙◌, true, false, None, Some, sym, length, arith}, lemmas.Bool.{le-leb, lt-leb}}
+use Rattle.std.proofs.Common.{◌≡◌, ◌∙◌, false, None, Some, sym, length}
 use Rattle.std.specs.declared.option.Option.{Option}
 use Rattle.osek_values.specs.declared.numbers.SourceNo.{SourceNo}
 use Rattle.osek_standard.specs.declared.{app.App.{App}, state.State.{State}}
-use Rattle.osek_standard.specs.{Apps.{source_priority}, States.{is_latched}, Levels.{level}, Arrivals.{arrival, may_arrive, takes_none}}
+use Rattle.osek_standard.specs.{States.{is_latched}, Levels.{level}, Arrivals.{arrival, may_arrive, takes_none}}
 use Rattle.generic_kernel.specs.Nests.{IsFirstBelow}
 use Rattle.generic_kernel.proofs.NestSteps.{each_kept_out, first_found, first_let_in, none_passes}
 use Rattle.generic_kernel.proofs.arrivals.arrival.Goals as goal
@@ -18,20 +18,18 @@ returns-in-None c =
     let s = c.args.state.now in
     first_of_those app s None (sym c.takes_none.ensures ∙ c.if-takes_none.false) (none_passes app (is_latched s) (level app s) (length s.latched) c.in-None.ensures)
 
-pub returns-then-level-source_priority : goal.returns-then-level-source_priority
-returns-then-level-source_priority c =
+pub returns-then-is_let_in : goal.returns-then-is_let_in
+returns-then-is_let_in c =
     let app = c.args.app.now in
     let s = c.args.state.now in
     let k = c.in-Some.source in
-    let within : level app s ≤ source_priority app k.0 = omega (arith, c.level.ensures, c.source_priority.ensures, c.if-level-source_priority.true) in
     first_of_those app s (Some k) (sym c.takes_none.ensures ∙ c.if-takes_none.false)
-    (first_let_in app (is_latched s) (level app s) (length s.latched) k c.in-Some.ensures (le-leb _ _ within))
+    (first_let_in app (is_latched s) (level app s) (length s.latched) k c.in-Some.ensures (sym c.is_let_in.ensures ∙ c.if-is_let_in.true))
 
-pub returns-else-level-source_priority : goal.returns-else-level-source_priority
-returns-else-level-source_priority c =
+pub returns-else-is_let_in : goal.returns-else-is_let_in
+returns-else-is_let_in c =
     let app = c.args.app.now in
     let s = c.args.state.now in
     let k = c.in-Some.source in
-    let above : source_priority app k.0 < level app s = omega (arith, c.level.ensures, c.source_priority.ensures, c.if-level-source_priority.false) in
     first_of_those app s None (sym c.takes_none.ensures ∙ c.if-takes_none.false)
-    (each_kept_out app (is_latched s) (level app s) (length s.latched) k.0 c.in-Some.ensures (lt-leb _ _ above))
+    (each_kept_out app (is_latched s) (level app s) (length s.latched) k.0 c.in-Some.ensures (sym c.is_let_in.ensures ∙ c.if-is_let_in.false))

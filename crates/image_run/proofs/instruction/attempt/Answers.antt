@@ -1,8 +1,7 @@
 -- the form of a site gives the outcome, and elsewhere nothing is asked
-use Rattle.std.proofs.Common.{◌≡◌, ◌∙◌, sym, ap, subst, false}
+use Rattle.std.proofs.Common.{◌∙◌, sym, ap}
 use Rattle.std.specs.{Prelude.{option_map}, declared.option.Option.{Option}}
-use Rattle.osek_values.specs.declared.numbers.TaskNo.{TaskNo}
-use Rattle.osek_standard.specs.{States.{here, is_that_task}, Effects.{Effect, effected}, Dispatch.{concluded}}
+use Rattle.osek_standard.specs.{States.{here}, Effects.{Effect, effected}, Dispatch.{concluded}}
 use Rattle.osek_standard.proofs.{WellLaws.{in_owner_known}, MoveKeeps.{here_own}}
 use Rattle.image_model.specs.{declared.site.Site.{Site}, ImageStep.{site_at, formed_at, instructed}}
 use Rattle.image_run.proofs.{OtherEffects.{asks_none_elsewhere}, SiteForms.{no_site_there}}
@@ -26,5 +25,4 @@ returns-clause-step g c =
     ∙ c.conclude_by-notes.ensures.step
 
 pub returns-clause-ready : goal.returns-clause-ready
-returns-clause-ready g c = c.take_in.ensures.ready c.effect-done.new.state c.effect-done.ensures.ready
-    (λ u n _. c.conclude_by-notes.ensures.others u (subst (λ (o : Option TaskNo). is_that_task o u ≡ false) c.current-current.ensures n))
+returns-clause-ready g c = c.take_in_running.ensures c.effect-done.new.state c.effect-done.ensures.ready c.conclude_by-notes.ensures.levels

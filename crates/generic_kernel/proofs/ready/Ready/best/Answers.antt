@@ -46,7 +46,7 @@ loop-task-init g c = record { below = tt; best = λ app ready u h. absurd (omega
 pub loop-task-preserved : goal.loop-task-preserved
 loop-task-preserved g c = record {
   below = c.better-found.ensures.below;
-  best = λ app ready. c.better-found.ensures.best app c.args.state.now ready c.turns_of-turns.ensures (c.loop-task.invariant.best app ready);
+  best = λ app ready. c.better-found.ensures.best app ready (c.loop-task.invariant.best app ready);
   scans = λ app ready. omega (
     arith,
     c.loop-task.invariant.scans app ready,

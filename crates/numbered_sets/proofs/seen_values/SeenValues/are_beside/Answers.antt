@@ -18,4 +18,4 @@ returns-in-Some c =
     let same : c.in-Some.moved ≡ c.at-slot.result = eqb-true c.in-Some.moved c.at-slot.result e in
     let is : value_in here.domain here.stacks c.at-slot.result ≡ on_task (at_block block) (value_in here.domain here.stacks c.at.result) =
     ap (value_in here.domain here.stacks) (sym same) ∙ c.in-Some.ensures.is in
-    subst IsBeside c.self.view_is (value_beside here.domain here.stacks here.slots c.at.result c.at-slot.result n m block c.at.ensures.slot c.at-slot.ensures.slot is))
+    subst IsBeside c.self.view_is (value_beside here.domain here.stacks here.slots.used c.at.result c.at-slot.result n m block c.at.ensures.slot c.at-slot.ensures.slot is))

@@ -18,7 +18,7 @@ numbered_so : (c : goal.In_ok-number) → IsNumberOf c.args.self.now.values (val
 numbered_so c =
     let here = c.self.inside in
     subst (λ (x : Values). IsNumberOf x.values (value_of c) c.args.number) c.self.view_is
-    (value_numbered here.domain here.stacks here.slots c.at-slot.result c.args.number (value_of c) c.at-slot.ensures.slot refl)
+    (value_numbered here.domain here.stacks here.slots.used c.at-slot.result c.args.number (value_of c) c.at-slot.ensures.slot refl)
 
 moved_is : (c : goal.In_ok-number) (v : PartValue) → IsNumberOf c.args.self.now.values v c.args.number → moved_of c ≡ updated c.args.update.now v
 moved_is c v number = ap₂ (λ (u : Update) (w : PartValue). updated u w) (sym c.in-Block.is) (sym ((numbered_so c).is v) ∙ number.is v)
@@ -30,7 +30,7 @@ invariant_of-self-in-Some c =
     let within : IsWithin here.domain (moved_of c) = subst (λ (u : Update). IsWithin here.domain (updated u w)) c.in-Block.is
     (subst (λ (x : Values). IsWithin x.domain (updated c.args.update.now w)) (sym c.self.view_is) (c.requires.within w (numbered_so c))) in
     given_seen here.domain here.stacks here.stacks here.slots c.number.new.self c.in-Some.moved c.in_ok-number.number (moved_of c) (same_stacks here.stacks) c.self.invariant c.in-Some.ensures c.in_ok-number.ensures.slots c.in_ok-number.ensures.number
-    within
+    c.number.ensures.width within
 
 pub returns-in-Some-clause-values : goal.returns-in-Some-clause-values
 returns-in-Some-clause-values c = λ v number.
@@ -43,7 +43,7 @@ returns-in-Some-clause-values c = λ v number.
 pub returns-in-Some-clause-number : goal.returns-in-Some-clause-number
 returns-in-Some-clause-number c = λ v number.
     let here = c.self.inside in
-    subst (λ (w : PartValue). IsNumberOf (slot_values here.domain here.stacks c.number.new.self) w c.in_ok-number.number) (moved_is c v number)
+    subst (λ (w : PartValue). IsNumberOf (slot_values here.domain here.stacks c.number.new.self.used) w c.in_ok-number.number) (moved_is c v number)
     (given_number here.domain here.stacks here.stacks here.slots c.number.new.self c.in-Some.moved c.in_ok-number.number (moved_of c) (same_stacks here.stacks) c.self.invariant c.in-Some.ensures c.in_ok-number.ensures.slots
     c.in_ok-number.ensures.number)
 

@@ -1,7 +1,9 @@
 use Rattle.std.proofs.Common.{◌+◌, ◌<◌, length, sym, subst, arith}
+use Rattle.osek_values.specs.declared.numbers.BlockNo.{BlockNo}
+use Rattle.abstract_state.specs.declared.value.PartValue.{PartValue}
 use Rattle.flow_model.specs.Tests.{updated}
 use Rattle.flow_model.specs.declared.change.Update.TheVariants as update
-use Rattle.numbered_sets.specs.{Made.{AreMade}}
+use Rattle.numbered_sets.specs.{Pools.{IsNumberOf}, Made.{AreMade}}
 use Rattle.numbered_sets.proofs.MadeLaws.{made_on, made_more}
 use Rattle.numbered_sets.proofs.seen_values.SeenValues.pass_at.Goals as goal
 
@@ -13,12 +15,17 @@ loop-number-init c = record {
   made = made_on (updated (update.Block c.args.block)) c.args.self.now.values c.args.numbers.now c.args.made.now c.args.from c.next-number.result c.next-number.ensures.up c.next-number.ensures.none;
 }
 
+pub returns-in_default-clause-made : goal.returns-in_default-clause-made
+returns-in_default-clause-made c =
+    made_on (updated (update.Block c.args.block)) c.args.self.now.values c.args.numbers.now c.args.made.now c.args.from c.next.result c.next.ensures.up c.next.ensures.none
+
 pub loop-number-preserved : goal.loop-number-preserved
 loop-number-preserved c =
     let becomes = updated (update.Block c.args.block) in
     let vs = c.args.self.now.values in
     let old = c.args.numbers.now in
     let n = c.loop-number.number in
+    let its = subst (λ (b : BlockNo). (v : PartValue) → IsNumberOf vs v n → IsNumberOf vs (updated (update.Block b) v) c.in-Some-found_in.after) c.in-Some.ensures.block c.in-Some-found_in.ensures in
     let known : n < length vs = omega (arith, c.loop-number-test.true, c.len-count.ensures) in
     record {
       up = omega (arith, c.loop-number.invariant.up, c.next-number-in-loop-number.ensures.up);
@@ -27,5 +34,5 @@ loop-number-preserved c =
       made = λ begun.
           made_on becomes vs old c.put.new.self (n + 1) c.next-number-in-loop-number.result c.next-number-in-loop-number.ensures.up c.next-number-in-loop-number.ensures.none
           (subst (AreMade becomes vs old (n + 1)) (sym c.in_ok-put.ensures.set)
-          (made_more becomes vs old c.loop-number.made n c.in-Some.after known (c.loop-number.invariant.has c.loop-number-test.true) c.in-Some.ensures (c.loop-number.invariant.made begun)));
+          (made_more becomes vs old c.loop-number.made n c.in-Some-found_in.after known (c.loop-number.invariant.has c.loop-number-test.true) its (c.loop-number.invariant.made begun)));
     }

@@ -12,5 +12,5 @@ invariant-loop-number l = record {
   up : l.from ≤ l.number;
   few : l.number ≤ l.count;
   has : l.number < l.count → IsTrue (has_number l.numbers l.number);
-  made : AreMade (updated (update.Block l.block)) l.self.values l.numbers l.from l.initial.made → AreMade (updated (update.Block l.block)) l.self.values l.numbers l.number l.made;
+  made : AreMade (updated (update.Block l.fn.block)) l.self.values l.numbers l.from l.initial.made → AreMade (updated (update.Block l.fn.block)) l.self.values l.numbers l.number l.made;
 }

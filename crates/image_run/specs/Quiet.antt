@@ -1,0 +1,46 @@
+-- Steps after which a line of the trace shows of the tasks what the line before showed.
+use Rattle.std.specs.Prelude.{◌≡◌, ⊤, Bool, true, false, ℕ, None, is_some}
+use Rattle.osek_values.specs.declared.event.Event.{Event, TheVariants.{Run, Irq, Tick}}
+use Rattle.osek_standard.specs.declared.{app.App.{App}, block.Kind.{Kind}, state.{State.{State}, Processor.{Processor}}}
+use Rattle.osek_standard.specs.{Apps.{the_block}, TaskStates.{is_inside}, States.{here, nowhere, task_of, task_state}, Internal.{internal_of}, Effects.{task_at}}
+use Rattle.image_model.specs.{declared.image.Image.{Image}, ImageStep.{site_at}}
+use Rattle.osek_standard.specs.declared.block.Kind.TheVariants as kind
+use Rattle.osek_standard.specs.declared.state.Processor.TheVariants as processor
+
+-- the same task runs or is interrupted, and each task is as it was but for its place
+pub record KeepsTasks (s r : State) : Type 0 where
+  pub current : task_of r.processor ≡ task_of s.processor
+  pub tasks : (t : ℕ) → task_at (task_state r t) nowhere ≡ task_at (task_state s t) nowhere
+
+-- at a block of this kind an instruction only moves on
+abbrev pub only_moves : Kind → Bool
+only_moves (kind.Work n) = true
+only_moves (kind.Choice other) = true
+only_moves kind.Loop = true
+only_moves _ = false
+
+-- the task that runs is inside where it names an INTERNAL resource, and at no other time
+abbrev pub IsSettled : App → State → Processor → Type 0
+IsSettled app s processor.Halted = ⊤
+IsSettled app s processor.Idle = ⊤
+IsSettled app s (processor.Running t) = is_inside (task_state s t.0) ≡ is_some (internal_of app t.0)
+IsSettled app s (processor.Interrupted k over) = ⊤
+
+module _ (i : Image) (s : State) where
+  -- the instruction that is due, if one is, only moves on, at a block that is no site
+  pub record IsQuietHere : Type 0 where
+    pub moves : only_moves (the_block i.app (here s).block.0).kind ≡ true
+    pub no_site : site_at i (here s).block.0 ≡ None
+    pub settled : IsSettled i.app s s.processor
+
+  abbrev pub IsQuietAt : Processor → Type 0
+  IsQuietAt processor.Halted = ⊤
+  IsQuietAt processor.Idle = ⊤
+  IsQuietAt (processor.Running t) = IsQuietHere
+  IsQuietAt (processor.Interrupted k over) = IsQuietHere
+
+  -- and a source that latches changes no task
+  abbrev pub IsQuiet : Event → Type 0
+  IsQuiet (Run choice) = IsQuietAt s.processor
+  IsQuiet (Irq k) = ⊤
+  IsQuiet (Tick c) = ⊤

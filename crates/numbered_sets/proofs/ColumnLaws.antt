@@ -1,0 +1,121 @@
+-- Numbers of slots by column and row.
+use Rattle.std.proofs.Common.{◌≡◌, ◌≢◌, ℕ, zero, suc, ◌+◌, ◌*◌, ◌/◌, ◌%◌, ◌<◌, List, [], ◌∷◌, ◌++◌, length, get_or, set, sym, ap, ap₂, subst, ◌∙◌, inl, inr, refl, arith}
+use Rattle.std.specs.Prelude.{Option, IfSome, IfNone}
+use Rattle.std.proofs.{Math.Seq.{get_or-append_seam}, lemmas.{Bool.{cases_eq, cases_lt}, Nat.{div-add-mod', div-mul-add, mod-mul-add}}}
+use Rattle.std.proofs.lemmas.List.{length-append, get_or_append_left, get_or-set_same, get_or-set_other}
+use Rattle.numbered_sets.specs.Slots.{IsPlaceOf, IsUnused, none, number_in, AreNumbersBySlot, AreSameNumbers, IsRoomAt}
+
+pub same_itself : (columns : List (List ℕ)) → AreSameNumbers columns columns
+same_itself columns = record { each = λ c r. refl }
+
+pub same_onward : (a b c : List (List ℕ)) → AreSameNumbers a b → AreSameNumbers b c → AreSameNumbers a c
+same_onward a b c h k = record { each = λ column row. k.each column row ∙ h.each column row }
+
+pub default_behind : {A : Type 0} (xs : List A) (d : A) (n : ℕ) → get_or (xs ++ d ∷ []) n d ≡ get_or xs n d
+default_behind [] d zero = refl
+default_behind [] d (suc n) = refl
+default_behind (x ∷ xs) d zero = refl
+default_behind (x ∷ xs) d (suc n) = default_behind xs d n
+
+-- a column that has no number yet
+pub same_with_column : (before columns : List (List ℕ)) → AreSameNumbers before columns → AreSameNumbers before (columns ++ [] ∷ [])
+same_with_column before columns same = record { each = λ c r. ap (λ (numbers : List ℕ). get_or numbers r none) (default_behind columns [] c) ∙ same.each c r }
+
+-- a column with other numbers
+numbers_there : (columns : List (List ℕ)) (column : ℕ) (numbers : List ℕ) → column < length columns → (r : ℕ) → number_in (set columns column numbers) column r ≡ get_or numbers r none
+numbers_there columns column numbers known r = ap (λ (ns : List ℕ). get_or ns r none) (get_or-set_same columns column numbers [] known)
+
+numbers_elsewhere : (columns : List (List ℕ)) (column c : ℕ) (numbers : List ℕ) → c ≢ column → (r : ℕ) → number_in (set columns column numbers) c r ≡ number_in columns c r
+numbers_elsewhere columns column c numbers differ r = ap (λ (ns : List ℕ). get_or ns r none) (get_or-set_other columns column c numbers [] differ)
+
+pub same_with_room : (columns : List (List ℕ)) (column : ℕ) (numbers : List ℕ) → column < length columns → ((r : ℕ) → get_or numbers r none ≡ number_in columns column r) → AreSameNumbers columns (set columns column numbers)
+same_with_room columns column numbers known same = record {
+  each = λ c r. elim (cases_eq c column) [
+    | inl here ↦ subst (λ (k : ℕ). number_in (set columns column numbers) k r ≡ number_in columns k r) (sym here) (numbers_there columns column numbers known r ∙ same r)
+    | inr differ ↦ numbers_elsewhere columns column c numbers differ r
+  ];
+}
+
+pub numbers_stay : (width : ℕ) (used : List ℕ) (columns after : List (List ℕ)) → AreSameNumbers columns after → AreNumbersBySlot width used columns → AreNumbersBySlot width used after
+numbers_stay width used columns after same h = record {
+  wide = h.wide;
+  few = h.few;
+  each = λ n d lt. same.each (get_or used n d % width) (get_or used n d / width) ∙ h.each n d lt;
+  only = λ c r lt some. subst (IsPlaceOf used (r * width + c)) (sym (same.each c r)) (h.only c r lt (λ e. some (same.each c r ∙ e)));
+}
+
+-- ---- what was found
+
+pub unused_at : (width : ℕ) (used : List ℕ) (columns : List (List ℕ)) (column row : ℕ) → AreNumbersBySlot width used columns → column < width → number_in columns column row ≡ none → IsUnused used (row * width + column)
+unused_at width used columns column row h lt is = record {
+  each = λ n d known e.
+      (let left : get_or used n d % width ≡ column = ap (λ (s : ℕ). s % width) e ∙ mod-mul-add row width column lt in
+      let often : get_or used n d / width ≡ row = ap (λ (s : ℕ). s / width) e ∙ div-mul-add row width column lt in
+      let number : none ≡ n = sym is ∙ sym (ap₂ (number_in columns) left often) ∙ h.each n d known in
+      omega (arith, number, known, h.few));
+}
+
+pub found_slot : (width slot : ℕ) (used : List ℕ) (found : Option ℕ) → IfSome found (IsPlaceOf used (slot / width * width + slot % width)) → IfSome found (IsPlaceOf used slot)
+found_slot width slot used found h = subst (λ (s : ℕ). IfSome found (IsPlaceOf used s)) (div-add-mod' slot width) h
+
+pub unused_slot : (width slot : ℕ) (used : List ℕ) (found : Option ℕ) → IfNone found (IsUnused used (slot / width * width + slot % width)) → IfNone found (IsUnused used slot)
+unused_slot width slot used found h = subst (λ (s : ℕ). IfNone found (IsUnused used s)) (div-add-mod' slot width) h
+
+-- ---- a slot gets the next number
+
+pub place_stays : (used more : List ℕ) (s n : ℕ) → IsPlaceOf used s n → IsPlaceOf (used ++ more) s n
+place_stays used more s n h = record { known = omega (arith, h.known, length-append used more); is = λ d. get_or_append_left used more d n h.known ∙ h.is d }
+
+pub last_place : (used : List ℕ) (s : ℕ) → IsPlaceOf (used ++ s ∷ []) s (length used)
+last_place used s = record { known = omega (arith, length-append used (s ∷ [])); is = λ d. get_or-append_seam used s [] d }
+
+module _ (width : ℕ) (used : List ℕ) (columns : List (List ℕ)) (slot : ℕ) (h : AreNumbersBySlot width used columns) (unused : IsUnused used slot) (few : length used < none) (room : IsRoomAt columns (slot % width) (slot / width)) where
+  abbrev pub with_number : List (List ℕ)
+  with_number = set columns (slot % width) (set (get_or columns (slot % width) []) (slot / width) (length used))
+
+  put_there : number_in with_number (slot % width) (slot / width) ≡ length used
+  put_there =
+      numbers_there columns (slot % width) (set (get_or columns (slot % width) []) (slot / width) (length used)) room.wide (slot / width)
+      ∙ get_or-set_same (get_or columns (slot % width) []) (slot / width) (length used) none room.long
+
+  others_stay : (c r : ℕ) → (c ≡ slot % width → r ≡ slot / width → ⊥) → number_in with_number c r ≡ number_in columns c r
+  others_stay c r differ = elim (cases_eq c (slot % width)) [
+    | inl here ↦
+        subst (λ (k : ℕ). number_in with_number k r ≡ number_in columns k r) (sym here)
+        (numbers_there columns (slot % width) (set (get_or columns (slot % width) []) (slot / width) (length used)) room.wide r
+        ∙ get_or-set_other (get_or columns (slot % width) []) (slot / width) r (length used) none (differ here))
+    | inr elsewhere ↦ numbers_elsewhere columns (slot % width) c (set (get_or columns (slot % width) []) (slot / width) (length used)) elsewhere r
+  ]
+
+  same_slot : (s : ℕ) → s % width ≡ slot % width → s / width ≡ slot / width → s ≡ slot
+  same_slot s left often = sym (div-add-mod' s width) ∙ ap₂ (λ (r c : ℕ). r * width + c) often left ∙ div-add-mod' slot width
+
+  number_of_each : (n d : ℕ) → n < length (used ++ slot ∷ []) → number_in with_number (get_or (used ++ slot ∷ []) n d % width) (get_or (used ++ slot ∷ []) n d / width) ≡ n
+  number_of_each n d lt = elim (cases_lt n (length used)) [
+    | inl before ↦
+        subst (λ (s : ℕ). number_in with_number (s % width) (s / width) ≡ n) (sym (get_or_append_left used (slot ∷ []) d n before))
+        (others_stay (get_or used n d % width) (get_or used n d / width) (λ left often. unused.each n d before (same_slot (get_or used n d) left often)) ∙ h.each n d before)
+    | inr le ↦
+        (let last : n ≡ length used = omega (arith, lt, le, length-append used (slot ∷ [])) in
+        subst (λ (s : ℕ). number_in with_number (s % width) (s / width) ≡ n) (sym (ap (λ (k : ℕ). get_or (used ++ slot ∷ []) k d) last ∙ get_or-append_seam used slot [] d)) (put_there ∙ sym last))
+  ]
+
+  place_of_each : (c r : ℕ) → c < width → number_in with_number c r ≢ none → IsPlaceOf (used ++ slot ∷ []) (r * width + c) (number_in with_number c r)
+  place_of_each c r lt some = elim (cases_eq c (slot % width)) [
+    | inl here ↦ elim (cases_eq r (slot / width)) [
+      | inl there ↦
+          (let its : r * width + c ≡ slot = ap₂ (λ (x y : ℕ). x * width + y) there here ∙ div-add-mod' slot width in
+          let number : number_in with_number c r ≡ length used = ap₂ (number_in with_number) here there ∙ put_there in
+          subst (λ (s : ℕ). IsPlaceOf (used ++ slot ∷ []) s (number_in with_number c r)) (sym its) (subst (IsPlaceOf (used ++ slot ∷ []) slot) (sym number) (last_place used slot)))
+      | inr differ ↦ stays (λ same also. differ also)
+    ]
+    | inr differ ↦ stays (λ same also. differ same)
+  ]
+    where
+      stays : (c ≡ slot % width → r ≡ slot / width → ⊥) → IsPlaceOf (used ++ slot ∷ []) (r * width + c) (number_in with_number c r)
+      stays differ =
+          (let same = others_stay c r differ in
+          subst (IsPlaceOf (used ++ slot ∷ []) (r * width + c)) (sym same) (place_stays used (slot ∷ []) (r * width + c) (number_in columns c r) (h.only c r lt (λ e. some (same ∙ e)))))
+
+  pub numbers_with : AreNumbersBySlot width (used ++ slot ∷ []) with_number
+  numbers_with = record { wide = h.wide; few = omega (arith, few, length-append used (slot ∷ [])); each = number_of_each; only = place_of_each }
