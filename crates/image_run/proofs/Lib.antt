@@ -6,3 +6,4 @@ pub mod SiteChanges
 pub mod SiteLines
 pub mod UndoLaws
 pub mod QuietSteps
+pub mod TraplessSites

@@ -20,7 +20,7 @@ use Rattle.image_run.proofs.Apart.{own_is_task_block}
 abbrev AsksNo : Answer → Type 0
 AsksNo a = a.ask ≡ ask.No
 
-asked_no : (app : App) (c : Caller) (k : Kind) → asked_by app c k ask.No ≡ ask.No
+pub asked_no : (app : App) (c : Caller) (k : Kind) → asked_by app c k ask.No ≡ ask.No
 asked_no app Nobody k = refl
 asked_no app (Routine r) k = refl
 asked_no app (Task t) k = refl

@@ -5,15 +5,16 @@ use Rattle.std.specs.{Prelude.{if◌then◌else◌}, declared.option.Option.{Opt
 use Rattle.osek_values.specs.declared.{event.Event.{Event, TheVariants.{Run, Irq, Tick}}, numbers.{SourceNo.{SourceNo}}}
 use Rattle.osek_values.specs.declared.status.Ask.{Ask}
 use Rattle.osek_values.specs.declared.status.Ask.TheVariants as ask
-use Rattle.osek_standard.specs.declared.{app.App.{App}, block.{Block.{Block}, Kind.{Kind}}, state.{State.{State}, Processor.{Processor}, Caller.{Caller, TheVariants.{Nobody, Task, Routine}}}}
+use Rattle.osek_standard.specs.declared.{app.App.{App}, block.{Block.{Block}, Kind.{Kind}}, state.{State.{State}, Processor.{Processor}}}
 use Rattle.osek_standard.specs.declared.task_state.{Place.{Place}, TaskState.{TaskState}, Activity.{Activity, TheVariants.{Suspended, Live, Waiting}}}
 use Rattle.osek_standard.specs.{Apps.{the_block}, TaskStates.{is_inside_in, suspended}, States.{caller, here, nowhere, with_latch, task_of, task_state}, Internal.{inside_as, internal_of, kept, kept_by}}
-use Rattle.osek_standard.specs.{Effects.{Effect, asked_by, effect, effect_at, effect_by, moved, moved_by, moved_to, noted, place_at, standing_at, task_at}, Services.{unnoted}, Arrivals.{arrival, entered}}
+use Rattle.osek_standard.specs.{Effects.{Effect, effect, effect_at, effect_by, moved, moved_by, moved_to, noted, place_at, standing_at, task_at}, Services.{unnoted}, Arrivals.{arrival, entered}}
 use Rattle.osek_standard.specs.{Dispatch.{Keep, Stepped, concluded, outcome_of, silent}, Kernel.{entered_or, run_by}, Well.{Well, IsActive, IsProcessor}}
 use Rattle.osek_standard.specs.declared.block.Kind.TheVariants as kind
 use Rattle.osek_standard.specs.declared.state.Processor.TheVariants as processor
 use Rattle.osek_standard.proofs.Keeps.{task_after}
 use Rattle.image_model.specs.{declared.{image.Image.{Image}, site.Site.{Site}}, ImageStep.{formed_at, image_step, instructed}}
+use Rattle.image_run.proofs.OtherEffects.{asked_no}
 use Rattle.image_run.specs.Quiet.{IsQuiet, IsQuietAt, IsQuietHere, IsSettled, KeepsTasks, only_moves}
 
 moved_processor : (s : State) (p : Processor) (to : Place) → (moved_by s p to).processor ≡ s.processor
@@ -64,11 +65,6 @@ module _ (app : App) (s : State) (choice : Bool) where
     to : Place
     is : e ≡ noted app (unnoted (moved s to) ask.No)
 
-  asks_nothing : (c : Caller) (k : Kind) → asked_by app c k ask.No ≡ ask.No
-  asks_nothing Nobody k = refl
-  asks_nothing (Task t) k = refl
-  asks_nothing (Routine r) k = refl
-
   moves_by : (p : Place) (b : Block) (k : Kind) → only_moves k ≡ true → IsMove (effect_at app s choice p b k)
   moves_by p b (kind.Work n) e = elim (cases_Bool (nat_lt (p.offset + 1) n)) [
     | inl f ↦ record { to = place_at p.block (p.offset + 1); is = (rw f refl) }
@@ -77,7 +73,7 @@ module _ (app : App) (s : State) (choice : Bool) where
   moves_by p b (kind.Choice other) e = record { to = place_at (if choice then b.next else other) 0; is = refl }
   moves_by p b kind.Loop e = record {
     to = place_at b.next 0;
-    is = ap (λ (a : Ask). noted app (record (unnoted (moved_to s b.next) ask.No) { ask = a })) (asks_nothing (caller s.processor) kind.Loop);
+    is = ap (λ (a : Ask). noted app (record (unnoted (moved_to s b.next) ask.No) { ask = a })) (asked_no app (caller s.processor) kind.Loop);
   }
   moves_by p b (kind.Call c) e = absurd (cc)
   moves_by p b kind.TaskEnd e = absurd (cc)

@@ -3,3 +3,4 @@ pub mod Machines
 pub mod Scans
 pub mod Noted
 pub mod Quiet
+pub mod Trapless

@@ -8,6 +8,7 @@ ghost use Rattle.image_model.specs.declared.site.Form.TheVariants as form;
 ghost use Rattle.image_run.specs.{Befores.{put_back, IsAfter}, Noted.{hooks_noted, noted_if}, Scans.{scans_at, scans_due}};
 
 use crate::before::{Before, task_of};
+use crate::trapless::is_no_trap;
 use generic_kernel::{
     Effect, Ready, conclude, effect, here, keep, keep_ready, nothing, silent_effect, switch_to,
     take_event, take_in_running,
@@ -247,7 +248,7 @@ fn instruct_at<L: Ledger>(
     ensures ready { IsReady image.now.app state.new ready.new }
     ensures scans { scans.new ≤ scans.old + scans_at (form_at image.now (here_of state.old).block.0) (length image.now.app.tasks) }
 {
-    if site.is_none() {
+    if is_no_trap(image, state, site) {
         return attempt(image, state, ready, choice, site, scans);
     }
     let before = Before::of(&image.app, state);

@@ -7,6 +7,7 @@ mod instruction;
 mod machine;
 mod quiet;
 mod trap;
+mod trapless;
 
 pub use machine::Machine;
 pub use trap::Trap;
