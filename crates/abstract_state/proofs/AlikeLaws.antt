@@ -1,19 +1,19 @@
 -- What a table keeps of a state decides whether the state is in it.
-use Rattle.std.proofs.Common.{◌≡◌, ℕ, ◌<◌, false, refl, sym, ap, subst, ◌∙◌, IsTrue}
+use Rattle.std.proofs.Common.{◌≡◌, ℕ, ◌<◌, Bool, true, false, refl, sym, ap, subst, ◌∙◌, IsTrue}
 use Rattle.osek_values.specs.{Numbers.{block_no}, declared.{numbers.BlockNo.{BlockNo}, mask.Mask.{Mask}}, Bits.{has_bit}}
 use Rattle.osek_standard.specs.declared.{app.App.{App}, state.{State.{State}, Processor.{Processor}}}
 use Rattle.osek_standard.specs.declared.state.Source.TheVariants as source
 use Rattle.osek_standard.specs.declared.state.Processor.TheVariants as processor
 use Rattle.osek_standard.specs.declared.task_state.Activity.{Activity}
 use Rattle.osek_standard.specs.declared.task_state.Activity.TheVariants as activity
-use Rattle.osek_standard.specs.{States.{task_state, source_state, place_in, place_by, is_in, is_source_at}, Well.{Well}, declared.point.Point.{Point}}
+use Rattle.osek_standard.specs.{TaskStates.{is_inside_in}, States.{task_of, task_state, source_state, place_in, place_by, is_in, is_source_at, is_that_task}, Well.{Well}, declared.point.Point.{Point}}
 use Rattle.osek_standard.proofs.NestLaws.{out_of}
 use Rattle.abstract_state.specs.declared.value.{Val.{Val, TheVariants.{Suspended, Live, Waiting}}, Component.{Component}, PartValue.TheVariants.{OfTask, OfEvent, OfAlarm}}
 use Rattle.abstract_state.specs.declared.value.Component.TheVariants as component
 use Rattle.osek_standard.specs.Points.{point_at, point_of}
 use Rattle.abstract_state.specs.{Components.{component_at, component_count, value_in, part_of, abstract_of}, Alike.{IsAlike}, Regular.{IsRegular}, Tables.{Sets, In}}
 
-pub in_by_components : (app : App) (table : Sets) (s u : State) → Well app u → IsRegular u → point_of s ≡ point_of u → ((c : ℕ) → c < component_count app → abstract_of app s c ≡ abstract_of app u c) → In app table s → In app table u
+pub in_by_components : (app : App) (table : Sets) (s u : State) → Well app u → IsRegular app u → point_of s ≡ point_of u → ((c : ℕ) → c < component_count app → abstract_of app s c ≡ abstract_of app u c) → In app table s → In app table u
 in_by_components app table s u w regular p parts h = record {
   well = w;
   regular = regular;
@@ -37,6 +37,20 @@ block_of_value (activity.Waiting b) = refl
 same_block : (x y : Activity) → value_in x ≡ value_in y → (place_in x).block ≡ (place_in y).block
 same_block x y e = block_of_value x ∙ ap block_in e ∙ sym (block_of_value y)
 
+abbrev pub inside_in : Val → Bool
+inside_in Suspended = false
+inside_in (Live x) = x.inside
+inside_in (Waiting b) = false
+
+-- and so is its flag
+pub inside_of_value : (x : Activity) → is_inside_in x ≡ inside_in (value_in x)
+inside_of_value activity.Suspended = refl
+inside_of_value (activity.Live x) = refl
+inside_of_value (activity.Waiting b) = refl
+
+same_inside : (x y : Activity) → value_in x ≡ value_in y → is_inside_in x ≡ is_inside_in y
+same_inside x y e = inside_of_value x ∙ ap inside_in e ∙ sym (inside_of_value y)
+
 module _ (s u : State) (alike : IsAlike s u) where
   same_point_at : (p : Processor) → point_at (place_by s p).block p ≡ point_at (place_by u p).block p
   same_point_at processor.Halted = refl
@@ -52,13 +66,19 @@ module _ (s u : State) (alike : IsAlike s u) where
   alike_part (component.Event t k) = ap (λ (m : Mask). OfEvent (has_bit m.0 k.0)) (alike.events t.0)
   alike_part (component.Alarm a) = ap OfAlarm (alike.alarms a.0)
 
--- the same routines are in
-alike_regular : (s u : State) → IsAlike s u → IsRegular s → IsRegular u
-alike_regular s u alike h = record {
+-- the same routines are in, and the same tasks inside
+alike_regular : (app : App) (s u : State) → IsAlike s u → IsRegular app s → IsRegular app u
+alike_regular app s u alike h = record {
+  inside = record {
+    named = λ t f. h.inside.named t (same_inside (task_state s t).activity (task_state u t).activity (alike.tasks t) ∙ f);
+    current = λ t f.
+        sym (same_inside (task_state s t).activity (task_state u t).activity (alike.tasks t))
+        ∙ h.inside.current t (subst (λ (p : Processor). is_that_task (task_of p) t ≡ true) (sym alike.processor) f);
+  };
   alone = λ k f.
       let out : source_state s k ≡ source.Out = h.alone k (subst (λ (p : Processor). is_source_at p k ≡ false) (sym alike.processor) f) in
       out_of (source_state u k) (sym (alike.entered k) ∙ ap is_in out);
 }
 
 pub in_alike : (app : App) (table : Sets) (s u : State) → Well app u → IsAlike s u → In app table s → In app table u
-in_alike app table s u w alike h = in_by_components app table s u w (alike_regular s u alike h.regular) (alike_point s u alike) (λ c lt. alike_part s u alike (component_at app c)) h
+in_alike app table s u w alike h = in_by_components app table s u w (alike_regular app s u alike h.regular) (alike_point s u alike) (λ c lt. alike_part s u alike (component_at app c)) h

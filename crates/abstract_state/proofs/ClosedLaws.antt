@@ -7,10 +7,10 @@ use Rattle.osek_values.specs.declared.numbers.{TaskNo.{TaskNo}, SourceNo.{Source
 use Rattle.oil_system.specs.declared.objects.Resource.{Resource}
 use Rattle.osek_standard.specs.declared.{app.App.{App}, objects.{Task.{Task}, Isr.{Isr}}, task_state.TaskState.{TaskState}, state.{State.{State}, Source.{Source}}}
 use Rattle.osek_standard.specs.Apps.{tables, the_isr, the_task, no_isr, no_resource, no_task, is_counter, source_priority}
-use Rattle.osek_standard.specs.{Validity.{IsClosed, IsInternal}, TaskStates.{held, holds, is_inside}, States.{is_interrupted, source_state, task_of, task_state}}
-use Rattle.osek_standard.specs.{Levels.{highest_level, interrupt_ceiling, level, own_level, routine_level, task_level}, Internal.{internal_of, occupied}, Well.{Well, IsProcessor, IsRunningAt, IsStack}}
+use Rattle.osek_standard.specs.{Validity.{IsClosed, IsInternal}, TaskStates.{held, is_inside}, States.{is_interrupted, source_state, task_of, task_state}}
+use Rattle.osek_standard.specs.{Levels.{highest_level, interrupt_ceiling, level, own_level, routine_level, task_level}, Internal.{internal_of, occupied}, Well.{Well, IsProcessor, IsRunningAt}}
 use Rattle.osek_standard.specs.declared.state.Source.TheVariants as source
-use Rattle.osek_standard.proofs.{LevelLaws.{greatest_is, level_of_task}, StackLaws.{IsTakable, push_stack}}
+use Rattle.osek_standard.proofs.LevelLaws.{greatest_is, level_of_task}
 
 module _ (app : App) where
   isr_lowest : (i : ℕ) → (the_isr app i).priority ≡ 0
@@ -66,14 +66,3 @@ module _ (app : App) where
   pub takes_once : (t : ℕ) → t < length app.tasks → (the_task app t).activation ≡ 1
   unfolding IsClosed
   takes_once t lt = app.valid.closed.0 t no_task lt
-
-  pub all_takable : All (λ (r : Resource). IsTrue (not r.internal)) app.resources
-  unfolding IsClosed
-  all_takable = app.valid.closed.1
-
-  -- so each resource may be taken
-  pub takable : (r : ResNo) → r.0 < length app.resources → IsTakable app r
-  takable r lt = (lt, all_takable r.0 no_resource lt)
-
-  pub pushed : (h : List ResNo) (r : ResNo) → IsStack app h → r.0 < length app.resources → holds h r.0 ≡ false → IsStack app (h ++ r ∷ [])
-  pushed h r stack lt free = push_stack app h r stack (takable r lt) free

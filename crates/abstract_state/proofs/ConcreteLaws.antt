@@ -1,25 +1,25 @@
 -- Values that the components can have at a point, one each, make a well-formed state there.
 use Rattle.std.proofs.Common.{◌≡◌, ◌≢◌, ℕ, ◌+◌, ◌<◌, ◌≤◌, Bool, true, false, ◌&&◌, not, nat_lt, [], length, map, replicate, get_or, refl, sym, ap, subst, ◌∙◌, inl, inr, arith, Some, None, IfSome}
-use Rattle.std.proofs.lemmas.Bool.{cases_eq, cases_lt, and_parts, eq-eqb, false≢true, ne_eqb, Decides.{nat_tests}}
+use Rattle.std.proofs.lemmas.Bool.{cases_eq, cases_lt, and_parts, eq-eqb, eqb-true, false≢true, ne_eqb, Decides.{nat_tests}}
 use Rattle.std.proofs.lemmas.List.{get_or_past, get_or-replicate, length-replicate, FromFn.{length-map-range_with_len, get_or-map-range_with_len}}
-use Rattle.std.specs.{Prelude.{if◌then◌else◌}, List.{range_with_len}, declared.option.Option.{Option}}
+use Rattle.std.specs.{Prelude.{if◌then◌else◌, is_some}, List.{range_with_len}, declared.option.Option.{Option}}
 use Rattle.osek_values.specs.{Numbers.{task_no, source_no, mode_no, event_no, alarm_no}, declared.numbers.{TaskNo.{TaskNo}, BlockNo.{BlockNo}, SourceNo.{SourceNo}}, Bits.{has_bit}}
 use Rattle.osek_standard.specs.declared.{app.App.{App}, task_state.TaskState.{TaskState}, state.{Source.{Source}, AlarmState.{AlarmState}}, point.Point.{Point}}
-use Rattle.osek_standard.specs.{Apps.{the_task, the_counter, the_block, source_count, no_task}, TaskStates.{suspended, is_live, is_live_activity}}
+use Rattle.osek_standard.specs.{Apps.{the_task, the_counter, the_block, source_count, no_task}, TaskStates.{suspended, is_inside, is_inside_in, is_live, is_live_activity}, Internal.{IsInside, internal_of}}
 use Rattle.osek_standard.specs.{States.{task_of, task_state, source_state, alarm_state, is_source_at, is_that_task, place_in, place_of_source}, Effects.{place_at}, Line.{places_due}}
 use Rattle.osek_standard.specs.{Well.{HasProcessor, IsActivityOf, IsAlarmState, IsArmed, IsOffsetAt, IsProcessor, IsRunningAt, IsSourceState, IsTaskState}, Points.{point_of, IsPoint}}
 use Rattle.osek_standard.specs.declared.state.Source.TheVariants as source
 use Rattle.osek_standard.specs.declared.state.AlarmState.TheVariants as alarm
 use Rattle.osek_standard.specs.declared.point.Point.TheVariants as point
 use Rattle.osek_standard.proofs.{WellLaws.{own_block, routine_block, offset_0}, StackLaws.{no_stack}, SourceKeeps.{running_is_right}}
-use Rattle.osek_standard.proofs.PlaceLaws.{places_in, passing_line, one_inside, none_outside}
+use Rattle.osek_standard.proofs.PlaceLaws.{places_in}
 use Rattle.abstract_state.specs.declared.value.{Val.{Val, TheVariants.{Suspended, Live, Waiting}}, LiveVal.{LiveVal}, Component.{Component}, PartValue.{PartValue, TheVariants.{OfTask, OfEvent, OfAlarm}}}
-use Rattle.abstract_state.specs.Components.{component_at, component_count, component_number, value_in, is_armed, abstract_of, part_of, IsComponent, IsVal, IsLiveAt}
-use Rattle.abstract_state.specs.Components.{IsLiveSomewhere, FitsPoint, IsPart}
+use Rattle.abstract_state.specs.Components.{component_at, component_count, component_number, value_in, is_armed, abstract_of, part_of, IsComponent, IsVal, IsLiveVal}
+use Rattle.abstract_state.specs.Components.{RunsAt, IsInterruptedVal, FitsPoint, IsPart}
 use Rattle.abstract_state.specs.Concrete.{Free, val_of, flag_of, activity_of, alarm_of, event_chosen, task_chosen, alarm_chosen, source_by, processor_by, state_of, StandsThere}
-use Rattle.abstract_state.specs.Concrete.{IsFree, IsRoutineAt, AreAllowed, HasParts, is_in_line, has_place}
+use Rattle.abstract_state.specs.Concrete.{IsFree, IsRoutineAt, AreAllowed, HasParts, places_wanted}
 use Rattle.abstract_state.specs.declared.value.Component.TheVariants as component
-use Rattle.abstract_state.proofs.{ComponentLaws.{component_known, component_numbered, task_counted, task_at_its_number}, BitLaws.{has_bit_of_number, number_within}}
+use Rattle.abstract_state.proofs.{ComponentLaws.{component_known, component_numbered, task_counted, task_at_its_number}, BitLaws.{has_bit_of_number, number_within}, RepeatedLines.{repeated_line, repeated_counted}}
 
 -- values, and what is made of them
 value_of_activity : (v : Val) (o : ℕ) → value_in (activity_of v o) ≡ v
@@ -27,20 +27,32 @@ value_of_activity Suspended o = refl
 value_of_activity (Live x) o = refl
 value_of_activity (Waiting b) o = refl
 
-live_value : (v : Val) (o : ℕ) → IsLiveSomewhere v → is_live_activity (activity_of v o) ≡ true
-live_value Suspended o h = absurd h
-live_value (Live x) o h = refl
-live_value (Waiting b) o h = absurd h
+module _ (app : App) (t : ℕ) where
+  live_value : (v : Val) (o : ℕ) → IsInterruptedVal app t v → is_live_activity (activity_of v o) ≡ true
+  live_value Suspended o h = absurd h
+  live_value (Live x) o h = refl
+  live_value (Waiting b) o h = absurd h
 
-live_at_value : (b : BlockNo) (v : Val) → IsLiveAt b v → IsLiveSomewhere v
-live_at_value b Suspended h = h
-live_at_value b (Live x) h = tt
-live_at_value b (Waiting c) h = h
+  live_at_value : (b : BlockNo) (v : Val) → RunsAt app b t v → IsInterruptedVal app t v
+  live_at_value b Suspended h = h
+  live_at_value b (Live x) h = h.1
+  live_at_value b (Waiting c) h = h
 
-place_of_value : (b : BlockNo) (v : Val) (o : ℕ) → IsLiveAt b v → (place_in (activity_of v o)).block ≡ b
-place_of_value b Suspended o h = absurd h
-place_of_value b (Live x) o h = h
-place_of_value b (Waiting c) o h = absurd h
+  place_of_value : (b : BlockNo) (v : Val) (o : ℕ) → RunsAt app b t v → (place_in (activity_of v o)).block ≡ b
+  place_of_value b Suspended o h = absurd h
+  place_of_value b (Live x) o h = h.0
+  place_of_value b (Waiting c) o h = absurd h
+
+  -- a value and its flag
+  inside_named : (v : Val) (o : ℕ) → IsVal app t v → is_inside_in (activity_of v o) ≡ true → is_some (internal_of app t) ≡ true
+  inside_named Suspended o h e = absurd (false≢true e)
+  inside_named (Live x) o h e = h.named e
+  inside_named (Waiting b) o h e = absurd (false≢true e)
+
+  inside_right : (v : Val) (o : ℕ) → IsInterruptedVal app t v → is_inside_in (activity_of v o) ≡ is_some (internal_of app t)
+  inside_right Suspended o h = absurd h
+  inside_right (Live x) o h = h
+  inside_right (Waiting b) o h = absurd h
 
 armed_flag : (b : Bool) (at cycle : ℕ) → is_armed (alarm_of b at cycle) ≡ b
 armed_flag true at cycle = refl
@@ -72,10 +84,10 @@ module _ (app : App) (p : Point) where
   val_part t (OfEvent f) h = absurd h
   val_part t (OfAlarm f) h = absurd h
 
-  activity_right : (t : ℕ) (v : Val) (o : ℕ) → t < length app.tasks → IsVal app t v → ((x : LiveVal) → v ≡ Live x → IsOffsetAt (the_block app x.block.0).kind o) → IsActivityOf app t (activity_of v o)
-  activity_right t Suspended o lt h offset = tt
-  activity_right t (Live x) o lt h offset = record { own = h.0; offset = offset x refl; stack = h.1; further = (app.valid.activations t no_task lt).0 }
-  activity_right t (Waiting b) o lt h offset = h
+  activity_right : (t : ℕ) (v : Val) (o : ℕ) → IsVal app t v → ((x : LiveVal) → v ≡ Live x → IsOffsetAt (the_block app x.block.0).kind o) → IsActivityOf app t (activity_of v o)
+  activity_right t Suspended o h offset = tt
+  activity_right t (Live x) o h offset = record { own = h.own; offset = offset x refl; stack = h.stack; further = h.further }
+  activity_right t (Waiting b) o h offset = h
 
   alarm_right : (a : ℕ) (b : Bool) (at cycle : ℕ) → IsArmed app a at cycle → IsAlarmState app a (alarm_of b at cycle)
   alarm_right a true at cycle h = h
@@ -106,13 +118,23 @@ module _ (app : App) (p : Point) where
           get_or_past (map (source_by app p value free p) (range_with_len 0 (source_count app))) k source.Out (omega (arith, above, long)))
     ]
 
-    live_chosen : (t : ℕ) → t < length app.tasks → IsLiveSomewhere (val_of (value t)) → is_live (task_state (state_of app p value free) t) ≡ true
-    live_chosen t lt h = ap (λ (x : TaskState). is_live x) (task_is t lt) ∙ live_value (val_of (value t)) (free.offset t) h
+    live_chosen : (t : ℕ) → t < length app.tasks → IsInterruptedVal app t (val_of (value t)) → is_live (task_state (state_of app p value free) t) ≡ true
+    live_chosen t lt h = ap (λ (x : TaskState). is_live x) (task_is t lt) ∙ live_value app t (val_of (value t)) (free.offset t) h
+
+    -- a task with the flag that it has to have
+    flag_chosen : (t : ℕ) → t < length app.tasks → IsInterruptedVal app t (val_of (value t)) → is_inside (task_state (state_of app p value free) t) ≡ is_some (internal_of app t)
+    flag_chosen t lt h = ap (λ (x : TaskState). is_inside x) (task_is t lt) ∙ inside_right app t (val_of (value t)) (free.offset t) h
+
+    -- a task that isn't there
+    none_chosen : (t : ℕ) → length app.tasks ≤ t → task_state (state_of app p value free) t ≡ suspended
+    none_chosen t past =
+        let long = length-map-range_with_len (task_chosen app p value free) 0 (length app.tasks) in
+        get_or_past (map (task_chosen app p value free) (range_with_len 0 (length app.tasks))) t suspended (omega (arith, past, long))
 
     module _ (allowed : AreAllowed app p value) (chosen : IsFree app p value free) where
       task_right : (t : ℕ) → t < length app.tasks → IsTaskState app t (task_chosen app p value free t)
       task_right t lt = record {
-        activity = activity_right t (val_of (value t)) (free.offset t) lt (val_right value allowed t lt).0 (λ x e. chosen.offsets t x lt (live_part (value t) x e));
+        activity = activity_right t (val_of (value t)) (free.offset t) (val_right value allowed t lt).0 (λ x e. chosen.offsets t x lt (live_part (value t) x e));
         events = number_within (event_chosen app p value free t) 64 (the_task app t).own.0 (λ k e. (and_parts (has_bit (the_task app t).own.0 k) (flag_of (value (component_number app (component.Event (task_no t) (event_no k))))) e).0);
       }
 
@@ -164,7 +186,7 @@ module _ (app : App) (value : ℕ → PartValue) (free : Free) where
   processor_right point.Halted stands fits = λ k. source_out app point.Halted value free k refl
   processor_right point.Idle stands fits = λ k. source_out app point.Idle value free k refl
   processor_right (point.Task b) stands fits = record {
-    running = (stands.0, live_chosen app (point.Task b) value free free.task.0 stands.0 (live_at_value b (val_of (value free.task.0)) (fits free.task.0 stands.0 stands.1)));
+    running = (stands.0, live_chosen app (point.Task b) value free free.task.0 stands.0 (live_at_value app free.task.0 b (val_of (value free.task.0)) (fits free.task.0 stands.0 stands.1)));
     out = λ k. source_out app (point.Task b) value free k refl;
   }
   processor_right (point.Routine b over) stands fits = record {
@@ -182,7 +204,7 @@ module _ (app : App) (value : ℕ → PartValue) (free : Free) where
   point_is point.Idle stands fits = refl
   point_is (point.Task b) stands fits =
       ap (λ (x : TaskState). point.Task (place_in x.activity).block) (task_is app (point.Task b) value free free.task.0 stands.0)
-      ∙ ap point.Task (place_of_value b (val_of (value free.task.0)) (free.offset free.task.0) (fits free.task.0 stands.0 stands.1))
+      ∙ ap point.Task (place_of_value app free.task.0 b (val_of (value free.task.0)) (free.offset free.task.0) (fits free.task.0 stands.0 stands.1))
   point_is (point.Routine b over) stands fits = ap (λ (x : Source). point.Routine (place_of_source x).block over) (here_in b over stands.known)
 
 module _ (app : App) (value : ℕ → PartValue) (free : Free) where
@@ -193,30 +215,51 @@ module _ (app : App) (value : ℕ → PartValue) (free : Free) where
   chosen_alone (point.Task b) k f = source_out app (point.Task b) value free k refl
   chosen_alone (point.Routine b over) k f = other_out app value free b over k (λ same. false≢true (sym f ∙ eq-eqb free.source.0 k (sym same)))
 
-one_place : (b : Bool) → (if b then 0 else 0 + 1) ≡ (if not b then 1 else 0)
-one_place true = refl
-one_place false = refl
+  abbrev FitThere : Point → Type 0
+  FitThere p = (t : ℕ) → t < length app.tasks → FitsPoint app p t (val_of (value t))
 
--- a task with a value stands in the line as often as its activity wants it
-due_by_value : (current : Option TaskNo) (t : ℕ) (v : Val) (o : ℕ) → places_due current t (activity_of v o) ≡ (if is_in_line current t v then 1 else 0)
-due_by_value current t Suspended o = refl
-due_by_value current t (Live x) o = one_place (is_that_task current t)
-due_by_value current t (Waiting b) o = refl
+  current_chosen : (p : Point) → StandsThere app p value free p → FitThere p → (t : ℕ) → is_that_task (task_of (processor_by app p value free p)) t ≡ true
+      → is_inside (task_state (state_of app p value free) t) ≡ is_some (internal_of app t)
+  current_chosen point.Halted stands fits t e = absurd (false≢true e)
+  current_chosen point.Idle stands fits t e = absurd (false≢true e)
+  current_chosen (point.Task b) stands fits t e =
+      let r = free.task.0 in
+      subst (λ (u : ℕ). is_inside (task_state (state_of app (point.Task b) value free) u) ≡ is_some (internal_of app u)) (eqb-true r t e)
+      (flag_chosen app (point.Task b) value free r stands.0 (live_at_value app r b (val_of (value r)) (fits r stands.0 stands.1)))
+  current_chosen (point.Routine b None) stands fits t e = absurd (false≢true e)
+  current_chosen (point.Routine b (Some r)) stands fits t e =
+      subst (λ (u : ℕ). is_inside (task_state (state_of app (point.Routine b (Some r)) value free) u) ≡ is_some (internal_of app u)) (eqb-true r.0 t e)
+      (flag_chosen app (point.Routine b (Some r)) value free r.0 stands.interrupted (fits r.0 stands.interrupted refl))
+
+  -- the right tasks are inside
+  chosen_inside : (p : Point) → AreAllowed app p value → StandsThere app p value free p → FitThere p → IsInside app (state_of app p value free)
+  chosen_inside p allowed stands fits = record {
+    named = λ t e. elim (cases_lt t (length app.tasks)) [
+      | inl lt ↦ inside_named app t (val_of (value t)) (free.offset t) (val_right app p value allowed t lt).0 (sym (ap (λ (x : TaskState). is_inside x) (task_is app p value free t lt)) ∙ e)
+      | inr past ↦ absurd (false≢true (sym (ap (λ (x : TaskState). is_inside x) (none_chosen app p value free t past)) ∙ e))
+    ];
+    current = current_chosen p stands fits;
+  }
+
+-- a task with a value has to stand in the line as often, however far it is in its block
+due_anywhere : (current : Option TaskNo) (t : ℕ) (v : Val) (o : ℕ) → places_due current t (activity_of v 0) ≡ places_due current t (activity_of v o)
+due_anywhere current t Suspended o = refl
+due_anywhere current t (Live x) o = refl
+due_anywhere current t (Waiting b) o = refl
 
 module _ (app : App) (p : Point) (value : ℕ → PartValue) (free : Free) where
   abbrev current : Option TaskNo
   current = task_of (processor_by app p value free p)
 
-  places_chosen : (t : ℕ) → (if has_place app p value free t then 1 else 0) ≡ places_due current t (task_state (state_of app p value free) t).activity
+  places_chosen : (t : ℕ) → places_wanted app p value free t ≡ places_due current t (task_state (state_of app p value free) t).activity
   places_chosen t = elim (cases_lt t (length app.tasks)) [
     | inl lt ↦ (let e : nat_lt t (length app.tasks) ≡ true = grind (arith, nat_tests) in
-        ap (λ (b : Bool). if b && is_in_line current t (val_of (value t)) then 1 else 0) e
-        ∙ sym (due_by_value current t (val_of (value t)) (free.offset t))
+        ap (λ (b : Bool). if b then places_due current t (activity_of (val_of (value t)) 0) else 0) e
+        ∙ due_anywhere current t (val_of (value t)) (free.offset t)
         ∙ ap (λ (x : TaskState). places_due current t x.activity) (sym (task_is app p value free t lt)))
     | inr past ↦ (let e : nat_lt t (length app.tasks) ≡ false = grind (arith, nat_tests) in
-        let long = length-map-range_with_len (task_chosen app p value free) 0 (length app.tasks) in
-        ap (λ (b : Bool). if b && is_in_line current t (val_of (value t)) then 1 else 0) e
-        ∙ ap (λ (x : TaskState). places_due current t x.activity) (sym (get_or_past (map (task_chosen app p value free) (range_with_len 0 (length app.tasks))) t suspended (omega (arith, past, long)))))
+        ap (λ (b : Bool). if b then places_due current t (activity_of (val_of (value t)) 0) else 0) e
+        ∙ ap (λ (x : TaskState). places_due current t x.activity) (sym (none_chosen app p value free t past)))
   ]
 
 -- the state with these values
@@ -237,7 +280,7 @@ state_has_parts app p value free allowed chosen =
         processor = processor_right app value free p chosen.stands fits;
         line = λ t. chosen.line t ∙ places_chosen app p value free t;
       };
-      regular = record { alone = chosen_alone app value free p };
+      regular = record { inside = chosen_inside app value free p allowed chosen.stands fits; alone = chosen_alone app value free p };
       point = point_is app value free p chosen.stands fits;
       parts = parts_are app p value free allowed chosen;
     }
@@ -276,7 +319,7 @@ module _ (app : App) where
     offset = λ t. 0;
     due = λ a. 0;
     cycle = λ a. 0;
-    line = passing_line (λ t. is_in_line (current_there p h) t (val_of (value t))) 0 (length app.tasks);
+    line = repeated_line (λ t. places_due (current_there p h) t (activity_of (val_of (value t)) 0)) 0 (length app.tasks);
   }
 
   stands_first : (p : Point) (value : ℕ → PartValue) (h : IsPoint app p) → StandsThere app p value (first_choice p value h) p
@@ -293,17 +336,11 @@ module _ (app : App) where
   same_current (point.Task b) value h = refl
   same_current (point.Routine b over) value h = refl
 
-  counted_line : (q : ℕ → Bool) (n t : ℕ) → places_in (passing_line q 0 n) t ≡ (if nat_lt t n && q t then 1 else 0)
-  counted_line q n t = elim (cases_lt t n) [
-    | inl lt ↦ (let e : nat_lt t n ≡ true = grind (arith, nat_tests) in one_inside q 0 n t (omega arith) (omega (arith, lt)) ∙ ap (λ (b : Bool). if b && q t then 1 else 0) (sym e))
-    | inr past ↦ (let e : nat_lt t n ≡ false = grind (arith, nat_tests) in none_outside q 0 n t (λ _. omega (arith, past)) ∙ ap (λ (b : Bool). if b && q t then 1 else 0) (sym e))
-  ]
-
-  line_first : (p : Point) (value : ℕ → PartValue) (h : IsPoint app p) (t : ℕ) → places_in (first_choice p value h).line t ≡ (if has_place app p value (first_choice p value h) t then 1 else 0)
+  line_first : (p : Point) (value : ℕ → PartValue) (h : IsPoint app p) (t : ℕ) → places_in (first_choice p value h).line t ≡ places_wanted app p value (first_choice p value h) t
   unfolding first_choice
   line_first p value h t =
-      counted_line (λ u. is_in_line (current_there p h) u (val_of (value u))) (length app.tasks) t
-      ∙ ap (λ (o : Option TaskNo). if nat_lt t (length app.tasks) && is_in_line o t (val_of (value t)) then 1 else 0) (same_current p value h)
+      repeated_counted (λ u. places_due (current_there p h) u (activity_of (val_of (value u)) 0)) (length app.tasks) t
+      ∙ ap (λ (o : Option TaskNo). if nat_lt t (length app.tasks) then places_due o t (activity_of (val_of (value t)) 0) else 0) (same_current p value h)
 
   pub choice_allowed : (p : Point) (value : ℕ → PartValue) → IsPoint app p → AreAllowed app p value → (free : Free) × IsFree app p value free
   unfolding first_choice
@@ -317,7 +354,7 @@ module _ (app : App) where
       stands = stands_first p value h;
       offsets = λ t l lt e.
           (let x : IsPart app p (component.Task (task_no t)) (OfTask (Live l)) = subst (IsPart app p (component.Task (task_no t))) e (allowed_task app p value allowed t lt) in
-          offset_0 app (the_block app l.block.0).kind (own_block app t l.block.0 lt x.0.0).operands);
+          offset_0 app (the_block app l.block.0).kind (own_block app t l.block.0 lt x.0.own).operands);
       alarms = λ a lt. record { at_most = omega arith; round = refl };
       line = line_first p value h;
     },

@@ -15,7 +15,7 @@ use Rattle.osek_standard.specs.{Effects.{place_at}, Arrivals.{arrival}, Points.{
 use Rattle.osek_standard.proofs.{ArrivalLaws.{is_arrival, none_latched as nothing_arrives}, PlaceLaws.{places_in, itself_first, other_first, without_same, without_other}}
 use Rattle.abstract_state.specs.declared.value.{LiveVal.{LiveVal}, Val.{Val, TheVariants.{Suspended, Live, Waiting}}, PartValue.{PartValue, TheVariants.{OfTask}}}
 use Rattle.abstract_state.specs.declared.value.Component.TheVariants as component
-use Rattle.abstract_state.specs.Components.{component_number, IsLiveAt}
+use Rattle.abstract_state.specs.Components.{component_number, RunsAt}
 use Rattle.abstract_state.specs.Concrete.{Free, val_of, flag_of, activity_of, alarm_of, IsFree, StandsThere, AreAllowed, HasParts, state_of}
 use Rattle.abstract_state.specs.Choices.{with_latches, with_offset, with_routine_offset, with_arming, with_counter, with_first, first_of_line}
 use Rattle.abstract_state.specs.Choices.{IsFirstIfThere, IsQuiet, IsQuietAt, IsQuietWith, IsLatchedAlone}
@@ -264,13 +264,14 @@ module _ (app : App) (p : Point) (value : ℕ → PartValue) (known : IsPoint ap
       )
 
 -- where the processor stands, so far in its block
-place_of_live : (b : BlockNo) (v : Val) (o : ℕ) → IsLiveAt b v → place_in (activity_of v o) ≡ place_at b o
-place_of_live b Suspended o h = absurd h
-place_of_live b (Live x) o h = ap (λ (c : BlockNo). place_at c o) h
-place_of_live b (Waiting c) o h = absurd h
+module _ (app : App) (t : ℕ) where
+  place_of_live : (b : BlockNo) (v : Val) (o : ℕ) → RunsAt app b t v → place_in (activity_of v o) ≡ place_at b o
+  place_of_live b Suspended o h = absurd h
+  place_of_live b (Live x) o h = ap (λ (c : BlockNo). place_at c o) h.0
+  place_of_live b (Waiting c) o h = absurd h
 
-block_of_live : (b : BlockNo) (x : LiveVal) (y : PartValue) → IsLiveAt b (val_of y) → y ≡ OfTask (Live x) → x.block ≡ b
-block_of_live b x y h e = let there : IsLiveAt b (Live x) = subst (λ (z : PartValue). IsLiveAt b (val_of z)) e h in there
+  block_of_live : (b : BlockNo) (x : LiveVal) (y : PartValue) → RunsAt app b t (val_of y) → y ≡ OfTask (Live x) → x.block ≡ b
+  block_of_live b x y h e = let there : RunsAt app b t (Live x) = subst (λ (z : PartValue). RunsAt app b t (val_of z)) e h in there.0
 
 abbrev inside : BlockNo → ℕ → Source
 inside b o = source.In (record { at = place_at b o; held = [] })
@@ -285,19 +286,19 @@ some_quiet_at app (point.Task c) value known allowed u b o same offset =
     let before = quiet_free app p value known allowed in
     let h = quiet_is_free app p value known allowed in
     let t = before.task.0 in
-    let there : IsLiveAt c (val_of (value t)) = (val_right app p value allowed t h.stands.0).1 h.stands.1 in
+    let there : RunsAt app c t (val_of (value t)) = (val_right app p value allowed t h.stands.0).1 h.stands.1 in
     let placed = with_offset before t o in
     let free = with_first placed u in
     let s = state_of app p value free in (
       s,
       record {
         has = state_has_parts app p value free allowed (free_first app p value placed (free_offset app p value before h t o
-            (λ x e. subst (λ (d : BlockNo). IsOffsetAt (the_block app d.0).kind o) (sym (block_of_live c x (value t) there e ∙ same)) offset)) u);
+            (λ x e. subst (λ (d : BlockNo). IsOffsetAt (the_block app d.0).kind o) (sym (block_of_live app t c x (value t) there e ∙ same)) offset)) u);
         quiet = quiet_by app p value known allowed free refl;
         first = first_by app p value known allowed u placed;
         stands = ap (λ (x : TaskState). place_in x.activity) (task_is app p value free t h.stands.0)
             ∙ ap (λ (e : Bool). place_in (activity_of (val_of (value t)) (if e then o else before.offset t))) (eq-eqb t t refl)
-            ∙ place_of_live c (val_of (value t)) o there
+            ∙ place_of_live app t c (val_of (value t)) o there
             ∙ ap (λ (d : BlockNo). place_at d o) same;
       },
     )

@@ -61,7 +61,7 @@ module _ (app : App) where
   pub one_least : (a b : Sets) → Least app a → Least app b → a ≡ b
   one_least a b x y = contained_equal a b (x.least b y.inductive) (y.least a x.inductive)
 
-  pub in_full : (s : State) → Well app s → IsRegular s → In app full s
+  pub in_full : (s : State) → Well app s → IsRegular app s → In app full s
   in_full s w regular = record { well = w; regular = regular; entry = refl; within = λ c lt. refl }
 
   pub full_inductive : Inductive app full

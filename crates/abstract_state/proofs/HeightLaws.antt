@@ -1,18 +1,18 @@
 -- The height of an entry with an application's domains, and how high it is at most.
-use Rattle.std.proofs.Common.{◌≡◌, ℕ, suc, ◌+◌, ◌*◌, ◌^◌, ◌<◌, ◌≤◌, Bool, true, false, IsTrue, List, [], ◌∷◌, ◌++◌, length, map, flat_map, get_or, refl, sym, ap, ap₂, ◌∙◌, arith, All}
-use Rattle.std.specs.{Prelude.{not, is_some, if◌then◌else◌}, List.{range_with_len, sum_by, count_by, AllByRecursion}, declared.option.Option.{Option}}
-use Rattle.std.proofs.lemmas.{List.{FromFn.{length-range_with_len}, Sums.{sum_by-cons, sum_by-append, sum_by-le, count_by-le-length}, Elements.{recursion_from_All}}, Nat.{ones-le}}
+use Rattle.std.proofs.Common.{◌≡◌, ℕ, zero, suc, ◌+◌, ◌*◌, ◌^◌, ◌<◌, ◌≤◌, Bool, true, false, cond, List, [], ◌∷◌, ◌++◌, length, map, filter, flat_map, get_or, refl, sym, ap, ap₂, ◌∙◌, arith, All}
+use Rattle.std.specs.{Prelude.{not, is_some, if◌then◌else◌}, List.{range_with_len, sum_by, count_by}}
+use Rattle.std.proofs.lemmas.{List.{length-map, FromFn.{length-range_with_len}, Sums.{sum_by-cons, sum_by-append, sum_by-le, count_by-le-length}}, Nat.{ones-le}}
 use Rattle.osek_values.proofs.BitCounts.{bits_counted}
-use Rattle.osek_values.specs.{declared.numbers.ResNo.{ResNo}, Numbers.{task_no, event_no, alarm_no}, Bits.{has_bit}}
+use Rattle.osek_values.specs.{Numbers.{task_no, event_no, alarm_no, res_no}, Bits.{has_bit}}
 use Rattle.oil_system.specs.declared.objects.Resource.{Resource}
-use Rattle.osek_standard.specs.{declared.{app.App.{App}, objects.Task.{Task}}, Apps.{the_task, no_task}}
+use Rattle.osek_standard.specs.{declared.{app.App.{App}, objects.Task.{Task}}, Apps.{the_task, no_task, no_resource}, Validity.{is_internal}}
 use Rattle.osek_standard.specs.Counts.{stacks, live_height, task_height, event_height, height, takable_count}
 use Rattle.osek_standard.proofs.CountLaws.{few_stacks, few_live}
-use Rattle.abstract_state.proofs.ClosedLaws.{all_takable, no_internal, takes_once}
+use Rattle.abstract_state.proofs.BitLaws.{has_bit_of_number, no_bit_past}
 use Rattle.abstract_state.specs.declared.value.Component.{Component}
 use Rattle.abstract_state.specs.declared.value.Component.TheVariants as component
 use Rattle.abstract_state.specs.{declared.table.{ValueSet.{ValueSet}, PlainEntry.{PlainEntry}}, Components.{own_bits, events_of, components}}
-use Rattle.abstract_state.specs.Domains.{domain_size, domain_of, domains_of, domains, entry_height, HasMasks}
+use Rattle.abstract_state.specs.Domains.{domain_size, domain_of, resources_in, takable_resources, domains_of, domains, entry_height, HasMasks}
 
 module _ {X Y : Type 0} (g : Y → ℕ) where
   -- sums over lists made of others
@@ -39,27 +39,52 @@ module _ {X : Type 0} where
       let rest : sum_by g (range_with_len (a + 1) (length xs)) ≡ sum_by h xs = sum_places h d g (a + 1) xs (λ i lt. ap g (omega arith) ∙ each (suc i) (omega (arith, lt))) in
       sum_by-cons g a (range_with_len (a + 1) (length xs)) ∙ ap₂ (λ (m n : ℕ). m + n) here rest ∙ sym (sum_by-cons h x xs)
 
--- where all pass, all count
-all_counted : {X : Type 0} (p : X → Bool) (xs : List X) → AllByRecursion (λ x. IsTrue (p x)) xs → count_by p xs ≡ length xs
-all_counted p [] h = refl
-all_counted p (x ∷ xs) h = sum_by-cons (λ y. if p y then 1 else 0) x xs ∙ (let one : (if p x then 1 else 0) ≡ 1 = ap {B = ℕ} (λ (b : Bool). if b then 1 else 0) h.0 in omega (arith, one, all_counted p xs h.1))
+-- Numbers that pass a test, where it passes those of the elements of a list that pass another.
+module _ (test : ℕ → Bool) where
+  none_counted : (a w : ℕ) → ((i : ℕ) → i < w → test (a + i) ≡ false) → length (filter test (range_with_len a w)) ≡ 0
+  none_counted a zero none = refl
+  none_counted a (suc w) none =
+      let here : test a ≡ false = ap test (omega arith) ∙ none 0 (omega arith) in
+      ap (λ (b : Bool). length (cond b (a ∷ filter test (range_with_len (a + 1) w)) (filter test (range_with_len (a + 1) w)))) here
+      ∙ none_counted (a + 1) w (λ i lt. ap test (omega arith) ∙ none (suc i) (omega (arith, lt)))
 
-flat_height : (x : Task) (n : ℕ) → x.activation ≡ 1 → is_some x.internal ≡ false → 1 + x.count + x.count * n ≡ task_height n x
-flat_height x n once none = rw (none, once) (omega arith)
+  one_counted : (b : Bool) (a : ℕ) (rest : List ℕ) → length (cond b (a ∷ rest) rest) ≡ (if b then 1 else 0) + length rest
+  one_counted true a rest = omega arith
+  one_counted false a rest = omega arith
+
+  passing_counted : {X : Type 0} (p : X → Bool) (d : X) (a w : ℕ) (xs : List X) → length xs ≤ w → ((i : ℕ) → i < length xs → test (a + i) ≡ p (get_or xs i d))
+      → ((i : ℕ) → length xs ≤ i → i < w → test (a + i) ≡ false) → length (filter test (range_with_len a w)) ≡ count_by p xs
+  passing_counted p d a w [] few each none = none_counted a w (λ i lt. none i (omega arith) lt)
+  passing_counted p d a zero (x ∷ xs) few each none = absurd (omega (arith, few))
+  passing_counted p d a (suc w) (x ∷ xs) few each none =
+      let rest = filter test (range_with_len (a + 1) w) in
+      let here : test a ≡ p x = ap test (omega arith) ∙ each 0 (omega arith) in
+      let more : length rest ≡ count_by p xs
+      = passing_counted p d (a + 1) w xs (omega (arith, few)) (λ i lt. ap test (omega arith) ∙ each (suc i) (omega (arith, lt))) (λ i past lt. ap test (omega arith) ∙ none (suc i) (omega (arith, past)) (omega (arith, lt))) in
+      one_counted (test a) a rest
+      ∙ ap₂ (λ (b : Bool) (n : ℕ). (if b then 1 else 0) + n) here more
+      ∙ sym (sum_by-cons (λ y. if p y then 1 else 0) x xs)
 
 module _ (app : App) where
   -- the size of a component's domain
   abbrev size : Component → ℕ
   size x = domain_size (domain_of app x)
 
-  -- each resource may stand on a stack yet
-  all_count : takable_count app ≡ length app.resources
-  all_count = all_counted (λ (r : Resource). not r.internal) app.resources (recursion_from_All (λ (r : Resource). IsTrue (not r.internal)) app.resources (all_takable app))
+  -- the mask has as many as may stand on a stack
+  pub takable_counted : length (resources_in (takable_resources app)) ≡ takable_count app
+  takable_counted =
+      let f : ℕ → Bool = λ k. not (is_internal app.resources k) in
+      let n = length app.resources in
+      let few = app.valid.few_resources in
+      length-map (filter (has_bit (takable_resources app).0) (range_with_len 0 64)) res_no
+      ∙ passing_counted (has_bit (takable_resources app).0) (λ (r : Resource). not r.internal) no_resource 0 64 app.resources (omega (arith, few))
+      (λ i lt. ap (has_bit (takable_resources app).0) (omega arith) ∙ has_bit_of_number f n i lt)
+      (λ i past lt. ap (has_bit (takable_resources app).0) (omega arith) ∙ no_bit_past f n i past)
 
   one_height : (i : ℕ) → i < length app.tasks → size (component.Task (task_no i)) ≡ task_height (stacks (takable_count app)) (the_task app i)
   one_height i lt =
       let x = the_task app i in
-      flat_height x (stacks (length app.resources)) (takes_once app i lt) (ap (λ (o : Option ResNo). is_some o) (no_internal app i)) ∙ ap (λ (n : ℕ). task_height (stacks n) x) (sym all_count)
+      ap (λ (n : ℕ). 1 + x.count + (if is_some x.internal then 2 * (x.count * stacks n * x.activation) else x.count * stacks n * x.activation)) takable_counted
 
   tasks_sum : sum_by size (map (λ t. component.Task (task_no t)) (range_with_len 0 (length app.tasks))) ≡ sum_by (task_height (stacks (takable_count app))) app.tasks
   tasks_sum =
@@ -102,7 +127,7 @@ module _ (app : App) where
       ∙ sum_map domain_size (domain_of app) (components app)
       ∙ components_sum masks
 
-  takable_few : takable_count app ≤ 8
+  pub takable_few : takable_count app ≤ 8
   takable_few = omega (arith, count_by-le-length (λ (r : Resource). not r.internal) app.resources, app.valid.few_resources)
 
   height_at_most : (n : ℕ) (x : Task) (most : ℕ) → live_height n x ≤ most → task_height n x ≤ 1 + x.count + 2 * most

@@ -8,6 +8,7 @@ pub mod FormLaws
 pub mod ImageLaws
 pub mod ComponentLaws
 pub mod BitLaws
+pub mod RepeatedLines
 pub mod AllowedLaws
 pub mod ConcreteLaws
 pub mod RangeLaws
@@ -21,5 +22,6 @@ pub mod EntryJoins
 pub mod Stacks
 pub mod DomainValues
 pub mod HeightLaws
+pub mod TakableStacks
 pub mod SoundSets
 pub mod LatticeLaws

@@ -1,7 +1,7 @@
 -- The order of values is total and ties no two, so an ascending list has its members at their places alone.
 use Rattle.std.proofs.Common.{◌≡◌, ℕ, zero, suc, ◌+◌, ◌-◌, ◌<◌, Bool, true, false, ◌||◌, List, [], ◌∷◌, length, get_or, take, drop, map, refl, sym, subst, ap, ap₂, ◌∙◌, arith}
 use Rattle.std.specs.{Cmp.{IsTotalOrder, IsEquivalence, Lexicographic.{slice_cmp}}, List.{list_any, All, insert, Sorted.{IsStrictlySortedBy}}}
-use Rattle.std.specs.{Ordering.{is_eq, nat_cmp, ordering_reverse, ordering_then}, declared.cmp.Ordering.{Ordering, TheVariants.{Less, Equal, Greater}}}
+use Rattle.std.specs.{Ordering.{is_eq, bool_cmp, nat_cmp, ordering_reverse, ordering_then}, declared.cmp.Ordering.{Ordering, TheVariants.{Less, Equal, Greater}}}
 use Rattle.std.proofs.lemmas.Cmp.{on_total, nat_list_cmp_total, eq_by_cmp_equiv}
 use Rattle.std.proofs.lemmas.List.Elements.{All-nil, All-cons, All-head, All-tail, All-append, All-weaker, All-take, All-drop, All-more, All-get_or, All-from_recursion, recursion_from_All}
 use Rattle.std.proofs.lemmas.{List.{take_all, Sorted.{IsPermutation-insert, list_any-IsPermutation}}, Map.Keys.{sorted_head, sorted_tail}}
@@ -30,21 +30,31 @@ held_order [] (r ∷ ys) = refl
 held_order (q ∷ xs) [] = refl
 held_order (q ∷ xs) (r ∷ ys) = ap (ordering_then (nat_cmp q.0 r.0)) (held_order xs ys)
 
-same_val : (v w : Val) → val_fields v ≡ val_fields w → v ≡ w
-same_val Suspended Suspended e = refl
-same_val (Live x) (Live y) e =
-    let block : x.block.0 ≡ y.block.0 = cc in
-    let stack : map (λ (q : ResNo). q.0) x.held ≡ map (λ (q : ResNo). q.0) y.held = cc in
-    let held = same_stack x.held y.held stack in
-    λ i. Live (record { block = block_no (block i); held = held i })
-same_val (Waiting b) (Waiting c) e = let block : b.0 ≡ c.0 = cc in ap (λ (n : ℕ). Waiting (block_no n)) block
-same_val _ _ e = absurd (cc)
+-- a flag that isn't set is before one that is
+pub flag_order : (a b : Bool) → bool_cmp a b ≡ nat_cmp (flag_field a) (flag_field b)
+flag_order false false = refl
+flag_order false true = refl
+flag_order true false = refl
+flag_order true true = refl
 
-same_flag : (a b : Bool) → flag_field a ≡ flag_field b → a ≡ b
+pub same_flag : (a b : Bool) → flag_field a ≡ flag_field b → a ≡ b
 same_flag false false e = refl
 same_flag true true e = refl
 same_flag false true e = absurd (omega (arith, e))
 same_flag true false e = absurd (omega (arith, e))
+
+same_val : (v w : Val) → val_fields v ≡ val_fields w → v ≡ w
+same_val Suspended Suspended e = refl
+same_val (Live x) (Live y) e =
+    let block : x.block.0 ≡ y.block.0 = cc in
+    let further : x.further ≡ y.further = cc in
+    let flag : flag_field x.inside ≡ flag_field y.inside = cc in
+    let inside = same_flag x.inside y.inside flag in
+    let stack : map (λ (q : ResNo). q.0) x.held ≡ map (λ (q : ResNo). q.0) y.held = cc in
+    let held = same_stack x.held y.held stack in
+    λ i. Live (record { block = block_no (block i); further = further i; inside = inside i; held = held i })
+same_val (Waiting b) (Waiting c) e = let block : b.0 ≡ c.0 = cc in ap (λ (n : ℕ). Waiting (block_no n)) block
+same_val _ _ e = absurd (cc)
 
 same_fields : (v w : PartValue) → part_fields v ≡ part_fields w → v ≡ w
 same_fields (OfTask v) (OfTask w) e = let fields : val_fields v ≡ val_fields w = cc in ap OfTask (same_val v w fields)

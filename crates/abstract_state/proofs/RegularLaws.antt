@@ -9,7 +9,7 @@ use Rattle.osek_standard.specs.Dispatch.{Outcome, Keep, To, Stepped, if_any, ins
 use Rattle.osek_standard.specs.{Kernel.{entered_or, initial, run_by, start, step}, Well.{Well, AreOut, IsProcessor}}
 use Rattle.osek_standard.specs.declared.state.Source.TheVariants as source
 use Rattle.osek_standard.specs.declared.state.Processor.TheVariants as processor
-use Rattle.osek_standard.proofs.{ArrivalLaws.{all_below}, LevelLaws.{level_above}, StepKeeps.{initial_is_well, instruction_keeps, start_is_well}}
+use Rattle.osek_standard.proofs.{ArrivalLaws.{all_below}, LevelLaws.{level_above}, InsideLaws.{start_inside, step_inside}, StepKeeps.{initial_is_well, instruction_keeps, start_is_well}}
 use Rattle.abstract_state.specs.Regular.{IsRegular}
 use Rattle.abstract_state.proofs.{AloneLaws.{IsAlone, Interrupts, effect_alone}, ClosedLaws.{lowest}}
 
@@ -55,8 +55,8 @@ module _ (app : App) where
   step_alone s (Tick c) w alone = alone
 
   -- each event leads from a regular state to a regular one
-  pub step_regular : (s : State) (e : Event) → Well app s → IsRegular s → IsRegular (step app s e).state
-  step_regular s e w h = record { alone = step_alone s e w h.alone }
+  pub step_regular : (s : State) (e : Event) → Well app s → IsRegular app s → IsRegular app (step app s e).state
+  step_regular s e w h = record { inside = step_inside app s e w h.inside; alone = step_alone s e w h.alone }
 
   start_alone : (mode : ModeNo) → mode.0 < length app.modes → IsAlone (start app mode).state
   unfolding start
@@ -64,5 +64,5 @@ module _ (app : App) where
       let s = initial app mode in
       settled_alone s (if_any (best app s)) (λ l f. (initial_is_well app mode known).processor l) (start_is_well app mode known)
 
-  pub start_regular : (mode : ModeNo) → mode.0 < length app.modes → IsRegular (start app mode).state
-  start_regular mode known = record { alone = start_alone mode known }
+  pub start_regular : (mode : ModeNo) → mode.0 < length app.modes → IsRegular app (start app mode).state
+  start_regular mode known = record { inside = start_inside app mode known; alone = start_alone mode known }

@@ -1,10 +1,10 @@
 -- Lists without repeats, and all stacks of distinct resources.
-use Rattle.std.proofs.Common.{◌≡◌, ℕ, zero, suc, ◌+◌, ◌*◌, ◌<◌, Bool, true, false, List, [], ◌∷◌, ◌++◌, length, map, flat_map, refl, sym, ap, subst, ◌∙◌, inl, inr, arith}
+use Rattle.std.proofs.Common.{◌≡◌, ℕ, zero, suc, ◌+◌, ◌*◌, ◌<◌, Bool, true, false, cond, List, [], ◌∷◌, ◌++◌, length, map, filter, flat_map, refl, sym, ap, subst, ◌∙◌, inl, inr, arith}
 use Rattle.std.specs.{Prelude.{if◌then◌else◌}, List.{range_with_len, IsDistinct}}
-use Rattle.std.proofs.lemmas.{Bool.{cases_Bool, eqb-true, eq-eqb}, List.{length-map, Elements.{recursion_from_All, All-from_recursion}, FromFn.{length-map-range_with_len}}}
+use Rattle.std.proofs.lemmas.{Bool.{cases_Bool, eqb-true, eq-eqb}, List.{length-map}}
 use Rattle.osek_values.specs.{Numbers.{res_no}, declared.numbers.ResNo.{ResNo}}
-use Rattle.osek_standard.specs.{Counts.{stacks}, Well.{same_resource, IsStackOutOf}}
-use Rattle.osek_standard.proofs.Members.{Among, among_cases, among_each, among_flat_map, among_map, among_range, each_among, flat_map_among, length_flat_map, map_among, range_among}
+use Rattle.osek_standard.specs.{Counts.{stacks}, Well.{same_resource}}
+use Rattle.osek_standard.proofs.Members.{Among, among_cases, among_each, among_flat_map, among_map, each_among, filter_among, flat_map_among, length_flat_map, map_among, range_among}
 
 -- no element stands twice
 abbrev pub Apart : {X : Type 0} → List X → Type 0
@@ -49,16 +49,51 @@ module _ {X Y : Type 0} where
       apart_append (f x) (flat_map f xs) (each x (inl refl)) (apart_flat_map f one xs (λ y m. each y (inr m)) h.1)
       (λ z m n. let back = flat_map_among f z xs n in h.0 (subst (λ (w : X). Among w xs) (sym (one x back.0 z m back.2)) back.1))
 
+module _ {X : Type 0} where
+  filter_by : (q : X → Bool) (x : X) (xs : List X) (b : Bool) → q x ≡ b → (Among x xs → ⊥) → Apart (filter q xs) → Apart (cond b (x ∷ filter q xs) (filter q xs))
+  filter_by q x xs true e absent h = (λ m. absent (filter_among q x xs m).1, h)
+  filter_by q x xs false e absent h = h
+
+  -- some of its elements
+  pub apart_filter : (q : X → Bool) (xs : List X) → Apart xs → Apart (filter q xs)
+  apart_filter q [] h = tt
+  apart_filter q (x ∷ xs) h = filter_by q x xs (q x) refl h.0 (apart_filter q xs h.1)
+
+module _ {X Y : Type 0} where
+  -- all pairs out of two lists
+  abbrev pub pairs : List X → List Y → List (X × Y)
+  pairs xs ys = flat_map (λ x. map (λ y. (x, y)) ys) xs
+
+  pub among_pairs : (x : X) (y : Y) (xs : List X) (ys : List Y) → Among x xs → Among y ys → Among (x, y) (pairs xs ys)
+  among_pairs x y xs ys m k = among_flat_map (λ (u : X). map (λ (v : Y). (u, v)) ys) x (x, y) xs m (among_map (λ (v : Y). (x, v)) y ys k)
+
+  pub pairs_among : (p : X × Y) (xs : List X) (ys : List Y) → Among p (pairs xs ys) → Among p.0 xs × Among p.1 ys
+  pairs_among p xs ys m =
+      let first = flat_map_among (λ (u : X). map (λ (v : Y). (u, v)) ys) p xs m in
+      let second = map_among (λ (v : Y). (first.0, v)) p ys first.2 in (
+        subst (λ (u : X). Among u xs) (sym (ap (λ (q : X × Y). q.0) second.2)) first.1,
+        subst (λ (v : Y). Among v ys) (sym (ap (λ (q : X × Y). q.1) second.2)) second.1,
+      )
+
+  pub apart_pairs : (xs : List X) (ys : List Y) → Apart xs → Apart ys → Apart (pairs xs ys)
+  apart_pairs xs ys h k =
+      apart_flat_map (λ (u : X). map (λ (v : Y). (u, v)) ys)
+      (λ x z p m n. let a = map_among (λ (v : Y). (x, v)) p ys m in let b = map_among (λ (v : Y). (z, v)) p ys n in ap (λ (q : X × Y). q.0) (sym a.2 ∙ b.2))
+      xs (λ x m. apart_map (λ (v : Y). (x, v)) (λ y w e. ap (λ (q : X × Y). q.1) e) ys k) h
+
+  pub length_pairs : (xs : List X) (ys : List Y) → length (pairs xs ys) ≡ length xs * length ys
+  length_pairs xs ys = length_flat_map (λ (u : X). map (λ (v : Y). (u, v)) ys) (length ys) xs (λ x m. length-map ys (λ (v : Y). (x, v)))
+
 pub apart_range : (a n : ℕ) → Apart (range_with_len a n)
 apart_range a zero = tt
 apart_range a (suc n) = (λ m. let h = range_among (a + 1) n a m in absurd (omega (arith, h.0)), apart_range (a + 1) n)
 
 -- a list but for one resource
-abbrev without : ResNo → List ResNo → List ResNo
+abbrev pub without : ResNo → List ResNo → List ResNo
 without r [] = []
 without r (x ∷ xs) = if same_resource r x then without r xs else x ∷ without r xs
 
-resource_itself : (r : ResNo) → same_resource r r ≡ true
+pub resource_itself : (r : ResNo) → same_resource r r ≡ true
 resource_itself r = eq-eqb r.0 r.0 refl
 
 resource_right : (q r : ResNo) → same_resource q r ≡ true → q ≡ r
@@ -75,7 +110,7 @@ module _ (r : ResNo) where
   without_other x xs e = ap (λ (b : Bool). if b then without r xs else x ∷ without r xs) e
 
   -- it has the others
-  among_without : (q : ResNo) (xs : List ResNo) → Among q xs → (r ≡ q → ⊥) → Among q (without r xs)
+  pub among_without : (q : ResNo) (xs : List ResNo) → Among q xs → (r ≡ q → ⊥) → Among q (without r xs)
   among_without q [] m differs = m
   among_without q (x ∷ xs) m differs = elim (cases_Bool (same_resource r x)) [
     | inl equal ↦ subst (Among q) (sym (without_same x xs equal)) (elim m [
@@ -100,7 +135,7 @@ module _ (r : ResNo) where
         ])
   ]
 
-  apart_without : (xs : List ResNo) → Apart xs → Apart (without r xs)
+  pub apart_without : (xs : List ResNo) → Apart xs → Apart (without r xs)
   apart_without [] h = tt
   apart_without (x ∷ xs) h = elim (cases_Bool (same_resource r x)) [
     | inl equal ↦ subst Apart (sym (without_same x xs equal)) (apart_without xs h.1)
@@ -115,7 +150,7 @@ module _ (r : ResNo) where
   ]
 
   -- it is one shorter
-  length_without : (xs : List ResNo) → Apart xs → Among r xs → length (without r xs) + 1 ≡ length xs
+  pub length_without : (xs : List ResNo) → Apart xs → Among r xs → length (without r xs) + 1 ≡ length xs
   length_without [] h m = absurd m
   length_without (x ∷ xs) h m = elim (cases_Bool (same_resource r x)) [
     | inl equal ↦
@@ -223,49 +258,24 @@ length_stacks (suc n) left size apart =
     let all : length (flat_map (stacks_on n left) left) ≡ suc n * stacks n = each ∙ ap (λ (k : ℕ). k * stacks n) size in
     omega (arith, all)
 
--- so many resources, by their numbers
-abbrev resources : ℕ → List ResNo
-resources n = map res_no (range_with_len 0 n)
+-- All stacks out of a list of distinct resources.
+abbrev pub stacks_out_of : List ResNo → List (List ResNo)
+stacks_out_of left = all_stacks (length left) left
 
-one_number : (a b : ℕ) → res_no a ≡ res_no b → a ≡ b
-one_number a b e = ap (λ (r : ResNo). r.0) e
+pub apart_stacks_out_of : (left : List ResNo) → Apart left → Apart (stacks_out_of left)
+apart_stacks_out_of left apart = apart_stacks (length left) left refl apart
 
-apart_resources : (n : ℕ) → Apart (resources n)
-apart_resources n = apart_map res_no one_number (range_with_len 0 n) (apart_range 0 n)
+pub length_stacks_out_of : (left : List ResNo) → Apart left → length (stacks_out_of left) ≡ stacks (length left)
+length_stacks_out_of left apart = length_stacks (length left) left refl apart
 
-length_resources : (n : ℕ) → length (resources n) ≡ n
-length_resources n = length-map-range_with_len res_no 0 n
+pub stack_distinct : (left held : List ResNo) → Among held (stacks_out_of left) → IsDistinct same_resource held
+stack_distinct left held m = distinct_apart same_resource resource_right held (stack_there (length left) left held m).apart
 
-among_resources : (n : ℕ) (r : ResNo) → r.0 < n → Among r (resources n)
-among_resources n r lt = among_map res_no r.0 (range_with_len 0 n) (among_range 0 n r.0 (omega arith) (omega (arith, lt)))
+pub stack_known : (left held : List ResNo) → Among held (stacks_out_of left) → (r : ResNo) → Among r held → Among r left
+stack_known left held m = (stack_there (length left) left held m).known
 
-resources_among : (n : ℕ) (r : ResNo) → Among r (resources n) → r.0 < n
-resources_among n r m =
-    let back = map_among res_no r (range_with_len 0 n) m in
-    let low = range_among 0 n back.0 back.1 in
-    let same : r.0 ≡ back.0 = ap (λ (q : ResNo). q.0) back.2 in
-    omega (arith, low.1, same)
-
--- All stacks out of so many resources.
-abbrev pub stacks_out_of : ℕ → List (List ResNo)
-stacks_out_of n = all_stacks n (resources n)
-
-pub apart_stacks_out_of : (n : ℕ) → Apart (stacks_out_of n)
-apart_stacks_out_of n = apart_stacks n (resources n) (length_resources n) (apart_resources n)
-
-pub length_stacks_out_of : (n : ℕ) → length (stacks_out_of n) ≡ stacks n
-length_stacks_out_of n = length_stacks n (resources n) (length_resources n) (apart_resources n)
-
-pub stack_out_of : (n : ℕ) (held : List ResNo) → Among held (stacks_out_of n) → IsStackOutOf n held
-stack_out_of n held m =
-    let stack = stack_there n (resources n) held m in
-    record {
-      distinct = distinct_apart same_resource resource_right held stack.apart;
-      known = All-from_recursion (λ (r : ResNo). r.0 < n) held (each_among (λ (r : ResNo). r.0 < n) held (λ r k. resources_among n r (stack.known r k)));
-    }
-
-pub out_of_stack : (n : ℕ) (held : List ResNo) → IsStackOutOf n held → Among held (stacks_out_of n)
-out_of_stack n held stack = there_stack n (resources n) held (length_resources n) (apart_resources n) (record {
-  apart = apart_distinct same_resource resource_itself held stack.distinct;
-  known = λ r m. among_resources n r (among_each (λ (q : ResNo). q.0 < n) held (recursion_from_All (λ (q : ResNo). q.0 < n) held stack.known) r m);
+pub out_of_stack : (left held : List ResNo) → Apart left → IsDistinct same_resource held → ((r : ResNo) → Among r held → Among r left) → Among held (stacks_out_of left)
+out_of_stack left held apart distinct known = there_stack (length left) left held refl apart (record {
+  apart = apart_distinct same_resource resource_itself held distinct;
+  known = known;
 })

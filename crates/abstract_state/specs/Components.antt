@@ -1,12 +1,12 @@
 -- The parts of a state that a table keeps, under one index, and what each can be.
-use Rattle.std.specs.Prelude.{◌≡◌, ⊤, ℕ, zero, suc, ◌+◌, ◌<◌, Bool, true, false, List, ◌++◌, length, map, filter, flat_map, slice_index_or, IsTrue, Some, None}
+use Rattle.std.specs.Prelude.{◌≡◌, ⊤, ℕ, zero, suc, ◌+◌, ◌<◌, Bool, true, false, List, ◌++◌, length, map, filter, flat_map, slice_index_or, IsTrue, Some, None, is_some}
 use Rattle.std.specs.List.{range_with_len}
 use Rattle.osek_values.specs.{Bits.{has_bit, passing_below}, Numbers.{task_no, event_no, alarm_no}, declared.numbers.{BlockNo.{BlockNo}, ResNo.{ResNo}}}
 use Rattle.osek_standard.specs.declared.{app.App.{App}, task_state.Activity.{Activity}}
 use Rattle.osek_standard.specs.declared.task_state.Activity.TheVariants as activity
 use Rattle.osek_standard.specs.declared.state.{State.{State}, AlarmState.{AlarmState}}
 use Rattle.osek_standard.specs.declared.state.AlarmState.TheVariants as alarm
-use Rattle.osek_standard.specs.{Apps.{the_task}, States.{task_state, alarm_state}, Well.{IsOwn, IsStack, IsWaitingAt}, declared.point.Point.{Point}}
+use Rattle.osek_standard.specs.{Apps.{the_task}, States.{task_state, alarm_state}, Internal.{internal_of}, Well.{IsOwn, IsStack, IsWaitingAt}, declared.point.Point.{Point}}
 use Rattle.osek_standard.specs.declared.point.Point.TheVariants as point
 use Rattle.abstract_state.specs.declared.value.{Val.{Val, TheVariants.{Suspended, Live, Waiting}}, LiveVal.{LiveVal}, Component.{Component}, ComponentNo.{ComponentNo}, PartValue.{PartValue, TheVariants.{OfTask, OfEvent, OfAlarm}}}
 use Rattle.abstract_state.specs.declared.value.Component.TheVariants as component
@@ -52,13 +52,13 @@ module _ (app : App) where
 abbrev pub component_no : ℕ → ComponentNo
 component_no n = record { 0 = n }
 
-abbrev pub live_val : BlockNo → List ResNo → LiveVal
-live_val b held = record { block = b; held = held }
+abbrev pub live_val : BlockNo → ℕ → Bool → List ResNo → LiveVal
+live_val b further inside held = record { block = b; further = further; inside = inside; held = held }
 
 -- a task's activity without the offset in its block
 abbrev pub value_in : Activity → Val
 value_in activity.Suspended = Suspended
-value_in (activity.Live x) = Live (live_val x.at.block x.held)
+value_in (activity.Live x) = Live (live_val x.at.block x.further x.inside x.held)
 value_in (activity.Waiting b) = Waiting b
 
 abbrev pub is_armed : AlarmState → Bool
@@ -75,31 +75,39 @@ part_of s (component.Alarm a) = OfAlarm (is_armed (alarm_state s a.0))
 abbrev pub abstract_of : App → State → ℕ → PartValue
 abstract_of app s c = part_of s (component_at app c)
 
--- Live at this block
-abbrev pub IsLiveAt : BlockNo → Val → Type 0
-IsLiveAt b Suspended = ⊥
-IsLiveAt b (Live x) = x.block ≡ b
-IsLiveAt b (Waiting c) = ⊥
-
-abbrev pub IsLiveSomewhere : Val → Type 0
-IsLiveSomewhere Suspended = ⊥
-IsLiveSomewhere (Live x) = ⊤
-IsLiveSomewhere (Waiting b) = ⊥
-
 module _ (app : App) where
-  -- what a task can be in a well-formed state
+  -- a Live task stands at a block of its own, and is inside only where it names an INTERNAL resource
+  pub record IsLiveVal (t : ℕ) (x : LiveVal) : Type 0 where
+    pub own : IsOwn app t x.block.0
+    pub further : x.further < (the_task app t).activation
+    pub named : x.inside ≡ true → is_some (internal_of app t) ≡ true
+    pub stack : IsStack app x.held
+
+  -- what a task can be in a well-formed and regular state
   abbrev pub IsVal : ℕ → Val → Type 0
   IsVal t Suspended = ⊤
-  IsVal t (Live x) = IsOwn app t x.block.0 × IsStack app x.held
+  IsVal t (Live x) = IsLiveVal t x
   IsVal t (Waiting b) = IsWaitingAt app t b.0
+
+  -- Live at block b, inside where the task names an INTERNAL resource
+  abbrev pub RunsAt : BlockNo → ℕ → Val → Type 0
+  RunsAt b t Suspended = ⊥
+  RunsAt b t (Live x) = (x.block ≡ b) × (x.inside ≡ is_some (internal_of app t))
+  RunsAt b t (Waiting c) = ⊥
+
+  -- Live, and inside where it names one
+  abbrev pub IsInterruptedVal : ℕ → Val → Type 0
+  IsInterruptedVal t Suspended = ⊥
+  IsInterruptedVal t (Live x) = x.inside ≡ is_some (internal_of app t)
+  IsInterruptedVal t (Waiting b) = ⊥
 
   -- the task that has the processor is Live where the point says, and the interrupted one is Live
   abbrev pub FitsPoint : Point → ℕ → Val → Type 0
   FitsPoint point.Halted t v = ⊤
   FitsPoint point.Idle t v = ⊤
-  FitsPoint (point.Task b) t v = IsOwn app t b.0 → IsLiveAt b v
+  FitsPoint (point.Task b) t v = IsOwn app t b.0 → RunsAt b t v
   FitsPoint (point.Routine b None) t v = ⊤
-  FitsPoint (point.Routine b (Some u)) t v = u.0 ≡ t → IsLiveSomewhere v
+  FitsPoint (point.Routine b (Some u)) t v = u.0 ≡ t → IsInterruptedVal t v
 
   abbrev pub IsPart : Point → Component → PartValue → Type 0
   IsPart p (component.Task t) (OfTask v) = IsVal t.0 v × FitsPoint p t.0 v
@@ -112,6 +120,6 @@ module _ (app : App) where
   IsPart p (component.Alarm a) (OfTask v) = ⊥
   IsPart p (component.Alarm a) (OfEvent b) = ⊥
 
-  -- What component c can be in a well-formed state at a point.
+  -- What component c can be in a well-formed and regular state at a point.
   abbrev pub IsAllowed : Point → ℕ → PartValue → Type 0
   IsAllowed p c v = IsPart p (component_at app c) v

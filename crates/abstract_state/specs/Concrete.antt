@@ -1,5 +1,5 @@
 -- States by their parts: one value for each component, and a choice of all that a table doesn't keep.
-use Rattle.std.specs.Prelude.{◌≡◌, ⊤, ℕ, zero, suc, ◌+◌, ◌*◌, ◌<◌, ◌≤◌, Bool, true, false, ◌&&◌, not, ◌==◌, nat_lt, List, [], length, map, if◌then◌else◌, slice_index_or, IfSome}
+use Rattle.std.specs.Prelude.{◌≡◌, ⊤, ℕ, zero, suc, ◌+◌, ◌*◌, ◌<◌, ◌≤◌, Bool, true, false, ◌&&◌, ◌==◌, nat_lt, List, [], length, map, if◌then◌else◌, slice_index_or, IfSome}
 use Rattle.std.specs.{List.{range_with_len, count_by}, declared.option.Option.{Option}}
 use Rattle.osek_values.specs.{Numbers.{task_no, event_no, alarm_no, mask}, declared.numbers.{TaskNo.{TaskNo}, BlockNo.{BlockNo}, ModeNo.{ModeNo}, SourceNo.{SourceNo}}}
 use Rattle.osek_values.specs.Bits.{has_bit}
@@ -9,7 +9,7 @@ use Rattle.osek_standard.specs.declared.state.{State.{State}, AlarmState.{AlarmS
 use Rattle.osek_standard.specs.declared.state.AlarmState.TheVariants as alarm
 use Rattle.osek_standard.specs.declared.state.Source.TheVariants as source
 use Rattle.osek_standard.specs.declared.state.Processor.TheVariants as processor
-use Rattle.osek_standard.specs.{Apps.{the_task, the_counter, the_block, source_count}, States.{task_of, is_that_task}, Effects.{place_at}, Well.{Well, IsOwn, IsOfRoutine, IsOffsetAt, IsArmed}}
+use Rattle.osek_standard.specs.{Apps.{the_task, the_counter, the_block, source_count}, States.{task_of}, Line.{places_due}, Effects.{place_at}, Well.{Well, IsOwn, IsOfRoutine, IsOffsetAt, IsArmed}}
 use Rattle.osek_standard.specs.declared.point.Point.{Point}
 use Rattle.osek_standard.specs.declared.point.Point.TheVariants as point
 use Rattle.abstract_state.specs.declared.value.{Val.{Val, TheVariants.{Suspended, Live, Waiting}}, LiveVal.{LiveVal}, PartValue.{PartValue, TheVariants.{OfTask, OfEvent, OfAlarm}}}
@@ -46,14 +46,8 @@ flag_of (OfAlarm b) = b
 
 abbrev pub activity_of : Val → ℕ → Activity
 activity_of Suspended o = activity.Suspended
-activity_of (Live x) o = activity.Live (record { at = place_at x.block o; held = x.held; further = 0; inside = false })
+activity_of (Live x) o = activity.Live (record { at = place_at x.block o; held = x.held; further = x.further; inside = x.inside })
 activity_of (Waiting b) o = activity.Waiting b
-
--- a task with this value stands in the line, beside this running or interrupted task
-abbrev pub is_in_line : Option TaskNo → ℕ → Val → Bool
-is_in_line current t Suspended = false
-is_in_line current t (Live x) = not (is_that_task current t)
-is_in_line current t (Waiting b) = false
 
 abbrev pub alarm_of : Bool → ℕ → ℕ → AlarmState
 alarm_of false at cycle = alarm.Idle
@@ -86,9 +80,9 @@ module _ (app : App) (p : Point) (value : ℕ → PartValue) (free : Free) where
   processor_by (point.Task b) = processor.Running free.task
   processor_by (point.Routine b over) = processor.Interrupted free.source over
 
-  -- task t stands in the line
-  abbrev pub has_place : ℕ → Bool
-  has_place t = nat_lt t (length app.tasks) && is_in_line (task_of (processor_by p)) t (val_of (value t))
+  -- how often task t has to stand in the line
+  abbrev pub places_wanted : ℕ → ℕ
+  places_wanted t = if nat_lt t (length app.tasks) then places_due (task_of (processor_by p)) t (activity_of (val_of (value t)) 0) else 0
 
   -- The state at a point with these values of its components, all else as chosen.
   abbrev pub state_of : State
@@ -125,8 +119,8 @@ module _ (app : App) (p : Point) (value : ℕ → PartValue) (free : Free) where
     pub stands : StandsThere p
     pub offsets : (t : ℕ) (x : LiveVal) → t < length app.tasks → value t ≡ OfTask (Live x) → IsOffsetAt (the_block app x.block.0).kind (free.offset t)
     pub alarms : (a : ℕ) → a < length app.alarms → IsArmed app a (free.due a) (free.cycle a)
-    -- each task that stands there does so once
-    pub line : (t : ℕ) → count_by (λ (n : TaskNo). n.0 == t) free.line ≡ (if has_place t then 1 else 0)
+    -- each task stands there as often as it has to
+    pub line : (t : ℕ) → count_by (λ (n : TaskNo). n.0 == t) free.line ≡ places_wanted t
 
 -- each component's value is one that it can have at the point
 abbrev pub AreAllowed : App → Point → (ℕ → PartValue) → Type 0
@@ -135,6 +129,6 @@ AreAllowed app p value = (c : ℕ) → c < component_count app → IsAllowed app
 -- a well-formed state at the point, with these values
 pub record HasParts (app : App) (p : Point) (value : ℕ → PartValue) (s : State) : Type 0 where
   pub well : Well app s
-  pub regular : IsRegular s
+  pub regular : IsRegular app s
   pub point : point_of s ≡ p
   pub parts : (c : ℕ) → c < component_count app → abstract_of app s c ≡ value c

@@ -1,25 +1,45 @@
 -- What the values of a set are values of, and how many these are: what bounds the growth of an entry.
-use Rattle.std.specs.{Prelude.{◌≡◌, ◌↔◌, ⊤, ℕ, ◌+◌, ◌*◌, ◌<◌, ◌^◌, List, length, map, All, sum_by, Contains}, List.{IsDistinct}}
-use Rattle.osek_standard.specs.{declared.{app.App.{App}, objects.Task.{Task}}, Apps.{the_task}, Counts.{stacks}, Validity.{IsAmong}, Well.{IsStackOutOf}}
-use Rattle.abstract_state.specs.declared.value.{Val.{Val, TheVariants.{Suspended, Live, Waiting}}, Component.{Component}, Domain.{Domain}, PartValue.{PartValue, TheVariants.{OfTask, OfEvent, OfAlarm}}}
+use Rattle.std.specs.{Prelude.{◌≡◌, ◌↔◌, ⊤, ℕ, ◌+◌, ◌*◌, ◌<◌, ◌^◌, Bool, true, not, List, length, map, filter, All, sum_by, Contains, if◌then◌else◌, is_some}, List.{IsDistinct, range_with_len}}
+use Rattle.osek_values.specs.{Bits.{has_bit}, Numbers.{mask, res_no}, declared.{mask.Mask.{Mask}, numbers.ResNo.{ResNo}}}
+use Rattle.osek_standard.specs.{declared.{app.App.{App}, objects.Task.{Task}}, Apps.{the_task}, Internal.{internal_of}, Counts.{stacks}, Validity.{IsAmong, is_internal}, Well.{same_resource}}
+use Rattle.abstract_state.specs.declared.value.{LiveVal.{LiveVal}, Val.{Val, TheVariants.{Suspended, Live, Waiting}}, Component.{Component}, Domain.{Domain}, PartValue.{PartValue, TheVariants.{OfTask, OfEvent, OfAlarm}}}
 use Rattle.abstract_state.specs.declared.value.Component.TheVariants as component
 use Rattle.abstract_state.specs.declared.value.Domain.TheVariants as domain
-use Rattle.abstract_state.specs.{declared.table.{ValueSet.{ValueSet}, PlainEntry.{PlainEntry}}, Components.{components}, ValueOrder.{same_part, IsAscending}}
+use Rattle.abstract_state.specs.{declared.table.{ValueSet.{ValueSet}, PlainEntry.{PlainEntry}}, Components.{components}, Concrete.{bits_number}, ValueOrder.{same_part, IsAscending}}
 use Rattle.abstract_state.specs.Tables.{set_at, IsSubset}
 
--- what a task with these blocks can be: suspended, Live at one of them with a stack of resources, or waiting at one
-abbrev pub IsValWithin : ℕ → ℕ → ℕ → Val → Type 0
-IsValWithin first count resources Suspended = ⊤
-IsValWithin first count resources (Live x) = IsAmong x.block.0 first count × IsStackOutOf resources x.held
-IsValWithin first count resources (Waiting b) = IsAmong b.0 first count
+-- the resources of a mask
+abbrev pub resources_in : Mask → List ResNo
+resources_in m = map res_no (filter (has_bit m.0) (range_with_len 0 64))
+
+module _ (first count : ℕ) (takable : Mask) (activation : ℕ) (internal : Bool) where
+  -- what a Live task with these blocks can be: inside only where it names an INTERNAL resource, with a stack out of those
+  -- that it can take
+  pub record IsLiveWithin (x : LiveVal) : Type 0 where
+    pub own : IsAmong x.block.0 first count
+    pub further : x.further < activation
+    pub named : x.inside ≡ true → internal ≡ true
+    pub distinct : IsDistinct same_resource x.held
+    pub known : All (λ (r : ResNo). Contains (resources_in takable) r) x.held
+
+  -- suspended, Live, or waiting at a block
+  abbrev pub IsValWithin : Val → Type 0
+  IsValWithin Suspended = ⊤
+  IsValWithin (Live x) = IsLiveWithin x
+  IsValWithin (Waiting b) = IsAmong b.0 first count
+
+-- how many ways there are to be Live: at so many blocks, each with a stack and with further activations, inside or not
+abbrev pub live_size : ℕ → Mask → ℕ → Bool → ℕ
+live_size count takable activation internal =
+    if internal then 2 * (count * stacks (length (resources_in takable)) * activation) else count * stacks (length (resources_in takable)) * activation
 
 -- A value is one of the domain's.
 abbrev pub IsWithin : Domain → PartValue → Type 0
-IsWithin (domain.Task first count resources) (OfTask v) = IsValWithin first.0 count resources v
+IsWithin (domain.Task first count activation internal takable) (OfTask v) = IsValWithin first.0 count takable activation internal v
 IsWithin domain.Event (OfEvent b) = ⊤
 IsWithin domain.Alarm (OfAlarm b) = ⊤
-IsWithin (domain.Task first count resources) (OfEvent b) = ⊥
-IsWithin (domain.Task first count resources) (OfAlarm b) = ⊥
+IsWithin (domain.Task first count activation internal takable) (OfEvent b) = ⊥
+IsWithin (domain.Task first count activation internal takable) (OfAlarm b) = ⊥
 IsWithin domain.Event (OfTask v) = ⊥
 IsWithin domain.Event (OfAlarm b) = ⊥
 IsWithin domain.Alarm (OfTask v) = ⊥
@@ -27,7 +47,7 @@ IsWithin domain.Alarm (OfEvent b) = ⊥
 
 -- How many values a domain has.
 abbrev pub domain_size : Domain → ℕ
-domain_size (domain.Task first count resources) = 1 + count + count * stacks resources
+domain_size (domain.Task first count activation internal takable) = 1 + count + live_size count takable activation internal
 domain_size domain.Event = 2
 domain_size domain.Alarm = 2
 
@@ -38,9 +58,14 @@ pub record IsCounted (d : Domain) : Type 0 where
   pub whole : (v : PartValue) → Contains values v ↔ IsWithin d v
   pub count : length values ≡ domain_size d
 
+-- the resources that may stand on a stack
+abbrev pub takable_resources : App → Mask
+takable_resources app = mask (bits_number (λ r. not (is_internal app.resources r)) (length app.resources))
+
 -- What the values of a component are values of.
 abbrev pub domain_of : App → Component → Domain
-domain_of app (component.Task t) = domain.Task (the_task app t.0).first (the_task app t.0).count (length app.resources)
+domain_of app (component.Task t) =
+    domain.Task (the_task app t.0).first (the_task app t.0).count (the_task app t.0).activation (is_some (internal_of app t.0)) (takable_resources app)
 domain_of app (component.Event t k) = domain.Event
 domain_of app (component.Alarm a) = domain.Alarm
 

@@ -5,6 +5,7 @@ pub mod Concrete
 pub mod Domains
 pub mod Forms
 pub mod Regular
+pub mod Settling
 pub mod Tables
 pub mod ValueOrder
 pub mod Written

@@ -20,7 +20,7 @@ pub record Sets : Type 0 where
 -- offsets, due times and cycles are free, and so is the order of the tasks in the line.
 pub record In (app : App) (table : Sets) (s : State) : Type 0 where
   pub well : Well app s
-  pub regular : IsRegular s
+  pub regular : IsRegular app s
   pub entry : IsTrue (table.entry (point_of s))
   pub within : (c : ℕ) → c < component_count app → IsTrue (table.has (point_of s) c (abstract_of app s c))
 

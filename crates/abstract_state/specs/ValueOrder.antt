@@ -4,18 +4,18 @@ use Rattle.std.specs.{List.Sorted.{IsStrictlySortedBy}, Ordering.{nat_cmp, eq_by
 use Rattle.osek_values.specs.declared.numbers.ResNo.{ResNo}
 use Rattle.abstract_state.specs.declared.value.{LiveVal.{LiveVal}, Val.{Val, TheVariants.{Suspended, Live, Waiting}}, PartValue.{PartValue, TheVariants.{OfTask, OfEvent, OfAlarm}}}
 
--- the block, how many resources are held, and these, the first taken first
+abbrev pub flag_field : Bool → ℕ
+flag_field false = 0
+flag_field true = 1
+
+-- the block, the further activations, whether it is inside, how many resources are held, and these, the first taken first
 abbrev pub live_fields : LiveVal → List ℕ
-live_fields x = x.block.0 ∷ length x.held ∷ map (λ (q : ResNo). q.0) x.held
+live_fields x = x.block.0 ∷ x.further ∷ flag_field x.inside ∷ length x.held ∷ map (λ (q : ResNo). q.0) x.held
 
 abbrev pub val_fields : Val → List ℕ
 val_fields Suspended = 0 ∷ []
 val_fields (Live x) = 1 ∷ live_fields x
 val_fields (Waiting b) = 2 ∷ b.0 ∷ []
-
-abbrev pub flag_field : Bool → ℕ
-flag_field false = 0
-flag_field true = 1
 
 abbrev pub part_fields : PartValue → List ℕ
 part_fields (OfTask v) = 0 ∷ val_fields v

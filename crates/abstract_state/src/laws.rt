@@ -41,7 +41,7 @@ pub fn the_meet_is_inductive()
 /// The table of everything is inductive, with each well-formed and regular state in it.
 pub fn the_full_table_is_inductive()
     ensures inductive { (app : App) → Inductive app full }
-    ensures states { (app : App) (s : State) → Well app s → IsRegular s → In app full s }
+    ensures states { (app : App) (s : State) → Well app s → IsRegular app s → In app full s }
 {}
 
 /// At most one table is least.
@@ -57,14 +57,15 @@ pub fn states_stay_in_larger_tables()
 /// Whether a well-formed state is in a table is seen from its point and its components alone: mode, counter values,
 /// latches, offsets, due times and cycles are free.
 pub fn alike_states_are_in_together()
-    ensures components { (app : App) (table : Sets) (s u : State) → Well app u → IsRegular u → point_of s ≡ point_of u → ((c : ℕ) → c < component_count app → abstract_of app s c ≡ abstract_of app u c) → In app table s → In app table u }
+    ensures components { (app : App) (table : Sets) (s u : State) → Well app u → IsRegular app u → point_of s ≡ point_of u → ((c : ℕ) → c < component_count app → abstract_of app s c ≡ abstract_of app u c) → In app table s → In app table u }
     ensures free { (app : App) (table : Sets) (s u : State) → Well app u → IsAlike s u → In app table s → In app table u }
 {}
 
-/// A well-formed state stands at a point of the application, and each component of it is what it can be there.
+/// A well-formed state stands at a point of the application, and each component of it, where the right tasks are inside, is
+/// what it can be there.
 pub fn well_formed_states_have_allowed_parts()
     ensures point { (app : App) (s : State) → Well app s → IsPoint app (point_of s) }
-    ensures parts { (app : App) (s : State) → Well app s → (c : ℕ) → c < component_count app → IsAllowed app (point_of s) c (abstract_of app s c) }
+    ensures parts { (app : App) (s : State) → Well app s → IsRegular app s → (c : ℕ) → c < component_count app → IsAllowed app (point_of s) c (abstract_of app s c) }
 {}
 
 /// Values that the components can have at a point, one each, are those of a well-formed state there, whatever choice of

@@ -3,12 +3,14 @@
 #![tactic(auto)]
 
 pub mod bounds;
+mod domains;
 mod edge;
 pub mod laws;
 mod numbering;
 mod table;
 mod value;
 
+pub use domains::domain_of;
 pub use edge::FlowEdge;
 pub use numbering::{component_number, components, masks_are_few, own_events};
 pub use osek_standard::Point;

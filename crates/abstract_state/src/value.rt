@@ -1,17 +1,21 @@
 //! The parts of a state that a table keeps, and what they can be.
 ghost use Rattle.std.specs.Prelude.{◌≡◌};
 
-use osek_values::{AlarmNo, BlockNo, EventNo, Held, TaskNo};
+use osek_values::{AlarmNo, BlockNo, EventNo, Held, Mask, TaskNo};
 use std::cmp::Ordering;
 
-/// Where a Live task stands, but for the offset, and the resources that it holds.
+/// Where a Live task stands, but for the offset, and what it has.
 #[derive(Drop)]
 pub struct LiveVal {
     pub block: BlockNo,
+    /// The activations that wait for it to end.
+    pub further: u8,
+    /// It has the INTERNAL resource that it names.
+    pub inside: bool,
     pub held: Held,
 }
 
-/// What a table keeps of a task: its state with the block at which it stands and the resources that it holds.
+/// What a table keeps of a task: its state, with the block at which it stands.
 #[derive(Drop)]
 pub enum Val {
     Suspended,
@@ -47,11 +51,14 @@ impl ComponentNo {
 /// What the values of a set are values of, which bounds how many there can be.
 #[derive(Clone, Copy, PartialEq, Eq, Debug)]
 pub enum Domain {
-    /// A task with these blocks, in an application with so many resources.
+    /// A task with these blocks and so many activations, which can take these resources, and names an INTERNAL one or
+    /// not.
     Task {
         first: BlockNo,
         count: u16,
-        resources: u8,
+        activation: u8,
+        internal: bool,
+        takable: Mask,
     },
     /// An event, set or not.
     Event,
@@ -73,14 +80,16 @@ impl LiveVal {
     ghost use Rattle.std.specs.{Prelude.{◌≡◌}, Cmp.Lexicographic.{slice_cmp}, Ordering.{nat_cmp}};
     ghost use Rattle.abstract_state.specs.ValueOrder.{live_fields};
 
-    /// By block, then by the number of resources, then by these.
+    /// By block, then by further activations, then by the flag, then by the number of resources, then by these.
     fn order(&self, other: &LiveVal) -> Ordering
         ensures { result ≡ slice_cmp nat_cmp (live_fields self.now) (live_fields other.now) }
     {
         let held = self.held.as_slice();
         let kept = other.held.as_slice();
         let by_held = held.len().cmp(&kept.len()).then(held.cmp(kept));
-        self.block.0.cmp(&other.block.0).then(by_held)
+        let by_inside = self.inside.cmp(&other.inside).then(by_held);
+        let by_further = self.further.cmp(&other.further).then(by_inside);
+        self.block.0.cmp(&other.block.0).then(by_further)
     }
 }
 
@@ -96,6 +105,8 @@ impl Val {
             Val::Suspended => Val::Suspended,
             Val::Live(live) => Val::Live(LiveVal {
                 block: live.block,
+                further: live.further,
+                inside: live.inside,
                 held: live.held.copy(),
             }),
             Val::Waiting(block) => Val::Waiting(*block),

@@ -3,16 +3,18 @@ ghost use Rattle.std.specs.Prelude.{◌≡◌, ◌≤◌, length, IfOk};
 ghost use Rattle.abstract_state.specs.{ValueOrder.{IsAscending}, Tables.{entry_values, AreAscending}};
 
 use abstract_state::{Domain, LiveVal, PartValue, PlainEntry, Val, ValueSet};
-use osek_values::{BlockNo, Held, Memory, ResNo, Seq};
+use osek_values::{BlockNo, Held, Mask, Memory, ResNo, Seq};
 use state_flow::Lattice;
 use std::alloc::Global;
 use std::test::*;
 
-/// A task with three blocks, in an application with two resources.
+/// A task with three blocks and one activation, which can take two resources.
 const TASK: Domain = Domain::Task {
     first: BlockNo(0),
     count: 3,
-    resources: 2,
+    takable: Mask(3),
+    activation: 1,
+    internal: false,
 };
 
 fn live(block: u16, resource: Option<ResNo>) -> PartValue {
@@ -23,6 +25,8 @@ fn live(block: u16, resource: Option<ResNo>) -> PartValue {
     }
     PartValue::OfTask(Val::Live(LiveVal {
         block: BlockNo(block),
+        further: 0,
+        inside: false,
         held,
     }))
 }

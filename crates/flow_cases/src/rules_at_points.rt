@@ -1,7 +1,7 @@
 //! The rules of a point over an entry of one state.
 ghost use Rattle.std.specs.Prelude.{◌≡◌, ◌<◌, IfOk};
 ghost use Rattle.osek_standard.specs.Well.{Well};
-ghost use Rattle.abstract_state.specs.Domains.{domains as domains_of_entry};
+ghost use Rattle.abstract_state.specs.{Domains.{domains as domains_of_entry}, Regular.{IsRegular}};
 ghost use Rattle.flow_rules.specs.Rows.{IsProperRow};
 
 use abstract_state::{Domain, PlainEntry, TableRow};
@@ -31,7 +31,9 @@ fn run_twice<L: Ledger>(app: &App, state: &mut State, blank: Blank)
     requires parts { blank.parts ≡ L.parts }
     requires some { 0 < L.parts }
     requires well { Well app.now state.old }
-    ensures { Well app.now state.new }
+    requires regular { IsRegular app.now state.old }
+    ensures well { Well app.now state.new }
+    ensures regular { IsRegular app.now state.new }
 {
     let mut scans = Steps::<L>::of(blank);
     let mut ready = Ready::of(app, state);

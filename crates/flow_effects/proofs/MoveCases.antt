@@ -110,7 +110,7 @@ halted_point s (processor.Interrupted k over) active = refl
 stays_put : (app : App) (s : State) (r : Runner) (b : BlockNo) → Stands app s r b → (c : ℕ) → value_after (moving r b) c (abstract_of app s c) ≡ abstract_of app s c
 stays_put app s (runner.Task t) b h c = elim (cases_eq c t.0) [
   | inl same ↦
-      (let is : abstract_of app s c ≡ OfTask (Live (live_val b _)) = ap (abstract_of app s) same ∙ task_value app s t.0 h.runs.has.0 ∙ ap OfTask (stands_value app s t b h) in
+      (let is : abstract_of app s c ≡ OfTask (Live (live_val b _ _ _)) = ap (abstract_of app s) same ∙ task_value app s t.0 h.runs.has.0 ∙ ap OfTask (stands_value app s t b h) in
       change_here t.0 (update.Block b) c (abstract_of app s c) same ∙ ap (on_task (at_block b)) is ∙ sym is)
   | inr other ↦ change_there t.0 (update.Block b) c (abstract_of app s c) other
 ]

@@ -17,7 +17,7 @@ use Rattle.osek_standard.specs.declared.task_state.Activity.TheVariants as activ
 use Rattle.osek_standard.specs.declared.point.Point.TheVariants as point
 use Rattle.osek_standard.specs.declared.state.Source.TheVariants as source
 use Rattle.osek_standard.specs.declared.state.Processor.TheVariants as processor
-use Rattle.osek_standard.specs.{Apps.{the_block, tables}, Validity.{NamesEntries}, TaskStates.{suspended, is_live_activity, held, holds}}
+use Rattle.osek_standard.specs.{Apps.{the_block, tables}, Validity.{NamesEntries}, TaskStates.{suspended, further, further_in, is_inside, is_inside_in, is_live_activity, held, holds}}
 use Rattle.osek_standard.specs.{States.{task_state, source_state, held_by_source, caller, place_by, place_in, is_taken}, Levels.{interrupt_ceiling, own_level}, Points.{point_at, point_of}}
 use Rattle.osek_standard.specs.Services.{refused, accepted, with_stack, with_held, is_on_top, get_resource, release_resource, get_resource_isr, release_resource_isr, get_resource_by, release_resource_by}
 use Rattle.osek_standard.specs.Effects.{place_at, moved_to, called}
@@ -40,8 +40,8 @@ use Rattle.flow_model.specs.{Values.{at_block, restacked, with_top, without_top}
 use Rattle.flow_model.specs.{Runners.{Stands, OwnsBlock, change, runner_point}, Effects.{HasEffect, AreCasesOf}, Cases.{goes_on, asked_after, asked_for}}
 use Rattle.flow_model.proofs.{ChangeLaws.{each_passes, passes_each}, Standing.{next_owned, task_calls, routine_calls}}
 use Rattle.flow_model.proofs.{Moves.{activity_parts, moved_held, moved_parts, moved_has, went_on}, Calls.{IsCall, KeepsOrLeaves, asked_none, asked_maybe, call_goes_on, call_has, moved_line, same_line}}
-use Rattle.flow_effects.specs.{Conditions.{of_task}, Moves.{refuses}}
-use Rattle.flow_effects.specs.Resources.{restacks, only, nobody_holds, taken_cases, takes, gives_back, isnt_on_top, is_barred, get_cases, release_cases}
+use Rattle.flow_effects.specs.{Conditions.{of_task}, Moves.{goes_on_as, refuses}}
+use Rattle.flow_effects.specs.Resources.{only, nobody_holds, taken_cases, takes, gives_back, isnt_on_top, is_barred, get_cases, release_cases}
 use Rattle.flow_effects.proofs.Listed.{IsEffect, IsCase, AreListed, IsTaken, are_cases, both_listed, more_listed, one_listed, taken_first, taken_then}
 use Rattle.flow_effects.proofs.{TaskValues.{counted, held_value, task_passes, passes_task, test_value, stands_block, stands_value}, TaskEndCases.{changed_over}}
 use Rattle.flow_effects.proofs.MoveCases.{goes_on_cases}
@@ -76,9 +76,9 @@ no_routine_holds m out res = elim (cases_Bool (list_any (λ x. holds (held_by_so
 ]
 
 -- another stack
-stack_value : (n : BlockNo) (a : Activity) (g : List ResNo) → is_live_activity a ≡ true → (place_in a).block ≡ n → value_in (with_stack a g) ≡ Live (live_val n g)
+stack_value : (n : BlockNo) (a : Activity) (g : List ResNo) → is_live_activity a ≡ true → (place_in a).block ≡ n → value_in (with_stack a g) ≡ Live (live_val n (further_in a) (is_inside_in a) g)
 stack_value n activity.Suspended g e at = absurd (cc)
-stack_value n (activity.Live x) g e at = ap (λ (b : BlockNo). Live (live_val b g)) at
+stack_value n (activity.Live x) g e at = ap (λ (b : BlockNo). Live (live_val b x.further x.inside g)) at
 stack_value n (activity.Waiting b) g e at = absurd (cc)
 
 stack_block : (a : Activity) (g : List ResNo) → (place_in (with_stack a g)).block ≡ (place_in a).block
@@ -94,6 +94,10 @@ restacked_moved f n (OfTask (Waiting b)) = refl
 restacked_moved f n (OfEvent x) = refl
 restacked_moved f n (OfAlarm x) = refl
 
+-- what a Live task is at a block with a stack
+abbrev with_stack_at : State → ℕ → BlockNo → List ResNo → PartValue
+with_stack_at s t n g = OfTask (Live (live_val n (further (task_state s t)) (is_inside (task_state s t)) g))
+
 -- the running task has another stack, by an update of its value
 module _ (app : App) (s : State) (t : TaskNo) (n : BlockNo) (h : Stands app s (runner.Task t) n) (g : List ResNo) where
   abbrev x : TaskState
@@ -108,7 +112,7 @@ module _ (app : App) (s : State) (t : TaskNo) (n : BlockNo) (h : Stands app s (r
       ∙ ap (λ (y : TaskState). point.Task (place_in y.activity).block) (get_or-set_same s.tasks t.0 x suspended there)
       ∙ ap point.Task (stack_block (task_state s t.0).activity g ∙ stands_block app s t n h)
 
-  held_parts : (u : Update) → updated u (OfTask (Live (live_val n (held (task_state s t.0))))) ≡ OfTask (Live (live_val n g)) → (c : ℕ) → c < component_count app →
+  held_parts : (u : Update) → updated u (with_stack_at s t.0 n (held (task_state s t.0))) ≡ with_stack_at s t.0 n g → (c : ℕ) → c < component_count app →
       abstract_of app (with_held s t.0 g) c ≡ value_after (change t.0 u ∷ []) c (abstract_of app s c)
   held_parts u becomes c lt = activity_parts app s t.0 x there refl u h.runs.has.0
       (ap (λ (v : Val). updated u (OfTask v)) (stands_value app s t n h) ∙ becomes ∙ ap OfTask (sym (stack_value n (task_state s t.0).activity g h.runs.has.1 (stands_block app s t n h)))) c lt
@@ -149,10 +153,10 @@ module _ (app : App) (t : TaskNo) (b : BlockNo) (owns : OwnsBlock app (runner.Ta
   -- the task takes or gives back a resource behind its move
   restacked_on : (k : Kind) → IsCall app k → (the_block app b.0).kind ≡ k → (s : State) (choice : Bool) (conditions : List Condition) (u : Update) (g : List ResNo) (a : Ask) (asks : Asked) → Stands app s r b → KeepsOrLeaves a s (with_held (after s) t.0 g) →
       called app (after s) (Task t) k ≡ accepted (with_held (after s) t.0 g) a → asked_for app r k a ≡ asks →
-      ((v : PartValue) → updated u (updated (update.Block next) v) ≡ updated u v) → updated u (OfTask (Live (live_val next (held (task_state (after s) t.0))))) ≡ OfTask (Live (live_val next g)) →
-      PassesAll app conditions (abstract_of app s) → HasEffect app (restacks t next conditions u asks) s choice
+      ((v : PartValue) → updated u (updated (update.Block next) v) ≡ updated u v) → updated u (with_stack_at (after s) t.0 next (held (task_state (after s) t.0))) ≡ with_stack_at (after s) t.0 next g →
+      PassesAll app conditions (abstract_of app s) → HasEffect app (goes_on_as t next conditions u asks) s choice
   restacked_on k call is s choice conditions u g a asks h kept row ask_is moved becomes passing =
-      call_has app (restacks t next conditions u asks) s choice r b k (accepted (with_held (after s) t.0 g) a) call h is
+      call_has app (goes_on_as t next conditions u asks) s choice r b k (accepted (with_held (after s) t.0 g) a) call h is
       (ap (λ (c : Caller). called app (after s) c k) (task_calls app s t b h) ∙ row) passing (record {
         point = held_point app (after s) t next (on s h) g;
         parts = λ c lt. held_parts app (after s) t next (on s h) g u becomes c lt
@@ -267,7 +271,7 @@ module _ (app : App) (t : TaskNo) (b : BlockNo) (owns : OwnsBlock app (runner.Ta
           let none : is_taken (after s) res.0 ≡ false = untaken s h passing in
           restacked_on getting (λ v ch p y. refl) is s choice unheld (update.Take res next) (held (task_state (after s) t.0) ++ res ∷ []) ask.No asked.No h tt
           (get_takes (after s) (ap (λ (a : Bool). a || barred) none ∙ free)) (asked_none app r getting)
-          (restacked_moved (λ g. with_top g res) next) (ap (λ (g : List ResNo). OfTask (Live (live_val next g))) (on_top (after s) (on s h).well none)) passing
+          (restacked_moved (λ g. with_top g res) next) (ap (λ (g : List ResNo). with_stack_at (after s) t.0 next g) (on_top (after s) (on s h).well none)) passing
 
       free_taken : (s : State) → Stands app s r b → list_any (λ y. holds (held y) res.0) s.tasks ≡ false → IsTaken app r b s (takes_it ∷ [])
       free_taken s h none =

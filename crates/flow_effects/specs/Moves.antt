@@ -1,11 +1,14 @@
 -- The cases of instructions that do nothing but go on: work, choices, loops, and calls that are refused or have no effect
 -- on the components.
 use Rattle.std.specs.Prelude.{ℕ, nat_lt, List, [], ◌∷◌, Some, None, if◌then◌else◌}
-use Rattle.osek_values.specs.declared.{numbers.BlockNo.{BlockNo}, status.Status.{Status}}
+use Rattle.osek_values.specs.declared.{numbers.{TaskNo.{TaskNo}, BlockNo.{BlockNo}}, status.Status.{Status}}
+use Rattle.osek_values.specs.declared.status.Status.TheVariants as status
 use Rattle.osek_standard.specs.declared.point.Point.TheVariants as point
-use Rattle.flow_model.specs.declared.case.EffectCase.{EffectCase}
+use Rattle.flow_model.specs.declared.case.{Asked.{Asked}, EffectCase.{EffectCase}}
 use Rattle.flow_model.specs.declared.case.Asked.TheVariants as asked
-use Rattle.flow_model.specs.{declared.runner.Runner.{Runner}, Runners.{runner_point, moving}, Cases.{effect_case, goes_on}}
+use Rattle.flow_model.specs.declared.{change.Update.{Update}, test.Condition.{Condition}}
+use Rattle.flow_model.specs.declared.runner.Runner.TheVariants as runner
+use Rattle.flow_model.specs.{declared.runner.Runner.{Runner}, Runners.{change, runner_point, moving}, Cases.{effect_case, goes_on}}
 
 -- it stays at its block, and nothing changes
 abbrev pub stays : Runner → BlockNo → EffectCase
@@ -21,6 +24,10 @@ onward r n = passes_by r n ∷ []
 -- it goes on, and the call is refused whatever the values are
 abbrev pub refuses : Runner → BlockNo → Status → List EffectCase
 refuses r n x = goes_on r n [] asked.No (Some x) ∷ []
+
+-- a task goes on to a block, and its value is another there: its call is accepted
+abbrev pub goes_on_as : TaskNo → BlockNo → List Condition → Update → Asked → EffectCase
+goes_on_as t n conditions u asked = effect_case conditions (change t.0 u ∷ []) asked (Some status.Ok) (runner_point (runner.Task t) n)
 
 -- of several instructions of work one is done, or the last
 abbrev pub work_cases : Runner → BlockNo → BlockNo → ℕ → List EffectCase

@@ -3,20 +3,15 @@ use Rattle.std.specs.{Prelude.{ℕ, ◌^◌, Bool, nat_lt, List, [], ◌∷◌, 
 use Rattle.osek_values.specs.{Numbers.{mask, task_no}, declared.numbers.{TaskNo.{TaskNo}, BlockNo.{BlockNo}, ResNo.{ResNo}}}
 use Rattle.osek_values.specs.declared.status.Status.TheVariants as status
 use Rattle.osek_standard.specs.{declared.app.App.{App}, Priority.{base_priority, ceiling}}
-use Rattle.flow_model.specs.declared.case.{EffectCase.{EffectCase}, Asked.{Asked}}
+use Rattle.flow_model.specs.declared.case.EffectCase.{EffectCase}
 use Rattle.flow_model.specs.declared.case.Asked.TheVariants as asked
 use Rattle.flow_model.specs.declared.test.Condition.{Condition}
 use Rattle.flow_model.specs.declared.test.Test.TheVariants as test
-use Rattle.flow_model.specs.declared.change.Update.{Update}
 use Rattle.flow_model.specs.declared.change.Update.TheVariants as update
 use Rattle.flow_model.specs.declared.runner.Runner.{Runner}
 use Rattle.flow_model.specs.declared.runner.Runner.TheVariants as runner
-use Rattle.flow_model.specs.{Runners.{change, runner_point}, Cases.{effect_case, goes_on, asked_after}}
-use Rattle.flow_effects.specs.{Conditions.{of_task}, Moves.{refuses}}
-
--- the task goes on to a block, and its stack becomes another there
-abbrev pub restacks : TaskNo → BlockNo → List Condition → Update → Asked → EffectCase
-restacks t n conditions update asked = effect_case conditions (change t.0 update ∷ []) asked (Some status.Ok) (runner_point (runner.Task t) n)
+use Rattle.flow_model.specs.Cases.{goes_on, asked_after}
+use Rattle.flow_effects.specs.{Conditions.{of_task}, Moves.{goes_on_as, refuses}}
 
 -- the mask of one resource
 abbrev pub only : ResNo → ℕ
@@ -32,11 +27,11 @@ taken_cases t n r tasks = map (λ u. goes_on (runner.Task t) n (of_task (task_no
 
 -- no task does: the caller gets it on top of its stack
 abbrev pub takes : TaskNo → BlockNo → ResNo → ℕ → EffectCase
-takes t n r tasks = restacks t n (nobody_holds r tasks) (update.Take r n) asked.No
+takes t n r tasks = goes_on_as t n (nobody_holds r tasks) (update.Take r n) asked.No
 
 -- the resource is on top and is given back
 abbrev pub gives_back : App → TaskNo → BlockNo → ResNo → EffectCase
-gives_back app t n r = restacks t n (of_task t (test.OnTop r) ∷ []) (update.Give n) (asked_after app (runner.Task t))
+gives_back app t n r = goes_on_as t n (of_task t (test.OnTop r) ∷ []) (update.Give n) (asked_after app (runner.Task t))
 
 -- it isn't on top: NOFUNC
 abbrev pub isnt_on_top : TaskNo → BlockNo → ResNo → EffectCase

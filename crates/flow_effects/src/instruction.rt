@@ -34,7 +34,7 @@ fn plain_cases(
 {
     let next = app.block(block).next;
     match service {
-        PlainService::TerminateTask => terminate_cases(alloc, runner, next),
+        PlainService::TerminateTask => terminate_cases(alloc, app, runner, next),
         PlainService::Schedule => schedule_cases(alloc, runner, next),
         PlainService::GetTaskId | PlainService::GetActiveApplicationMode => Ok(Seq::new(alloc)),
     }
@@ -149,7 +149,7 @@ fn instruction_cases(
         Kind::Choice(other) => choice_cases(alloc, runner, next, other),
         Kind::Loop => onward(alloc, runner, next),
         Kind::Call(call) => call_cases(alloc, app, runner, block, call),
-        Kind::TaskEnd => task_end_cases(alloc, runner, block),
+        Kind::TaskEnd => task_end_cases(alloc, app, runner, block),
         Kind::IsrEnd => return_cases(alloc, app, runner, block),
         Kind::CountUp => onward(alloc, runner, next),
         Kind::Expire(_) => Ok(Seq::new(alloc)),

@@ -1,11 +1,11 @@
 //! Instructions that do nothing but go on.
 ghost use Rattle.std.specs.Prelude.{◌≡◌, IfOk};
-ghost use Rattle.flow_effects.specs.Moves.{stays, passes_by, onward, refuses, work_cases, choice_cases, halts};
+ghost use Rattle.flow_effects.specs.Moves.{stays, passes_by, onward, refuses, goes_on_as, work_cases, choice_cases, halts};
 
-use abstract_state::Point;
-use flow_model::{Asked, EffectCase, Leaving, Runner};
+use abstract_state::{ComponentNo, Point};
+use flow_model::{Asked, Change, Condition, EffectCase, Leaving, Runner, Update};
 use flow_services::one;
-use osek_values::{BlockNo, Memory, Seq, Status};
+use osek_values::{BlockNo, Memory, Seq, Status, TaskNo};
 use std::alloc::Global;
 
 /// The case in which the runner stays at its block, and nothing changes.
@@ -45,6 +45,30 @@ pub fn refuses(
         alloc,
         runner.goes_on(alloc, next, Seq::new(alloc), Asked::No, Some(status))?,
     )
+}
+
+/// A task goes on to a block, and its value is another there: its call is accepted.
+pub fn goes_on_as(
+    alloc: Global,
+    task: TaskNo,
+    next: BlockNo,
+    conditions: Seq<Condition>,
+    update: Update,
+    asked: Asked,
+) -> Result<EffectCase, Memory>
+    ensures { IfOk result (λ case. case ≡ goes_on_as task next conditions update asked) }
+{
+    let mut changes = Seq::new(alloc);
+    changes.push(Change {
+        component: ComponentNo(task.0 as u16),
+        update,
+    })?;
+    let point = Runner::Task(task).at(next);
+    Ok(EffectCase {
+        conditions,
+        changes,
+        leaving: Leaving::at(point, asked, Some(Status::Ok)),
+    })
 }
 
 /// So many instructions of work: one of them is done, or the last.

@@ -1,41 +1,16 @@
 //! GetResource and ReleaseResource.
 ghost use Rattle.std.specs.Prelude.{◌≡◌, ◌<◌, ◌≤◌, [], ◌∷◌, ◌++◌, length, OnOk, IfOk};
 ghost use Rattle.flow_model.specs.Runners.{IsKnown};
-ghost use Rattle.flow_effects.specs.Resources.{restacks, only, nobody_holds, taken_cases, takes, gives_back, isnt_on_top, is_barred, get_cases, release_cases};
+ghost use Rattle.flow_effects.specs.Resources.{only, nobody_holds, taken_cases, takes, gives_back, isnt_on_top, is_barred, get_cases, release_cases};
 
 use crate::conditions::{if_task, of_task};
-use crate::moves::refuses;
-use abstract_state::ComponentNo;
-use flow_model::{Asked, Change, Condition, EffectCase, Leaving, Runner, Test, Update};
+use crate::moves::{goes_on_as, refuses};
+use flow_model::{Asked, Condition, EffectCase, Runner, Test, Update};
 use flow_services::one;
 use osek_standard::App;
 use osek_values::limits::MAX_TASKS;
 use osek_values::{BlockNo, Mask, Memory, ResNo, Seq, Status, TaskNo};
 use std::alloc::Global;
-
-/// The case in which a task goes on to its next block, where it takes or gives back a resource.
-fn restacks(
-    alloc: Global,
-    task: TaskNo,
-    next: BlockNo,
-    conditions: Seq<Condition>,
-    update: Update,
-    asked: Asked,
-) -> Result<EffectCase, Memory>
-    ensures { IfOk result (λ case. case ≡ restacks task next conditions update asked) }
-{
-    let mut changes = Seq::new(alloc);
-    changes.push(Change {
-        component: ComponentNo(task.0 as u16),
-        update,
-    })?;
-    let point = Runner::Task(task).at(next);
-    Ok(EffectCase {
-        conditions,
-        changes,
-        leaving: Leaving::at(point, asked, Some(Status::Ok)),
-    })
-}
 
 /// The mask of one resource.
 fn only(resource: ResNo) -> Mask
@@ -100,7 +75,7 @@ fn takes(
         resource,
         block: next,
     };
-    restacks(alloc, task, next, conditions, update, Asked::No)
+    goes_on_as(alloc, task, next, conditions, update, Asked::No)
 }
 
 /// Whether the ceiling of a resource is below the task's own priority.
@@ -167,7 +142,7 @@ fn gives_back(
     let conditions = if_task(alloc, task, Test::OnTop(resource))?;
     let update = Update::Give { block: next };
     let asked = Runner::Task(task).asked(app);
-    restacks(alloc, task, next, conditions, update, asked)
+    goes_on_as(alloc, task, next, conditions, update, asked)
 }
 
 /// The case in which it isn't on top, and the call is refused.

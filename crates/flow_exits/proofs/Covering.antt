@@ -1,5 +1,5 @@
 -- The exits of a point are where its steps end, and each is one of some step.
-use Rattle.std.proofs.Common.{◌≡◌, ℕ, ◌<◌, Bool, List, [], map, IsTrue, refl, sym, ap, subst, ◌∙◌, inl, inr, arith, Some, None}
+use Rattle.std.proofs.Common.{◌≡◌, ℕ, Bool, List, [], map, IsTrue, refl, sym, ap, subst, ◌∙◌, inl, inr, arith, Some, None}
 use Rattle.std.specs.{declared.option.Option.{Option}, List.{range_with_len}}
 use Rattle.std.proofs.lemmas.Bool.{cases_Bool}
 use Rattle.osek_values.specs.{declared.{event.Event.{Event, TheVariants.{Run, Irq, Tick}}, numbers.{TaskNo.{TaskNo}, BlockNo.{BlockNo}}, status.Status.{Status}}, Numbers.{task_no}}
@@ -103,7 +103,7 @@ module _ (app : App) (p : Point) (entry : PlainEntry) (exits : List Exit) (is : 
       let value : ℕ → PartValue = values_after k.case.changes (abstract_of app s) in
       let same = changed app s i.choice at.well k.case k.has in
       let exit : Exit = k.found.exit in
-      let r = instruction_ends app s i.choice at.well k.case k.has value same k.decision k.does k.stays e i.steps
+      let r = instruction_ends app s i.choice at.well k.case k.has value same k.decision k.does k.stays e i.steps at.regular
       (shown ∙ ap (λ (d : Outcome). Did d x) (sym i.does) ∙ ap (Did (outcome app s i.choice)) (sym i.status)) in
       record {
         exit = exit;
@@ -188,7 +188,7 @@ module _ (app : App) (p : Point) (entry : PlainEntry) (exits : List Exit) (is : 
           let does : IsKernelDecision app k.effect.leaving (effect app s y.choice) k.after o.decision
           = kernel_decision app s y.choice y.has.well k.effect y.effect k.after same o.decision k.decides (λ w e. subst (λ (t : ℕ). IsFirstIfThere t s) (ap winner e) y.first) in
           let r = instruction_ends app s y.choice y.has.well k.effect y.effect k.after same o.decision does (h.stays k.effect k.listed) (Run y.choice)
-          (instruction_by app s y.choice active y.alone) (shown_so app s y.choice active y.alone) in
+          (instruction_by app s y.choice active y.alone) y.has.regular (shown_so app s y.choice active y.alone) in
           record {
             from = s;
             event = Run y.choice;

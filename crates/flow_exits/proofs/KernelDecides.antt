@@ -1,5 +1,5 @@
 -- What the scheduler decides by the values of the tasks is what the kernel does.
-use Rattle.std.proofs.Common.{◌≡◌, ◌≢◌, ℕ, ◌+◌, ◌<◌, ◌≤◌, Bool, true, false, not, List, [], ◌∷◌, length, refl, sym, ap, subst, ◌∙◌, ◌⊎◌, inl, inr, arith, Some, None, nat_lt, IsTrue}
+use Rattle.std.proofs.Common.{◌≡◌, ◌≢◌, ℕ, ◌+◌, ◌<◌, ◌≤◌, Bool, true, false, not, List, [], ◌∷◌, ◌++◌, length, refl, sym, ap, subst, ◌∙◌, ◌⊎◌, inl, inr, arith, Some, None, nat_lt, IsTrue}
 use Rattle.std.specs.{Prelude.{if◌then◌else◌}, declared.option.Option.{Option}}
 use Rattle.std.proofs.lemmas.Bool.{cases_Bool, cases_lt, cases_eq, eqb-true, ne_eqb, false≢true, Decides.{nat_tests}}
 use Rattle.osek_values.specs.{declared.numbers.TaskNo.{TaskNo}, Line.{place_in_line}}
@@ -8,19 +8,20 @@ use Rattle.osek_standard.specs.declared.{app.App.{App}, task_state.{TaskState.{T
 use Rattle.osek_standard.specs.declared.task_state.Activity.TheVariants as activity
 use Rattle.osek_standard.specs.declared.state.Processor.TheVariants as processor
 use Rattle.osek_standard.specs.declared.point.Point.TheVariants as point
-use Rattle.osek_standard.specs.{TaskStates.{is_live, is_live_activity, held_in}, States.{task_of, task_state, is_that_task, caller, place_in}, Line.{turn, places, places_due}, Internal.{occupied}}
+use Rattle.osek_standard.specs.{TaskStates.{is_live, is_live_activity}, States.{task_of, task_state, is_that_task, caller, place_in}, Line.{turn, places}, Internal.{occupied}}
 use Rattle.osek_standard.specs.{Priority.{base_priority, highest, current_priority, best, IsBest}, Effects.{Effect}, Points.{point_of}}
 use Rattle.osek_standard.specs.{Dispatch.{Keep, To, outcome_of, outcome_by, preempted_by, if_above, if_any, settled}, Well.{Well, HasProcessor, IsProcessor, IsTaskLevel}}
-use Rattle.osek_standard.proofs.{PriorityLaws.{live_known, best_is, is_best, best_none, none_live, some_best}, PlaceLaws.{places_in, other_last}}
+use Rattle.osek_standard.proofs.{PriorityLaws.{live_known, best_is, is_best, best_none, none_live, some_best}, PlaceLaws.{places_in}}
 use Rattle.abstract_state.specs.{declared.value.PartValue.{PartValue}, Components.{value_in, part_of}, Concrete.{val_of}, Choices.{IsFirstIfThere}}
-use Rattle.abstract_state.proofs.{ComponentLaws.{task_counted, task_at_its_number}, ClosedLaws.{occupied_held}, SettledParts.{settled_block, kept_point}}
+use Rattle.abstract_state.proofs.{ComponentLaws.{task_counted, task_at_its_number}, SettledParts.{settled_block, kept_point}}
+use Rattle.flow_model.proofs.LinesAfter.{some_due}
 use Rattle.flow_model.specs.declared.case.{Asked.{Asked}, Decision.{Decision}, Leaving.{Leaving}}
 use Rattle.flow_model.specs.declared.case.Asked.TheVariants as asked
 use Rattle.flow_model.specs.declared.case.Decision.TheVariants as decision
-use Rattle.flow_model.specs.{Values.{is_live_value, held_of, block_of, value_priority}, Effects.{Asks, LeavesLine, IsLineAfter, one_more}}
+use Rattle.flow_model.specs.{Values.{is_live_value, occupied_by, block_of, value_priority}, Effects.{Asks, LeavesLine, IsLineAfter}}
 use Rattle.flow_model.specs.Scheduling.{outcome_of_decision, may_tie, is_live_task, task_priority, IsLiveTask, IsBestTask, NoneLive, NoneAbove, IsAbove, Decides, DecidesBy, end_point}
 use Rattle.flow_exits.specs.Deciding.{HasValues, GoesFirst, IsKernelDecision}
-use Rattle.flow_exits.proofs.LinePlaces.{place_behind, place_within, place_before, place_of_itself, behind_first, no_more}
+use Rattle.flow_exits.proofs.LinePlaces.{place_behind, place_within, place_before, place_of_itself, behind_first}
 
 -- what a table keeps of a task tells whether it is Live, its priority, and its block
 live_value : (a : Activity) → is_live_value (value_in a) ≡ is_live_activity a
@@ -28,18 +29,18 @@ live_value activity.Suspended = refl
 live_value (activity.Live x) = refl
 live_value (activity.Waiting b) = refl
 
-held_value : (a : Activity) → held_of (value_in a) ≡ held_in a
-held_value activity.Suspended = refl
-held_value (activity.Live x) = refl
-held_value (activity.Waiting b) = refl
-
 block_value : (a : Activity) → block_of (value_in a) ≡ (place_in a).block
 block_value activity.Suspended = refl
 block_value (activity.Live x) = refl
 block_value (activity.Waiting b) = refl
 
+occupied_value : (app : App) (u : ℕ) (x : TaskState) (a : Activity) → occupied_by app u (value_in a) ≡ occupied app u (record x { activity = a })
+occupied_value app u x activity.Suspended = refl
+occupied_value app u x (activity.Live y) = refl
+occupied_value app u x (activity.Waiting b) = refl
+
 priority_value : (app : App) (u : ℕ) (x : TaskState) → value_priority app u (value_in x.activity) ≡ highest app (base_priority app u) (occupied app u x)
-priority_value app u x = ap (highest app (base_priority app u)) (held_value x.activity ∙ sym (occupied_held app u x))
+priority_value app u x = ap (highest app (base_priority app u)) (occupied_value app u x x.activity)
 
 module _ (app : App) (s : State) (well : Well app s) (value : ℕ → PartValue) (same : HasValues app s value) where
   val_is : (u : ℕ) → u < length app.tasks → val_of (value u) ≡ value_in (task_state s u).activity
@@ -68,11 +69,6 @@ module _ (app : App) (s : State) (well : Well app s) (value : ℕ → PartValue)
   by_line : (u : ℕ) → is_that_task (task_of s.processor) u ≡ false → turn s u ≡ 1 + place_in_line s.line u
   by_line u e = rw e refl
 
-  some_due : (o : Option TaskNo) (u : ℕ) (a : Activity) → is_live_activity a ≡ true → is_that_task o u ≡ false → 0 < places_due o u a
-  some_due o u activity.Suspended live e = absurd (cc)
-  some_due o u (activity.Live x) live e = rw e (omega arith)
-  some_due o u (activity.Waiting b) live e = absurd (cc)
-
   -- a Live task that doesn't run stands in the line
   stands_in_line : (u : ℕ) → is_live (task_state s u) ≡ true → is_that_task (task_of s.processor) u ≡ false → 0 < places s u
   stands_in_line u live e = subst (λ (n : ℕ). 0 < n) (sym (well.line u)) (some_due (task_of s.processor) u (task_state s u).activity live e)
@@ -80,13 +76,14 @@ module _ (app : App) (s : State) (well : Well app s) (value : ℕ → PartValue)
   -- a task that was put last comes after each other one
   last_comes_last : (before : State) (t : TaskNo) (u : ℕ) → IsLineAfter (Some t) before s → is_that_task (task_of s.processor) t.0 ≡ false → is_live (task_state s u) ≡ true → u ≢ t.0 → turn s u < turn s t.0
   last_comes_last before t u line waits live other =
-      let behind : place_in_line s.line t.0 ≡ length before.line = ap (λ (l : List TaskNo). place_in_line l t.0) line.is ∙ place_behind before.line t.0 (t ∷ []) line.new
+      let line_is : s.line ≡ before.line ++ t ∷ [] = line.is ∙ ap (λ (l : List TaskNo). before.line ++ l) line.new.0 in
+      let behind : place_in_line s.line t.0 ≡ length before.line = ap (λ (l : List TaskNo). place_in_line l t.0) line_is ∙ place_behind before.line t.0 (t ∷ []) line.new.1
       ∙ ap (λ (n : ℕ). length before.line + n) (place_of_itself t) ∙ omega arith in
       elim (cases_Bool (is_that_task (task_of s.processor) u)) [
         | inl e ↦ omega (arith, current_first u e, by_line t.0 waits)
         | inr e ↦
-            (let some : 0 < places_in before.line u = subst (λ (n : ℕ). 0 < n) (ap (λ (l : List TaskNo). places_in l u) line.is ∙ other_last u t before.line other) (stands_in_line u live e) in
-            let within : place_in_line s.line u < length before.line = subst (λ (l : List TaskNo). place_in_line l u < length before.line) (sym line.is) (place_within before.line u (t ∷ []) some) in
+            (let some : 0 < places_in before.line u = line.old u (ne_eqb t.0 u (λ same. other (sym same))) e (stands_in_line u live e) in
+            let within : place_in_line s.line u < length before.line = subst (λ (l : List TaskNo). place_in_line l u < length before.line) (sym line_is) (place_within before.line u (t ∷ []) some) in
             omega (arith, by_line u e, by_line t.0 waits, behind, within))
       ]
 
@@ -112,9 +109,8 @@ module _ (app : App) (s : State) (well : Well app s) (value : ℕ → PartValue)
   still_first last before x line live waits first = elim (cases_Bool (is_that_task last x)) [
     | inl e ↦ inl e
     | inr e ↦
-        (let there : places_in s.line x ≡ places_in before.line x = ap (λ (l : List TaskNo). places_in l x) line.is ∙ no_more last before.line x e in
-        let some : 0 < places_in before.line x = subst (λ (n : ℕ). 0 < n) there (stands_in_line x live waits) in
-        inr (ap (λ (l : List TaskNo). place_in_line l x) line.is ∙ place_before before.line x (one_more last) some ∙ first some))
+        (let some : 0 < places_in before.line x = line.old x e waits (stands_in_line x live waits) in
+        inr (ap (λ (l : List TaskNo). place_in_line l x) line.is ∙ place_before before.line x line.more some ∙ first some))
   ]
 
   -- ---- the best task

@@ -7,3 +7,4 @@ pub mod Arriving
 pub mod Steps
 pub mod Covering
 pub mod AfterEffect
+mod Ceilings

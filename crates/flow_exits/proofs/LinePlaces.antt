@@ -1,11 +1,8 @@
 -- Where tasks stand in a line that goes on with more places.
-use Rattle.std.proofs.Common.{◌≡◌, ◌≢◌, ℕ, ◌+◌, ◌<◌, true, false, List, [], ◌∷◌, ◌++◌, length, refl, sym, ◌∙◌, ap, inl, inr, arith, nat_eq, Some, None}
-use Rattle.std.proofs.lemmas.{Bool.{cases_Bool, cases_eq, eq-eqb, false≢true}, List.{append-nil}}
-use Rattle.std.specs.declared.option.Option.{Option}
+use Rattle.std.proofs.Common.{◌≡◌, ◌≢◌, ℕ, ◌+◌, ◌<◌, List, [], ◌∷◌, ◌++◌, length, refl, ap, inl, inr, arith, nat_eq}
+use Rattle.std.proofs.lemmas.Bool.{cases_Bool, cases_eq, eq-eqb}
 use Rattle.osek_values.specs.{declared.numbers.TaskNo.{TaskNo}, Line.{place_in_line}}
-use Rattle.osek_standard.specs.States.{is_that_task}
-use Rattle.osek_standard.proofs.{PlaceLaws.{places_in, one_if, one_first, other_last}, TurnLaws.{place_once}}
-use Rattle.flow_model.specs.Effects.{one_more}
+use Rattle.osek_standard.proofs.{PlaceLaws.{places_in, one_if, one_first}, TurnLaws.{place_once}}
 
 -- a task that has no place in the first part stands behind it
 pub place_behind : (line : List TaskNo) (t : ℕ) (rest : List TaskNo) → places_in line t ≡ 0 → place_in_line (line ++ rest) t ≡ length line + place_in_line rest t
@@ -30,11 +27,6 @@ place_before (n ∷ line) t rest some = elim (cases_Bool (nat_eq n.0 t)) [
   | inl e ↦ (rw e refl)
   | inr e ↦ (let first = one_first t n line in let other = ap one_if e in let still : 0 < places_in line t = omega (arith, some, first, other) in rw e (ap (λ (k : ℕ). 1 + k) (place_before line t rest still)))
 ]
-
--- a task that isn't put last stands there as often as before
-pub no_more : (last : Option TaskNo) (line : List TaskNo) (t : ℕ) → is_that_task last t ≡ false → places_in (line ++ one_more last) t ≡ places_in line t
-no_more None line t e = ap (λ (l : List TaskNo). places_in l t) (append-nil line)
-no_more (Some n) line t e = other_last t n line (λ same. false≢true (sym e ∙ eq-eqb n.0 t (sym same)))
 
 -- a task behind its own place
 pub place_of_itself : (t : TaskNo) → place_in_line (t ∷ []) t.0 ≡ 0

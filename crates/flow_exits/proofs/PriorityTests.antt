@@ -1,5 +1,5 @@
 -- Tests of values say whether a task is below a limit.
-use Rattle.std.proofs.{Common.{◌≡◌, ℕ, ◌<◌, ◌≤◌, ◌&&◌, ◌||◌, true, [], ◌∷◌, refl, ◌∙◌, arith}, lemmas.Bool.Decides.{nat_tests}}
+use Rattle.std.proofs.{Common.{◌≡◌, ℕ, ◌<◌, true, refl, arith}, lemmas.Bool.Decides.{nat_tests}}
 use Rattle.osek_standard.specs.declared.app.App.{App}
 use Rattle.abstract_state.specs.declared.value.Val.{Val, TheVariants.{Suspended, Live, Waiting}}
 use Rattle.flow_model.specs.Values.{is_live_value, value_priority}

@@ -3,12 +3,13 @@ use Rattle.std.proofs.Common.{◌≡◌, ℕ, ◌<◌, Bool, sym, ap, ◌∙◌,
 use Rattle.osek_values.specs.declared.{event.Event.{Event}, numbers.TaskNo.{TaskNo}}
 use Rattle.osek_standard.specs.{declared.{app.App.{App}, state.State.{State}, point.Point.{Point}}, Points.{point_of}, Dispatch.{Outcome, Stepped, instruction, outcome, settled}}
 use Rattle.osek_standard.specs.{Effects.{Effect, effect}, Kernel.{step}, Outcomes.{Did, shows}, Well.{Well}}
-use Rattle.osek_standard.proofs.EffectKeeps.{effect_keeps}
+use Rattle.osek_standard.proofs.{EffectKeeps.{effect_keeps}, FlagLaws.{effect_flags}, InsideLaws.{IsNamed}}
 use Rattle.abstract_state.specs.{declared.value.PartValue.{PartValue}, Components.{component_count, component_at, abstract_of}, Choices.{IsFirstIfThere}}
 use Rattle.flow_model.specs.{declared.case.{Decision.{Decision}, EffectCase.{EffectCase}}, Effects.{stay_point, IsKnownStay, HasEffect}, Rules.{mark_by}}
 use Rattle.flow_model.specs.{Scheduling.{Decides, end_point, outcome_of_decision, settled_value, settled_values}, Tests.{values_after}}
 use Rattle.flow_model.specs.declared.case.Decision.TheVariants as decision
-use Rattle.abstract_state.proofs.SettledParts.{settled_part}
+use Rattle.abstract_state.specs.Regular.{IsRegular}
+use Rattle.abstract_state.proofs.{ClosedLaws.{no_internal}, SettledParts.{settled_same}}
 use Rattle.flow_exits.specs.Deciding.{HasValues, IsKernelDecision}
 use Rattle.flow_exits.proofs.{KernelDecides.{decided_so, some_decided}, Staying.{same_stay}}
 
@@ -32,6 +33,10 @@ module _ (app : App) (s : State) (choice : Bool) (well : Well app s) (x : Effect
   kept : Well app after.state
   kept = effect_keeps app s well choice
 
+  -- who is inside after the effect was so before it
+  named_after : IsRegular app s → IsNamed app after.state
+  named_after regular t e = regular.inside.named t ((effect_flags app s choice).lower t e)
+
   -- the values that the changes make are those after the effect
   pub changed : HasValues app after.state (values_after x.changes (abstract_of app s))
   changed c lt = sym (h.parts c lt)
@@ -54,11 +59,11 @@ module _ (app : App) (s : State) (choice : Bool) (well : Well app s) (x : Effect
       unfolding instruction
       noted = ap (λ (n : Stepped). n.notes.status) steps
 
-      pub instruction_ends : shows app s e ≡ Did (outcome app s choice) after.notes.status → Ends app x d value s e
-      instruction_ends shown = record {
+      pub instruction_ends : IsRegular app s → shows app s e ≡ Did (outcome app s choice) after.notes.status → Ends app x d value s e
+      instruction_ends regular shown = record {
         target = ap point_of stepped ∙ does.point ∙ ap (λ (p : Point). end_point app value p d) (h.point ∙ same_stay app x.leaving.stay (abstract_of app after.state) value known (λ c lt. sym (same c lt)));
         parts = λ c lt.
-            (let kept_part = settled_part app after.state (outcome_of_decision d) (component_at app c) in
+            (let kept_part = settled_same app after.state (outcome_of_decision d) (named_after regular) (no_internal app) (component_at app c) in
             ap (λ (r : State). abstract_of app r c) stepped ∙ kept_part ∙ ap (settled_value app x.leaving.asked d c) (sym (same c lt)));
         shows = shown ∙ ap (λ (o : Outcome). Did o after.notes.status) does.outcome ∙ ap (Did (outcome_of_decision d)) h.status;
         status = noted ∙ h.status;

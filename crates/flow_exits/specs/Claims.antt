@@ -1,5 +1,5 @@
 -- Who is to have the processor, and what the other tasks may be then.
-use Rattle.std.specs.{Prelude.{◌≡◌, ℕ, ◌+◌, ◌<◌, Bool, true, not, ◌||◌, nat_lt, ◌==◌, if◌then◌else◌, IsTrue, Some, None}, declared.option.Option.{Option}}
+use Rattle.std.specs.{Prelude.{ℕ, ◌+◌, ◌<◌, Bool, true, not, ◌||◌, nat_lt, ◌==◌, if◌then◌else◌, IsTrue, Some, None}, declared.option.Option.{Option}}
 use Rattle.osek_values.specs.declared.numbers.TaskNo.{TaskNo}
 use Rattle.osek_standard.specs.{declared.app.App.{App}, States.{is_that_task}}
 use Rattle.abstract_state.specs.{declared.value.{Val.{Val, TheVariants.{Suspended, Live, Waiting}}, PartValue.{PartValue}}, Concrete.{val_of}}

@@ -1,5 +1,5 @@
 -- How high the limits of the tasks have to be.
-use Rattle.std.specs.{Prelude.{◌≡◌, ℕ, ◌<◌, ◌≤◌, Bool, false, nat_lt, List, length, slice_index_or, IsTrue, Some, None}, declared.option.Option.{Option}}
+use Rattle.std.specs.{Prelude.{ℕ, ◌<◌, Bool, false, nat_lt, List, length, slice_index_or, IsTrue, Some, None}, declared.option.Option.{Option}}
 use Rattle.flow_exits.specs.{declared.claim.Claim.{Claim}, Claims.{limit_of}}
 
 abbrev pub is_too_low : Option ℕ → ℕ → Bool

@@ -1,5 +1,5 @@
 -- Cases of what the scheduler does, one found after another.
-use Rattle.std.specs.Prelude.{◌≡◌, ⊤, ℕ, ◌<◌, None}
+use Rattle.std.specs.Prelude.{⊤, None}
 use Rattle.flow_model.specs.declared.case.{Asked.{Asked}, Decision.{Decision}}
 use Rattle.flow_model.specs.declared.case.Asked.TheVariants as asked
 use Rattle.flow_model.specs.declared.case.Decision.TheVariants as decision

@@ -1,5 +1,6 @@
 //! Current priorities of tasks by their values.
-ghost use Rattle.std.specs.Prelude.{◌≡◌, ◌<◌, length};
+ghost use Rattle.std.specs.{Prelude.{◌≡◌, ◌<◌, [], length, None, if◌then◌else◌}, List.{cons_option}};
+ghost use Rattle.osek_standard.specs.Internal.{internal_of};
 ghost use Rattle.osek_standard.specs.Priority.{base_priority as base_priority_of, ceiling as ceiling_of, highest as highest_of};
 ghost use Rattle.abstract_state.specs.declared.value.Val.TheVariants as val;
 ghost use Rattle.abstract_state.specs.Concrete.{val_of};
@@ -48,11 +49,31 @@ fn highest(app: &App, base: u32, held: &[ResNo]) -> u32
     priority
 }
 
+// with the ceiling of its INTERNAL resource, where a task is inside
+#[tactic(auto, unfolding(osek_standard::specs::Priority::highest))]
+fn inside_priority(app: &App, task: TaskNo, inside: bool) -> u32
+    requires { task.0 < length app.now.tasks }
+    ensures { result ≡ highest_of app.now (base_priority_of app.now task.0) (cons_option (if inside then internal_of app.now task.0 else None) []) }
+{
+    let base = base_priority(app, task);
+    if !inside {
+        return base;
+    }
+    match app.task(task).internal {
+        Some(resource) => base.max(ceiling(app, resource)),
+        None => base,
+    }
+}
+
 fn priority_of(app: &App, task: TaskNo, live: &LiveVal) -> u32
     requires { task.0 < length app.now.tasks }
     ensures { result ≡ value_priority app.now task.0 (val.Live live.now) }
 {
-    highest(app, base_priority(app, task), live.held.as_slice())
+    highest(
+        app,
+        inside_priority(app, task, live.inside),
+        live.held.as_slice(),
+    )
 }
 
 /// What the scheduler reads of a task with this value, if it is Live.

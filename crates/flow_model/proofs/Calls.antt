@@ -1,6 +1,5 @@
 -- The calls after which their caller goes on to its next block: what their answer says of the effect.
-use Rattle.std.proofs.Common.{◌≡◌, ℕ, ◌<◌, Bool, true, false, List, ◌++◌, None, IfSome, refl, sym, ap, subst, ◌∙◌}
-use Rattle.std.proofs.lemmas.List.{append-nil}
+use Rattle.std.proofs.Common.{◌≡◌, ℕ, ◌<◌, Bool, true, false, List, None, refl, sym, ap, subst, ◌∙◌}
 use Rattle.std.specs.Prelude.{⊤, if◌then◌else◌}
 use Rattle.osek_values.specs.declared.status.{Status.{Status}, Ask.{Ask}}
 use Rattle.osek_values.specs.declared.status.Ask.TheVariants as ask
@@ -12,15 +11,15 @@ use Rattle.osek_standard.specs.declared.{app.App.{App}, block.{Block.{Block}, Ki
 use Rattle.osek_standard.specs.declared.state.Processor.TheVariants as processor
 use Rattle.osek_standard.specs.{declared.task_state.Place.{Place}, Apps.{the_task, the_block}, States.{caller, here}, Points.{point_of}, Services.{Answer, answer}}
 use Rattle.osek_standard.specs.Effects.{Effect, effect, effect_at, place_at, effected, noted, asks_as, asked_by, asked_under, is_schedule, called, moved, moved_by, moved_to}
-use Rattle.osek_standard.proofs.{BoolLaws.{either_way}, PlaceLaws.{places_in}}
+use Rattle.osek_standard.proofs.BoolLaws.{either_way}
 use Rattle.abstract_state.specs.Components.{component_count, abstract_of}
 use Rattle.flow_model.specs.declared.case.{Asked.{Asked}, EffectCase.{EffectCase}}
 use Rattle.flow_model.specs.declared.case.Asked.TheVariants as asked
 use Rattle.flow_model.specs.declared.runner.Runner.{Runner}
 use Rattle.flow_model.specs.declared.runner.Runner.TheVariants as runner
-use Rattle.flow_model.specs.{Runners.{Stands, Runs}, Tests.{PassesAll, value_after}, Effects.{Asks, HasEffect, IsLineAfter, LeavesLine, one_more, stay_point}, declared.test.Condition.{Condition}}
+use Rattle.flow_model.specs.{Runners.{Stands, Runs}, Tests.{PassesAll, value_after}, Effects.{Asks, HasEffect, IsLineAfter, LeavesLine, stay_point}, declared.test.Condition.{Condition}}
 use Rattle.flow_model.specs.Cases.{asked_when, asked_for, asked_after, asked_under as asked_of_task, goes_on}
-use Rattle.flow_model.proofs.{Standing.{next_owned, point_there}, Instructions.{effect_there}, Moves.{moved_parts, went_on}}
+use Rattle.flow_model.proofs.{Standing.{next_owned, point_there}, Instructions.{effect_there}, LinesAfter.{line_stays}, Moves.{moved_parts, went_on}}
 
 -- Its caller goes on to its next block, and then the row applies: of each such kind this holds by computation.
 abbrev pub IsCall : App → Kind → Type 0
@@ -82,14 +81,7 @@ line_after last asked.Free before after h = h
 
 -- and where it is as before
 pub same_line : (asked : Asked) (before after : State) → after.line ≡ before.line → LeavesLine asked None before after
-same_line asked before after e = line_after None asked before after (record { is = e ∙ sym (append-nil before.line); new = tt })
-
--- from a state with the same line
-pub line_from : (last : Option TaskNo) (before between after : State) → between.line ≡ before.line → IsLineAfter last between after → IsLineAfter last before after
-line_from last before between after e h = record {
-  is = h.is ∙ ap (λ (l : List TaskNo). l ++ one_more last) e;
-  new = subst (λ (l : List TaskNo). IfSome last (λ (t : TaskNo). places_in l t.0 ≡ 0)) e h.new;
-}
+same_line asked before after e = line_after None asked before after (line_stays before after e)
 
 moved_line_by : (s : State) (to : Place) (p : Processor) → (moved_by s p to).line ≡ s.line
 moved_line_by s to processor.Halted = refl

@@ -6,6 +6,7 @@ mod RoutineOwners
 pub mod Standing
 pub mod Instructions
 pub mod Moves
+pub mod LinesAfter
 pub mod Calls
 pub mod Listing
 pub mod BitRange

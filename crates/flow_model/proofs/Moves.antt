@@ -6,12 +6,13 @@ use Rattle.osek_values.specs.{Numbers.{task_no}, declared.{mask.Mask.{Mask}, num
 use Rattle.osek_standard.specs.declared.{app.App.{App}, state.{State.{State}, Processor.{Processor}, Source.{Source}}}
 use Rattle.osek_standard.specs.declared.task_state.{TaskState.{TaskState}, Activity.{Activity}, Place.{Place}}
 use Rattle.osek_standard.specs.{Apps.{the_block}, TaskStates.{suspended, is_live, is_live_activity, is_suspended, held, held_in}}
-use Rattle.osek_standard.specs.States.{task_state, with_task, source_state, with_source, place_by, place_in, place_of_source, here}
+use Rattle.osek_standard.specs.Internal.{IsInside}
+use Rattle.osek_standard.specs.States.{is_that_task, task_of, task_state, with_task, source_state, with_source, place_by, place_in, place_of_source, here}
 use Rattle.osek_standard.specs.{Effects.{place_at, standing_at, task_at, source_at, moved_by, moved, moved_to}, Well.{Well, InOwner, IsOffsetAt, IsProcessor, IsRunningAt}}
 use Rattle.osek_standard.specs.declared.state.Source.TheVariants as source
 use Rattle.osek_standard.specs.declared.state.Processor.TheVariants as processor
 use Rattle.osek_standard.specs.declared.task_state.Activity.TheVariants as activity
-use Rattle.osek_standard.proofs.{Callers.{enters, moved_processor}, MoveKeeps.{moved_keeps}, Keeps.{task_after}}
+use Rattle.osek_standard.proofs.{Callers.{enters, moved_processor}, FlagLaws.{moved_flags}, MoveKeeps.{moved_keeps}, Keeps.{task_after}}
 use Rattle.abstract_state.specs.declared.value.{Component.{Component}, PartValue.{PartValue, TheVariants.{OfTask, OfEvent}}}
 use Rattle.abstract_state.specs.Components.{component_count, component_at, component_number, part_of, abstract_of, value_in}
 use Rattle.abstract_state.specs.declared.value.Component.TheVariants as component
@@ -50,6 +51,13 @@ block_at b o (activity.Waiting c) e = absurd (cc)
 source_block_at : (app : App) (k : ℕ) (b : BlockNo) (o : ℕ) (x : Source) → IsRunningAt app k x → (place_of_source (source_at x (place_at b o))).block ≡ b
 source_block_at app k b o source.Out h = absurd h
 source_block_at app k b o (source.In x) h = refl
+
+-- a move leaves all flags
+pub moved_inside : (app : App) (s : State) (to : Place) → IsInside app s → IsInside app (moved s to)
+moved_inside app s to h = record {
+  named = λ t f. h.named t (sym (moved_flags s to s.processor t) ∙ f);
+  current = λ t f. moved_flags s to s.processor t ∙ h.current t (subst (λ (p : Processor). is_that_task (task_of p) t ≡ true) (moved_processor s to s.processor) f);
+}
 
 -- a move of the processor
 module _ (app : App) (s : State) (w : Well app s) (to : Place) where
@@ -185,7 +193,7 @@ module _ (app : App) (s : State) (n : BlockNo) (o : ℕ) where
     pub moved_stands : InOwner app s.processor n.0 → IsOffsetAt (the_block app n.0).kind o → Stands app (moved s to) r n
     moved_stands own offset = record {
       well = moved_keeps app s h.well to own offset;
-      regular = record { alone = moved_alone s h.regular.alone to s.processor refl };
+      regular = record { inside = moved_inside app s to h.regular.inside; alone = moved_alone s h.regular.alone to s.processor refl };
       runs = runs_by r b h.well h.runs own;
       block = block_by r b h.well h.runs;
     }

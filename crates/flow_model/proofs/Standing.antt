@@ -89,7 +89,7 @@ occupies app s (runner.Routine k over) b owns w e =
     let same : h.0.0 ≡ k.0 = routine_once app h.0.0 k.0 b.0 h.1.runs.known owns.known h.1.runs.own owns.own in
     subst (λ (l : SourceNo). Occupies app s (runner.Routine l over) b) (ap source_no same) h.1
 
-pub stands_here : (app : App) (s : State) (r : Runner) (b : BlockNo) → OwnsBlock app r b → Well app s → IsRegular s → point_of s ≡ runner_point r b → Stands app s r b
+pub stands_here : (app : App) (s : State) (r : Runner) (b : BlockNo) → OwnsBlock app r b → Well app s → IsRegular app s → point_of s ≡ runner_point r b → Stands app s r b
 stands_here app s r b owns w regular e = let h = occupies app s r b owns w e in record { well = w; regular = regular; runs = h.runs; block = h.block }
 
 -- the point of a runner at its block is the application's

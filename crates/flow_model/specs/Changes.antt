@@ -26,10 +26,14 @@ module _ (app : App) where
   abbrev pub event_changes : ℕ → ℕ → Bool → List Change
   event_changes t bits flag = map (event_change t flag) (bits_of bits)
 
-  -- an activated task: at its first block, with nothing held
+  -- an activated task: at its first block, with nothing held, and outside
   abbrev pub started : ℕ → Val
-  started t = Live (live_val (the_task app t).first [])
+  started t = Live (live_val (the_task app t).first 0 false [])
 
   -- an activation: the task begins, and none of its events is set
   abbrev pub activating : ℕ → List Change
   activating t = task_change t (started t) ∷ event_changes t (the_task app t).own.0 false
+
+-- a further activation of a Live task, which keeps its events
+abbrev pub activating_more : ℕ → List Change
+activating_more t = change t update.More ∷ []

@@ -1,12 +1,12 @@
 -- What the cases of an effect say of the states at a point.
-use Rattle.std.specs.{Prelude.{◌≡◌, ⊤, ℕ, ◌<◌, Bool, List, [], ◌∷◌, ◌++◌, length, IsTrue, IfSome, Some, None, Contains}, declared.option.Option.{Option}}
+use Rattle.std.specs.{Prelude.{◌≡◌, ⊤, ℕ, ◌<◌, Bool, false, List, [], ◌∷◌, ◌++◌, length, IsTrue, IfSome, None, Contains}, declared.option.Option.{Option}}
 use Rattle.osek_values.specs.declared.numbers.TaskNo.{TaskNo}
 use Rattle.osek_values.specs.declared.status.Ask.TheVariants as ask
 use Rattle.osek_standard.specs.declared.{app.App.{App}, state.State.{State}}
 use Rattle.osek_standard.specs.declared.state.Processor.TheVariants as processor
 use Rattle.osek_standard.specs.declared.point.Point.{Point}
 use Rattle.osek_standard.specs.declared.point.Point.TheVariants as point
-use Rattle.osek_standard.specs.{Points.{point_of}, Line.{places}, Effects.{Effect, effect}, Arrivals.{arrival}, Well.{Well, IsActive}}
+use Rattle.osek_standard.specs.{States.{is_that_task, task_of}, Points.{point_of}, Line.{places}, Effects.{Effect, effect}, Arrivals.{arrival}, Well.{Well, IsActive}}
 use Rattle.abstract_state.specs.{declared.{value.PartValue.{PartValue}, table.PlainEntry.{PlainEntry}}, Components.{component_count, abstract_of, IsAllowed}}
 use Rattle.abstract_state.specs.{Concrete.{HasParts, val_of}, Choices.{IsFirstIfThere}, Regular.{IsRegular}, Tables.{set_at, is_member}}
 use Rattle.flow_model.specs.declared.case.{Asked.{Asked}, Stay.{Stay}, EffectCase.{EffectCase}}
@@ -25,7 +25,7 @@ AreAllAllowed app p entry = (c : ℕ) (v : PartValue) → c < component_count ap
 -- a state of the entry, at the point
 pub record IsAt (app : App) (p : Point) (entry : PlainEntry) (s : State) : Type 0 where
   pub well : Well app s
-  pub regular : IsRegular s
+  pub regular : IsRegular app s
   pub point : point_of s ≡ p
   pub within : AreIn app entry (abstract_of app s)
 
@@ -49,14 +49,13 @@ IsKnownStay app (stay.AtBlockOf t) = t.0 < length app.tasks
 abbrev pub HaveKnownStays : App → List EffectCase → Type 0
 HaveKnownStays app cases = (x : EffectCase) → Contains cases x → IsKnownStay app x.leaving.stay
 
-abbrev pub one_more : Option TaskNo → List TaskNo
-one_more None = []
-one_more (Some t) = t ∷ []
-
--- the line after an effect is the one before, and at its end the task that was put last, which had no place
+-- The line after an effect goes on where the one before ends. Each task that waits for the processor had its place there, but
+-- for one that was put last: that one had none, and it alone came to the line.
 pub record IsLineAfter (last : Option TaskNo) (before after : State) : Type 0 where
-  pub is : after.line ≡ before.line ++ one_more last
-  pub new : IfSome last (λ (t : TaskNo). places before t.0 ≡ 0)
+  pub more : List TaskNo
+  pub is : after.line ≡ before.line ++ more
+  pub new : IfSome last (λ (t : TaskNo). (more ≡ t ∷ []) × (places before t.0 ≡ 0))
+  pub old : (t : ℕ) → is_that_task last t ≡ false → is_that_task (task_of after.processor) t ≡ false → 0 < places after t → 0 < places before t
 
 -- where something is asked
 abbrev pub LeavesLine : Asked → Option TaskNo → State → State → Type 0

@@ -81,6 +81,6 @@ Runs app s (runner.Routine k over) b = RunsRoutine app s k over b
 -- It executes block b: the state is well-formed and regular, and the processor stands there.
 pub record Stands (app : App) (s : State) (r : Runner) (b : BlockNo) : Type 0 where
   pub well : Well app s
-  pub regular : IsRegular s
+  pub regular : IsRegular app s
   pub runs : Runs app s r b
   pub block : (here s).block ≡ b

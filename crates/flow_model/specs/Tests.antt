@@ -4,12 +4,12 @@ use Rattle.osek_values.specs.declared.numbers.ResNo.{ResNo}
 use Rattle.osek_standard.specs.{declared.app.App.{App}, TaskStates.{holds}}
 use Rattle.osek_values.specs.Bits.{has_bit}
 use Rattle.osek_standard.specs.Services.{is_on_top}
-use Rattle.abstract_state.specs.{declared.value.{Val.{Val}, PartValue.{PartValue, TheVariants.{OfTask, OfEvent, OfAlarm}}}, ValueOrder.{same_part}, Components.{component_count}}
+use Rattle.abstract_state.specs.{declared.value.{Val.{Val}, PartValue.{PartValue, TheVariants.{OfTask, OfEvent, OfAlarm}}}, ValueOrder.{same_part}, Components.{component_count}, Settling.{inside_val}}
 use Rattle.flow_model.specs.declared.test.{Test.{Test}, Condition.{Condition}}
 use Rattle.flow_model.specs.declared.test.Test.TheVariants as test
 use Rattle.flow_model.specs.declared.change.{Update.{Update}, Change.{Change}}
 use Rattle.flow_model.specs.declared.change.Update.TheVariants as update
-use Rattle.flow_model.specs.Values.{is_suspended_value, held_of, at_block, restacked, with_top, without_top}
+use Rattle.flow_model.specs.Values.{is_suspended_value, held_of, further_of, has_room, is_full_value, at_block, restacked, with_top, without_top, activated_more, begun_again, outside_at}
 
 -- a test of a task's value; what is no task's passes
 abbrev pub of_task : (Val → Bool) → PartValue → Bool
@@ -35,6 +35,10 @@ passes test.HoldsSome v = of_task (λ x. not (holds_nothing x)) v
 passes test.HoldsNothing v = of_task holds_nothing v
 passes (test.OnTop r) v = of_task (λ x. is_on_top r.0 (held_of x)) v
 passes (test.NotOnTop r) v = of_task (λ x. not (is_on_top r.0 (held_of x))) v
+passes (test.Full n) v = of_task (is_full_value n) v
+passes (test.Room n) v = of_task (has_room n) v
+passes test.NoFurther v = of_task (λ x. further_of x == 0) v
+passes test.SomeFurther v = of_task (λ x. not (further_of x == 0)) v
 
 -- what becomes of a task's value; what is no task's stays
 abbrev pub on_task : (Val → Val) → PartValue → PartValue
@@ -47,6 +51,10 @@ updated (update.Set w) v = w
 updated (update.Block b) v = on_task (at_block b) v
 updated (update.Take r b) v = on_task (restacked (λ h. with_top h r) b) v
 updated (update.Give b) v = on_task (restacked without_top b) v
+updated update.More v = on_task activated_more v
+updated (update.Again b) v = on_task (begun_again b) v
+updated (update.Leave b) v = on_task (outside_at b) v
+updated update.Inside v = on_task (inside_val true) v
 
 -- What becomes of a value of component c: what the changes that name it say, one after another.
 abbrev pub value_after : List Change → ℕ → PartValue → PartValue

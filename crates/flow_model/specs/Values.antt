@@ -1,8 +1,8 @@
 -- What tests and the scheduler read of a task's value.
-use Rattle.std.specs.Prelude.{ℕ, ◌-◌, Bool, true, false, nat_lt, List, [], ◌∷◌, ◌++◌, length, take, if◌then◌else◌}
-use Rattle.osek_values.specs.{Numbers.{block_no}, declared.{limits.TheConstants.{MAX_RESOURCES}, numbers.{BlockNo.{BlockNo}, ResNo.{ResNo}}}}
-use Rattle.osek_standard.specs.{declared.app.App.{App}, Priority.{base_priority, highest}}
-use Rattle.abstract_state.specs.{declared.value.Val.{Val, TheVariants.{Suspended, Live, Waiting}}, Components.{live_val}}
+use Rattle.std.specs.{Prelude.{ℕ, ◌+◌, ◌-◌, Bool, true, false, not, nat_lt, List, [], ◌∷◌, ◌++◌, length, take, None, if◌then◌else◌}, List.{cons_option}}
+use Rattle.osek_values.specs.{Numbers.{block_no}, declared.{limits.TheConstants.{MAX_ACTIVATIONS, MAX_RESOURCES}, numbers.{BlockNo.{BlockNo}, ResNo.{ResNo}}}}
+use Rattle.osek_standard.specs.{declared.app.App.{App}, Internal.{internal_of}, Priority.{base_priority, highest}}
+use Rattle.abstract_state.specs.{declared.value.Val.{Val, TheVariants.{Suspended, Live, Waiting}}, Components.{live_val}, Settling.{inside_val}}
 
 abbrev pub is_suspended_value : Val → Bool
 is_suspended_value Suspended = true
@@ -19,6 +19,24 @@ abbrev pub held_of : Val → List ResNo
 held_of Suspended = []
 held_of (Live x) = x.held
 held_of (Waiting b) = []
+
+-- its further activations
+abbrev pub further_of : Val → ℕ
+further_of Suspended = 0
+further_of (Live x) = x.further
+further_of (Waiting b) = 0
+
+-- it is Live, and has fewer activations than so many
+abbrev pub has_room : ℕ → Val → Bool
+has_room most Suspended = false
+has_room most (Live x) = nat_lt (x.further + 1) most
+has_room most (Waiting b) = false
+
+-- it takes no further activation: it waits, or has so many
+abbrev pub is_full_value : ℕ → Val → Bool
+is_full_value most Suspended = false
+is_full_value most (Live x) = not (nat_lt (x.further + 1) most)
+is_full_value most (Waiting b) = true
 
 -- where it stands; a suspended task stands nowhere
 abbrev pub block_of : Val → BlockNo
@@ -37,13 +55,43 @@ without_top h = take (length h - 1) h
 -- a Live task at another block, with another stack
 abbrev pub restacked : (List ResNo → List ResNo) → BlockNo → Val → Val
 restacked f b Suspended = Suspended
-restacked f b (Live x) = Live (live_val b (f x.held))
+restacked f b (Live x) = Live (live_val b x.further x.inside (f x.held))
 restacked f b (Waiting c) = Waiting c
 
 -- a Live task at another block, with the same stack
 abbrev pub at_block : BlockNo → Val → Val
 at_block b v = restacked (λ h. h) b v
 
+-- one further activation more, unless there are as many as there may be
+abbrev pub one_further : ℕ → ℕ
+one_further n = if nat_lt n MAX_ACTIVATIONS then n + 1 else n
+
+-- a Live task with one further activation more
+abbrev pub activated_more : Val → Val
+activated_more Suspended = Suspended
+activated_more (Live x) = Live (live_val x.block (one_further x.further) x.inside x.held)
+activated_more (Waiting c) = Waiting c
+
+-- a Live task that begins anew at a block for one of its further activations, outside and with nothing held
+abbrev pub begun_again : BlockNo → Val → Val
+begun_again b Suspended = Suspended
+begun_again b (Live x) = Live (live_val b (x.further - 1) false [])
+begun_again b (Waiting c) = Waiting c
+
+-- a Live task at another block, outside
+abbrev pub outside_at : BlockNo → Val → Val
+outside_at b v = inside_val false (at_block b v)
+
+-- it has its INTERNAL resource
+abbrev pub is_inside_value : Val → Bool
+is_inside_value Suspended = false
+is_inside_value (Live x) = x.inside
+is_inside_value (Waiting b) = false
+
+-- all resources that it has: its INTERNAL one where it is inside, and then its stack
+abbrev pub occupied_by : App → ℕ → Val → List ResNo
+occupied_by app u v = cons_option (if is_inside_value v then internal_of app u else None) (held_of v)
+
 -- The current priority of a task with this value.
 abbrev pub value_priority : App → ℕ → Val → ℕ
-value_priority app u v = highest app (base_priority app u) (held_of v)
+value_priority app u v = highest app (base_priority app u) (occupied_by app u v)

@@ -1,12 +1,12 @@
 //! What becomes of the values of components.
-ghost use Rattle.std.specs.Prelude.{◌≡◌};
+ghost use Rattle.std.specs.Prelude.{◌≡◌, ◌-◌, false, []};
 ghost use Rattle.abstract_state.specs.declared.value.PartValue.TheVariants as part;
 ghost use Rattle.abstract_state.specs.declared.value.Val.TheVariants as val;
 ghost use Rattle.abstract_state.specs.Components.{live_val};
-ghost use Rattle.flow_model.specs.{Values.{with_top as with_top_of, without_top as without_top_of}, Tests.{value_after as value_after_of}};
+ghost use Rattle.flow_model.specs.{Values.{one_further as one_further_of, with_top as with_top_of, without_top as without_top_of}, Tests.{value_after as value_after_of}};
 
 use abstract_state::{ComponentNo, LiveVal, PartValue, Val};
-use osek_values::limits::MAX_RESOURCES;
+use osek_values::limits::{MAX_ACTIVATIONS, MAX_RESOURCES};
 use osek_values::{BlockNo, Held, ResNo};
 
 /// What becomes of a component's value.
@@ -20,6 +20,14 @@ pub enum Update {
     Take { resource: ResNo, block: BlockNo },
     /// A Live task stands at the block, and has given back what was on top.
     Give { block: BlockNo },
+    /// A Live task has one further activation more, unless it has as many as there may be.
+    More,
+    /// A Live task begins anew at this block for one of its further activations, outside and with nothing held.
+    Again(BlockNo),
+    /// A Live task stands at this block, and has given its INTERNAL resource back.
+    Leave(BlockNo),
+    /// A Live task has its INTERNAL resource.
+    Inside,
 }
 
 /// What becomes of one component.
@@ -40,14 +48,22 @@ impl Update {
         match (self, value) {
             (Update::Set(to), _) => to.copy(),
             (Update::Block(block), PartValue::OfTask(Val::Live(live))) => {
-                standing(*block, live.held.copy())
+                standing(*block, live, live.held.copy())
             }
             (Update::Take { resource, block }, PartValue::OfTask(Val::Live(live))) => {
-                standing(*block, with_top(&live.held, *resource))
+                standing(*block, live, with_top(&live.held, *resource))
             }
             (Update::Give { block }, PartValue::OfTask(Val::Live(live))) => {
-                standing(*block, without_top(&live.held))
+                standing(*block, live, without_top(&live.held))
             }
+            (Update::More, PartValue::OfTask(Val::Live(live))) => with_one_further(live),
+            (Update::Again(block), PartValue::OfTask(Val::Live(live))) => {
+                begun(*block, one_less(live.further))
+            }
+            (Update::Leave(block), PartValue::OfTask(Val::Live(live))) => {
+                flagged(*block, live, false)
+            }
+            (Update::Inside, PartValue::OfTask(Val::Live(live))) => flagged(live.block, live, true),
             _ => value.copy(),
         }
     }
@@ -64,6 +80,10 @@ impl Update {
                 block: *block,
             },
             Update::Give { block } => Update::Give { block: *block },
+            Update::More => Update::More,
+            Update::Again(block) => Update::Again(*block),
+            Update::Leave(block) => Update::Leave(*block),
+            Update::Inside => Update::Inside,
         }
     }
 }
@@ -82,11 +102,68 @@ impl Change {
     }
 }
 
-// a Live task at a block, with a stack
-fn standing(block: BlockNo, held: Held) -> PartValue
-    ensures { result ≡ part.OfTask (val.Live (live_val block held)) }
+// a Live task at another block, with another stack
+fn standing(block: BlockNo, live: &LiveVal, held: Held) -> PartValue
+    ensures { result ≡ part.OfTask (val.Live (live_val block live.now.further live.now.inside held)) }
 {
-    PartValue::OfTask(Val::Live(LiveVal { block, held }))
+    PartValue::OfTask(Val::Live(LiveVal {
+        block,
+        further: live.further,
+        inside: live.inside,
+        held,
+    }))
+}
+
+// a Live task with one further activation more
+fn with_one_further(live: &LiveVal) -> PartValue
+    ensures { result ≡ part.OfTask (val.Live (live_val live.now.block (one_further_of live.now.further) live.now.inside live.now.held)) }
+{
+    PartValue::OfTask(Val::Live(LiveVal {
+        block: live.block,
+        further: one_further(live.further),
+        inside: live.inside,
+        held: live.held.copy(),
+    }))
+}
+
+fn one_further(further: u8) -> u8
+    ensures { result ≡ one_further_of further }
+{
+    if (further as usize) < MAX_ACTIVATIONS {
+        further + 1
+    } else {
+        further
+    }
+}
+
+fn one_less(further: u8) -> u8
+    ensures { result ≡ further - 1 }
+{
+    if further == 0 { 0 } else { further - 1 }
+}
+
+// a Live task that begins anew
+fn begun(block: BlockNo, further: u8) -> PartValue
+    ensures { result ≡ part.OfTask (val.Live (live_val block further false [])) }
+{
+    PartValue::OfTask(Val::Live(LiveVal {
+        block,
+        further,
+        inside: false,
+        held: Held::new(),
+    }))
+}
+
+// a Live task at a block, inside or not
+fn flagged(block: BlockNo, live: &LiveVal, inside: bool) -> PartValue
+    ensures { result ≡ part.OfTask (val.Live (live_val block live.now.further inside live.now.held)) }
+{
+    PartValue::OfTask(Val::Live(LiveVal {
+        block,
+        further: live.further,
+        inside,
+        held: live.held.copy(),
+    }))
 }
 
 fn with_top(held: &Held, resource: ResNo) -> Held

@@ -1,5 +1,5 @@
 //! Tests of the values of components.
-ghost use Rattle.std.specs.{Prelude.{◌≡◌}, List.{list_any}};
+ghost use Rattle.std.specs.{Prelude.{◌≡◌, ◌+◌, nat_lt}, List.{list_any}};
 ghost use Rattle.osek_values.specs.{declared.numbers.ResNo.{ResNo}, Bits.{has_bit}};
 ghost use Rattle.osek_standard.specs.Services.{is_on_top as is_on_top_of};
 
@@ -26,6 +26,13 @@ pub enum Test {
     /// The task took this resource last of those that it holds.
     OnTop(ResNo),
     NotOnTop(ResNo),
+    /// The task takes no further activation: it waits, or has so many.
+    Full(u8),
+    /// The task is Live, and has fewer activations than so many.
+    Room(u8),
+    /// No further activation of the task is left.
+    NoFurther,
+    SomeFurther,
 }
 
 /// A test of one component.
@@ -64,6 +71,17 @@ impl Test {
             (Test::NotOnTop(resource), PartValue::OfTask(Val::Live(live))) => {
                 !is_on_top(&live.held, *resource)
             }
+            (Test::Full(most), PartValue::OfTask(Val::Live(live))) => {
+                !has_room(live.further, *most)
+            }
+            (Test::Full(_), PartValue::OfTask(Val::Suspended)) => false,
+            (Test::Room(most), PartValue::OfTask(Val::Live(live))) => {
+                has_room(live.further, *most)
+            }
+            (Test::Room(_), PartValue::OfTask(_)) => false,
+            (Test::NoFurther, PartValue::OfTask(Val::Live(live))) => live.further == 0,
+            (Test::SomeFurther, PartValue::OfTask(Val::Live(live))) => live.further != 0,
+            (Test::SomeFurther, PartValue::OfTask(_)) => false,
             _ => true,
         }
     }
@@ -83,6 +101,10 @@ impl Test {
             Test::HoldsNothing => Test::HoldsNothing,
             Test::OnTop(resource) => Test::OnTop(*resource),
             Test::NotOnTop(resource) => Test::NotOnTop(*resource),
+            Test::Full(most) => Test::Full(*most),
+            Test::Room(most) => Test::Room(*most),
+            Test::NoFurther => Test::NoFurther,
+            Test::SomeFurther => Test::SomeFurther,
         }
     }
 }
@@ -105,6 +127,13 @@ fn has_bit(bits: u64, bit: u8) -> bool
     ensures { result ≡ has_bit bits bit }
 {
     bit < 64 && (bits >> bit) & 1 == 1
+}
+
+// a further activation and the present one are fewer than so many
+fn has_room(further: u8, most: u8) -> bool
+    ensures { result ≡ nat_lt (further + 1) most }
+{
+    further as u32 + 1 < most as u32
 }
 
 fn holds_one_of(held: &[ResNo], resources: Mask) -> bool

@@ -1,22 +1,23 @@
 -- The part of an entry that is allowed at a point has exactly the values that well-formed states have there.
-use Rattle.std.proofs.Common.{◌≡◌, ℕ, ◌+◌, ◌<◌, ◌≤◌, Bool, true, false, not, ◌&&◌, List, All, length, get_or, refl, sym, ap, subst, ◌∙◌, inl, inr, arith, Some, None, IsTrue}
-use Rattle.std.specs.Prelude.{◌==◌, nat_lt, nat_le}
+use Rattle.std.proofs.Common.{◌≡◌, ℕ, ◌+◌, ◌<◌, ◌≤◌, Bool, true, false, not, ◌&&◌, length, refl, sym, ap, subst, ◌∙◌, inl, inr, arith, Some, None, IsTrue}
+use Rattle.std.specs.{Prelude.{◌==◌, nat_lt, nat_le}, Cmp.{booleans_Decides}}
+use Rattle.std.proofs.Math.Bool.{beq}
 use Rattle.std.proofs.lemmas.Bool.{cases_Bool, and_parts, or_cases, or_left, or_right, eqb-true, eq-eqb, Decides.{nat_tests}}
-use Rattle.osek_values.specs.{Numbers.{block_no}, declared.numbers.{BlockNo.{BlockNo}, ResNo.{ResNo}}}
+use Rattle.osek_values.specs.{Numbers.{block_no}, declared.numbers.BlockNo.{BlockNo}}
 use Rattle.osek_standard.specs.declared.{app.App.{App}, block.Kind.{Kind}}
 use Rattle.osek_standard.specs.declared.block.Kind.TheVariants as kind
 use Rattle.osek_standard.specs.declared.call.Call.{Call, TheVariants.{Plain, Task, Resource, SetEvent, Mask, Alarm, Arm, Lock, ShutdownOs}}
 use Rattle.osek_standard.specs.declared.{call.MaskService.TheVariants.{ClearEvent, WaitEvent}, point.Point.{Point}}
 use Rattle.osek_standard.specs.declared.point.Point.TheVariants as point
-use Rattle.osek_standard.specs.{Apps.{the_task, the_block, is_extended}, Validity.{is_internal}, Well.{IsWaitEvent, IsOwn}}
+use Rattle.osek_standard.specs.{Apps.{the_task, the_block, is_extended}, Well.{IsWaitEvent, IsOwn}}
 use Rattle.abstract_state.specs.declared.value.{Val.{Val, TheVariants.{Suspended, Live, Waiting}}, Component.{Component}, PartValue.{PartValue, TheVariants.{OfTask, OfEvent, OfAlarm}}}
 use Rattle.abstract_state.specs.declared.value.Component.TheVariants as component
 use Rattle.abstract_state.specs.declared.table.PlainEntry.{PlainEntry}
-use Rattle.abstract_state.specs.Components.{component_at, component_count, component_number, IsComponent, IsLiveAt, IsLiveSomewhere, IsVal, FitsPoint, IsPart, IsAllowed}
-use Rattle.abstract_state.specs.{Concrete.{AreAllowed}, Domains.{IsValWithin, IsWithin, domain_of}, Tables.{set_at, is_member}}
-use Rattle.abstract_state.proofs.{ClosedLaws.{takable}, ComponentLaws.{component_known, component_numbered}}
-use Rattle.flow_model.specs.{Effects.{AreIn, AreAllAllowed}, Values.{is_live_value}}
-use Rattle.flow_rules.specs.Allowed.{is_wait, stands_at, may_wait, owns, fits, may_be, IsAllowedPart}
+use Rattle.abstract_state.specs.Components.{component_at, component_count, component_number, IsComponent, RunsAt, IsInterruptedVal, IsVal, FitsPoint, IsPart, IsAllowed}
+use Rattle.abstract_state.specs.{Concrete.{AreAllowed}, Domains.{IsValWithin, IsWithin, domain_of, takable_resources}, Tables.{set_at, is_member}}
+use Rattle.abstract_state.proofs.{DomainValues.{stack_within}, ComponentLaws.{component_known, component_numbered}}
+use Rattle.flow_model.specs.Effects.{AreIn, AreAllAllowed}
+use Rattle.flow_rules.specs.Allowed.{is_wait, has_flag, stands_at, may_wait, names_internal, owns, fits, may_be, IsAllowedPart}
 
 -- ---- WaitEvent blocks
 
@@ -70,25 +71,32 @@ both_true : (a b : Bool) → a ≡ true → b ≡ true → (a && b) ≡ true
 both_true true b e f = f
 both_true false b e f = absurd (cc)
 
-live_at : (b : BlockNo) (v : Val) → stands_at b v ≡ true → IsLiveAt b v
-live_at b Suspended e = absurd (cc)
-live_at b (Live x) e = ap block_no (eqb-true x.block.0 b.0 e)
-live_at b (Waiting c) e = absurd (cc)
+module _ (app : App) (t : ℕ) where
+  abbrev named : Bool
+  named = names_internal app t
 
-at_live : (b : BlockNo) (v : Val) → IsLiveAt b v → stands_at b v ≡ true
-at_live b Suspended h = absurd h
-at_live b (Live x) h = eq-eqb x.block.0 b.0 (ap (λ (y : BlockNo). y.0) h)
-at_live b (Waiting c) h = absurd h
+  runs_at : (b : BlockNo) (v : Val) → stands_at b named v ≡ true → RunsAt app b t v
+  runs_at b Suspended e = absurd (cc)
+  runs_at b (Live x) e =
+      let parts = and_parts (x.block.0 == b.0) (beq x.inside named) e in
+      (ap block_no (eqb-true x.block.0 b.0 parts.0), (booleans_Decides x.inside named).0 parts.1)
+  runs_at b (Waiting c) e = absurd (cc)
 
-somewhere : (v : Val) → is_live_value v ≡ true → IsLiveSomewhere v
-somewhere Suspended e = absurd (cc)
-somewhere (Live x) e = tt
-somewhere (Waiting b) e = absurd (cc)
+  at_runner : (b : BlockNo) (v : Val) → RunsAt app b t v → stands_at b named v ≡ true
+  at_runner b Suspended h = absurd h
+  at_runner b (Live x) h =
+      both_true (x.block.0 == b.0) (beq x.inside named) (eq-eqb x.block.0 b.0 (ap (λ (y : BlockNo). y.0) h.0)) ((booleans_Decides x.inside named).1 h.1)
+  at_runner b (Waiting c) h = absurd h
 
-live_somewhere : (v : Val) → IsLiveSomewhere v → is_live_value v ≡ true
-live_somewhere Suspended h = absurd h
-live_somewhere (Live x) h = refl
-live_somewhere (Waiting b) h = absurd h
+  is_interrupted : (v : Val) → has_flag named v ≡ true → IsInterruptedVal app t v
+  is_interrupted Suspended e = absurd (cc)
+  is_interrupted (Live x) e = (booleans_Decides x.inside named).0 e
+  is_interrupted (Waiting b) e = absurd (cc)
+
+  interrupted_is : (v : Val) → IsInterruptedVal app t v → has_flag named v ≡ true
+  interrupted_is Suspended h = absurd h
+  interrupted_is (Live x) h = (booleans_Decides x.inside named).1 h
+  interrupted_is (Waiting b) h = absurd h
 
 module _ (app : App) where
   val_waits : (t : ℕ) (v : Val) → IsVal app t v → may_wait app t v ≡ true
@@ -96,13 +104,9 @@ module _ (app : App) where
   val_waits t (Live x) h = refl
   val_waits t (Waiting b) h = both_true (is_extended app t) (is_wait (the_block app b.0).kind) h.extended (waits_kind (the_block app b.0).kind h.wait)
 
-  -- each resource may be taken yet
-  held_takable : (h : List ResNo) → All (λ (r : ResNo). r.0 < length app.resources) h → All (λ (r : ResNo). IsTrue (not (is_internal app.resources r.0))) h
-  held_takable h known k d lt = (takable app (get_or h k d) (known k d lt)).1
-
-  is_val : (t : ℕ) (v : Val) → IsValWithin (the_task app t).first.0 (the_task app t).count (length app.resources) v → may_wait app t v ≡ true → IsVal app t v
+  is_val : (t : ℕ) (v : Val) → IsValWithin (the_task app t).first.0 (the_task app t).count (takable_resources app) (the_task app t).activation (names_internal app t) v → may_wait app t v ≡ true → IsVal app t v
   is_val t Suspended w e = tt
-  is_val t (Live x) w e = (w.0, record { out_of = w.1; takable = held_takable x.held w.1.known })
+  is_val t (Live x) w e = record { own = w.own; further = w.further; named = w.named; stack = stack_within app x.held w.distinct w.known }
   is_val t (Waiting b) w e =
       let parts = and_parts (is_extended app t) (is_wait (the_block app b.0).kind) e in
       record { own = w; extended = parts.0; wait = kind_waits (the_block app b.0).kind parts.1 }
@@ -127,27 +131,27 @@ module _ (app : App) where
   fits_point : (p : Point) (t : ℕ) (v : Val) → fits app p t v ≡ true → FitsPoint app p t v
   fits_point point.Halted t v e = tt
   fits_point point.Idle t v e = tt
-  fits_point (point.Task b) t v e = λ own. elim (or_cases (not (owns app t b.0)) (stands_at b v) e) [
+  fits_point (point.Task b) t v e = λ own. elim (or_cases (not (owns app t b.0)) (stands_at b (names_internal app t) v) e) [
     | inl other ↦ absurd (not_true (owns app t b.0) other (is_own t b.0 own))
-    | inr there ↦ live_at b v there
+    | inr there ↦ runs_at app t b v there
   ]
   fits_point (point.Routine b None) t v e = tt
-  fits_point (point.Routine b (Some u)) t v e = λ same. elim (or_cases (not (u.0 == t)) (is_live_value v) e) [
+  fits_point (point.Routine b (Some u)) t v e = λ same. elim (or_cases (not (u.0 == t)) (has_flag (names_internal app t) v) e) [
     | inl other ↦ absurd (not_true (u.0 == t) other (eq-eqb u.0 t same))
-    | inr live ↦ somewhere v live
+    | inr live ↦ is_interrupted app t v live
   ]
 
   point_fits : (p : Point) (t : ℕ) (v : Val) → FitsPoint app p t v → fits app p t v ≡ true
   point_fits point.Halted t v h = refl
   point_fits point.Idle t v h = refl
   point_fits (point.Task b) t v h = elim (cases_Bool (owns app t b.0)) [
-    | inl own ↦ or_right (not (owns app t b.0)) (stands_at b v) (at_live b v (h (own_is t b.0 own)))
-    | inr other ↦ or_left (not (owns app t b.0)) (stands_at b v) (ap not other)
+    | inl own ↦ or_right (not (owns app t b.0)) (stands_at b (names_internal app t) v) (at_runner app t b v (h (own_is t b.0 own)))
+    | inr other ↦ or_left (not (owns app t b.0)) (stands_at b (names_internal app t) v) (ap not other)
   ]
   point_fits (point.Routine b None) t v h = refl
   point_fits (point.Routine b (Some u)) t v h = elim (cases_Bool (u.0 == t)) [
-    | inl same ↦ or_right (not (u.0 == t)) (is_live_value v) (live_somewhere v (h (eqb-true u.0 t same)))
-    | inr other ↦ or_left (not (u.0 == t)) (is_live_value v) (ap not other)
+    | inl same ↦ or_right (not (u.0 == t)) (has_flag (names_internal app t) v) (interrupted_is app t v (h (eqb-true u.0 t same)))
+    | inr other ↦ or_left (not (u.0 == t)) (has_flag (names_internal app t) v) (ap not other)
   ]
 
   -- ---- values of components

@@ -7,7 +7,7 @@ use Rattle.osek_standard.specs.{Dispatch.{Outcome, instruction, outcome}, Effect
 use Rattle.osek_standard.specs.{Outcomes.{Did, shows, IsInstruction}, Well.{Well, IsActive}}
 use Rattle.osek_standard.proofs.{Members.{among_left, among_right, among_cases, among_contained, contained_among}}
 use Rattle.abstract_state.specs.{declared.{value.PartValue.{PartValue}, table.PlainEntry.{PlainEntry}}, Components.{component_count, abstract_of, IsAllowed}}
-use Rattle.abstract_state.specs.{Concrete.{AreAllowed}, Choices.{IsFirstIfThere}, Tables.{set_at, is_member}}
+use Rattle.abstract_state.specs.{Concrete.{AreAllowed}, Choices.{IsFirstIfThere}, Regular.{IsRegular}, Tables.{set_at, is_member}}
 use Rattle.abstract_state.proofs.AllowedLaws.{well_part}
 use Rattle.flow_model.specs.declared.{test.Condition.{Condition}, case.{EffectCase.{EffectCase}, OutcomeCase.{OutcomeCase}}, rule.Rule.{Rule}}
 use Rattle.flow_model.specs.{Tests.{PassesAt, PassesAll, values_after}, Effects.{AreIn, AreAllAllowed, IsAt, IsKnownStay, HaveKnownStays, HasEffect, CoverEffects, AreExactEffects}}
@@ -34,12 +34,12 @@ passes_right app xs ys value h c lt x m e = h c lt x (among_contained (xs ++ ys)
 
 module _ (app : App) (entry : PlainEntry) (effect_case : EffectCase) (x : OutcomeCase) (s : State) (e : Event) (choice : Bool) where
   -- the step is the instruction, with its effect and its outcome
-  pub steps_as_rule : IsKnownStay app effect_case.leaving.stay → (w : Well app s) (h : HasEffect app effect_case s choice) → HasOutcome app effect_case x (abstract_of app s) →
+  pub steps_as_rule : IsKnownStay app effect_case.leaving.stay → (w : Well app s) → IsRegular app s → (h : HasEffect app effect_case s choice) → HasOutcome app effect_case x (abstract_of app s) →
       IsKernelDecision app effect_case.leaving (effect app s choice) (values_after effect_case.changes (abstract_of app s)) x.decision →
       step app s e ≡ instruction app s choice → shows app s e ≡ Did (outcome app s choice) (effect app s choice).notes.status → Matches app (rule_of effect_case x) s e
-  steps_as_rule known w h o does steps shown =
+  steps_as_rule known w regular h o does steps shown =
       let value : ℕ → PartValue = values_after effect_case.changes (abstract_of app s) in
-      let r = instruction_ends app s choice w effect_case h value (changed app s choice w effect_case h) x.decision does known e steps shown in
+      let r = instruction_ends app s choice w effect_case h value (changed app s choice w effect_case h) x.decision does known e steps regular shown in
       record {
         passes = passes_both app effect_case.conditions x.conditions (abstract_of app s) h.passes o.passes;
         target = r.target ∙ sym o.target;
@@ -49,8 +49,8 @@ module _ (app : App) (entry : PlainEntry) (effect_case : EffectCase) (x : Outcom
       }
 
 -- values of a well-formed state are ones that its components can have at its point
-allowed_there : (app : App) (p : Point) (s : State) → Well app s → point_of s ≡ p → AreAllowed app p (abstract_of app s)
-allowed_there app p s w at c lt = subst (λ (q : Point). IsAllowed app q c (abstract_of app s c)) at (well_part app s w c lt)
+allowed_there : (app : App) (p : Point) (s : State) → Well app s → IsRegular app s → point_of s ≡ p → AreAllowed app p (abstract_of app s)
+allowed_there app p s w regular at c lt = subst (λ (q : Point). IsAllowed app q c (abstract_of app s c)) at (well_part app s w regular c lt)
 
 -- ---- all rules of a point
 
@@ -61,13 +61,13 @@ module _ (app : App) (p : Point) (entry : PlainEntry) (effects : List EffectCase
       let h = covering s i.choice at i.active in
       let value : ℕ → PartValue = values_after h.case.changes (abstract_of app s) in
       let decided = some_decision app s i.choice at.well h.case h.effect in
-      let values : AreValuesOf app p entry (abstract_of app s) = record { within = at.within; allowed = allowed_there app p s at.well at.point } in
+      let values : AreValuesOf app p entry (abstract_of app s) = record { within = at.within; allowed = allowed_there app p s at.well at.regular at.point } in
       let r = added.some h.case h.listed (abstract_of app s) decided.0 values h.effect.passes decided.1.decides in
       let does = subst (IsKernelDecision app h.case.leaving (effect app s i.choice) value) (sym r.decision) decided.1 in
       record {
         rule = rule_of h.case r.outcome;
         listed = r.listed;
-        matches = steps_as_rule app entry h.case r.outcome s e i.choice (stays h.case h.listed) at.well h.effect r.is does i.steps
+        matches = steps_as_rule app entry h.case r.outcome s e i.choice (stays h.case h.listed) at.well at.regular h.effect r.is does i.steps
             (shown ∙ ap (λ (d : Outcome). Did d x) (sym i.does) ∙ ap (Did (outcome app s i.choice)) (sym i.status));
       }
 
@@ -77,7 +77,7 @@ module _ (app : App) (p : Point) (entry : PlainEntry) (effects : List EffectCase
       let h = covering s choice at active in
       let value : ℕ → PartValue = values_after h.case.changes (abstract_of app s) in
       let decided = some_decision app s choice at.well h.case h.effect in
-      let values : AreValuesOf app p entry (abstract_of app s) = record { within = at.within; allowed = allowed_there app p s at.well at.point } in
+      let values : AreValuesOf app p entry (abstract_of app s) = record { within = at.within; allowed = allowed_there app p s at.well at.regular at.point } in
       let r = added.some h.case h.listed (abstract_of app s) decided.0 values h.effect.passes decided.1.decides in
       let does = subst (IsKernelDecision app h.case.leaving (effect app s choice) value) (sym r.decision) decided.1 in
       record {
@@ -104,13 +104,13 @@ module _ (app : App) (p : Point) (entry : PlainEntry) (effects : List EffectCase
       let s = shown.from in
       let same : (c : ℕ) → c < component_count app → abstract_of app s c ≡ value c = shown.has.parts in
       let in_entry : AreIn app entry (abstract_of app s) = λ c lt. subst (λ (v : PartValue). IsTrue (is_member (set_at entry c) v)) (sym (same c lt)) (within c lt) in
-      let values : AreValuesOf app p entry (abstract_of app s) = record { within = in_entry; allowed = allowed_there app p s shown.has.well shown.has.point } in
+      let values : AreValuesOf app p entry (abstract_of app s) = record { within = in_entry; allowed = allowed_there app p s shown.has.well shown.has.regular shown.has.point } in
       let passes_here : (xs : List Condition) → PassesAll app xs value → PassesAll app xs (abstract_of app s) = λ xs h c lt. subst (PassesAt xs c) (sym (same c lt)) (h c lt) in
       let has = r.is.exact (abstract_of app s) values (passes_here r.effect.conditions first) (passes_here outcome_of_rule.conditions second) in
       let act : IsActive s.processor = active s shown.has.well shown.has.point in
       let does = kernel_decision app s shown.choice shown.has.well r.effect shown.effect (values_after r.effect.changes (abstract_of app s))
       (changed app s shown.choice shown.has.well r.effect shown.effect) outcome_of_rule.decision has.decides (λ w e. subst (λ (t : ℕ). IsFirstIfThere t s) (ap winner e) shown.first) in
       let matches : Matches app (rule_of r.effect outcome_of_rule) s (Run shown.choice) =
-      steps_as_rule app entry r.effect outcome_of_rule s (Run shown.choice) shown.choice (stays r.effect r.listed) shown.has.well shown.effect has does
+      steps_as_rule app entry r.effect outcome_of_rule s (Run shown.choice) shown.choice (stays r.effect r.listed) shown.has.well shown.has.regular shown.effect has does
       (instruction_by app s shown.choice act shown.alone) (shown_so app s shown.choice act shown.alone) in
       record { from = s; event = Run shown.choice; has = shown.has; matches = subst (λ (y : Rule). Matches app y s (Run shown.choice)) (sym r.is.is) matches }

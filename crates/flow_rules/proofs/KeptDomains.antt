@@ -9,7 +9,8 @@ use Rattle.abstract_state.specs.declared.value.{Domain.{Domain}, PartValue.{Part
 use Rattle.abstract_state.specs.declared.value.Component.TheVariants as component
 use Rattle.abstract_state.specs.{declared.table.{ValueSet.{ValueSet}, PlainEntry.{PlainEntry}}, Components.{components, component_at, component_count, abstract_of}}
 use Rattle.abstract_state.specs.{Domains.{IsWithin, domains, domain_of, domains_of}, Tables.{empty_set, set_at, is_member}}
-use Rattle.abstract_state.proofs.{AllowedLaws.{well_part}, DomainValues.{allowed_within}}
+use Rattle.osek_standard.proofs.InsideLaws.{step_inside}
+use Rattle.abstract_state.proofs.DomainValues.{named_within}
 use Rattle.flow_model.specs.{declared.rule.Rule.{Rule}, Tests.{PassesAt, value_after}, Rules.{Exact, Shown}}
 use Rattle.flow_rules.specs.{Passing.{StaysInDomains, AreTaken}, Applying.{KeepsDomains}}
 
@@ -65,7 +66,7 @@ module _ (app : App) (entry : PlainEntry) (rule : Rule) (alike : domains entry �
           let well : Well app after = step_keeps app shown.from shown.event shown.has.well in
           let made : abstract_of app after c ≡ value_after rule.changes c was = shown.matches.parts c known ∙ ap (value_after rule.changes c) (shown.has.parts c known ∙ (picked c).chosen refl) in
           subst (λ (d : Domain). IsWithin d (value_after rule.changes c was)) (sym (its_domain app entry alike c known))
-          (subst (IsWithin (domain_of app (component_at app c))) made (allowed_within app _ c (abstract_of app after c) known (well_part app after well c known)))
+          (subst (IsWithin (domain_of app (component_at app c))) made (named_within app after well (step_inside app shown.from shown.event shown.has.well shown.has.regular.inside).named c known))
 
 pub exact_keep : (app : App) (p : Point) (entry : PlainEntry) (rules : List Rule) (rule : Rule) → domains entry ≡ domains_of app → Contains rules rule → Exact app p entry rules → KeepsDomains rule entry
 exact_keep app p entry rules rule alike listed exact = record {

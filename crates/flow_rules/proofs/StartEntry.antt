@@ -9,6 +9,7 @@ use Rattle.abstract_state.specs.declared.value.Component.TheVariants as componen
 use Rattle.abstract_state.specs.declared.table.{ValueSet.{ValueSet}, TableRow.{TableRow}}
 use Rattle.abstract_state.specs.{Components.{components, component_at, component_count, part_of, abstract_of, IsAllowed, IsComponent}, ValueOrder.{same_part, IsAscending}}
 use Rattle.abstract_state.specs.{Domains.{domain_of, domains, domains_of, HasMasks}, Tables.{Sets, Inductive, set_at, is_member, empty_set, AreAscending}}
+use Rattle.abstract_state.specs.Regular.{IsRegular}
 use Rattle.abstract_state.proofs.{OrderLaws.{part_itself, part_right, ascending_one}, AllowedLaws.{well_point, well_part}, ComponentLaws.{component_known}}
 use Rattle.flow_model.specs.Effects.{AreIn}
 use Rattle.numbered_sets.specs.PlainTables.{row_at}
@@ -55,11 +56,11 @@ module _ (app : App) (s : State) where
   part_there w (component.Event t k) h = (omega (arith, h.0, w.tasks_len), h.1)
   part_there w (component.Alarm a) h = omega (arith, h, w.alarms_len)
 
--- the row of a well-formed state is proper
-pub row_proper : (app : App) → HasMasks app → (s : State) → Well app s → IsProperRow app (row_at (point_of s) (entry_of app s))
-row_proper app masks s well =
+-- the row of a well-formed and regular state is proper
+pub row_proper : (app : App) → HasMasks app → (s : State) → Well app s → IsRegular app s → IsProperRow app (row_at (point_of s) (entry_of app s))
+row_proper app masks s well regular =
     proper_row app masks (point_of s) (entry_of app s) (well_point app s well) (entry_domains app s) (entry_ascends app s)
-    (λ c v lt m. subst (IsAllowed app (point_of s) c) (sym (entry_only app s c v lt m)) (well_part app s well c lt))
+    (λ c v lt m. subst (IsAllowed app (point_of s) c) (sym (entry_only app s c v lt m)) (well_part app s well regular c lt))
     (λ c lt. record { value = abstract_of app s c; member = entry_has app s c lt })
 
 module _ (app : App) (mode : ModeNo) (known : mode.0 < length app.modes) where

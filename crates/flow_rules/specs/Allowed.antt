@@ -1,23 +1,29 @@
 -- The values of an entry that well-formed states have at a point.
-use Rattle.std.specs.Prelude.{◌≡◌, ℕ, ◌+◌, ◌<◌, ◌==◌, ◌&&◌, ◌||◌, not, Bool, true, false, nat_lt, nat_le, length, Some, None}
+use Rattle.std.specs.Prelude.{◌≡◌, ℕ, ◌+◌, ◌<◌, ◌==◌, ◌&&◌, ◌||◌, not, Bool, true, false, nat_lt, nat_le, length, Some, None, is_some}
+use Rattle.std.proofs.Math.Bool.{beq}
 use Rattle.osek_values.specs.declared.numbers.BlockNo.{BlockNo}
 use Rattle.osek_standard.specs.declared.{app.App.{App}, block.Kind.{Kind}}
 use Rattle.osek_standard.specs.declared.block.Kind.TheVariants as kind
 use Rattle.osek_standard.specs.declared.{call.{Call.TheVariants.{Mask}, MaskService.TheVariants.{WaitEvent}}, point.Point.{Point}}
 use Rattle.osek_standard.specs.declared.point.Point.TheVariants as point
-use Rattle.osek_standard.specs.Apps.{the_task, the_block, is_extended}
+use Rattle.osek_standard.specs.{Apps.{the_task, the_block, is_extended}, Internal.{internal_of}}
 use Rattle.abstract_state.specs.declared.value.{Val.{Val, TheVariants.{Suspended, Live, Waiting}}, PartValue.{PartValue, TheVariants.{OfTask, OfEvent, OfAlarm}}}
 use Rattle.abstract_state.specs.{declared.table.{ValueSet.{ValueSet}, PlainEntry.{PlainEntry}}, ValueOrder.{IsAscending}, Tables.{set_at, is_member}}
-use Rattle.flow_model.specs.Values.{is_live_value}
 
 abbrev pub is_wait : Kind → Bool
 is_wait (kind.Call (Mask WaitEvent m)) = true
 is_wait _ = false
 
-abbrev pub stands_at : BlockNo → Val → Bool
-stands_at b Suspended = false
-stands_at b (Live x) = x.block.0 == b.0
-stands_at b (Waiting c) = false
+-- Live, and inside or not
+abbrev pub has_flag : Bool → Val → Bool
+has_flag named Suspended = false
+has_flag named (Live x) = beq x.inside named
+has_flag named (Waiting b) = false
+
+abbrev pub stands_at : BlockNo → Bool → Val → Bool
+stands_at b named Suspended = false
+stands_at b named (Live x) = (x.block.0 == b.0) && beq x.inside named
+stands_at b named (Waiting c) = false
 
 module _ (app : App) where
   -- a task waits at a WaitEvent block, and is extended
@@ -30,13 +36,16 @@ module _ (app : App) where
   abbrev pub owns : ℕ → ℕ → Bool
   owns t b = nat_le (the_task app t).first.0 b && nat_lt b ((the_task app t).first.0 + (the_task app t).count)
 
-  -- a task that runs stands at the point, and an interrupted one is Live
+  abbrev pub names_internal : ℕ → Bool
+  names_internal t = is_some (internal_of app t)
+
+  -- a task that runs stands at the point, an interrupted one is Live, and each is inside where it names an INTERNAL resource
   abbrev pub fits : Point → ℕ → Val → Bool
   fits point.Halted t v = true
   fits point.Idle t v = true
-  fits (point.Task b) t v = not (owns t b.0) || stands_at b v
+  fits (point.Task b) t v = not (owns t b.0) || stands_at b (names_internal t) v
   fits (point.Routine b None) t v = true
-  fits (point.Routine b (Some u)) t v = not (u.0 == t) || is_live_value v
+  fits (point.Routine b (Some u)) t v = not (u.0 == t) || has_flag (names_internal t) v
 
   -- Component c may have this value of its domain at the point.
   abbrev pub may_be : Point → ℕ → PartValue → Bool

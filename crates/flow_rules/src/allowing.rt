@@ -1,8 +1,7 @@
 //! The values of an entry that well-formed states have at a point.
 ghost use Rattle.std.specs.Prelude.{◌≡◌, ◌<◌, length, IfOk};
 ghost use Rattle.osek_standard.specs.Apps.{the_block};
-ghost use Rattle.flow_model.specs.Values.{is_live_value};
-ghost use Rattle.flow_rules.specs.Allowed.{is_wait as is_wait_kind, may_wait as may_wait_so, owns as owns_block, stands_at as stands_at_block, fits as fits_at, may_be as may_be_at, IsPartOf, IsAllowedPart};
+ghost use Rattle.flow_rules.specs.Allowed.{is_wait as is_wait_kind, may_wait as may_wait_so, owns as owns_block, has_flag as has_flag_so, stands_at as stands_at_block, names_internal as names_internal_so, fits as fits_at, may_be as may_be_at, IsPartOf, IsAllowedPart};
 
 use abstract_state::{PartValue, PlainEntry, Point, Val, ValueSet};
 use osek_standard::{App, Call, Kind, MaskService};
@@ -83,14 +82,16 @@ fn is_wait(kind: Kind) -> bool
     }
 }
 
-// a task that runs stands at the point, and an interrupted one is Live
+// a task that runs stands at the point, an interrupted one is Live, and each is inside where it names an INTERNAL resource
 fn fits(app: &App, point: Point, task: usize, val: &Val) -> bool
     requires { task < length app.now.tasks }
     ensures { result ≡ fits_at app.now point task val.now }
 {
     match point {
         Point::Halted | Point::Idle => true,
-        Point::Task(block) => !owns(app, task, block) || stands_at(block, val),
+        Point::Task(block) => {
+            !owns(app, task, block) || stands_at(block, names_internal(app, task), val)
+        }
         Point::Routine {
             block: _,
             over: None,
@@ -98,7 +99,7 @@ fn fits(app: &App, point: Point, task: usize, val: &Val) -> bool
         Point::Routine {
             block: _,
             over: Some(over),
-        } => over.index() != task || is_live(val),
+        } => over.index() != task || has_flag(names_internal(app, task), val),
     }
 }
 
@@ -111,20 +112,27 @@ fn owns(app: &App, task: usize, block: BlockNo) -> bool
     first <= block.0 as u32 && (block.0 as u32) < first + count
 }
 
-fn stands_at(block: BlockNo, val: &Val) -> bool
-    ensures { result ≡ stands_at_block block val.now }
+fn names_internal(app: &App, task: usize) -> bool
+    requires { task < length app.now.tasks }
+    ensures { result ≡ names_internal_so app.now task }
+{
+    app.tasks.at(task).internal.is_some()
+}
+
+fn stands_at(block: BlockNo, named: bool, val: &Val) -> bool
+    ensures { result ≡ stands_at_block block named val.now }
 {
     match val {
-        Val::Live(live) => live.block.0 == block.0,
+        Val::Live(live) => live.block.0 == block.0 && live.inside == named,
         Val::Suspended | Val::Waiting(_) => false,
     }
 }
 
-fn is_live(val: &Val) -> bool
-    ensures { result ≡ is_live_value val.now }
+fn has_flag(named: bool, val: &Val) -> bool
+    ensures { result ≡ has_flag_so named val.now }
 {
     match val {
-        Val::Live(_) => true,
+        Val::Live(live) => live.inside == named,
         Val::Suspended | Val::Waiting(_) => false,
     }
 }

@@ -1,13 +1,13 @@
 //! The row of one state.
 ghost use Rattle.std.specs.Prelude.{◌≡◌, ◌<◌, IfOk};
 ghost use Rattle.osek_standard.specs.{Points.{point_of as point_of_state}, Well.{Well}};
-ghost use Rattle.abstract_state.specs.{Components.{IsComponent, value_in as value_of_activity, is_armed as is_armed_state, part_of}, Domains.{domain_of as domain_of_component}};
+ghost use Rattle.abstract_state.specs.{Components.{value_in as value_of_activity, is_armed as is_armed_state, part_of}, Regular.{IsRegular}};
 ghost use Rattle.numbered_sets.specs.PlainTables.{row_at};
 ghost use Rattle.flow_rules.specs.{Rows.{IsProperRow}, Starts.{HasPart, single as single_set, entry_of as entry_of_state}};
 
 use abstract_state::{
     Component, Domain, LiveVal, PartValue, PlainEntry, TableRow, Val, ValueSet, components,
-    masks_are_few,
+    domain_of, masks_are_few,
 };
 use generic_kernel::point_of;
 use osek_standard::{Activity, AlarmState, App, State};
@@ -16,7 +16,8 @@ use std::alloc::Global;
 
 /// The row that has one state alone: the state's point, and an entry with the value of each of its components.
 pub fn row_of(alloc: Global, app: &App, state: &State) -> Result<TableRow, Memory>
-    requires { Well app.now state.now }
+    requires well { Well app.now state.now }
+    requires regular { IsRegular app.now state.now }
     ensures row { IfOk result (λ row. row ≡ row_at (point_of_state state.now) (entry_of_state app.now state.now)) }
     ensures proper { IfOk result (IsProperRow app.now) }
 {
@@ -52,24 +53,6 @@ fn single(alloc: Global, domain: Domain, value: PartValue) -> Result<ValueSet, M
     Ok(ValueSet { domain, members })
 }
 
-fn domain_of(app: &App, component: Component) -> Domain
-    requires { IsComponent app.now component }
-    ensures { result ≡ domain_of_component app.now component }
-{
-    match component {
-        Component::Task(task) => {
-            let task = app.task(task);
-            Domain::Task {
-                first: task.first,
-                count: task.count,
-                resources: app.resources.len() as u8,
-            }
-        }
-        Component::Event { .. } => Domain::Event,
-        Component::Alarm(_) => Domain::Alarm,
-    }
-}
-
 /// What a part of a state is.
 fn part(state: &State, component: Component) -> PartValue
     requires { HasPart state.now component }
@@ -89,6 +72,8 @@ fn value_in(activity: &Activity) -> Val
         Activity::Suspended => Val::Suspended,
         Activity::Live(standing) => Val::Live(LiveVal {
             block: standing.at.block,
+            further: standing.further,
+            inside: standing.inside,
             held: standing.held.copy(),
         }),
         Activity::Waiting(block) => Val::Waiting(*block),

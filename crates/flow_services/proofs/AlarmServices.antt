@@ -1,5 +1,5 @@
 -- The services on alarms are served by their cases.
-use Rattle.std.proofs.Common.{◌≡◌, ℕ, ◌<◌, Bool, true, false, not, List, [], ◌∷◌, length, refl, sym, ap, subst, ◌∙◌, inl, inr, ◌⊎◌, None}
+use Rattle.std.proofs.Common.{◌≡◌, ℕ, ◌<◌, Bool, true, false, not, List, [], ◌∷◌, length, refl, sym, ap, subst, ◌∙◌, inl, inr, ◌⊎◌}
 use Rattle.std.specs.Prelude.{if◌then◌else◌, ◌+◌, ◌%◌}
 use Rattle.osek_values.specs.Numbers.{alarm_no}
 use Rattle.osek_values.specs.declared.status.Ask.TheVariants as ask
@@ -11,9 +11,10 @@ use Rattle.abstract_state.specs.declared.value.Component.TheVariants as componen
 use Rattle.abstract_state.specs.Components.{component_count, component_number, abstract_of, is_armed}
 use Rattle.abstract_state.proofs.Numbers.{number_known}
 use Rattle.flow_model.specs.{declared.test.Condition.{Condition}, Tests.{PassesAll}, Changes.{alarm_change}}
-use Rattle.flow_model.proofs.{ChangeLaws.{passes_one, one_passes}, Writes.{alarm_written}}
+use Rattle.flow_model.proofs.{ChangeLaws.{passes_one, one_passes}, LinesAfter.{line_stays}, Writes.{alarm_written}}
+use Rattle.flow_services.specs.declared.occasion.Queued.TheVariants as queued
 use Rattle.flow_services.specs.{Occasions.{ServiceCase, refused_case, accepted_case}, Services.{alarm_is, armings, cancellings, alarm_readings, is_rel_refused, is_abs_refused}}
-use Rattle.flow_services.proofs.{Seeing.{tests_alarm, alarm_tested}, Serving.{Serves, IsServed, Stays, keeps_serves, two_served, line_stays}}
+use Rattle.flow_services.proofs.{Seeing.{tests_alarm, alarm_tested}, Serving.{Serves, IsServed, Stays, keeps_serves, two_served}}
 
 armed_not_idle : (y : AlarmState) → not (is_idle y) ≡ is_armed y
 armed_not_idle Idle = refl
@@ -52,7 +53,7 @@ module _ (app : App) (s m : State) (a : ℕ) (known : a < length app.alarms) (he
       either = either_of first of_x of_y (is_armed (alarm_state s a)) refl
 
   -- the alarm is armed or idle after the call
-  written_serves : (conditions : List Condition) (y : AlarmState) → Serves app m (accepted_case conditions (alarm_change app a (is_armed y) ∷ []) None) (accepted (with_alarm m a y) ask.No)
+  written_serves : (conditions : List Condition) (y : AlarmState) → Serves app m (accepted_case conditions (alarm_change app a (is_armed y) ∷ []) queued.Nothing) (accepted (with_alarm m a y) ask.No)
   written_serves conditions y = record {
     parts = λ c lt. alarm_written app m a y here known c lt;
     status = refl;
@@ -64,18 +65,18 @@ module _ (app : App) (s m : State) (a : ℕ) (known : a < length app.alarms) (he
   abbrev arms : Bool → Bool → AlarmState → Answer
   arms armed void y = if armed then refused m status.State else if void then refused m status.Value else accepted (with_alarm m a y) ask.No
 
-  idle_case : (void : Bool) (at cycle : ℕ) → Serves app m (if void then refused_case (alarm_is app a false ∷ []) status.Value else accepted_case (alarm_is app a false ∷ []) (alarm_change app a true ∷ []) None) (if void then refused m status.Value else accepted (with_alarm m a (Armed at cycle)) ask.No)
+  idle_case : (void : Bool) (at cycle : ℕ) → Serves app m (if void then refused_case (alarm_is app a false ∷ []) status.Value else accepted_case (alarm_is app a false ∷ []) (alarm_change app a true ∷ []) queued.Nothing) (if void then refused m status.Value else accepted (with_alarm m a (Armed at cycle)) ask.No)
   idle_case true at cycle = keeps_serves app m _ _ _
   idle_case false at cycle = written_serves (alarm_is app a false ∷ []) (Armed at cycle)
 
-  idle_conditions : (void : Bool) → (if void then refused_case (alarm_is app a false ∷ []) status.Value else accepted_case (alarm_is app a false ∷ []) (alarm_change app a true ∷ []) None).conditions ≡ alarm_is app a false ∷ []
+  idle_conditions : (void : Bool) → (if void then refused_case (alarm_is app a false ∷ []) status.Value else accepted_case (alarm_is app a false ∷ []) (alarm_change app a true ∷ []) queued.Nothing).conditions ≡ alarm_is app a false ∷ []
   idle_conditions true = refl
   idle_conditions false = refl
 
   arming_served : (void : Bool) (at cycle : ℕ) → IsServed app s m (armings app a void) (arms (not (is_idle (alarm_state m a))) void (Armed at cycle))
   arming_served void at cycle = by_alarm true _ _ _ refl (idle_conditions void)
       (λ on. subst (λ (b : Bool). Serves app m (refused_case (alarm_is app a true ∷ []) status.State) (arms b void (Armed at cycle))) (sym (armed_not_idle (alarm_state m a) ∙ on)) (keeps_serves app m _ _ _))
-      (λ off. subst (λ (b : Bool). Serves app m (if void then refused_case (alarm_is app a false ∷ []) status.Value else accepted_case (alarm_is app a false ∷ []) (alarm_change app a true ∷ []) None) (arms b void (Armed at cycle))) (sym (armed_not_idle (alarm_state m a) ∙ off)) (idle_case void at cycle))
+      (λ off. subst (λ (b : Bool). Serves app m (if void then refused_case (alarm_is app a false ∷ []) status.Value else accepted_case (alarm_is app a false ∷ []) (alarm_change app a true ∷ []) queued.Nothing) (arms b void (Armed at cycle))) (sym (armed_not_idle (alarm_state m a) ∙ off)) (idle_case void at cycle))
 
   pub rel_arming_served : (increment cycle : ℕ) → IsServed app s m (armings app a (is_rel_refused app a increment cycle)) (set_rel_alarm app m a increment cycle)
   unfolding set_rel_alarm
@@ -92,13 +93,13 @@ module _ (app : App) (s m : State) (a : ℕ) (known : a < length app.alarms) (he
   unfolding cancel_alarm
   cancelling_served = by_alarm false _ _ _ refl refl
       (λ off. subst (λ (b : Bool). Serves app m (refused_case (alarm_is app a false ∷ []) status.NoFunc) (cancels b)) (sym (idle_not_armed (alarm_state m a) ∙ ap not off)) (keeps_serves app m _ _ _))
-      (λ on. subst (λ (b : Bool). Serves app m (accepted_case (alarm_is app a true ∷ []) (alarm_change app a false ∷ []) None) (cancels b)) (sym (idle_not_armed (alarm_state m a) ∙ ap not on)) (written_serves (alarm_is app a true ∷ []) Idle))
+      (λ on. subst (λ (b : Bool). Serves app m (accepted_case (alarm_is app a true ∷ []) (alarm_change app a false ∷ []) queued.Nothing) (cancels b)) (sym (idle_not_armed (alarm_state m a) ∙ ap not on)) (written_serves (alarm_is app a true ∷ []) Idle))
 
   time_when_idle : (y : AlarmState) → is_armed y ≡ false → Serves app m (refused_case (alarm_is app a false ∷ []) status.NoFunc) (time_left app m a (due y))
   time_when_idle Idle off = keeps_serves app m _ _ _
   time_when_idle (Armed at cycle) off = absurd (cc)
 
-  time_when_armed : (y : AlarmState) → is_armed y ≡ true → Serves app m (accepted_case (alarm_is app a true ∷ []) [] None) (time_left app m a (due y))
+  time_when_armed : (y : AlarmState) → is_armed y ≡ true → Serves app m (accepted_case (alarm_is app a true ∷ []) [] queued.Nothing) (time_left app m a (due y))
   time_when_armed Idle on = absurd (cc)
   time_when_armed (Armed at cycle) on = keeps_serves app m _ _ _
 

@@ -1,5 +1,5 @@
 -- ClearEvent and GetEvent are served by their cases.
-use Rattle.std.proofs.Common.{ℕ, ◌<◌, Bool, false, None, [], ◌∷◌, length, refl, sym, ap, subst, ◌∙◌, inl, inr}
+use Rattle.std.proofs.Common.{ℕ, ◌<◌, Bool, false, [], ◌∷◌, length, refl, sym, ap, subst, ◌∙◌, inl, inr}
 use Rattle.std.specs.Prelude.{if◌then◌else◌, bit_and, bit_xor}
 use Rattle.std.proofs.lemmas.Bool.{cases_Bool}
 use Rattle.std.specs.declared.option.Option.{Option}
@@ -14,9 +14,10 @@ use Rattle.abstract_state.specs.Components.{abstract_of}
 use Rattle.flow_model.specs.declared.test.Test.TheVariants as test
 use Rattle.flow_model.specs.declared.runner.Runner.TheVariants as runner
 use Rattle.flow_model.specs.{Cases.{condition}, Changes.{event_changes}}
-use Rattle.flow_model.proofs.{ChangeLaws.{passes_none}, BitsOf.{bit_within, bit_cleared, own_bit}, Writes.{events_written}}
+use Rattle.flow_model.proofs.{ChangeLaws.{passes_none}, BitsOf.{bit_within, bit_cleared, own_bit}, LinesAfter.{line_stays}, Writes.{events_written}}
+use Rattle.flow_services.specs.declared.occasion.Queued.TheVariants as queued
 use Rattle.flow_services.specs.{Occasions.{ServiceCase, refused_case, accepted_case}, Services.{own_among, event_clearings, event_readings}}
-use Rattle.flow_services.proofs.{Seeing.{Sees, off_there, on_there, off_or_on}, Serving.{Serves, IsServed, keeps_serves, always_served, stays_with, two_served, line_stays}}
+use Rattle.flow_services.proofs.{Seeing.{Sees, off_there, on_there, off_or_on}, Serving.{Serves, IsServed, keeps_serves, always_served, stays_with, two_served}}
 
 module _ (app : App) (s m : State) where
   module _ (t : TaskNo) (e : ℕ) (known : t.0 < length app.tasks) (here : t.0 < length m.tasks) where
@@ -24,7 +25,7 @@ module _ (app : App) (s m : State) where
     cleared = bit_xor (task_state m t.0).events.0 (bit_and (task_state m t.0).events.0 e)
 
     abbrev clears : ServiceCase
-    clears = accepted_case [] (event_changes app t.0 (own_among app t.0 e) false) None
+    clears = accepted_case [] (event_changes app t.0 (own_among app t.0 e) false) queued.Nothing
 
     cleared_serves : Serves app m clears (accepted (with_events m t.0 cleared) ask.No)
     cleared_serves = record {
@@ -53,7 +54,7 @@ module _ (app : App) (s m : State) where
     off = refused_case (condition t test.Suspended ∷ []) status.State
 
     abbrev on : ServiceCase
-    on = accepted_case (condition t test.NotSuspended ∷ []) [] None
+    on = accepted_case (condition t test.NotSuspended ∷ []) [] queued.Nothing
 
     abbrev read : Bool → Answer
     read b = if b then refused m status.State else accepted_with m (value.Mask (task_state m t).events)

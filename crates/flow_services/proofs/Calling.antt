@@ -1,6 +1,6 @@
 -- The cases of a call of a service are those of its effect.
-use Rattle.std.proofs.Common.{◌≡◌, ℕ, ◌<◌, Bool, true, false, List, [], ◌++◌, length, map, None, refl, sym, ap, subst, ◌∙◌, arith}
-use Rattle.std.specs.Prelude.{if◌then◌else◌, is_some, Contains}
+use Rattle.std.proofs.Common.{◌≡◌, ℕ, ◌<◌, Bool, true, false, List, [], ◌++◌, length, map, refl, sym, ap, subst, ◌∙◌, arith}
+use Rattle.std.specs.Prelude.{if◌then◌else◌, Contains}
 use Rattle.std.proofs.lemmas.List.{append-nil}
 use Rattle.osek_values.specs.declared.status.Ask.{Ask}
 use Rattle.osek_values.specs.declared.status.Ask.TheVariants as ask
@@ -19,9 +19,11 @@ use Rattle.flow_model.specs.declared.runner.Runner.{Runner}
 use Rattle.flow_model.specs.declared.runner.Runner.TheVariants as runner
 use Rattle.flow_model.specs.{Cases.{asked_for, asked_after}, Runners.{Stands, OwnsBlock, runner_point, moving}, Tests.{PassesAll, value_after}, Effects.{HasEffect, AreCasesOf}}
 use Rattle.flow_model.proofs.{ChangeLaws.{after_both, passes_left, passes_both, passes_none}, Moves.{moved_parts, went_on, moved_has, moved_alarms}}
-use Rattle.flow_model.proofs.{Standing.{point_there, next_owned, known_here, task_calls, routine_calls}, Calls.{IsCall, HasAnswer, KeepsOrLeaves, call_has, asked_none, asked_maybe, kept_if, line_after, line_from, moved_line}}
+use Rattle.flow_model.proofs.{Standing.{point_there, next_owned, known_here, task_calls, routine_calls}, Calls.{IsCall, HasAnswer, KeepsOrLeaves, call_has, asked_none, asked_maybe, kept_if, line_after, moved_line}}
+use Rattle.flow_model.proofs.LinesAfter.{line_from}
 use Rattle.flow_model.proofs.Listing.{AreEffects, covers, exact}
-use Rattle.flow_services.specs.{Occasions.{ServiceCase, case_at, accepted_case, unnoted_case}, Services.{is_service_call, call_cases, calling, event_clearings}}
+use Rattle.flow_services.specs.declared.occasion.Queued.TheVariants as queued
+use Rattle.flow_services.specs.{Occasions.{ServiceCase, case_at, accepted_case, last_of, puts_some, unnoted_case}, Services.{is_service_call, call_cases, calling, event_clearings}}
 use Rattle.flow_services.proofs.{Seeing.{Sees, moved_sees}, Serving.{Serves, IsServed, point_stays, keeps_serves, always_served, stay_there}, ActivationLaws.{activation_served}}
 use Rattle.flow_services.proofs.{SettingEvents.{setting_served}, CallerEvents.{task_clearing_served, routine_clearing_served, reading_served}}
 use Rattle.flow_services.proofs.AlarmServices.{rel_arming_served, abs_arming_served, cancelling_served, alarm_reading_served}
@@ -53,9 +55,9 @@ module _ (app : App) (s : State) (r : Runner) (b : BlockNo) (h : Stands app s r 
     point = point_stays app moved a.state serves.stays moved_well.well ∙ point_there app moved r next moved_well;
     parts = λ c lt. parts_after a.state x.changes serves.parts c lt
         ∙ ap (λ (xs : List Change). value_after (xs ++ x.changes) c (abstract_of app s c)) (sym (append-nil (moving r next)));
-    asked = ap (asked_for app r k) serves.ask ∙ asked_as app r k (is_some x.begins) not_schedule;
-    kept = subst (λ (k : Ask). KeepsOrLeaves k s a.state) (sym serves.ask) (kept_if (is_some x.begins) s a.state (serves.stays.processor ∙ moved_has app s h.well (place_at next 0)));
-    line = line_after x.begins (if is_some x.begins then asked_after app r else asked.No) s a.state (line_from x.begins s moved a.state (moved_line s (place_at next 0)) serves.line);
+    asked = ap (asked_for app r k) serves.ask ∙ asked_as app r k (puts_some x.queued) not_schedule;
+    kept = subst (λ (k : Ask). KeepsOrLeaves k s a.state) (sym serves.ask) (kept_if (puts_some x.queued) s a.state (serves.stays.processor ∙ moved_has app s h.well (place_at next 0)));
+    line = line_after (last_of x.queued) (if puts_some x.queued then asked_after app r else asked.No) s a.state (line_from (last_of x.queued) s moved a.state (moved_line s (place_at next 0)) serves.line);
     status = serves.status;
   }
 
@@ -114,10 +116,10 @@ module _ (app : App) (s : State) (r : Runner) (b : BlockNo) (h : Stands app s r 
   call_served (call.Task call.ActivateTask t) e known = activation_served app s moved t.0 known sees_moved
   call_served (call.Task call.ChainTask t) e known = absurd (cc)
   call_served (call.Task call.GetEvent t) e known = reading_served app s moved t.0 known sees_moved
-  call_served (call.Task call.GetTaskState t) e known = always_served app s moved (accepted_case [] [] None) _ (passes_none app (abstract_of app s)) (keeps_serves app moved _ _ _)
+  call_served (call.Task call.GetTaskState t) e known = always_served app s moved (accepted_case [] [] queued.Nothing) _ (passes_none app (abstract_of app s)) (keeps_serves app moved _ _ _)
   call_served (call.Plain call.TerminateTask) e known = absurd (cc)
   call_served (call.Plain call.Schedule) e known = absurd (cc)
-  call_served (call.Plain call.GetTaskId) e known = always_served app s moved (accepted_case [] [] None) _ (passes_none app (abstract_of app s)) (keeps_serves app moved _ _ _)
+  call_served (call.Plain call.GetTaskId) e known = always_served app s moved (accepted_case [] [] queued.Nothing) _ (passes_none app (abstract_of app s)) (keeps_serves app moved _ _ _)
   call_served (call.Plain call.GetActiveApplicationMode) e known = always_served app s moved (unnoted_case []) _ (passes_none app (abstract_of app s)) (keeps_serves app moved _ _ _)
   call_served (call.Resource k q) e known = absurd (cc)
   call_served (call.SetEvent t m) e known = setting_served app s moved h.well t.0 m.0 known.0 sees_moved

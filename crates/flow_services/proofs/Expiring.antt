@@ -1,6 +1,6 @@
 -- The cases of an alarm that a tick routine looks at are those of its effect.
 use Rattle.std.proofs.Common.{◌≡◌, ◌≢◌, ℕ, ◌<◌, Bool, true, false, List, [], ◌∷◌, ◌++◌, length, map, refl, sym, ap, subst, ◌∙◌, inl, inr, ⊎_elim, arith, None, append_assoc}
-use Rattle.std.specs.Prelude.{if◌then◌else◌, is_some, ◌==◌, ◌+◌, ◌%◌}
+use Rattle.std.specs.Prelude.{if◌then◌else◌, ◌==◌, ◌+◌, ◌%◌}
 use Rattle.std.proofs.lemmas.{Bool.{cases_Bool, ne_eqb}, List.{append-nil}}
 use Rattle.osek_values.specs.Numbers.{alarm_no}
 use Rattle.osek_values.specs.declared.status.Ask.TheVariants as ask
@@ -27,7 +27,7 @@ use Rattle.flow_model.specs.{Effects.{AreIn, HasEffect, HasSomeEffect, LeavesLin
 use Rattle.flow_model.proofs.{ChangeLaws.{passes_left, passes_right, passes_both, passes_one, one_passes}, Writes.{alarm_written}}
 use Rattle.flow_model.proofs.{Moves.{moved_alarms}, Standing.{point_there, stands_here, owned_point}, Calls.{IsCall, HasAnswer, call_has, asked_none}}
 use Rattle.flow_model.proofs.Listing.{covers_by, values_allowed, made_passes}
-use Rattle.flow_services.specs.{Occasions.{ServiceCase, case_at, unnoted_case}, Services.{actions, alarm_is, looking, expiring, expiries}}
+use Rattle.flow_services.specs.{Occasions.{ServiceCase, case_at, last_of, puts_some, unnoted_case}, Services.{actions, alarm_is, looking, expiring, expiries}}
 use Rattle.flow_services.proofs.{Seeing.{Sees, tests_alarm, alarm_tested}, Serving.{Serves, IsServed, Stays, point_stays, stay_there}, ActivationLaws.{activation_served}}
 use Rattle.flow_services.proofs.{SettingEvents.{setting_served}, Calling.{moved_well, parts_after, sees_moved}}
 
@@ -82,9 +82,9 @@ module _ (app : App) (s : State) (r : Runner) (b : BlockNo) (h : Stands app s r 
     point = point_stays app moved z.state (stays_through serves.stays) (moved_well app s r b h).well ∙ point_there app moved r next (moved_well app s r b h);
     parts = λ c lt. parts_after app s r b h z.state (alarm_change app a (is_armed y) ∷ x.changes) (λ d below. serves.parts d below ∙ ap (value_after x.changes d) (alarm_written app moved a y here known d below)) c lt
         ∙ ap (λ (xs : List Change). value_after xs c (abstract_of app s c)) (sym (append_assoc (moving r next) (alarm_change app a (is_armed y) ∷ []) x.changes));
-    asked = asked_none app r (kind.Expire (alarm_no a)) ∙ nothing (is_some x.begins);
+    asked = asked_none app r (kind.Expire (alarm_no a)) ∙ nothing (puts_some x.queued);
     kept = tt;
-    line = nothing_left (is_some x.begins);
+    line = nothing_left (puts_some x.queued);
     status = serves.status;
   }
     where
@@ -95,12 +95,12 @@ module _ (app : App) (s : State) (r : Runner) (b : BlockNo) (h : Stands app s r 
       nothing true = refl
       nothing false = refl
 
-      nothing_left : (may : Bool) → LeavesLine (if may then asked.No else asked.No) x.begins s z.state
+      nothing_left : (may : Bool) → LeavesLine (if may then asked.No else asked.No) (last_of x.queued) s z.state
       nothing_left true = tt
       nothing_left false = tt
 
   fired_sees : (y : AlarmState) → Sees app s (fired y)
-  fired_sees y = let sees = sees_moved app s r b h in record { size = sees.size; suspended = sees.suspended; waiting = sees.waiting; absent = sees.absent }
+  fired_sees y = let sees = sees_moved app s r b h in record { size = sees.size; suspended = sees.suspended; waiting = sees.waiting; full = sees.full; absent = sees.absent; placed = sees.placed }
 
   acted_served : (y : AlarmState) (x : Action) → IsAction (tables app) x → IsServed app s (fired y) (actions app x) (acted app (fired y) x)
   acted_served y (action.ActivateTask t) is = activation_served app s (fired y) t.0 is (fired_sees y)

@@ -12,17 +12,17 @@ use Rattle.osek_standard.specs.{Apps.{the_task, is_extended}, TaskStates.{is_sus
 use Rattle.osek_standard.specs.Services.{set_event, refused, accepted, waits_in, waits_for, woken, with_events, events_set, released_from}
 use Rattle.osek_standard.specs.Well.{Well, IsOwn, IsWaitingAt, IsActivityOf}
 use Rattle.osek_standard.proofs.Members.{Among, among_map, map_among, among_passing, passing_among}
-use Rattle.abstract_state.specs.{declared.value.{Val.TheVariants.{Live, Waiting}, PartValue.TheVariants.{OfTask}}, Components.{component_at, component_count, abstract_of, value_in}}
+use Rattle.abstract_state.specs.{declared.value.{Val.TheVariants.{Waiting}, PartValue.TheVariants.{OfTask}}, Components.{component_at, component_count, abstract_of, value_in}}
 use Rattle.abstract_state.proofs.ComponentLaws.{task_counted}
 use Rattle.flow_model.specs.declared.test.Condition.{Condition}
 use Rattle.flow_model.specs.declared.test.Test.TheVariants as test
 use Rattle.flow_model.specs.{Cases.{condition}, Tests.{passes, PassesAll, value_after}, Changes.{task_change, event_changes}}
 use Rattle.flow_model.proofs.{ChangeLaws.{passes_each, each_passes, passes_one, one_passes, passes_left}, BitsOf.{bit_within, bit_set}, Activations.{line_part}}
-use Rattle.flow_model.proofs.Writes.{task_written, events_written}
+use Rattle.flow_model.proofs.{LinesAfter.{line_stays, line_with_last}, Writes.{task_written, events_written}}
 use Rattle.flow_services.specs.Occasions.{ServiceCase, refused_case}
 use Rattle.flow_services.specs.Services.{waits_at, waits_not_at, awaits, own_block, awaiting_blocks, own_among, not_awaiting, waking, settings, event_settings}
 use Rattle.flow_services.proofs.Seeing.{Sees, waiting_block, waits_there, tests_not_suspended, waits_passes, passes_waits, off_there, on_there, off_passes}
-use Rattle.flow_services.proofs.Serving.{Serves, IsServed, keeps_serves, always_served, stays_with, stays_in_line, line_stays}
+use Rattle.flow_services.proofs.Serving.{Serves, IsServed, keeps_serves, always_served, stays_with, stays_in_line}
 
 -- a task waits for an event where its block awaits it
 waits_by : (app : App) (a : Activity) (e : ℕ) → waits_in app a e ≡ true → (b : BlockNo) × (waiting_block a ≡ Some b) × (awaits app e b ≡ true)
@@ -111,7 +111,7 @@ module _ (app : App) (m : State) (t e : ℕ) (known : t < length app.tasks) (her
         status = refl;
         ask = refl;
         stays = stays_in_line m (with_task m t released_state) (m.line ++ task_no t ∷ []) (stays_with m t released_state here (λ l. absurd (not_live_there (task_state m t).activity b at l)));
-        line = record { is = refl; new = absent };
+        line = line_with_last m (record (with_task m t released_state) { line = m.line ++ task_no t ∷ [] }) (task_no t) refl absent;
       }
 
 module _ (app : App) (s m : State) (well : Well app s) (t e : ℕ) (known : t < length app.tasks) (sees : Sees app s m) where

@@ -17,8 +17,9 @@ use Rattle.flow_model.specs.declared.test.Test.TheVariants as test
 use Rattle.flow_model.specs.declared.case.Asked.TheVariants as asked
 use Rattle.flow_model.specs.declared.{case.EffectCase.{EffectCase}, runner.Runner.{Runner}}
 use Rattle.flow_model.specs.declared.runner.Runner.TheVariants as runner
-use Rattle.flow_model.specs.{Cases.{condition, asked_after}, Changes.{task_change, alarm_change, event_changes, activating}}
+use Rattle.flow_model.specs.{Cases.{condition, asked_after}, Changes.{task_change, alarm_change, event_changes, activating, activating_more}}
 use Rattle.flow_services.specs.{Occasions.{ServiceCase, refused_case, accepted_case, unnoted_case, case_at}, declared.occasion.{Expired.{Expired}, Occasion.{Occasion}}}
+use Rattle.flow_services.specs.declared.occasion.Queued.TheVariants as queued
 
 -- all but the calls by which a caller ends, waits, asks for a dispatch alone, or takes and gives back a resource
 abbrev pub is_service_call : Call → Bool
@@ -61,11 +62,17 @@ abbrev pub waits_not_at : ℕ → BlockNo → Condition
 waits_not_at x b = condition x (test.IsNot (OfTask (Waiting b)))
 
 module _ (app : App) where
-  -- ActivateTask: LIMIT where the task isn't suspended
+  -- how many activations a task takes at a time
+  abbrev pub most_activations : ℕ → ℕ
+  most_activations x = (the_task app x).activation
+
+  -- ActivateTask: LIMIT where the task takes no further activation. A suspended task begins, and goes last in the line; a Live
+  -- one keeps the activation for later, and has a place more.
   abbrev pub activations : ℕ → List ServiceCase
   activations x =
-      refused_case (condition x test.NotSuspended ∷ []) status.Limit
-      ∷ accepted_case (condition x test.Suspended ∷ []) (activating app x) (Some (task_no x)) ∷ []
+      refused_case (condition x (test.Full (most_activations x)) ∷ []) status.Limit
+      ∷ accepted_case (condition x test.Suspended ∷ []) (activating app x) (queued.Last (task_no x))
+      ∷ accepted_case (condition x (test.Room (most_activations x)) ∷ []) (activating_more x) queued.Further ∷ []
 
   -- at the block a task waits for one of these events
   abbrev pub awaits : ℕ → BlockNo → Bool
@@ -84,11 +91,11 @@ module _ (app : App) where
 
   -- a task that waits nowhere for one of the events: they are set
   abbrev pub not_awaiting : ℕ → ℕ → List BlockNo → ServiceCase
-  not_awaiting x events blocks = accepted_case (condition x test.NotSuspended ∷ map (waits_not_at x) blocks) (event_changes app x events true) None
+  not_awaiting x events blocks = accepted_case (condition x test.NotSuspended ∷ map (waits_not_at x) blocks) (event_changes app x events true) queued.Nothing
 
   -- a task that waits for one is released too, to the block after
   abbrev pub waking : ℕ → ℕ → BlockNo → ServiceCase
-  waking x events b = accepted_case (waits_at x b ∷ []) (task_change x (Live (live_val (the_block app b.0).next [])) ∷ event_changes app x events true) (Some (task_no x))
+  waking x events b = accepted_case (waits_at x b ∷ []) (task_change x (Live (live_val (the_block app b.0).next 0 false [])) ∷ event_changes app x events true) (queued.Last (task_no x))
 
   abbrev pub settings : ℕ → ℕ → List BlockNo → List ServiceCase
   settings x events blocks =
@@ -105,7 +112,7 @@ module _ (app : App) where
   -- ClearEvent: CALLEVEL in a routine, ACCESS of a basic task
   abbrev pub event_clearings : Runner → ℕ → List ServiceCase
   event_clearings (runner.Task t) m =
-      if is_extended app t.0 then always (accepted_case [] (event_changes app t.0 (own_among t.0 m) false) None)
+      if is_extended app t.0 then always (accepted_case [] (event_changes app t.0 (own_among t.0 m) false) queued.Nothing)
       else always (refused_case [] status.Access)
   event_clearings (runner.Routine k over) m = always (refused_case [] status.CallLevel)
 
@@ -114,7 +121,7 @@ module _ (app : App) where
   event_readings x =
       if is_extended app x then
       refused_case (condition x test.Suspended ∷ []) status.State
-      ∷ accepted_case (condition x test.NotSuspended ∷ []) [] None ∷ []
+      ∷ accepted_case (condition x test.NotSuspended ∷ []) [] queued.Nothing ∷ []
       else always (refused_case [] status.Access)
 
   -- an alarm is armed, or idle
@@ -126,7 +133,7 @@ module _ (app : App) where
   armings a refused =
       refused_case (alarm_is a true ∷ []) status.State
       ∷ (if refused then refused_case (alarm_is a false ∷ []) status.Value
-      else accepted_case (alarm_is a false ∷ []) (alarm_change app a true ∷ []) None) ∷ []
+      else accepted_case (alarm_is a false ∷ []) (alarm_change app a true ∷ []) queued.Nothing) ∷ []
 
   abbrev pub is_rel_refused : ℕ → ℕ → ℕ → Bool
   is_rel_refused a increment cycle = (increment == 0) || nat_lt (max_of app a) increment || not (is_cycle app a cycle)
@@ -138,13 +145,13 @@ module _ (app : App) where
   abbrev pub cancellings : ℕ → List ServiceCase
   cancellings a =
       refused_case (alarm_is a false ∷ []) status.NoFunc
-      ∷ accepted_case (alarm_is a true ∷ []) (alarm_change app a false ∷ []) None ∷ []
+      ∷ accepted_case (alarm_is a true ∷ []) (alarm_change app a false ∷ []) queued.Nothing ∷ []
 
   -- GetAlarm: NOFUNC of an idle alarm
   abbrev pub alarm_readings : ℕ → List ServiceCase
   alarm_readings a =
       refused_case (alarm_is a false ∷ []) status.NoFunc
-      ∷ accepted_case (alarm_is a true ∷ []) [] None ∷ []
+      ∷ accepted_case (alarm_is a true ∷ []) [] queued.Nothing ∷ []
 
   -- what an alarm does when it expires
   abbrev pub actions : Action → List ServiceCase
@@ -155,14 +162,14 @@ module _ (app : App) where
   abbrev pub call_cases : Runner → Call → List ServiceCase
   call_cases r (call.Task call.ActivateTask x) = activations x.0
   call_cases r (call.Task call.GetEvent x) = event_readings x.0
-  call_cases r (call.Task call.GetTaskState x) = always (accepted_case [] [] None)
+  call_cases r (call.Task call.GetTaskState x) = always (accepted_case [] [] queued.Nothing)
   call_cases r (call.SetEvent x m) = event_settings x.0 m.0
   call_cases r (call.Mask call.ClearEvent m) = event_clearings r m.0
   call_cases r (call.Arm call.SetRelAlarm a increment cycle) = armings a.0 (is_rel_refused a.0 increment cycle)
   call_cases r (call.Arm call.SetAbsAlarm a start cycle) = armings a.0 (is_abs_refused a.0 start cycle)
   call_cases r (call.Alarm call.CancelAlarm a) = cancellings a.0
   call_cases r (call.Alarm call.GetAlarm a) = alarm_readings a.0
-  call_cases r (call.Plain call.GetTaskId) = always (accepted_case [] [] None)
+  call_cases r (call.Plain call.GetTaskId) = always (accepted_case [] [] queued.Nothing)
   call_cases r (call.Plain call.GetActiveApplicationMode) = always (unnoted_case [])
   call_cases r (call.Lock l) = always (unnoted_case [])
   call_cases r _ = []

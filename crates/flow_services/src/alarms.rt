@@ -1,16 +1,17 @@
 //! The cases of the services on alarms, and of an alarm that a tick routine looks at.
-ghost use Rattle.std.specs.Prelude.{◌≡◌, ◌<◌, [], ◌∷◌, ◌++◌, None, length, map, IfOk, OnOk};
+ghost use Rattle.std.specs.Prelude.{◌≡◌, ◌<◌, [], ◌∷◌, ◌++◌, length, map, IfOk, OnOk};
 ghost use Rattle.osek_standard.specs.{Apps.{tables, is_cycle as is_cycle_of}, Validity.{IsAction}};
 ghost use Rattle.abstract_state.specs.Components.{component_number as component_number_of};
 ghost use Rattle.abstract_state.specs.declared.value.Component.TheVariants as component;
 ghost use Rattle.abstract_state.specs.declared.value.PartValue.TheVariants.{OfAlarm};
 ghost use Rattle.flow_model.specs.declared.change.Update.TheVariants as update;
 ghost use Rattle.flow_model.specs.Runners.{change};
+ghost use Rattle.flow_services.specs.declared.occasion.Queued.TheVariants as queues;
 ghost use Rattle.flow_services.specs.Occasions.{accepted_case, case_at};
 ghost use Rattle.flow_services.specs.Services.{armings as armings_of, cancellings as cancellings_of, alarm_readings as alarm_readings_of, actions as actions_of, expiries as expiries_of, is_rel_refused as is_rel_refused_by, is_abs_refused as is_abs_refused_by};
 
 use crate::events::add_event_settings;
-use crate::occasion::{Occasion, one, only};
+use crate::occasion::{Occasion, Queued, one, only};
 use crate::tasks::add_activations;
 use abstract_state::{Component, ComponentNo, PartValue, component_number};
 use flow_model::{Asked, Change, Condition, EffectCase, Runner, Test, Update};
@@ -60,14 +61,14 @@ fn becoming(
     conditions: Seq<Condition>,
     armed: bool,
 ) -> Result<EffectCase, Memory>
-    ensures { IfOk result (λ case. case ≡ case_at occasion (accepted_case conditions (change component.0 (update.Set (OfAlarm armed)) ∷ []) None)) }
+    ensures { IfOk result (λ case. case ≡ case_at occasion (accepted_case conditions (change component.0 (update.Set (OfAlarm armed)) ∷ []) queues.Nothing)) }
 {
     let mut changes = occasion.begun(alloc)?;
     changes.push(Change {
         component,
         update: Update::Set(PartValue::OfAlarm(armed)),
     })?;
-    occasion.accepted(conditions, changes, None)
+    occasion.accepted(conditions, changes, Queued::Nothing)
 }
 
 /// The cases of a service that arms an alarm, whose numbers may be refused.

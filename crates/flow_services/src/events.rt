@@ -6,7 +6,7 @@ ghost use Rattle.flow_model.specs.Runners.{IsKnown};
 ghost use Rattle.flow_services.specs.Occasions.{case_at};
 ghost use Rattle.flow_services.specs.Services.{awaits as awaits_at, awaiting_blocks as awaiting_blocks_of, not_awaiting as not_awaiting_case, waking as waking_case, event_settings, event_clearings as event_clearings_of, event_readings as event_readings_of};
 
-use crate::occasion::{Occasion, one, only, task_component};
+use crate::occasion::{Occasion, Queued, one, only, task_component};
 use crate::tasks::{add_event_changes, add_live};
 use abstract_state::{PartValue, Val};
 use flow_model::{Condition, EffectCase, Runner, Test};
@@ -78,7 +78,7 @@ fn not_awaiting(
     }
     let mut changes = occasion.begun(alloc)?;
     add_event_changes(app, task, events, true, &mut changes)?;
-    occasion.accepted(conditions, changes, None)
+    occasion.accepted(conditions, changes, Queued::Nothing)
 }
 
 /// The case in which the task waits at this block for one of the events: it is released from waiting.
@@ -100,7 +100,7 @@ fn waking(
     let mut changes = occasion.begun(alloc)?;
     add_live(task, app.block(block).next, &mut changes)?;
     add_event_changes(app, task, events, true, &mut changes)?;
-    occasion.accepted(conditions, changes, Some(task))
+    occasion.accepted(conditions, changes, Queued::Last(task))
 }
 
 fn add_wakings(
@@ -167,7 +167,7 @@ pub fn event_clearings(
     }
     let mut changes = occasion.begun(alloc)?;
     add_event_changes(app, task, mask.and(own), false, &mut changes)?;
-    one(alloc, occasion.accepted(none, changes, None)?)
+    one(alloc, occasion.accepted(none, changes, Queued::Nothing)?)
 }
 
 /// The cases of GetEvent.

@@ -10,4 +10,4 @@ mod tasks;
 
 pub use occasion::one;
 pub use services::{is_service, service_cases};
-pub use tasks::add_activating;
+pub use tasks::{add_activating, add_activating_more};

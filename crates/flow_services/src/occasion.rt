@@ -15,6 +15,16 @@ pub struct Expired {
     pub again: bool,
 }
 
+/// What a service puts into the line of the tasks that are to run. Where it puts something there, that may lead to a dispatch.
+#[derive(Clone, Copy)]
+pub enum Queued {
+    Nothing,
+    /// A Live task has a place more.
+    Further,
+    /// This task becomes Live, and goes last.
+    Last(TaskNo),
+}
+
 /// Where a service is called, or an alarm does its action.
 #[derive(Clone, Copy)]
 pub struct Occasion {
@@ -70,9 +80,35 @@ fn add_expired_change(expired: Option<Expired>, changes: &mut Seq<Change>) -> Re
     Ok(())
 }
 
+impl Queued {
+    ghost use Rattle.std.specs.Prelude.{◌≡◌};
+    ghost use Rattle.flow_services.specs.Occasions.{last_of, puts_some};
+
+    /// The task that is put last, if one is.
+    fn last(self) -> Option<TaskNo>
+        ensures { result ≡ last_of self }
+    {
+        match self {
+            Queued::Nothing | Queued::Further => None,
+            Queued::Last(task) => Some(task),
+        }
+    }
+
+    /// Whether it puts something there.
+    fn is_some(self) -> bool
+        ensures { result ≡ puts_some self }
+    {
+        match self {
+            Queued::Nothing => false,
+            Queued::Further | Queued::Last(_) => true,
+        }
+    }
+}
+
 impl Occasion {
-    ghost use Rattle.std.specs.Prelude.{◌≡◌, [], Some, None, IfOk};
+    ghost use Rattle.std.specs.Prelude.{◌≡◌, [], Some, IfOk};
     ghost use Rattle.osek_values.specs.declared.status.Status.TheVariants as statuses;
+    ghost use Rattle.flow_services.specs.declared.occasion.Queued.TheVariants as queues;
     ghost use Rattle.flow_services.specs.Occasions.{refused_case, accepted_case, unnoted_case, begun, case_by, case_at};
 
     /// The changes that come before those of the service: these follow them in one list.
@@ -84,18 +120,18 @@ impl Occasion {
         Ok(changes)
     }
 
-    /// A case of the service here, with all changes, by which this task becomes Live, if one does.
+    /// A case of the service here, with all changes, and with what it puts into the line.
     pub fn case(
         self,
         mut conditions: Seq<Condition>,
         changes: Seq<Change>,
         status: Option<Status>,
-        begins: Option<TaskNo>,
+        queued: Queued,
     ) -> Result<EffectCase, Memory>
-        ensures { IfOk result (λ case. case ≡ case_by self conditions changes status begins) }
+        ensures { IfOk result (λ case. case ≡ case_by self conditions changes status queued) }
     {
         add_expired_condition(self.expired, &mut conditions)?;
-        let asked = if begins.is_some() {
+        let asked = if queued.is_some() {
             self.asked
         } else {
             Asked::No
@@ -103,7 +139,7 @@ impl Occasion {
         Ok(EffectCase {
             conditions,
             changes,
-            leaving: Leaving::at(self.runner.at(self.next), asked, status).with_last(begins),
+            leaving: Leaving::at(self.runner.at(self.next), asked, status).with_last(queued.last()),
         })
     }
 
@@ -117,27 +153,27 @@ impl Occasion {
         ensures { IfOk result (λ case. case ≡ case_at self (refused_case conditions status)) }
     {
         let changes = self.begun(alloc)?;
-        self.case(conditions, changes, Some(status), None)
+        self.case(conditions, changes, Some(status), Queued::Nothing)
     }
 
-    /// The case of a call that is accepted, with all changes, by which this task becomes Live, if one does.
+    /// The case of a call that is accepted, with all changes, and with what it puts into the line.
     pub fn accepted(
         self,
         conditions: Seq<Condition>,
         changes: Seq<Change>,
-        begins: Option<TaskNo>,
+        queued: Queued,
     ) -> Result<EffectCase, Memory>
-        ensures { IfOk result (λ case. case ≡ case_by self conditions changes (Some statuses.Ok) begins) }
+        ensures { IfOk result (λ case. case ≡ case_by self conditions changes (Some statuses.Ok) queued) }
     {
-        self.case(conditions, changes, Some(Status::Ok), begins)
+        self.case(conditions, changes, Some(Status::Ok), queued)
     }
 
     /// The case of a call that is accepted and changes nothing.
     pub fn answered(self, alloc: Global, conditions: Seq<Condition>) -> Result<EffectCase, Memory>
-        ensures { IfOk result (λ case. case ≡ case_at self (accepted_case conditions [] None)) }
+        ensures { IfOk result (λ case. case ≡ case_at self (accepted_case conditions [] queues.Nothing)) }
     {
         let changes = self.begun(alloc)?;
-        self.accepted(conditions, changes, None)
+        self.accepted(conditions, changes, Queued::Nothing)
     }
 
     /// The same, as the action of an alarm that expired.
@@ -155,7 +191,7 @@ impl Occasion {
         ensures { IfOk result (λ case. case ≡ case_at self (unnoted_case conditions)) }
     {
         let changes = self.begun(alloc)?;
-        self.case(conditions, changes, None, None)
+        self.case(conditions, changes, None, Queued::Nothing)
     }
 }
 

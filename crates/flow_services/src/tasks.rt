@@ -1,12 +1,12 @@
 //! The cases of ActivateTask, and what becomes of a task and its events.
-ghost use Rattle.std.specs.Prelude.{◌≡◌, ◌<◌, ℕ, true, [], ◌∷◌, ◌++◌, length, map, OnOk};
+ghost use Rattle.std.specs.Prelude.{◌≡◌, ◌<◌, ℕ, true, false, [], ◌∷◌, ◌++◌, length, map, OnOk};
 ghost use Rattle.osek_values.specs.Bits.{has_bit as has_bit_of};
 ghost use Rattle.osek_standard.specs.Apps.{the_task};
 ghost use Rattle.abstract_state.specs.{declared.value.Val.TheVariants.{Live}, Components.{live_val}};
-ghost use Rattle.flow_model.specs.Changes.{event_changes, task_change, activating};
+ghost use Rattle.flow_model.specs.Changes.{event_changes, task_change, activating, activating_more};
 ghost use Rattle.flow_services.specs.{Occasions.{case_at}, Services.{activations}};
 
-use crate::occasion::{Occasion, only, task_component};
+use crate::occasion::{Occasion, Queued, only, task_component};
 use abstract_state::{Component, LiveVal, PartValue, Val, component_number};
 use flow_model::{Change, EffectCase, Test, Update};
 use osek_standard::App;
@@ -40,14 +40,16 @@ pub fn add_event_changes(
     Ok(())
 }
 
-/// Adds the change by which a task becomes Live at a block, with nothing held.
+/// Adds the change by which a task becomes Live at a block, outside and with nothing held.
 pub fn add_live(task: TaskNo, block: BlockNo, changes: &mut Seq<Change>) -> Result<(), Memory>
-    ensures { OnOk result (changes.new ≡ changes.old ++ task_change task.0 (Live (live_val block [])) ∷ []) }
+    ensures { OnOk result (changes.new ≡ changes.old ++ task_change task.0 (Live (live_val block 0 false [])) ∷ []) }
 {
     changes.push(Change {
         component: task_component(task),
         update: Update::Set(PartValue::OfTask(Val::Live(LiveVal {
             block,
+            further: 0,
+            inside: false,
             held: Held::new(),
         }))),
     })
@@ -63,6 +65,16 @@ pub fn add_activating(app: &App, task: TaskNo, changes: &mut Seq<Change>) -> Res
     add_event_changes(app, task, own, false, changes)
 }
 
+/// Adds what becomes of the components by a further activation of a Live task.
+pub fn add_activating_more(task: TaskNo, changes: &mut Seq<Change>) -> Result<(), Memory>
+    ensures { OnOk result (changes.new ≡ changes.old ++ activating_more task.0) }
+{
+    changes.push(Change {
+        component: task_component(task),
+        update: Update::More,
+    })
+}
+
 /// Adds the cases of ActivateTask.
 pub fn add_activations(
     alloc: Global,
@@ -75,11 +87,16 @@ pub fn add_activations(
     ensures { OnOk result (cases.new ≡ cases.old ++ map (case_at occasion) (activations app.now task.0)) }
 {
     let component = task_component(task);
-    let full = only(alloc, component, Test::NotSuspended)?;
+    let most = app.task(task).activation;
+    let full = only(alloc, component, Test::Full(most))?;
     cases.push(occasion.refused(alloc, full, Status::Limit)?)?;
     let free = only(alloc, component, Test::Suspended)?;
-    let mut changes = occasion.begun(alloc)?;
-    add_activating(app, task, &mut changes)?;
-    cases.push(occasion.accepted(free, changes, Some(task))?)?;
+    let mut begun = occasion.begun(alloc)?;
+    add_activating(app, task, &mut begun)?;
+    cases.push(occasion.accepted(free, begun, Queued::Last(task))?)?;
+    let room = only(alloc, component, Test::Room(most))?;
+    let mut more = occasion.begun(alloc)?;
+    add_activating_more(task, &mut more)?;
+    cases.push(occasion.accepted(room, more, Queued::Further)?)?;
     Ok(())
 }

@@ -11,7 +11,7 @@ pub mod FlatLaws
 pub mod SlotLaws
 pub mod ColumnLaws
 pub mod UnmovedLaws
-pub mod StackLaws
+pub mod LoadLaws
 pub mod CopiedEntries
 pub mod GrownPools
 pub mod CountedNumbers

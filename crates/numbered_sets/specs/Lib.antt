@@ -5,7 +5,7 @@ pub mod Numbers
 pub mod Pools
 pub mod Slots
 pub mod SeenSlots
-pub mod StackKeys
+pub mod LoadKeys
 pub mod SetLists
 pub mod Views
 pub mod PlainTables

@@ -6,6 +6,7 @@ mod column;
 mod counts;
 mod flat_sets;
 pub mod laws;
+mod loads;
 mod moving;
 mod numbered_entry;
 mod numbered_form;
@@ -17,7 +18,6 @@ mod seen_values;
 mod shared_values;
 mod slot_values;
 mod slots;
-mod stacks;
 mod table;
 mod within;
 

@@ -106,9 +106,13 @@ impl SeenValues {
     {
         match update {
             Update::Block(block) => self.pass_at(numbers, *block, from, made),
-            Update::Set(_) | Update::Take { .. } | Update::Give { .. } => {
-                Ok(numbers.next(from, self.len()))
-            }
+            Update::Set(_)
+            | Update::Take { .. }
+            | Update::Give { .. }
+            | Update::More
+            | Update::Again(_)
+            | Update::Leave(_)
+            | Update::Inside => Ok(numbers.next(from, self.len())),
         }
     }
 

@@ -1,12 +1,12 @@
 //! The values of one domain that were seen, by number.
 ghost use Rattle.std.specs.Prelude.{◌≡◌};
 
+use crate::loads::Loads;
 use crate::slot_values::{
     BlockColumn, block_column, block_in, slot_at_block, slot_for, slot_of, slot_place, slot_width,
     value_at,
 };
 use crate::slots::Slots;
-use crate::stacks::Stacks;
 use abstract_state::{Domain, PartValue};
 use flow_model::Update;
 use osek_values::{BlockNo, Memory};
@@ -14,11 +14,11 @@ use std::alloc::{AllocError, Global};
 use std::marker::Model;
 
 /// Different values of a domain in the order of first use: each has its place as its number. A value takes eight bytes: its slot
-/// is told by its block and the number of its stack, and tells them.
+/// is told by its block and the number of its load, and tells them.
 #[derive(Drop)]
 pub struct SeenValues {
     domain: Domain,
-    stacks: Stacks,
+    loads: Loads,
     slots: Slots,
 }
 
@@ -27,9 +27,9 @@ impl Model for SeenValues {
 
     ghost Value = { Values };
 
-    ghost view = { λ s. record { domain = s.domain; values = slot_values s.domain s.stacks s.slots.used } };
+    ghost view = { λ s. record { domain = s.domain; values = slot_values s.domain s.loads s.slots.used } };
 
-    ghost invariant = { λ s. AreSeen s.domain s.stacks s.slots };
+    ghost invariant = { λ s. AreSeen s.domain s.loads s.slots };
 }
 
 impl Clone for SeenValues {
@@ -37,11 +37,11 @@ impl Clone for SeenValues {
 
     fn clone(&self) -> Result<SeenValues, AllocError> {
         let domain = self.domain;
-        let stacks = self.stacks.clone()?;
+        let loads = self.loads.clone()?;
         let slots = self.slots.clone()?;
         Ok(SeenValues {
             domain,
-            stacks,
+            loads,
             slots,
         })
     }
@@ -59,7 +59,7 @@ impl SeenValues {
     {
         SeenValues {
             domain,
-            stacks: Stacks::new(alloc),
+            loads: Loads::new(alloc),
             slots: Slots::new(alloc, slot_width(domain)),
         }
     }
@@ -83,7 +83,7 @@ impl SeenValues {
         requires { number < length self.now.values }
         ensures { IsNumberOf self.now.values result number }
     {
-        value_at(self.domain, &self.stacks, self.slots.at(number))
+        value_at(self.domain, &self.loads, self.slots.at(number))
     }
 
     /// The number of a value, if it has one.
@@ -91,7 +91,7 @@ impl SeenValues {
         ensures number { IfSome result (IsNumberOf self.now.values value.now) }
         ensures none { IfNone result (list_any (same_part value.now) self.now.values ≡ false) }
     {
-        match slot_of(self.domain, &self.stacks, value) {
+        match slot_of(self.domain, &self.loads, value) {
             None => None,
             Some(slot) => self.slots.find(slot),
         }
@@ -105,7 +105,7 @@ impl SeenValues {
         ensures below { IfOk result (λ n. n < domain_size self.old.domain) }
         ensures err { OnErr result (self.new ≡ self.old) }
     {
-        let slot = slot_for(self.domain, &mut self.stacks, value)?;
+        let slot = slot_for(self.domain, &mut self.loads, value)?;
         let number = self.slots.number(slot)?;
         Ok(number)
     }
@@ -120,7 +120,7 @@ impl SeenValues {
     {
         if let Update::Block(block) = update {
             let slot = self.slots.at(number);
-            if let Some(moved) = slot_at_block(self.domain, &self.stacks, slot, *block) {
+            if let Some(moved) = slot_at_block(self.domain, &self.loads, slot, *block) {
                 let number = self.slots.number(moved)?;
                 return Ok(number);
             }
@@ -148,7 +148,7 @@ impl SeenValues {
         if place.row == 0 {
             return None;
         }
-        self.stacks.are_distinct();
+        self.loads.are_distinct();
         let row = column.row as usize + place.row as usize;
         self.slots.find_in(column.column, row)
     }
@@ -163,12 +163,12 @@ impl SeenValues {
         if place.row == 0 || place.offset == 0 {
             return None;
         }
-        self.stacks.are_distinct();
+        self.loads.are_distinct();
         // the slot before
         self.slots.find_in(place.offset, place.row as usize)
     }
 
-    /// Whether two values are seen to be Live with one stack, so that they differ at most in their block.
+    /// Whether two values are seen to be Live with one load, so that they differ at most in their block.
     pub fn are_beside(&self, number: usize, other: usize) -> bool
         requires number { number < length self.now.values }
         requires other { other < length self.now.values }
@@ -176,7 +176,7 @@ impl SeenValues {
     {
         let slot = self.slots.at(other);
         let block = block_in(self.domain, slot);
-        match slot_at_block(self.domain, &self.stacks, self.slots.at(number), block) {
+        match slot_at_block(self.domain, &self.loads, self.slots.at(number), block) {
             None => false,
             Some(moved) => moved == slot,
         }

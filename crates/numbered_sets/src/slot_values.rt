@@ -1,12 +1,11 @@
 //! The slots of a domain's values, by arithmetic.
 ghost use Rattle.std.specs.Prelude.{ℕ, List, ◌≡◌, ◌≢◌, ◌<◌, ◌≤◌, ◌^◌, IfOk, IfSome, IfNone};
-ghost use Rattle.osek_values.specs.declared.numbers.ResNo.{ResNo};
 ghost use Rattle.osek_standard.specs.Validity.{IsAmong};
 ghost use Rattle.flow_model.specs.{declared.change.Update.TheVariants.{Block}, Tests.{updated}};
 ghost use Rattle.abstract_state.specs.declared.value.Val.TheVariants.{Live};
-ghost use Rattle.numbered_sets.specs.Slots.{val_in, value_in, IsTaskSlot, IsSlot, IsSlotOf, IsTaskSlotOf, IsSlotInRow, AreMoreStacks, slot_width, IsBlockColumn, IsSlotPlace};
+ghost use Rattle.numbered_sets.specs.Slots.{val_in, value_in, IsTaskSlot, IsSlot, IsSlotOf, IsTaskSlotOf, IsSlotInRow, AreMoreLoads, slot_width, IsBlockColumn, IsSlotPlace};
 
-use crate::stacks::Stacks;
+use crate::loads::{Load, Loads};
 use abstract_state::{Domain, LiveVal, PartValue, Val};
 use osek_values::{BlockNo, Memory};
 
@@ -26,13 +25,13 @@ pub struct SlotPlace {
 }
 
 /// The value of a domain that has a slot.
-pub fn value_at(domain: Domain, stacks: &Stacks, slot: usize) -> PartValue
-    requires { IsSlot domain stacks.now slot }
-    ensures { result ≡ value_in domain stacks.now slot }
+pub fn value_at(domain: Domain, loads: &Loads, slot: usize) -> PartValue
+    requires { IsSlot domain loads.now slot }
+    ensures { result ≡ value_in domain loads.now slot }
 {
     match domain {
         Domain::Task { first, count, .. } => {
-            PartValue::OfTask(val_at(first, count, stacks, slot))
+            PartValue::OfTask(val_at(first, count, loads, slot))
         }
         Domain::Event => PartValue::OfEvent(slot == 1),
         Domain::Alarm => PartValue::OfAlarm(slot == 1),
@@ -40,9 +39,9 @@ pub fn value_at(domain: Domain, stacks: &Stacks, slot: usize) -> PartValue
 }
 
 // what a task with these blocks is in a slot
-fn val_at(first: BlockNo, count: u16, stacks: &Stacks, slot: usize) -> Val
-    requires { IsTaskSlot first.0 count stacks.now slot }
-    ensures { result ≡ val_in first.0 count stacks.now slot }
+fn val_at(first: BlockNo, count: u16, loads: &Loads, slot: usize) -> Val
+    requires { IsTaskSlot first.0 count loads.now slot }
+    ensures { result ≡ val_in first.0 count loads.now slot }
 {
     if slot == 0 {
         return Val::Suspended;
@@ -53,18 +52,18 @@ fn val_at(first: BlockNo, count: u16, stacks: &Stacks, slot: usize) -> Val
     if row == 0 {
         return Val::Waiting(block);
     }
-    let held = stacks.at(row - 1).copy();
-    Val::Live(LiveVal { block, held })
+    let load = loads.at(row - 1);
+    Val::Live(load.at(block))
 }
 
-/// The slot of a value, if its stack was seen and it is one of the domain's.
-pub fn slot_of(domain: Domain, stacks: &Stacks, value: &PartValue) -> Option<usize>
-    ensures slot { IfSome result (IsSlotOf domain stacks.now value.now) }
-    ensures none { IfNone result ((s : ℕ) → IsSlot domain stacks.now s → value_in domain stacks.now s ≢ value.now) }
+/// The slot of a value, if its load was seen and it is one of the domain's.
+pub fn slot_of(domain: Domain, loads: &Loads, value: &PartValue) -> Option<usize>
+    ensures slot { IfSome result (IsSlotOf domain loads.now value.now) }
+    ensures none { IfNone result ((s : ℕ) → IsSlot domain loads.now s → value_in domain loads.now s ≢ value.now) }
 {
     match (domain, value) {
         (Domain::Task { first, count, .. }, PartValue::OfTask(val)) => {
-            slot_of_val(first, count, stacks, val)
+            slot_of_val(first, count, loads, val)
         }
         (Domain::Event, PartValue::OfEvent(flag)) => Some(*flag as usize),
         (Domain::Alarm, PartValue::OfAlarm(flag)) => Some(*flag as usize),
@@ -72,17 +71,25 @@ pub fn slot_of(domain: Domain, stacks: &Stacks, value: &PartValue) -> Option<usi
     }
 }
 
-fn slot_of_val(first: BlockNo, count: u16, stacks: &Stacks, val: &Val) -> Option<usize>
-    ensures slot { IfSome result (IsTaskSlotOf first.0 count stacks.now val.now) }
-    ensures none { IfNone result ((s : ℕ) → IsTaskSlot first.0 count stacks.now s → val_in first.0 count stacks.now s ≢ val.now) }
+fn slot_of_val(first: BlockNo, count: u16, loads: &Loads, val: &Val) -> Option<usize>
+    ensures slot { IfSome result (IsTaskSlotOf first.0 count loads.now val.now) }
+    ensures none { IfNone result ((s : ℕ) → IsTaskSlot first.0 count loads.now s → val_in first.0 count loads.now s ≢ val.now) }
 {
     match val {
         Val::Suspended => Some(0),
         Val::Waiting(block) => slot_in_row(first, count, 0, *block),
-        Val::Live(live) => match stacks.find(&live.held) {
-            None => None,
-            Some(stack) => slot_in_row(first, count, stack + 1, live.block),
-        },
+        Val::Live(live) => slot_of_live(first, count, loads, live),
+    }
+}
+
+fn slot_of_live(first: BlockNo, count: u16, loads: &Loads, live: &LiveVal) -> Option<usize>
+    ensures slot { IfSome result (IsTaskSlotOf first.0 count loads.now (Live live.now)) }
+    ensures none { IfNone result ((s : ℕ) → IsTaskSlot first.0 count loads.now s → val_in first.0 count loads.now s ≢ Live live.now) }
+{
+    let carried = Load::of(live);
+    match loads.find(&carried) {
+        None => None,
+        Some(load) => slot_in_row(first, count, load + 1, live.block),
     }
 }
 
@@ -101,10 +108,10 @@ fn slot_in_row(first: BlockNo, count: u16, row: usize, block: BlockNo) -> Option
 }
 
 /// The slot of what a Live task's value becomes at a block, if it is one of the task's.
-pub fn slot_at_block(domain: Domain, stacks: &Stacks, slot: usize, block: BlockNo) -> Option<usize>
-    requires known { IsSlot domain stacks.now slot }
+pub fn slot_at_block(domain: Domain, loads: &Loads, slot: usize, block: BlockNo) -> Option<usize>
+    requires known { IsSlot domain loads.now slot }
     requires small { slot < 2 ^ 32 }
-    ensures { IfSome result (IsSlotOf domain stacks.now (updated (Block block) (value_in domain stacks.now slot))) }
+    ensures { IfSome result (IsSlotOf domain loads.now (updated (Block block) (value_in domain loads.now slot))) }
 {
     let Domain::Task { first, count, .. } = domain else {
         return None;
@@ -116,7 +123,7 @@ pub fn slot_at_block(domain: Domain, stacks: &Stacks, slot: usize, block: BlockN
     if row == 0 {
         return None;
     }
-    stacks.are_distinct();
+    loads.are_distinct();
     slot_in_row(first, count, row, block)
 }
 
@@ -189,16 +196,16 @@ pub fn block_in(domain: Domain, slot: usize) -> BlockNo
     }
 }
 
-/// The slot of a value, whose stack comes in where it is new. Each value of the domain has one.
-pub fn slot_for(domain: Domain, stacks: &mut Stacks, value: &PartValue) -> Result<usize, Memory>
-    ensures stacks { AreMoreStacks stacks.old stacks.new }
-    ensures slot { IfOk result (IsSlotOf domain stacks.new value.now) }
+/// The slot of a value, whose load comes in where it is new. Each value of the domain has one.
+pub fn slot_for(domain: Domain, loads: &mut Loads, value: &PartValue) -> Result<usize, Memory>
+    ensures loads { AreMoreLoads loads.old loads.new }
+    ensures slot { IfOk result (IsSlotOf domain loads.new value.now) }
 {
     match (domain, value) {
         (Domain::Task { first, count, .. }, PartValue::OfTask(Val::Live(live))) => {
-            slot_for_live(first, count, stacks, live)
+            slot_for_live(first, count, loads, live)
         }
-        _ => match slot_of(domain, stacks, value) {
+        _ => match slot_of(domain, loads, value) {
             None => Err(Memory),
             Some(slot) => Ok(slot),
         },
@@ -208,14 +215,15 @@ pub fn slot_for(domain: Domain, stacks: &mut Stacks, value: &PartValue) -> Resul
 fn slot_for_live(
     first: BlockNo,
     count: u16,
-    stacks: &mut Stacks,
+    loads: &mut Loads,
     live: &LiveVal,
 ) -> Result<usize, Memory>
-    ensures stacks { AreMoreStacks stacks.old stacks.new }
-    ensures slot { IfOk result (IsTaskSlotOf first.0 count stacks.new (Live live.now)) }
+    ensures loads { AreMoreLoads loads.old loads.new }
+    ensures slot { IfOk result (IsTaskSlotOf first.0 count loads.new (Live live.now)) }
 {
-    let stack = stacks.number(&live.held)?;
-    match slot_in_row(first, count, stack + 1, live.block) {
+    let carried = Load::of(live);
+    let load = loads.number(&carried)?;
+    match slot_in_row(first, count, load + 1, live.block) {
         None => Err(Memory),
         Some(slot) => Ok(slot),
     }

@@ -27,7 +27,7 @@ silent_or (Did does status) = inr (λ e. cc)
 
 module _ (app : App) where
   -- a state that rows lead to is in a table that has them
-  in_led : (table : Sets) (rows : List TableRow) (s : State) → ((row : TableRow) → Contains rows row → IsRowIn table row) → Well app s → IsRegular s → IsLed app rows s → In app table s
+  in_led : (table : Sets) (rows : List TableRow) (s : State) → ((row : TableRow) → Contains rows row → IsRowIn table row) → Well app s → IsRegular app s → IsLed app rows s → In app table s
   in_led table rows s has w regular l =
       let row = has l.row l.listed in
       record {

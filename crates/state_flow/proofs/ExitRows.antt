@@ -8,7 +8,7 @@ use Rattle.osek_standard.proofs.{Members.{among_contained, among_map, contained_
 use Rattle.abstract_state.specs.declared.{value.PartValue.{PartValue, TheVariants.{OfAlarm}}, table.{PlainEntry.{PlainEntry}, TableRow.{TableRow}}}
 use Rattle.abstract_state.specs.{Components.{component_count, abstract_of, IsAllowed}, Domains.{domains, domains_of, HasMasks}}
 use Rattle.abstract_state.specs.Tables.{Sets, In, Inductive, set_at, is_member, AreAscending}
-use Rattle.abstract_state.proofs.AllowedLaws.{well_point, well_part}
+use Rattle.abstract_state.proofs.{AllowedLaws.{well_point, well_part}, RegularLaws.{step_regular}}
 use Rattle.flow_model.specs.Effects.{AreAllAllowed, IsAt}
 use Rattle.numbered_sets.specs.PlainTables.{row_at}
 use Rattle.flow_exits.specs.{declared.exit.Exit.{Exit}, Exits.{CoverSteps, IsStepTo, IsExact, AreExact}}
@@ -74,7 +74,7 @@ module _ (app : App) (p : Point) (entry : PlainEntry) (x : Exit) (exact : IsExac
       let r = step_with c v lt m in
       let s = (step app r.from r.event).state in
       subst (IsAllowed app x.target c) r.value
-      (subst (λ (q : Point). IsAllowed app q c (abstract_of app s c)) r.target (well_part app s (step_keeps app r.from r.event r.at.well) c lt))
+      (subst (λ (q : Point). IsAllowed app q c (abstract_of app s c)) r.target (well_part app s (step_keeps app r.from r.event r.at.well) (step_regular app r.from r.event r.at.well r.at.regular) c lt))
 
   -- what an inductive table has of the entry's point, it has of the exit
   module _ (other : Sets) (inductive : Inductive app other) (has : IsRowIn other (row_at p entry)) where

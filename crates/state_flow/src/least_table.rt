@@ -57,17 +57,29 @@ fn pool_of(alloc: Global, app: &App) -> Result<Pool, Memory>
     Ok(pool)
 }
 
-// numbers the values with which a task stands at each of its blocks and holds nothing, where the component is a task
+// numbers the values with which a task stands at each of its blocks, outside, and has nothing else, where the component is a task
 fn number_free(pool: &mut Pool, component: usize) -> Result<(), Memory>
     requires { component < length pool.old }
     ensures { OnOk result (IsLonger pool.old pool.new) }
 {
-    let Domain::Task { first, count, .. } = pool.domain(component) else {
+    let Domain::Task {
+        first,
+        count,
+        activation,
+        ..
+    } = pool.domain(component)
+    else {
         return Ok(());
     };
+    // a task that took no activation would never be Live
+    if activation == 0 {
+        return Ok(());
+    }
     for block in first.0..first.0.saturating_add(count) {
         let live = Val::Live(LiveVal {
             block: BlockNo(block),
+            further: 0,
+            inside: false,
             held: Held::new(),
         });
         pool.number(component, PartValue::OfTask(live))?;

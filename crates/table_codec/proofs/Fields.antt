@@ -4,7 +4,8 @@ use Rattle.std.proofs.Common.{◌≡◌, ◌⊎◌, ℕ, suc, ◌+◌, ◌^◌, 
 use Rattle.std.specs.{Prelude.{◌==◌, if◌then◌else◌}, Int.{to_be_bytes, w16, from_be_bytes}}
 use Rattle.std.proofs.lemmas.{List.{append-nil, length-append, length-map}, Nat.{from_be_bytes-to_be_bytes_2}}
 use Rattle.osek_values.specs.declared.numbers.ResNo.{ResNo}
-use Rattle.abstract_state.specs.declared.value.Val.{Val, TheVariants.{Suspended, Live, Waiting}}
+use Rattle.abstract_state.specs.{declared.value.Val.{Val, TheVariants.{Suspended, Live, Waiting}}, ValueOrder.{flag_field}}
+use Rattle.abstract_state.proofs.OrderLaws.{same_flag}
 use Rattle.table_codec.specs.Spelling.{resource_numbers, task_fields, field_width, field_limit, field_bytes, fields_from}
 
 pub record IsPrefix (ns ms : List ℕ) : Type 0 where
@@ -77,14 +78,14 @@ val_alone Suspended (Waiting c) more e = absurd cc
 val_alone (Live x) Suspended more e = absurd cc
 val_alone (Live x) (Live y) more e =
     let block : y.block.0 ≡ x.block.0 = cc in
+    let further : y.further ≡ x.further = cc in
+    let flag : flag_field y.inside ≡ flag_field x.inside = cc in
+    let inside = same_flag x.inside y.inside (sym flag) in
     let count : length y.held ≡ length x.held = cc in
     let rest : resource_numbers y.held ≡ resource_numbers x.held ++ more = cc in
     let whole = whole_list (resource_numbers x.held) (resource_numbers y.held) more rest (length-map x.held (λ (q : ResNo). q.0) ∙ sym count ∙ sym (length-map y.held (λ (q : ResNo). q.0))) in
     let held : x.held ≡ y.held = same_stack x.held y.held whole in
-    ap (λ (b : ℕ). the_live b x.held) (sym block) ∙ ap (λ (h : List ResNo). the_live y.block.0 h) held
-  where
-    the_live : ℕ → List ResNo → Val
-    the_live b h = Live (record { block = record { 0 = b }; held = h })
+    λ i. Live (record { block = record { 0 = sym block i }; further = sym further i; inside = inside i; held = held i })
 val_alone (Live x) (Waiting c) more e = absurd cc
 val_alone (Waiting b) Suspended more e = absurd cc
 val_alone (Waiting b) (Live y) more e = absurd cc

@@ -1,16 +1,16 @@
 -- The set of a component: it is read in one way, or has one fault.
-use Rattle.std.proofs.Common.{◌≡◌, ℕ, ◌^◌, ◌<◌, ◌≤◌, List, [], ◌∷◌, ◌++◌, length, flat_map, refl, sym, ap, subst, ◌∙◌, arith, append_assoc, All}
-use Rattle.std.specs.{Int.{to_be_bytes, w32, from_be_bytes}, List.{AllByRecursion}}
+use Rattle.std.proofs.Common.{◌≡◌, ℕ, ◌+◌, ◌*◌, ◌^◌, ◌<◌, ◌≤◌, List, [], ◌∷◌, ◌++◌, length, flat_map, refl, sym, ap, subst, ◌∙◌, arith, append_assoc, All}
+use Rattle.std.specs.{Prelude.{None, is_some, if◌then◌else◌}, declared.option.Option.{Option}, Int.{to_be_bytes, w32, from_be_bytes}, List.{AllByRecursion}}
 use Rattle.std.proofs.lemmas.{List.{Concat.{flat_map-cons}, Elements.{recursion_from_All, All-weaker}}, Nat.{from_be_bytes-to_be_bytes_4}}
-use Rattle.osek_values.specs.declared.numbers.TaskNo.{TaskNo}
-use Rattle.osek_standard.specs.{declared.{app.App.{App}, point.Point.{Point}}, Apps.{the_task, no_task}, Counts.{stacks}}
+use Rattle.osek_values.specs.declared.numbers.{TaskNo.{TaskNo}, ResNo.{ResNo}}
+use Rattle.osek_standard.specs.{declared.{app.App.{App}, point.Point.{Point}}, Apps.{the_task, no_task}, Counts.{stacks, takable_count}}
 use Rattle.osek_standard.proofs.CountLaws.{few_stacks}
 use Rattle.std.proofs.Math.Nat.{mul-le-mul}
 use Rattle.abstract_state.specs.declared.value.{Component.{Component}, PartValue.{PartValue, TheVariants.{OfEvent, OfAlarm}}}
 use Rattle.abstract_state.specs.declared.value.Component.TheVariants as component
 use Rattle.abstract_state.specs.{declared.table.ValueSet.{ValueSet}, ValueOrder.{part_order, IsAscending}, Components.{component_at, IsPart, IsComponent}}
-use Rattle.abstract_state.specs.Domains.{IsWithin, domain_of}
-use Rattle.abstract_state.proofs.{ComponentLaws.{task_counted, task_at_its_number}, DomainValues.{allowed_within, domain_counted}, SoundSets.{most_members}}
+use Rattle.abstract_state.specs.Domains.{IsWithin, domain_of, domain_size, resources_in, takable_resources}
+use Rattle.abstract_state.proofs.{ClosedLaws.{no_internal, takes_once}, ComponentLaws.{task_counted, task_at_its_number}, DomainValues.{allowed_within, domain_counted}, HeightLaws.{takable_counted, takable_few}, SoundSets.{most_members}}
 use Rattle.table_codec.specs.{declared.fault.Fault.{Fault}, Spelling.{value_bytes, listed, set_bytes}}
 use Rattle.table_codec.specs.{Faults.{IsNextFault, IsListFault, IsListedFault, bad_count, count_cut, count_none, bad_list, IsSetFault, IsGoodSet}, Sets.{IsNextValue}}
 use Rattle.table_codec.proofs.{Ascends.{sorted_prefix}, FlagSets.{event_set, alarm_set, one_flags, flags_clash, one_flags_fault}, Sequences.{Runs, one_run, no_fault, one_fault}}
@@ -45,6 +45,19 @@ module _ (app : App) (p : Point) (t : TaskNo) (known : t.0 < length app.tasks) w
         runs_of_values (before ++ v ∷ []) vs (flat_map value_bytes vs ++ rest) rest again all.1 refl,
       )
 
+  -- with one activation and no INTERNAL resource
+  task_size : domain_size (domain_of app k) ≡ 1 + (the_task app t.0).count + (the_task app t.0).count * stacks (takable_count app)
+  task_size =
+      let count = (the_task app t.0).count in
+      let internal = (the_task app t.0).internal in
+      let activation = (the_task app t.0).activation in
+      let takable = takable_resources app in
+      let size : Option ResNo → ℕ → ℕ → ℕ = λ o a n. 1 + count + (if is_some o then 2 * (count * stacks n * a) else count * stacks n * a) in
+      let outside : size internal activation (length (resources_in takable)) ≡ size None activation (length (resources_in takable)) = ap (λ (o : Option ResNo). size o activation (length (resources_in takable))) (no_internal app t.0) in
+      let once : size None activation (length (resources_in takable)) ≡ size None 1 (length (resources_in takable)) = ap (λ (a : ℕ). size None a (length (resources_in takable))) (takes_once app t.0 known) in
+      let by_count : size None 1 (length (resources_in takable)) ≡ size None 1 (takable_count app) = ap (size None 1) (takable_counted app) in
+      outside ∙ once ∙ by_count ∙ omega arith
+
   -- a task has fewer values than a count can say
   few_values : (vs : List PartValue) → IsGoodSet app p k vs → length vs < 2 ^ 32
   few_values vs h =
@@ -55,8 +68,8 @@ module _ (app : App) (p : Point) (t : TaskNo) (known : t.0 < length app.tasks) w
       let most = most_members (set_with vs) (domain_counted (domain_of app k)) (record { within = within; ascending = h.ascending }) in
       let owner = app.valid.each_task t.0 no_task known in
       let blocks : (the_task app t.0).count ≤ 1056 = omega (arith, owner.inside, app.valid.few_blocks) in
-      let deep = few_stacks (length app.resources) app.valid.few_resources in
-      omega (arith, most, blocks, mul-le-mul {n₁ = (the_task app t.0).count} {m₁ = stacks (length app.resources)} {n₂ = 1056} {m₂ = 109601} blocks deep)
+      let deep = few_stacks (takable_count app) (takable_few app) in
+      omega (arith, most, task_size, blocks, mul-le-mul {n₁ = (the_task app t.0).count} {m₁ = stacks (takable_count app)} {n₂ = 1056} {m₂ = 109601} blocks deep)
     where
       set_with : List PartValue → ValueSet
       set_with ws = record { domain = domain_of app k; members = ws }

@@ -1,19 +1,20 @@
 -- Bytes begin with a value of a task or have a value's fault, and likewise of a set.
-use Rattle.std.proofs.Common.{◌≡◌, ◌⊎◌, ℕ, zero, suc, ◌+◌, ◌^◌, ◌<◌, ◌≤◌, true, false, List, [], ◌∷◌, ◌++◌, length, refl, sym, ap, subst, ◌∙◌, inl, inr, arith, append_assoc, IsTrue}
-use Rattle.std.specs.{Int.{to_be_bytes, w16, w32}, List.{flat_map}}
+use Rattle.std.proofs.Common.{◌≡◌, ◌⊎◌, ℕ, zero, suc, ◌+◌, ◌^◌, ◌<◌, ◌≤◌, Bool, true, false, List, [], ◌∷◌, ◌++◌, length, refl, sym, ap, subst, ◌∙◌, inl, inr, arith, append_assoc, IsTrue}
+use Rattle.std.specs.{Prelude.{◌==◌, ◌||◌, not}, Int.{to_be_bytes, w16, w32}, List.{flat_map}}
 use Rattle.std.proofs.lemmas.{Bool.{cases_lt, cases_Bool}, List.{length_push}}
-use Rattle.osek_values.specs.{declared.numbers.{TaskNo.{TaskNo}, ResNo.{ResNo}}, Numbers.{block_no, res_no}}
-use Rattle.osek_standard.specs.{declared.{app.App.{App}, point.Point.{Point}}, TaskStates.{holds}, Validity.{IsAmong}, Well.{IsStack, IsWaitingAt}}
-use Rattle.abstract_state.proofs.ClosedLaws.{pushed}
+use Rattle.osek_values.specs.{declared.numbers.{TaskNo.{TaskNo}, BlockNo.{BlockNo}, ResNo.{ResNo}}, Numbers.{block_no, res_no}}
+use Rattle.osek_standard.specs.{declared.{app.App.{App}, point.Point.{Point}}, Counts.{takable_count}, TaskStates.{holds}, Validity.{IsAmong, is_internal}, Well.{IsStack, IsWaitingAt}}
+use Rattle.osek_standard.proofs.StackLaws.{IsTakable, push_stack}
 use Rattle.abstract_state.specs.declared.value.{Val.TheVariants.{Suspended, Live, Waiting}, Component.{Component}, PartValue.{PartValue, TheVariants.{OfTask, OfEvent, OfAlarm}}}
 use Rattle.abstract_state.specs.declared.value.Component.TheVariants as component
-use Rattle.abstract_state.specs.{declared.table.ValueSet.{ValueSet}, ValueOrder.{IsAscending}, Components.{live_val, IsComponent}, Domains.{domain_of}}
+use Rattle.abstract_state.specs.{declared.table.ValueSet.{ValueSet}, ValueOrder.{flag_field, IsAscending}, Components.{live_val, IsComponent}, Domains.{domain_of}}
 use Rattle.table_codec.specs.{declared.{fault.{Fault.{Fault}, TableRule.TheVariants.{K1, K3, K4}}, shape.Shape.{Shape}}, Spelling.{value_bytes}}
 use Rattle.table_codec.specs.Faults.{fault_at, IsValueFault, IsNextFault, bad_value, not_above, IsListedFault, bad_count, count_cut, count_none, bad_list, IsFlagsFault, IsSetFault}
-use Rattle.table_codec.specs.{Shapes.{IsShape, shaped}, Values.{IsTag, IsReadValue, IsReadStack, IsStackFault}, Sets.{IsFlagNumber, flagged, IsReadList, IsReadSet}}
+use Rattle.table_codec.specs.{Shapes.{IsFlag, IsShape, shaped}, Values.{IsTag, IsReadValue, IsReadStack, IsStackFault}, Sets.{IsFlagNumber, flagged, IsReadList, IsReadSet}}
 use Rattle.table_codec.proofs.Decisions.{Decided, decide_less, decide_at_most, decide_both, decide_true, decide_ascending, AreBytes, bytes_behind, long_word, IsField, FieldFound, word_found, byte_found}
 use Rattle.table_codec.proofs.{StackEnds.{stack_last}, StackReads.{IsStackSoFar, none_read, one_read, bad_resource, stack_read}, SomeShapes.{decide_waiting, some_shape}, FlagReads.{event_read, alarm_read}}
-use Rattle.table_codec.proofs.ValueReading.{zero_next, zero_after, size_after, tag_fault, block_fault, further_fault, inside_fault, size_fault, resource_fault, live_read, waiting_fault}
+use Rattle.table_codec.proofs.ShapeLaws.{flag_read}
+use Rattle.table_codec.proofs.ValueReading.{further_next, flag_next, size_next, tag_fault, block_fault, further_fault, inside_fault, size_fault, resource_fault, live_read, waiting_fault}
 use Rattle.table_codec.proofs.ReadSoFar.{AreValuesSoFar, no_values, next_value}
 
 -- ---- a stack
@@ -22,12 +23,15 @@ module _ (app : App) (size : ℕ) (bytes : List ℕ) where
   abbrev pub StackFound : Type 0
   StackFound = ((held : List ResNo) × (rest : List ℕ) × IsReadStack app size bytes rest held) ⊎ ((f : Fault) × IsStackFault app size bytes f)
 
+  decide_takable : (n : ℕ) → Decided (IsTakable app (res_no n))
+  decide_takable n = decide_both (decide_less n (length app.resources)) (decide_true (not (is_internal app.resources n)))
+
   decide_resource : (held : List ResNo) → IsStack app held → (n : ℕ) → Decided (IsStack app (held ++ res_no n ∷ []))
-  decide_resource held stack n = by_tests (decide_less n (length app.resources)) (cases_Bool (holds held n))
+  decide_resource held stack n = by_tests (decide_takable n) (cases_Bool (holds held n))
     where
-      by_tests : Decided (n < length app.resources) → (holds held n ≡ true) ⊎ (holds held n ≡ false) → Decided (IsStack app (held ++ res_no n ∷ []))
-      by_tests (inl known) (inr free) = inl (pushed app held (res_no n) stack known free)
-      by_tests (inl known) (inl there) = inr (λ h. let free = (stack_last app held (res_no n) h).1 in cc)
+      by_tests : Decided (IsTakable app (res_no n)) → (holds held n ≡ true) ⊎ (holds held n ≡ false) → Decided (IsStack app (held ++ res_no n ∷ []))
+      by_tests (inl takable) (inr free) = inl (push_stack app held (res_no n) stack takable free)
+      by_tests (inl takable) (inl there) = inr (λ h. let free = (stack_last app held (res_no n) h).1 in cc)
       by_tests (inr bars) there = inr (λ h. bars (stack_last app held (res_no n) h).0)
 
   stack_from : (left count : ℕ) (held : List ResNo) (rest : List ℕ) → IsStackSoFar app bytes count held rest → size ≡ count + left → AreBytes rest → StackFound
@@ -63,30 +67,49 @@ module _ (app : App) (x : Shape) (s : IsShape app x) where
   decide_tag (suc (suc zero)) = decide_true x.waits
   decide_tag (suc (suc (suc n))) = inr (λ h. h)
 
+  decide_flag : (n : ℕ) → Decided (IsFlag x n)
+  decide_flag zero = decide_true (x.is_free || not x.named)
+  decide_flag (suc zero) = decide_true x.named
+  decide_flag (suc (suc n)) = inr (λ h. h)
+
   module _ (bytes : List ℕ) (block : IsField 1 (λ n. IsAmong n x.first.0 x.count) bytes) where
     abbrev block_word : List ℕ
     block_word = to_be_bytes w16 block.number
 
-    sized : (rest : List ℕ) → bytes ≡ block_word ++ 0 ∷ 0 ∷ rest → (n : IsField 2 (λ n. n ≤ length app.resources) rest) → StackFound app n.number n.rest → Found (1 ∷ bytes)
-    sized rest e n (inl h) =
-        inl (OfTask (Live (live_val (block_no block.number) h.0)), h.1, live_read app x s (block_no block.number) block.may n.number h.0 bytes n.rest h.1 (size_after block_word bytes rest n.rest n.number e n.are) h.2)
-    sized rest e n (inr bad) = inr (bad.0, resource_fault app x s (block_no block.number) block.may n.number bytes n.rest bad.0 n.may (size_after block_word bytes rest n.rest n.number e n.are) bad.1)
+    abbrev its_block : BlockNo
+    its_block = block_no block.number
 
-    inside : (rest : List ℕ) → bytes ≡ block_word ++ 0 ∷ 0 ∷ rest → FieldFound 2 (λ n. n ≤ length app.resources) rest → Found (1 ∷ bytes)
-    inside rest e (inl n) = sized rest e n (stack_found app n.number n.rest n.all)
-    inside rest e (inr bad) = inr (bad.0, size_fault app x s (block_no block.number) block.may bytes rest bad.0 e bad.1)
+    module _ (n : ℕ) (takes : n < x.activation) where
+      module _ (i : Bool) (flag : IsFlag x (flag_field i)) (rest : List ℕ) (e : bytes ≡ block_word ++ n ∷ flag_field i ∷ rest) where
+        sized : (k : IsField 2 (λ m. m ≤ takable_count app) rest) → StackFound app k.number k.rest → Found (1 ∷ bytes)
+        sized k (inl h) =
+            inl (
+              OfTask (Live (live_val its_block n i h.0)),
+              h.1,
+              live_read app x s its_block block.may n takes i flag k.number h.0 bytes k.rest h.1 (size_next block_word bytes n (flag_field i) rest k.rest k.number e k.are) h.2,
+            )
+        sized k (inr bad) = inr (
+          bad.0,
+          resource_fault app x s its_block block.may n takes i flag k.number bytes k.rest bad.0 k.may (size_next block_word bytes n (flag_field i) rest k.rest k.number e k.are) bad.1,
+        )
 
-    further : (rest : List ℕ) → bytes ≡ block_word ++ 0 ∷ rest → FieldFound 2 (λ n. n ≤ 0) rest → Found (1 ∷ bytes)
-    further rest e (inl n) =
-        inside n.rest (zero_after block_word bytes rest n.rest n.number e (n.may, n.are)) (byte_found (λ m. m ≤ length app.resources) (λ m. decide_at_most m (length app.resources)) 2 refl n.rest n.all)
-    further rest e (inr bad) = inr (bad.0, inside_fault app x s (block_no block.number) block.may bytes rest bad.0 e bad.1)
+        flagged_found : FieldFound 2 (λ m. m ≤ takable_count app) rest → Found (1 ∷ bytes)
+        flagged_found (inl k) = sized k (stack_found app k.number k.rest k.all)
+        flagged_found (inr bad) = inr (bad.0, size_fault app x s its_block block.may n takes i flag bytes rest bad.0 e bad.1)
 
-    placed : FieldFound 2 (λ n. n ≤ 0) block.rest → Found (1 ∷ bytes)
-    placed (inl n) = further n.rest (zero_next block_word bytes block.rest n.rest n.number block.are (n.may, n.are)) (byte_found (λ m. m ≤ 0) (λ m. decide_at_most m 0) 2 refl n.rest n.all)
-    placed (inr bad) = inr (bad.0, further_fault app x s (block_no block.number) block.may bytes block.rest bad.0 block.are bad.1)
+      counted_found : (rest : List ℕ) → bytes ≡ block_word ++ n ∷ rest → FieldFound 3 (IsFlag x) rest → Found (1 ∷ bytes)
+      counted_found rest e (inl k) =
+          let h = flag_read x k.number rest k.rest k.may k.are in
+          flagged_found (k.number == 1) h.0 k.rest (flag_next block_word bytes n rest k.rest (flag_field (k.number == 1)) e h.1)
+          (byte_found (λ m. m ≤ takable_count app) (λ m. decide_at_most m (takable_count app)) 2 refl k.rest k.all)
+      counted_found rest e (inr bad) = inr (bad.0, inside_fault app x s its_block block.may n takes bytes rest bad.0 e bad.1)
+
+    placed : FieldFound 2 (λ n. n < x.activation) block.rest → Found (1 ∷ bytes)
+    placed (inl n) = counted_found n.number n.may n.rest (further_next block_word bytes block.rest n.rest n.number block.are n.are) (byte_found (IsFlag x) decide_flag 3 refl n.rest n.all)
+    placed (inr bad) = inr (bad.0, further_fault app x s its_block block.may bytes block.rest bad.0 block.are bad.1)
 
   live_found : (bytes : List ℕ) → FieldFound 1 (λ n. IsAmong n x.first.0 x.count) bytes → Found (1 ∷ bytes)
-  live_found bytes (inl block) = placed bytes block (byte_found (λ m. m ≤ 0) (λ m. decide_at_most m 0) 2 refl block.rest block.all)
+  live_found bytes (inl block) = placed bytes block (byte_found (λ m. m < x.activation) (λ m. decide_less m x.activation) 2 refl block.rest block.all)
   live_found bytes (inr bad) = inr (bad.0, block_fault app x s bytes bad.0 bad.1)
 
   waiting_found : (bytes : List ℕ) → IsTrue x.waits → FieldFound 1 (IsWaitingAt app x.task.0) bytes → Found (2 ∷ bytes)

@@ -7,7 +7,7 @@ use Rattle.osek_standard.specs.{declared.{app.App.{App}, point.Point.{Point}}, A
 use Rattle.osek_standard.proofs.StackLaws.{stack_few}
 use Rattle.abstract_state.specs.declared.value.{Val.{Val, TheVariants.{Suspended, Live, Waiting}}, Component.{Component}, PartValue.{PartValue, TheVariants.{OfTask, OfEvent, OfAlarm}}}
 use Rattle.abstract_state.specs.declared.value.Component.TheVariants as component
-use Rattle.abstract_state.specs.{ValueOrder.{IsAscending}, Components.{IsVal, IsPart}}
+use Rattle.abstract_state.specs.{ValueOrder.{flag_field, IsAscending}, Components.{IsVal, IsPart}}
 use Rattle.table_codec.specs.{declared.fault.Fault.{Fault}, Spelling.{resource_numbers, task_fields, value_fields, field_limit, field_bytes, fields_from, value_bytes}}
 use Rattle.table_codec.specs.{Faults.{IsFieldFault, field_cut, field_barred, Begins, IsValueFault, IsNextFault, bad_value, not_above}, Sets.{IsNextValue}}
 use Rattle.table_codec.proofs.Fields.{AreWithin, one_head, fields_meet, same_prefix, val_alone, fields_append, within_prefix, within_next, plus_none, cancel, width_is}
@@ -34,6 +34,10 @@ each_few : (n : ℕ) (h : List ResNo) → n ≤ 8 → AllByRecursion (λ (r : Re
 each_few n [] few all = tt
 each_few n (r ∷ h) few all = (omega (arith, few, all.0), each_few n h few all.1)
 
+flag_few : (b : Bool) → flag_field b < 2 ^ 8
+flag_few true = omega arith
+flag_few false = omega arith
+
 module _ (app : App) (p : Point) (t : TaskNo) (known : t.0 < length app.tasks) where
   abbrev k : Component
   k = component.Task t
@@ -44,17 +48,18 @@ module _ (app : App) (p : Point) (t : TaskNo) (known : t.0 < length app.tasks) w
   val_within : (v : Val) → IsVal app t.0 v → AreWithin 0 (task_fields v)
   val_within Suspended h = (omega arith, tt)
   val_within (Live x) h =
-      let few : length x.held ≤ 8 = omega (arith, stack_few (length app.resources) x.held h.1.out_of, app.valid.few_resources) in (
+      let few : length x.held ≤ 8 = omega (arith, stack_few (length app.resources) x.held h.stack.out_of, app.valid.few_resources) in
+      let takes = (app.valid.activations t.0 no_task known).1 in (
         omega arith,
         (
-          block_few x.block.0 h.0,
+          block_few x.block.0 h.own,
           (
-            omega arith,
+            omega (arith, h.further, takes),
             (
-              omega arith,
+              flag_few x.inside,
               (
                 omega (arith, few),
-                bytes_within 3 x.held (each_few (length app.resources) x.held app.valid.few_resources (recursion_from_All (λ (r : ResNo). r.0 < length app.resources) x.held h.1.out_of.known)),
+                bytes_within 3 x.held (each_few (length app.resources) x.held app.valid.few_resources (recursion_from_All (λ (r : ResNo). r.0 < length app.resources) x.held h.stack.out_of.known)),
               ),
             ),
           ),

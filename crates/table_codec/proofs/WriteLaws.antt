@@ -69,7 +69,7 @@ writable_at (x ∷ xs) (w ∷ values) (y ∷ ks) (suc place) k v a b c at is h =
 
 value_written : (app : App) (p : Point) (t : TaskNo) (v : PartValue) → IsPart app p (component.Task t) v → CanBeWritten v
 value_written app p t (OfTask Suspended) h = record { some = omega arith; few = omega arith }
-value_written app p t (OfTask (Live x)) h = (let few = app.valid.few_resources in record { some = omega arith; few = omega (arith, few, stack_few (length app.resources) x.held h.0.1.out_of) })
+value_written app p t (OfTask (Live x)) h = (let few = app.valid.few_resources in record { some = omega arith; few = omega (arith, few, stack_few (length app.resources) x.held h.0.stack.out_of) })
 value_written app p t (OfTask (Waiting b)) h = record { some = omega arith; few = omega arith }
 value_written app p t (OfEvent b) h = absurd h
 value_written app p t (OfAlarm b) h = absurd h

@@ -4,6 +4,7 @@ use Rattle.std.specs.{Prelude.{if◌then◌else◌, sum_by, Err}, Int.{to_be_byt
 use Rattle.std.proofs.{Math.ListN.{drop_of_length-le}, lemmas.{Bool.{eq-eqb, ne_eqb}, List.{Sums.{sum_by-append, sum_by-cons}}}}
 use Rattle.osek_standard.specs.{declared.point.Point.{Point}, Points.{point_number}}
 use Rattle.abstract_state.specs.declared.value.{Component.{Component}, LiveVal.{LiveVal}, Val.TheVariants.{Live}, PartValue.{TheVariants.{OfTask}}}
+use Rattle.abstract_state.specs.ValueOrder.{flag_field}
 use Rattle.numbered_sets.specs.{Numbers.{Numbers, has_number}, declared.table.NumberedRow.{NumberedRow}}
 use Rattle.table_codec.specs.{declared.ascending.NumberedValue.{NumberedValue}, Ascending.{values_in}, Spelling.{flag_number, resource_numbers, sets_bytes, value_bytes}}
 use Rattle.osek_values.specs.declared.limits.TheConstants.{MAX_TABLE}
@@ -76,14 +77,15 @@ joined : (a b c xs ys : List ℕ) → b ≡ a ++ xs → c ≡ b ++ ys → c ≡ 
 joined a b c xs ys e d = d ∙ ap (λ (l : List ℕ). l ++ ys) e ∙ append_assoc a xs ys
 
 -- the bytes of a Live value, one field after the other
-pub live_put : (x : LiveVal) (out tag block further inside size all : List ℕ) → tag ≡ out ++ 1 ∷ [] → block ≡ tag ++ to_be_bytes w16 x.block.0 → further ≡ block ++ 0 ∷ [] → inside ≡ further ++ 0 ∷ []
+pub live_put : (x : LiveVal) (out tag block further inside size all : List ℕ) → tag ≡ out ++ 1 ∷ [] → block ≡ tag ++ to_be_bytes w16 x.block.0 → further ≡ block ++ x.further ∷ [] → inside ≡ further ++ flag_field x.inside ∷ []
     → size ≡ inside ++ length x.held ∷ [] → all ≡ size ++ resource_numbers x.held → all ≡ out ++ value_bytes (OfTask (Live x))
 live_put x out tag block further inside size all a b c d e f =
     let word = to_be_bytes w16 x.block.0 in
     let numbers = resource_numbers x.held in
     let five = joined inside size all (length x.held ∷ []) numbers e f in
-    let four = joined further inside all (0 ∷ []) (length x.held ∷ numbers) d five in
-    let three = joined block further all (0 ∷ []) (0 ∷ length x.held ∷ numbers) c four in
-    let two = joined tag block all word (0 ∷ 0 ∷ length x.held ∷ numbers) b three in
-    joined out tag all (1 ∷ []) (word ++ 0 ∷ 0 ∷ length x.held ∷ numbers) a two
-    ∙ ap (λ (l : List ℕ). out ++ 1 ∷ (word ++ 0 ∷ 0 ∷ length x.held ∷ l)) (sym (narrow_fields 3 numbers))
+    let flag = flag_field x.inside in
+    let four = joined further inside all (flag ∷ []) (length x.held ∷ numbers) d five in
+    let three = joined block further all (x.further ∷ []) (flag ∷ length x.held ∷ numbers) c four in
+    let two = joined tag block all word (x.further ∷ flag ∷ length x.held ∷ numbers) b three in
+    joined out tag all (1 ∷ []) (word ++ x.further ∷ flag ∷ length x.held ∷ numbers) a two
+    ∙ ap (λ (l : List ℕ). out ++ 1 ∷ (word ++ x.further ∷ flag ∷ length x.held ∷ l)) (sym (narrow_fields 3 numbers))

@@ -1,23 +1,38 @@
 -- What a task can be at a point, in a few numbers.
-use Rattle.std.specs.Prelude.{ℕ, ◌≡◌, ◌<◌, ◌↔◌, ◌==◌, Bool, false, IsTrue, Some, None, length}
+use Rattle.std.specs.Prelude.{ℕ, zero, suc, ◌≡◌, ◌<◌, ◌↔◌, ◌==◌, ◌||◌, Bool, false, not, IsTrue, Some, None, length}
 use Rattle.osek_values.specs.declared.numbers.BlockNo.{BlockNo}
 use Rattle.osek_standard.specs.{declared.{app.App.{App}, point.Point.{Point}}, Validity.{IsAmong}, Well.{IsOwn, IsStack, IsWaitingAt}}
 use Rattle.osek_standard.specs.declared.point.Point.TheVariants as point
 use Rattle.abstract_state.specs.declared.value.{LiveVal.{LiveVal}, Val.TheVariants.{Suspended, Live, Waiting}, PartValue.TheVariants.{OfTask}, Component.{Component}}
 use Rattle.abstract_state.specs.declared.value.Component.TheVariants as component
-use Rattle.abstract_state.specs.Components.{IsPart}
+use Rattle.abstract_state.specs.{Components.{IsPart}, ValueOrder.{flag_field}}
 use Rattle.table_codec.specs.declared.shape.Shape.{Shape}
 
 -- the task of a shape
 abbrev pub shaped : Shape → Component
 shaped x = component.Task x.task
 
+-- Whether a Live task of the shape may be inside, 1, or not, 0: one that runs or is interrupted is so exactly where it names
+-- an INTERNAL resource.
+abbrev pub IsFlag : Shape → ℕ → Type 0
+IsFlag x zero = IsTrue (x.is_free || not x.named)
+IsFlag x (suc zero) = IsTrue x.named
+IsFlag x (suc (suc n)) = ⊥
+
+-- what a Live task of the shape can be
+pub record IsLiveShaped (app : App) (x : Shape) (v : LiveVal) : Type 0 where
+  pub among : IsAmong v.block.0 x.first.0 x.count
+  pub further : v.further < x.activation
+  pub flag : IsFlag x (flag_field v.inside)
+  pub stack : IsStack app v.held
+
 -- Each of its numbers says what the task can be at its point.
 pub record IsShape (app : App) (x : Shape) : Type 0 where
   pub known : x.task.0 < length app.tasks
   pub suspended : IsTrue x.is_free ↔ IsPart app x.point (shaped x) (OfTask Suspended)
-  pub live : (v : LiveVal) → (IsAmong v.block.0 x.first.0 x.count × IsStack app v.held) ↔ IsPart app x.point (shaped x) (OfTask (Live v))
+  pub live : (v : LiveVal) → IsLiveShaped app x v ↔ IsPart app x.point (shaped x) (OfTask (Live v))
   pub some : 0 < x.count
+  pub takes : 0 < x.activation
   pub waiting : (b : BlockNo) → (IsTrue x.is_free × IsWaitingAt app x.task.0 b.0) ↔ IsPart app x.point (shaped x) (OfTask (Waiting b))
   pub waits : IsTrue x.waits ↔ ((b : BlockNo) × IsPart app x.point (shaped x) (OfTask (Waiting b)))
 

@@ -5,18 +5,18 @@ use Rattle.osek_standard.specs.declared.{app.App.{App}, point.Point.{Point}}
 use Rattle.abstract_state.specs.declared.value.{Val.{Val, TheVariants.{Suspended, Live, Waiting}}, Component.{Component}, PartValue.{PartValue, TheVariants.{OfTask, OfEvent, OfAlarm}}}
 use Rattle.abstract_state.specs.declared.value.Component.TheVariants as component
 use Rattle.abstract_state.specs.{declared.table.{ValueSet.{ValueSet}, PlainEntry.{PlainEntry}, TableRow.{TableRow}, PlainTable.{PlainTable}}, Components.{components}}
-use Rattle.abstract_state.specs.{Concrete.{flag_of}, Tables.{is_row_of}}
+use Rattle.abstract_state.specs.{Concrete.{flag_of}, ValueOrder.{flag_field}, Tables.{is_row_of}}
 use Rattle.osek_standard.specs.Points.{points_in_order}
 
 -- the numbers of the resources on a stack, the first taken first
 abbrev pub resource_numbers : List ResNo → List ℕ
 resource_numbers held = map (λ (q : ResNo). q.0) held
 
--- How a task stands: 0 suspended, 1 Live, 2 waiting; then its block, two bytes that no kind of task uses, the size of its
--- stack, and the stack.
+-- How a task stands: 0 suspended, 1 Live, 2 waiting; then its block, its further activations, whether it is inside, the size
+-- of its stack, and the stack.
 abbrev pub task_fields : Val → List ℕ
 task_fields Suspended = 0 ∷ []
-task_fields (Live x) = 1 ∷ x.block.0 ∷ 0 ∷ 0 ∷ length x.held ∷ resource_numbers x.held
+task_fields (Live x) = 1 ∷ x.block.0 ∷ x.further ∷ flag_field x.inside ∷ length x.held ∷ resource_numbers x.held
 task_fields (Waiting b) = 2 ∷ b.0 ∷ []
 
 -- The fields of a value that is written by itself.

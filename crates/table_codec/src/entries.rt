@@ -1,15 +1,15 @@
 //! Reading entries.
 ghost use Rattle.std.specs.{Prelude.{◌≡◌, ◌++◌, ◌<◌, ◌≤◌, length, IfOk, IfErr, OnOk}, Bool.{OnTrue, OnFalse}};
 ghost use Rattle.osek_values.specs.Answers.{Refuses};
-ghost use Rattle.abstract_state.specs.{Components.{components as components_of, component_count, IsComponent}, Domains.{domain_of}};
+ghost use Rattle.abstract_state.specs.Components.{components as components_of, component_count, IsComponent};
 ghost use Rattle.abstract_state.specs.declared.table.{ValueSet.{ValueSet as AValueSet}, PlainEntry.{PlainEntry as APlainEntry}};
 ghost use Rattle.table_codec.specs.{Faults.{IsEntryFault, IsSetFault}, Sets.{IsReadSet, IsReadEntry}, Kept.{IsFree, IsKept, AreKept, AreKeptBySome, set_or, filled}};
 
 use crate::fault::ReadError;
 use crate::reader::{Reader, Spelled};
-use crate::sets::{domain, set};
+use crate::sets::set;
 use crate::shape::is_free;
-use abstract_state::{Component, PlainEntry, ValueSet};
+use abstract_state::{Component, PlainEntry, ValueSet, domain_of};
 use osek_standard::{App, Point};
 use osek_values::Seq;
 use std::alloc::Global;
@@ -47,7 +47,7 @@ fn next_set<'a>(
 {
     if skips_kept(reader, app, point, component, kept) {
         return Ok(ValueSet {
-            domain: domain(app, component),
+            domain: domain_of(app, component),
             members: Seq::new(alloc),
         });
     }

@@ -14,8 +14,7 @@ use crate::entries::entry;
 use crate::fault::{Fault, ReadError, TableError, TableFault, TableRule};
 use crate::points::points;
 use crate::reader::{Reader, Spelled, fault};
-use crate::sets::domain;
-use abstract_state::{Component, PlainEntry, components, masks_are_few};
+use abstract_state::{Component, PlainEntry, components, domain_of, masks_are_few};
 use numbered_sets::{NumberedEntry, NumberedRow, Pool, Table, numbered};
 use osek_standard::{App, Point};
 use osek_values::{Memory, Seq};
@@ -230,7 +229,7 @@ fn new_pool(alloc: Global, app: &App, components: &Seq<Component>) -> Result<Poo
 {
     let mut domains = Vec::new(alloc);
     for component in components.as_slice() {
-        domains.push(domain(app, *component))?;
+        domains.push(domain_of(app, *component))?;
     }
     Pool::new(alloc, domains.as_slice())
 }

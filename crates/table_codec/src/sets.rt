@@ -2,7 +2,6 @@
 ghost use Rattle.std.specs.Prelude.{◌≡◌, ◌↔◌, [], ◌∷◌, ◌++◌, ◌<◌, length, IsTrue, IfOk, IfErr};
 ghost use Rattle.osek_values.specs.Answers.{Refuses};
 ghost use Rattle.std.specs.Int.{to_be_bytes, w32};
-ghost use Rattle.abstract_state.specs.Domains.{domain_of};
 ghost use Rattle.abstract_state.specs.declared.value.PartValue.TheVariants as part;
 ghost use Rattle.abstract_state.specs.{ValueOrder.{IsAscending}, Components.{IsPart, IsComponent}};
 ghost use Rattle.table_codec.specs.{Faults.{IsNextFault, IsCountFault, IsListedFault, IsFlagsFault, IsSetFault}, Sets.{IsReadList, IsReadSet, IsNextValue, IsFlagNumber, flagged}};
@@ -12,7 +11,7 @@ use crate::fault::{Fault, ReadError, TableRule};
 use crate::reader::{Reader, fault};
 use crate::shape::Shape;
 use crate::values::value;
-use abstract_state::{Component, Domain, PartValue, ValueSet};
+use abstract_state::{Component, Domain, PartValue, ValueSet, domain_of};
 use osek_standard::{App, Point};
 use osek_values::{Memory, Seq};
 use std::alloc::Global;
@@ -34,7 +33,7 @@ pub(crate) fn set(
             let shape = Shape::of(app, point, task);
             let members = listed(alloc, reader, app, &shape)?;
             Ok(ValueSet {
-                domain: domain(app, component),
+                domain: domain_of(app, component),
                 members,
             })
         }
@@ -54,22 +53,6 @@ pub(crate) fn set(
                 members,
             })
         }
-    }
-}
-
-/// What a component's values are values of.
-pub(crate) fn domain(app: &App, component: Component) -> Domain
-    requires { IsComponent app.now component }
-    ensures { result ≡ domain_of app.now component }
-{
-    match component {
-        Component::Task(task) => Domain::Task {
-            first: app.task(task).first,
-            count: app.task(task).count,
-            resources: app.resources.len() as u8,
-        },
-        Component::Event { task: _, bit: _ } => Domain::Event,
-        Component::Alarm(_) => Domain::Alarm,
     }
 }
 

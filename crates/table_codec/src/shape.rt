@@ -23,6 +23,10 @@ pub(crate) struct Shape {
     pub waits: bool,
     pub first: BlockNo,
     pub count: u16,
+    /// So many activations may it have.
+    pub activation: u8,
+    /// It names an INTERNAL resource.
+    pub named: bool,
 }
 
 impl Shape {
@@ -36,6 +40,9 @@ impl Shape {
         ensures point { result.point ≡ point }
         ensures task { result.task ≡ task }
     {
+        let owner = app.task(task);
+        let activation = owner.activation;
+        let named = owner.internal.is_some();
         match running_at(app, point, task) {
             Some(block) => Shape {
                 point,
@@ -44,6 +51,8 @@ impl Shape {
                 waits: false,
                 first: block,
                 count: 1,
+                activation,
+                named,
             },
             None => {
                 let is_free = !is_interrupted(point, task);
@@ -52,8 +61,10 @@ impl Shape {
                     task,
                     is_free,
                     waits: is_free && may_wait(app, task),
-                    first: app.task(task).first,
-                    count: app.task(task).count,
+                    first: owner.first,
+                    count: owner.count,
+                    activation,
+                    named,
                 }
             }
         }

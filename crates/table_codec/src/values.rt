@@ -1,8 +1,9 @@
 //! Reading a task's value.
-ghost use Rattle.std.specs.{Prelude.{◌≡◌, ◌↔◌, [], ◌∷◌, ◌++◌, ◌<◌, ◌≤◌, length, IsTrue, IfOk, IfErr}, Int.{to_be_bytes, w16}};
-ghost use Rattle.osek_standard.specs.{Validity.{IsAmong}, Well.{IsStack, IsWaitingAt}};
+ghost use Rattle.std.specs.{Prelude.{◌≡◌, ◌↔◌, [], ◌∷◌, ◌++◌, ◌<◌, ◌≤◌, not, length, IsTrue, IfOk, IfErr}, Int.{to_be_bytes, w16}};
+ghost use Rattle.osek_standard.specs.{Counts.{takable_count as takable_in}, Validity.{IsAmong, is_internal}, Well.{IsStack, IsWaitingAt}};
 ghost use Rattle.osek_values.specs.Numbers.{res_no};
-ghost use Rattle.table_codec.specs.{Faults.{IsFieldFault, IsValueFault}, Shapes.{IsShape, shaped}, Values.{IsTag, IsReadValue, IsReadStack, IsStackFault}};
+ghost use Rattle.abstract_state.specs.ValueOrder.{flag_field};
+ghost use Rattle.table_codec.specs.{Faults.{IsFieldFault, IsValueFault}, Shapes.{IsShape, IsFlag, shaped}, Values.{IsTag, IsReadValue, IsReadStack, IsStackFault}};
 
 use crate::fault::{Fault, TableRule};
 use crate::reader::{Reader, fault};
@@ -58,12 +59,16 @@ fn live(reader: &mut Reader, app: &App, shape: &Shape) -> Result<PartValue, Faul
     ensures err { IfErr result (IsValueFault app.now shape.now.point (shaped shape.now) (1 ∷ reader.old)) }
 {
     let block = block_among(reader, shape.first, shape.count)?;
-    // further activations, and whether it is inside an INTERNAL resource: no task has either
-    at_most(reader, 0)?;
-    at_most(reader, 0)?;
-    let size = at_most(reader, app.resources.len() as u8)?;
+    let further = below(reader, shape.activation)?;
+    let inside = flag(reader, shape)?;
+    let size = at_most(reader, takable_count(app))?;
     let held = stack(reader, app, size)?;
-    Ok(PartValue::OfTask(Val::Live(LiveVal { block, held })))
+    Ok(PartValue::OfTask(Val::Live(LiveVal {
+        block,
+        further,
+        inside,
+        held,
+    })))
 }
 
 // the value of a waiting task, behind its tag
@@ -110,6 +115,48 @@ fn block_among(reader: &mut Reader, first: BlockNo, count: u16) -> Result<BlockN
     }
 }
 
+// a byte that is less than another
+fn below(reader: &mut Reader, limit: u8) -> Result<u8, Fault>
+    ensures ok { IfOk result (λ n. (n < limit) × (reader.old ≡ n ∷ reader.new)) }
+    ensures err { IfErr result (IsFieldFault 2 (λ n. n < limit) reader.old) }
+{
+    let left = reader.left();
+    let Some(number) = reader.byte() else {
+        return Err(fault(TableRule::K1, left));
+    };
+    if number < limit {
+        Ok(number)
+    } else {
+        Err(fault(TableRule::K3, left))
+    }
+}
+
+// whether a Live task is inside
+fn flag(reader: &mut Reader, shape: &Shape) -> Result<bool, Fault>
+    ensures ok { IfOk result (λ b. IsFlag shape.now (flag_field b) × (reader.old ≡ flag_field b ∷ reader.new)) }
+    ensures err { IfErr result (IsFieldFault 3 (IsFlag shape.now) reader.old) }
+{
+    let left = reader.left();
+    let Some(number) = reader.byte() else {
+        return Err(fault(TableRule::K1, left));
+    };
+    if may_be_flag(shape, number) {
+        Ok(number == 1)
+    } else {
+        Err(fault(TableRule::K3, left))
+    }
+}
+
+fn may_be_flag(shape: &Shape, number: u8) -> bool
+    ensures { IsTrue result ↔ IsFlag shape.now number }
+{
+    match number {
+        0 => shape.is_free || !shape.named,
+        1 => shape.named,
+        _ => false,
+    }
+}
+
 // a byte that is no greater than another
 fn at_most(reader: &mut Reader, most: u8) -> Result<u8, Fault>
     ensures ok { IfOk result (λ n. (n ≤ most) × (reader.old ≡ n ∷ reader.new)) }
@@ -126,9 +173,20 @@ fn at_most(reader: &mut Reader, most: u8) -> Result<u8, Fault>
     }
 }
 
+// how many resources may stand on a stack
+fn takable_count(app: &App) -> u8
+    ensures { result ≡ takable_in app.now }
+{
+    let resources = app.resources.as_slice();
+    resources
+        .iter()
+        .filter(|resource| !resource.internal)
+        .count() as u8
+}
+
 // a stack of so many resources
 fn stack(reader: &mut Reader, app: &App, size: u8) -> Result<Held, Fault>
-    requires { size ≤ length app.now.resources }
+    requires { size ≤ takable_in app.now }
     ensures ok { IfOk result (IsReadStack app.now size reader.old reader.new) }
     ensures err { IfErr result (IsStackFault app.now size reader.old) }
 {
@@ -140,7 +198,7 @@ fn stack(reader: &mut Reader, app: &App, size: u8) -> Result<Held, Fault>
     Ok(held)
 }
 
-// a resource that isn't on the stack
+// one more resource of a stack
 fn resource(reader: &mut Reader, app: &App, held: &Held) -> Result<ResNo, Fault>
     requires { IsStack app.now held.now }
     ensures ok { IfOk result (λ r. IsStack app.now (held.now ++ r ∷ []) × (reader.old ≡ r.0 ∷ reader.new)) }
@@ -150,9 +208,20 @@ fn resource(reader: &mut Reader, app: &App, held: &Held) -> Result<ResNo, Fault>
     let Some(number) = reader.byte() else {
         return Err(fault(TableRule::K1, left));
     };
-    if (number as usize) < app.resources.len() && !held.has(ResNo(number)) {
+    if is_takable(app, number) && !held.has(ResNo(number)) {
         Ok(ResNo(number))
     } else {
         Err(fault(TableRule::K3, left))
+    }
+}
+
+// whether it is a resource that may stand on a stack
+fn is_takable(app: &App, number: u8) -> bool
+    ensures { IsTrue result ↔ ((number < length app.now.resources) × IsTrue (not (is_internal app.now.resources number))) }
+{
+    if (number as usize) < app.resources.len() {
+        !app.resource(ResNo(number)).internal
+    } else {
+        false
     }
 }

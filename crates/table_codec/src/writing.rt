@@ -1,6 +1,6 @@
 //! The bytes of a table.
 ghost use Rattle.std.specs.{Prelude.{◌≡◌, ◌++◌, ◌∷◌, ◌^◌, ◌<◌, ◌≤◌, length, sum_by, All, IfOk, IfErr, OnOk}, List.{flat_map}};
-ghost use Rattle.abstract_state.specs.{declared.value.{Val.TheVariants.{Live}, PartValue.TheVariants.{OfTask}}, Written.{IsWritten}};
+ghost use Rattle.abstract_state.specs.{declared.value.{Val.TheVariants.{Live}, PartValue.TheVariants.{OfTask}}, ValueOrder.{flag_field}, Written.{IsWritten}};
 ghost use Rattle.table_codec.specs.{Ascending.{values_in}, Ranks.{values_ranked}};
 ghost use Rattle.numbered_sets.specs.{SetLists.{set_of}, declared.table.NumberedRow.{NumberedRow as ARow}};
 ghost use Rattle.osek_values.specs.declared.limits.TheConstants.{MAX_TABLE};
@@ -43,18 +43,23 @@ fn put_value(out: &mut Vec<u8>, value: &PartValue) -> Result<(), AllocError>
     }
 }
 
-// no task has further activations or is inside an INTERNAL resource
 fn put_live(out: &mut Vec<u8>, live: &LiveVal) -> Result<(), AllocError>
     requires { length live.now.held < 2 ^ 8 }
     ensures { OnOk result (out.new.items ≡ out.old.items ++ value_bytes (OfTask (Live live.now))) }
 {
     out.push(1)?;
     out.extend_from_slice(&live.block.0.to_be_bytes())?;
-    out.push(0)?;
-    out.push(0)?;
+    out.push(live.further)?;
+    out.push(flag_byte(live.inside))?;
     let held = live.held.as_slice();
     out.push(held.len() as u8)?;
     put_stack(out, held)
+}
+
+fn flag_byte(inside: bool) -> u8
+    ensures { result ≡ flag_field inside }
+{
+    if inside { 1 } else { 0 }
 }
 
 fn put_stack(out: &mut Vec<u8>, held: &[ResNo]) -> Result<(), AllocError>

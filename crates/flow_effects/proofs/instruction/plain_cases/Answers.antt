@@ -14,7 +14,7 @@ pub returns-in-TerminateTask : goal.returns-in-TerminateTask
 returns-in-TerminateTask c =
     let is = c.requires.kind ∙ ap (λ (x : PlainService). kind.Call (call.Plain x)) c.in-TerminateTask.is in
     ok_list (AreCasesOf c.args.app.now (runner_point c.args.runner c.args.block)) _ _ c.terminate_cases.result c.terminate_cases.ensures
-    (ap (λ (x : Block). terminate_cases c.args.runner x.next) c.block.ensures)
+    (ap (λ (x : Block). terminate_cases c.args.app.now c.args.runner x.next) c.block.ensures)
     (all_terminates c.args.app.now c.args.block c.args.runner c.requires.owns is)
 
 pub returns-in-Schedule : goal.returns-in-Schedule

@@ -1,7 +1,12 @@
-use Rattle.std.proofs.Common.{ap}
+use Rattle.std.proofs.Common.{ap, subst}
 use Rattle.osek_standard.specs.Dispatch.{Stepped}
+use Rattle.abstract_state.specs.Regular.{IsRegular}
+use Rattle.abstract_state.proofs.RegularLaws.{start_regular}
 use Rattle.flow_rules.proofs.StartEntry.{start_row_told, start_row_same}
 use Rattle.flow_rules.proofs.starts.start_row.Goals as goal
+
+pub row_of-requires-clause-regular : goal.row_of-requires-clause-regular
+row_of-requires-clause-regular c = subst (IsRegular c.args.app.now) (ap (λ (x : Stepped). x.state) c.in_ok-state.ensures.start) (start_regular c.args.app.now c.args.mode c.requires)
 
 pub returns-clause-start : goal.returns-clause-start
 returns-clause-start c =

@@ -6,4 +6,4 @@ use Rattle.flow_rules.proofs.state_row.row_of.Goals as goal
 
 pub returns-clause-proper : goal.returns-clause-proper
 returns-clause-proper c =
-    subst (IsProperRow c.args.app.now) (sym (ap₂ row_at c.point_of.ensures c.in_ok-entry_of.ensures)) (row_proper c.args.app.now c.masks_are_few.ensures c.args.state.now c.requires)
+    subst (IsProperRow c.args.app.now) (sym (ap₂ row_at c.point_of.ensures c.in_ok-entry_of.ensures)) (row_proper c.args.app.now c.masks_are_few.ensures c.args.state.now c.requires.well c.requires.regular)

@@ -4,8 +4,8 @@ use Rattle.numbered_sets.specs.Pools.{Values, no_values, pool_domains}
 use Rattle.table_codec.proofs.ReadSoFar.{component_item, empty_domains}
 use Rattle.table_codec.proofs.reading.new_pool.Goals as goal
 
-pub domain-requires : goal.domain-requires
-domain-requires c = component_item c.args.app.now c.as_slice-component-items.result.now c.loop-component.component-index _ (c.as_slice-component-items.ensures ∙ c.requires) c.loop-component-test.true
+pub domain_of-requires : goal.domain_of-requires
+domain_of-requires c = component_item c.args.app.now c.as_slice-component-items.result.now c.loop-component.component-index _ (c.as_slice-component-items.ensures ∙ c.requires) c.loop-component-test.true
 
 pub returns : goal.returns
 returns c =

@@ -1,4 +1,5 @@
 use Rattle.std.proofs.{Common.{◌≡◌, arith}, lemmas.Result.{err_from_is_err_and}}
+use Rattle.abstract_state.proofs.HeightLaws.{takable_few}
 use Rattle.table_codec.proofs.StackReads.{none_read, one_read, bad_resource, stack_read}
 use Rattle.table_codec.proofs.values.stack.Goals as goal
 
@@ -9,7 +10,7 @@ pub resource-requires : goal.resource-requires
 resource-requires c = c.loop.invariant.stack
 
 pub push-requires : goal.push-requires
-push-requires c = (let few = c.args.app.now.valid.few_resources in omega (arith, few, c.loop.invariant.size, c.loop-test.true, c.requires))
+push-requires c = omega (arith, takable_few c.args.app.now, c.loop.invariant.size, c.loop-test.true, c.requires)
 
 pub returns-in_err-next-clause-err : goal.returns-in_err-next-clause-err
 returns-in_err-next-clause-err c =

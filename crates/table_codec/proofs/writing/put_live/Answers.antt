@@ -14,5 +14,5 @@ returns c =
     IfOk-weaker c.put_stack.result (λ _. c.put_stack.new.out.items ≡ c.push-4.new.self.items ++ resource_numbers c.as_slice-held.result.now) (λ _. c.put_stack.new.out.items ≡ out ++ value_bytes (OfTask (Live x)))
     (λ _ put.
     live_put x out c.push.new.self.items c.extend_from_slice.new.self.items c.push-2.new.self.items c.push-3.new.self.items c.push-4.new.self.items c.put_stack.new.out.items c.in_ok-push.ensures.items block
-    c.in_ok-push-2.ensures.items c.in_ok-push-3.ensures.items size (put ∙ ap (λ (h : List ResNo). c.push-4.new.self.items ++ resource_numbers h) c.as_slice-held.ensures))
+    c.in_ok-push-2.ensures.items (c.in_ok-push-3.ensures.items ∙ ap (λ (n : ℕ). c.push-2.new.self.items ++ n ∷ []) c.flag_byte.ensures) size (put ∙ ap (λ (h : List ResNo). c.push-4.new.self.items ++ resource_numbers h) c.as_slice-held.ensures))
     c.put_stack.ensures

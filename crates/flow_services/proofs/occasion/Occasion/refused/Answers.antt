@@ -1,6 +1,7 @@
-use Rattle.std.proofs.{Common.{◌∙◌, None, Some}, lemmas.Result.{IfOk-weaker}}
+use Rattle.std.proofs.{Common.{◌∙◌, Some}, lemmas.Result.{IfOk-weaker}}
+use Rattle.flow_services.specs.declared.occasion.Queued.TheVariants as queued
 use Rattle.flow_services.proofs.OccasionLaws.{changing_nothing}
 use Rattle.flow_services.proofs.occasion.Occasion.refused.Goals as goal
 
 pub returns : goal.returns
-returns c = IfOk-weaker c.case.result _ _ (λ x is. is ∙ changing_nothing c.args.self c.args.conditions c.in_ok-changes.changes (Some c.args.status) None c.in_ok-changes.ensures) c.case.ensures
+returns c = IfOk-weaker c.case.result _ _ (λ x is. is ∙ changing_nothing c.args.self c.args.conditions c.in_ok-changes.changes (Some c.args.status) queued.Nothing c.in_ok-changes.ensures) c.case.ensures

@@ -16,6 +16,6 @@ returns-in-Some c =
     let IsBeside : Values → Type 0 = λ x. (v : PartValue) → IsNumberOf x.values v n → (b : BlockNo) × IsNumberOf x.values (on_task (at_block b) v) m in
     OnTrue_from (nat_eq c.in-Some.moved c.at-slot.result) (IsBeside c.args.self.now) (λ e.
     let same : c.in-Some.moved ≡ c.at-slot.result = eqb-true c.in-Some.moved c.at-slot.result e in
-    let is : value_in here.domain here.stacks c.at-slot.result ≡ on_task (at_block block) (value_in here.domain here.stacks c.at.result) =
-    ap (value_in here.domain here.stacks) (sym same) ∙ c.in-Some.ensures.is in
-    subst IsBeside c.self.view_is (value_beside here.domain here.stacks here.slots.used c.at.result c.at-slot.result n m block c.at.ensures.slot c.at-slot.ensures.slot is))
+    let is : value_in here.domain here.loads c.at-slot.result ≡ on_task (at_block block) (value_in here.domain here.loads c.at.result) =
+    ap (value_in here.domain here.loads) (sym same) ∙ c.in-Some.ensures.is in
+    subst IsBeside c.self.view_is (value_beside here.domain here.loads here.slots.used c.at.result c.at-slot.result n m block c.at.ensures.slot c.at-slot.ensures.slot is))

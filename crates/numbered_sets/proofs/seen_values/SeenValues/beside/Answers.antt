@@ -12,9 +12,9 @@ returns c =
     let slot = c.at-slot.result in
     let place = c.in_ok-place.place in
     let before = place.row * here.slots.width + place.offset in
-    let known = subst (IsSlot here.domain here.stacks) (c.at-slot.ensures.slot.is 0) (c.self.invariant.known.each n 0 c.at-slot.ensures.slot.known) in
-    let moved = moved_before here.domain here.slots.width slot here.stacks place c.are_distinct.ensures known c.self.invariant.wide c.in_ok-place.ensures c.if-place-eq0.false c.if-place-eq0-2.false in
+    let known = subst (IsSlot here.domain here.loads) (c.at-slot.ensures.slot.is 0) (c.self.invariant.known.each n 0 c.at-slot.ensures.slot.known) in
+    let moved = moved_before here.domain here.slots.width slot here.loads place c.are_distinct.ensures known c.self.invariant.wide c.in_ok-place.ensures c.if-place-eq0.false c.if-place-eq0-2.false in
     subst (λ (x : Values). IfSome c.find_in.result (IsBeside x.values n)) c.self.view_is
     (IfSome_then c.find_in.result
-    (moved_number here.domain here.stacks here.slots.used (on_task (at_block moved.0)) slot before n c.find_in.result c.at-slot.ensures.slot moved.1 c.find_in.ensures.number)
+    (moved_number here.domain here.loads here.slots.used (on_task (at_block moved.0)) slot before n c.find_in.result c.at-slot.ensures.slot moved.1 c.find_in.ensures.number)
     (λ m is v number. (moved.0, is v number)))

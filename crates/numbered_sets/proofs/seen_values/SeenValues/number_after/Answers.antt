@@ -4,12 +4,12 @@ use Rattle.flow_model.specs.Tests.{updated}
 use Rattle.flow_model.specs.declared.change.Update.{Update}
 use Rattle.flow_model.specs.declared.change.Update.TheVariants as update
 use Rattle.numbered_sets.specs.{Pools.{Values, value_seen, IsNumberOf}, Slots.{value_in, slot_values}}
-use Rattle.numbered_sets.proofs.SlotLaws.{value_numbered, given_values, given_seen, given_number, same_stacks}
+use Rattle.numbered_sets.proofs.SlotLaws.{value_numbered, given_values, given_seen, given_number, same_loads}
 use Rattle.numbered_sets.proofs.seen_values.SeenValues.number_after.Goals as goal
 
 -- the value with the number, and what becomes of it
 abbrev value_of : goal.In_ok-number → PartValue
-value_of c = value_in c.self.inside.domain c.self.inside.stacks c.at-slot.result
+value_of c = value_in c.self.inside.domain c.self.inside.loads c.at-slot.result
 
 abbrev moved_of : goal.In_ok-number → PartValue
 moved_of c = updated (update.Block c.in-Block.block) (value_of c)
@@ -18,7 +18,7 @@ numbered_so : (c : goal.In_ok-number) → IsNumberOf c.args.self.now.values (val
 numbered_so c =
     let here = c.self.inside in
     subst (λ (x : Values). IsNumberOf x.values (value_of c) c.args.number) c.self.view_is
-    (value_numbered here.domain here.stacks here.slots.used c.at-slot.result c.args.number (value_of c) c.at-slot.ensures.slot refl)
+    (value_numbered here.domain here.loads here.slots.used c.at-slot.result c.args.number (value_of c) c.at-slot.ensures.slot refl)
 
 moved_is : (c : goal.In_ok-number) (v : PartValue) → IsNumberOf c.args.self.now.values v c.args.number → moved_of c ≡ updated c.args.update.now v
 moved_is c v number = ap₂ (λ (u : Update) (w : PartValue). updated u w) (sym c.in-Block.is) (sym ((numbered_so c).is v) ∙ number.is v)
@@ -29,22 +29,22 @@ invariant_of-self-in-Some c =
     let w = value_of c in
     let within : IsWithin here.domain (moved_of c) = subst (λ (u : Update). IsWithin here.domain (updated u w)) c.in-Block.is
     (subst (λ (x : Values). IsWithin x.domain (updated c.args.update.now w)) (sym c.self.view_is) (c.requires.within w (numbered_so c))) in
-    given_seen here.domain here.stacks here.stacks here.slots c.number.new.self c.in-Some.moved c.in_ok-number.number (moved_of c) (same_stacks here.stacks) c.self.invariant c.in-Some.ensures c.in_ok-number.ensures.slots c.in_ok-number.ensures.number
+    given_seen here.domain here.loads here.loads here.slots c.number.new.self c.in-Some.moved c.in_ok-number.number (moved_of c) (same_loads here.loads) c.self.invariant c.in-Some.ensures c.in_ok-number.ensures.slots c.in_ok-number.ensures.number
     c.number.ensures.width within
 
 pub returns-in-Some-clause-values : goal.returns-in-Some-clause-values
 returns-in-Some-clause-values c = λ v number.
     let here = c.self.inside in
     ap (λ (vs : List PartValue). record { domain = here.domain; values = vs })
-    (given_values here.domain here.stacks here.stacks here.slots c.number.new.self c.in-Some.moved c.in_ok-number.number (moved_of c) (same_stacks here.stacks) c.self.invariant c.in-Some.ensures c.in_ok-number.ensures.slots
+    (given_values here.domain here.loads here.loads here.slots c.number.new.self c.in-Some.moved c.in_ok-number.number (moved_of c) (same_loads here.loads) c.self.invariant c.in-Some.ensures c.in_ok-number.ensures.slots
     c.in_ok-number.ensures.number)
     ∙ ap (λ (x : Values). value_seen x (moved_of c)) c.self.view_is ∙ ap (value_seen c.args.self.now) (moved_is c v number)
 
 pub returns-in-Some-clause-number : goal.returns-in-Some-clause-number
 returns-in-Some-clause-number c = λ v number.
     let here = c.self.inside in
-    subst (λ (w : PartValue). IsNumberOf (slot_values here.domain here.stacks c.number.new.self.used) w c.in_ok-number.number) (moved_is c v number)
-    (given_number here.domain here.stacks here.stacks here.slots c.number.new.self c.in-Some.moved c.in_ok-number.number (moved_of c) (same_stacks here.stacks) c.self.invariant c.in-Some.ensures c.in_ok-number.ensures.slots
+    subst (λ (w : PartValue). IsNumberOf (slot_values here.domain here.loads c.number.new.self.used) w c.in_ok-number.number) (moved_is c v number)
+    (given_number here.domain here.loads here.loads here.slots c.number.new.self c.in-Some.moved c.in_ok-number.number (moved_of c) (same_loads here.loads) c.self.invariant c.in-Some.ensures c.in_ok-number.ensures.slots
     c.in_ok-number.ensures.number)
 
 made : (c : goal.After-number-2) (v : PartValue) → IsNumberOf c.args.self.now.values v c.args.number → c.of-value.result ≡ updated c.args.update.now v

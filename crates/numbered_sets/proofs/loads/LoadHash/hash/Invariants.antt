@@ -2,7 +2,7 @@ use Rattle.std.proofs.Common.{◌≡◌, drop}
 use Rattle.std.specs.Hash as fed
 use Rattle.std.specs.List.{fold, flat_map}
 use Rattle.osek_values.specs.declared.numbers.ResNo.{ResNo}
-use Rattle.numbered_sets.proofs.stacks.StackHash.hash.Given as goal
+use Rattle.numbered_sets.proofs.loads.LoadHash.hash.Given as goal
 
 -- what was fed and what is left is the whole
 abbrev pub invariant-loop-resource : goal.invariant-loop-resource
